@@ -1,0 +1,17 @@
+-- Which of several faults a reader answers: the first in a written order. A check that may fail is an optional fault.
+use Rattle.std.specs.Prelude.{ℕ, suc, zero, Bool, cond, Option, Some, None, List, [], ◌∷◌}
+use Rattle.std.specs.Option.{option_or}
+
+-- a fault, where a test says so
+abbrev pub when : {A : Type 0} → Bool → A → Option A
+when test a = cond test (Some a) None
+
+-- the first that there is
+abbrev pub first_of : {A : Type 0} → List (Option A) → Option A
+first_of [] = None
+first_of (a ∷ rest) = option_or a (first_of rest)
+
+-- the first that f gives, of 0, 1 and so on below n
+unfoldable pub first_below : {A : Type 0} → ℕ → (ℕ → Option A) → Option A
+first_below zero f = None
+first_below (suc n) f = option_or (first_below n f) (f n)
