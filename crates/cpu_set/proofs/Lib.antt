@@ -1,0 +1,2 @@
+pub mod FlagSteps
+pub mod SetLaws

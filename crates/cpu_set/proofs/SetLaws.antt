@@ -1,0 +1,146 @@
+-- Laws on sets of numbers, for the crates that stand on this one.
+use Rattle.std.proofs.Common.{◌≡◌, ℕ, zero, suc, ◌+◌, ◌<◌, Bool, true, false, not, cond, ◌&&◌, nat_lt, List, [], ◌∷◌, ◌++◌, length, get_or, filter, length-append, refl, sym, ap, subst, ◌∙◌, arith}
+use Rattle.std.specs.List.{range_with_len}
+use Rattle.std.proofs.lemmas.Bool.{true≢false, false≢true}
+use Rattle.std.proofs.lemmas.Bool.Decides.{nat_tests}
+use Rattle.std.specs.Bool.{Decides}
+use Rattle.std.specs.Cmp.{nat_cmp_total}
+use Rattle.std.proofs.Math.Numerals.{add-one}
+use Rattle.std.proofs.lemmas.List.{map-id}
+use Rattle.std.proofs.lemmas.List.FromFn.{filter_of_map_range_with_len_more}
+use Rattle.std.specs.Prelude.{Option, Some, None, MatchOption, IsTrue, is_some}
+use Rattle.cpu_set.specs.declared.TheConstants.{CPU_LIMIT}
+use Rattle.std.specs.FinSet as set
+use Rattle.std.specs.Ordering.{nat_cmp}
+use Rattle.cpu_set.specs.Ids.{Ids, IsDisjoint, NoneFrom, IsFirstFrom}
+use Rattle.cpu_set.specs.Members.{InRange, cpus, members}
+use Rattle.cpu_set.specs.Flags.{those, set_of_flags}
+use Rattle.cpu_set.proofs.FlagSteps.{members_below}
+use Rattle.cpu_set.specs.FlagLaws.{contains-those}
+use Rattle.cpu_set.specs.Pointwise.{same_members, contains-empty, contains-intersection, contains-difference, is_subset-contains, contains-is_subset}
+
+-- a set with no member is the empty one
+pub empty_of_none : (s : Ids) → NoneFrom s 0 → s ≡ set.empty
+empty_of_none s none = same_members s _ (λ q. none q (omega arith) ∙ sym (contains-empty q))
+
+pub none_of_empty : (s : Ids) → s ≡ set.empty → (q : ℕ) → set.contains s q ≡ false
+none_of_empty s e q = ap (λ t. set.contains t q) e ∙ contains-empty q
+
+and_false : (a b : Bool) → (a ≡ true → b ≡ true → ⊥) → (a && b) ≡ false
+and_false true true f = absurd (f refl refl)
+and_false true false f = refl
+and_false false b f = refl
+
+not_both : (a b : Bool) → (a && b) ≡ false → a ≡ true → b ≡ true → ⊥
+not_both true b e p q = true≢false (sym q ∙ e)
+not_both false b e p q = false≢true p
+
+-- two sets are disjoint where they meet in nothing
+pub meet_empty-IsDisjoint : (s t : Ids) → set.intersection s t ≡ set.empty → IsDisjoint s t
+meet_empty-IsDisjoint s t e n = not_both _ _ (sym (contains-intersection s t n) ∙ none_of_empty _ e n)
+
+pub IsDisjoint-meet_empty : (s t : Ids) → IsDisjoint s t → set.intersection s t ≡ set.empty
+IsDisjoint-meet_empty s t apart =
+    same_members _ _ (λ q. contains-intersection s t q ∙ and_false _ _ (apart q) ∙ sym (contains-empty q))
+
+without : (a b : Bool) → (a && not b) ≡ false → a ≡ true → b ≡ true
+without true true e p = refl
+without true false e p = absurd (true≢false e)
+without false b e p = absurd (false≢true p)
+
+none_left : (a b : Bool) → (a ≡ true → b ≡ true) → (a && not b) ≡ false
+none_left true b f = ap not (f refl)
+none_left false b f = refl
+
+-- a set is within another where nothing of it is left without the other
+pub is_subset-Decides : (s t : Ids) → Decides (set.is_subset s t) (set.difference s t ≡ set.empty)
+is_subset-Decides s t = (
+  λ e. same_members _ _ (λ q. contains-difference s t q ∙ none_left _ _ (is_subset-contains s t e q) ∙ sym (contains-empty q)),
+  λ e. contains-is_subset s t (λ q. without _ _ (sym (contains-difference s t q) ∙ none_of_empty _ e q)),
+)
+
+contains-itself : (p : ℕ → Bool) (n : ℕ) → set.contains (those p n) n ≡ false
+contains-itself p n = contains-those p n n ∙ irreflexive n (p n)
+  where
+    irreflexive : (n : ℕ) (b : Bool) → (nat_lt n n && b) ≡ false
+    irreflexive n b = grind (arith, nat_tests)
+
+len-step : (p : ℕ → Bool) (n : ℕ) (v : Bool) → set.len (cond v (set.insert (those p n) n) (those p n)) ≡ set.len (those p n) + cond v 1 0
+len-step p n true = set.len-insert nat_cmp_total (those p n) n ∙ ap (λ b. cond b (set.len (those p n)) (set.len (those p n) + 1)) (contains-itself p n)
+len-step p n false = omega arith
+
+len-those_suc : (p : ℕ → Bool) (n : ℕ) → set.len (those p (suc n)) ≡ set.len (those p n) + cond (p n) 1 0
+unfolding those
+len-those_suc p n = len-step p n (p n)
+
+-- one more number that passes is one member more
+pub len-those_more : (p : ℕ → Bool) (n : ℕ) → set.len (those p (n + 1)) ≡ set.len (those p n) + cond (p n) 1 0
+len-those_more p n = rw add-one (len-those_suc p n)
+
+pub len-those_none : (p : ℕ → Bool) → set.len (those p 0) ≡ 0
+unfolding those
+len-those_none p = set.len-empty nat_cmp
+
+one_more : (n : ℕ) (v : Bool) (xs : List ℕ) → length (xs ++ cond v (n ∷ []) []) ≡ length xs + cond v 1 0
+one_more n true xs = length-append xs (n ∷ [])
+one_more n false xs = length-append xs []
+
+length-filter_range : (p : ℕ → Bool) (n : ℕ) → length (filter p (range_with_len 0 (n + 1))) ≡ length (filter p (range_with_len 0 n)) + cond (p n) 1 0
+length-filter_range p n =
+    let e : filter p (range_with_len 0 (n + 1)) ≡ filter p (range_with_len 0 n) ++ cond (p n) (n ∷ []) [] =
+    simp map-id at (filter_of_map_range_with_len_more p (λ k. k) 0 n n (omega arith)) in
+    ap length e ∙ one_more n (p n) _
+
+length-members_below : (p : ℕ → Bool) (n : ℕ) → length (filter p (range_with_len 0 n)) ≡ set.len (those p n)
+length-members_below p zero = sym (len-those_none p)
+length-members_below p (suc n) =
+    let e : n + 1 ≡ suc n = add-one n in
+    subst (λ m. length (filter p (range_with_len 0 m)) ≡ set.len (those p m)) e
+    (length-filter_range p n ∙ ap (λ k. k + cond (p n) 1 0) (length-members_below p n) ∙ sym (len-those_more p n))
+
+within : (q n : ℕ) (b : Bool) → (b ≡ true → q < n) → (nat_lt q n && b) ≡ b
+within q n b f = grind (arith, nat_tests)
+
+-- a set whose members are below n is that of the numbers below n in it
+pub those-contains : (s : Ids) (n : ℕ) → ((q : ℕ) → set.contains s q ≡ true → q < n) → those (set.contains s) n ≡ s
+those-contains s n low = same_members _ _ (λ q. contains-those (set.contains s) n q ∙ within q n _ (low q))
+
+-- the members in rising order are as many as the set has
+pub length-members : (s : Ids) → InRange s → length (members s) ≡ set.len s
+unfolding cpus
+length-members s low = length-members_below (set.contains s) CPU_LIMIT ∙ ap set.len (those-contains s CPU_LIMIT low)
+
+-- a set is empty where it has no first member
+pub is_empty-first :
+    (s : Ids) (first : Option ℕ) (b : Bool)
+    → MatchOption first (NoneFrom s 0) (λ n. IsFirstFrom s 0 n) → is_some first ≡ not b
+    → (IsTrue b → s ≡ set.empty) × (s ≡ set.empty → IsTrue b)
+is_empty-first s None true none e = (λ _. empty_of_none s none, λ _. refl)
+is_empty-first s None false none e = absurd (false≢true e)
+is_empty-first s (Some n) true has e = absurd (true≢false e)
+is_empty-first s (Some n) false has e =
+    (λ is_true. absurd (false≢true is_true), λ is. absurd (true≢false (sym has.member ∙ none_of_empty s is n)))
+
+-- a count of those below n, with the next one counted or passed by
+pub counted : (p : ℕ → Bool) (n count new : ℕ) → count ≡ set.len (those p n) → p n ≡ true → new ≡ count + 1 → new ≡ set.len (those p (n + 1))
+counted p n count new e passes is = is ∙ ap (λ k. k + 1) e ∙ sym (len-those_more p n ∙ ap (λ b. set.len (those p n) + cond b 1 0) passes)
+
+pub not_counted : (p : ℕ → Bool) (n count new : ℕ) → count ≡ set.len (those p n) → p n ≡ false → new ≡ count → new ≡ set.len (those p (n + 1))
+not_counted p n count new e passed is =
+    is ∙ e ∙ plus_none _ ∙ sym (len-those_more p n ∙ ap (λ b. set.len (those p n) + cond b 1 0) passed)
+  where
+    plus_none : (k : ℕ) → k ≡ k + 0
+    plus_none k = omega arith
+
+-- each member of a set of as many truth values as there are numbers is one of these
+pub InRange-flags : (flags : List Bool) → length flags ≡ CPU_LIMIT → InRange (set_of_flags flags)
+InRange-flags flags long q member =
+    let lt : q < length flags = members_below flags q member in
+    omega arith
+
+-- what was counted among all truth values is the number of members
+pub count-members :
+    (flags : List Bool) (n count : ℕ) → length flags ≡ CPU_LIMIT → n ≡ length flags
+    → count ≡ set.len (those (λ k. get_or flags k false) n) → count ≡ length (members (set_of_flags flags))
+count-members flags n count long all e =
+    e ∙ ap (λ m. set.len (those (λ k. get_or flags k false) m)) all ∙ sym (length-members _ (InRange-flags flags long))

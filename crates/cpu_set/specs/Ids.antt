@@ -1,0 +1,29 @@
+-- A set of CPU or node numbers, as contracts see it: a finite set of numbers.
+use Rattle.std.specs.Prelude.{◌≡◌, ℕ, ◌<◌, ◌≤◌, Bool, true, false, ◌&&◌}
+use Rattle.std.specs.Ordering.{nat_cmp}
+use Rattle.std.specs.FinSet as set
+use Rattle.std.specs.Coded.{Coded, coded_ℕ}
+
+abbrev pub Ids : Type 0
+Ids = set.FinSet nat_cmp
+
+abbrev pub ids_code : Coded Ids
+ids_code = set.code coded_ℕ
+
+-- no number is in both
+abbrev pub IsDisjoint : Ids → Ids → Type 0
+IsDisjoint s t = (n : ℕ) → set.contains s n ≡ true → set.contains t n ≡ true → ⊥
+
+-- no member is at or above `from`
+abbrev pub NoneFrom : Ids → ℕ → Type 0
+NoneFrom s from = (n : ℕ) → from ≤ n → set.contains s n ≡ false
+
+-- the least member at or above `from`
+pub record IsFirstFrom (s : Ids) (from n : ℕ) : Type 0 where
+  pub above : from ≤ n
+  pub member : set.contains s n ≡ true
+  pub least : (k : ℕ) → from ≤ k → k < n → set.contains s k ≡ false
+
+-- each is within the other
+abbrev pub is_same : Ids → Ids → Bool
+is_same s t = set.is_subset s t && set.is_subset t s

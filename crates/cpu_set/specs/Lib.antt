@@ -1,0 +1,5 @@
+pub mod Ids
+pub mod Members
+pub mod Flags
+pub mod Pointwise
+pub mod FlagLaws

@@ -1,0 +1,22 @@
+-- The numbers that an `IdSet` may have, and the members of one in rising order.
+use Rattle.std.specs.Prelude.{◌≡◌, ℕ, ◌<◌, true, List, filter}
+use Rattle.std.specs.List.{range_with_len}
+use Rattle.std.specs.FinSet as set
+use Rattle.cpu_set.specs.Ids.{Ids}
+use Rattle.cpu_set.specs.declared.TheConstants.{CPU_LIMIT}
+
+-- a number that a set may have
+abbrev pub IsCpu : ℕ → Type 0
+IsCpu n = n < CPU_LIMIT
+
+-- these numbers, in rising order
+unfoldable pub cpus : List ℕ
+cpus = range_with_len 0 CPU_LIMIT
+
+-- each member is such a number
+abbrev pub InRange : Ids → Type 0
+InRange s = (n : ℕ) → set.contains s n ≡ true → IsCpu n
+
+-- the members, in rising order
+abbrev pub members : Ids → List ℕ
+members s = filter (set.contains s) cpus

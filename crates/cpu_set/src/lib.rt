@@ -1,0 +1,12 @@
+//! A set of CPU or node numbers, and its algebra.
+//!
+//! A contract sees an [`IdSet`] as a finite set of numbers, and each call as the set operation of its name.
+//! No call takes memory.
+#![tactic(auto)]
+
+mod id_set;
+
+pub use id_set::IdSet;
+
+/// CPU numbers are below this limit, and so are all numbers in a set.
+pub const CPU_LIMIT: u16 = 1_024;
