@@ -187,3 +187,6 @@ impl Eq for IdSet {
 
     ghost laws = { decided is_same is_same_decides };
 }
+
+#[cfg(test)]
+mod tests;
