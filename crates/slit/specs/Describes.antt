@@ -1,0 +1,18 @@
+use Rattle.std.specs.Prelude.{◌≡◌, ℕ, ◌*◌, List, take, drop}
+use Rattle.slit.specs.declared.header.TheConstants.{ENTRIES_AT}
+use Rattle.slit.specs.Table.{Table}
+use Rattle.slit.specs.AreDistances.{AreDistances}
+use Rattle.slit.specs.Header.{HasHeader, count_of}
+
+-- what stands in the bytes of a table: the number of localities, and the entries from byte 44 on
+unfoldable pub table_of : List ℕ → Table
+table_of bytes = record {
+  localities = count_of bytes;
+  entries = take (count_of bytes * count_of bytes) (drop ENTRIES_AT bytes);
+}
+
+-- The bytes are the table of these distances.
+pub record Describes (bytes : List ℕ) (t : Table) : Type 0 where
+  pub header : HasHeader bytes t.localities
+  pub there : t ≡ table_of bytes
+  pub distances : AreDistances t

@@ -1,0 +1,8 @@
+pub mod Table
+pub mod AreDistances
+pub mod Header
+pub mod HeaderFault
+pub mod EntriesFault
+pub mod Describes
+pub mod SlitFaultOf
+pub mod Meets

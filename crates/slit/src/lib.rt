@@ -1,0 +1,28 @@
+//! The firmware's table of distances between the localities of a machine: ACPI's System Locality
+//! Information Table (SLIT).
+//!
+//! The table is a header of 36 bytes, the number N of localities in 8 bytes, and N * N distances of one
+//! byte each, by rows: entry (i, j) is the relative distance from locality i to locality j. A locality's
+//! distance to itself is 10, the others are relative to that, 0 to 9 are reserved, and 255 says that the
+//! locality can't be reached. The two ways between two localities may differ.
+//!
+//! Numbers of several bytes are little-endian. The revision and the names in the header are not looked
+//! at, and bytes past the table's length are ignored.
+#![tactic(auto)]
+
+mod entries;
+mod fault;
+mod header;
+mod table;
+
+pub use fault::{SlitError, SlitFault};
+pub use table::Slit;
+
+/// The most localities that a table may have.
+pub const MAX_LOCALITIES: usize = 64;
+
+/// The distance of a locality to itself, to which all others are relative.
+pub const LOCAL: u8 = 10;
+
+/// The distance that says that the other locality can't be reached.
+pub const UNREACHABLE: u8 = 255;

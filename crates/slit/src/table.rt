@@ -1,0 +1,72 @@
+ghost use Rattle.std.specs.Prelude.{◌≡◌, ◌<◌, IfOk};
+ghost use Rattle.slit.specs.Table.{Table, distance};
+
+use crate::SlitError;
+use crate::entries::{check_entries, entry_at};
+use crate::header::{check_header, entries_of};
+use std::alloc::Global;
+use std::marker::Model;
+
+/// The distances between the localities of a machine, as its firmware tells them.
+#[derive(Debug, Drop)]
+pub struct Slit {
+    count: usize,
+    distances: Vec<u8>,
+}
+
+impl Model for Slit {
+    ghost use Rattle.slit.specs.Table.{Table, table};
+    ghost use Rattle.slit.specs.AreDistances.{AreDistances};
+
+    ghost Value = { Table };
+
+    ghost view = { λ s. table s.count s.distances.items };
+
+    ghost invariant = { λ s. AreDistances (table s.count s.distances.items) };
+}
+
+impl Slit {
+    ghost use Rattle.slit.specs.AreDistances.{AreDistances};
+    ghost use Rattle.slit.specs.Describes.{Describes};
+    ghost use Rattle.slit.specs.SlitFaultOf.{slit_fault};
+    ghost use Rattle.slit.specs.Meets.{Meets, IsReadAs};
+
+    /// The table that the bytes are.
+    ///
+    /// # Errors
+    ///
+    /// The first fault in the order of [`SlitFault`]: of the header, and then entry by entry in rows.
+    /// Memory is asked for only where there is no fault.
+    pub fn read(alloc: Global, bytes: &[u8]) -> Result<Slit, SlitError>
+        ensures fault { Meets result (slit_fault bytes.now) }
+        ensures table { IfOk result (Describes bytes.now) }
+        ensures only { (t : Table) → Describes bytes.now t → IsReadAs t result }
+    {
+        let count = check_header(bytes)?;
+        let entries = entries_of(bytes, count);
+        check_entries(entries, count)?;
+        let distances = Vec::from_slice(alloc, entries)?;
+        Ok(Slit { count, distances })
+    }
+
+    /// The number of localities, 1 to [`MAX_LOCALITIES`](crate::MAX_LOCALITIES).
+    pub fn localities(&self) -> usize
+        ensures localities { result ≡ self.now.localities }
+        ensures sound { AreDistances self.now }
+    {
+        let _ = &self.distances;
+        self.count
+    }
+
+    /// The distance from locality `i` to locality `j`: the byte in row `i` and column `j`.
+    pub fn distance(&self, i: usize, j: usize) -> u8
+        requires i_is_locality { i < self.now.localities }
+        requires j_is_locality { j < self.now.localities }
+        ensures { result ≡ distance self.now i j }
+    {
+        entry_at(&self.distances, self.count, i, j)
+    }
+}
+
+#[cfg(test)]
+mod tests;
