@@ -1,0 +1,96 @@
+// One item of a list: a number, or a range of two with a hyphen between.
+ghost use Rattle.std.specs.Prelude.{◌≡◌, ◌≤◌, ◌<◌, min, length, option_map, position};
+ghost use Rattle.cpu_list.specs.ListText.{is_blank, is_comma, is_hyphen, indent, trim_end, item_of, number_of, range_of};
+ghost use Rattle.std.specs.List.{before_first};
+
+// A space, a tab or a line feed.
+fn is_blank(byte: u8) -> bool
+    ensures { result ≡ is_blank byte }
+{
+    byte == b' ' || byte == b'\t' || byte == b'\n'
+}
+
+// The text up to its first comma.
+pub fn first_piece(text: &[u8]) -> &[u8]
+    ensures { result.now ≡ before_first is_comma text.now }
+{
+    for (i, byte) in text.iter().enumerate() {
+        if *byte == b',' {
+            return &text[..i];
+        }
+    }
+    text
+}
+
+// How many blanks stand before the first byte of the piece's item.
+pub fn indent(piece: &[u8]) -> usize
+    ensures value { result ≡ indent piece.now }
+    ensures within { result ≤ length piece.now }
+{
+    for (i, byte) in piece.iter().enumerate() {
+        if !is_blank(*byte) {
+            return i;
+        }
+    }
+    piece.len()
+}
+
+fn trim_end(piece: &[u8]) -> &[u8]
+    ensures { result.now ≡ trim_end piece.now }
+{
+    let mut end = piece.len();
+    while end > 0 && is_blank(piece[end - 1]) {
+        end -= 1;
+    }
+    &piece[..end]
+}
+
+// The piece without the blanks round it.
+#[tactic(auto, unfolding(crate::specs::ListText::item_of))]
+pub fn item_of(piece: &[u8]) -> &[u8]
+    ensures { result.now ≡ item_of piece.now }
+{
+    trim_end(&piece[indent(piece)..])
+}
+
+// The number that the digits write, or the limit where it isn't below that.
+#[tactic(auto, unfolding(crate::specs::ListText::number_of))]
+fn read_number(digits: &[u8], limit: u16) -> Option<u16>
+    ensures { result ≡ option_map (min limit) (number_of digits.now) }
+{
+    if digits.is_empty() {
+        return None;
+    }
+    let mut number = 0;
+    for digit in digits {
+        if !digit.is_ascii_digit() {
+            return None;
+        }
+        number = u32::from(limit).min(number * 10 + u32::from(*digit - b'0'));
+    }
+    Some(number as u16)
+}
+
+fn hyphen_in(item: &[u8]) -> Option<usize>
+    ensures { result ≡ position is_hyphen item.now }
+{
+    item.iter().position(|byte| *byte == b'-')
+}
+
+// The first and the last number of an item, each the limit where it isn't below that.
+#[tactic(auto, unfolding(crate::specs::ListText::range_of))]
+pub fn read_range(item: &[u8], limit: u16) -> Option<(u16, u16)>
+    ensures { result ≡ option_map (λ r. (min limit r.0, min limit r.1)) (range_of item.now) }
+{
+    match hyphen_in(item) {
+        None => {
+            let number = read_number(item, limit)?;
+            Some((number, number))
+        }
+        Some(hyphen) => {
+            let first = read_number(&item[..hyphen], limit)?;
+            let last = read_number(&item[hyphen + 1..], limit)?;
+            Some((first, last))
+        }
+    }
+}
