@@ -8,4 +8,4 @@ pub mod IsRunnable
 pub mod ConfigOf
 pub mod Answers
 pub mod PathOf
-pub mod MembersView
+pub mod FoundView

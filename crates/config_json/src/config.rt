@@ -8,10 +8,10 @@ ghost use Rattle.config_json.specs.IsRunnable.{are_words, is_runnable};
 ghost use Rattle.config_json.specs.ValueFault.{root_fault};
 ghost use Rattle.config_json.specs.Answers.{Gives, fault_of};
 
-use crate::cpu_section::CpuSection;
+use crate::cpu_section::{CpuSection, Found};
 use crate::fault::{ConfigError, ConfigFault};
 use crate::field::Field;
-use crate::members::{check_object, inner, member, required, text};
+use crate::lookup::{check_object, inner, member, required, text};
 use crate::version::check_version;
 use serde_json::Value;
 use std::alloc::Global;
@@ -29,7 +29,16 @@ pub struct Config {
 }
 
 impl Config {
-    /// Reads a config.
+    /// Reads a config of at most [`MAX_BYTES`] bytes.
+    ///
+    /// The first fault in this order is answered: [`ConfigFault::TooLong`], `NotJson`, `NotObject`; then,
+    /// for each looked-at member in turn, `Missing` where it is required and absent, `BadField` where it
+    /// is of another kind, and for the version `BadVersion`. The members are `ociVersion`; `root`,
+    /// `root.path`; `linux`, `linux.resources`, `linux.resources.cpu`, and its `quota`, `period`, `cpus`
+    /// and `mems`. A member that is null counts as absent, of one that stands twice the last counts,
+    /// and all others are ignored. A quota is a whole number of 64 bits with a sign, a period one
+    /// without, written with neither fraction nor exponent. [`ConfigError::Memory`] is answered where a
+    /// growth was refused.
     #[tactic(auto, unfolding(crate::specs::ConfigOf::config_of))]
     pub fn read(alloc: Global, bytes: &[u8]) -> Result<Config, ConfigError>
         ensures value { Gives result (config_of bytes.now) }
@@ -45,9 +54,10 @@ impl Config {
         }
         check_version(alloc, &value)?;
         check_root(&value)?;
+        let found = Found::of(&value)?;
         Ok(Config {
             runnable: runnable(&value),
-            cpu: CpuSection::read(alloc, &value)?,
+            cpu: found.to_section(alloc)?,
         })
     }
 }

@@ -2,11 +2,11 @@ ghost use Rattle.std.specs.Prelude.{◌≡◌, IfOk, option_map, string_bytes};
 ghost use Rattle.serde_json.specs.View.{view};
 ghost use Rattle.config_json.specs.SectionOf.{section_of};
 ghost use Rattle.config_json.specs.ValueFault.{cpu_fault};
-ghost use Rattle.config_json.specs.Answers.{Meets, fault_of};
+ghost use Rattle.config_json.specs.Answers.{fault_of};
 
-use crate::fault::{ConfigError, ConfigFault};
+use crate::fault::ConfigFault;
 use crate::field::Field;
-use crate::members::{inner, member, optional_object, optional_signed, optional_text, optional_unsigned};
+use crate::lookup::{inner, member, optional_object, optional_signed, optional_text, optional_unsigned};
 use serde_json::Value;
 use std::alloc::{AllocError, Global};
 use std::marker::Model;
@@ -38,61 +38,57 @@ impl Model for CpuSection {
     } };
 }
 
-// The same members, with the texts still in the JSON value.
+// The same members as they were found, with the texts still in the JSON value.
 #[derive(Drop)]
-struct Members<'v> {
+pub(crate) struct Found<'v> {
     quota: Option<i64>,
     period: Option<u64>,
     cpus: Option<&'v str>,
     mems: Option<&'v str>,
 }
 
-impl Members<'_> {
-    ghost use Rattle.config_json.specs.MembersView.{members_view};
+impl Found<'_> {
+    ghost use Rattle.config_json.specs.FoundView.{found_view};
 
-    // Reads the members, and checks each of them and what leads to it.
+    // Looks the members up, and checks what leads to them and then each of them.
     #[tactic(auto, unfolding(crate::specs::ValueFault::cpu_fault))]
-    fn of(value: &Value) -> Result<Members<'_>, ConfigFault>
-        ensures fault { cpu_fault (view value.now) ≡ fault_of result }
-        ensures value { IfOk result (λ m. members_view m ≡ section_of (view value.now)) }
+    pub(crate) fn of(config: &Value) -> Result<Found<'_>, ConfigFault>
+        ensures fault { cpu_fault (view config.now) ≡ fault_of result }
+        ensures value { IfOk result (λ found. found_view found ≡ section_of (view config.now)) }
     {
-        let linux = member(value, "linux");
+        let linux = member(config, "linux");
         optional_object(linux, Field::Linux)?;
         let resources = inner(linux, "resources");
         optional_object(resources, Field::Resources)?;
         let cpu = inner(resources, "cpu");
         optional_object(cpu, Field::Cpu)?;
-        Ok(Members {
+        Ok(Found {
             quota: optional_signed(inner(cpu, "quota"), Field::Quota)?,
             period: optional_unsigned(inner(cpu, "period"), Field::Period)?,
             cpus: optional_text(inner(cpu, "cpus"), Field::Cpus)?,
             mems: optional_text(inner(cpu, "mems"), Field::Mems)?,
         })
     }
+
+    // The section, with the texts copied.
+    pub(crate) fn to_section(&self, alloc: Global) -> Result<CpuSection, AllocError>
+        ensures { IfOk result (λ section. section ≡ found_view self.now) }
+    {
+        Ok(CpuSection {
+            quota: self.quota,
+            period: self.period,
+            cpus: copied(alloc, self.cpus)?,
+            mems: copied(alloc, self.mems)?,
+        })
+    }
 }
 
 // A copy of a text that may be absent.
 fn copied(alloc: Global, text: Option<&str>) -> Result<Option<String>, AllocError>
-    ensures { IfOk result (λ t. option_map string_bytes t ≡ option_map (λ s. s.now) text.entry) }
+    ensures { IfOk result (λ copy. option_map string_bytes copy ≡ option_map (λ t. t.now) text.entry) }
 {
     match text {
         Some(text) => Ok(Some(String::from_str(alloc, text)?)),
         None => Ok(None),
-    }
-}
-
-impl CpuSection {
-    // The section of a config. Memory is wanted only for the texts of a section without fault.
-    pub(crate) fn read(alloc: Global, value: &Value) -> Result<CpuSection, ConfigError>
-        ensures fault { Meets result (cpu_fault (view value.now)) }
-        ensures value { IfOk result (λ s. s ≡ section_of (view value.now)) }
-    {
-        let members = Members::of(value)?;
-        Ok(CpuSection {
-            quota: members.quota,
-            period: members.period,
-            cpus: copied(alloc, members.cpus)?,
-            mems: copied(alloc, members.mems)?,
-        })
     }
 }

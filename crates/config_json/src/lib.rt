@@ -9,7 +9,7 @@ mod config;
 mod cpu_section;
 mod fault;
 mod field;
-mod members;
+mod lookup;
 mod version;
 
 pub use config::{Config, MAX_BYTES};
