@@ -1,0 +1,11 @@
+pub mod JsonOf
+pub mod Members
+pub mod Checks
+pub mod VersionFault
+pub mod ValueFault
+pub mod SectionOf
+pub mod IsRunnable
+pub mod ConfigOf
+pub mod Answers
+pub mod PathOf
+pub mod FoundView

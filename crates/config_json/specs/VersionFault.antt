@@ -1,0 +1,24 @@
+-- Which versions of the specification are read: SemVer 2.0.0 text with major number 1.
+use Rattle.std.specs.Prelude.{◌≡◌, ℕ, ◌==◌, Bool, false, length, IsOk, List, Option, Some, None, Result, Ok, Err, cond}
+use Rattle.semver.specs.Parse.{Parts, version_parts}
+use Rattle.config_json.specs.declared.fault.ConfigFault.{ConfigFault}
+use Rattle.config_json.specs.declared.fault.ConfigFault.TheVariants.{BadVersion}
+
+-- a version that was read, with major number 1
+abbrev pub is_major_one : {E : Type 0} → Result Parts E → Bool
+is_major_one (Ok p) = p.0 == 1
+is_major_one (Err e) = false
+
+-- the text is no version, or one with another major number
+abbrev pub version_fault : List ℕ → Option ConfigFault
+version_fault text = cond (is_major_one (version_parts text)) None (Some BadVersion)
+
+-- the same of a text that may be absent
+abbrev pub version_fault_of : Option (List ℕ) → Option ConfigFault
+version_fault_of None = None
+version_fault_of (Some text) = version_fault text
+
+-- a version with neither pre-release nor build metadata is answered
+abbrev pub IsPlain : {A E F : Type 0} → Result Parts E → Result A F → Type 0
+IsPlain (Ok p) answer = length p.3 ≡ 0 → length p.4 ≡ 0 → IsOk answer
+IsPlain (Err e) answer = Unit {0}

@@ -1,0 +1,119 @@
+ghost use Rattle.std.specs.Prelude.{◌≡◌, ◌≢◌, ◌<◌, ◌≤◌, length, IfOk, IfErr, OnOk, IsErrOf, is_some};
+ghost use Rattle.std.specs.List.{list_all};
+ghost use Rattle.serde_json.specs.Find.{as_str};
+ghost use Rattle.serde_json.specs.View.{view, items_view};
+ghost use Rattle.config_json.specs.JsonOf.{json_of};
+ghost use Rattle.config_json.specs.ConfigOf.{config_of};
+ghost use Rattle.config_json.specs.IsRunnable.{are_words, is_runnable};
+ghost use Rattle.config_json.specs.ValueFault.{root_fault};
+ghost use Rattle.config_json.specs.Answers.{Gives, fault_of};
+
+use crate::cpu_section::{CpuSection, Found};
+use crate::fault::{ConfigError, ConfigFault};
+use crate::field::Field;
+use crate::lookup::{check_object, inner, member, required, text};
+use crate::version::check_version;
+use serde_json::Value;
+use std::alloc::Global;
+
+/// The most bytes that a config may have.
+pub const MAX_BYTES: usize = 1_048_576;
+
+/// What pinning reads of a config.
+#[derive(Drop)]
+pub struct Config {
+    /// Whether `process.args` is an array of one text or more, so that the container can be started.
+    pub runnable: bool,
+    /// `linux.resources.cpu`.
+    pub cpu: CpuSection,
+}
+
+impl Config {
+    /// Reads a config of at most [`MAX_BYTES`] bytes.
+    ///
+    /// The first fault in this order is answered: [`ConfigFault::TooLong`], `NotJson`, `NotObject`; then,
+    /// for each looked-at member in turn, `Missing` where it is required and absent, `BadField` where it
+    /// is of another kind, and for the version `BadVersion`. The members are `ociVersion`; `root`,
+    /// `root.path`; `linux`, `linux.resources`, `linux.resources.cpu`, and its `quota`, `period`, `cpus`
+    /// and `mems`. A member that is null counts as absent, of one that stands twice the last counts,
+    /// and all others are ignored. A quota is a whole number of 64 bits with a sign, a period one
+    /// without, written with neither fraction nor exponent. [`ConfigError::Memory`] is answered where a
+    /// growth was refused.
+    #[tactic(auto, unfolding(crate::specs::ConfigOf::config_of))]
+    pub fn read(alloc: Global, bytes: &[u8]) -> Result<Config, ConfigError>
+        ensures value { Gives result (config_of bytes.now) }
+        ensures memory { IsErrOf result ConfigError.Memory
+            → (0 < length bytes.now) × (length bytes.now ≤ MAX_BYTES) }
+    {
+        if bytes.len() > MAX_BYTES {
+            return Err(ConfigError::Fault(ConfigFault::TooLong));
+        }
+        let value = parse(alloc, bytes)?;
+        if !value.is_object() {
+            return Err(ConfigError::Fault(ConfigFault::NotObject));
+        }
+        check_version(alloc, &value)?;
+        check_root(&value)?;
+        let found = Found::of(&value)?;
+        Ok(Config {
+            runnable: runnable(&value),
+            cpu: found.to_section(alloc)?,
+        })
+    }
+}
+
+// The JSON value that the bytes are.
+#[tactic(auto, using(crate::proofs::TextTests::utf8_tests, crate::proofs::TextTests::no_bytes), unfolding(crate::specs::JsonOf::json_of))]
+fn parse(alloc: Global, bytes: &[u8]) -> Result<Value, ConfigError>
+    ensures ok { IfOk result (λ v. json_of bytes.now ≡ Some (view v)) }
+    ensures some { OnOk result (0 < length bytes.now) }
+    ensures err { IfErr result (λ e. e ≢ ConfigError.Memory
+        → (e ≡ ConfigError.Fault ConfigFault.NotJson) × (json_of bytes.now ≡ None)) }
+    ensures memory { IsErrOf result ConfigError.Memory → 0 < length bytes.now }
+{
+    match Value::from_slice(alloc, bytes) {
+        Ok(value) => Ok(value),
+        Err(e) if e.is_memory() => Err(ConfigError::Memory),
+        Err(_) => Err(ConfigError::Fault(ConfigFault::NotJson)),
+    }
+}
+
+// Checks `root` and `root.path`.
+#[tactic(auto, unfolding(crate::specs::ValueFault::root_fault))]
+fn check_root(value: &Value) -> Result<(), ConfigFault>
+    ensures { root_fault (view value.now) ≡ fault_of result }
+{
+    let root = required(member(value, "root"), Field::Root)?;
+    check_object(root, Field::Root)?;
+    let path = required(member(root, "path"), Field::RootPath)?;
+    text(path, Field::RootPath)?;
+    Ok(())
+}
+
+// Whether each value is a text.
+fn are_texts(values: &[Value]) -> bool
+    ensures { result ≡ list_all (λ v. is_some (as_str (view v))) values.now }
+{
+    values.iter().all(|value| value.is_string())
+}
+
+// Whether there is a value, and each is a text.
+#[tactic(auto, using(crate::proofs::Words::word_tests))]
+fn are_words(values: &[Value]) -> bool
+    ensures { result ≡ are_words (items_view values.now) }
+{
+    !values.is_empty() && are_texts(values)
+}
+
+// Whether `process.args` is an array of one text or more.
+fn runnable(value: &Value) -> bool
+    ensures { result ≡ is_runnable (view value.now) }
+{
+    let Some(args) = inner(member(value, "process"), "args") else {
+        return false;
+    };
+    match args.as_array() {
+        Some(words) => are_words(words),
+        None => false,
+    }
+}

@@ -1,0 +1,18 @@
+//! The few members of an OCI `config.json` that CPU pinning reads.
+//!
+//! The rules are those of the OCI Runtime Specification 1.0.2, config.md and config-linux.md: `ociVersion`,
+//! `root` and `root.path` are required, all of `linux.resources.cpu` is optional, and unknown properties
+//! are ignored. The JSON itself is read by `serde_json`, the version by `semver`.
+#![tactic(auto)]
+
+mod config;
+mod cpu_section;
+mod fault;
+mod field;
+mod lookup;
+mod version;
+
+pub use config::{Config, MAX_BYTES};
+pub use cpu_section::CpuSection;
+pub use fault::{ConfigError, ConfigFault};
+pub use field::Field;
