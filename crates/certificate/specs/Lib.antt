@@ -1,0 +1,3 @@
+pub mod RowView
+pub mod SetsCode
+pub mod PricesView
