@@ -8,6 +8,7 @@
 
 mod certificates;
 mod check_faults;
+mod laws;
 mod limits;
 mod plans;
 mod price_lists;
@@ -16,6 +17,7 @@ mod rows;
 
 pub use certificates::Certificate;
 pub use check_faults::CheckFault;
+pub use laws::no_plan_is_below_a_bound;
 pub use limits::{MAX_AMOUNT, MAX_DEMAND, MAX_ROWS, MAX_WEIGHT};
 pub use plans::Plan;
 pub use price_lists::{Price, Prices};
