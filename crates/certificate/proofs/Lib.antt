@@ -1,0 +1,4 @@
+pub mod Sums
+pub mod Cpus
+pub mod Apart
+pub mod Duality

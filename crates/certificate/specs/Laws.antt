@@ -1,0 +1,23 @@
+-- Laws over the definitions alone.
+use Rattle.std.specs.Prelude.{◌≡◌, ℕ, ◌≤◌, None, List}
+use Rattle.cpu_set.specs.Ids.{Ids}
+use Rattle.certificate.specs.RowView.{RowView}
+use Rattle.certificate.specs.PricesView.{PricesView}
+use Rattle.certificate.specs.IsPlan.{IsPlan}
+use Rattle.certificate.specs.Cost.{cost}
+use Rattle.certificate.specs.IsBound.{IsBound}
+use Rattle.certificate.specs.IsProved.{IsProved}
+use Rattle.certificate.specs.PlanFault.{plan_fault}
+use Rattle.certificate.specs.declared.price_lists.Price.{Price}
+
+-- no plan costs less than a bound, whatever the rows, values and prices
+abbrev pub NoPlanBelowBound : Type 0
+NoPlanBelowBound =
+    (rows : List RowView) (values : List ℕ) (prices : List Price) (bound : ℕ) (sets : List Ids)
+    → IsBound rows values prices bound → IsPlan rows sets → bound ≤ cost rows sets
+
+-- what is proved has no fault
+abbrev pub ProvedHasNoFault : Type 0
+ProvedHasNoFault =
+    (rows : List RowView) (sets : List Ids) (prices : PricesView) (total : ℕ)
+    → IsProved rows sets prices total → plan_fault rows sets prices ≡ None

@@ -1,0 +1,13 @@
+pub mod RowView
+pub mod SetsCode
+pub mod PricesView
+pub mod Weight
+pub mod IsPlan
+pub mod Cost
+pub mod IsLeast
+pub mod Price
+pub mod IsBound
+pub mod Limits
+pub mod IsProved
+pub mod PlanFault
+pub mod Laws

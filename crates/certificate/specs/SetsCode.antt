@@ -1,0 +1,7 @@
+-- A list of sets is stored as the list of their codes.
+use Rattle.std.specs.Prelude.{List}
+use Rattle.std.specs.Coded.{Coded, coded_list}
+use Rattle.cpu_set.specs.Ids.{Ids, ids_code}
+
+abbrev pub sets_code : Coded (List Ids)
+sets_code = coded_list ids_code

@@ -1,0 +1,25 @@
+//! Plans of CPUs that prove themselves: a problem, a plan, the prices that show that no plan costs less,
+//! and the check of all three.
+//!
+//! Nothing here knows how a plan was found. Whoever wrote a certificate, a yes of [`check_plan`] means
+//! that the plan is one of the least cost: the prices give a lower bound on the cost of every plan, and
+//! the plan's own cost is that bound.
+#![tactic(auto)]
+
+mod certificates;
+mod check_faults;
+mod laws;
+mod limits;
+mod plans;
+mod price_lists;
+mod problems;
+mod rows;
+
+pub use certificates::Certificate;
+pub use check_faults::CheckFault;
+pub use laws::no_plan_is_below_a_bound;
+pub use limits::{MAX_AMOUNT, MAX_DEMAND, MAX_ROWS, MAX_WEIGHT};
+pub use plans::Plan;
+pub use price_lists::{Price, Prices};
+pub use problems::Problem;
+pub use rows::{Offer, Row};

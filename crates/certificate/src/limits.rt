@@ -1,0 +1,13 @@
+use cpu_set::CPU_LIMIT;
+
+/// A problem has at most so many rows.
+pub const MAX_ROWS: usize = 256;
+
+/// A row asks for at most so many CPUs, and for one at least.
+pub const MAX_DEMAND: u32 = CPU_LIMIT as u32;
+
+/// No weight is above this.
+pub const MAX_WEIGHT: u32 = 33_554_431;
+
+/// No row's value and no CPU's price is above this.
+pub const MAX_AMOUNT: u64 = 1_099_511_627_776;

@@ -1,0 +1,28 @@
+use cpu_set::IdSet;
+use std::marker::Model;
+
+/// The numbers by which a plan shows that no plan costs less.
+#[derive(Debug, Drop)]
+pub struct Prices {
+    /// The value of each row, in the rows' order: at most the weight and the price together, of each CPU that it may have.
+    pub values: Vec<u64>,
+    /// The prices of CPUs. A CPU in none of them has the price 0.
+    pub of_cpu: Vec<Price>,
+}
+
+/// CPUs of one price.
+#[derive(Clone, Copy, Debug)]
+pub struct Price {
+    pub amount: u64,
+    pub cpus: IdSet,
+}
+
+impl Model for Prices {
+    ghost use Rattle.certificate.specs.PricesView.{PricesView, prices_code};
+
+    ghost Value = { PricesView };
+
+    ghost coded = { prices_code };
+
+    ghost view = { λ a. record { values = a.values.items; of_cpu = a.of_cpu.items } };
+}

@@ -1,0 +1,31 @@
+use cpu_set::IdSet;
+use std::marker::Model;
+
+/// What one container asks for.
+#[derive(Debug, Drop)]
+pub struct Row {
+    /// The container's id.
+    pub id: String,
+    /// How many CPUs it asks for.
+    pub demand: u32,
+    /// The CPUs that it may have, by weight. A CPU in no offer is not allowed.
+    pub offers: Vec<Offer>,
+}
+
+/// CPUs of one weight: what each of them costs a row that holds it.
+#[derive(Clone, Copy, Debug)]
+pub struct Offer {
+    pub weight: u32,
+    pub cpus: IdSet,
+}
+
+impl Model for Row {
+    ghost use Rattle.std.specs.Prelude.{string_bytes};
+    ghost use Rattle.certificate.specs.RowView.{RowView, row_code};
+
+    ghost Value = { RowView };
+
+    ghost coded = { row_code };
+
+    ghost view = { λ a. record { id = string_bytes a.id; demand = a.demand; offers = a.offers.items } };
+}
