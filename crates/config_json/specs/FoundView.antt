@@ -6,8 +6,8 @@ use Rattle.config_json.specs.declared.cpu_section.Found.{Found}
 -- the section that was found
 abbrev pub found_view : Found → Section
 found_view f = record {
-    quota = f.quota;
-    period = f.period;
-    cpus = option_map (λ t. t.now) f.cpus;
-    mems = option_map (λ t. t.now) f.mems;
-  }
+  quota = f.quota;
+  period = f.period;
+  cpus = option_map (λ t. t.now) f.cpus;
+  mems = option_map (λ t. t.now) f.mems;
+}

@@ -15,8 +15,8 @@ pub record Section : Type 0 where
 -- the section of a value without fault
 abbrev pub section_of : Data → Section
 section_of d = record {
-    quota = option_and_then signed_of (cpu_member (codes "quota") d);
-    period = option_and_then unsigned_of (cpu_member (codes "period") d);
-    cpus = option_and_then as_str (cpu_member (codes "cpus") d);
-    mems = option_and_then as_str (cpu_member (codes "mems") d);
-  }
+  quota = option_and_then signed_of (cpu_member (codes "quota") d);
+  period = option_and_then unsigned_of (cpu_member (codes "period") d);
+  cpus = option_and_then as_str (cpu_member (codes "cpus") d);
+  mems = option_and_then as_str (cpu_member (codes "mems") d);
+}

@@ -13,7 +13,7 @@ use Rattle.config_json.specs.VersionFault.{version_fault_of}
 -- the version of the specification: there, a text, and one that is read
 unfoldable pub oci_version_fault : Data → Option ConfigFault
 oci_version_fault d = first_of (
-      missing_fault OciVersion (version_of d)
+    missing_fault OciVersion (version_of d)
     ∷ kind_fault OciVersion as_str (version_of d)
     ∷ version_fault_of (option_and_then as_str (version_of d))
     ∷ [])
@@ -21,7 +21,7 @@ oci_version_fault d = first_of (
 -- the root filesystem: an object with a path
 unfoldable pub root_fault : Data → Option ConfigFault
 root_fault d = first_of (
-      missing_fault Root (root_of d)
+    missing_fault Root (root_of d)
     ∷ kind_fault Root as_object (root_of d)
     ∷ missing_fault RootPath (root_path_of d)
     ∷ kind_fault RootPath as_str (root_path_of d)
@@ -30,7 +30,7 @@ root_fault d = first_of (
 -- the CPU section and what leads to it: all optional
 unfoldable pub cpu_fault : Data → Option ConfigFault
 cpu_fault d = first_of (
-      kind_fault Linux as_object (linux_of d)
+    kind_fault Linux as_object (linux_of d)
     ∷ kind_fault Resources as_object (resources_of d)
     ∷ kind_fault Cpu as_object (cpu_of d)
     ∷ kind_fault Quota signed_of (cpu_member (codes "quota") d)
@@ -42,7 +42,7 @@ cpu_fault d = first_of (
 -- the first fault of a value
 abbrev pub value_fault : Data → Option ConfigFault
 value_fault d = first_of (
-      when (not (is_some (as_object d))) NotObject
+    when (not (is_some (as_object d))) NotObject
     ∷ oci_version_fault d
     ∷ root_fault d
     ∷ cpu_fault d

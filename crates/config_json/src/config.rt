@@ -117,3 +117,6 @@ fn runnable(value: &Value) -> bool
         None => false,
     }
 }
+
+#[cfg(test)]
+mod tests;

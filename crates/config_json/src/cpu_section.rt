@@ -6,7 +6,9 @@ ghost use Rattle.config_json.specs.Answers.{fault_of};
 
 use crate::fault::ConfigFault;
 use crate::field::Field;
-use crate::lookup::{inner, member, optional_object, optional_signed, optional_text, optional_unsigned};
+use crate::lookup::{
+    inner, member, optional_object, optional_signed, optional_text, optional_unsigned,
+};
 use serde_json::Value;
 use std::alloc::{AllocError, Global};
 use std::marker::Model;
@@ -31,10 +33,10 @@ impl Model for CpuSection {
     ghost Value = { Section };
 
     ghost view = { λ s. record {
-        quota = s.quota;
-        period = s.period;
-        cpus = option_map string_bytes s.cpus;
-        mems = option_map string_bytes s.mems
+      quota = s.quota;
+      period = s.period;
+      cpus = option_map string_bytes s.cpus;
+      mems = option_map string_bytes s.mems;
     } };
 }
 

@@ -1,0 +1,376 @@
+use super::{Config, MAX_BYTES};
+use crate::fault::{ConfigError, ConfigFault};
+use crate::field::Field;
+use std::alloc::{AllocError, Global};
+use std::process::Abort;
+use std::test::Fail;
+
+// The fault of a text that is refused.
+fn fault_of(rt: &impl Abort, alloc: Global, bytes: &[u8]) -> Option<ConfigFault> {
+    match Config::read(alloc, bytes) {
+        Ok(_) => None,
+        Err(ConfigError::Fault(fault)) => Some(fault),
+        Err(ConfigError::Memory) => panic!(rt; "memory ran out"),
+    }
+}
+
+// A config with this text as its CPU section.
+fn with_cpu(alloc: Global, cpu: &str) -> Result<String, AllocError> {
+    format!(in alloc;
+        "{{\"ociVersion\":\"1.0.2\",\"root\":{{\"path\":\"r\"}},\"linux\":{{\"resources\":{{\"cpu\":{cpu}}}}}}}"
+    )
+}
+
+// A config with an ignored member that holds arrays in one another.
+fn nested(alloc: Global, depth: usize) -> Result<String, AllocError> {
+    let mut text = String::from_str(
+        alloc,
+        "{\"ociVersion\":\"1.0.2\",\"root\":{\"path\":\"r\"},\"x\":",
+    )?;
+    for _ in 0..depth {
+        text.push('[')?;
+    }
+    for _ in 0..depth {
+        text.push(']')?;
+    }
+    text.push('}')?;
+    Ok(text)
+}
+
+#[test]
+fn the_text_is_an_object(rt: HostRuntime) -> Result<(), Fail> {
+    let cases: [(&[u8], ConfigFault); 9] = [
+        (b"", ConfigFault::NotJson),
+        (b"{", ConfigFault::NotJson),
+        (b"{\"ociVersion\":\"1.0.2\"", ConfigFault::NotJson),
+        (b"\xff", ConfigFault::NotJson),
+        (b"{\"ociVersion\":\"\xff\"}", ConfigFault::NotJson),
+        (b"{\"x\":1e999}", ConfigFault::NotJson),
+        (b"[]", ConfigFault::NotObject),
+        (b"null", ConfigFault::NotObject),
+        (b"\"ociVersion\"", ConfigFault::NotObject),
+    ];
+    for (bytes, fault) in cases {
+        assert_eq!(rt; fault_of(&rt, rt.alloc(), bytes), Some(fault), "{bytes:?}");
+    }
+    Ok(())
+}
+
+#[test]
+fn version_and_root_are_required(rt: HostRuntime) -> Result<(), Fail> {
+    let cases = [
+        ("{}", ConfigFault::Missing(Field::OciVersion)),
+        (
+            "{\"ociVersion\":null}",
+            ConfigFault::Missing(Field::OciVersion),
+        ),
+        (
+            "{\"ociVersion\":1}",
+            ConfigFault::BadField(Field::OciVersion),
+        ),
+        (
+            "{\"ociVersion\":[\"1.0.2\"]}",
+            ConfigFault::BadField(Field::OciVersion),
+        ),
+        (
+            "{\"ociVersion\":\"2.0.0\",\"root\":{\"path\":\"r\"}}",
+            ConfigFault::BadVersion,
+        ),
+        (
+            "{\"ociVersion\":\"0.9.0\",\"root\":{\"path\":\"r\"}}",
+            ConfigFault::BadVersion,
+        ),
+        (
+            "{\"ociVersion\":\"1.0\",\"root\":{\"path\":\"r\"}}",
+            ConfigFault::BadVersion,
+        ),
+        ("{\"ociVersion\":\"\"}", ConfigFault::BadVersion),
+        (
+            "{\"ociVersion\":\"1.0.2\",\"ociVersion\":\"2.0.0\"}",
+            ConfigFault::BadVersion,
+        ),
+        (
+            "{\"ociVersion\":\"1.0.2\"}",
+            ConfigFault::Missing(Field::Root),
+        ),
+        (
+            "{\"ociVersion\":\"1.0.2\",\"root\":null}",
+            ConfigFault::Missing(Field::Root),
+        ),
+        (
+            "{\"ociVersion\":\"1.0.2\",\"root\":\"r\"}",
+            ConfigFault::BadField(Field::Root),
+        ),
+        (
+            "{\"ociVersion\":\"1.0.2\",\"root\":{}}",
+            ConfigFault::Missing(Field::RootPath),
+        ),
+        (
+            "{\"ociVersion\":\"1.0.2\",\"root\":{\"path\":7}}",
+            ConfigFault::BadField(Field::RootPath),
+        ),
+        (
+            "{\"ociVersion\":\"1.0.2\",\"root\":{\"path\":\"r\"},\"linux\":[]}",
+            ConfigFault::BadField(Field::Linux),
+        ),
+        (
+            "{\"ociVersion\":\"1.0.2\",\"root\":{\"path\":\"r\"},\"linux\":{\"resources\":true}}",
+            ConfigFault::BadField(Field::Resources),
+        ),
+    ];
+    for (text, fault) in cases {
+        assert_eq!(rt;
+            fault_of(&rt, rt.alloc(), text.as_bytes()),
+            Some(fault),
+            "{text}"
+        );
+    }
+    Ok(())
+}
+
+#[test]
+fn members_of_another_kind(rt: HostRuntime) -> Result<(), Fail> {
+    let alloc = rt.alloc();
+    let kinds = ["true", "7", "-7", "1.5", "\"7\"", "[]", "{}"];
+    // Which of the kinds each member takes.
+    let members = [
+        (
+            "quota",
+            Field::Quota,
+            [false, true, true, false, false, false, false],
+        ),
+        (
+            "period",
+            Field::Period,
+            [false, true, false, false, false, false, false],
+        ),
+        (
+            "cpus",
+            Field::Cpus,
+            [false, false, false, false, true, false, false],
+        ),
+        (
+            "mems",
+            Field::Mems,
+            [false, false, false, false, true, false, false],
+        ),
+    ];
+    for (name, field, taken) in members {
+        for (kind, takes) in kinds.iter().zip(&taken) {
+            let text = with_cpu(alloc, format!(in alloc; "{{\"{name}\":{kind}}}")?.as_str())?;
+            let fault = if *takes {
+                None
+            } else {
+                Some(ConfigFault::BadField(field))
+            };
+            assert_eq!(rt;
+                fault_of(&rt, alloc, text.as_bytes()),
+                fault,
+                "{name} {kind}"
+            );
+        }
+    }
+    let text = with_cpu(alloc, "\"quota\"")?;
+    assert_eq!(rt;
+        fault_of(&rt, alloc, text.as_bytes()),
+        Some(ConfigFault::BadField(Field::Cpu))
+    );
+    Ok(())
+}
+
+#[test]
+fn numbers_that_are_no_whole_ones_of_64_bits(rt: HostRuntime) -> Result<(), Fail> {
+    let alloc = rt.alloc();
+    let cases = [
+        ("{\"quota\":-0}", Field::Quota),
+        ("{\"quota\":1e2}", Field::Quota),
+        ("{\"quota\":100.0}", Field::Quota),
+        ("{\"quota\":9223372036854775808}", Field::Quota),
+        ("{\"quota\":-9223372036854775809}", Field::Quota),
+        (
+            "{\"quota\":1111111111111111111111111111111111111111111111111111111111111111111111111111111111111111111111111111}",
+            Field::Quota,
+        ),
+        ("{\"period\":-1}", Field::Period),
+        ("{\"period\":-0}", Field::Period),
+        ("{\"period\":0.5}", Field::Period),
+        ("{\"period\":18446744073709551616}", Field::Period),
+        // The first in the order of the members, wherever it stands in the text.
+        (
+            "{\"mems\":0,\"cpus\":0,\"period\":-1,\"quota\":\"\"}",
+            Field::Quota,
+        ),
+        ("{\"mems\":0,\"cpus\":0,\"period\":-1}", Field::Period),
+        ("{\"mems\":0,\"cpus\":0}", Field::Cpus),
+    ];
+    for (cpu, field) in cases {
+        let text = with_cpu(alloc, cpu)?;
+        assert_eq!(rt;
+            fault_of(&rt, alloc, text.as_bytes()),
+            Some(ConfigFault::BadField(field)),
+            "{cpu}"
+        );
+    }
+    Ok(())
+}
+
+#[test]
+fn the_cpu_section_is_read(rt: HostRuntime) -> Result<(), Fail> {
+    let alloc = rt.alloc();
+    let cases = [
+        ("null", None, None, None, None),
+        (
+            "{\"quota\":null,\"period\":null,\"cpus\":null,\"mems\":null}",
+            None,
+            None,
+            None,
+            None,
+        ),
+        (
+            "{\"quota\":1000000,\"period\":500000,\"cpus\":\"2-3\",\"mems\":\"0-7\"}",
+            Some(1000000),
+            Some(500000),
+            Some("2-3"),
+            Some("0-7"),
+        ),
+        (
+            "{\"quota\":9223372036854775807,\"period\":0}",
+            Some(9223372036854775807),
+            Some(0),
+            None,
+            None,
+        ),
+        (
+            "{\"quota\":-9223372036854775808,\"period\":18446744073709551615}",
+            Some(-9223372036854775808),
+            Some(18446744073709551615),
+            None,
+            None,
+        ),
+        (
+            "{\"quota\":0,\"cpus\":\"\",\"shares\":1024,\"idle\":[]}",
+            Some(0),
+            None,
+            Some(""),
+            None,
+        ),
+        (
+            "{\"cpus\":\"\\u0032-3\",\"cpus\":\"4\"}",
+            None,
+            None,
+            Some("4"),
+            None,
+        ),
+        ("{\"mems\":\"\\u0030\\t\"}", None, None, None, Some("0\t")),
+    ];
+    for (cpu, quota, period, cpus, mems) in cases {
+        let text = with_cpu(alloc, cpu)?;
+        let Ok(config) = Config::read(alloc, text.as_bytes()) else {
+            panic!(rt; "{cpu} is refused");
+        };
+        assert_eq!(rt; config.runnable, false, "{cpu}");
+        assert_eq!(rt; config.cpu.quota, quota, "{cpu}");
+        assert_eq!(rt; config.cpu.period, period, "{cpu}");
+        assert_eq!(rt; config.cpu.cpus.as_ref().map(|s| s.as_str()), cpus, "{cpu}");
+        assert_eq!(rt; config.cpu.mems.as_ref().map(|s| s.as_str()), mems, "{cpu}");
+    }
+    Ok(())
+}
+
+#[test]
+fn a_program_to_start(rt: HostRuntime) -> Result<(), Fail> {
+    let cases = [
+        (
+            "{\"ociVersion\":\"1.2.0\",\"root\":{\"path\":\"r\"},\"hooks\":7,\"linux\":null}",
+            false,
+        ),
+        (
+            "{\"ociVersion\":\"1.0.2-dev\",\"root\":{\"path\":\"r\"},\"process\":{\"args\":[\"x\"]}}",
+            true,
+        ),
+        (
+            "{\"ociVersion\":\"1.0.2+build.7\",\"root\":{\"path\":\"r\"},\"process\":{\"args\":[\"x\",\"\"]}}",
+            true,
+        ),
+        (
+            "{\"ociVersion\":\"1.0.2-dev\",\"root\":{\"path\":\"r\"},\"process\":{\"args\":[]}}",
+            false,
+        ),
+        (
+            "{\"ociVersion\":\"1.0.2-dev\",\"root\":{\"path\":\"r\"},\"process\":{\"args\":[\"x\",1]}}",
+            false,
+        ),
+        (
+            "{\"ociVersion\":\"1.0.2\",\"root\":{\"path\":\"r\"},\"process\":{\"args\":\"x\"}}",
+            false,
+        ),
+        (
+            "{\"ociVersion\":\"1.0.2\",\"root\":{\"path\":\"r\"},\"process\":{\"args\":null}}",
+            false,
+        ),
+        (
+            "{\"ociVersion\":\"1.0.2\",\"root\":{\"path\":\"r\"},\"process\":[]}",
+            false,
+        ),
+        (
+            "{\"ociVersion\":\"2.0.0\",\"ociVersion\":\"1.99.0\",\"root\":{\"path\":\"r\"}}",
+            false,
+        ),
+    ];
+    for (text, runnable) in cases {
+        let Ok(config) = Config::read(rt.alloc(), text.as_bytes()) else {
+            panic!(rt; "{text} is refused");
+        };
+        assert_eq!(rt; config.runnable, runnable, "{text}");
+        assert_eq!(rt; config.cpu.quota, None);
+        assert_eq!(rt; config.cpu.cpus.is_none(), true);
+    }
+    Ok(())
+}
+
+#[test]
+fn depth_and_length(rt: HostRuntime) -> Result<(), Fail> {
+    let alloc = rt.alloc();
+    let nests = [
+        (100, None),
+        (126, None),
+        (127, Some(ConfigFault::NotJson)),
+        (200, Some(ConfigFault::NotJson)),
+    ];
+    for (depth, fault) in nests {
+        let text = nested(alloc, depth)?;
+        assert_eq!(rt; fault_of(&rt, alloc, text.as_bytes()), fault, "{depth}");
+    }
+    let mut text = nested(alloc, 3)?;
+    let cut = text.as_bytes();
+    for end in 0..cut.len() {
+        assert_eq!(rt;
+            fault_of(&rt, alloc, &cut[..end]),
+            Some(ConfigFault::NotJson),
+            "{end}"
+        );
+    }
+    for _ in text.len()..MAX_BYTES {
+        text.push(' ')?;
+    }
+    assert_eq!(rt; fault_of(&rt, alloc, text.as_bytes()), None);
+    text.push(' ')?;
+    assert_eq!(rt;
+        fault_of(&rt, alloc, text.as_bytes()),
+        Some(ConfigFault::TooLong)
+    );
+    Ok(())
+}
+
+#[test]
+fn paths_of_members(rt: HostRuntime) {
+    let paths = [
+        (Field::OciVersion, "ociVersion"),
+        (Field::RootPath, "root.path"),
+        (Field::Quota, "linux.resources.cpu.quota"),
+        (Field::Mems, "linux.resources.cpu.mems"),
+    ];
+    for (field, path) in paths {
+        assert_eq!(rt; field.path(), path);
+    }
+}
