@@ -1,4 +1,4 @@
-use Rattle.std.proofs.Common.{◌≡◌, ℕ, true}
+use Rattle.std.proofs.Common.{◌≡◌, true}
 use Rattle.std.specs.FinSet as set
 use Rattle.cpu_set.specs.Ids.{Ids}
 use Rattle.cpu_set.specs.Pointwise.{is_subset-contains, contains-is_subset}

@@ -1,5 +1,5 @@
 -- The least distance to a home, found node by node.
-use Rattle.std.proofs.Common.{◌≡◌, ◌≢◌, ℕ, zero, suc, ◌<◌, ◌≤◌, ◌⊎◌, inl, inr, Bool, true, false, cond, min, refl, sym, ap, ◌∙◌, subst, arith}
+use Rattle.std.proofs.Common.{◌≡◌, ℕ, zero, suc, ◌<◌, ◌≤◌, ◌⊎◌, inl, inr, Bool, true, false, cond, min, refl, sym, ap, ◌∙◌, arith}
 use Rattle.std.proofs.lemmas.Bool.{cases_lt, true≢false, false≢true, false_from_ne_true}
 use Rattle.std.specs.FinSet as set
 use Rattle.cpu_set.specs.Ids.{Ids}
@@ -37,10 +37,13 @@ without_home :
     → IsLeastBelow m homes i n w → IsLeastBelow m homes i (suc n) w
 without_home m homes i n w no_home below = record {
   reached = elim below.reached [
-    | inl none ↦ inl (none.0, λ h lt. elim (cases_lt h n) [
+    | inl none ↦ inl (
+      none.0,
+      λ h lt. elim (cases_lt h n) [
         | inl before ↦ none.1 h before
         | inr last ↦ let same : h ≡ n = omega arith in rw same no_home
-      ])
+      ],
+    )
     | inr some ↦ inr some
   ];
   least = λ h lt is_home. elim (cases_lt h n) [
@@ -70,7 +73,7 @@ least_below-IsLeastBelow m homes i (suc n) reach =
 no_homes : (m : Layout) (homes : Ids) → AreHomes m homes → ((h : ℕ) → h < node_count m → set.contains homes h ≡ false) → ⊥
 no_homes m homes are none =
     are.some (empty_of_none homes (λ q _. false_from_ne_true _ (λ member.
-      true≢false (sym member ∙ none q (are.nodes q member)))))
+    true≢false (sym member ∙ none q (are.nodes q member)))))
 
 -- the least of all nodes' distances is that to a home
 pub least_below-IsLeast :

@@ -30,10 +30,18 @@ impl Model for Machine {
     ghost coded = { layout_code };
 
     ghost view = { λ m. record {
-        nodes = m.nodes.items; distances = m.distances.items; reserved = m.reserved; online = m.online } };
+      nodes = m.nodes.items;
+      distances = m.distances.items;
+      reserved = m.reserved;
+      online = m.online;
+    } };
 
     ghost invariant = { λ m. IsSound (record {
-        nodes = m.nodes.items; distances = m.distances.items; reserved = m.reserved; online = m.online }) };
+      nodes = m.nodes.items;
+      distances = m.distances.items;
+      reserved = m.reserved;
+      online = m.online;
+    }) };
 }
 
 impl Machine {
@@ -50,7 +58,9 @@ impl Machine {
     fn union(&self) -> IdSet
         ensures { result ≡ present self.now }
     {
-        self.nodes.iter().fold(IdSet::empty(), |all, cpus| all.union(cpus))
+        self.nodes
+            .iter()
+            .fold(IdSet::empty(), |all, cpus| all.union(cpus))
     }
 
     fn count(&self) -> usize

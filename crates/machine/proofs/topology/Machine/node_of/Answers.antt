@@ -1,5 +1,4 @@
 use Rattle.std.proofs.Common.{sym, ◌∙◌}
-use Rattle.std.specs.Prelude.{IsSome}
 use Rattle.machine.proofs.NodeLaws.{IsOfNode-first, IsOfNode-at}
 use Rattle.machine.proofs.topology.Machine.node_of.Goals as goal
 
