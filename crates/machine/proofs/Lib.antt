@@ -1,0 +1,3 @@
+pub mod SubsetLaws
+pub mod NodeLaws
+pub mod WeightLaws

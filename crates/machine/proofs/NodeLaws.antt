@@ -1,0 +1,80 @@
+-- Which CPUs are present, and in which node.
+use Rattle.std.specs.Prelude.{◌||◌, ◌==◌}
+use Rattle.std.proofs.Common.{◌≡◌, ℕ, zero, suc, ◌<◌, Bool, true, false, inl, inr, nat_lt, List, [], ◌∷◌, length, get_or, Some, refl, sym, ap, ◌∙◌, arith}
+use Rattle.std.specs.Prelude.{fold, position, IsSome}
+use Rattle.std.specs.List.{list_any, position_or_len}
+use Rattle.std.proofs.lemmas.Bool.{cases_lt, false≢true}
+use Rattle.std.proofs.lemmas.Bool.Decides.{nat_tests}
+use Rattle.std.proofs.lemmas.Grind.{common_steps}
+use Rattle.std.proofs.lemmas.List.{get_or_default}
+use Rattle.std.proofs.lemmas.List.Folds.{list_any_at, Any-from_list_any}
+use Rattle.std.proofs.lemmas.List.Quantifiers.{position-Some}
+use Rattle.std.proofs.lemmas.List.Sums.{fails_before_first}
+use Rattle.std.specs.FinSet as set
+use Rattle.cpu_set.specs.Ids.{Ids}
+use Rattle.cpu_set.specs.Pointwise.{contains-empty, contains-insert, contains-union}
+use Rattle.machine.specs.Layout.{Layout, cpus_of}
+use Rattle.machine.specs.Nodes.{numbers_below, IsOfNode}
+use Rattle.machine.specs.Present.{present, IsPresent}
+
+or_false : (a : Bool) → (a || false) ≡ a
+or_false true = refl
+or_false false = refl
+
+or_assoc : (a b c : Bool) → ((a || b) || c) ≡ (a || (b || c))
+or_assoc true b c = refl
+or_assoc false b c = refl
+
+contains-fold_union :
+    (a : Ids) (xs : List Ids) (c : ℕ)
+    → set.contains (fold set.union a xs) c ≡ (set.contains a c || list_any (λ s. set.contains s c) xs)
+contains-fold_union a [] c = sym (or_false _)
+contains-fold_union a (x ∷ xs) c =
+    contains-fold_union (set.union a x) xs c
+    ∙ ap (λ b. b || list_any (λ s. set.contains s c) xs) (contains-union a x c)
+    ∙ or_assoc (set.contains a c) (set.contains x c) (list_any (λ s. set.contains s c) xs)
+
+contains-present : (m : Layout) (c : ℕ) → set.contains (present m) c ≡ list_any (λ s. set.contains s c) m.nodes
+contains-present m c =
+    contains-fold_union set.empty m.nodes c ∙ ap (λ b. b || list_any (λ s. set.contains s c) m.nodes) (contains-empty c)
+
+-- a present CPU is of some node
+pub IsPresent-IsOfNode : (m : Layout) (c : ℕ) → IsPresent m c → (i : ℕ) × IsOfNode m c i
+IsPresent-IsOfNode m c p =
+    let some = Any-from_list_any (λ s. set.contains s c) m.nodes (sym (contains-present m c) ∙ p) in
+    let same : cpus_of m some.0 ≡ some.1 = get_or_default m.nodes some.0 set.empty some.1 some.2 ∙ some.3 in
+    (some.0, record { is_node = some.2; has_cpu = ap (λ s. set.contains s c) same ∙ some.4 })
+
+-- a CPU of a node is present
+pub IsOfNode-IsPresent : (m : Layout) (c i : ℕ) → IsOfNode m c i → IsPresent m c
+IsOfNode-IsPresent m c i h =
+    contains-present m c ∙ list_any_at (λ s. set.contains s c) m.nodes i set.empty h.is_node h.has_cpu
+
+first_within : (p : Ids → Bool) (xs : List Ids) (i : ℕ) → i < length xs → p (get_or xs i set.empty) ≡ true → position_or_len p xs < length xs
+first_within p xs i lt passes =
+    elim (cases_lt i (position_or_len p xs)) [
+      | inl before ↦ absurd (false≢true (sym (fails_before_first p xs i set.empty before) ∙ passes))
+      | inr not_before ↦ omega arith
+    ]
+
+-- a present CPU is of the first node that has it
+pub IsOfNode-first : (m : Layout) (c : ℕ) → IsPresent m c → IsSome (position (λ s. set.contains s c) m.nodes)
+IsOfNode-first m c p =
+    let has = IsPresent-IsOfNode m c p in
+    let lt : position_or_len (λ s. set.contains s c) m.nodes < length m.nodes = first_within (λ s. set.contains s c) m.nodes has.0 has.1.is_node has.1.has_cpu in
+    grind (arith, common_steps)
+
+-- the place where a CPU is found is that of a node which has it
+pub IsOfNode-at : (m : Layout) (c i : ℕ) → position (λ s. set.contains s c) m.nodes ≡ Some i → IsOfNode m c i
+IsOfNode-at m c i at =
+    let found = position-Some (λ s. set.contains s c) m.nodes i set.empty at in
+    record { is_node = found.0; has_cpu = found.1 }
+
+below_step : (n q : ℕ) (b : Bool) → b ≡ nat_lt q n → ((q == n) || b) ≡ nat_lt q (suc n)
+below_step n q b e = grind (arith, nat_tests)
+
+-- a number is among those below n where it is below n
+pub contains-numbers_below : (n q : ℕ) → set.contains (numbers_below n) q ≡ nat_lt q n
+unfolding numbers_below
+contains-numbers_below zero q = contains-empty q ∙ grind (arith, nat_tests)
+contains-numbers_below (suc n) q = contains-insert (numbers_below n) n q ∙ below_step n q _ (contains-numbers_below n q)

@@ -1,0 +1,22 @@
+use Rattle.std.specs.Prelude.{◌≡◌, ℕ, zero, suc, ◌<◌, true, position, unwrap_or}
+use Rattle.std.specs.FinSet as set
+use Rattle.cpu_set.specs.Ids.{Ids}
+use Rattle.machine.specs.Layout.{Layout, node_count, cpus_of}
+
+-- the numbers below n
+unfoldable pub numbers_below : ℕ → Ids
+numbers_below zero = set.empty
+numbers_below (suc n) = set.insert (numbers_below n) n
+
+-- the numbers of the nodes
+abbrev pub nodes_of : Layout → Ids
+nodes_of m = numbers_below (node_count m)
+
+-- Node i has the CPU.
+pub record IsOfNode (m : Layout) (cpu i : ℕ) : Type 0 where
+  pub is_node : i < node_count m
+  pub has_cpu : set.contains (cpus_of m i) cpu ≡ true
+
+-- the node that has the CPU
+abbrev pub node_of : Layout → ℕ → ℕ
+node_of m cpu = unwrap_or (position (λ cpus. set.contains cpus cpu) m.nodes) 0

@@ -1,0 +1,14 @@
+//! One machine as its owner describes it: which CPUs each of its nodes has, how far the nodes are from
+//! one another, which CPUs are reserved, and which are online when it boots.
+//!
+//! Distances are the relative ones of ACPI's System Locality Information Table: 10 from a node to itself,
+//! 10 to 255 to another, where 255 says that it can't be reached. The two ways may differ.
+#![tactic(auto)]
+
+mod topology;
+
+pub use slit::{LOCAL, UNREACHABLE};
+pub use topology::Machine;
+
+/// The most nodes that a machine may have.
+pub const NODE_LIMIT: usize = 64;
