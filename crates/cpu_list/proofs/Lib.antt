@@ -1,5 +1,9 @@
 pub mod Digits
 pub mod Inserting
 pub mod Pieces
+pub mod Printed
+pub mod RangeText
+pub mod Ranges
 pub mod ReadSteps
 pub mod Sending
+pub mod SetRanges

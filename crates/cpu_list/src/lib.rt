@@ -4,8 +4,13 @@
 mod item;
 mod list_error;
 mod output;
+mod printing;
+mod range;
 mod reading;
+mod writing;
 
 pub use list_error::{ListError, ListErrorKind};
 pub use output::put;
+pub use printing::print;
 pub use reading::read;
+pub use writing::write_list;
