@@ -1,5 +1,7 @@
 pub mod Digits
+pub mod FirstFaults
 pub mod Inserting
+pub mod ItemFaults
 pub mod Pieces
 pub mod Printed
 pub mod RangeText

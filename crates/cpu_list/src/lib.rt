@@ -2,6 +2,7 @@
 #![tactic(auto)]
 
 mod item;
+mod laws;
 mod list_error;
 mod output;
 mod printing;
@@ -9,6 +10,7 @@ mod range;
 mod reading;
 mod writing;
 
+pub use laws::first_faults;
 pub use list_error::{ListError, ListErrorKind};
 pub use output::put;
 pub use printing::print;
