@@ -1,5 +1,11 @@
 pub mod Digits
+pub mod FirstFaults
 pub mod Inserting
+pub mod ItemFaults
 pub mod Pieces
+pub mod Printed
+pub mod RangeText
+pub mod Ranges
 pub mod ReadSteps
 pub mod Sending
+pub mod SetRanges

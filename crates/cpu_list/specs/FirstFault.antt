@@ -50,7 +50,10 @@ pub record IsFirstFault (limit : ℕ) (text : List ℕ) (e : ListError) : Type 0
   pub fault : IsFaultOf limit (item_of piece) e.kind
   pub place : e.at ≡ sum_by (λ p. length p + 1) before + indent piece
 
--- a text is a list exactly where it has no first fault, and its first fault is that of the first faulty item
-pub record FaultsAreFirst (limit : ℕ) (text : List ℕ) : Type 0 where
-  pub none : (first_fault limit text ≡ None) ↔ IsList limit text
-  pub some : (e : ListError) → first_fault limit text ≡ Some e → IsFirstFault limit text e
+-- a text is a list exactly where it has no first fault
+abbrev pub NoneWhereList : Type 0
+NoneWhereList = (limit : ℕ) (text : List ℕ) → (first_fault limit text ≡ None) ↔ IsList limit text
+
+-- the first fault is that of the first faulty item
+abbrev pub FirstDecides : Type 0
+FirstDecides = (limit : ℕ) (text : List ℕ) (e : ListError) → (first_fault limit text ≡ Some e) ↔ IsFirstFault limit text e

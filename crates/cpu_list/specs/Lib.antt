@@ -1,3 +1,5 @@
+pub mod CanonicalList
 pub mod FirstFault
 pub mod ListText
 pub mod Output
+pub mod RangesFrom

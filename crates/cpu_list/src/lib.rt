@@ -2,10 +2,17 @@
 #![tactic(auto)]
 
 mod item;
+mod laws;
 mod list_error;
 mod output;
+mod printing;
+mod range;
 mod reading;
+mod writing;
 
+pub use laws::first_faults;
 pub use list_error::{ListError, ListErrorKind};
 pub use output::put;
+pub use printing::print;
 pub use reading::read;
+pub use writing::write_list;

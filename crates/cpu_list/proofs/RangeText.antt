@@ -1,0 +1,17 @@
+-- The text of ranges, one after another.
+use Rattle.std.proofs.Common.{◌≡◌, ℕ, List, [], ◌∷◌, ◌++◌, decimal, refl, sym, ap, append-nil}
+use Rattle.std.proofs.lemmas.Bool.{cond-false, ne_eqb}
+use Rattle.cpu_list.specs.CanonicalList.{range_text, ranges_text}
+use Rattle.cpu_list.specs.RangesFrom.{text_after}
+
+pub range_text-apart : (first last : ℕ) → (first ≡ last → ⊥) → range_text (first, last) ≡ decimal first ++ 45 ∷ decimal last
+range_text-apart first last apart = cond-false _ _ _ (ne_eqb first last apart)
+
+after_comma : (r : ℕ × ℕ) (more : List (ℕ × ℕ)) → ranges_text (r ∷ more) ≡ range_text r ++ text_after (44 ∷ []) more
+after_comma r [] = sym (append-nil (range_text r))
+after_comma r (s ∷ more) = ap (λ text. range_text r ++ 44 ∷ text) (after_comma s more)
+
+-- all ranges, with nothing before the first
+pub text_after-nil : (ranges : List (ℕ × ℕ)) → text_after [] ranges ≡ ranges_text ranges
+text_after-nil [] = refl
+text_after-nil (r ∷ more) = sym (after_comma r more)

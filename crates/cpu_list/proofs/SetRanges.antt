@@ -1,0 +1,72 @@
+-- The ranges of a set, one after another, from the first member to the last.
+use Rattle.std.proofs.Common.{◌≡◌, ℕ, ◌+◌, ◌-◌, ◌<◌, ◌≤◌, true, List, [], ◌∷◌, ◌++◌, filter, MatchOption, IfSome, Option, Some, None, refl, sym, ap, ◌∙◌, append_assoc, arith}
+use Rattle.std.specs.FinSet as set
+use Rattle.std.specs.List.{range_with_len}
+use Rattle.cpu_set.specs.Ids.{Ids, NoneFrom, IsFirstFrom}
+use Rattle.cpu_set.specs.Members.{IsCpu, cpus, members}
+use Rattle.cpu_set.specs.declared.TheConstants.{CPU_LIMIT}
+use Rattle.cpu_list.specs.CanonicalList.{ranges_of, range_text, ranges_text, list_text}
+use Rattle.cpu_list.specs.RangesFrom.{ranges_from, ranges_left, text_after, IsRangeOf}
+use Rattle.cpu_list.proofs.Ranges.{ranges_among, ranges_skip, ranges_none, ranges_more}
+use Rattle.cpu_list.proofs.RangeText.{text_after-nil}
+
+pub cpus_are : (n : ℕ) → n ≡ CPU_LIMIT → cpus ≡ range_with_len 0 n
+unfolding cpus
+cpus_are n e = ap (range_with_len 0) (sym e)
+
+ranges_from-is : (s : Ids) (n count : ℕ) → count + n ≡ CPU_LIMIT → ranges_from s n ≡ ranges_among (set.contains s) n count
+unfolding ranges_from
+ranges_from-is s n count e = let left : CPU_LIMIT - n ≡ count = omega arith in ap (ranges_among (set.contains s) n) left
+
+members_ranges : (s : Ids) (n : ℕ) → n ≡ CPU_LIMIT → ranges_of (members s) ≡ ranges_from s 0
+members_ranges s n e = ap (λ ns. ranges_of (filter (set.contains s) ns)) (cpus_are n e) ∙ sym (ranges_from-is s 0 n (omega arith))
+
+-- the text of a set is that of its ranges from 0 on
+pub list_text-is : (s : Ids) → list_text s ≡ text_after [] (ranges_from s 0)
+unfolding list_text
+list_text-is s = ap ranges_text (members_ranges s CPU_LIMIT refl) ∙ sym (text_after-nil (ranges_from s 0))
+
+-- the least member at or above a number begins the ranges from there on
+pub from_next : (s : Ids) (from : ℕ) (next : Option ℕ) → from ≤ CPU_LIMIT → MatchOption next (NoneFrom s from) (IsFirstFrom s from) → IfSome next IsCpu
+    → ranges_from s from ≡ ranges_left s next
+from_next s from None low h below =
+    ranges_from-is s from (CPU_LIMIT - from) (omega arith) ∙ ranges_none (set.contains s) from (CPU_LIMIT - from) h
+from_next s from (Some n) low h below =
+    let above : from ≤ n = h.above in
+    let at : from + (n - from) ≡ n = omega arith in
+    ranges_from-is s from (CPU_LIMIT - from) (omega arith)
+    ∙ ranges_skip (set.contains s) from (n - from) (CPU_LIMIT - from) (CPU_LIMIT - n) (omega arith) (λ m lo hi. h.least m lo (omega arith))
+    ∙ ap (λ m. ranges_among (set.contains s) m (CPU_LIMIT - n)) at ∙ sym (ranges_from-is s n (CPU_LIMIT - n) (omega arith))
+
+-- a whole range, and the ranges above it
+pub from_range : (s : Ids) (first last : ℕ) → IsRangeOf s first last → ranges_from s first ≡ (first, last) ∷ ranges_from s (last + 1)
+from_range s first last h =
+    let rising : first ≤ last = h.rising in
+    let below : last < CPU_LIMIT = h.in_range in
+    ranges_from-is s first (CPU_LIMIT - first) (omega arith)
+    ∙ ranges_more (set.contains s) first last (last - first) (CPU_LIMIT - first) (CPU_LIMIT - (last + 1)) (omega arith) (omega arith) h.whole (λ left. h.longest (omega arith))
+    ∙ ap (λ rs. (first, last) ∷ rs) (sym (ranges_from-is s (last + 1) (CPU_LIMIT - (last + 1)) (omega arith)))
+
+pub member_next : (s : Ids) (from : ℕ) (next : Option ℕ) → MatchOption next (NoneFrom s from) (IsFirstFrom s from) → IfSome next (λ n. set.contains s n ≡ true)
+member_next s from None h = tt
+member_next s from (Some n) h = h.member
+
+-- the text of a set, from its first member on
+pub text_first : (s : Ids) (next : Option ℕ) → MatchOption next (NoneFrom s 0) (IsFirstFrom s 0) → IfSome next IsCpu
+    → list_text s ≡ text_after [] (ranges_left s next)
+text_first s next h below = list_text-is s ∙ ap (text_after []) (from_next s 0 next (omega arith) h below)
+
+-- one range of the text, and what is left after it
+pub text_range : (s : Ids) (separator : List ℕ) (first last : ℕ) → IsRangeOf s first last
+    → text_after separator (ranges_from s first) ≡ (separator ++ range_text (first, last)) ++ text_after (44 ∷ []) (ranges_from s (last + 1))
+text_range s separator first last range =
+    ap (text_after separator) (from_range s first last range)
+    ∙ sym (append_assoc separator (range_text (first, last)) (text_after (44 ∷ []) (ranges_from s (last + 1))))
+
+pub text_next : (s : Ids) (separator : List ℕ) (first last : ℕ) (next : Option ℕ) → IsRangeOf s first last
+    → MatchOption next (NoneFrom s (last + 1)) (IsFirstFrom s (last + 1)) → IfSome next IsCpu
+    → text_after separator (ranges_from s first) ≡ (separator ++ range_text (first, last)) ++ text_after (44 ∷ []) (ranges_left s next)
+text_next s separator first last next range h below =
+    let past : last + 1 ≤ CPU_LIMIT = omega (arith, range.in_range) in
+    text_range s separator first last range
+    ∙ ap (λ rs. (separator ++ range_text (first, last)) ++ text_after (44 ∷ []) rs) (from_next s (last + 1) next past h below)

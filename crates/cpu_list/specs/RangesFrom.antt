@@ -1,0 +1,29 @@
+-- What is left of a set's text while it is printed range by range.
+use Rattle.std.specs.Prelude.{◌≡◌, ℕ, ◌+◌, ◌-◌, ◌≤◌, true, false, List, [], ◌∷◌, ◌++◌, filter, Option, Some, None}
+use Rattle.std.specs.FinSet as set
+use Rattle.std.specs.List.{range_with_len}
+use Rattle.cpu_set.specs.Ids.{Ids}
+use Rattle.cpu_set.specs.Members.{IsCpu}
+use Rattle.cpu_set.specs.declared.TheConstants.{CPU_LIMIT}
+use Rattle.cpu_list.specs.CanonicalList.{range_text, ranges_of}
+
+-- the ranges of the members at or above a number
+unfoldable pub ranges_from : Ids → ℕ → List (ℕ × ℕ)
+ranges_from s n = ranges_of (filter (set.contains s) (range_with_len n (CPU_LIMIT - n)))
+
+-- the ranges from the next member on, if there is one
+abbrev pub ranges_left : Ids → Option ℕ → List (ℕ × ℕ)
+ranges_left s None = []
+ranges_left s (Some n) = ranges_from s n
+
+-- the text of ranges behind what separates the first of them from those before
+abbrev pub text_after : List ℕ → List (ℕ × ℕ) → List ℕ
+text_after separator [] = []
+text_after separator (r ∷ more) = separator ++ (range_text r ++ text_after (44 ∷ []) more)
+
+-- `last` ends the range of members that begins at `first`
+pub record IsRangeOf (s : Ids) (first last : ℕ) : Type 0 where
+  pub rising : first ≤ last
+  pub in_range : IsCpu last
+  pub whole : (n : ℕ) → first ≤ n → n ≤ last → set.contains s n ≡ true
+  pub longest : IsCpu (last + 1) → set.contains s (last + 1) ≡ false
