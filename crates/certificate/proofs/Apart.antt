@@ -2,13 +2,9 @@
 use Rattle.std.proofs.Common.{◌≡◌, ℕ, zero, suc, ◌+◌, ◌<◌, ◌≤◌, Bool, true, false, cond, ◌||◌, List, [], ◌∷◌, length, refl, sym, ap, ◌∙◌, arith, get_or}
 use Rattle.std.specs.List.{AllPairs, list_any}
 use Rattle.std.specs.FinSet as set
-use Rattle.std.proofs.lemmas.Bool.{false≢true}
 use Rattle.cpu_set.specs.Ids.{Ids, IsDisjoint}
 use Rattle.certificate.specs.PlanFault.{is_held}
-
-pub is_false : (b : Bool) → (b ≡ true → ⊥) → b ≡ false
-is_false true not_true = absurd (not_true refl)
-is_false false not_true = refl
+use Rattle.certificate.proofs.Tests.{is_false}
 
 -- one set is apart from each of a list
 abbrev pub IsApartFrom : Ids → List Ids → Type 0

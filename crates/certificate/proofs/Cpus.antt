@@ -3,13 +3,15 @@ use Rattle.std.proofs.Common.{◌≡◌, ℕ, zero, suc, ◌+◌, ◌*◌, ◌<�
 use Rattle.std.specs.List.{filter, range_with_len}
 use Rattle.std.specs.FinSet as set
 use Rattle.std.proofs.lemmas.List.Sums.{length-filter}
+use Rattle.std.proofs.lemmas.List.FromFn.{length-range_with_len}
 use Rattle.cpu_set.specs.Ids.{Ids}
 use Rattle.cpu_set.specs.Members.{IsCpu, InRange, cpus, members}
 use Rattle.cpu_set.proofs.SetLaws.{length-members}
 use Rattle.cpu_set.specs.declared.TheConstants.{CPU_LIMIT}
 use Rattle.certificate.proofs.Sums.{sum_by_times, sum_by-filter, sum_by-range-le}
 
-cpus_from : (n : ℕ) → n ≡ CPU_LIMIT → cpus ≡ range_with_len 0 n
+-- all CPUs, as a range of any length that is theirs
+pub cpus_from : (n : ℕ) → n ≡ CPU_LIMIT → cpus ≡ range_with_len 0 n
 unfolding cpus
 cpus_from n e = ap (λ k. range_with_len 0 k) (sym e)
 
@@ -25,3 +27,9 @@ pub len-times : (s : Ids) (m : ℕ) → InRange s → set.len s * m ≡ sum_by (
 len-times s m in_range =
     let counted : set.len s ≡ sum_by (λ c. cond (set.contains s c) 1 0) cpus = sym (length-members s in_range) ∙ length-filter (set.contains s) cpus in
     rw counted (sym (sum_by_times (λ c. cond (set.contains s c) 1 0) m cpus))
+
+length_at : (n : ℕ) → n ≡ CPU_LIMIT → length cpus ≡ CPU_LIMIT
+length_at n e = ap length (cpus_from n e) ∙ length-range_with_len 0 n ∙ e
+
+pub length-cpus : length cpus ≡ CPU_LIMIT
+length-cpus = length_at CPU_LIMIT refl

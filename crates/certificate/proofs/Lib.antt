@@ -1,4 +1,10 @@
+pub mod Tests
 pub mod Sums
 pub mod Cpus
+pub mod LeastCpu
 pub mod Apart
+pub mod ApartTest
+pub mod Offers
+pub mod PriceTables
+pub mod RowFaults
 pub mod Duality

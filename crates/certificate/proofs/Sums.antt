@@ -1,5 +1,5 @@
 -- Sums over a list, term by term.
-use Rattle.std.proofs.Common.{◌≡◌, ℕ, zero, suc, ◌+◌, ◌*◌, ◌<◌, ◌≤◌, Bool, true, false, cond, List, [], ◌∷◌, refl, sum_by, arith}
+use Rattle.std.proofs.Common.{◌≡◌, ℕ, zero, suc, ◌+◌, ◌*◌, ◌<◌, ◌≤◌, Bool, true, false, cond, List, [], ◌∷◌, length, refl, sum_by, arith}
 use Rattle.std.specs.List.{filter, range_with_len}
 use Rattle.std.proofs.lemmas.List.Sums.{sum_by-cons}
 
@@ -48,3 +48,7 @@ sum_by-range-le f g a (suc n) below =
       below a (omega arith),
       sum_by-range-le f g (a + 1) n (λ x lt. below x (omega arith)),
     )
+
+pub sum_by-constant : {X : Type 0} (m : ℕ) (xs : List X) → sum_by (λ (x : X). m) xs ≡ length xs * m
+sum_by-constant m [] = omega arith
+sum_by-constant {X} m (x ∷ xs) = rw (sum_by-cons (λ (x : X). m) x xs) (omega (arith, sum_by-constant m xs))

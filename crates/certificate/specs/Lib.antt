@@ -8,6 +8,7 @@ pub mod IsLeast
 pub mod Price
 pub mod IsBound
 pub mod Limits
+pub mod IsPriceTable
 pub mod IsProved
 pub mod PlanFault
 pub mod Laws

@@ -1,5 +1,5 @@
 -- What is checked at all: problems, plans and prices within these limits.
-use Rattle.std.specs.Prelude.{ℕ, Bool, true, ◌&&◌, ◌==◌, nat_le, List, [], ◌∷◌, length, map}
+use Rattle.std.specs.Prelude.{ℕ, Bool, true, ◌&&◌, ◌==◌, nat_le, List, [], ◌∷◌, length}
 use Rattle.std.specs.List.{list_all}
 use Rattle.std.specs.FinSet as set
 use Rattle.cpu_set.specs.Ids.{Ids}
@@ -13,14 +13,14 @@ use Rattle.certificate.specs.declared.limits.TheConstants.{MAX_ROWS, MAX_DEMAND,
 abbrev pub is_disjoint : Ids → Ids → Bool
 is_disjoint s t = set.len (set.intersection s t) == 0
 
--- no number is in two of the sets
-abbrev pub are_apart : List Ids → Bool
-are_apart [] = true
-are_apart (s ∷ more) = list_all (is_disjoint s) more && are_apart more
+-- no number is in the sets of two of these
+abbrev pub are_apart : {A : Type 0} → (A → Ids) → List A → Bool
+are_apart set_of [] = true
+are_apart set_of (x ∷ more) = list_all (λ y. is_disjoint (set_of x) (set_of y)) more && are_apart set_of more
 
 -- no weight past its limit, and no CPU in two offers
 unfoldable pub offers_fit : List Offer → Bool
-offers_fit offers = list_all (λ o. nat_le o.weight MAX_WEIGHT) offers && are_apart (map (λ o. o.cpus) offers)
+offers_fit offers = list_all (λ o. nat_le o.weight MAX_WEIGHT) offers && are_apart (λ o. o.cpus) offers
 
 -- at least one CPU is asked for, and not more than the limit
 unfoldable pub row_fits : RowView → Bool
@@ -28,14 +28,14 @@ row_fits row = nat_le 1 row.demand && (nat_le row.demand MAX_DEMAND && offers_fi
 
 -- no amount past its limit, and no CPU in two prices
 unfoldable pub prices_fit : List Price → Bool
-prices_fit prices = list_all (λ p. nat_le p.amount MAX_AMOUNT) prices && are_apart (map (λ p. p.cpus) prices)
+prices_fit prices = list_all (λ p. nat_le p.amount MAX_AMOUNT) prices && are_apart (λ p. p.cpus) prices
 
 -- no value past its limit
 abbrev pub values_fit : List ℕ → Bool
 values_fit values = list_all (λ v. nat_le v MAX_AMOUNT) values
 
--- not too many rows, each within its limits, with one set and one value for each
+-- not too many rows, one set and one value for each, and each within its limits
 unfoldable pub is_within_limits : List RowView → List Ids → PricesView → Bool
 is_within_limits rows sets prices =
-    nat_le (length rows) MAX_ROWS && (list_all row_fits rows && (length sets == length rows
-    && (length prices.values == length rows && (values_fit prices.values && prices_fit prices.of_cpu))))
+    nat_le (length rows) MAX_ROWS && (length sets == length rows && (length prices.values == length rows
+    && (list_all row_fits rows && (values_fit prices.values && prices_fit prices.of_cpu))))

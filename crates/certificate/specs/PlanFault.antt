@@ -59,8 +59,8 @@ is_too_high prices row value cpu = option_map_or (λ w. nat_lt (w + price prices
 abbrev pub value_fault : List Price → ℕ → RowView → ℕ → Option CheckFault
 value_fault prices k row value = option_map (ValueTooHigh k) (least_cpu (is_too_high prices row value))
 
-unfoldable pub values_fault : List RowView → PricesView → Option CheckFault
-values_fault rows prices = first_below (length rows) (λ k. at_both (value_fault prices.of_cpu k) rows prices.values k)
+unfoldable pub values_fault : List RowView → List ℕ → List Price → Option CheckFault
+values_fault rows values prices = first_below (length rows) (λ k. at_both (value_fault prices k) rows values k)
 
 -- the bound is the plan's cost
 abbrev pub is_tight : List RowView → List Ids → PricesView → Bool
@@ -72,6 +72,6 @@ plan_fault rows sets prices = first_of (
     when (not (is_within_limits rows sets prices)) BadProblem
     ∷ rows_fault rows sets
     ∷ apart_fault sets
-    ∷ values_fault rows prices
+    ∷ values_fault rows prices.values prices.of_cpu
     ∷ when (not (is_tight rows sets prices)) Gap
     ∷ [])

@@ -14,7 +14,10 @@ price_code =
     code_by (ℕ × Ids) (coded× coded_ℕ ids_code) (λ p. (p.amount, p.cpus))
     (λ p. record { amount = p.0; cpus = p.1 }) (λ _. refl)
 
+abbrev pub price_list_code : Coded (List Price)
+price_list_code = coded_list price_code
+
 abbrev pub prices_code : Coded PricesView
 prices_code =
-    code_by (List ℕ × List Price) (coded× (coded_list coded_ℕ) (coded_list price_code))
+    code_by (List ℕ × List Price) (coded× (coded_list coded_ℕ) price_list_code)
     (λ p. (p.values, p.of_cpu)) (λ p. record { values = p.0; of_cpu = p.1 }) (λ _. refl)

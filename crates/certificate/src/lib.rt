@@ -9,10 +9,13 @@
 mod certificates;
 mod check_faults;
 mod laws;
+mod limit_checks;
 mod limits;
 mod plans;
 mod price_lists;
+mod price_table;
 mod problems;
+mod row_checks;
 mod rows;
 
 pub use certificates::Certificate;

@@ -1,0 +1,63 @@
+ghost use Rattle.std.specs.Prelude.{◌≡◌, ℕ, length, is_some};
+ghost use Rattle.std.specs.Result.{result_err};
+ghost use Rattle.std.specs.FinSet as set;
+ghost use Rattle.certificate.specs.Weight.{weight_in};
+ghost use Rattle.certificate.specs.PlanFault.{least_cpu, is_not_allowed, row_fault, rows_fault, apart_fault};
+
+use crate::{CheckFault, Offer, Row};
+use cpu_set::IdSet;
+
+/// Whether each row holds as many CPUs as it asks for, all of them allowed; else the first row's fault.
+pub(crate) fn check_rows(rows: &[Row], sets: &[IdSet]) -> Result<(), CheckFault>
+    requires { length sets.now ≡ length rows.now }
+    ensures { rows_fault rows.now sets.now ≡ result_err result }
+{
+    for (k, row) in rows.iter().enumerate() {
+        check_row(k, row, &sets[k])?;
+    }
+    Ok(())
+}
+
+#[tactic(auto, unfolding(crate::specs::PlanFault::row_fault))]
+fn check_row(k: usize, row: &Row, held: &IdSet) -> Result<(), CheckFault>
+    ensures { row_fault k row.now held.now ≡ result_err result }
+{
+    if held.count() != row.demand {
+        return Err(CheckFault::WrongCount { row: k });
+    }
+    match first_not_allowed(row, held) {
+        Some(cpu) => Err(CheckFault::NotAllowed { row: k, cpu }),
+        None => Ok(()),
+    }
+}
+
+fn first_not_allowed(row: &Row, held: &IdSet) -> Option<u16>
+    ensures { result ≡ least_cpu (is_not_allowed row.now held.now) }
+{
+    held.minus(&allowed_cpus(row.offers.as_slice())).first()
+}
+
+/// The CPUs that are in one of the offers.
+fn allowed_cpus(offers: &[Offer]) -> IdSet
+    ensures { (cpu : ℕ) → set.contains result cpu ≡ is_some (weight_in offers.now cpu) }
+{
+    let mut allowed = IdSet::empty();
+    for offer in offers {
+        allowed = allowed.union(&offer.cpus);
+    }
+    allowed
+}
+
+/// Whether no CPU is in two of the sets; else the first set that has a CPU of an earlier one.
+pub(crate) fn check_apart(sets: &[IdSet]) -> Result<(), CheckFault>
+    ensures { apart_fault sets.now ≡ result_err result }
+{
+    let mut held = IdSet::empty();
+    for own in sets {
+        if let Some(cpu) = own.meet(&held).first() {
+            return Err(CheckFault::HeldTwice { cpu });
+        }
+        held = held.union(own);
+    }
+    Ok(())
+}
