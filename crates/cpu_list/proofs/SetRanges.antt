@@ -14,7 +14,7 @@ pub cpus_are : (n : ℕ) → n ≡ CPU_LIMIT → cpus ≡ range_with_len 0 n
 unfolding cpus
 cpus_are n e = ap (range_with_len 0) (sym e)
 
-ranges_from-is : (s : Ids) (n count : ℕ) → count + n ≡ CPU_LIMIT → ranges_from s n ≡ ranges_among (set.contains s) n count
+pub ranges_from-is : (s : Ids) (n count : ℕ) → count + n ≡ CPU_LIMIT → ranges_from s n ≡ ranges_among (set.contains s) n count
 unfolding ranges_from
 ranges_from-is s n count e = let left : CPU_LIMIT - n ≡ count = omega arith in ap (ranges_among (set.contains s) n) left
 
