@@ -1,7 +1,7 @@
 -- The text of a set is its canonical text, and the only one.
-use Rattle.std.proofs.Common.{◌≡◌, ℕ, zero, suc, ◌+◌, ◌-◌, ◌<◌, ◌≤◌, Bool, true, false, ◌&&◌, ◌||◌, nat_le, nat_lt, List, [], ◌∷◌, ◌++◌, length, refl, sym, ap, subst, ◌∙◌, ⊎_elim, inl, inr, arith}
+use Rattle.std.proofs.Common.{◌≡◌, ℕ, ◌+◌, ◌<◌, ◌≤◌, Bool, true, false, ◌&&◌, ◌||◌, nat_le, nat_lt, List, [], ◌∷◌, refl, sym, ap, subst, ◌∙◌, ⊎_elim, arith}
 use Rattle.std.specs.FinSet as set
-use Rattle.std.proofs.lemmas.Bool.{true≢false, cases_Bool, cases_lt, and_from, and_parts, or_left, or_right, or_from, or_parts, le-leb, lt-leb, leb-true, lt-ltb, and_left, and_right}
+use Rattle.std.proofs.lemmas.Bool.{true≢false, cases_lt, and_from, or_left, or_from, le-leb, lt-leb, and_left, and_right}
 use Rattle.std.proofs.lemmas.Bool.Decides.{nat_tests}
 use Rattle.cpu_set.specs.Ids.{Ids}
 use Rattle.cpu_set.specs.Members.{InRange}
@@ -47,17 +47,17 @@ above_first r more n high = ap (λ b. b || in_ranges more n) (and_right _ _ (lt-
 no_earlier : (a b : ℕ) (r q : ℕ × ℕ) (rs qs : List (ℕ × ℕ)) → AreRuns a (r ∷ rs) → AreRuns b (q ∷ qs) → ((n : ℕ) → in_ranges (r ∷ rs) n ≡ in_ranges (q ∷ qs) n) → q.0 ≤ r.0
 no_earlier a b r q rs qs one two same =
     ⊎_elim (λ low.
-      let out : in_ranges (q ∷ qs) r.0 ≡ false = none_below q.0 r.0 (q ∷ qs) (omega arith, two.1, two.2) low in
-      absurd (true≢false (sym (first_in r rs r.0 (omega arith) one.1) ∙ same r.0 ∙ out)))
-      (λ h. h) (cases_lt r.0 q.0)
+    let out : in_ranges (q ∷ qs) r.0 ≡ false = none_below q.0 r.0 (q ∷ qs) (omega arith, two.1, two.2) low in
+    absurd (true≢false (sym (first_in r rs r.0 (omega arith) one.1) ∙ same r.0 ∙ out)))
+    (λ h. h) (cases_lt r.0 q.0)
 
 no_later : (a b : ℕ) (r q : ℕ × ℕ) (rs qs : List (ℕ × ℕ)) → AreRuns a (r ∷ rs) → AreRuns b (q ∷ qs) → ((n : ℕ) → in_ranges (r ∷ rs) n ≡ in_ranges (q ∷ qs) n) → q.0 ≤ r.0 → q.1 ≤ r.1
 no_later a b r q rs qs one two same first =
     ⊎_elim (λ long.
-      let past : in_ranges (r ∷ rs) (r.1 + 1) ≡ false =
-      above_first r rs (r.1 + 1) (omega arith) ∙ none_below (r.1 + 2) (r.1 + 1) rs one.2 (omega arith) in
-      absurd (true≢false (sym (first_in q qs (r.1 + 1) (omega (arith, one.1)) (omega arith)) ∙ sym (same (r.1 + 1)) ∙ past)))
-      (λ h. h) (cases_lt r.1 q.1)
+    let past : in_ranges (r ∷ rs) (r.1 + 1) ≡ false =
+    above_first r rs (r.1 + 1) (omega arith) ∙ none_below (r.1 + 2) (r.1 + 1) rs one.2 (omega arith) in
+    absurd (true≢false (sym (first_in q qs (r.1 + 1) (omega (arith, one.1)) (omega arith)) ∙ sym (same (r.1 + 1)) ∙ past)))
+    (λ h. h) (cases_lt r.1 q.1)
 
 rest_same : (a b : ℕ) (r q : ℕ × ℕ) (rs qs : List (ℕ × ℕ)) → AreRuns a (r ∷ rs) → AreRuns b (q ∷ qs) → ((n : ℕ) → in_ranges (r ∷ rs) n ≡ in_ranges (q ∷ qs) n) → r.1 ≡ q.1
     → (n : ℕ) → in_ranges rs n ≡ in_ranges qs n

@@ -4,6 +4,7 @@ pub mod FirstFaults
 pub mod Inserting
 pub mod ItemFaults
 pub mod Pieces
+pub mod PlainText
 pub mod Printed
 pub mod RangeReads
 pub mod RangeText

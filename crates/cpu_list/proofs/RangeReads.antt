@@ -1,14 +1,14 @@
 -- A printed range is an item that has no blanks and names its numbers.
-use Rattle.std.proofs.Common.{◌≡◌, ℕ, ◌+◌, ◌-◌, ◌^◌, ◌<◌, ◌≤◌, Bool, true, false, ◌&&◌, cond, List, [], ◌∷◌, ◌++◌, length, get_or, take, drop, decimal, Option, Some, None, refl, sym, ap, ◌∙◌, ⊎_elim, arith, append_assoc, length-append}
+use Rattle.std.proofs.Common.{◌≡◌, ℕ, ◌+◌, ◌-◌, ◌^◌, ◌<◌, Bool, true, false, List, [], ◌∷◌, ◌++◌, length, take, drop, decimal, Some, None, refl, sym, ap, ◌∙◌, ⊎_elim, arith, append_assoc, length-append}
 use Rattle.std.specs.Char.{is_ascii_digit}
-use Rattle.std.specs.List.{All, list_all, prefix_len, suffix_len, position_or_len}
+use Rattle.std.specs.List.{All, prefix_len, suffix_len, position_or_len}
 use Rattle.std.specs.Option.{option_zip}
 use Rattle.std.specs.Prelude.{position}
 use Rattle.std.proofs.lemmas.Bool.{and_from, cases_eq, cond-true, cond-false, eq-eqb, lt-ltb, le-ltb}
 use Rattle.std.proofs.lemmas.Fmt.{decimal_nonempty}
 use Rattle.std.proofs.lemmas.List.{get_or_append_left, get_or_at, take_all, take_at, drop_at}
 use Rattle.std.proofs.lemmas.List.Sums.{prefix_len_is, suffix_len_is, position_or_len_is}
-use Rattle.cpu_list.specs.ListText.{is_hyphen, is_blank, indent, trim_end, item_of, number_of, range_round, range_of}
+use Rattle.cpu_list.specs.ListText.{is_hyphen, is_blank, trim_end, item_of, number_of, range_round, range_of}
 use Rattle.cpu_list.specs.CanonicalList.{range_text}
 use Rattle.cpu_list.proofs.RangeText.{range_text-apart}
 use Rattle.cpu_list.proofs.TextBytes.{digits_alone, digits_value-printed, none_pass, digit-is_hyphen, is_range_byte, range_byte-is_blank, range_bytes}

@@ -61,11 +61,11 @@ ranges_skip p n (suc k) (suc total) count e none =
     let at : n + 1 + k ≡ n + suc k = omega arith in
     step_out p n total (none n (omega arith) (omega arith)) ∙ later ∙ ap (λ m. ranges_among p m count) at
 
-pub ranges_none : (p : ℕ → Bool) (n count : ℕ) → ((m : ℕ) → n ≤ m → p m ≡ false) → ranges_among p n count ≡ []
-ranges_none p n zero none = refl
-ranges_none p n (suc count) none =
-    let later = ranges_none p (n + 1) count (λ m low. none m (omega arith)) in
-    step_out p n count (none n (omega arith)) ∙ later
+pub ranges_none_among : (p : ℕ → Bool) (n count : ℕ) → ((m : ℕ) → n ≤ m → m < n + count → p m ≡ false) → ranges_among p n count ≡ []
+ranges_none_among p n zero none = refl
+ranges_none_among p n (suc count) none =
+    let later = ranges_none_among p (n + 1) count (λ m low high. none m (omega arith) (omega arith)) in
+    step_out p n count (none n (omega arith) (omega arith)) ∙ later
 
 -- a range that can't go on is the first
 pub ranges_more : (p : ℕ → Bool) (first last k total count : ℕ) → last ≡ first + k → total ≡ k + 1 + count
@@ -119,7 +119,7 @@ in_ranges-among p n (suc count) q =
     let later = in_ranges-among p (n + 1) count q in
     let runs = AreRuns-ranges_among p (n + 1) count in
     ⊎_elim (λ e.
-      ap (λ rs. in_ranges rs q) (step_in p n count e) ∙ in_ranges-with_number n q (ranges_among p (n + 1) count) runs
-      ∙ ap (λ b. (q == n) || b) later ∙ one_in n count q (p q) (λ same. ap p same ∙ e))
-      (λ e. ap (λ rs. in_ranges rs q) (step_out p n count e) ∙ later ∙ one_out n count q (p q) (λ same. ap p same ∙ e))
-      (cases_Bool (p n))
+    ap (λ rs. in_ranges rs q) (step_in p n count e) ∙ in_ranges-with_number n q (ranges_among p (n + 1) count) runs
+    ∙ ap (λ b. (q == n) || b) later ∙ one_in n count q (p q) (λ same. ap p same ∙ e))
+    (λ e. ap (λ rs. in_ranges rs q) (step_out p n count e) ∙ later ∙ one_out n count q (p q) (λ same. ap p same ∙ e))
+    (cases_Bool (p n))

@@ -1,13 +1,11 @@
 -- The text of rising ranges, cut at its commas and read again.
-use Rattle.std.proofs.Common.{◌≡◌, ℕ, ◌+◌, ◌^◌, ◌<◌, ◌≤◌, Bool, true, false, ◌&&◌, ◌||◌, nat_le, List, [], ◌∷◌, ◌++◌, map, Some, inl, inr, refl, sym, ap, subst, ◌∙◌, append-nil, arith}
-use Rattle.std.specs.FinSet as set
+use Rattle.std.proofs.Common.{◌≡◌, ℕ, ◌+◌, ◌^◌, ◌<◌, ◌≤◌, true, false, ◌&&◌, ◌||◌, nat_le, List, [], ◌∷◌, ◌++◌, map, inl, inr, refl, sym, ap, subst, ◌∙◌, append-nil, arith}
 use Rattle.std.specs.List.{All, AllByRecursion, list_any}
 use Rattle.std.proofs.lemmas.Bool.{and_from, or_left, or_right, le-leb}
 use Rattle.std.proofs.lemmas.List.Splits.{slice_split_none, slice_split_at}
-use Rattle.cpu_set.specs.Ids.{Ids}
 use Rattle.cpu_set.specs.Pointwise.{same_members}
-use Rattle.cpu_list.specs.ListText.{is_comma, is_blank, pieces, item_of, range_of, IsItem, IsList, range_names, piece_names, names, IsSetOf}
-use Rattle.cpu_list.specs.CanonicalList.{range_text, ranges_text, AreRuns, in_ranges, AllBelow, IsCanonical, ReadsAs, CanonicalReadsAgain}
+use Rattle.cpu_list.specs.ListText.{is_comma, pieces, item_of, IsItem, IsList, range_names, piece_names, names, IsSetOf}
+use Rattle.cpu_list.specs.CanonicalList.{range_text, ranges_text, AreRuns, in_ranges, CanonicalReadsAgain}
 use Rattle.cpu_list.specs.RangesFrom.{text_after}
 use Rattle.cpu_list.proofs.Pieces.{nothing_named}
 use Rattle.cpu_list.proofs.RangeReads.{item_of-whole, range_of-item}
@@ -56,7 +54,7 @@ items_name limit small n (r ∷ more) h =
     ∙ ap (λ b. (nat_le r.0 n && nat_le n r.1) || b) (items_name limit small n more h.1)
 
 pub names-ranges_text : (limit : ℕ) → limit ≤ 2 ^ 64 → (n : ℕ) (rs : List (ℕ × ℕ)) → AreBelow limit rs → names (ranges_text rs) n ≡ in_ranges rs n
-names-ranges_text limit small n [] h = 
+names-ranges_text limit small n [] h =
     ap (λ b. b || false) (sym (nothing_named [] n false (item_of-whole [] (λ k d lt. absurd (omega arith)))))
 names-ranges_text limit small n (r ∷ more) h =
     ap (list_any (piece_names n)) (pieces-ranges_text limit small r more h) ∙ items_name limit small n (r ∷ more) h

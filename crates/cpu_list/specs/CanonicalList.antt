@@ -1,9 +1,9 @@
 -- The one spelling of a set of numbers as a list: rising ranges as long as possible, and no blanks.
-use Rattle.std.specs.Prelude.{◌≡◌, ℕ, ◌+◌, ◌^◌, ◌≤◌, ◌<◌, Bool, true, ◌&&◌, ◌||◌, ◌==◌, nat_le, if◌then◌else◌, List, [], ◌∷◌, ◌++◌, length, map, decimal}
+use Rattle.std.specs.Prelude.{◌≡◌, ℕ, ◌+◌, ◌^◌, ◌≤◌, ◌<◌, Bool, true, false, ◌↔◌, ◌&&◌, ◌||◌, ◌==◌, nat_le, if◌then◌else◌, List, [], ◌∷◌, ◌++◌, map, decimal}
 use Rattle.std.specs.Char.{is_ascii_digit}
 use Rattle.std.specs.FinSet as set
 use Rattle.std.specs.List.{join_with_byte, list_any, list_all}
-use Rattle.cpu_set.specs.Ids.{Ids, NoneFrom}
+use Rattle.cpu_set.specs.Ids.{Ids}
 use Rattle.cpu_set.specs.Members.{IsCpu, InRange, members}
 use Rattle.cpu_list.specs.ListText.{is_comma, is_hyphen, IsList, IsSetOf}
 
@@ -70,11 +70,10 @@ CanonicalReadsAgain = (s : Ids) (text : List ℕ) (limit : ℕ) → limit ≤ 2 
 abbrev pub is_list_byte : ℕ → Bool
 is_list_byte b = is_ascii_digit b || (is_hyphen b || is_comma b)
 
--- the text of a set has digits, hyphens and commas alone
+-- a printed text has digits, hyphens and commas alone
 abbrev pub TextIsPlain : Type 0
 TextIsPlain = (s : Ids) → list_all is_list_byte (list_text s) ≡ true
 
--- the text of a set is empty where the set has no CPU number, and nowhere else
-pub record TextIsEmpty (s : Ids) : Type 0 where
-  pub some : (n : ℕ) → IsCpu n → set.contains s n ≡ true → 0 < length (list_text s)
-  pub none : NoneFrom s 0 → list_text s ≡ []
+-- it is empty where the set has no CPU number, and nowhere else
+abbrev pub TextIsEmpty : Type 0
+TextIsEmpty = (s : Ids) → (list_text s ≡ []) ↔ ((n : ℕ) → IsCpu n → set.contains s n ≡ false)

@@ -1,5 +1,5 @@
 // What holds of the definitions alone.
-ghost use Rattle.cpu_list.specs.CanonicalList.{TextIsCanonical, OneCanonicalText, CanonicalReadsAgain};
+ghost use Rattle.cpu_list.specs.CanonicalList.{TextIsCanonical, OneCanonicalText, CanonicalReadsAgain, TextIsPlain, TextIsEmpty};
 ghost use Rattle.cpu_list.specs.FirstFault.{NoneWhereList, FirstDecides};
 
 /// A text is a list exactly where it has no first fault, and its first fault is that of the first faulty item.
@@ -14,4 +14,11 @@ pub fn canonical_texts()
     ensures canonical { TextIsCanonical }
     ensures one { OneCanonicalText }
     ensures reads_again { CanonicalReadsAgain }
+{}
+
+/// A printed text has digits, hyphens and commas alone, so that no space, colon or line feed stands in it;
+/// and it is empty just where the set is.
+pub fn plain_texts()
+    ensures plain { TextIsPlain }
+    ensures empty { TextIsEmpty }
 {}
