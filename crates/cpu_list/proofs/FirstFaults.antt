@@ -1,13 +1,13 @@
 -- The first fault of a text, and the first faulty item.
-use Rattle.std.proofs.Common.{◌≡◌, ℕ, ◌+◌, Bool, List, [], ◌∷◌, ◌++◌, length, sum_by, Option, Some, None, option_map, refl, sym, ap, ◌∙◌, arith}
+use Rattle.std.proofs.Common.{◌≡◌, ℕ, ◌+◌, List, [], ◌∷◌, ◌++◌, length, sum_by, Option, Some, None, option_map, refl, ap, ◌∙◌, arith}
 use Rattle.std.specs.List.{AllByRecursion}
 use Rattle.std.specs.Option.{option_or}
 use Rattle.std.proofs.lemmas.List.Sums.{sum_by-cons}
 use Rattle.faults.specs.First.{first_of}
 use Rattle.cpu_list.specs.declared.list_error.ListError.{ListError}
 use Rattle.cpu_list.specs.declared.list_error.ListErrorKind.{ListErrorKind}
-use Rattle.cpu_list.specs.ListText.{pieces, indent, item_of, IsItem, IsList}
-use Rattle.cpu_list.specs.FirstFault.{item_fault, faults_from, first_fault, IsFaultOf, IsFirstFault, NoneWhereList, FirstDecides}
+use Rattle.cpu_list.specs.ListText.{pieces, indent, item_of, IsItem}
+use Rattle.cpu_list.specs.FirstFault.{item_fault, faults_from, IsFaultOf, NoneWhereList, FirstDecides}
 use Rattle.cpu_list.proofs.ItemFaults.{IsItem-from_None, None-from_IsItem, IsFaultOf-from_Some, Some-from_IsFaultOf}
 
 abbrev width : List (List ℕ) → ℕ
@@ -99,17 +99,17 @@ none_where_list limit text = (right_among limit 0 (pieces text), none_among limi
 pub first_decides : FirstDecides
 first_decides limit text e = (
   λ h. let f = first_among limit 0 (pieces text) e h in
-  record {
-    before = f.before;
-    piece = f.piece;
-    after = f.after;
-    whole = f.whole;
-    right = f.right;
-    fault = f.fault;
-    place = omega (arith, f.place);
-  },
+      record {
+        before = f.before;
+        piece = f.piece;
+        after = f.after;
+        whole = f.whole;
+        right = f.right;
+        fault = f.fault;
+        place = omega (arith, f.place);
+      },
   λ h.
-    ap (λ ps. first_of (faults_from limit 0 ps)) h.whole
-    ∙ fault_among limit 0 h.before h.piece h.after e.kind h.right h.fault
-    ∙ (let place : 0 + (width h.before + indent h.piece) ≡ e.at = omega (arith, h.place) in ap (λ n. Some (record { at = n; kind = e.kind })) place),
+      ap (λ ps. first_of (faults_from limit 0 ps)) h.whole
+      ∙ fault_among limit 0 h.before h.piece h.after e.kind h.right h.fault
+      ∙ (let place : 0 + (width h.before + indent h.piece) ≡ e.at = omega (arith, h.place) in ap (λ n. Some (record { at = n; kind = e.kind })) place),
 )

@@ -7,7 +7,7 @@ use Rattle.cpu_list.specs.RangesFrom.{text_after}
 pub range_text-apart : (first last : ℕ) → (first ≡ last → ⊥) → range_text (first, last) ≡ decimal first ++ 45 ∷ decimal last
 range_text-apart first last apart = cond-false _ _ _ (ne_eqb first last apart)
 
-after_comma : (r : ℕ × ℕ) (more : List (ℕ × ℕ)) → ranges_text (r ∷ more) ≡ range_text r ++ text_after (44 ∷ []) more
+pub after_comma : (r : ℕ × ℕ) (more : List (ℕ × ℕ)) → ranges_text (r ∷ more) ≡ range_text r ++ text_after (44 ∷ []) more
 after_comma r [] = sym (append-nil (range_text r))
 after_comma r (s ∷ more) = ap (λ text. range_text r ++ 44 ∷ text) (after_comma s more)
 

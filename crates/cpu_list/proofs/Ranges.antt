@@ -1,8 +1,9 @@
 -- The longest ranges of rising numbers, met one after another.
-use Rattle.std.proofs.Common.{◌≡◌, ℕ, zero, suc, ◌+◌, ◌<◌, ◌≤◌, Bool, true, false, cond, eqb, List, [], ◌∷◌, filter, refl, sym, ap, subst, ◌∙◌, ⊎_elim, arith}
+use Rattle.std.proofs.Common.{◌≡◌, ℕ, zero, suc, ◌+◌, ◌<◌, ◌≤◌, Bool, true, false, ◌&&◌, ◌||◌, ◌==◌, nat_le, nat_lt, cond, eqb, List, [], ◌∷◌, filter, refl, sym, ap, subst, ◌∙◌, ⊎_elim, arith}
 use Rattle.std.specs.List.{range_with_len}
-use Rattle.std.proofs.lemmas.Bool.{cases_Bool, cond-true, cond-false, cond_both, eq-eqb, ne_eqb, eqb-false}
-use Rattle.cpu_list.specs.CanonicalList.{ranges_of, with_number, AreRuns}
+use Rattle.std.proofs.lemmas.Bool.{cases_Bool, cases_eq, eqb-true, cond-true, cond-false, cond_both, eq-eqb, ne_eqb, eqb-false}
+use Rattle.std.proofs.lemmas.Bool.Decides.{nat_tests}
+use Rattle.cpu_list.specs.CanonicalList.{ranges_of, with_number, AreRuns, in_ranges}
 
 -- the ranges of those among `count` numbers from n on that pass
 abbrev pub ranges_among : (ℕ → Bool) → ℕ → ℕ → List (ℕ × ℕ)
@@ -60,11 +61,11 @@ ranges_skip p n (suc k) (suc total) count e none =
     let at : n + 1 + k ≡ n + suc k = omega arith in
     step_out p n total (none n (omega arith) (omega arith)) ∙ later ∙ ap (λ m. ranges_among p m count) at
 
-pub ranges_none : (p : ℕ → Bool) (n count : ℕ) → ((m : ℕ) → n ≤ m → p m ≡ false) → ranges_among p n count ≡ []
-ranges_none p n zero none = refl
-ranges_none p n (suc count) none =
-    let later = ranges_none p (n + 1) count (λ m low. none m (omega arith)) in
-    step_out p n count (none n (omega arith)) ∙ later
+pub ranges_none_among : (p : ℕ → Bool) (n count : ℕ) → ((m : ℕ) → n ≤ m → m < n + count → p m ≡ false) → ranges_among p n count ≡ []
+ranges_none_among p n zero none = refl
+ranges_none_among p n (suc count) none =
+    let later = ranges_none_among p (n + 1) count (λ m low high. none m (omega arith) (omega arith)) in
+    step_out p n count (none n (omega arith) (omega arith)) ∙ later
 
 -- a range that can't go on is the first
 pub ranges_more : (p : ℕ → Bool) (first last k total count : ℕ) → last ≡ first + k → total ≡ k + 1 + count
@@ -84,3 +85,41 @@ ranges_more p first last (suc k) (suc total) count e t whole stop =
     let later = ranges_more p (first + 1) last k total count (omega arith) (omega arith) (λ m low high. whole m (omega arith) high) stop in
     step_in p first total (whole first (omega arith) (omega arith))
     ∙ ap (with_number first) later ∙ cond-true _ _ _ (eq-eqb (first + 1) (first + 1) refl)
+
+-- the numbers of the ranges
+one_number : (n q : ℕ) → ((nat_le n q && nat_le q n) || false) ≡ ((q == n) || false)
+one_number n q = grind (arith, nat_tests)
+
+joined : (n last q : ℕ) (more : Bool) → n + 1 ≤ last → ((nat_le n q && nat_le q last) || more) ≡ ((q == n) || ((nat_le (n + 1) q && nat_le q last) || more))
+joined n last q more h = let cases = cases_eq q n in grind (arith, nat_tests)
+
+apart : (n q : ℕ) (more : Bool) → ((nat_le n q && nat_le q n) || more) ≡ ((q == n) || more)
+apart n q more = grind (arith, nat_tests)
+
+in_ranges-with_number : (n q : ℕ) (rs : List (ℕ × ℕ)) → AreRuns (n + 1) rs → in_ranges (with_number n rs) q ≡ ((q == n) || in_ranges rs q)
+in_ranges-with_number n q [] h = one_number n q
+in_ranges-with_number n q (r ∷ more) h =
+    cond_both (eqb r.0 (n + 1)) _ _ (λ rs. in_ranges rs q ≡ ((q == n) || in_ranges (r ∷ more) q))
+    (λ e. let first : r.0 ≡ n + 1 = eqb-true r.0 (n + 1) e in
+    joined n r.1 q (in_ranges more q) (omega (arith, h)) ∙ ap (λ m. (q == n) || ((nat_le m q && nat_le q r.1) || in_ranges more q)) (sym first))
+    (λ e. apart n q (in_ranges (r ∷ more) q))
+
+none_yet : (n q : ℕ) (v : Bool) → false ≡ ((nat_le n q && nat_lt q (n + 0)) && v)
+none_yet n q v = grind (arith, nat_tests)
+
+one_in : (n count q : ℕ) (v : Bool) → (q ≡ n → v ≡ true) → ((q == n) || ((nat_le (n + 1) q && nat_lt q (n + 1 + count)) && v)) ≡ ((nat_le n q && nat_lt q (n + suc count)) && v)
+one_in n count q v e = let cases = cases_eq q n in grind (arith, nat_tests)
+
+one_out : (n count q : ℕ) (v : Bool) → (q ≡ n → v ≡ false) → ((nat_le (n + 1) q && nat_lt q (n + 1 + count)) && v) ≡ ((nat_le n q && nat_lt q (n + suc count)) && v)
+one_out n count q v e = let cases = cases_eq q n in grind (arith, nat_tests)
+
+pub in_ranges-among : (p : ℕ → Bool) (n count q : ℕ) → in_ranges (ranges_among p n count) q ≡ ((nat_le n q && nat_lt q (n + count)) && p q)
+in_ranges-among p n zero q = none_yet n q (p q)
+in_ranges-among p n (suc count) q =
+    let later = in_ranges-among p (n + 1) count q in
+    let runs = AreRuns-ranges_among p (n + 1) count in
+    ⊎_elim (λ e.
+    ap (λ rs. in_ranges rs q) (step_in p n count e) ∙ in_ranges-with_number n q (ranges_among p (n + 1) count) runs
+    ∙ ap (λ b. (q == n) || b) later ∙ one_in n count q (p q) (λ same. ap p same ∙ e))
+    (λ e. ap (λ rs. in_ranges rs q) (step_out p n count e) ∙ later ∙ one_out n count q (p q) (λ same. ap p same ∙ e))
+    (cases_Bool (p n))

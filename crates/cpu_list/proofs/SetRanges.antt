@@ -7,14 +7,14 @@ use Rattle.cpu_set.specs.Members.{IsCpu, cpus, members}
 use Rattle.cpu_set.specs.declared.TheConstants.{CPU_LIMIT}
 use Rattle.cpu_list.specs.CanonicalList.{ranges_of, range_text, ranges_text, list_text}
 use Rattle.cpu_list.specs.RangesFrom.{ranges_from, ranges_left, text_after, IsRangeOf}
-use Rattle.cpu_list.proofs.Ranges.{ranges_among, ranges_skip, ranges_none, ranges_more}
+use Rattle.cpu_list.proofs.Ranges.{ranges_among, ranges_skip, ranges_none_among, ranges_more}
 use Rattle.cpu_list.proofs.RangeText.{text_after-nil}
 
 pub cpus_are : (n : ℕ) → n ≡ CPU_LIMIT → cpus ≡ range_with_len 0 n
 unfolding cpus
 cpus_are n e = ap (range_with_len 0) (sym e)
 
-ranges_from-is : (s : Ids) (n count : ℕ) → count + n ≡ CPU_LIMIT → ranges_from s n ≡ ranges_among (set.contains s) n count
+pub ranges_from-is : (s : Ids) (n count : ℕ) → count + n ≡ CPU_LIMIT → ranges_from s n ≡ ranges_among (set.contains s) n count
 unfolding ranges_from
 ranges_from-is s n count e = let left : CPU_LIMIT - n ≡ count = omega arith in ap (ranges_among (set.contains s) n) left
 
@@ -30,7 +30,7 @@ list_text-is s = ap ranges_text (members_ranges s CPU_LIMIT refl) ∙ sym (text_
 pub from_next : (s : Ids) (from : ℕ) (next : Option ℕ) → from ≤ CPU_LIMIT → MatchOption next (NoneFrom s from) (IsFirstFrom s from) → IfSome next IsCpu
     → ranges_from s from ≡ ranges_left s next
 from_next s from None low h below =
-    ranges_from-is s from (CPU_LIMIT - from) (omega arith) ∙ ranges_none (set.contains s) from (CPU_LIMIT - from) h
+    ranges_from-is s from (CPU_LIMIT - from) (omega arith) ∙ ranges_none_among (set.contains s) from (CPU_LIMIT - from) (λ m lo hi. h m lo)
 from_next s from (Some n) low h below =
     let above : from ≤ n = h.above in
     let at : from + (n - from) ≡ n = omega arith in

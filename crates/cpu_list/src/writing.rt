@@ -51,3 +51,6 @@ pub fn write_list<W: Write>(set: &IdSet, w: &mut W) -> io::Result<()>
     }
     Ok(())
 }
+
+#[cfg(test)]
+mod tests;

@@ -1,0 +1,8 @@
+use Rattle.cpu_list.proofs.PlainText.{text_is_plain, text_is_empty}
+use Rattle.cpu_list.proofs.laws.plain_texts.Goals as goal
+
+pub returns-clause-plain : goal.returns-clause-plain
+returns-clause-plain c = text_is_plain
+
+pub returns-clause-empty : goal.returns-clause-empty
+returns-clause-empty c = text_is_empty

@@ -1,0 +1,101 @@
+use super::write_list;
+use crate::output::put;
+use crate::printing::print;
+use cpu_set::{CPU_LIMIT, IdSet};
+use std::io;
+use std::io::{ErrorKind, Write};
+use std::test::Fail;
+
+#[derive(Clone, Copy)]
+enum End {
+    Fails,
+    TakesNone,
+}
+
+// Takes a byte of each write, and after some writes no more.
+#[derive(Drop)]
+struct Narrow<'a> {
+    taken: &'a mut Vec<u8>,
+    writes: usize,
+    end: End,
+}
+
+impl Write for Narrow<'_> {
+    fn write(&mut self, buf: &[u8]) -> io::Result<usize> {
+        if self.writes == 0 || buf.is_empty() {
+            return match self.end {
+                End::Fails => Err(io::Error::from(ErrorKind::BrokenPipe)),
+                End::TakesNone => Ok(0),
+            };
+        }
+        self.writes -= 1;
+        self.taken.push(buf[0])?;
+        Ok(1)
+    }
+
+    fn flush(&mut self) -> io::Result<()> {
+        Ok(())
+    }
+}
+
+fn set_of(numbers: &[u16]) -> IdSet {
+    let mut set = IdSet::empty();
+    for n in numbers {
+        if *n < CPU_LIMIT {
+            set.insert(*n);
+        }
+    }
+    set
+}
+
+#[test]
+fn spells_sets(rt: HostRuntime) -> Result<(), Fail> {
+    let last = CPU_LIMIT - 1;
+    let end = format!(in rt.alloc(); "0,{last}")?;
+    let rows: [(&[u16], &str); 8] = [
+        (&[], ""),
+        (&[0], "0"),
+        (&[0, 1], "0-1"),
+        (&[1, 2, 3], "1-3"),
+        (&[7, 1, 3, 5], "1,3,5,7"),
+        (&[9, 10, 11, 99, 100, 102], "9-11,99-100,102"),
+        (&[0, 1, 2, 5, 7, 8], "0-2,5,7-8"),
+        (&[last, 0], end.as_str()),
+    ];
+    for (numbers, want) in rows {
+        let set = set_of(numbers);
+        assert_eq!(rt; print(rt.alloc(), &set)?.as_str(), want);
+        let mut text = Vec::new(rt.alloc());
+        write_list(&set, &mut text)?;
+        assert_eq!(rt; text.as_slice(), want.as_bytes());
+    }
+    Ok(())
+}
+
+// A writer that stops after each possible number of bytes has these bytes, and the fault is answered.
+#[test]
+fn stops_with_the_writer(rt: HostRuntime) -> Result<(), Fail> {
+    let want = b"0-2,5,7-8".as_slice();
+    let set = set_of(&[0, 1, 2, 5, 7, 8]);
+    for writes in 0..want.len() + 1 {
+        for (end, kind) in [
+            (End::Fails, ErrorKind::BrokenPipe),
+            (End::TakesNone, ErrorKind::WriteZero),
+        ] {
+            let mut taken = Vec::new(rt.alloc());
+            let mut w = Narrow {
+                taken: &mut taken,
+                writes,
+                end,
+            };
+            let outcome = write_list(&set, &mut w);
+            if writes == want.len() {
+                assert!(rt; outcome.is_ok());
+            } else {
+                assert_eq!(rt; outcome.err().map(|e| e.kind()), Some(kind));
+            }
+            assert_eq!(rt; taken.as_slice(), &want[..writes]);
+        }
+    }
+    Ok(())
+}
