@@ -117,6 +117,13 @@ impl Tree {
         self.nodes
     }
 
+    /// Whether the group is in the tree.
+    pub fn contains(&self, group: Group) -> bool
+        ensures { result ≡ has_group self.now group }
+    {
+        self.node(group).is_some()
+    }
+
     fn node(&self, group: Group) -> Option<&Cgroup>
         ensures { IsKeptOf self.now group (option_copied result) }
     {
@@ -212,6 +219,17 @@ impl Tree {
     pub fn remove(&mut self, group: Group) -> Result<(), TreeFault>
         ensures { Decides (remove_refusal self.old group) (λ _ new. new ≡ without_group self.old group) self.old result self.new }
     {
+        self.removable(group)?;
+        self.take(group);
+        Ok(())
+    }
+
+    /// Whether a group can be removed, or what stands against it.
+    ///
+    /// Refused, in this order: [`TreeFault::NoGroup`], [`TreeFault::IsRoot`], [`TreeFault::HasChildren`].
+    pub fn removable(&self, group: Group) -> Result<(), TreeFault>
+        ensures { MatchResult result (λ _. remove_refusal self.now group ≡ None) (λ fault. remove_refusal self.now group ≡ Some fault) }
+    {
         let kept = self.node(group).ok_or(TreeFault::NoGroup)?;
         if kept.parent.is_none() {
             return Err(TreeFault::IsRoot);
@@ -219,7 +237,6 @@ impl Tree {
         if self.has_children(group) {
             return Err(TreeFault::HasChildren);
         }
-        self.take(group);
         Ok(())
     }
 
