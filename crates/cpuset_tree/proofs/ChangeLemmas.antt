@@ -1,0 +1,295 @@
+-- What a write, a new group and a removal leave of what is listed and kept.
+use Rattle.std.proofs.Common.{◌≡◌, ◌≢◌, ℕ, ◌≤◌, true, false, not, ◌||◌, List, [], ◌∷◌, refl, sym, ap, ◌∙◌, subst, eq-eqb, eqb-true, arith, map, filter, ⊎_elim}
+use Rattle.std.proofs.lemmas.Bool.{or_parts, or_left, or_right, ne_eqb, cond-true, cond-false, both_ways, cases_eq}
+use Rattle.std.proofs.lemmas.Option.{same_Some}
+use Rattle.std.specs.Prelude.{Option, Some, None, is_some, is_none, option_map, find, ◌==◌}
+use Rattle.std.specs.List.{list_any}
+use Rattle.slab.specs.Slab.{Slab, get}
+use Rattle.cpu_set.specs.Ids.{Ids}
+use Rattle.cpuset_tree.specs.declared.groups.Group.{Group}
+use Rattle.cpuset_tree.specs.declared.groups.Cgroup.{Cgroup}
+use Rattle.cpuset_tree.specs.TreeState.{GroupEntry}
+use Rattle.cpuset_tree.specs.LookUps.{same_group, is_parent, has_child_among, entry_among, root_among}
+use Rattle.cpuset_tree.specs.Kept.{entry_of_kept, listed, HasParentAmong, IsInOrder, KeepsEffective, AllKept, ChangesAt, behind}
+use Rattle.cpuset_tree.proofs.GroupLemmas.{same_group-key, same_group-equal, same_group_sym, other_key, entry_among-here, entry_among-there, effective-without, standing_alike}
+use Rattle.cpuset_tree.proofs.KeptLemmas.{listed_at, key_is_absent, listed-others, AllKept-others}
+
+-- a bound on the serials may be raised
+pub IsInOrder-below : (s : Slab Cgroup) (next more : ℕ) (keys : List ℕ) → next ≤ more → IsInOrder s next keys → IsInOrder s more keys
+IsInOrder-below s next more [] le _ = tt
+IsInOrder-below s next more (k ∷ older) le (m, at, knows, below, parent, rest) = (m, at, knows, omega arith, parent, rest)
+
+-- the keys behind one are not it
+pub behind_absent : (s : Slab Cgroup) (next : ℕ) (keys : List ℕ) → IsInOrder s next keys → (key : ℕ) → list_any (λ k. k == key) (behind key keys) ≡ false
+behind_absent s next [] _ key = refl
+behind_absent s next (k ∷ older) (m, at, knows, below, parent, rest) key =
+    elim (k == key) as (λ t. (k == key) ≡ t → list_any (λ k. k == key) (behind key (k ∷ older)) ≡ false) [
+      | true ↦ λ e. rw e (key_is_absent s m.group.serial older rest key m (ap (get s) (sym (eqb-true k key e)) ∙ at) (omega arith))
+      | false ↦ λ e. rw e (behind_absent s m.group.serial older rest key)
+    ] refl
+
+pub AllKept-behind : (s : Slab Cgroup) (online nodes : Ids) (key : ℕ) (keys : List ℕ) → AllKept s online nodes keys → AllKept s online nodes (behind key keys)
+AllKept-behind s online nodes key [] _ = tt
+AllKept-behind s online nodes key (k ∷ older) kept =
+    elim (k == key) as (λ t. (k == key) ≡ t → AllKept s online nodes (behind key (k ∷ older))) [
+      | true ↦ λ e. rw e kept.1
+      | false ↦ λ e. rw e (AllKept-behind s online nodes key older kept.1)
+    ] refl
+
+-- where one group was changed, the older ones keep what they have in effect
+pub AllKept-older : (old new : Slab Cgroup) (online nodes : Ids) (next key : ℕ) (f : Cgroup → Cgroup) (keys : List ℕ) → IsInOrder old next keys
+    → ChangesAt old new key f → AllKept old online nodes keys → AllKept new online nodes (behind key keys)
+AllKept-older old new online nodes next key f keys order change kept =
+    AllKept-others old new online nodes key change.others (behind key keys) (behind_absent old next keys order key) (AllKept-behind old online nodes key keys kept)
+
+-- what a write of one group leaves of the list
+module _ (old new : Slab Cgroup) (g : Group) (f : Cgroup → Cgroup) (r : GroupEntry → GroupEntry)
+    (here : (m : Cgroup) → same_group m.group g ≡ true → entry_of_kept (f m) ≡ r (entry_of_kept m))
+    (there : (m : Cgroup) → same_group m.group g ≡ false → entry_of_kept m ≡ r (entry_of_kept m)) where
+  pub listed-written : (next : ℕ) (keys : List ℕ) → IsInOrder old next keys → ChangesAt old new g.key f
+      → (n : Cgroup) → get old g.key ≡ Some n → same_group n.group g ≡ true → listed new keys ≡ map r (listed old keys)
+  listed-written next [] _ change n at same = refl
+  listed-written next (k ∷ older) (m, at_k, knows, below, parent, rest) change n at same =
+      elim (k == g.key) as (λ t. (k == g.key) ≡ t → listed new (k ∷ older) ≡ map r (listed old (k ∷ older))) [
+        | true ↦ λ e.
+            let key : k ≡ g.key = eqb-true k g.key e in
+            let one : m ≡ n = same_Some m n (sym at_k ∙ ap (get old) key ∙ at) in
+            listed_at new k older (f m) (ap (get new) key ∙ change.changed ∙ ap (option_map f) (ap (get old) (sym key) ∙ at_k))
+            ∙ ap (λ (e : GroupEntry). e ∷ listed new older) (here m (ap (λ (x : Cgroup). same_group x.group g) one ∙ same))
+            ∙ ap (λ (l : List GroupEntry). r (entry_of_kept m) ∷ l) (listed-written m.group.serial older rest change n at same)
+            ∙ sym (ap (map r) (listed_at old k older m at_k))
+        | false ↦ λ e.
+            let ne : k ≢ g.key = λ is. both_ways (k == g.key) e (eq-eqb k g.key is) in
+            listed_at new k older m (change.others k ne ∙ at_k)
+            ∙ ap (λ (e : GroupEntry). e ∷ listed new older) (there m (other_key m.group g (λ is. ne (sym knows ∙ is))))
+            ∙ ap (λ (l : List GroupEntry). r (entry_of_kept m) ∷ l) (listed-written m.group.serial older rest change n at same)
+            ∙ sym (ap (map r) (listed_at old k older m at_k))
+      ] refl
+
+-- the order is that of the groups, which a change of another key leaves
+pub IsInOrder-others : (old new : Slab Cgroup) (key : ℕ) → ((other : ℕ) → other ≢ key → get new other ≡ get old other)
+    → (next : ℕ) (keys : List ℕ) → list_any (λ k. k == key) keys ≡ false → IsInOrder old next keys → IsInOrder new next keys
+IsInOrder-others old new key others next [] none _ = tt
+IsInOrder-others old new key others next (k ∷ older) none (m, at, knows, below, parent, rest) =
+    let parts : ((k == key) ≡ false) × (list_any (λ k. k == key) older ≡ false) = or_parts (k == key) (list_any (λ k. k == key) older) none in (
+      m,
+      others k (λ e. both_ways (k == key) parts.0 (eq-eqb k key e)) ∙ at,
+      knows,
+      below,
+      parent_kept m.parent parts.1 parent,
+      IsInOrder-others old new key others m.group.serial older parts.1 rest,
+    )
+  where
+    parent_kept : (parent : Option Group) → list_any (λ k. k == key) older ≡ false → HasParentAmong old parent older → HasParentAmong new parent older
+    parent_kept None absent h = h
+    parent_kept (Some p) absent h = ap (λ (l : List GroupEntry). is_some (entry_among l p)) (listed-others old new key others older absent) ∙ h
+
+-- the group of a handle is found
+pub found : (s : Slab Cgroup) (next : ℕ) (keys : List ℕ) → IsInOrder s next keys → (g : Group) (n : Cgroup) → get s g.key ≡ Some n → same_group n.group g ≡ true
+    → list_any (λ k. k == g.key) keys ≡ true → entry_among (listed s keys) g ≡ Some (entry_of_kept n)
+found s next [] _ g n at same there = absurd (both_ways false refl there)
+found s next (k ∷ older) (m, at_k, knows, below, parent, rest) g n at same there =
+    ap (λ (l : List GroupEntry). entry_among l g) (listed_at s k older m at_k)
+    ∙ elim (k == g.key) as (λ t. (k == g.key) ≡ t → entry_among (entry_of_kept m ∷ listed s older) g ≡ Some (entry_of_kept n)) [
+      | true ↦ λ e.
+          let one : m ≡ n = same_Some m n (sym at_k ∙ ap (get s) (eqb-true k g.key e) ∙ at) in
+          entry_among-here (entry_of_kept m) (listed s older) g (ap (λ (x : Cgroup). same_group x.group g) one ∙ same)
+          ∙ ap (λ (x : Cgroup). Some (entry_of_kept x)) one
+      | false ↦ λ e.
+          entry_among-there (entry_of_kept m) (listed s older) g (other_key m.group g (λ is. both_ways (k == g.key) e (eq-eqb k g.key (sym knows ∙ is))))
+          ∙ found s m.group.serial older rest g n at same (ap (λ b. b || list_any (λ k. k == g.key) older) (sym e) ∙ there)
+    ] refl
+
+-- a handle whose key has no group, or another one, is of no group
+pub not_found : (s : Slab Cgroup) (next : ℕ) (keys : List ℕ) → IsInOrder s next keys → (g : Group)
+    → ((n : Cgroup) → get s g.key ≡ Some n → same_group n.group g ≡ false) → entry_among (listed s keys) g ≡ None
+not_found s next [] _ g other = refl
+not_found s next (k ∷ older) (m, at, knows, below, parent, rest) g other =
+    ap (λ (l : List GroupEntry). entry_among l g) (listed_at s k older m at)
+    ∙ elim (same_group m.group g) as (λ t. same_group m.group g ≡ t → entry_among (entry_of_kept m ∷ listed s older) g ≡ None) [
+      | true ↦ λ e. absurd (both_ways (same_group m.group g) (other m (ap (get s) (sym (sym knows ∙ same_group-key m.group g e)) ∙ at)) e)
+      | false ↦ λ e. entry_among-there (entry_of_kept m) (listed s older) g e ∙ not_found s m.group.serial older rest g other
+    ] refl
+
+-- the entry of another group stays when one is removed
+pub entry_among-without : (g : Group) (groups : List GroupEntry) (p : Group) → same_group g p ≡ false
+    → entry_among (filter (λ e. not (same_group e.group g)) groups) p ≡ entry_among groups p
+entry_among-without g [] p other = refl
+entry_among-without g (e ∷ older) p other =
+    elim (same_group e.group g) as (λ t. same_group e.group g ≡ t → entry_among (filter (λ e. not (same_group e.group g)) (e ∷ older)) p ≡ entry_among (e ∷ older) p) [
+      | true ↦ λ is.
+          ap (λ (l : List GroupEntry). entry_among l p) (cond-false (not (same_group e.group g)) (e ∷ filter (λ e. not (same_group e.group g)) older) (filter (λ e. not (same_group e.group g)) older) (ap not is))
+          ∙ entry_among-without g older p other
+          ∙ sym (entry_among-there e older p (ap (λ (h : Group). same_group h p) (same_group-equal e.group g is) ∙ other))
+      | false ↦ λ is.
+          ap (λ (l : List GroupEntry). entry_among l p) (cond-true (not (same_group e.group g)) (e ∷ filter (λ e. not (same_group e.group g)) older) (filter (λ e. not (same_group e.group g)) older) (ap not is))
+          ∙ elim (same_group e.group p) as (λ t. same_group e.group p ≡ t → entry_among (e ∷ filter (λ e. not (same_group e.group g)) older) p ≡ entry_among (e ∷ older) p) [
+            | true ↦ λ at. entry_among-here e (filter (λ e. not (same_group e.group g)) older) p at ∙ sym (entry_among-here e older p at)
+            | false ↦ λ at.
+                entry_among-there e (filter (λ e. not (same_group e.group g)) older) p at ∙ entry_among-without g older p other ∙ sym (entry_among-there e older p at)
+          ] refl
+    ] refl
+
+-- a removed group is there no more
+pub entry_among-removed : (g : Group) (groups : List GroupEntry) → entry_among (filter (λ e. not (same_group e.group g)) groups) g ≡ None
+entry_among-removed g [] = refl
+entry_among-removed g (e ∷ older) =
+    elim (same_group e.group g) as (λ t. same_group e.group g ≡ t → entry_among (filter (λ e. not (same_group e.group g)) (e ∷ older)) g ≡ None) [
+      | true ↦ λ is.
+          ap (λ (l : List GroupEntry). entry_among l g) (cond-false (not (same_group e.group g)) (e ∷ filter (λ e. not (same_group e.group g)) older) (filter (λ e. not (same_group e.group g)) older) (ap not is))
+          ∙ entry_among-removed g older
+      | false ↦ λ is.
+          ap (λ (l : List GroupEntry). entry_among l g) (cond-true (not (same_group e.group g)) (e ∷ filter (λ e. not (same_group e.group g)) older) (filter (λ e. not (same_group e.group g)) older) (ap not is))
+          ∙ entry_among-there e (filter (λ e. not (same_group e.group g)) older) g is
+          ∙ entry_among-removed g older
+    ] refl
+
+-- one group is removed, which has no children and is not the root
+module _ (old new : Slab Cgroup) (g : Group) (n : Cgroup) (at_g : get old g.key ≡ Some n) (same_g : same_group n.group g ≡ true)
+    (others : (other : ℕ) → other ≢ g.key → get new other ≡ get old other) where
+  -- the keys without the group's
+  abbrev kept_keys : List ℕ → List ℕ
+  kept_keys keys = filter (λ k. not (k == g.key)) keys
+
+  abbrev kept_groups : List GroupEntry → List GroupEntry
+  kept_groups groups = filter (λ e. not (same_group e.group g)) groups
+
+  is_it : (k : ℕ) (m : Cgroup) → get old k ≡ Some m → (k == g.key) ≡ true → same_group m.group g ≡ true
+  is_it k m at_k e = ap (λ (x : Cgroup). same_group x.group g) (same_Some m n (sym at_k ∙ ap (get old) (eqb-true k g.key e) ∙ at_g)) ∙ same_g
+
+  is_other : (k : ℕ) (m : Cgroup) → m.group.key ≡ k → (k == g.key) ≡ false → same_group m.group g ≡ false
+  is_other k m knows e = other_key m.group g (λ is. both_ways (k == g.key) e (eq-eqb k g.key (sym knows ∙ is)))
+
+  kept_at : (k : ℕ) → (k == g.key) ≡ false → get new k ≡ get old k
+  kept_at k e = others k (λ is. both_ways (k == g.key) e (eq-eqb k g.key is))
+
+  drops_key : (k : ℕ) (older : List ℕ) → (k == g.key) ≡ true → kept_keys (k ∷ older) ≡ kept_keys older
+  drops_key k older e = cond-false (not (k == g.key)) (k ∷ kept_keys older) (kept_keys older) (ap not e)
+
+  keeps_key : (k : ℕ) (older : List ℕ) → (k == g.key) ≡ false → kept_keys (k ∷ older) ≡ k ∷ kept_keys older
+  keeps_key k older e = cond-true (not (k == g.key)) (k ∷ kept_keys older) (kept_keys older) (ap not e)
+
+  drops_group : (e : GroupEntry) (older : List GroupEntry) → same_group e.group g ≡ true → kept_groups (e ∷ older) ≡ kept_groups older
+  drops_group e older is = cond-false (not (same_group e.group g)) (e ∷ kept_groups older) (kept_groups older) (ap not is)
+
+  keeps_group : (e : GroupEntry) (older : List GroupEntry) → same_group e.group g ≡ false → kept_groups (e ∷ older) ≡ e ∷ kept_groups older
+  keeps_group e older is = cond-true (not (same_group e.group g)) (e ∷ kept_groups older) (kept_groups older) (ap not is)
+
+  pub listed-removed : (next : ℕ) (keys : List ℕ) → IsInOrder old next keys → listed new (kept_keys keys) ≡ kept_groups (listed old keys)
+  listed-removed next [] _ = refl
+  listed-removed next (k ∷ older) (m, at, knows, below, parent, rest) =
+      elim (k == g.key) as (λ t. (k == g.key) ≡ t → listed new (kept_keys (k ∷ older)) ≡ kept_groups (listed old (k ∷ older))) [
+        | true ↦ λ e.
+            ap (listed new) (drops_key k older e) ∙ listed-removed m.group.serial older rest
+            ∙ sym (ap kept_groups (listed_at old k older m at) ∙ drops_group (entry_of_kept m) (listed old older) (is_it k m at e))
+        | false ↦ λ e.
+            ap (listed new) (keeps_key k older e) ∙ listed_at new k (kept_keys older) m (kept_at k e ∙ at)
+            ∙ ap (λ (l : List GroupEntry). entry_of_kept m ∷ l) (listed-removed m.group.serial older rest)
+            ∙ sym (ap kept_groups (listed_at old k older m at) ∙ keeps_group (entry_of_kept m) (listed old older) (is_other k m knows e))
+      ] refl
+
+  -- nobody's parent was removed
+  parts_of : (k : ℕ) (older : List ℕ) (m : Cgroup) → get old k ≡ Some m → has_child_among (listed old (k ∷ older)) g ≡ false
+      → (is_parent m.parent g ≡ false) × (has_child_among (listed old older) g ≡ false)
+  parts_of k older m at none =
+      or_parts (is_parent m.parent g) (has_child_among (listed old older) g) (sym (ap (λ (l : List GroupEntry). has_child_among l g) (listed_at old k older m at)) ∙ none)
+
+  parent-removed : (parent : Option Group) (next : ℕ) (older : List ℕ) → IsInOrder old next older → is_parent parent g ≡ false → HasParentAmong old parent older
+      → HasParentAmong new parent (kept_keys older)
+  parent-removed None next older rest none h = ap kept_keys h
+  parent-removed (Some p) next older rest none h =
+      ap (λ (l : List GroupEntry). is_some (entry_among l p)) (listed-removed next older rest)
+      ∙ ap is_some (entry_among-without g (listed old older) p (same_group_sym g p ∙ none)) ∙ h
+
+  pub IsInOrder-removed : (next : ℕ) (keys : List ℕ) → IsInOrder old next keys → has_child_among (listed old keys) g ≡ false → IsInOrder new next (kept_keys keys)
+  IsInOrder-removed next [] _ none = tt
+  IsInOrder-removed next (k ∷ older) (m, at, knows, below, parent, rest) none =
+      let parts : (is_parent m.parent g ≡ false) × (has_child_among (listed old older) g ≡ false) = parts_of k older m at none in
+      elim (k == g.key) as (λ t. (k == g.key) ≡ t → IsInOrder new next (kept_keys (k ∷ older))) [
+        | true ↦ λ e.
+            subst (λ (l : List ℕ). IsInOrder new next l) (sym (drops_key k older e))
+            (IsInOrder-below new m.group.serial next (kept_keys older) (omega arith) (IsInOrder-removed m.group.serial older rest parts.1))
+        | false ↦ λ e.
+            subst (λ (l : List ℕ). IsInOrder new next l) (sym (keeps_key k older e))
+            (m, kept_at k e ∙ at, knows, below, parent-removed m.parent m.group.serial older rest parts.0 parent, IsInOrder-removed m.group.serial older rest parts.1)
+      ] refl
+
+  kept-removed : (online nodes : Ids) (next : ℕ) (older : List ℕ) (m : Cgroup) → IsInOrder old next older → is_parent m.parent g ≡ false
+      → has_child_among (listed old older) g ≡ false → KeepsEffective online nodes (listed old older) m → KeepsEffective online nodes (listed new (kept_keys older)) m
+  kept-removed online nodes next older m rest none childless kept =
+      subst (λ (l : List GroupEntry). KeepsEffective online nodes l m) (sym (listed-removed next older rest))
+      (record {
+        cpus = kept.cpus ∙ standing_alike (λ e. e.cpus) online m.parent m.cpus _ _ (λ p of. sym (effective-without (λ e. e.cpus) online g (listed old older) childless p (other p of)));
+        mems = kept.mems ∙ standing_alike (λ e. e.mems) nodes m.parent m.mems _ _ (λ p of. sym (effective-without (λ e. e.mems) nodes g (listed old older) childless p (other p of)));
+      })
+    where
+      other : (p : Group) → m.parent ≡ Some p → same_group g p ≡ false
+      other p of = same_group_sym g p ∙ ap (λ (o : Option Group). is_parent o g) (sym of) ∙ none
+
+  pub AllKept-removed : (online nodes : Ids) (next : ℕ) (keys : List ℕ) → IsInOrder old next keys → has_child_among (listed old keys) g ≡ false
+      → AllKept old online nodes keys → AllKept new online nodes (kept_keys keys)
+  AllKept-removed online nodes next [] _ none kept = tt
+  AllKept-removed online nodes next (k ∷ older) (m, at, knows, below, parent, rest) none kept =
+      let parts : (is_parent m.parent g ≡ false) × (has_child_among (listed old older) g ≡ false) = parts_of k older m at none in
+      elim (k == g.key) as (λ t. (k == g.key) ≡ t → AllKept new online nodes (kept_keys (k ∷ older))) [
+        | true ↦ λ e.
+            subst (λ (l : List ℕ). AllKept new online nodes l) (sym (drops_key k older e)) (AllKept-removed online nodes m.group.serial older rest parts.1 kept.1)
+        | false ↦ λ e.
+            subst (λ (l : List ℕ). AllKept new online nodes l) (sym (keeps_key k older e)) (
+              (λ x is.
+                  let one : m ≡ x = same_Some m x (sym at ∙ sym (kept_at k e) ∙ is) in
+                  subst (λ (y : Cgroup). KeepsEffective online nodes (listed new (kept_keys older)) y) one
+                  (kept-removed online nodes m.group.serial older m rest parts.0 parts.1 (kept.0 m at))),
+              AllKept-removed online nodes m.group.serial older rest parts.1 kept.1,
+            )
+      ] refl
+
+  pub complete-removed : (keys : List ℕ) → get new g.key ≡ None → ((key : ℕ) → is_some (get old key) ≡ true → list_any (λ k. k == key) keys ≡ true)
+      → (key : ℕ) → is_some (get new key) ≡ true → list_any (λ k. k == key) (kept_keys keys) ≡ true
+  complete-removed keys gone complete key there =
+      ⊎_elim
+      (λ e. absurd (both_ways false refl (sym (ap is_some gone) ∙ ap (λ (q : ℕ). is_some (get new q)) (sym e) ∙ there)))
+      (λ ne. still keys key ne (complete key (ap is_some (sym (others key ne)) ∙ there)))
+      (cases_eq key g.key)
+    where
+      still : (keys : List ℕ) (key : ℕ) → key ≢ g.key → list_any (λ k. k == key) keys ≡ true → list_any (λ k. k == key) (kept_keys keys) ≡ true
+      still [] key ne there = there
+      still (k ∷ older) key ne there =
+          elim (k == g.key) as (λ t. (k == g.key) ≡ t → list_any (λ k. k == key) (kept_keys (k ∷ older)) ≡ true) [
+            | true ↦ λ e.
+                ap (list_any (λ k. k == key)) (drops_key k older e)
+                ∙ still older key ne (ap (λ b. b || list_any (λ k. k == key) older) (sym (ne_eqb k key (λ is. ne (sym is ∙ eqb-true k g.key e)))) ∙ there)
+            | false ↦ λ e.
+                ap (list_any (λ k. k == key)) (keeps_key k older e)
+                ∙ elim (k == key) as (λ t. (k == key) ≡ t → list_any (λ k. k == key) (k ∷ kept_keys older) ≡ true) [
+                  | true ↦ λ is. or_left (k == key) (list_any (λ k. k == key) (kept_keys older)) is
+                  | false ↦ λ is.
+                      or_right (k == key) (list_any (λ k. k == key) (kept_keys older))
+                      (still older key ne (ap (λ b. b || list_any (λ k. k == key) older) (sym is) ∙ there))
+                ] refl
+          ] refl
+
+  pub root-removed : is_none n.parent ≡ false → (next : ℕ) (keys : List ℕ) → IsInOrder old next keys
+      → root_among (listed new (kept_keys keys)) ≡ root_among (listed old keys)
+  root-removed child next keys order = ap root_among (listed-removed next keys order) ∙ stays next keys order
+    where
+      stays : (next : ℕ) (keys : List ℕ) → IsInOrder old next keys → root_among (kept_groups (listed old keys)) ≡ root_among (listed old keys)
+      stays next [] _ = refl
+      stays next (k ∷ older) (m, at, knows, below, parent, rest) =
+          elim (k == g.key) as (λ t. (k == g.key) ≡ t → root_among (kept_groups (listed old (k ∷ older))) ≡ root_among (listed old (k ∷ older))) [
+            | true ↦ λ e.
+                let child_m : is_none m.parent ≡ false =
+                ap (λ (x : Cgroup). is_none x.parent) (same_Some m n (sym at ∙ ap (get old) (eqb-true k g.key e) ∙ at_g)) ∙ child in
+                ap (λ (l : List GroupEntry). root_among (kept_groups l)) (listed_at old k older m at)
+                ∙ ap root_among (drops_group (entry_of_kept m) (listed old older) (is_it k m at e))
+                ∙ stays m.group.serial older rest
+                ∙ sym (ap root_among (listed_at old k older m at) ∙ ap (option_map (λ e. e.group)) (cond-false (is_none m.parent) (Some (entry_of_kept m)) (find (λ e. is_none e.parent) (listed old older)) child_m))
+            | false ↦ λ e.
+                ap (λ (l : List GroupEntry). root_among (kept_groups l)) (listed_at old k older m at)
+                ∙ ap root_among (keeps_group (entry_of_kept m) (listed old older) (is_other k m knows e))
+                ∙ elim (is_none m.parent) as (λ t. is_none m.parent ≡ t → root_among (entry_of_kept m ∷ kept_groups (listed old older)) ≡ root_among (entry_of_kept m ∷ listed old older)) [
+                  | true ↦ λ h. rw h
+                  | false ↦ λ h. rw h (stays m.group.serial older rest)
+                ] refl
+                ∙ sym (ap root_among (listed_at old k older m at))
+          ] refl

@@ -1,0 +1,9 @@
+pub mod SetLemmas
+pub mod GroupLemmas
+pub mod KeptLemmas
+pub mod PlaceLemmas
+pub mod ChangeLemmas
+pub mod WellFormedLemmas
+pub mod SoundLemmas
+pub mod NodeLemmas
+pub mod WriteLemmas

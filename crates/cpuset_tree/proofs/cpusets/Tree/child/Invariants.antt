@@ -1,0 +1,9 @@
+use Rattle.std.proofs.Common.{◌≡◌, drop}
+use Rattle.cpuset_tree.specs.LookUps.{child_among}
+use Rattle.cpuset_tree.specs.Kept.{listed}
+use Rattle.cpuset_tree.proofs.cpusets.Tree.child.Given as goal
+
+abbrev pub invariant-loop-key : goal.invariant-loop-key
+invariant-loop-key l =
+    child_among (listed l.self-inside.groups (drop l.key-index l.key-items)) l.parent l.name
+    ≡ child_among (listed l.self-inside.groups l.key-items) l.parent l.name

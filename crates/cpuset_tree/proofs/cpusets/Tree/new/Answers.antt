@@ -1,0 +1,84 @@
+use Rattle.std.proofs.Common.{◌≡◌, ℕ, ◌+◌, List, [], ◌∷◌, ◌++◌, true, false, sym, ap, ◌∙◌, refl, subst, eq-eqb, arith}
+use Rattle.std.proofs.lemmas.Bool.{or_left, cases_eq, both_ways}
+use Rattle.std.proofs.Common.{⊎_elim}
+use Rattle.std.proofs.lemmas.Option.{same_Some}
+use Rattle.std.specs.Prelude.{Option, Some, None, is_some, ◌==◌, slice_index_or}
+use Rattle.slab.specs.Slab.{Slab, get, Updates}
+use Rattle.cpu_set.specs.Ids.{Ids}
+use Rattle.cpuset_tree.specs.declared.groups.Group.{Group}
+use Rattle.cpuset_tree.specs.declared.groups.Cgroup.{Cgroup}
+use Rattle.cpuset_tree.specs.TreeState.{GroupEntry}
+use Rattle.cpuset_tree.specs.LookUps.{root_among}
+use Rattle.cpuset_tree.specs.Changes.{new_entry}
+use Rattle.cpuset_tree.specs.Kept.{IsSound, HasParentAmong, KeepsEffective, entry_of_kept, listed}
+use Rattle.cpuset_tree.specs.Effective.{standing, effective}
+use Rattle.cpuset_tree.proofs.KeptLemmas.{listed_at}
+use Rattle.cpuset_tree.proofs.cpusets.Tree.new.Goals as goal
+
+-- a slab of the root alone is sound
+first_sound : (old new : Slab Cgroup) (online nodes : Ids) (root : Group) (n : Cgroup) → Updates old new root.key (Some n) → ((k : ℕ) → get old k ≡ None)
+    → n.group ≡ root → n.parent ≡ None → n.effective_cpus ≡ online → n.effective_mems ≡ nodes
+    → IsSound new (root.key ∷ []) online nodes root (root.serial + 1)
+first_sound old new online nodes root n updates empty is of cpus mems = record {
+  in_order = (
+    n,
+    updates.changed,
+    ap (λ (g : Group). g.key) is,
+    let serial : n.group.serial ≡ root.serial = ap (λ (g : Group). g.serial) is in omega arith,
+    subst (λ (o : Option Group). HasParentAmong new o []) (sym of) refl,
+    tt,
+  );
+  all_kept = (
+    (λ m at. subst (λ (x : Cgroup). KeepsEffective online nodes [] x) (same_Some n m (sym updates.changed ∙ at)) kept),
+    tt,
+  );
+  complete = λ k at. ⊎_elim
+      (λ e. or_left (root.key == k) false (eq-eqb root.key k (sym e)))
+      (λ ne. absurd (both_ways false refl (sym (ap is_some (updates.others k ne ∙ empty k)) ∙ at)))
+      (cases_eq k root.key);
+  rooted = ap root_among (listed_at new root.key [] n updates.changed) ∙ head n.parent of ∙ ap Some is;
+}
+  where
+    kept : KeepsEffective online nodes [] n
+    kept = record {
+      cpus = cpus ∙ ap (λ (o : Option Group). standing o n.cpus online (effective (λ e. e.cpus) online [])) (sym of);
+      mems = mems ∙ ap (λ (o : Option Group). standing o n.mems nodes (effective (λ e. e.mems) nodes [])) (sym of);
+    }
+
+    head : (parent : Option Group) → parent ≡ None
+        → root_among (record { group = n.group; parent = parent; name = (entry_of_kept n).name; cpus = n.cpus; mems = n.mems } ∷ []) ≡ Some n.group
+    head None e = refl
+    head (Some q) e = absurd (both_ways true (ap is_some e) refl)
+
+pub invariant_of-result : goal.invariant_of-result
+invariant_of-result c =
+    let key = c.vacant_key-key.result in
+    let root : Group = record { key = key; serial = c.args.first_serial } in
+    let n : Cgroup = record { group = root; parent = None; name = c.new.result; cpus = c.empty.result; mems = c.empty-2.result; effective_cpus = c.args.online; effective_mems = c.args.nodes } in
+    let items : c.push.new.self.items ≡ key ∷ [] = c.in_ok-push.ensures.items ∙ ap (λ (l : List ℕ). l ++ key ∷ []) c.new-order.ensures.items in
+    subst (λ (l : List ℕ). IsSound c.insert_reserved.new.self l c.args.online c.args.nodes root (c.args.first_serial + 1)) (sym items)
+    (first_sound c.reserve.new.self c.insert_reserved.new.self c.args.online c.args.nodes root n
+    (subst (λ (k : ℕ). Updates c.reserve.new.self c.insert_reserved.new.self k (Some n)) (c.insert_reserved.ensures.key ∙ sym c.vacant_key-key.ensures.value) c.insert_reserved.ensures.updates)
+    (λ k. ap (λ (s : Slab Cgroup). get s k) c.in_ok-reserve.ensures.rest_kept ∙ ap (λ (l : List (Option Cgroup)). slice_index_or l k None) c.new-groups.ensures.empty)
+    refl refl refl refl)
+
+pub returns : goal.returns
+returns c =
+    let key = c.vacant_key-key.result in
+    let root : Group = record { key = key; serial = c.args.first_serial } in
+    let n : Cgroup = record { group = root; parent = None; name = c.new.result; cpus = c.empty.result; mems = c.empty-2.result; effective_cpus = c.args.online; effective_mems = c.args.nodes } in
+    let items : c.push.new.self.items ≡ key ∷ [] = c.in_ok-push.ensures.items ∙ ap (λ (l : List ℕ). l ++ key ∷ []) c.new-order.ensures.items in
+    let changed : get c.insert_reserved.new.self key ≡ Some n =
+    ap (λ (k : ℕ). get c.insert_reserved.new.self k) (c.vacant_key-key.ensures.value ∙ sym c.insert_reserved.ensures.key) ∙ c.insert_reserved.ensures.updates.changed in
+    let entry : entry_of_kept n ≡ new_entry root None [] =
+    (λ i. record { group = root; parent = None; name = c.new.ensures.bytes i; cpus = c.empty.ensures i; mems = c.empty-2.ensures i }) in
+    record {
+      root = root;
+      serial = refl;
+      is = λ i. record {
+        groups = (ap (listed c.insert_reserved.new.self) items ∙ listed_at c.insert_reserved.new.self key [] n changed ∙ ap (λ (e : GroupEntry). e ∷ []) entry) i;
+        online = c.args.online;
+        nodes = c.args.nodes;
+        next_serial = c.args.first_serial + 1;
+      };
+    }

@@ -1,0 +1,12 @@
+use Rattle.std.proofs.Common.{sym, ◌∙◌, refl}
+use Rattle.std.proofs.lemmas.Bool.{iff_false}
+use Rattle.cpuset_tree.proofs.SetLemmas.{granted_all, granted_part}
+use Rattle.cpuset_tree.proofs.groups.granted_of.Goals as goal
+
+pub returns-then-is_empty : goal.returns-then-is_empty
+returns-then-is_empty c = sym (granted_all c.args.requested.now c.args.above.now (sym c.meet-granted.ensures ∙ c.if-is_empty.ensures.0 refl))
+
+pub returns-else-is_empty : goal.returns-else-is_empty
+returns-else-is_empty c =
+    c.meet-granted.ensures
+    ∙ sym (granted_part c.args.requested.now c.args.above.now (λ e. iff_false c.if-is_empty.ensures refl (c.meet-granted.ensures ∙ e)))

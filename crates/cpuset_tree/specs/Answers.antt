@@ -1,0 +1,56 @@
+-- What each call of a tree answers: the first thing that stands against it, in the order written here, or what it is for.
+use Rattle.std.specs.Prelude.{◌≡◌, ℕ, false, not, ◌==◌, if◌then◌else◌, List, Option, Some, None, is_some, Result, Ok, Err}
+use Rattle.cpuset_tree.specs.declared.TheConstants.{SERIAL_LIMIT}
+use Rattle.cpuset_tree.specs.declared.groups.Group.{Group}
+use Rattle.cpuset_tree.specs.declared.faults.TreeFault.{TreeFault}
+use Rattle.cpuset_tree.specs.declared.faults.TreeFault.TheVariants.{NoGroup, Exists, HasChildren, IsRoot, NoSerials}
+use Rattle.cpuset_tree.specs.declared.faults.TreeError.{TreeError}
+use Rattle.cpuset_tree.specs.declared.faults.TreeError.TheVariants.{Memory, Fault}
+use Rattle.cpuset_tree.specs.TreeState.{TreeState}
+use Rattle.cpuset_tree.specs.LookUps.{has_group, has_children, child_of, is_root}
+use Rattle.cpuset_tree.specs.Changes.{with_group}
+
+-- a call answers the first thing that stands against it and changes nothing, or does what it is for
+module _ {S A F : Type 0} (refusal : Option F) (Does : A → S → Type 0) (old : S) where
+  abbrev pub Decides : Result A F → S → Type 0
+  Decides (Ok value) new = (refusal ≡ None) × Does value new
+  Decides (Err fault) new = (refusal ≡ Some fault) × (new ≡ old)
+
+-- what stands against making a group
+abbrev pub make_refusal : TreeState → Group → List ℕ → Option TreeFault
+make_refusal s parent name =
+    if not (has_group s parent) then Some NoGroup
+    else if is_some (child_of s parent name) then Some Exists
+    else if s.next_serial == SERIAL_LIMIT then Some NoSerials
+    else None
+
+-- what stands against removing a group
+abbrev pub remove_refusal : TreeState → Group → Option TreeFault
+remove_refusal s g =
+    if not (has_group s g) then Some NoGroup
+    else if is_root s g then Some IsRoot
+    else if has_children s g then Some HasChildren
+    else None
+
+-- what stands against writing what a group requests
+abbrev pub write_refusal : TreeState → Group → Option TreeFault
+write_refusal s g =
+    if not (has_group s g) then Some NoGroup
+    else if is_root s g then Some IsRoot
+    else None
+
+-- a group that is in no tree yet gets the next serial, and is there then
+pub record AddsGroup (old : TreeState) (parent : Group) (name : List ℕ) (g : Group) (new : TreeState) : Type 0 where
+  pub serial : g.serial ≡ old.next_serial
+  pub fresh : has_group old g ≡ false
+  pub added : new ≡ with_group old g parent name
+
+-- a group is made, unless something stands against it; memory is asked for only once nothing does
+abbrev pub Makes : TreeState → Group → List ℕ → Result Group TreeError → TreeState → Type 0
+Makes old parent name (Ok g) new = (make_refusal old parent name ≡ None) × AddsGroup old parent name g new
+Makes old parent name (Err Memory) new = (make_refusal old parent name ≡ None) × (new ≡ old)
+Makes old parent name (Err (Fault fault)) new = (make_refusal old parent name ≡ Some fault) × (new ≡ old)
+
+-- a read of a group: this value, or that there is no such group
+abbrev pub read_of : {A : Type 0} → TreeState → Group → A → Result A TreeFault
+read_of s g value = if has_group s g then Ok value else Err NoGroup

@@ -1,0 +1,375 @@
+ghost use Rattle.std.specs.Prelude.{◌≡◌, ◌<◌, IfOk, OnErr, MatchResult, Some, None, true, false, string_bytes};
+ghost use Rattle.std.specs.Option.{option_copied};
+ghost use Rattle.cpuset_tree.specs.LookUps.{root_of, has_group, is_root, child_of, has_children, requested_cpus, requested_mems};
+ghost use Rattle.cpuset_tree.specs.Effective.{effective_cpus, effective_mems};
+ghost use Rattle.cpuset_tree.specs.Changes.{IsFirstTree, without_group, with_cpus, with_mems, with_online};
+ghost use Rattle.cpuset_tree.specs.Answers.{Decides, Makes, AddsGroup, remove_refusal, write_refusal, read_of};
+ghost use Rattle.cpuset_tree.specs.WellFormed.{IsWellFormed};
+ghost use Rattle.cpuset_tree.specs.Laws.{RunsUpThePath};
+
+use crate::groups::{Cgroup, put_cpus, put_mems};
+use crate::refresh::{refresh, refresh_from};
+use crate::{Group, SERIAL_LIMIT, TreeError, TreeFault};
+use cpu_set::IdSet;
+use slab::Slab;
+use std::alloc::{AllocError, Global};
+use std::marker::Model;
+
+/// The groups of a kernel, each with the CPUs and memory nodes that it requests and those that it has in effect.
+///
+/// At the root the online CPUs are in effect, and all nodes. In another group those of its parent's that it
+/// requests are, or all of its parent's where it requests none of them.
+#[derive(Drop)]
+pub struct Tree {
+    alloc: Global,
+    groups: Slab<Cgroup>,
+    // The keys of the groups, the newest first.
+    order: Vec<usize>,
+    root: Group,
+    online: IdSet,
+    nodes: IdSet,
+    next_serial: u64,
+}
+
+impl Model for Tree {
+    ghost use Rattle.cpuset_tree.specs.TreeState.{TreeState, tree_code};
+
+    ghost Value = { TreeState };
+
+    ghost coded = { tree_code };
+
+    ghost use Rattle.cpuset_tree.specs.Kept.{listed, IsSound};
+
+    ghost view = { λ t. record {
+      groups = listed t.groups t.order.items;
+      online = t.online;
+      nodes = t.nodes;
+      next_serial = t.next_serial;
+    } };
+
+    ghost invariant = { λ t. IsSound t.groups t.order.items t.online t.nodes t.root t.next_serial };
+}
+
+impl Tree {
+    ghost use Rattle.cpuset_tree.specs.Kept.{IsKeptOf};
+
+    /// A tree of its root alone, which has the first serial and all of these CPUs and nodes in effect.
+    ///
+    /// The only error is want of memory.
+    pub fn new(
+        alloc: Global,
+        online: IdSet,
+        nodes: IdSet,
+        first_serial: u64,
+    ) -> Result<Tree, AllocError>
+        requires { first_serial < SERIAL_LIMIT }
+        ensures { IfOk result (IsFirstTree online nodes first_serial) }
+    {
+        let mut groups = Slab::new(alloc);
+        let mut order = Vec::new(alloc);
+        groups.reserve(1)?;
+        let key = groups.vacant_key();
+        order.push(key)?;
+        let root = Group {
+            key,
+            serial: first_serial,
+        };
+        groups.insert_reserved(Cgroup {
+            group: root,
+            parent: None,
+            name: String::new(alloc),
+            cpus: IdSet::empty(),
+            mems: IdSet::empty(),
+            effective_cpus: online,
+            effective_mems: nodes,
+        });
+        Ok(Tree {
+            alloc,
+            groups,
+            order,
+            root,
+            online,
+            nodes,
+            next_serial: first_serial + 1,
+        })
+    }
+
+    /// The group that has no parent.
+    pub fn root(&self) -> Group
+        ensures root { root_of self.now ≡ Some result }
+        ensures well_formed { IsWellFormed self.now }
+        ensures path { RunsUpThePath self.now }
+    {
+        self.root
+    }
+
+    /// The CPUs that are online.
+    pub fn online(&self) -> IdSet
+        ensures { result ≡ self.now.online }
+    {
+        self.online
+    }
+
+    /// All memory nodes.
+    pub fn nodes(&self) -> IdSet
+        ensures { result ≡ self.now.nodes }
+    {
+        self.nodes
+    }
+
+    /// Whether the group is in the tree.
+    pub fn contains(&self, group: Group) -> bool
+        ensures { result ≡ has_group self.now group }
+    {
+        self.node(group).is_some()
+    }
+
+    fn node(&self, group: Group) -> Option<&Cgroup>
+        ensures { IsKeptOf self.now group (option_copied result) }
+    {
+        match self.groups.get(group.key) {
+            Some(kept) if kept.group == group => Some(kept),
+            _ => None,
+        }
+    }
+
+    fn child(&self, parent: Group, name: &str) -> Option<Group>
+        ensures { result ≡ child_of self.now parent name.now }
+    {
+        for key in &self.order {
+            if let Some(kept) = self.groups.get(*key) {
+                if kept.is_child_of(parent) && kept.name.as_str() == name {
+                    return Some(kept.group);
+                }
+            }
+        }
+        None
+    }
+
+    fn has_children(&self, group: Group) -> bool
+        ensures { result ≡ has_children self.now group }
+    {
+        for key in &self.order {
+            if let Some(kept) = self.groups.get(*key) {
+                if kept.is_child_of(group) {
+                    return true;
+                }
+            }
+        }
+        false
+    }
+
+    /// Makes a group below the parent, which requests nothing and so has all of its parent's in effect.
+    ///
+    /// Refused, in this order: [`TreeFault::NoGroup`], [`TreeFault::Exists`], [`TreeFault::NoSerials`].
+    pub fn make(&mut self, parent: Group, name: &str) -> Result<Group, TreeError>
+        ensures { Makes self.old parent name.now result self.new }
+    {
+        let Some(above) = self.node(parent) else {
+            return Err(TreeError::Fault(TreeFault::NoGroup));
+        };
+        let (cpus, mems) = (above.effective_cpus, above.effective_mems);
+        if self.child(parent, name).is_some() {
+            return Err(TreeError::Fault(TreeFault::Exists));
+        }
+        if self.next_serial == SERIAL_LIMIT {
+            return Err(TreeError::Fault(TreeFault::NoSerials));
+        }
+        let name = String::from_str(self.alloc, name)?;
+        Ok(self.add(parent, name, cpus, mems)?)
+    }
+
+    /// Adds a group with the sets that its parent has in effect.
+    fn add(
+        &mut self,
+        parent: Group,
+        name: String,
+        cpus: IdSet,
+        mems: IdSet,
+    ) -> Result<Group, AllocError>
+        requires serial { self.old.next_serial < SERIAL_LIMIT }
+        requires parent { has_group self.old parent ≡ true }
+        requires cpus { cpus ≡ effective_cpus self.old parent }
+        requires mems { mems ≡ effective_mems self.old parent }
+        ensures ok { IfOk result (λ g. AddsGroup self.old parent (string_bytes name) g self.new) }
+        ensures err { OnErr result (self.new ≡ self.old) }
+    {
+        self.groups.reserve(1)?;
+        let group = Group {
+            key: self.groups.vacant_key(),
+            serial: self.next_serial,
+        };
+        self.order.insert(0, group.key)?;
+        self.groups.insert_reserved(Cgroup {
+            group,
+            parent: Some(parent),
+            name,
+            cpus: IdSet::empty(),
+            mems: IdSet::empty(),
+            effective_cpus: cpus,
+            effective_mems: mems,
+        });
+        self.next_serial += 1;
+        Ok(group)
+    }
+
+    /// Removes a group, whose handle is stale from then on.
+    ///
+    /// Refused, in this order: [`TreeFault::NoGroup`], [`TreeFault::IsRoot`], [`TreeFault::HasChildren`].
+    pub fn remove(&mut self, group: Group) -> Result<(), TreeFault>
+        ensures { Decides (remove_refusal self.old group) (λ _ new. new ≡ without_group self.old group) self.old result self.new }
+    {
+        self.removable(group)?;
+        self.take(group);
+        Ok(())
+    }
+
+    /// Whether a group can be removed, or what stands against it.
+    ///
+    /// Refused, in this order: [`TreeFault::NoGroup`], [`TreeFault::IsRoot`], [`TreeFault::HasChildren`].
+    pub fn removable(&self, group: Group) -> Result<(), TreeFault>
+        ensures { MatchResult result (λ _. remove_refusal self.now group ≡ None) (λ fault. remove_refusal self.now group ≡ Some fault) }
+    {
+        let kept = self.node(group).ok_or(TreeFault::NoGroup)?;
+        if kept.parent.is_none() {
+            return Err(TreeFault::IsRoot);
+        }
+        if self.has_children(group) {
+            return Err(TreeFault::HasChildren);
+        }
+        Ok(())
+    }
+
+    /// Takes out a group that has no children and is not the root.
+    fn take(&mut self, group: Group)
+        requires there { has_group self.old group ≡ true }
+        requires child { is_root self.old group ≡ false }
+        requires childless { has_children self.old group ≡ false }
+        ensures { self.new ≡ without_group self.old group }
+    {
+        let _ = self.groups.try_remove(group.key);
+        self.order.retain(|key| *key != group.key);
+    }
+
+    /// Writes the CPUs that a group requests, and brings it and what is below it up to date.
+    ///
+    /// Refused, in this order: [`TreeFault::NoGroup`], [`TreeFault::IsRoot`].
+    pub fn write_cpus(&mut self, group: Group, cpus: IdSet) -> Result<(), TreeFault>
+        ensures { Decides (write_refusal self.old group) (λ _ new. new ≡ with_cpus self.old group cpus) self.old result self.new }
+    {
+        self.writable(group)?;
+        self.request_cpus(group, cpus);
+        Ok(())
+    }
+
+    /// Writes the memory nodes that a group requests, and brings it and what is below it up to date.
+    ///
+    /// Refused, in this order: [`TreeFault::NoGroup`], [`TreeFault::IsRoot`].
+    pub fn write_mems(&mut self, group: Group, mems: IdSet) -> Result<(), TreeFault>
+        ensures { Decides (write_refusal self.old group) (λ _ new. new ≡ with_mems self.old group mems) self.old result self.new }
+    {
+        self.writable(group)?;
+        self.request_mems(group, mems);
+        Ok(())
+    }
+
+    fn writable(&self, group: Group) -> Result<(), TreeFault>
+        ensures { MatchResult result (λ _. write_refusal self.now group ≡ None) (λ fault. write_refusal self.now group ≡ Some fault) }
+    {
+        match self.node(group) {
+            None => Err(TreeFault::NoGroup),
+            Some(kept) if kept.parent.is_none() => Err(TreeFault::IsRoot),
+            Some(_) => Ok(()),
+        }
+    }
+
+    fn request_cpus(&mut self, group: Group, cpus: IdSet)
+        requires { has_group self.old group ≡ true }
+        ensures { self.new ≡ with_cpus self.old group cpus }
+    {
+        put_cpus(&mut self.groups, group.key, cpus);
+        refresh_from(
+            &mut self.groups,
+            &self.order,
+            group.key,
+            &self.online,
+            &self.nodes,
+        );
+    }
+
+    fn request_mems(&mut self, group: Group, mems: IdSet)
+        requires { has_group self.old group ≡ true }
+        ensures { self.new ≡ with_mems self.old group mems }
+    {
+        put_mems(&mut self.groups, group.key, mems);
+        refresh_from(
+            &mut self.groups,
+            &self.order,
+            group.key,
+            &self.online,
+            &self.nodes,
+        );
+    }
+
+    /// Says which CPUs are online from now on, and brings all groups up to date; what they request stays.
+    pub fn set_online(&mut self, online: IdSet)
+        ensures { self.new ≡ with_online self.old online }
+    {
+        self.online = online;
+        refresh(
+            &mut self.groups,
+            &self.order,
+            self.order.len(),
+            &self.online,
+            &self.nodes,
+        );
+    }
+
+    /// The CPUs that a group requests.
+    ///
+    /// Refused: [`TreeFault::NoGroup`].
+    pub fn cpus(&self, group: Group) -> Result<IdSet, TreeFault>
+        ensures { result ≡ read_of self.now group (requested_cpus self.now group) }
+    {
+        Ok(self.node(group).ok_or(TreeFault::NoGroup)?.cpus)
+    }
+
+    /// The CPUs that a group has in effect.
+    ///
+    /// Refused: [`TreeFault::NoGroup`].
+    pub fn effective_cpus(&self, group: Group) -> Result<IdSet, TreeFault>
+        ensures { result ≡ read_of self.now group (effective_cpus self.now group) }
+    {
+        Ok(self.node(group).ok_or(TreeFault::NoGroup)?.effective_cpus)
+    }
+
+    /// The memory nodes that a group requests.
+    ///
+    /// Refused: [`TreeFault::NoGroup`].
+    pub fn mems(&self, group: Group) -> Result<IdSet, TreeFault>
+        ensures { result ≡ read_of self.now group (requested_mems self.now group) }
+    {
+        Ok(self.node(group).ok_or(TreeFault::NoGroup)?.mems)
+    }
+
+    /// The memory nodes that a group has in effect.
+    ///
+    /// Refused: [`TreeFault::NoGroup`].
+    pub fn effective_mems(&self, group: Group) -> Result<IdSet, TreeFault>
+        ensures { result ≡ read_of self.now group (effective_mems self.now group) }
+    {
+        Ok(self.node(group).ok_or(TreeFault::NoGroup)?.effective_mems)
+    }
+
+    /// The group's child of this name, if it has one.
+    ///
+    /// Refused: [`TreeFault::NoGroup`].
+    pub fn find(&self, parent: Group, name: &str) -> Result<Option<Group>, TreeFault>
+        ensures { result ≡ read_of self.now parent (child_of self.now parent name.now) }
+    {
+        match self.node(parent) {
+            None => Err(TreeFault::NoGroup),
+            Some(_) => Ok(self.child(parent, name)),
+        }
+    }
+}

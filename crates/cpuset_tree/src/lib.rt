@@ -1,0 +1,16 @@
+//! The groups of a modelled kernel, each with the CPUs and memory nodes that it requests and those that it
+//! has in effect, as the kernel's cgroup-v2 page tells of `cpuset.cpus`, `cpuset.cpus.effective`,
+//! `cpuset.mems` and `cpuset.mems.effective`.
+#![tactic(auto)]
+
+mod cpusets;
+mod faults;
+mod groups;
+mod refresh;
+
+pub use cpusets::Tree;
+pub use faults::{TreeError, TreeFault};
+pub use groups::Group;
+
+/// Each serial is below this one, which is never given.
+pub const SERIAL_LIMIT: u64 = u64::MAX;

@@ -1,0 +1,28 @@
+use Rattle.std.proofs.Common.{List, not, sym, ap, ◌∙◌, subst, rules}
+use Rattle.std.proofs.lemmas.Fn.{filter_same}
+use Rattle.cpuset_tree.specs.LookUps.{same_group}
+use Rattle.proctable.specs.declared.processes.Process.{Process}
+use Rattle.proctable.specs.TableState.{TableState}
+use Rattle.proctable.specs.Changes.{ended_in}
+use Rattle.proctable.specs.Kept.{IsSound}
+use Rattle.proctable.proofs.TableLemmas.{RisesBelow-filter, AllBelong-filter, together-ended}
+use Rattle.proctable.proofs.processes.ProcTable.end_in.Goals as goal
+
+pub invariant_of-self : goal.invariant_of-self
+invariant_of-self c =
+    let i = c.self.inside in
+    subst (λ (l : List Process). IsSound l i.next_pid) (sym (filter_same _ (λ p. not (same_group p.group c.args.group)) _ (λ x b f' k. search rules) _ _ c.retain.ensures.filtered))
+    (record {
+      rising = RisesBelow-filter (λ p. not (same_group p.group c.args.group)) 0 i.next_pid i.live.items c.self.invariant.rising;
+      belong = AllBelong-filter (λ p. not (same_group p.group c.args.group)) (together-ended c.args.group) i.live.items i.live.items c.self.invariant.belong;
+      limit = c.self.invariant.limit;
+    })
+
+pub returns : goal.returns
+returns c =
+    let i = c.self.inside in
+    (λ j. record {
+      live = filter_same _ (λ p. not (same_group p.group c.args.group)) _ (λ x b f' k. search rules) _ _ c.retain.ensures.filtered j;
+      next_pid = i.next_pid;
+    })
+    ∙ ap (λ (t : TableState). ended_in t c.args.group) c.self.view_is

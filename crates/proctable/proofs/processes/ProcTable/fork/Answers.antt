@@ -1,0 +1,15 @@
+use Rattle.std.proofs.Common.{sym, ap, ◌∙◌, subst, inr}
+use Rattle.proctable.specs.TableState.{TableState}
+use Rattle.proctable.specs.LookUps.{process_of}
+use Rattle.proctable.specs.WellFormed.{Belongs}
+use Rattle.proctable.specs.Kept.{BelongsNext}
+use Rattle.proctable.proofs.TableLemmas.{Belongs-found}
+use Rattle.proctable.proofs.processes.ProcTable.fork.Goals as goal
+
+pub add-requires-clause-belongs : goal.add-requires-clause-belongs
+add-requires-clause-belongs c =
+    let i = c.self.inside in
+    let p = c.in-Some.process in
+    let b : Belongs i.live.items p = Belongs-found i.live.items i.live.items c.self.invariant.belong c.args.parent p
+    (ap (λ (t : TableState). process_of t c.args.parent) c.self.view_is ∙ sym c.in-Some.ensures) in
+    subst (λ (t : TableState). BelongsNext t p.group p.first) c.self.view_is (inr (b.first, b.alive, b.own, b.group))

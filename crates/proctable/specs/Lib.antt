@@ -1,0 +1,6 @@
+pub mod TableState
+pub mod LookUps
+pub mod Changes
+pub mod Answers
+pub mod WellFormed
+pub mod Kept

@@ -1,0 +1,11 @@
+//! The live processes of a modelled kernel: each has a pid, a group, and the first process that it belongs to.
+#![tactic(auto)]
+
+mod faults;
+mod processes;
+
+pub use faults::{ProcError, ProcFault};
+pub use processes::{ProcTable, Process};
+
+/// The greatest pid; once it was given, no process can be made.
+pub const LAST_PID: u32 = 4_194_303;
