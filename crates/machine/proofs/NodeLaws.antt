@@ -11,11 +11,11 @@ use Rattle.std.proofs.lemmas.List.Folds.{list_any_at, Any-from_list_any}
 use Rattle.std.proofs.lemmas.List.Quantifiers.{position-Some}
 use Rattle.std.proofs.lemmas.List.Sums.{fails_before_first}
 use Rattle.std.specs.FinSet as set
-use Rattle.cpu_set.specs.Ids.{Ids}
+use Rattle.cpu_set.specs.Ids.{Ids, IsDisjoint}
 use Rattle.cpu_set.specs.Pointwise.{contains-empty, contains-insert, contains-union}
 use Rattle.machine.specs.Layout.{Layout, cpus_of}
 use Rattle.machine.specs.Nodes.{numbers_below, IsOfNode}
-use Rattle.machine.specs.Present.{present, IsPresent}
+use Rattle.machine.specs.Present.{union_of, present, IsPresent}
 
 or_false : (a : Bool) → (a || false) ≡ a
 or_false true = refl
@@ -78,3 +78,15 @@ pub contains-numbers_below : (n q : ℕ) → set.contains (numbers_below n) q �
 unfolding numbers_below
 contains-numbers_below zero q = contains-empty q ∙ grind (arith, nat_tests)
 contains-numbers_below (suc n) q = contains-insert (numbers_below n) n q ∙ below_step n q _ (contains-numbers_below n q)
+
+union_of-has : (sets : List Ids) (n k : ℕ) → k < length sets → set.contains (get_or sets k set.empty) n ≡ true → set.contains (union_of sets) n ≡ true
+union_of-has sets n k lt has =
+    contains-fold_union set.empty sets n ∙ ap (λ b. b || list_any (λ s. set.contains s n) sets) (contains-empty n)
+    ∙ list_any_at (λ s. set.contains s n) sets k set.empty lt has
+
+-- what is apart from the union of some sets is apart from each
+pub apart_from_each :
+    (sets : List Ids) (s : Ids) → IsDisjoint (union_of sets) s
+    → (k : ℕ) (d : Ids) → k < length sets → IsDisjoint (get_or sets k d) s
+apart_from_each sets s apart k d lt n in_one in_s =
+    apart n (union_of-has sets n k lt (ap (λ t. set.contains t n) (get_or_default sets k set.empty d lt) ∙ in_one)) in_s

@@ -3,3 +3,10 @@ pub mod Present
 pub mod Nodes
 pub mod Weight
 pub mod IsSound
+pub mod FieldName
+pub mod JsonOf
+pub mod Members
+pub mod Listed
+pub mod KindFaults
+pub mod NodesFault
+pub mod Answers

@@ -5,10 +5,19 @@
 //! 10 to 255 to another, where 255 says that it can't be reached. The two ways may differ.
 #![tactic(auto)]
 
+mod fault;
+mod field;
+mod lookup;
+mod node_sets;
 mod topology;
 
+pub use fault::{MachineError, MachineFault};
+pub use field::Field;
 pub use slit::{LOCAL, UNREACHABLE};
 pub use topology::Machine;
 
 /// The most nodes that a machine may have.
 pub const NODE_LIMIT: usize = 64;
+
+/// The most bytes that a machine file may have.
+pub const MAX_BYTES: usize = 1_048_576;

@@ -1,0 +1,27 @@
+-- The items of an array, as the JSON value has them and as the code goes over them.
+use Rattle.std.proofs.Common.{◌≡◌, ℕ, ◌<◌, ◌≤◌, arith, List, [], ◌∷◌, map, length, get_or, refl, sym, ap, ◌∙◌}
+use Rattle.std.proofs.lemmas.List.{get_or-map, length-map}
+use Rattle.serde_json.specs.Data.{Data, null}
+use Rattle.serde_json.specs.View.{view, items_view}
+use Rattle.serde_json.specs.declared.value.Value.{Value}
+use Rattle.machine.specs.Members.{item_list}
+
+pub item_list-items_view : (vs : List Value) → item_list (items_view vs) ≡ map view vs
+item_list-items_view [] = refl
+item_list-items_view (v ∷ vs) = ap (λ ds. view v ∷ ds) (item_list-items_view vs)
+
+-- as many as the code goes over
+pub ruleset item_counts = (length-map)
+
+pub ruleset item_lists = (item_list-items_view)
+
+-- the value of an item is that item's value
+pub item_view : (vs : List Value) (i : ℕ) (v : Value) → i < length vs → v ≡ get_or vs i v → view v ≡ get_or (map view vs) i null
+item_view vs i v lt is = ap view is ∙ sym (get_or-map view vs i v null lt)
+
+-- a place among the items, and the end of them, are those of their values
+pub item_within : (vs : List Value) (i : ℕ) → i < length vs → i < length (map view vs)
+item_within vs i lt = simp length-map lt
+
+pub item_last : (vs : List Value) (i : ℕ) → length vs ≤ i → i ≤ length vs → i ≡ length (map view vs)
+item_last vs i past within = simp length-map (omega arith)

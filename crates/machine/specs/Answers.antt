@@ -1,0 +1,22 @@
+-- How an answer stands to the fault or the value that it should be.
+use Rattle.std.specs.Prelude.{◌≡◌, Option, Some, None, Result, Ok, Err}
+use Rattle.machine.specs.declared.fault.MachineFault.{MachineFault}
+use Rattle.machine.specs.declared.fault.MachineError.{MachineError}
+use Rattle.machine.specs.declared.fault.MachineError.TheVariants.{Memory, Fault}
+
+-- the fault of a check that takes no memory
+abbrev pub fault_of : {A : Type 0} → Result A MachineFault → Option MachineFault
+fault_of (Ok x) = None
+fault_of (Err e) = Some e
+
+-- the fault that is answered, where memory sufficed
+abbrev pub Meets : {A : Type 0} → Result A MachineError → Option MachineFault → Type 0
+Meets (Ok x) fault = fault ≡ None
+Meets (Err Memory) fault = Unit {0}
+Meets (Err (Fault e)) fault = fault ≡ Some e
+
+-- the answer is the expected one, unless memory ran out
+abbrev pub Gives : {A : Type 0} → Result A MachineError → Result A MachineFault → Type 0
+Gives (Ok x) expected = expected ≡ Ok x
+Gives (Err Memory) expected = Unit {0}
+Gives (Err (Fault e)) expected = expected ≡ Err e
