@@ -1,21 +1,18 @@
 -- The last check, and what it leaves: a pinned container, or a shared one.
-use Rattle.std.proofs.Common.{◌≡◌, ◌≢◌, ℕ, zero, suc, ◌-◌, ◌*◌, ◌<◌, ◌≤◌, Bool, true, false, not, ◌&&◌, ◌||◌, Option, Some, None, refl, sym, ap, ◌∙◌, arith}
+use Rattle.std.proofs.Common.{◌≡◌, ℕ, zero, suc, ◌≤◌, Bool, true, false, ◌||◌, Option, Some, None, refl, sym, ap, ◌∙◌, arith}
 use Rattle.std.specs.Prelude.{is_some, unwrap_or}
 use Rattle.std.proofs.lemmas.Bool.{false≢true}
 use Rattle.std.specs.FinSet as set
-use Rattle.faults.specs.First.{when}
 use Rattle.cpu_set.specs.Ids.{Ids}
 use Rattle.cpu_set.specs.Pointwise.{contains-empty}
 use Rattle.cpu_set.specs.declared.TheConstants.{CPU_LIMIT}
 use Rattle.config_json.specs.SectionOf.{Section}
 use Rattle.machine.specs.Layout.{Layout}
 use Rattle.machine.specs.Weight.{AreHomes}
-use Rattle.demand.specs.declared.demand.Demand.{Demand}
 use Rattle.demand.specs.declared.demand.Kind.TheVariants.{Pinned, Shared}
 use Rattle.demand.specs.declared.demand_fault.DemandFault.TheVariants.{NothingAllowed}
 use Rattle.demand.specs.AsksFor.{AsksFor}
 use Rattle.demand.specs.Quota.{limit_of, period_of, IsCount}
-use Rattle.demand.specs.Named.{named, has_none}
 use Rattle.demand.specs.Homes.{homes_of}
 use Rattle.demand.specs.Allowed.{allowed_by, allowed_of}
 use Rattle.demand.specs.DemandFaultOf.{is_pinned, allowed_fault}

@@ -1,5 +1,5 @@
 -- Rounding a quota up to whole CPUs.
-use Rattle.std.proofs.Common.{◌≡◌, ℕ, zero, suc, ◌+◌, ◌-◌, ◌*◌, ◌<◌, ◌≤◌, arith}
+use Rattle.std.proofs.Common.{◌≡◌, ℕ, zero, suc, ◌+◌, ◌*◌, ◌<◌, arith}
 use Rattle.demand.specs.AsksFor.{AsksFor}
 
 -- a whole number of CPUs

@@ -1,5 +1,5 @@
 -- What a container with a CPU section asks for on a machine.
-use Rattle.std.specs.Prelude.{◌≡◌, ℕ, Option, Some, None, IsTrue, true, false, if◌then◌else◌}
+use Rattle.std.specs.Prelude.{◌≡◌, ℕ, Option, Some, None, true, false, if◌then◌else◌}
 use Rattle.std.specs.FinSet as set
 use Rattle.cpu_set.specs.Ids.{Ids}
 use Rattle.config_json.specs.SectionOf.{Section}
