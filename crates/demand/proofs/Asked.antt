@@ -1,0 +1,127 @@
+-- The last check, and what it leaves: a pinned container, or a shared one.
+use Rattle.std.proofs.Common.{◌≡◌, ℕ, zero, suc, ◌≤◌, Bool, true, false, ◌||◌, Option, Some, None, refl, sym, ap, ◌∙◌, arith}
+use Rattle.std.specs.Prelude.{is_some, unwrap_or}
+use Rattle.std.proofs.lemmas.Bool.{false≢true}
+use Rattle.std.specs.FinSet as set
+use Rattle.cpu_set.specs.Ids.{Ids}
+use Rattle.cpu_set.specs.Pointwise.{contains-empty}
+use Rattle.cpu_set.specs.declared.TheConstants.{CPU_LIMIT}
+use Rattle.config_json.specs.SectionOf.{Section}
+use Rattle.machine.specs.Layout.{Layout}
+use Rattle.machine.specs.Weight.{AreHomes}
+use Rattle.demand.specs.declared.demand.Kind.TheVariants.{Pinned, Shared}
+use Rattle.demand.specs.declared.demand_fault.DemandFault.TheVariants.{NothingAllowed}
+use Rattle.demand.specs.AsksFor.{AsksFor}
+use Rattle.demand.specs.Quota.{limit_of, period_of, IsCount}
+use Rattle.demand.specs.Homes.{homes_of}
+use Rattle.demand.specs.Allowed.{allowed_by, allowed_of}
+use Rattle.demand.specs.DemandFaultOf.{is_pinned, allowed_fault}
+use Rattle.demand.specs.IsDemand.{IsKind, IsDemand}
+use Rattle.demand.specs.FitsMachine.{FitsKind, FitsMachine}
+use Rattle.demand.proofs.HomeNodes.{has_none-empty, has_none-some}
+use Rattle.demand.proofs.FreeCpus.{IsGiven, allowed_is_given}
+
+-- a shared container has no fault left
+pub shared_has_no_fault : (m : Layout) (s : Section) → is_pinned s ≡ false → allowed_fault m s ≡ None
+unfolding allowed_fault
+shared_has_no_fault m s shared = rw shared refl
+
+-- a pinned one has where nothing is allowed
+pub nothing_is_a_fault : (m : Layout) (s : Section) → is_pinned s ≡ true → allowed_of m s ≡ set.empty → allowed_fault m s ≡ Some NothingAllowed
+unfolding allowed_fault
+nothing_is_a_fault m s pinned none = rw (pinned, has_none-empty (allowed_of m s) none) refl
+
+-- and has not where something is
+pub something_is_none : (m : Layout) (s : Section) → is_pinned s ≡ true → (allowed_of m s ≡ set.empty → ⊥) → allowed_fault m s ≡ None
+unfolding allowed_fault
+something_is_none m s pinned some = rw (pinned, has_none-some (allowed_of m s) some) refl
+
+shared_kind : (limit : Option ℕ) (period : ℕ) (allowed : Ids) (s : Section) → is_some limit ≡ false → is_pinned s ≡ false → IsKind limit period allowed s Shared
+shared_kind None period allowed s none shared = shared
+shared_kind (Some limit) period allowed s none shared = absurd (false≢true (sym none))
+
+neither : (a b : Bool) → (a || b) ≡ false → a ≡ false
+neither true b is = is
+neither false b is = refl
+
+-- a shared container's demand
+pub shared_demand :
+    (m : Layout) (s : Section) (allowed homes : Ids) → is_pinned s ≡ false → allowed ≡ set.empty → homes ≡ homes_of m s.mems
+    → IsDemand m s (record { kind = Shared; allowed = allowed; homes = homes })
+shared_demand m s allowed homes shared none are_homes = record {
+  homes = are_homes;
+  allowed = rw shared none;
+  kind = shared_kind (limit_of s.quota) (period_of s.period) (allowed_of m s) s (neither _ _ shared) shared;
+}
+
+pinned_kind :
+    (limit : Option ℕ) (period : ℕ) (allowed : Ids) (s : Section) (count : Option ℕ)
+    → IsCount limit period count → is_pinned s ≡ true → IsKind limit period allowed s (Pinned (unwrap_or count (set.len allowed)))
+pinned_kind None period allowed s None is pinned = (pinned, refl)
+pinned_kind None period allowed s (Some n) is pinned = absurd is
+pinned_kind (Some limit) period allowed s None is pinned = absurd is
+pinned_kind (Some limit) period allowed s (Some n) is pinned = is.0
+
+-- a pinned container's demand
+pub pinned_demand :
+    (m : Layout) (s : Section) (allowed homes : Ids) (count : Option ℕ) (asked : ℕ)
+    → IsCount (limit_of s.quota) (period_of s.period) count → is_pinned s ≡ true
+    → allowed ≡ allowed_of m s → homes ≡ homes_of m s.mems → asked ≡ unwrap_or count (set.len allowed)
+    → IsDemand m s (record { kind = Pinned asked; allowed = allowed; homes = homes })
+pinned_demand m s allowed homes count asked is pinned are_allowed are_homes asks = record {
+  homes = are_homes;
+  allowed = rw pinned are_allowed;
+  kind = rw (asks, are_allowed) (pinned_kind (limit_of s.quota) (period_of s.period) (allowed_of m s) s count is pinned);
+}
+
+asks_for_one : (quota period count : ℕ) → AsksFor quota period count → 1 ≤ count
+asks_for_one quota period zero asks = absurd (let a = asks.enough in let b = asks.no_more in omega arith)
+asks_for_one quota period (suc count) asks = omega arith
+
+has_one : (s : Ids) (n : ℕ) → set.len s ≡ n → (s ≡ set.empty → ⊥) → 1 ≤ n
+has_one s zero is some = absurd (some (set.empty_of_len s is))
+has_one s (suc n) is some = omega arith
+
+pinned_count :
+    (limit : Option ℕ) (period : ℕ) (allowed : Ids) (count : Option ℕ) → IsCount limit period count
+    → set.len allowed ≤ CPU_LIMIT → (allowed ≡ set.empty → ⊥) → FitsKind (Pinned (unwrap_or count (set.len allowed))) allowed
+pinned_count limit period allowed None is few some = (has_one allowed (set.len allowed) refl some, few, some)
+pinned_count None period allowed (Some n) is few some = absurd is
+pinned_count (Some limit) period allowed (Some n) is few some = (asks_for_one limit period n is.0, is.1, some)
+
+true_and_false : (b : Bool) → b ≡ false → b ≡ true → ⊥
+true_and_false b is_false is_true = false≢true (sym is_false ∙ is_true)
+
+-- a pinned container's demand fits the machine
+pub pinned_fits :
+    (m : Layout) (limit : Option ℕ) (period : ℕ) (cpus allowed homes : Ids) (count : Option ℕ) (asked : ℕ)
+    → IsCount limit period count → allowed ≡ allowed_by m cpus homes → AreHomes m homes
+    → set.len allowed ≤ CPU_LIMIT → (allowed ≡ set.empty → ⊥) → asked ≡ unwrap_or count (set.len allowed)
+    → FitsMachine m (record { kind = Pinned asked; allowed = allowed; homes = homes })
+pinned_fits m limit period cpus allowed homes count asked is are_allowed are_homes few some asks =
+    let each : (c : ℕ) → set.contains allowed c ≡ true → IsGiven m homes c =
+    λ c has. allowed_is_given m cpus homes c (ap (λ t. set.contains t c) (sym are_allowed) ∙ has) in
+    record {
+      kind = rw asks (pinned_count limit period allowed count is few some);
+      homes = are_homes;
+      unreserved = λ c has reserved. true_and_false _ (each c has).unreserved reserved;
+      present = λ c has. (each c has).present;
+      in_reach = λ c has. (each c has).in_reach;
+    }
+
+none_has : (s : Ids) (c : ℕ) → s ≡ set.empty → set.contains s c ≡ true → ⊥
+none_has s c none has = true_and_false _ (contains-empty c) (ap (λ t. set.contains t c) (sym none) ∙ has)
+
+-- and so does a shared one's
+pub shared_fits :
+    (m : Layout) (allowed homes : Ids) → allowed ≡ set.empty → AreHomes m homes
+    → FitsMachine m (record { kind = Shared; allowed = allowed; homes = homes })
+shared_fits m allowed homes none are_homes = record {
+  kind = none;
+  homes = are_homes;
+  unreserved = λ c has reserved. none_has allowed c none has;
+  present = λ c has. absurd (none_has allowed c none has);
+  in_reach = λ c has. absurd (none_has allowed c none has);
+}
+
+pub ruleset last_check = (shared_has_no_fault, nothing_is_a_fault, something_is_none)

@@ -1,0 +1,110 @@
+-- The free CPUs and the allowed ones, number by number.
+use Rattle.std.proofs.Common.{◌≡◌, ℕ, suc, ◌+◌, ◌<◌, Bool, true, false, not, ◌&&◌, ◌||◌, nat_lt, refl, sym, ap, ◌∙◌, arith}
+use Rattle.std.proofs.lemmas.Bool.{false≢true}
+use Rattle.std.proofs.lemmas.Bool.Decides.{nat_tests}
+use Rattle.std.specs.FinSet as set
+use Rattle.cpu_set.specs.Ids.{Ids}
+use Rattle.cpu_set.specs.Flags.{those}
+use Rattle.cpu_set.specs.Pointwise.{contains-intersection, contains-difference}
+use Rattle.machine.specs.Layout.{Layout}
+use Rattle.machine.specs.Present.{present, IsPresent}
+use Rattle.demand.specs.Named.{has_none}
+use Rattle.slit.specs.declared.TheConstants.{UNREACHABLE}
+use Rattle.cpu_set.specs.declared.TheConstants.{CPU_LIMIT}
+use Rattle.machine.specs.Weight.{weight}
+use Rattle.cpu_set.specs.FlagLaws.{contains-those}
+use Rattle.demand.specs.Allowed.{is_free, is_allowed, allowed_by}
+use Rattle.demand.proofs.HomeNodes.{has_none-empty, has_none-some}
+
+among_all : (p r h n : Bool) → h ≡ true → (p && not r) ≡ (p && (h || n) && not r)
+among_all true r true n is = refl
+among_all false r true n is = refl
+among_all p r false n is = absurd (false≢true is)
+
+among_named : (p r h n : Bool) → h ≡ false → ((p && not r) && n) ≡ (p && (h || n) && not r)
+among_named true true false true is = refl
+among_named true true false false is = refl
+among_named true false false true is = refl
+among_named true false false false is = refl
+among_named false r false n is = refl
+among_named p r true n is = absurd (false≢true (sym is))
+
+-- where no CPU is named
+pub free_of_all :
+    (m : Layout) (cpus : Ids) → cpus ≡ set.empty → (c : ℕ) → set.contains (set.difference (present m) m.reserved) c ≡ is_free m cpus c
+free_of_all m cpus none c =
+    contains-difference (present m) m.reserved c
+    ∙ among_all (set.contains (present m) c) (set.contains m.reserved c) (has_none cpus) (set.contains cpus c) (has_none-empty cpus none)
+
+-- where one is
+pub free_of_named :
+    (m : Layout) (cpus : Ids) → (cpus ≡ set.empty → ⊥)
+    → (c : ℕ) → set.contains (set.intersection (set.difference (present m) m.reserved) cpus) c ≡ is_free m cpus c
+free_of_named m cpus some c =
+    contains-intersection (set.difference (present m) m.reserved) cpus c
+    ∙ ap (λ b. b && set.contains cpus c) (contains-difference (present m) m.reserved c)
+    ∙ among_named (set.contains (present m) c) (set.contains m.reserved c) (has_none cpus) (set.contains cpus c) (has_none-some cpus some)
+
+pub ruleset free_cpus = (free_of_all, free_of_named)
+
+both_true : (a b : Bool) → (a && b) ≡ true → (a ≡ true) × (b ≡ true)
+both_true true b is = (refl, is)
+both_true false b is = absurd (false≢true is)
+
+-- a free CPU is present
+pub free_is_present : (m : Layout) (cpus : Ids) (c : ℕ) → is_free m cpus c ≡ true → IsPresent m c
+free_is_present m cpus c free = (both_true _ _ (both_true _ _ free).0).0
+
+false_of_not : (b : Bool) → not b ≡ true → b ≡ false
+false_of_not false is = refl
+false_of_not true is = absurd (false≢true is)
+
+-- and not reserved
+pub free_is_unreserved : (m : Layout) (cpus : Ids) (c : ℕ) → is_free m cpus c ≡ true → set.contains m.reserved c ≡ false
+free_is_unreserved m cpus c free = false_of_not _ (both_true _ _ free).1
+
+lower : (a b : ℕ) → nat_lt a b ≡ true → a < b
+lower a b is = grind (arith, nat_tests)
+
+pub those-zero : (p : ℕ → Bool) → those p 0 ≡ set.empty
+unfolding those
+those-zero p = refl
+
+-- one number more, which passes
+pub those-in : (p : ℕ → Bool) (n m : ℕ) (s : Ids) → m ≡ n + 1 → s ≡ those p n → p n ≡ true → set.insert s n ≡ those p m
+unfolding those
+those-in p n m s next is passes = let e : m ≡ suc n = omega arith in rw (e, is, passes) refl
+
+-- or does not
+pub those-out : (p : ℕ → Bool) (n m : ℕ) (s : Ids) → m ≡ n + 1 → s ≡ those p n → p n ≡ false → s ≡ those p m
+unfolding those
+those-out p n m s next is fails = let e : m ≡ suc n = omega arith in rw (e, is, fails) refl
+
+-- the code's test of a CPU is the definition's
+pub given_is_allowed :
+    (m : Layout) (cpus homes free : Ids) (c : ℕ) (answer : Bool) → ((n : ℕ) → set.contains free n ≡ is_free m cpus n)
+    → answer ≡ (set.contains free c && nat_lt (weight m homes c) UNREACHABLE) → is_allowed m cpus homes c ≡ answer
+given_is_allowed m cpus homes free c answer each is =
+    sym (is ∙ ap (λ b. b && nat_lt (weight m homes c) UNREACHABLE) (each c))
+
+-- what holds of an allowed CPU
+pub record IsGiven (m : Layout) (homes : Ids) (c : ℕ) : Type 0 where
+  pub present : IsPresent m c
+  pub unreserved : set.contains m.reserved c ≡ false
+  pub in_reach : weight m homes c < UNREACHABLE
+
+given : (m : Layout) (cpus homes : Ids) (c : ℕ) → is_allowed m cpus homes c ≡ true → IsGiven m homes c
+given m cpus homes c is =
+    let parts : (is_free m cpus c ≡ true) × (nat_lt (weight m homes c) UNREACHABLE ≡ true) = both_true _ _ is in
+    record {
+      present = free_is_present m cpus c parts.0;
+      unreserved = free_is_unreserved m cpus c parts.0;
+      in_reach = lower _ _ parts.1;
+    }
+
+pub allowed_is_given : (m : Layout) (cpus homes : Ids) (c : ℕ) → set.contains (allowed_by m cpus homes) c ≡ true → IsGiven m homes c
+unfolding allowed_by
+allowed_is_given m cpus homes c has =
+    given m cpus homes c (both_true _ _ (sym (contains-those (is_allowed m cpus homes) CPU_LIMIT c) ∙ has)).1
+
+pub ruleset allowed_cpus = (free_is_present, those-zero)

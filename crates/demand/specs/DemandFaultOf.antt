@@ -1,0 +1,67 @@
+-- What is wrong with a CPU section on a machine: the checks in their order, of which the first that fails decides.
+use Rattle.std.specs.Prelude.{ℕ, ℤ, ◌*◌, Bool, not, ◌&&◌, ◌||◌, nat_lt, List, [], ◌∷◌, Option, Some, None, is_some, option_map}
+use Rattle.std.specs.FinSet as set
+use Rattle.faults.specs.First.{when, first_of, first_below}
+use Rattle.cpu_set.specs.Ids.{Ids}
+use Rattle.cpu_set.specs.declared.TheConstants.{CPU_LIMIT}
+use Rattle.cpu_list.specs.declared.list_error.ListError.{ListError}
+use Rattle.cpu_list.specs.FirstFault.{first_fault}
+use Rattle.config_json.specs.SectionOf.{Section}
+use Rattle.machine.specs.declared.TheConstants.{NODE_LIMIT}
+use Rattle.machine.specs.Layout.{Layout}
+use Rattle.machine.specs.Present.{present}
+use Rattle.machine.specs.Nodes.{nodes_of}
+use Rattle.demand.specs.declared.demand_fault.DemandFault.{DemandFault}
+use Rattle.demand.specs.declared.demand_fault.DemandFault.TheVariants.{BadCpus, NoSuchCpu, BadMems, NoSuchNode, QuotaTooLarge, NothingAllowed}
+use Rattle.demand.specs.Quota.{limit_of, period_of}
+use Rattle.demand.specs.Named.{named, has_none}
+use Rattle.demand.specs.Allowed.{allowed_of}
+
+-- a list that is there is no list under the limit
+abbrev pub list_fault : ℕ → Option (List ℕ) → Option ListError
+list_fault limit None = None
+list_fault limit (Some text) = first_fault limit text
+
+-- the least number below a limit that is in a set and not in another
+abbrev pub least_other : ℕ → Ids → Ids → Option ℕ
+least_other limit s known = first_below limit (λ n. when (set.contains s n && not (set.contains known n)) n)
+
+-- `cpus` is a list of present CPUs
+unfoldable pub cpus_fault : Layout → Option (List ℕ) → Option DemandFault
+cpus_fault m cpus = first_of (
+    option_map BadCpus (list_fault CPU_LIMIT cpus)
+    ∷ option_map NoSuchCpu (least_other CPU_LIMIT (named CPU_LIMIT cpus) (present m))
+    ∷ [])
+
+-- `mems` is a list of the machine's nodes
+unfoldable pub mems_fault : Layout → Option (List ℕ) → Option DemandFault
+mems_fault m mems = first_of (
+    option_map BadMems (list_fault NODE_LIMIT mems)
+    ∷ option_map NoSuchNode (least_other NODE_LIMIT (named NODE_LIMIT mems) (nodes_of m))
+    ∷ [])
+
+-- a limit is above what the number of CPUs that there can be may run in a period
+abbrev pub limit_fault : Option ℕ → ℕ → Option DemandFault
+limit_fault None period = None
+limit_fault (Some limit) period = when (nat_lt (CPU_LIMIT * period) limit) QuotaTooLarge
+
+-- the quota asks for no more CPUs than there can be
+unfoldable pub quota_fault : Option ℤ → Option ℕ → Option DemandFault
+quota_fault quota period = limit_fault (limit_of quota) (period_of period)
+
+-- a container gets CPUs of its own where its quota is a limit or it names a CPU
+abbrev pub is_pinned : Section → Bool
+is_pinned s = is_some (limit_of s.quota) || not (has_none (named CPU_LIMIT s.cpus))
+
+-- one that gets CPUs of its own is allowed one
+unfoldable pub allowed_fault : Layout → Section → Option DemandFault
+allowed_fault m s = when (is_pinned s && has_none (allowed_of m s)) NothingAllowed
+
+-- the first fault
+abbrev pub demand_fault : Layout → Section → Option DemandFault
+demand_fault m s = first_of (
+    cpus_fault m s.cpus
+    ∷ mems_fault m s.mems
+    ∷ quota_fault s.quota s.period
+    ∷ allowed_fault m s
+    ∷ [])

@@ -1,0 +1,78 @@
+ghost use Rattle.std.specs.Prelude.{◌≡◌, ◌||◌, IfOk, is_some, not};
+ghost use Rattle.demand.specs.AsksFor.{IsOneCount};
+ghost use Rattle.demand.specs.Named.{has_none};
+ghost use Rattle.demand.specs.DemandFaultOf.{demand_fault};
+ghost use Rattle.demand.specs.Answers.{fault_of};
+
+use crate::allowed::allowed;
+use crate::demand_fault::DemandFault;
+use crate::{lists, quota};
+use config_json::CpuSection;
+use cpu_set::IdSet;
+use machine::Machine;
+
+/// Whether a container gets CPUs of its own.
+#[derive(Clone, Copy, Debug, PartialEq, Eq)]
+pub enum Kind {
+    /// It asks for this many CPUs, 1 to [`CPU_LIMIT`](cpu_set::CPU_LIMIT).
+    Pinned(u32),
+    /// It asks for none, and runs where no other container is pinned.
+    Shared,
+}
+
+/// What one container asks for.
+#[derive(Clone, Copy, Debug)]
+pub struct Demand {
+    pub kind: Kind,
+    /// The CPUs that it may get; none of a shared container.
+    pub allowed: IdSet,
+    /// The nodes where its memory lies, one or more.
+    pub homes: IdSet,
+}
+
+impl Demand {
+    ghost use Rattle.demand.specs.IsDemand.{IsDemand};
+    ghost use Rattle.demand.specs.FitsMachine.{FitsMachine};
+
+    /// What a container with this CPU section asks for on this machine.
+    #[tactic(auto, using(crate::proofs::Asked::last_check))]
+    pub fn of(section: &CpuSection, machine: &Machine) -> Result<Demand, DemandFault>
+        ensures fault { demand_fault machine.now section.now ≡ fault_of result }
+        ensures demand { IfOk result (λ d. IsDemand machine.now section.now d) }
+        ensures fits { IfOk result (λ d. FitsMachine machine.now d) }
+    {
+        let cpus = lists::cpus(section.cpus.as_ref().map(|text| text.as_str()), machine)?;
+        let mems = lists::nodes(section.mems.as_ref().map(|text| text.as_str()), machine)?;
+        let homes = lists::homes(&mems, machine);
+        let count = quota::count(section.quota, section.period)?;
+        if !is_pinned(count, &cpus) {
+            return Ok(Demand {
+                kind: Kind::Shared,
+                allowed: IdSet::empty(),
+                homes,
+            });
+        }
+        let allowed = allowed(machine, &cpus, &homes);
+        if allowed.is_empty() {
+            return Err(DemandFault::NothingAllowed);
+        }
+        Ok(Demand {
+            kind: Kind::Pinned(count.unwrap_or(allowed.count())),
+            allowed,
+            homes,
+        })
+    }
+}
+
+// Whether a container gets CPUs of its own: its quota is a limit, or it names a CPU.
+#[tactic(auto, using(crate::proofs::HomeNodes::home_nodes))]
+fn is_pinned(count: Option<u32>, cpus: &IdSet) -> bool
+    ensures { result ≡ (is_some count || not (has_none cpus.now)) }
+{
+    count.is_some() || !cpus.is_empty()
+}
+
+/// No quota asks for two different counts of CPUs in one period.
+pub fn count_is_one()
+    ensures { IsOneCount }
+{}

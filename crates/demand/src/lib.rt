@@ -1,0 +1,15 @@
+//! What one container asks for: how many CPUs, which of them it may get, and where its home is.
+//!
+//! The numbers come from `linux.resources.cpu` of its config (OCI Runtime Specification 1.0.2,
+//! config-linux.md, "CPU") and from the machine. No call takes memory.
+#![tactic(auto)]
+
+mod allowed;
+mod demand;
+mod demand_fault;
+mod lists;
+mod quota;
+
+pub use demand::{Demand, Kind, count_is_one};
+pub use demand_fault::DemandFault;
+pub use quota::DEFAULT_PERIOD;

@@ -1,0 +1,84 @@
+ghost use Rattle.std.specs.Prelude.{◌≡◌, ℕ, ◌*◌, ◌<◌, ◌≤◌, ◌^◌, IfOk, IfSome, IfNone, is_some};
+ghost use Rattle.demand.specs.AsksFor.{AsksFor};
+ghost use Rattle.demand.specs.Quota.{limit_of, period_of, IsCount};
+ghost use Rattle.demand.specs.DemandFaultOf.{quota_fault};
+ghost use Rattle.demand.specs.Answers.{fault_of};
+
+use crate::demand_fault::DemandFault;
+use cpu_set::CPU_LIMIT;
+
+/// The length of a period where a config gives none or zero, in microseconds: that of `cpu.max` in the
+/// kernel's cgroup-v2 documentation.
+pub const DEFAULT_PERIOD: u64 = 100_000;
+
+// The quota as a limit, where it is one.
+fn limit_of(quota: Option<i64>) -> Option<u64>
+    ensures value { result ≡ limit_of quota }
+    ensures positive { IfSome result (λ n. 0 < n) }
+    ensures signed { IfSome result (λ n. n < 2 ^ 63) }
+{
+    match quota {
+        Some(quota) if quota > 0 => Some(quota.unsigned_abs()),
+        _ => None,
+    }
+}
+
+// The length of the period.
+fn period_of(period: Option<u64>) -> u64
+    ensures value { result ≡ period_of period }
+    ensures positive { 0 < result }
+{
+    match period {
+        None | Some(0) => DEFAULT_PERIOD,
+        Some(period) => period,
+    }
+}
+
+// How many CPUs a quota asks for: the time that it gives in whole periods, rounded up.
+#[tactic(auto, using(crate::proofs::Rounding::asks_whole, crate::proofs::Rounding::asks_more))]
+fn rounded_up(quota: u64, period: u64) -> u64
+    requires quota { 0 < quota }
+    requires signed { quota < 2 ^ 63 }
+    requires period { 0 < period }
+    ensures { AsksFor quota period result }
+{
+    let whole = quota / period;
+    if quota % period == 0 {
+        return whole;
+    }
+    whole + 1
+}
+
+// How many CPUs a quota asks for, unless it asks for more than there can be.
+fn cpus_asked(quota: u64, period: u64) -> Option<u32>
+    requires quota { 0 < quota }
+    requires signed { quota < 2 ^ 63 }
+    requires period { 0 < period }
+    ensures some { IfSome result (λ n. AsksFor quota period n) }
+    ensures few { IfSome result (λ n. n ≤ CPU_LIMIT) }
+    ensures fits { IfSome result (λ n. quota ≤ CPU_LIMIT * period) }
+    ensures none { IfNone result (CPU_LIMIT * period < quota) }
+{
+    let count = rounded_up(quota, period);
+    if count > CPU_LIMIT as u64 {
+        None
+    } else {
+        Some(count as u32)
+    }
+}
+
+// How many CPUs a container's quota asks for; none where it is no limit.
+#[tactic(auto, unfolding(crate::specs::DemandFaultOf::quota_fault))]
+pub fn count(quota: Option<i64>, period: Option<u64>) -> Result<Option<u32>, DemandFault>
+    ensures fault { quota_fault quota period ≡ fault_of result }
+    ensures count { IfOk result (λ n. IsCount (limit_of quota) (period_of period) n) }
+    ensures some { IfOk result (λ n. is_some n ≡ is_some (limit_of quota)) }
+{
+    let Some(limit) = limit_of(quota) else {
+        return Ok(None);
+    };
+    match cpus_asked(limit, period_of(period)) {
+        Some(count) => Ok(Some(count)),
+        None => Err(DemandFault::QuotaTooLarge),
+    }
+}
