@@ -7,4 +7,7 @@ pub mod ApartTest
 pub mod Offers
 pub mod PriceTables
 pub mod RowFaults
+pub mod CostSums
+pub mod Walks
+pub mod TooHigh
 pub mod Duality

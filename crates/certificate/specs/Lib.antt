@@ -9,6 +9,7 @@ pub mod Price
 pub mod IsBound
 pub mod Limits
 pub mod IsPriceTable
+pub mod IsOfferTooHigh
 pub mod IsProved
 pub mod PlanFault
 pub mod Laws

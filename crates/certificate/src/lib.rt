@@ -8,6 +8,7 @@
 
 mod certificates;
 mod check_faults;
+mod costs;
 mod laws;
 mod limit_checks;
 mod limits;
@@ -17,6 +18,7 @@ mod price_table;
 mod problems;
 mod row_checks;
 mod rows;
+mod value_checks;
 
 pub use certificates::Certificate;
 pub use check_faults::CheckFault;

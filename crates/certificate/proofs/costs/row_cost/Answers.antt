@@ -1,0 +1,5 @@
+use Rattle.certificate.proofs.CostSums.{row_offers_fit}
+use Rattle.certificate.proofs.costs.row_cost.Goals as goal
+
+pub offers_cost-requires : goal.offers_cost-requires
+offers_cost-requires c = rw c.as_slice.ensures.value (row_offers_fit _ (rw (← c.row.view_is) at c.requires))

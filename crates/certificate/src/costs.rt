@@ -1,0 +1,60 @@
+ghost use Rattle.std.specs.Prelude.{◌≡◌, ◌≤◌, ◌*◌, IsTrue, length, sum_by, unwrap_or};
+ghost use Rattle.std.specs.List.{list_all};
+ghost use Rattle.cpu_set.specs.Members.{members};
+ghost use Rattle.certificate.specs.Weight.{weight_in};
+ghost use Rattle.certificate.specs.Cost.{row_cost, cost};
+ghost use Rattle.certificate.specs.IsBound.{worth};
+ghost use Rattle.certificate.specs.Limits.{offers_fit, row_fits, values_fit};
+
+use crate::{MAX_AMOUNT, MAX_DEMAND, MAX_ROWS, MAX_WEIGHT, Offer, Row};
+use cpu_set::{CPU_LIMIT, IdSet};
+
+/// What a plan costs.
+pub(crate) fn plan_cost(rows: &[Row], sets: &[IdSet]) -> u64
+    requires few { length rows.now ≤ MAX_ROWS }
+    requires fit { IsTrue (list_all row_fits rows.now) }
+    requires same { length sets.now ≡ length rows.now }
+    ensures cost { result ≡ cost rows.now sets.now }
+    ensures small { result ≤ MAX_ROWS * (CPU_LIMIT * MAX_WEIGHT) }
+{
+    let mut total = 0;
+    for (k, row) in rows.iter().enumerate() {
+        total += row_cost(row, &sets[k]);
+    }
+    total
+}
+
+fn row_cost(row: &Row, held: &IdSet) -> u64
+    requires { IsTrue (row_fits row.now) }
+    ensures cost { result ≡ row_cost row.now held.now }
+    ensures small { result ≤ CPU_LIMIT * MAX_WEIGHT }
+{
+    offers_cost(row.offers.as_slice(), held)
+}
+
+fn offers_cost(offers: &[Offer], held: &IdSet) -> u64
+    requires { IsTrue (offers_fit offers.now) }
+    ensures cost { result ≡ sum_by (λ cpu. unwrap_or (weight_in offers.now cpu) 0) (members held.now) }
+    ensures small { result ≤ CPU_LIMIT * MAX_WEIGHT }
+{
+    let mut cost = 0;
+    for offer in offers {
+        cost += u64::from(offer.weight) * u64::from(held.meet(&offer.cpus).count());
+    }
+    cost
+}
+
+/// Demand times value, summed over the rows.
+pub(crate) fn worth(rows: &[Row], values: &[u64]) -> u64
+    requires few { length rows.now ≤ MAX_ROWS }
+    requires fit { IsTrue (list_all row_fits rows.now) }
+    requires values { IsTrue (values_fit values.now) }
+    requires same { length values.now ≡ length rows.now }
+    ensures { result ≡ worth rows.now values.now }
+{
+    let mut worth = 0;
+    for (k, row) in rows.iter().enumerate() {
+        worth += u64::from(row.demand) * values[k];
+    }
+    worth
+}
