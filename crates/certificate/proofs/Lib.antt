@@ -11,3 +11,5 @@ pub mod CostSums
 pub mod Walks
 pub mod TooHigh
 pub mod Duality
+pub mod LimitFacts
+pub mod Exact

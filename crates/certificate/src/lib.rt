@@ -8,6 +8,7 @@
 
 mod certificates;
 mod check_faults;
+mod checks;
 mod costs;
 mod laws;
 mod limit_checks;
@@ -22,6 +23,7 @@ mod value_checks;
 
 pub use certificates::Certificate;
 pub use check_faults::CheckFault;
+pub use checks::check_plan;
 pub use laws::no_plan_is_below_a_bound;
 pub use limits::{MAX_AMOUNT, MAX_DEMAND, MAX_ROWS, MAX_WEIGHT};
 pub use plans::Plan;

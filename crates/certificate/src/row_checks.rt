@@ -1,6 +1,7 @@
-ghost use Rattle.std.specs.Prelude.{◌≡◌, ℕ, length, is_some};
+ghost use Rattle.std.specs.Prelude.{◌≡◌, ℕ, length, is_some, All, OnOk};
 ghost use Rattle.std.specs.Result.{result_err};
 ghost use Rattle.std.specs.FinSet as set;
+ghost use Rattle.cpu_set.specs.Members.{InRange};
 ghost use Rattle.certificate.specs.Weight.{weight_in};
 ghost use Rattle.certificate.specs.PlanFault.{least_cpu, is_not_allowed, row_fault, rows_fault, apart_fault};
 
@@ -10,7 +11,8 @@ use cpu_set::IdSet;
 /// Whether each row holds as many CPUs as it asks for, all of them allowed; else the first row's fault.
 pub(crate) fn check_rows(rows: &[Row], sets: &[IdSet]) -> Result<(), CheckFault>
     requires { length sets.now ≡ length rows.now }
-    ensures { rows_fault rows.now sets.now ≡ result_err result }
+    ensures fault { rows_fault rows.now sets.now ≡ result_err result }
+    ensures in_range { OnOk result (All InRange sets.now) }
 {
     for (k, row) in rows.iter().enumerate() {
         check_row(k, row, &sets[k])?;
@@ -20,7 +22,8 @@ pub(crate) fn check_rows(rows: &[Row], sets: &[IdSet]) -> Result<(), CheckFault>
 
 #[tactic(auto, unfolding(crate::specs::PlanFault::row_fault))]
 fn check_row(k: usize, row: &Row, held: &IdSet) -> Result<(), CheckFault>
-    ensures { row_fault k row.now held.now ≡ result_err result }
+    ensures fault { row_fault k row.now held.now ≡ result_err result }
+    ensures in_range { InRange held.now }
 {
     if held.count() != row.demand {
         return Err(CheckFault::WrongCount { row: k });

@@ -1,0 +1,56 @@
+ghost use Rattle.std.specs.Prelude.{◌≡◌, ℕ, All, IfOk, OnOk};
+ghost use Rattle.std.specs.Result.{result_err};
+ghost use Rattle.cpu_set.specs.Members.{InRange};
+ghost use Rattle.certificate.specs.Cost.{cost};
+ghost use Rattle.certificate.specs.IsLeast.{IsLeast};
+ghost use Rattle.certificate.specs.IsProved.{IsProved};
+ghost use Rattle.certificate.specs.PlanFault.{plan_fault};
+
+use crate::costs::{plan_cost, worth};
+use crate::limit_checks::is_within_limits;
+use crate::price_table::PriceTable;
+use crate::row_checks::{check_apart, check_rows};
+use crate::value_checks::check_values;
+use crate::{CheckFault, Plan, Prices, Problem, Row};
+use cpu_set::IdSet;
+
+/// Checks that a plan is of least cost, by values and prices: the plan's cost, or the first cause why not.
+///
+/// The causes come in the order of [`CheckFault`]. Takes no memory. Every set is passed whole or once
+/// from end to end, so the work is linear in the offers, prices and rows together, times the CPUs of a set.
+pub fn check_plan(problem: &Problem, plan: &Plan, prices: &Prices) -> Result<u64, CheckFault>
+    // A yes: within the limits, a plan of this cost, and values and prices give the same number as a bound.
+    ensures proved { IfOk result (λ total. IsProved problem.now plan.now prices.now total) }
+
+    // Hence no plan of these rows costs less.
+    ensures least { OnOk result (IsLeast problem.now plan.now) }
+
+    // And a yes wherever all of that holds.
+    ensures complete { (total : ℕ) → IsProved problem.now plan.now prices.now total → result ≡ Ok total }
+
+    // A no: the first fault in the order of the checks.
+    ensures fault { plan_fault problem.now plan.now prices.now ≡ result_err result }
+{
+    checked_cost(problem.rows.as_slice(), plan.sets.as_slice(), prices)
+}
+
+#[tactic(auto, unfolding(crate::specs::PlanFault::plan_fault))]
+fn checked_cost(rows: &[Row], sets: &[IdSet], prices: &Prices) -> Result<u64, CheckFault>
+    ensures fault { plan_fault rows.now sets.now prices.now ≡ result_err result }
+    ensures cost { IfOk result (λ total. total ≡ cost rows.now sets.now) }
+    ensures in_range { OnOk result (All InRange sets.now) }
+{
+    if !is_within_limits(rows, sets, prices) {
+        return Err(CheckFault::BadProblem);
+    }
+    check_rows(rows, sets)?;
+    check_apart(sets)?;
+    let values = prices.values.as_slice();
+    let by_cpu = PriceTable::new(prices.of_cpu.as_slice());
+    check_values(rows, values, &by_cpu)?;
+    let total = plan_cost(rows, sets);
+    if worth(rows, values) != total + by_cpu.total() {
+        return Err(CheckFault::Gap);
+    }
+    Ok(total)
+}
