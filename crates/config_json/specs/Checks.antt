@@ -1,5 +1,5 @@
 -- The two checks that a member may fail: it is required and absent, or it is of another kind than its reader takes.
-use Rattle.std.specs.Prelude.{ℕ, ℤ, Bool, Option, Some, None, is_some, option_and_then, cond}
+use Rattle.std.specs.Prelude.{ℕ, ℤ, Option, Some, None, is_some, option_and_then, cond}
 use Rattle.serde_json.specs.Data.{Data}
 use Rattle.serde_json.specs.Find.{as_number, as_i64, as_u64}
 use Rattle.config_json.specs.declared.fault.ConfigFault.{ConfigFault}

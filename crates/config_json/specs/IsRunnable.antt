@@ -1,5 +1,5 @@
 -- Whether a config says which program to start: `process` is required when start is called.
-use Rattle.std.specs.Prelude.{Bool, true, false, ◌&&◌, is_some, Option}
+use Rattle.std.specs.Prelude.{Bool, true, false, ◌&&◌, is_some}
 use Rattle.std.specs.Option.{option_map_or}
 use Rattle.serde_json.specs.Data.{Data, Items, no_items, item}
 use Rattle.serde_json.specs.Find.{as_str}

@@ -1,5 +1,5 @@
 -- What is wrong with a JSON value as a config: the table of checks in their order, of which the first that fails decides.
-use Rattle.std.specs.Prelude.{Option, Some, None, List, [], ◌∷◌, is_some, not, option_and_then, cond, codes}
+use Rattle.std.specs.Prelude.{Option, [], ◌∷◌, is_some, not, option_and_then, codes}
 use Rattle.faults.specs.First.{first_of, when}
 use Rattle.serde_json.specs.Data.{Data}
 use Rattle.serde_json.specs.Find.{as_object, as_str}
