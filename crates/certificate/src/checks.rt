@@ -54,3 +54,6 @@ fn checked_cost(rows: &[Row], sets: &[IdSet], prices: &Prices) -> Result<u64, Ch
     }
     Ok(total)
 }
+
+#[cfg(test)]
+mod tests;
