@@ -1,0 +1,96 @@
+-- One case for each call of a kernel: what it answers, and what it changes.
+use Rattle.std.specs.Prelude.{◌≡◌, ℕ, false, if◌then◌else◌, List, Option, Some, None, Result, Ok, Err}
+use Rattle.std.specs.FinSet as set
+use Rattle.cpu_set.specs.Ids.{Ids}
+use Rattle.cpuset_tree.specs.declared.Group.{Group}
+use Rattle.cpuset_tree.specs.LookUps.{has_group}
+use Rattle.cpuset_tree.specs.Changes.{with_group, without_group, with_cpus, with_mems, with_online}
+use Rattle.cpuset_tree.specs.Answers.{Decides}
+use Rattle.proctable.specs.declared.Process.{Process}
+use Rattle.proctable.specs.LookUps.{process_of, is_alive}
+use Rattle.proctable.specs.Changes.{with_process, exited, ended_in}
+use Rattle.kernel_model.specs.declared.faults.KernelFault.{KernelFault}
+use Rattle.kernel_model.specs.declared.faults.KernelFault.TheVariants.{NoGroup, Failed}
+use Rattle.kernel_model.specs.declared.faults.KernelError.{KernelError}
+use Rattle.kernel_model.specs.declared.faults.KernelError.TheVariants.{Memory, Fault}
+use Rattle.kernel_model.specs.KernelState.{KernelState, failed}
+use Rattle.kernel_model.specs.Refusals.{make_refusal, remove_refusal, write_refusal, spawn_refusal, end_refusal, fork_refusal, exit_refusal, offline_refusal, online_refusal}
+
+module _ {A : Type 0} (refusal : Option KernelFault) (Does : A → KernelState → Type 0) (old : KernelState) where
+  -- a write answers the first thing that stands against it and changes nothing, or does what it is for; or it fails
+  -- in place of any other answer, which is counted, and nothing else changes
+  abbrev pub Writes : Result A KernelFault → KernelState → Type 0
+  Writes (Ok value) new = Decides refusal Does old (Ok value) new
+  Writes (Err Failed) new = new ≡ failed old
+  Writes (Err fault) new = Decides refusal Does old (Err fault) new
+
+  -- an event that needs memory: the same as one that needs none, or want of it, once nothing stands against the event
+  abbrev pub Grows : Result A KernelError → KernelState → Type 0
+  Grows (Ok value) new = Decides refusal Does old (Ok value) new
+  Grows (Err Memory) new = (refusal ≡ None) × (new ≡ old)
+  Grows (Err (Fault fault)) new = Decides refusal Does old (Err fault) new
+
+  -- a write that needs memory
+  abbrev pub GrowingWrites : Result A KernelError → KernelState → Type 0
+  GrowingWrites (Ok value) new = Decides refusal Does old (Ok value) new
+  GrowingWrites (Err Memory) new = (refusal ≡ None) × (new ≡ old)
+  GrowingWrites (Err (Fault fault)) new = Writes (Err fault) new
+
+-- a group is made, which is in the tree for the first time and gets the next serial
+pub record MakesGroupOf (old : KernelState) (parent : Group) (name : List ℕ) (g : Group) (new : KernelState) : Type 0 where
+  pub serial : g.serial ≡ old.tree.next_serial
+  pub fresh : has_group old.tree g ≡ false
+  pub made : new ≡ record old { tree = with_group old.tree g parent name }
+
+abbrev pub MakesGroup : KernelState → Group → List ℕ → Result Group KernelError → KernelState → Type 0
+MakesGroup old parent name = GrowingWrites (make_refusal old parent name) (MakesGroupOf old parent name) old
+
+-- a group is removed
+abbrev pub RemovesGroup : KernelState → Group → Result (Unit {0}) KernelFault → KernelState → Type 0
+RemovesGroup old g = Writes (remove_refusal old g) (λ _ new. new ≡ record old { tree = without_group old.tree g }) old
+
+-- what a group requests is written
+abbrev pub WritesCpus : KernelState → Group → Ids → Result (Unit {0}) KernelFault → KernelState → Type 0
+WritesCpus old g cpus = Writes (write_refusal old g) (λ _ new. new ≡ record old { tree = with_cpus old.tree g cpus }) old
+
+abbrev pub WritesMems : KernelState → Group → Ids → Result (Unit {0}) KernelFault → KernelState → Type 0
+WritesMems old g mems = Writes (write_refusal old g) (λ _ new. new ≡ record old { tree = with_mems old.tree g mems }) old
+
+-- a process comes, which no pid stood for before and which gets the next one
+pub record AddsProcess (old : KernelState) (g : Group) (first pid : ℕ) (new : KernelState) : Type 0 where
+  pub next : pid ≡ old.table.next_pid
+  pub fresh : is_alive old.table pid ≡ false
+  pub added : new ≡ record old { table = with_process old.table g first }
+
+-- a first process is made in a group: it belongs to itself
+abbrev pub Spawns : KernelState → Group → Result ℕ KernelError → KernelState → Type 0
+Spawns old g = GrowingWrites (spawn_refusal old g) (λ pid new. AddsProcess old g pid pid new) old
+
+-- all processes of a group end
+abbrev pub EndsGroup : KernelState → Group → Result (Unit {0}) KernelFault → KernelState → Type 0
+EndsGroup old g = Writes (end_refusal old g) (λ _ new. new ≡ record old { table = ended_in old.table g }) old
+
+-- a new process is in its parent's group, and belongs to its parent's first process
+abbrev pub ForksOf : KernelState → ℕ → ℕ → KernelState → Type 0
+ForksOf old parent pid new = (p : Process) × (process_of old.table parent ≡ Some p) × AddsProcess old p.group p.first pid new
+
+abbrev pub Forks : KernelState → ℕ → Result ℕ KernelError → KernelState → Type 0
+Forks old parent = Grows (fork_refusal old parent) (ForksOf old parent) old
+
+-- a process ends, and all that belong to it if it is a first one
+abbrev pub Exits : KernelState → ℕ → Result (Unit {0}) KernelFault → KernelState → Type 0
+Exits old pid = Decides (exit_refusal old pid) (λ _ new. new ≡ record old { table = exited old.table pid }) old
+
+-- a CPU goes offline, or stays so; what the groups request stays
+abbrev pub GoesOffline : KernelState → ℕ → Result (Unit {0}) KernelFault → KernelState → Type 0
+GoesOffline old cpu =
+    Decides (offline_refusal old cpu) (λ _ new. new ≡ record old { tree = with_online old.tree (set.remove old.tree.online cpu) }) old
+
+-- a CPU comes online, or stays so
+abbrev pub ComesOnline : KernelState → ℕ → Result (Unit {0}) KernelFault → KernelState → Type 0
+ComesOnline old cpu =
+    Decides (online_refusal old cpu) (λ _ new. new ≡ record old { tree = with_online old.tree (set.insert old.tree.online cpu) }) old
+
+-- a read of a group: this value, or that there is no such group
+abbrev pub read_of : {A : Type 0} → KernelState → Group → A → Result A KernelFault
+read_of k g value = if has_group k.tree g then Ok value else Err NoGroup

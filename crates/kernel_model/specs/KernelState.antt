@@ -1,0 +1,39 @@
+-- A kernel as a plain value: what each call of the trait `Kernel` answers and changes is said of it.
+use Rattle.std.specs.Prelude.{◌≡◌, ℕ, ◌+◌, refl}
+use Rattle.std.specs.Coded.{Coded, code_by, coded×, coded_ℕ}
+use Rattle.cpu_set.specs.Ids.{Ids, ids_code}
+use Rattle.cpuset_tree.specs.TreeState.{TreeState, tree_code}
+use Rattle.cpuset_tree.specs.Changes.{IsFirstTree}
+use Rattle.proctable.specs.TableState.{TableState, table_code}
+use Rattle.proctable.specs.Changes.{first_table as table_at}
+
+-- the groups with what they request, the online CPUs, the nodes and the next serial; the live processes with their groups
+-- and first processes, and the next pid; the present CPUs, those of them that are reserved, and how many writes failed
+pub record KernelState : Type 0 where
+  pub tree : TreeState
+  pub table : TableState
+  pub present : Ids
+  pub reserved : Ids
+  pub failures : ℕ
+
+-- a kernel is stored as the tuple of its fields
+abbrev pub kernel_code : Coded KernelState
+kernel_code =
+    code_by
+    (TreeState × (TableState × (Ids × (Ids × ℕ))))
+    (coded× tree_code (coded× table_code (coded× ids_code (coded× ids_code coded_ℕ))))
+    (λ k. (k.tree, (k.table, (k.present, (k.reserved, k.failures)))))
+    (λ p. record { tree = p.0; table = p.1.0; present = p.1.1.0; reserved = p.1.1.1.0; failures = p.1.1.1.1 })
+    (λ _. refl)
+
+-- the kernel after a write that failed: that is counted, and nothing else changed
+abbrev pub failed : KernelState → KernelState
+failed k = record k { failures = k.failures + 1 }
+
+-- a kernel of the root group alone, of serial 0, with no process, where no write failed
+pub record IsFirstKernel (present reserved online nodes : Ids) (first_pid : ℕ) (k : KernelState) : Type 0 where
+  pub first_tree : IsFirstTree online nodes 0 k.tree
+  pub first_table : k.table ≡ table_at first_pid
+  pub all_present : k.present ≡ present
+  pub some_reserved : k.reserved ≡ reserved
+  pub none_failed : k.failures ≡ 0

@@ -1,0 +1,9 @@
+-- Which values are kernels.
+use Rattle.cpuset_tree.specs.WellFormed as tree
+use Rattle.proctable.specs.WellFormed as table
+use Rattle.kernel_model.specs.KernelState.{KernelState}
+
+-- the groups are a tree, and the processes a table
+pub record IsWellFormed (k : KernelState) : Type 0 where
+  pub tree : tree.IsWellFormed k.tree
+  pub table : table.IsWellFormed k.table

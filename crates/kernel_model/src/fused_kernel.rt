@@ -1,0 +1,198 @@
+ghost use Rattle.std.specs.Prelude.{◌≡◌};
+ghost use Rattle.kernel_model.specs.declared.faults.KernelFault.TheVariants.{Failed};
+ghost use Rattle.kernel_model.specs.declared.faults.KernelError.TheVariants.{Fault};
+ghost use Rattle.kernel_model.specs.Fuse.{burnt, is_due, fused, FailsWhenDue};
+ghost use Rattle.kernel_model.specs.Cases.{MakesGroup, RemovesGroup, WritesCpus, WritesMems, Spawns, EndsGroup, Forks, Exits, GoesOffline, ComesOnline};
+
+use crate::{Kernel, KernelError, KernelFault};
+use cpu_set::IdSet;
+use cpuset_tree::Group;
+
+/// How many writes are made until the one that fails.
+#[derive(Clone, Copy, Debug, PartialEq, Eq)]
+pub enum Fuse {
+    /// The write of this number fails, counted from 1; with 0 none does.
+    Waiting(u64),
+    /// It has failed, and no other will.
+    Blown,
+}
+
+impl Fuse {
+    /// Counts a write, and says whether it is the one that fails.
+    fn burn(&mut self) -> bool
+        ensures fuse { self.new ≡ burnt self.old }
+        ensures due { result ≡ is_due self.old }
+    {
+        match *self {
+            Fuse::Waiting(1) => {
+                *self = Fuse::Blown;
+                true
+            }
+            Fuse::Waiting(left) => {
+                *self = Fuse::Waiting(left.saturating_sub(1));
+                false
+            }
+            Fuse::Blown => false,
+        }
+    }
+}
+
+/// A kernel of which one write fails, and which is the kernel within otherwise.
+#[derive(Drop)]
+pub struct FusedKernel<K: Kernel> {
+    /// The kernel that does what is asked.
+    pub inner: K,
+    /// When a write fails.
+    pub fuse: Fuse,
+}
+
+impl<K: Kernel> FusedKernel<K> {
+    /// A kernel whose write of number `n` fails, counted from 1, refused ones too; with 0 none does. Takes no memory.
+    pub fn new(inner: K, n: u64) -> FusedKernel<K>
+        ensures inner { result.inner ≡ inner }
+        ensures fuse { result.fuse ≡ Fuse.Waiting n }
+    {
+        FusedKernel {
+            inner,
+            fuse: Fuse::Waiting(n),
+        }
+    }
+}
+
+impl<K: Kernel> Kernel for FusedKernel<K> {
+    ghost state = { λ k. fused k.fuse (K.state k.inner) };
+
+    fn make_group(&mut self, parent: Group, name: &str) -> Result<Group, KernelError>
+        ensures case { MakesGroup (fused self.old.fuse (K.state self.old.inner)) parent name.now result (fused self.new.fuse (K.state self.new.inner)) }
+        ensures fuse { self.new.fuse ≡ burnt self.old.fuse }
+        ensures inner { FailsWhenDue (Fault Failed) self.old.fuse (K.state self.old.inner) (MakesGroup (K.state self.old.inner) parent name.now) result (K.state self.new.inner) }
+    {
+        if self.fuse.burn() {
+            return Err(KernelError::Fault(KernelFault::Failed));
+        }
+        self.inner.make_group(parent, name)
+    }
+
+    fn remove_group(&mut self, group: Group) -> Result<(), KernelFault>
+        ensures case { RemovesGroup (fused self.old.fuse (K.state self.old.inner)) group result (fused self.new.fuse (K.state self.new.inner)) }
+        ensures fuse { self.new.fuse ≡ burnt self.old.fuse }
+        ensures inner { FailsWhenDue Failed self.old.fuse (K.state self.old.inner) (RemovesGroup (K.state self.old.inner) group) result (K.state self.new.inner) }
+    {
+        if self.fuse.burn() {
+            return Err(KernelFault::Failed);
+        }
+        self.inner.remove_group(group)
+    }
+
+    fn write_cpus(&mut self, group: Group, cpus: IdSet) -> Result<(), KernelFault>
+        ensures case { WritesCpus (fused self.old.fuse (K.state self.old.inner)) group cpus result (fused self.new.fuse (K.state self.new.inner)) }
+        ensures fuse { self.new.fuse ≡ burnt self.old.fuse }
+        ensures inner { FailsWhenDue Failed self.old.fuse (K.state self.old.inner) (WritesCpus (K.state self.old.inner) group cpus) result (K.state self.new.inner) }
+    {
+        if self.fuse.burn() {
+            return Err(KernelFault::Failed);
+        }
+        self.inner.write_cpus(group, cpus)
+    }
+
+    fn write_mems(&mut self, group: Group, mems: IdSet) -> Result<(), KernelFault>
+        ensures case { WritesMems (fused self.old.fuse (K.state self.old.inner)) group mems result (fused self.new.fuse (K.state self.new.inner)) }
+        ensures fuse { self.new.fuse ≡ burnt self.old.fuse }
+        ensures inner { FailsWhenDue Failed self.old.fuse (K.state self.old.inner) (WritesMems (K.state self.old.inner) group mems) result (K.state self.new.inner) }
+    {
+        if self.fuse.burn() {
+            return Err(KernelFault::Failed);
+        }
+        self.inner.write_mems(group, mems)
+    }
+
+    fn spawn(&mut self, group: Group) -> Result<u32, KernelError>
+        ensures case { Spawns (fused self.old.fuse (K.state self.old.inner)) group result (fused self.new.fuse (K.state self.new.inner)) }
+        ensures fuse { self.new.fuse ≡ burnt self.old.fuse }
+        ensures inner { FailsWhenDue (Fault Failed) self.old.fuse (K.state self.old.inner) (Spawns (K.state self.old.inner) group) result (K.state self.new.inner) }
+    {
+        if self.fuse.burn() {
+            return Err(KernelError::Fault(KernelFault::Failed));
+        }
+        self.inner.spawn(group)
+    }
+
+    fn end_group(&mut self, group: Group) -> Result<(), KernelFault>
+        ensures case { EndsGroup (fused self.old.fuse (K.state self.old.inner)) group result (fused self.new.fuse (K.state self.new.inner)) }
+        ensures fuse { self.new.fuse ≡ burnt self.old.fuse }
+        ensures inner { FailsWhenDue Failed self.old.fuse (K.state self.old.inner) (EndsGroup (K.state self.old.inner) group) result (K.state self.new.inner) }
+    {
+        if self.fuse.burn() {
+            return Err(KernelFault::Failed);
+        }
+        self.inner.end_group(group)
+    }
+
+    fn root(&self) -> Group {
+        self.inner.root()
+    }
+
+    fn find_group(&self, parent: Group, name: &str) -> Result<Option<Group>, KernelFault> {
+        self.inner.find_group(parent, name)
+    }
+
+    fn requested_cpus(&self, group: Group) -> Result<IdSet, KernelFault> {
+        self.inner.requested_cpus(group)
+    }
+
+    fn effective_cpus(&self, group: Group) -> Result<IdSet, KernelFault> {
+        self.inner.effective_cpus(group)
+    }
+
+    fn requested_mems(&self, group: Group) -> Result<IdSet, KernelFault> {
+        self.inner.requested_mems(group)
+    }
+
+    fn effective_mems(&self, group: Group) -> Result<IdSet, KernelFault> {
+        self.inner.effective_mems(group)
+    }
+
+    fn online(&self) -> IdSet {
+        self.inner.online()
+    }
+
+    fn nodes(&self) -> IdSet {
+        self.inner.nodes()
+    }
+
+    fn first_alive(&self, pid: u32) -> bool {
+        self.inner.first_alive(pid)
+    }
+
+    fn fork(&mut self, parent: u32) -> Result<u32, KernelError>
+        ensures case { Forks (fused self.old.fuse (K.state self.old.inner)) parent result (fused self.new.fuse (K.state self.new.inner)) }
+        ensures fuse { self.new.fuse ≡ self.old.fuse }
+        ensures inner { Forks (K.state self.old.inner) parent result (K.state self.new.inner) }
+    {
+        self.inner.fork(parent)
+    }
+
+    fn exit(&mut self, pid: u32) -> Result<(), KernelFault>
+        ensures case { Exits (fused self.old.fuse (K.state self.old.inner)) pid result (fused self.new.fuse (K.state self.new.inner)) }
+        ensures fuse { self.new.fuse ≡ self.old.fuse }
+        ensures inner { Exits (K.state self.old.inner) pid result (K.state self.new.inner) }
+    {
+        self.inner.exit(pid)
+    }
+
+    fn offline(&mut self, cpu: u32) -> Result<(), KernelFault>
+        ensures case { GoesOffline (fused self.old.fuse (K.state self.old.inner)) cpu result (fused self.new.fuse (K.state self.new.inner)) }
+        ensures fuse { self.new.fuse ≡ self.old.fuse }
+        ensures inner { GoesOffline (K.state self.old.inner) cpu result (K.state self.new.inner) }
+    {
+        self.inner.offline(cpu)
+    }
+
+    fn online_cpu(&mut self, cpu: u32) -> Result<(), KernelFault>
+        ensures case { ComesOnline (fused self.old.fuse (K.state self.old.inner)) cpu result (fused self.new.fuse (K.state self.new.inner)) }
+        ensures fuse { self.new.fuse ≡ self.old.fuse }
+        ensures inner { ComesOnline (K.state self.old.inner) cpu result (K.state self.new.inner) }
+    {
+        self.inner.online_cpu(cpu)
+    }
+}

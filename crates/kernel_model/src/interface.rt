@@ -1,0 +1,130 @@
+ghost use Rattle.std.specs.Prelude.{◌≡◌, Some};
+ghost use Rattle.cpuset_tree.specs.LookUps.{root_of, child_of, requested_cpus, requested_mems};
+ghost use Rattle.cpuset_tree.specs.Effective.{effective_cpus, effective_mems};
+ghost use Rattle.proctable.specs.LookUps.{is_alive};
+ghost use Rattle.kernel_model.specs.KernelState.{KernelState};
+ghost use Rattle.kernel_model.specs.Cases.{MakesGroup, RemovesGroup, WritesCpus, WritesMems, Spawns, EndsGroup, Forks, Exits, GoesOffline, ComesOnline, read_of};
+ghost use Rattle.kernel_model.specs.WellFormed.{IsWellFormed};
+
+use crate::{KernelError, KernelFault};
+use cpu_set::IdSet;
+use cpuset_tree::Group;
+
+/// The kernel that a runtime pins containers on.
+///
+/// Its meaning is a plain value: the groups with their parents, names and requested sets, the present, reserved and
+/// online CPUs, the memory nodes, the live processes with their groups and first processes, the next pid and the next
+/// serial, and how many writes failed. Each call is one case of it.
+///
+/// Each of the calls from `make_group` to `end_group` is a write: it may answer [`KernelFault::Failed`] in place of any
+/// other answer, which is counted and changes nothing else.
+pub trait Kernel {
+    ghost state: { Self → KernelState };
+
+    /// Makes a group below the parent, which requests nothing.
+    ///
+    /// Refused, in this order: `NoGroup`, `Exists`, `NoSerials`.
+    fn make_group(&mut self, parent: Group, name: &str) -> Result<Group, KernelError>
+        ensures { MakesGroup (state self.old) parent name.now result (state self.new) };
+
+    /// Removes a group.
+    ///
+    /// Refused, in this order: `NoGroup`, `IsRoot`, `HasChildren`, `HasProcesses`.
+    fn remove_group(&mut self, group: Group) -> Result<(), KernelFault>
+        ensures { RemovesGroup (state self.old) group result (state self.new) };
+
+    /// Writes the CPUs that a group requests.
+    ///
+    /// Refused, in this order: `NoGroup`, `IsRoot`.
+    fn write_cpus(&mut self, group: Group, cpus: IdSet) -> Result<(), KernelFault>
+        ensures { WritesCpus (state self.old) group cpus result (state self.new) };
+
+    /// Writes the memory nodes that a group requests.
+    ///
+    /// Refused, in this order: `NoGroup`, `IsRoot`.
+    fn write_mems(&mut self, group: Group, mems: IdSet) -> Result<(), KernelFault>
+        ensures { WritesMems (state self.old) group mems result (state self.new) };
+
+    /// Makes a first process in a group.
+    ///
+    /// Refused, in this order: `NoGroup`, `NoPids`.
+    fn spawn(&mut self, group: Group) -> Result<u32, KernelError>
+        ensures { Spawns (state self.old) group result (state self.new) };
+
+    /// Ends all processes of a group.
+    ///
+    /// Refused: `NoGroup`.
+    fn end_group(&mut self, group: Group) -> Result<(), KernelFault>
+        ensures { EndsGroup (state self.old) group result (state self.new) };
+
+    /// The group that has no parent.
+    fn root(&self) -> Group
+        ensures root { root_of (state self.now).tree ≡ Some result }
+        ensures well_formed { IsWellFormed (state self.now) };
+
+    /// The group's child of this name, if it has one.
+    ///
+    /// Refused: `NoGroup`.
+    fn find_group(&self, parent: Group, name: &str) -> Result<Option<Group>, KernelFault>
+        ensures { result ≡ read_of (state self.now) parent (child_of (state self.now).tree parent name.now) };
+
+    /// The CPUs that a group requests.
+    ///
+    /// Refused: `NoGroup`.
+    fn requested_cpus(&self, group: Group) -> Result<IdSet, KernelFault>
+        ensures { result ≡ read_of (state self.now) group (requested_cpus (state self.now).tree group) };
+
+    /// The CPUs that a group has in effect.
+    ///
+    /// Refused: `NoGroup`.
+    fn effective_cpus(&self, group: Group) -> Result<IdSet, KernelFault>
+        ensures { result ≡ read_of (state self.now) group (effective_cpus (state self.now).tree group) };
+
+    /// The memory nodes that a group requests.
+    ///
+    /// Refused: `NoGroup`.
+    fn requested_mems(&self, group: Group) -> Result<IdSet, KernelFault>
+        ensures { result ≡ read_of (state self.now) group (requested_mems (state self.now).tree group) };
+
+    /// The memory nodes that a group has in effect.
+    ///
+    /// Refused: `NoGroup`.
+    fn effective_mems(&self, group: Group) -> Result<IdSet, KernelFault>
+        ensures { result ≡ read_of (state self.now) group (effective_mems (state self.now).tree group) };
+
+    /// The CPUs that are online.
+    fn online(&self) -> IdSet
+        ensures { result ≡ (state self.now).tree.online };
+
+    /// All memory nodes.
+    fn nodes(&self) -> IdSet
+        ensures { result ≡ (state self.now).tree.nodes };
+
+    /// Whether a process of this pid is alive.
+    fn first_alive(&self, pid: u32) -> bool
+        ensures { result ≡ is_alive (state self.now).table pid };
+
+    /// A process forks: the new one is in its group and belongs to its first process.
+    ///
+    /// Refused, in this order: `NoProcess`, `NoPids`.
+    fn fork(&mut self, parent: u32) -> Result<u32, KernelError>
+        ensures { Forks (state self.old) parent result (state self.new) };
+
+    /// A process ends, and all that belong to it if it is a first one.
+    ///
+    /// Refused: `NoProcess`.
+    fn exit(&mut self, pid: u32) -> Result<(), KernelFault>
+        ensures { Exits (state self.old) pid result (state self.new) };
+
+    /// A CPU goes offline, or stays so.
+    ///
+    /// Refused, in this order: `NoCpu`, `Reserved`.
+    fn offline(&mut self, cpu: u32) -> Result<(), KernelFault>
+        ensures { GoesOffline (state self.old) cpu result (state self.new) };
+
+    /// A CPU comes online, or stays so.
+    ///
+    /// Refused: `NoCpu`.
+    fn online_cpu(&mut self, cpu: u32) -> Result<(), KernelFault>
+        ensures { ComesOnline (state self.old) cpu result (state self.new) };
+}

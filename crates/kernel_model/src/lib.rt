@@ -1,0 +1,15 @@
+//! The modelled kernel: groups, processes and CPUs in memory, and the trait [`Kernel`] that says what each call of a
+//! kernel answers and changes.
+#![tactic(auto)]
+
+mod call;
+mod faults;
+mod fused_kernel;
+mod interface;
+mod model_kernel;
+
+pub use call::{Call, Reply, make_call, make_calls};
+pub use faults::{KernelError, KernelFault};
+pub use fused_kernel::{Fuse, FusedKernel};
+pub use interface::Kernel;
+pub use model_kernel::ModelKernel;

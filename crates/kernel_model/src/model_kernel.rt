@@ -1,0 +1,172 @@
+ghost use Rattle.std.specs.Prelude.{◌≡◌, ◌≢◌, ◌≤◌, true, false, IfOk, MatchOption};
+ghost use Rattle.std.specs.FinSet as set;
+ghost use Rattle.cpu_set.specs.Members.{IsCpu};
+ghost use Rattle.proctable.specs.declared.TheConstants.{LAST_PID};
+ghost use Rattle.kernel_model.specs.KernelState.{IsFirstKernel};
+
+use crate::{Kernel, KernelError, KernelFault};
+use cpu_set::{CPU_LIMIT, IdSet};
+use cpuset_tree::{Group, Tree};
+use proctable::ProcTable;
+use std::alloc::{AllocError, Global};
+
+/// A kernel in memory, of which no write fails.
+#[derive(Drop)]
+pub struct ModelKernel {
+    tree: Tree,
+    table: ProcTable,
+    present: IdSet,
+    reserved: IdSet,
+}
+
+impl ModelKernel {
+    /// A kernel with its root group alone and no process, whose first process gets this pid.
+    ///
+    /// The only error is want of memory.
+    pub fn new(
+        alloc: Global,
+        present: IdSet,
+        reserved: IdSet,
+        online: IdSet,
+        nodes: IdSet,
+        first_pid: u32,
+    ) -> Result<ModelKernel, AllocError>
+        requires some { reserved ≢ set.empty }
+        requires reserved { set.is_subset reserved online ≡ true }
+        requires online { set.is_subset online present ≡ true }
+        requires low { 2 ≤ first_pid }
+        requires high { first_pid ≤ LAST_PID }
+        ensures { IfOk result (λ k. IsFirstKernel present reserved online nodes first_pid (⟦<ModelKernel as Kernel>⟧.state k)) }
+    {
+        Ok(ModelKernel {
+            tree: Tree::new(alloc, online, nodes, 0)?,
+            table: ProcTable::new(alloc, first_pid),
+            present,
+            reserved,
+        })
+    }
+}
+
+/// The number as one of a present CPU, if it is that.
+fn present_cpu(present: &IdSet, cpu: u32) -> Option<u16>
+    ensures { MatchOption result (set.contains present.now cpu ≡ false) (λ n. (n ≡ cpu) × (set.contains present.now n ≡ true) × IsCpu n) }
+{
+    prove!(present.count() <= u32::from(CPU_LIMIT));
+    match u16::try_from(cpu) {
+        Ok(n) if present.contains(n) => Some(n),
+        _ => None,
+    }
+}
+
+impl Kernel for ModelKernel {
+    ghost state = { λ k. record {
+      tree = k.tree;
+      table = k.table;
+      present = k.present;
+      reserved = k.reserved;
+      failures = 0;
+    } };
+
+    fn make_group(&mut self, parent: Group, name: &str) -> Result<Group, KernelError> {
+        Ok(self.tree.make(parent, name)?)
+    }
+
+    fn remove_group(&mut self, group: Group) -> Result<(), KernelFault> {
+        if self.table.count_in(group) > 0 {
+            self.tree.removable(group)?;
+            return Err(KernelFault::HasProcesses);
+        }
+        Ok(self.tree.remove(group)?)
+    }
+
+    fn write_cpus(&mut self, group: Group, cpus: IdSet) -> Result<(), KernelFault> {
+        Ok(self.tree.write_cpus(group, cpus)?)
+    }
+
+    fn write_mems(&mut self, group: Group, mems: IdSet) -> Result<(), KernelFault> {
+        Ok(self.tree.write_mems(group, mems)?)
+    }
+
+    fn spawn(&mut self, group: Group) -> Result<u32, KernelError> {
+        if !self.tree.contains(group) {
+            return Err(KernelError::Fault(KernelFault::NoGroup));
+        }
+        Ok(self.table.spawn(group)?)
+    }
+
+    fn end_group(&mut self, group: Group) -> Result<(), KernelFault> {
+        if !self.tree.contains(group) {
+            return Err(KernelFault::NoGroup);
+        }
+        self.table.end_in(group);
+        Ok(())
+    }
+
+    fn root(&self) -> Group {
+        self.table.well_formed();
+        self.tree.root()
+    }
+
+    fn find_group(&self, parent: Group, name: &str) -> Result<Option<Group>, KernelFault> {
+        Ok(self.tree.find(parent, name)?)
+    }
+
+    fn requested_cpus(&self, group: Group) -> Result<IdSet, KernelFault> {
+        Ok(self.tree.cpus(group)?)
+    }
+
+    fn effective_cpus(&self, group: Group) -> Result<IdSet, KernelFault> {
+        Ok(self.tree.effective_cpus(group)?)
+    }
+
+    fn requested_mems(&self, group: Group) -> Result<IdSet, KernelFault> {
+        Ok(self.tree.mems(group)?)
+    }
+
+    fn effective_mems(&self, group: Group) -> Result<IdSet, KernelFault> {
+        Ok(self.tree.effective_mems(group)?)
+    }
+
+    fn online(&self) -> IdSet {
+        self.tree.online()
+    }
+
+    fn nodes(&self) -> IdSet {
+        self.tree.nodes()
+    }
+
+    fn first_alive(&self, pid: u32) -> bool {
+        self.table.alive(pid)
+    }
+
+    fn fork(&mut self, parent: u32) -> Result<u32, KernelError> {
+        Ok(self.table.fork(parent)?)
+    }
+
+    fn exit(&mut self, pid: u32) -> Result<(), KernelFault> {
+        Ok(self.table.exit(pid)?)
+    }
+
+    fn offline(&mut self, cpu: u32) -> Result<(), KernelFault> {
+        let Some(cpu) = present_cpu(&self.present, cpu) else {
+            return Err(KernelFault::NoCpu);
+        };
+        if self.reserved.contains(cpu) {
+            return Err(KernelFault::Reserved);
+        }
+        let mut online = self.tree.online();
+        online.remove(cpu);
+        self.tree.set_online(online);
+        Ok(())
+    }
+
+    fn online_cpu(&mut self, cpu: u32) -> Result<(), KernelFault> {
+        let Some(cpu) = present_cpu(&self.present, cpu) else {
+            return Err(KernelFault::NoCpu);
+        };
+        let mut online = self.tree.online();
+        online.insert(cpu);
+        self.tree.set_online(online);
+        Ok(())
+    }
+}
