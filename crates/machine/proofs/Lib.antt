@@ -2,6 +2,7 @@ pub mod ItemLaws
 pub mod ListLaws
 pub mod NodeLaws
 pub mod NodeSteps
+pub mod RowSteps
 pub mod SubsetLaws
 pub mod TextTests
 pub mod TwiceLaws

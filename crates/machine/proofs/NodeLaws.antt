@@ -1,7 +1,7 @@
 -- Which CPUs are present, and in which node.
 use Rattle.std.specs.Prelude.{◌||◌, ◌==◌}
 use Rattle.std.proofs.Common.{◌≡◌, ℕ, zero, suc, ◌<◌, Bool, true, false, inl, inr, nat_lt, List, [], ◌∷◌, length, get_or, Some, refl, sym, ap, ◌∙◌, arith}
-use Rattle.std.specs.Prelude.{fold, position, IsSome}
+use Rattle.std.specs.Prelude.{AllPairs, fold, position, IsSome}
 use Rattle.std.specs.List.{list_any, position_or_len}
 use Rattle.std.proofs.lemmas.Bool.{cases_lt, false≢true}
 use Rattle.std.proofs.lemmas.Bool.Decides.{nat_tests}
@@ -90,3 +90,14 @@ pub apart_from_each :
     → (k : ℕ) (d : Ids) → k < length sets → IsDisjoint (get_or sets k d) s
 apart_from_each sets s apart k d lt n in_one in_s =
     apart n (union_of-has sets n k lt (ap (λ t. set.contains t n) (get_or_default sets k set.empty d lt) ∙ in_one)) in_s
+
+-- where no CPU is in two nodes, a CPU is of one node alone
+pub of_one_node : (m : Layout) (c i j : ℕ) → AllPairs IsDisjoint m.nodes → IsOfNode m c i → IsOfNode m c j → i ≡ j
+of_one_node m c i j apart in_i in_j =
+    elim (cases_lt i j) [
+      | inl less ↦ absurd (apart i j set.empty less in_j.is_node c in_i.has_cpu in_j.has_cpu)
+      | inr not_less ↦ elim (cases_lt j i) [
+        | inl more ↦ absurd (apart j i set.empty more in_i.is_node c in_j.has_cpu in_i.has_cpu)
+        | inr same ↦ omega arith
+      ]
+    ]

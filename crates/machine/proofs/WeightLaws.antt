@@ -80,7 +80,7 @@ pub least_below-IsLeast :
     (m : Layout) (homes : Ids) (i : ℕ) → IsSound m → AreHomes m homes → i < node_count m
     → IsLeast m homes i (least_below m homes i (node_count m))
 least_below-IsLeast m homes i sound are is_node =
-    let below = least_below-IsLeastBelow m homes i (node_count m) (λ h lt. (sound.distances i h is_node lt).at_most) in
+    let below = least_below-IsLeastBelow m homes i (node_count m) (λ h lt. (sound.distances.rows i is_node h lt).at_most) in
     record {
       reached = elim below.reached [
         | inl none ↦ absurd (no_homes m homes are none.1)

@@ -9,11 +9,15 @@ abbrev pub fault_of : {A : Type 0} → Result A MachineFault → Option MachineF
 fault_of (Ok x) = None
 fault_of (Err e) = Some e
 
+-- the error is this fault, or want of memory
+abbrev pub IsErrorOf : MachineError → Option MachineFault → Type 0
+IsErrorOf Memory fault = Unit {0}
+IsErrorOf (Fault e) fault = fault ≡ Some e
+
 -- the fault that is answered, where memory sufficed
 abbrev pub Meets : {A : Type 0} → Result A MachineError → Option MachineFault → Type 0
 Meets (Ok x) fault = fault ≡ None
-Meets (Err Memory) fault = Unit {0}
-Meets (Err (Fault e)) fault = fault ≡ Some e
+Meets (Err e) fault = IsErrorOf e fault
 
 -- the answer is the expected one, unless memory ran out
 abbrev pub Gives : {A : Type 0} → Result A MachineError → Result A MachineFault → Type 0

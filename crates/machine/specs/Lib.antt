@@ -10,3 +10,5 @@ pub mod Listed
 pub mod KindFaults
 pub mod NodesFault
 pub mod Answers
+pub mod Distances
+pub mod DistancesFault

@@ -9,6 +9,7 @@ mod fault;
 mod field;
 mod lookup;
 mod node_sets;
+mod table;
 mod topology;
 
 pub use fault::{MachineError, MachineFault};

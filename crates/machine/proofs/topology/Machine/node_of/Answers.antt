@@ -1,5 +1,5 @@
 use Rattle.std.proofs.Common.{sym, ◌∙◌}
-use Rattle.machine.proofs.NodeLaws.{IsOfNode-first, IsOfNode-at}
+use Rattle.machine.proofs.NodeLaws.{IsOfNode-first, IsOfNode-at, of_one_node}
 use Rattle.machine.proofs.topology.Machine.node_of.Goals as goal
 
 pub unwrap-requires : goal.unwrap-requires
@@ -11,5 +11,5 @@ returns-clause-node c =
 
 pub returns-clause-only : goal.returns-clause-only
 returns-clause-only c = λ i of_node.
-    c.first_with.ensures.sound.apart c.args.cpu i _ of_node
+    of_one_node c.args.self.now c.args.cpu i _ c.first_with.ensures.sound.apart of_node
     (IsOfNode-at c.args.self.now c.args.cpu _ (sym c.first_with.ensures.place ∙ c.unwrap.ensures))
