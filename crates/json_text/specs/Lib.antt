@@ -1,0 +1,2 @@
+pub mod JsonOf
+pub mod Members

@@ -1,0 +1,10 @@
+//! JSON text as a value, and the members of its objects: what the readers of JSON files share.
+//!
+//! The text is read by `serde_json`. Contracts name the value by that crate's own reading of the bytes.
+#![tactic(auto)]
+
+mod lookup;
+mod parsing;
+
+pub use lookup::{inner, member};
+pub use parsing::{JsonError, parse};
