@@ -1,3 +1,4 @@
+pub mod BootLaws
 pub mod ItemLaws
 pub mod ListLaws
 pub mod NodeLaws

@@ -3,14 +3,12 @@ use Rattle.std.proofs.Common.{◌≡◌, ℕ, ◌<◌, ◌+◌, Bool, true, fals
 use Rattle.std.specs.Prelude.{◌||◌, option_map}
 use Rattle.std.specs.List.{list_any}
 use Rattle.std.specs.Option.{option_or}
-use Rattle.std.proofs.lemmas.Bool.{true≢false, false≢true}
+use Rattle.std.proofs.lemmas.Bool.{false≢true}
 use Rattle.std.proofs.lemmas.Bool.Decides.{nat_tests}
 use Rattle.std.proofs.lemmas.Grind.{common_steps}
-use Rattle.std.specs.FinSet as set
 use Rattle.faults.specs.First.{first_of}
-use Rattle.cpu_list.specs.declared.list_error.ListError.{ListError}
 use Rattle.cpu_list.specs.FirstFault.{first_fault, faults_from, piece_fault, item_fault, range_fault}
-use Rattle.cpu_list.specs.ListText.{names, piece_names, range_names, range_of, item_of, indent, pieces, IsSetOf}
+use Rattle.cpu_list.specs.ListText.{names, piece_names, range_names, range_of, item_of, pieces, IsSetOf}
 use Rattle.cpu_list.proofs.Pieces.{range_of-nil}
 use Rattle.cpu_set.specs.FlagLaws.{contains-those}
 use Rattle.cpu_set.specs.Ids.{Ids}
@@ -62,5 +60,5 @@ pub IsSetOf-set_of : (text : List ℕ) (s : Ids) → first_fault CPU_LIMIT text 
 unfolding set_of
 IsSetOf-set_of text s none is =
     same_members s _ (λ q. is q ∙ passes (nat_lt q CPU_LIMIT) (names text q)
-      (λ named. below_test q CPU_LIMIT (pieces_within CPU_LIMIT 0 q (pieces text) none named))
+    (λ named. below_test q CPU_LIMIT (pieces_within CPU_LIMIT 0 q (pieces text) none named))
     ∙ sym (contains-those (names text) CPU_LIMIT q))

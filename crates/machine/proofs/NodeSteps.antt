@@ -1,18 +1,14 @@
 -- Reading the nodes one by one.
-use Rattle.std.proofs.Common.{◌≡◌, ℕ, ◌+◌, ◌<◌, ◌≤◌, inl, inr, true, false, List, [], ◌∷◌, ◌++◌, length, get_or, map, take, Option, Some, None, refl, sym, ap, ◌∙◌, subst, arith}
-use Rattle.std.specs.Prelude.{AllPairs, fold, ◌||◌, ◌==◌, nat_lt}
-use Rattle.std.specs.Option.{option_or}
+use Rattle.std.proofs.Common.{◌≡◌, ℕ, ◌+◌, ◌<◌, inl, inr, List, [], ◌∷◌, ◌++◌, length, get_or, map, take, Option, Some, None, refl, sym, ap, ◌∙◌, arith}
+use Rattle.std.specs.Prelude.{AllPairs}
 use Rattle.std.proofs.lemmas.Bool.{cases_lt}
-use Rattle.std.proofs.lemmas.Bool.Decides.{nat_tests}
 use Rattle.std.proofs.lemmas.List.{take_more, take_all, map-append}
 use Rattle.std.proofs.lemmas.List.Quantifiers.{all_pairs_push}
 use Rattle.std.proofs.lemmas.List.Sums.{fold_push}
 use Rattle.std.specs.FinSet as set
-use Rattle.faults.specs.First.{first_below}
 use Rattle.faults.proofs.FirstBelow.{first_below-none, first_below-at}
 use Rattle.serde_json.specs.Data.{Data, null}
 use Rattle.cpu_set.specs.Ids.{Ids, IsDisjoint}
-use Rattle.machine.specs.declared.TheConstants.{NODE_LIMIT}
 use Rattle.machine.specs.declared.fault.MachineFault.{MachineFault}
 use Rattle.machine.specs.Listed.{listed}
 use Rattle.machine.specs.NodesFault.{node_fault, first_node_fault}

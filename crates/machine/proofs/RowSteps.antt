@@ -10,7 +10,6 @@ use Rattle.std.proofs.lemmas.List.{take_more, take_all, map-append, length-map, 
 use Rattle.std.proofs.lemmas.List.Concat.{get_or-flat_map}
 use Rattle.std.proofs.lemmas.List.Folds.{list_all_at}
 use Rattle.std.proofs.lemmas.Grind.{common_steps}
-use Rattle.faults.specs.First.{first_below}
 use Rattle.faults.proofs.FirstBelow.{first_below-none, first_below-at}
 use Rattle.serde_json.specs.Data.{Data, null}
 use Rattle.slit.specs.AreDistances.{IsEntry}
@@ -102,7 +101,7 @@ AreRowsRead-more ds i entries more rows lt none allowed added = record {
     | inl before ↦ rows.allowed k before
     | inr last ↦ let same : k ≡ i = omega arith in rw same allowed
   ];
-  read = added ∙ ap (λ front. front ++ row_entries (get_or ds i null)) rows.read 
+  read = added ∙ ap (λ front. front ++ row_entries (get_or ds i null)) rows.read
       ∙ flat_map_more row_entries [] (take i ds) (get_or ds i null) ∙ ap (flat_map row_entries) (sym (take_more ds i null lt));
 }
 

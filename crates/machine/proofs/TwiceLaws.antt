@@ -1,5 +1,5 @@
 -- The least CPU that two sets share.
-use Rattle.std.proofs.Common.{◌≡◌, ℕ, ◌<◌, ◌&&◌, true, false, Some, None, sym, ap, ◌∙◌, arith}
+use Rattle.std.proofs.Common.{◌≡◌, ℕ, ◌&&◌, Some, None, sym, ap, ◌∙◌, arith}
 use Rattle.std.specs.FinSet as set
 use Rattle.faults.proofs.FirstBelow.{first_below-none, first_below-at}
 use Rattle.faults.specs.First.{when}
@@ -8,7 +8,6 @@ use Rattle.cpu_set.specs.Members.{IsCpu}
 use Rattle.cpu_set.specs.Pointwise.{contains-intersection}
 use Rattle.cpu_set.proofs.SetLaws.{empty_of_none, meet_empty-IsDisjoint}
 use Rattle.cpu_set.specs.declared.TheConstants.{CPU_LIMIT}
-use Rattle.machine.specs.declared.fault.MachineFault.{MachineFault}
 use Rattle.machine.specs.declared.fault.MachineFault.TheVariants.{CpuTwice}
 use Rattle.machine.specs.NodesFault.{twice_fault}
 

@@ -1,5 +1,5 @@
 -- The distances that a machine file or a SLIT gives.
-use Rattle.std.specs.Prelude.{◌≡◌, ℕ, ◌<◌, ◌*◌, List, [], length, map, Option, Some, None, option_and_then, unwrap_or, slice_index_or}
+use Rattle.std.specs.Prelude.{◌≡◌, ℕ, ◌<◌, ◌*◌, List, length, map, Option, Some, None, option_and_then, unwrap_or, slice_index_or}
 use Rattle.std.specs.List.{flat_map}
 use Rattle.serde_json.specs.Data.{Data, null}
 use Rattle.serde_json.specs.Find.{as_number, as_u64}

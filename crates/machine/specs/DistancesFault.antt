@@ -10,7 +10,7 @@ use Rattle.machine.specs.declared.fault.MachineFault.TheVariants.{BadField, Both
 use Rattle.machine.specs.declared.field.Field.TheVariants.{Distances}
 use Rattle.machine.specs.Distances.{number_of}
 use Rattle.machine.specs.KindFaults.{array_fault}
-use Rattle.machine.specs.Members.{items_of, items_in}
+use Rattle.machine.specs.Members.{items_of}
 
 -- the entry in row i and column j is no whole number, or not a distance that may stand there
 abbrev pub entry_fault : ℕ → ℕ → Option ℕ → Option MachineFault
@@ -28,17 +28,17 @@ rows_fault rows = first_below (length rows) (λ i. row_fault i (items_of (slice_
 -- one of the rows is no array, or there are not n rows of n entries
 unfoldable pub shape_fault : ℕ → List Data → Option MachineFault
 shape_fault n rows = first_of (
-      when (not (list_all (λ row. is_some (as_array row)) rows)) (BadField Distances)
+    when (not (list_all (λ row. is_some (as_array row)) rows)) (BadField Distances)
     ∷ when (not (length rows == n && list_all (λ row. length (items_of row) == n) rows)) WrongSize
     ∷ [])
 
 -- the first fault of the distances between n nodes: they stand in one of two places, and nowhere else
-abbrev pub distances_fault : Option Table → Option Data → ℕ → Option MachineFault
+unfoldable pub distances_fault : Option Table → Option Data → ℕ → Option MachineFault
 distances_fault (Some t) (Some d) n = Some BothDistances
 distances_fault None None n = Some NoDistances
 distances_fault (Some t) None n = when (not (t.localities == n)) WrongSize
 distances_fault None (Some d) n = first_of (
-      array_fault Distances (Some d)
+    array_fault Distances (Some d)
     ∷ shape_fault n (items_of d)
     ∷ rows_fault (items_of d)
     ∷ [])

@@ -1,4 +1,4 @@
-use Rattle.std.specs.Prelude.{◌≡◌, ◌≢◌, ℕ, ◌≤◌, true, AllPairs}
+use Rattle.std.specs.Prelude.{◌≡◌, ◌≢◌, ◌≤◌, true, AllPairs}
 use Rattle.std.specs.FinSet as set
 use Rattle.cpu_set.specs.Ids.{IsDisjoint}
 use Rattle.machine.specs.declared.TheConstants.{NODE_LIMIT}

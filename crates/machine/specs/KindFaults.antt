@@ -1,5 +1,5 @@
 -- What may be wrong with a member's kind.
-use Rattle.std.specs.Prelude.{Option, Some, None, not, is_some, option_and_then}
+use Rattle.std.specs.Prelude.{Option, not, is_some, option_and_then}
 use Rattle.faults.specs.First.{when}
 use Rattle.serde_json.specs.Data.{Data}
 use Rattle.serde_json.specs.Find.{as_array}

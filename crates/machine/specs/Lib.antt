@@ -12,3 +12,5 @@ pub mod NodesFault
 pub mod Answers
 pub mod Distances
 pub mod DistancesFault
+pub mod BootFaults
+pub mod MachineOf

@@ -1,4 +1,4 @@
-use Rattle.std.specs.Prelude.{ℕ, ◌||◌, ◌&&◌, ◌==◌, nat_lt, List, [], ◌∷◌, length, take, map, slice_index_or, Option}
+use Rattle.std.specs.Prelude.{◌||◌, ◌&&◌, ◌==◌, nat_lt, List, [], ◌∷◌, length, take, map, slice_index_or, Option}
 use Rattle.faults.specs.First.{when, first_of, first_below}
 use Rattle.std.specs.FinSet as set
 use Rattle.serde_json.specs.Data.{Data, null}
@@ -28,6 +28,6 @@ first_node_fault items =
 -- there are too few or too many nodes, or one of them is at fault
 unfoldable pub nodes_fault : List Data → Option MachineFault
 nodes_fault items = first_of (
-      when (length items == 0 || nat_lt NODE_LIMIT (length items)) NodeCount
+    when (length items == 0 || nat_lt NODE_LIMIT (length items)) NodeCount
     ∷ first_node_fault items
     ∷ [])

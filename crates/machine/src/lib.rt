@@ -5,6 +5,7 @@
 //! 10 to 255 to another, where 255 says that it can't be reached. The two ways may differ.
 #![tactic(auto)]
 
+mod boot;
 mod fault;
 mod field;
 mod lookup;

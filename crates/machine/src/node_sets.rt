@@ -70,3 +70,11 @@ fn check_apart(cpus: &IdSet, earlier: &IdSet) -> Result<(), MachineFault>
         None => Ok(()),
     }
 }
+
+/// The CPUs that are in one of the sets.
+pub(crate) fn union_of(sets: &[IdSet]) -> IdSet
+    ensures { result ≡ union_of sets.now }
+{
+    sets.iter()
+        .fold(IdSet::empty(), |all, cpus| all.union(cpus))
+}

@@ -18,6 +18,7 @@ use slit::Slit;
 use std::alloc::{AllocError, Global};
 
 /// The distances between so many nodes by rows, from one of the two places where they may stand.
+#[tactic(auto, unfolding(crate::specs::DistancesFault::distances_fault))]
 pub(crate) fn read_distances(
     alloc: Global,
     found: Option<&Value>,
@@ -37,6 +38,7 @@ pub(crate) fn read_distances(
 }
 
 /// The distances of a SLIT, which has to be of so many localities.
+#[tactic(auto, unfolding(crate::specs::DistancesFault::distances_fault))]
 fn from_slit(alloc: Global, slit: &Slit, count: usize) -> Result<Vec<u8>, MachineError>
     ensures fault { Meets result (distances_fault (Some slit.now) None count) }
     ensures entries { IfOk result (λ v. v.items ≡ slit.now.entries) }
@@ -61,6 +63,7 @@ fn copied(alloc: Global, slit: &Slit) -> Result<Vec<u8>, AllocError>
 }
 
 /// The distances of the member: rows of as many entries as there are nodes.
+#[tactic(auto, unfolding(crate::specs::DistancesFault::distances_fault))]
 fn from_rows(alloc: Global, rows: &Value, count: usize) -> Result<Vec<u8>, MachineError>
     ensures fault { Meets result (distances_fault None (Some (view rows.now)) count) }
     ensures entries { IfOk result (λ v. v.items ≡ distances_in None (Some (view rows.now))) }

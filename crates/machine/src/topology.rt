@@ -1,12 +1,22 @@
-ghost use Rattle.std.specs.Prelude.{◌≡◌, ◌≢◌, ℕ, ◌<◌, ◌≤◌, ◌↔◌, true, nat_lt, position};
+ghost use Rattle.std.specs.Prelude.{◌≡◌, ◌≢◌, ℕ, ◌<◌, ◌≤◌, ◌↔◌, true, nat_lt, position, length, option_map, Err, IfOk};
+ghost use Rattle.serde_json.specs.View.{view};
 ghost use Rattle.std.specs.FinSet as set;
 ghost use Rattle.machine.specs.Layout.{Layout, node_count, distance};
 ghost use Rattle.machine.specs.Present.{present, IsPresent};
 ghost use Rattle.machine.specs.Nodes.{nodes_of, node_of, IsOfNode};
 ghost use Rattle.machine.specs.Weight.{weight, IsWeight, AreHomes};
 
-use crate::UNREACHABLE;
+use crate::boot::{read_offline, read_reserved};
+use crate::fault::{MachineError, MachineFault};
+use crate::field::Field;
+use crate::lookup::{array, member, parse};
+use crate::node_sets::{read_nodes, union_of};
+use crate::table::read_distances;
+use crate::{MAX_BYTES, UNREACHABLE};
 use cpu_set::IdSet;
+use serde_json::Value;
+use slit::Slit;
+use std::alloc::Global;
 use std::marker::Model;
 
 /// The nodes of a machine with their CPUs and distances, its reserved CPUs, and those online at boot.
@@ -46,6 +56,53 @@ impl Model for Machine {
 
 impl Machine {
     ghost use Rattle.machine.specs.IsSound.{IsSound};
+    ghost use Rattle.machine.specs.MachineOf.{said_by, value_fault, machine_of};
+    ghost use Rattle.machine.specs.Answers.{Meets, Gives};
+
+    /// Reads a machine file: a JSON object with the members `nodes`, `distances`, `reserved` and `offline`.
+    ///
+    /// `nodes` has a list of CPUs as text for each node, node 0 first; an empty text is a node without
+    /// CPUs. `distances` has a row of whole numbers for each node; it is absent where a SLIT is given.
+    /// `reserved` is a list as text, and so is `offline`, which may be absent. A member that is null
+    /// counts as absent, of one that stands twice the last counts, and all others are ignored.
+    ///
+    /// # Errors
+    ///
+    /// The first fault in the order of [`MachineFault`], where the nodes are checked one by one, and the
+    /// distances entry by entry in rows. [`MachineError::Memory`] is answered where a growth was refused.
+    #[tactic(auto, unfolding(crate::specs::MachineOf::machine_of))]
+    pub fn read(alloc: Global, json: &[u8], slit: Option<&Slit>) -> Result<Machine, MachineError>
+        ensures machine { Gives result (machine_of (option_map (λ s. s.now) slit.entry) json.now) }
+        ensures long { MAX_BYTES < length json.now → result ≡ Err (MachineError.Fault MachineFault.NotJson) }
+    {
+        if json.len() > MAX_BYTES {
+            return Err(MachineError::Fault(MachineFault::NotJson));
+        }
+        let value = parse(alloc, json)?;
+        Machine::describe(alloc, &value, slit)
+    }
+
+    /// The machine that a JSON value describes.
+    fn describe(alloc: Global, value: &Value, slit: Option<&Slit>) -> Result<Machine, MachineError>
+        ensures fault { Meets result (value_fault (option_map (λ s. s.now) slit.entry) (view value.now)) }
+        ensures said { IfOk result (λ m. m ≡ said_by (option_map (λ s. s.now) slit.entry) (view value.now)) }
+    {
+        if !value.is_object() {
+            return Err(MachineError::Fault(MachineFault::NotJson));
+        }
+        let items = array(member(value, "nodes"), Field::Nodes)?;
+        let nodes = read_nodes(alloc, items)?;
+        let distances = read_distances(alloc, member(value, "distances"), slit, items.len())?;
+        let present = union_of(&nodes);
+        let reserved = read_reserved(member(value, "reserved"), &present)?;
+        let offline = read_offline(member(value, "offline"), &present, &reserved)?;
+        Ok(Machine {
+            nodes,
+            distances,
+            reserved,
+            online: present.minus(&offline),
+        })
+    }
 
     /// The CPUs of all nodes.
     pub fn present(&self) -> IdSet
@@ -58,9 +115,7 @@ impl Machine {
     fn union(&self) -> IdSet
         ensures { result ≡ present self.now }
     {
-        self.nodes
-            .iter()
-            .fold(IdSet::empty(), |all, cpus| all.union(cpus))
+        union_of(&self.nodes)
     }
 
     fn count(&self) -> usize

@@ -1,9 +1,6 @@
-use Rattle.std.proofs.Common.{◌≡◌, ◌++◌, [], ◌∷◌, length, map, get_or, sym, ◌∙◌, arith}
+use Rattle.std.proofs.Common.{◌≡◌, ◌++◌, [], ◌∷◌, arith}
 use Rattle.std.proofs.lemmas.Grind.{common_steps}
-use Rattle.std.proofs.lemmas.List.{length-map}
 use Rattle.std.proofs.lemmas.Result.{err_from_is_err_and}
-use Rattle.serde_json.specs.Data.{null}
-use Rattle.serde_json.specs.View.{view}
 use Rattle.machine.proofs.ItemLaws.{item_view, item_within, item_last}
 use Rattle.machine.proofs.NodeSteps.{AreRead-none, AreRead-more, AreRead-fault, AreRead-all}
 use Rattle.machine.proofs.node_sets.read_sets.Goals as goal
@@ -17,7 +14,7 @@ loop-item-preserved c =
     let pushed : c.push.new.self.items ≡ c.loop-item.nodes.items ++ c.in_ok-cpus.cpus ∷ [] = grind (arith, common_steps) in
     rw c.union-earlier.ensures
     (AreRead-more _ _ _ _ _ _ c.loop-item.invariant (item_within _ _ c.loop-item-test.true)
-      (rw (← is) c.in_ok-cpus.ensures.fault) (rw (← is) c.in_ok-cpus.ensures.cpus) c.in_ok-cpus.ensures.apart pushed)
+    (rw (← is) c.in_ok-cpus.ensures.fault) (rw (← is) c.in_ok-cpus.ensures.cpus) c.in_ok-cpus.ensures.apart pushed)
 
 pub returns-in_err-cpus-clause-fault : goal.returns-in_err-cpus-clause-fault
 returns-in_err-cpus-clause-fault c =

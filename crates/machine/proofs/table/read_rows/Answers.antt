@@ -1,7 +1,5 @@
-use Rattle.std.proofs.Common.{◌≡◌, get_or, map, ap, ◌∙◌, arith}
+use Rattle.std.proofs.Common.{ap, ◌∙◌}
 use Rattle.std.proofs.lemmas.Result.{err_from_is_err_and}
-use Rattle.serde_json.specs.Data.{null}
-use Rattle.serde_json.specs.View.{view}
 use Rattle.machine.specs.Members.{items_of}
 use Rattle.machine.proofs.ItemLaws.{item_view, item_within, item_last}
 use Rattle.machine.proofs.RowSteps.{AreRowsRead-more, AreRowsRead-fault, AreRowsRead-all, IsErrorOf-weaker}
@@ -21,8 +19,8 @@ returns-in_err-read_row-clause-fault c =
     let cells = c.cells.ensures.cells ∙ ap items_of is in
     rw (p.1, p.2)
     (IsErrorOf-weaker _ _ _
-      (λ f at. AreRowsRead-fault _ _ _ f c.loop-i.invariant (item_within _ _ c.loop-i-test.true) (rw (← cells) at))
-      c.in_err-read_row.ensures.fault)
+    (λ f at. AreRowsRead-fault _ _ _ f c.loop-i.invariant (item_within _ _ c.loop-i-test.true) (rw (← cells) at))
+    c.in_err-read_row.ensures.fault)
 
 pub returns-clause-fault : goal.returns-clause-fault
 returns-clause-fault c =
