@@ -19,6 +19,7 @@ mod price_table;
 mod problems;
 mod row_checks;
 mod rows;
+mod text;
 mod value_checks;
 
 pub use certificates::Certificate;
@@ -30,3 +31,4 @@ pub use plans::Plan;
 pub use price_lists::{Price, Prices};
 pub use problems::Problem;
 pub use rows::{Offer, Row};
+pub use text::{ID_LIMIT, TextError, is_id, one_certificate, read_text};

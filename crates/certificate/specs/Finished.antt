@@ -1,0 +1,20 @@
+-- The certificate of a draft to which nothing can be added.
+use Rattle.std.specs.Prelude.{Option, Some, None}
+use Rattle.certificate.specs.declared.certificates.Certificate.{Certificate}
+use Rattle.certificate.specs.declared.certificates.Certificate.TheVariants.{Plan}
+use Rattle.certificate.specs.declared.text.draft.Stage.{Stage}
+use Rattle.certificate.specs.declared.text.draft.Stage.TheVariants.{Start, Body, Totalled, Ended}
+use Rattle.certificate.specs.DraftView.{DraftView}
+
+-- what the draft says
+abbrev pub said_by : DraftView → Certificate
+said_by d = Plan d.rows d.sets (record { values = d.values; of_cpu = d.prices }) d.total
+
+abbrev pub finished_at : Stage → DraftView → Option Certificate
+finished_at Ended d = Some (said_by d)
+finished_at Start d = None
+finished_at Body d = None
+finished_at Totalled d = None
+
+abbrev pub finished : DraftView → Option Certificate
+finished d = finished_at d.stage d

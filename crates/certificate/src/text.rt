@@ -1,0 +1,16 @@
+mod cut;
+mod decimal;
+mod draft;
+mod id;
+mod laws;
+mod line_fault;
+mod line_words;
+mod list_word;
+mod offer;
+mod reading;
+mod taking;
+mod word_pairs;
+
+pub use id::{ID_LIMIT, is_id};
+pub use laws::one_certificate;
+pub use reading::{TextError, read_text};

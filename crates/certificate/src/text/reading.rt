@@ -1,0 +1,48 @@
+ghost use Rattle.std.specs.Prelude.{IfOk, IfErr};
+ghost use Rattle.certificate.specs.CertificateText.{IsText};
+ghost use Rattle.certificate.specs.TextError.{IsTextError};
+
+use super::cut::cut;
+use super::draft::{Draft, finish, new_draft};
+use super::line_fault::LineFault;
+use super::taking::take_line;
+use crate::Certificate;
+use std::alloc::Global;
+
+/// Why no certificate was read from a text.
+#[derive(Clone, Copy, Debug, PartialEq, Eq)]
+pub enum TextError {
+    /// E1: there was no memory for what the text says.
+    Memory,
+    /// E77: the text is no certificate; the first line, counted from 1, that can't follow the lines before it.
+    BadText(u64),
+}
+
+/// Reads a certificate from its text, in one pass.
+///
+/// # Errors
+/// `Memory`, and `BadText` where the text is no certificate's.
+pub fn read_text(alloc: Global, text: &[u8]) -> Result<Certificate, TextError>
+    ensures ok { IfOk result (λ c. IsText text.now c) }
+    ensures bad { IfErr result (λ e. IsTextError text.now e) }
+{
+    let mut draft = new_draft(alloc);
+    let mut rest = text;
+    let mut number = 1;
+    while let Some((line, after)) = cut(rest, b'\n') {
+        match take_line(alloc, &mut draft, line) {
+            Ok(()) => {}
+            Err(LineFault::Memory) => return Err(TextError::Memory),
+            Err(LineFault::Bad) => return Err(TextError::BadText(number)),
+        }
+        rest = after;
+        number += 1;
+    }
+    if !rest.is_empty() {
+        return Err(TextError::BadText(number));
+    }
+    match finish(draft) {
+        Some(certificate) => Ok(certificate),
+        None => Err(TextError::BadText(number)),
+    }
+}

@@ -1,0 +1,108 @@
+ghost use Rattle.std.specs.Prelude.{◌≡◌, List, ℕ, Some, None, OnOk, IfErr};
+ghost use Rattle.certificate.specs.Line.{LineView, RowLine, HoldLine, PriceLine, TotalLine, words, AreRowWords, AreHoldWords, ArePriceWords, AreTotalWords, Spells};
+ghost use Rattle.certificate.specs.RowView.{RowView};
+ghost use Rattle.cpu_set.specs.Ids.{Ids};
+ghost use Rattle.certificate.specs.declared.price_lists.Price.{Price};
+ghost use Rattle.certificate.specs.DraftView.{next, next_in_body};
+ghost use Rattle.certificate.specs.DraftRead.{draft_view, KnowsIds};
+
+use super::cut::cut;
+use super::draft::{Draft, Stage, add_hold, add_price, add_row, add_total};
+use super::line_fault::LineFault;
+use super::line_words::{read_hold, read_price, read_row, read_total};
+use std::alloc::Global;
+
+fn take_row(alloc: Global, draft: &mut Draft, text: &[u8]) -> Result<(), LineFault>
+    requires { KnowsIds draft.old }
+    ensures ids { OnOk result (KnowsIds draft.new) }
+    ensures ok { OnOk result ((row : RowView) × AreRowWords (words text.now) row × (next_in_body (draft_view draft.old) (RowLine row) ≡ Some (draft_view draft.new))) }
+    ensures bad { IfErr result (λ fault. fault ≡ LineFault.Bad → (row : RowView) → AreRowWords (words text.now) row → next_in_body (draft_view draft.old) (RowLine row) ≡ None) }
+{
+    add_row(draft, read_row(alloc, text)?)
+}
+
+fn take_hold(draft: &mut Draft, text: &[u8]) -> Result<(), LineFault>
+    requires { KnowsIds draft.old }
+    ensures ids { OnOk result (KnowsIds draft.new) }
+    ensures ok { OnOk result ((id : List ℕ) × (cpus : Ids) × (value : ℕ) × AreHoldWords (words text.now) id cpus value × (next_in_body (draft_view draft.old) (HoldLine id cpus value) ≡ Some (draft_view draft.new))) }
+    ensures bad { IfErr result (λ fault. fault ≡ LineFault.Bad → (id : List ℕ) (cpus : Ids) (value : ℕ) → AreHoldWords (words text.now) id cpus value → next_in_body (draft_view draft.old) (HoldLine id cpus value) ≡ None) }
+{
+    let Some(hold) = read_hold(text) else {
+        return Err(LineFault::Bad);
+    };
+    add_hold(draft, hold.id, hold.cpus, hold.value)
+}
+
+fn take_price(draft: &mut Draft, text: &[u8]) -> Result<(), LineFault>
+    requires { KnowsIds draft.old }
+    ensures ids { OnOk result (KnowsIds draft.new) }
+    ensures ok { OnOk result ((price : Price) × ArePriceWords (words text.now) price × (next_in_body (draft_view draft.old) (PriceLine price) ≡ Some (draft_view draft.new))) }
+    ensures bad { IfErr result (λ fault. fault ≡ LineFault.Bad → (price : Price) → ArePriceWords (words text.now) price → next_in_body (draft_view draft.old) (PriceLine price) ≡ None) }
+{
+    let Some(price) = read_price(text) else {
+        return Err(LineFault::Bad);
+    };
+    add_price(draft, price)
+}
+
+fn take_total(draft: &mut Draft, text: &[u8]) -> Result<(), LineFault>
+    requires { KnowsIds draft.old }
+    ensures ids { OnOk result (KnowsIds draft.new) }
+    ensures ok { OnOk result ((total : ℕ) × AreTotalWords (words text.now) total × (next_in_body (draft_view draft.old) (TotalLine total) ≡ Some (draft_view draft.new))) }
+    ensures bad { IfErr result (λ fault. fault ≡ LineFault.Bad → (total : ℕ) → AreTotalWords (words text.now) total → next_in_body (draft_view draft.old) (TotalLine total) ≡ None) }
+{
+    let Some(total) = read_total(text) else {
+        return Err(LineFault::Bad);
+    };
+    add_total(draft, total)
+}
+
+fn take_in_body(alloc: Global, draft: &mut Draft, line: &[u8]) -> Result<(), LineFault>
+    requires { KnowsIds draft.old }
+    ensures ids { OnOk result (KnowsIds draft.new) }
+    ensures ok { OnOk result ((l : LineView) × Spells line.now l × (next_in_body (draft_view draft.old) l ≡ Some (draft_view draft.new))) }
+    ensures bad { IfErr result (λ fault. fault ≡ LineFault.Bad → (l : LineView) → Spells line.now l → next_in_body (draft_view draft.old) l ≡ None) }
+{
+    let Some((kind, text)) = cut(line, b' ') else {
+        return Err(LineFault::Bad);
+    };
+    if kind == b"row".as_slice() {
+        return take_row(alloc, draft, text);
+    }
+    if kind == b"hold".as_slice() {
+        return take_hold(draft, text);
+    }
+    if kind == b"price".as_slice() {
+        return take_price(draft, text);
+    }
+    if kind == b"total".as_slice() {
+        return take_total(draft, text);
+    }
+    Err(LineFault::Bad)
+}
+
+pub fn take_line(alloc: Global, draft: &mut Draft, line: &[u8]) -> Result<(), LineFault>
+    requires { KnowsIds draft.old }
+    ensures ids { OnOk result (KnowsIds draft.new) }
+    ensures ok { OnOk result ((l : LineView) × Spells line.now l × (next (draft_view draft.old) l ≡ Some (draft_view draft.new))) }
+    ensures bad { IfErr result (λ fault. fault ≡ LineFault.Bad → (l : LineView) → Spells line.now l → next (draft_view draft.old) l ≡ None) }
+{
+    match draft.stage {
+        Stage::Start => {
+            if line != b"numarun-certificate 1".as_slice() {
+                return Err(LineFault::Bad);
+            }
+            draft.stage = Stage::Body;
+            Ok(())
+        }
+        Stage::Body => take_in_body(alloc, draft, line),
+        Stage::Totalled => {
+            if line != b"end".as_slice() {
+                return Err(LineFault::Bad);
+            }
+            draft.stage = Stage::Ended;
+            Ok(())
+        }
+        Stage::Ended => Err(LineFault::Bad),
+    }
+}
