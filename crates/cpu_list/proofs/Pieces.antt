@@ -54,7 +54,7 @@ pub range_of-nil : range_of [] ≡ None
 unfolding range_of number_of
 range_of-nil = refl
 
-or_false : (b : Bool) → b ≡ (b || false)
+pub or_false : (b : Bool) → b ≡ (b || false)
 or_false true = refl
 or_false false = refl
 

@@ -1,21 +1,22 @@
 -- Which bytes a printed text has, and when it has none.
-use Rattle.std.proofs.Common.{◌≡◌, ℕ, ◌+◌, ◌^◌, ◌<◌, ◌≤◌, Bool, true, false, ◌&&◌, nat_le, nat_lt, List, [], ◌∷◌, ◌++◌, length, decimal, refl, sym, ap, subst, ◌∙◌, ⊎_elim, length-append, arith}
+use Rattle.std.proofs.Common.{◌≡◌, ℕ, ◌+◌, ◌^◌, ◌<◌, ◌≤◌, Bool, true, false, ◌&&◌, ◌==◌, nat_le, nat_lt, List, [], ◌∷◌, ◌++◌, length, decimal, refl, sym, ap, subst, ◌∙◌, ⊎_elim, length-append, arith}
 use Rattle.std.specs.FinSet as set
 use Rattle.std.specs.List.{list_all}
-use Rattle.std.proofs.lemmas.Bool.{and_from, cases_eq, cond-true, eq-eqb}
+use Rattle.std.proofs.lemmas.Bool.{true≢false, ne_eqb, and_from, cases_eq, cond-true, eq-eqb}
 use Rattle.std.proofs.lemmas.Bool.Decides.{nat_tests}
 use Rattle.std.proofs.lemmas.Fmt.{decimal_nonempty}
 use Rattle.std.proofs.lemmas.List.Folds.{list_all-append}
 use Rattle.cpu_set.specs.Ids.{Ids}
 use Rattle.cpu_set.specs.Members.{IsCpu}
 use Rattle.cpu_set.specs.declared.TheConstants.{CPU_LIMIT}
-use Rattle.cpu_list.specs.CanonicalList.{range_text, list_text, AreRuns, in_ranges, is_list_byte, TextIsPlain, TextIsEmpty}
+use Rattle.cpu_list.specs.CanonicalList.{range_text, list_text, AreRuns, in_ranges}
+use Rattle.cpu_list.specs.CanonicalLaws.{is_list_byte, TextIsPlain, TextLacks, TextIsEmpty}
 use Rattle.cpu_list.specs.RangesFrom.{ranges_from, text_after}
 use Rattle.cpu_list.proofs.Ranges.{ranges_among, AreRuns-ranges_among, in_ranges-among, ranges_none_among}
 use Rattle.cpu_list.proofs.RangeText.{range_text-apart}
 use Rattle.cpu_list.proofs.RoundTrip.{AreBelow, AreBelow-from_runs}
 use Rattle.cpu_list.proofs.SetRanges.{ranges_from-is, list_text-is}
-use Rattle.cpu_list.proofs.TextBytes.{all_pass_weaker, is_range_byte, range_byte-is_list_byte, range_bytes}
+use Rattle.cpu_list.proofs.TextBytes.{all_pass_weaker, none_pass, is_range_byte, range_byte-is_list_byte, range_bytes}
 
 low : (q n : ℕ) (v : Bool) → ((nat_le 0 q && nat_lt q (0 + n)) && v) ≡ true → q < n
 low q n v h = grind (arith, nat_tests)
@@ -42,6 +43,12 @@ plain_at s n e small = ap (list_all is_list_byte) (list_text-is s) ∙ plain_aft
 
 pub text_is_plain : TextIsPlain
 text_is_plain s = plain_at s CPU_LIMIT refl (omega arith)
+
+other_byte : (other b : ℕ) → is_list_byte other ≡ false → is_list_byte b ≡ true → (b == other) ≡ false
+other_byte other b out passes = ne_eqb b other (λ same. true≢false (sym passes ∙ ap is_list_byte same ∙ out))
+
+pub text_lacks : TextLacks
+text_lacks s other out = none_pass is_list_byte (λ b. b == other) (λ b passes. other_byte other b out passes) (list_text s) (text_is_plain s)
 
 range_some : (first last : ℕ) → first < 2 ^ 64 → 0 < length (range_text (first, last))
 range_some first last fits =

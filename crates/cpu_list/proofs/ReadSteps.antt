@@ -1,15 +1,16 @@
 -- A list that is read piece by piece: what is left holds the first fault, and the numbers that are not in the set yet.
-use Rattle.std.proofs.Common.{◌≡◌, ℕ, ◌+◌, ◌≤◌, Bool, true, false, ◌||◌, List, ◌∷◌, length, drop, Some, None, sym, ap, ◌∙◌, arith}
+use Rattle.std.proofs.Common.{◌≡◌, ℕ, ◌+◌, ◌<◌, ◌≤◌, Bool, true, false, ◌||◌, List, ◌∷◌, length, drop, Some, None, sym, ap, ◌∙◌, arith}
 use Rattle.std.specs.FinSet as set
 use Rattle.std.specs.List.{before_first, list_any}
 use Rattle.std.specs.Option.{option_or, option_map}
 use Rattle.cpu_set.specs.Ids.{Ids}
 use Rattle.cpu_set.specs.Pointwise.{contains-empty}
 use Rattle.cpu_list.specs.declared.list_error.ListErrorKind.{ListErrorKind}
-use Rattle.cpu_list.specs.ListText.{is_comma, indent, item_of, names, piece_names}
+use Rattle.cpu_list.specs.ListText.{is_comma, indent, item_of, names, piece_names, IsList, IsSetOf}
 use Rattle.cpu_list.specs.FirstFault.{item_fault, faults_from, first_fault}
 use Rattle.faults.specs.First.{first_of}
-use Rattle.cpu_list.proofs.Pieces.{pieces_from, pieces_none, pieces_more, first_fits}
+use Rattle.cpu_list.proofs.FirstFaults.{none_where_list}
+use Rattle.cpu_list.proofs.Pieces.{pieces_from, pieces_none, pieces_more, pieces_all, first_fits, or_false}
 
 -- the pieces before this place are right, and the set has what they name
 pub record IsRead (text : List ℕ) (limit at : ℕ) (s : Ids) : Type 0 where
@@ -56,3 +57,12 @@ IsRead-more text piece limit at s t h low first right added = record {
 } where
   next_is : (before_first is_comma (drop at text) ∷ pieces_from text (at + (length (before_first is_comma (drop at text)) + 1))) ≡ (piece ∷ pieces_from text (at + (length piece + 1)))
   next_is = ap (λ p. p ∷ pieces_from text (at + (length p + 1))) (sym first)
+
+-- no piece is left
+pub IsRead-all : (text : List ℕ) (limit at : ℕ) (s : Ids) → IsRead text limit at s → length text < at → (first_fault limit text ≡ None) × IsSetOf text s × IsList limit text
+IsRead-all text limit at s h past =
+    let none = sym h.no_fault ∙ ap (λ ps. first_of (faults_from limit at ps)) (pieces_all text at past) in (
+      none,
+      λ n. or_false (set.contains s n) ∙ sym (ap (λ ps. set.contains s n || list_any (piece_names n) ps) (pieces_all text at past)) ∙ h.named n,
+      (none_where_list limit text).0 none,
+    )

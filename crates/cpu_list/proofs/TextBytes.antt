@@ -10,7 +10,8 @@ use Rattle.std.proofs.lemmas.List.Folds.{list_all-append}
 use Rattle.std.proofs.lemmas.List.Sums.{AllPass-from_list_all, list_all-from_AllPass}
 use Rattle.std.proofs.lemmas.Str.Parse.{IsNumeralModel, numerals_by_value}
 use Rattle.cpu_list.specs.ListText.{is_comma, is_hyphen, is_blank}
-use Rattle.cpu_list.specs.CanonicalList.{range_text, is_list_byte}
+use Rattle.cpu_list.specs.CanonicalList.{range_text}
+use Rattle.cpu_list.specs.CanonicalLaws.{is_list_byte}
 use Rattle.cpu_list.proofs.RangeText.{range_text-apart}
 
 numerals : IsNumeralModel (λ ds. list_all is_ascii_digit ds ≡ true) (digits_value 10)

@@ -1,3 +1,4 @@
+pub mod CanonicalLaws
 pub mod CanonicalList
 pub mod FirstFault
 pub mod ListText

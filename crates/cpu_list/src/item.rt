@@ -11,7 +11,7 @@ fn is_blank(byte: u8) -> bool
 }
 
 // The text up to its first comma.
-pub fn first_piece(text: &[u8]) -> &[u8]
+pub(crate) fn first_piece(text: &[u8]) -> &[u8]
     ensures { result.now ≡ before_first is_comma text.now }
 {
     for (i, byte) in text.iter().enumerate() {
@@ -23,7 +23,7 @@ pub fn first_piece(text: &[u8]) -> &[u8]
 }
 
 // How many blanks stand before the first byte of the piece's item.
-pub fn indent(piece: &[u8]) -> usize
+pub(crate) fn indent(piece: &[u8]) -> usize
     ensures value { result ≡ indent piece.now }
     ensures within { result ≤ length piece.now }
 {
@@ -47,7 +47,7 @@ fn trim_end(piece: &[u8]) -> &[u8]
 
 // The piece without the blanks round it.
 #[tactic(auto, unfolding(crate::specs::ListText::item_of))]
-pub fn item_of(piece: &[u8]) -> &[u8]
+pub(crate) fn item_of(piece: &[u8]) -> &[u8]
     ensures { result.now ≡ item_of piece.now }
 {
     trim_end(&piece[indent(piece)..])
@@ -79,7 +79,7 @@ fn hyphen_in(item: &[u8]) -> Option<usize>
 
 // The first and the last number of an item, each the limit where it isn't below that.
 #[tactic(auto, unfolding(crate::specs::ListText::range_of))]
-pub fn read_range(item: &[u8], limit: u16) -> Option<(u16, u16)>
+pub(crate) fn read_range(item: &[u8], limit: u16) -> Option<(u16, u16)>
     ensures { result ≡ option_map (λ r. (min limit r.0, min limit r.1)) (range_of item.now) }
 {
     match hyphen_in(item) {

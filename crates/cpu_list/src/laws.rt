@@ -1,24 +1,27 @@
 // What holds of the definitions alone.
-ghost use Rattle.cpu_list.specs.CanonicalList.{TextIsCanonical, OneCanonicalText, CanonicalReadsAgain, TextIsPlain, TextIsEmpty};
+ghost use Rattle.cpu_list.specs.CanonicalLaws.{TextIsCanonical, OneCanonicalText, CanonicalReadsAgain, TextIsPlain, TextLacks, TextIsEmpty};
 ghost use Rattle.cpu_list.specs.FirstFault.{NoneWhereList, FirstDecides};
 
-/// A text is a list exactly where it has no first fault, and its first fault is that of the first faulty item.
+/// A text is a list exactly where it has no first fault, and its first fault is that of the first
+/// faulty item.
 pub fn first_faults()
     ensures none { NoneWhereList }
     ensures first { FirstDecides }
 {}
 
-/// The printed text of a set of CPU numbers is its canonical text, and a set has no other. Under each limit above the members
-/// that text is a list of this set and of no other, so that reading gives the printed set back.
+/// The printed text of a set of CPU numbers is canonical, and a set has no other canonical text.
+/// Under each limit above the members that text is a list of this set and of no other, so that
+/// reading gives the printed set back.
 pub fn canonical_texts()
     ensures canonical { TextIsCanonical }
     ensures one { OneCanonicalText }
     ensures reads_again { CanonicalReadsAgain }
 {}
 
-/// A printed text has digits, hyphens and commas alone, so that no space, colon or line feed stands in it;
-/// and it is empty just where the set is.
+/// A printed text has digits, hyphens and commas alone, so that no space, colon or line feed stands
+/// in it; and it is empty just where the set is.
 pub fn plain_texts()
     ensures plain { TextIsPlain }
+    ensures lacks { TextLacks }
     ensures empty { TextIsEmpty }
 {}

@@ -4,7 +4,8 @@ ghost use Rattle.cpu_list.specs.Output.{Writes};
 use std::io;
 use std::io::{ErrorKind, Write};
 
-/// Writes all of the bytes. Unlike `write_all` it says what went out before a fault: a front of them.
+/// Writes all of the bytes. Unlike `write_all` it says what went out before a fault: a front of
+/// them, and not all.
 ///
 /// # Errors
 /// The error of the first write that fails, or `WriteZero` where a write takes no byte.

@@ -24,7 +24,8 @@ fn push_range(text: &mut String, first: u16, last: u16) -> Result<(), AllocError
     push_number(text, last)
 }
 
-/// The set's one spelling: rising ranges as long as possible, as `0-2,7`. The empty set is the empty text.
+/// The set's one spelling: rising ranges as long as possible, as `0-2,7`. The empty set is the empty
+/// text.
 ///
 /// # Errors
 /// Want of memory.

@@ -7,7 +7,7 @@ ghost use Rattle.cpu_list.specs.RangesFrom.{IsRangeOf};
 use cpu_set::{CPU_LIMIT, IdSet};
 
 // The last number of the range that begins at a member.
-pub fn range_end(set: &IdSet, first: u16) -> u16
+pub(crate) fn range_end(set: &IdSet, first: u16) -> u16
     requires in_range { IsCpu first }
     requires member { finset.contains set.now first ≡ true }
     ensures { IsRangeOf set.now first result }

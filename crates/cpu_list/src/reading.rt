@@ -2,8 +2,8 @@
 ghost use Rattle.std.specs.Prelude.{◌≡◌, ℕ, ◌<◌, ◌≤◌, ◌||◌, Some, None, OnOk, IfErr, MatchResult};
 ghost use Rattle.std.specs.FinSet as finset;
 ghost use Rattle.cpu_set.specs.Members.{IsCpu};
-ghost use Rattle.cpu_list.specs.ListText.{item_of, range_names, piece_names, IsSetOf};
-ghost use Rattle.cpu_list.specs.FirstFault.{item_fault, first_fault};
+ghost use Rattle.cpu_list.specs.ListText.{item_of, range_names, piece_names, IsList, IsSetOf};
+ghost use Rattle.cpu_list.specs.FirstFault.{item_fault, first_fault, IsFirstFault};
 
 use crate::item::{first_piece, indent, item_of, read_range};
 use crate::list_error::{ListError, ListErrorKind};
@@ -46,16 +46,16 @@ fn add_piece(set: &mut IdSet, piece: &[u8], limit: u16) -> Result<(), ListErrorK
 
 /// Reads a list of numbers below the limit, as `0-2,7`: cpuset(7), List Format.
 ///
-/// Blanks (space, tab, line feed) may stand round an item, items may be empty, repeat, overlap and come in any order,
-/// and numbers may have leading zeros.
+/// Blanks (space, tab, line feed) may stand round an item, items may be empty, repeat, overlap and
+/// come in any order, and numbers may have leading zeros.
 ///
 /// # Errors
 /// The place and the cause of the first faulty item.
 pub fn read(text: &[u8], limit: u16) -> Result<IdSet, ListError>
     requires { limit ≤ CPU_LIMIT }
     ensures { MatchResult result
-        (λ s. (first_fault limit text.now ≡ None) × IsSetOf text.now s)
-        (λ e. first_fault limit text.now ≡ Some e) }
+        (λ s. (first_fault limit text.now ≡ None) × IsSetOf text.now s × IsList limit text.now)
+        (λ e. (first_fault limit text.now ≡ Some e) × IsFirstFault limit text.now e) }
 {
     let mut set = IdSet::empty();
     let mut at = 0;

@@ -34,7 +34,8 @@ fn put_item<W: Write>(separator: &[u8], first: u16, last: u16, w: &mut W) -> io:
     put_range(first, last, w)
 }
 
-/// Writes the set's one spelling: rising ranges as long as possible, as `0-2,7`. The empty set is the empty text.
+/// Writes the set's one spelling: rising ranges as long as possible, as `0-2,7`. The empty set is
+/// the empty text.
 ///
 /// # Errors
 /// As [`put`]: where it fails, a front of the text went out.
