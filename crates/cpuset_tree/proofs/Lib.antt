@@ -7,3 +7,4 @@ pub mod WellFormedLemmas
 pub mod SoundLemmas
 pub mod NodeLemmas
 pub mod WriteLemmas
+pub mod TreeLaws

@@ -6,6 +6,7 @@
 mod cpusets;
 mod faults;
 mod groups;
+pub mod laws;
 mod refresh;
 
 pub use cpusets::Tree;

@@ -40,7 +40,7 @@ process-fresh low next pid (p ∷ later) (at, rest) le =
     process-there p later pid (ne_eqb p.pid pid (λ e. absurd (omega arith))) ∙ process-fresh (p.pid + 1) next pid later rest le
 
 -- and a pid below the others is none of theirs
-process-below : (low next pid : ℕ) (live : List Process) → RisesBelow low next live → pid < low → process_among live pid ≡ None
+pub process-below : (low next pid : ℕ) (live : List Process) → RisesBelow low next live → pid < low → process_among live pid ≡ None
 process-below low next pid [] _ lt = refl
 process-below low next pid (p ∷ later) (at, rest) lt =
     process-there p later pid (ne_eqb p.pid pid (λ e. absurd (omega arith))) ∙ process-below (p.pid + 1) next pid later rest (omega arith)

@@ -3,4 +3,5 @@ pub mod LookUps
 pub mod Changes
 pub mod Answers
 pub mod WellFormed
+pub mod Laws
 pub mod Kept

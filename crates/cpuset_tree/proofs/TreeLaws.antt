@@ -1,0 +1,236 @@
+-- What each change leaves of a tree.
+use Rattle.std.proofs.Common.{◌≡◌, ◌≢◌, ℕ, ◌+◌, ◌<◌, ◌≤◌, Bool, true, false, not, ◌||◌, ◌&&◌, List, [], ◌∷◌, refl, sym, ap, ◌∙◌, subst, arith, map, filter}
+use Rattle.std.proofs.lemmas.Bool.{or_parts, and_parts, cond-true, cond-false, both_ways, not_from_false}
+use Rattle.std.proofs.lemmas.Option.{same_Some, none-some}
+use Rattle.std.specs.Prelude.{Option, Some, None, is_some, is_none, option_map, find, nat_eq}
+use Rattle.std.specs.Cmp.Lexicographic.{pointwise}
+use Rattle.cpu_set.specs.Ids.{Ids}
+use Rattle.cpuset_tree.specs.declared.groups.Group.{Group}
+use Rattle.cpuset_tree.specs.TreeState.{GroupEntry, TreeState}
+use Rattle.cpuset_tree.specs.LookUps.{same_group, entry_among, entry_of, has_group, is_parent, is_root_entry, has_child_among, child_among, child_of, root_among}
+use Rattle.cpuset_tree.specs.Changes.{requesting_cpus, requesting_mems, with_cpus, with_mems, with_group, without_group, new_entry, first_tree}
+use Rattle.cpuset_tree.specs.Answers.{AddsGroup}
+use Rattle.cpuset_tree.specs.WellFormed.{ParentIsAmong, IsFalling, IsWellFormed}
+use Rattle.cpuset_tree.specs.Laws.{CpusWritten, MemsWritten, GroupAdded, AddedLeaves, RemovedLeaves, IsChild, FoundIsChild, StaysWellFormed, ChangesStayWellFormed, FirstIsWellFormed, WellFormedRunsUp}
+use Rattle.cpuset_tree.proofs.GroupLemmas.{same_group-equal, same_group_itself, same_group_sym, same_group-serial, other_serial, entry_among-here, entry_among-there}
+use Rattle.cpuset_tree.proofs.ChangeLemmas.{entry_among-without, entry_among-removed}
+use Rattle.cpuset_tree.proofs.WellFormedLemmas.{serial_below, RunsUpThePath-well_formed}
+
+-- a change of each entry that leaves the groups
+module _ (r : GroupEntry → GroupEntry) (group : (e : GroupEntry) → (r e).group ≡ e.group) where
+  pub entry_among-map : (groups : List GroupEntry) (p : Group) → entry_among (map r groups) p ≡ option_map r (entry_among groups p)
+  entry_among-map [] p = refl
+  entry_among-map (e ∷ older) p =
+      elim (same_group e.group p) as (λ t. same_group e.group p ≡ t → entry_among (r e ∷ map r older) p ≡ option_map r (entry_among (e ∷ older) p)) [
+        | true ↦ λ h. entry_among-here (r e) (map r older) p (ap (λ (g : Group). same_group g p) (group e) ∙ h) ∙ sym (ap (option_map r) (entry_among-here e older p h))
+        | false ↦ λ h.
+            entry_among-there (r e) (map r older) p (ap (λ (g : Group). same_group g p) (group e) ∙ h) ∙ entry_among-map older p
+            ∙ sym (ap (option_map r) (entry_among-there e older p h))
+      ] refl
+
+  some-map : (o : Option GroupEntry) → is_some (option_map r o) ≡ is_some o
+  some-map None = refl
+  some-map (Some e) = refl
+
+  module _ (parent : (e : GroupEntry) → (r e).parent ≡ e.parent) where
+    parent-map : (o : Option Group) (older : List GroupEntry) → ParentIsAmong o older → ParentIsAmong o (map r older)
+    parent-map None older h = ap (map r) h
+    parent-map (Some p) older h = ap is_some (entry_among-map older p) ∙ some-map (entry_among older p) ∙ h
+
+    pub IsFalling-map : (next : ℕ) (groups : List GroupEntry) → IsFalling next groups → IsFalling next (map r groups)
+    IsFalling-map next [] _ = tt
+    IsFalling-map next (e ∷ older) (below, up, rest) = (
+      subst (λ (g : Group). g.serial < next) (sym (group e)) below,
+      subst (λ (o : Option Group). ParentIsAmong o (map r older)) (sym (parent e)) (parent-map e.parent older up),
+      subst (λ (g : Group). IsFalling g.serial (map r older)) (sym (group e)) (IsFalling-map e.group.serial older rest)
+    )
+
+    pub root_among-map : (groups : List GroupEntry) → root_among (map r groups) ≡ root_among groups
+    root_among-map [] = refl
+    root_among-map (e ∷ older) =
+        elim (is_none e.parent) as (λ t. is_none e.parent ≡ t → root_among (r e ∷ map r older) ≡ root_among (e ∷ older)) [
+          | true ↦ λ h.
+              ap (option_map (λ x. x.group)) (cond-true (is_none (r e).parent) (Some (r e)) (find (λ x. is_none x.parent) (map r older)) (ap is_none (parent e) ∙ h))
+              ∙ ap Some (group e)
+              ∙ sym (ap (option_map (λ x. x.group)) (cond-true (is_none e.parent) (Some e) (find (λ x. is_none x.parent) older) h))
+          | false ↦ λ h.
+              ap (option_map (λ x. x.group)) (cond-false (is_none (r e).parent) (Some (r e)) (find (λ x. is_none x.parent) (map r older)) (ap is_none (parent e) ∙ h))
+              ∙ root_among-map older
+              ∙ sym (ap (option_map (λ x. x.group)) (cond-false (is_none e.parent) (Some e) (find (λ x. is_none x.parent) older) h))
+        ] refl
+
+pub requesting_cpus-group : (g : Group) (cpus : Ids) (e : GroupEntry) → (requesting_cpus g cpus e).group ≡ e.group
+requesting_cpus-group g cpus e = elim (same_group e.group g) as (λ t. same_group e.group g ≡ t → (requesting_cpus g cpus e).group ≡ e.group) [ true ↦ λ h. rw h | false ↦ λ h. rw h ] refl
+
+pub requesting_cpus-parent : (g : Group) (cpus : Ids) (e : GroupEntry) → (requesting_cpus g cpus e).parent ≡ e.parent
+requesting_cpus-parent g cpus e = elim (same_group e.group g) as (λ t. same_group e.group g ≡ t → (requesting_cpus g cpus e).parent ≡ e.parent) [ true ↦ λ h. rw h | false ↦ λ h. rw h ] refl
+
+pub requesting_mems-group : (g : Group) (mems : Ids) (e : GroupEntry) → (requesting_mems g mems e).group ≡ e.group
+requesting_mems-group g mems e = elim (same_group e.group g) as (λ t. same_group e.group g ≡ t → (requesting_mems g mems e).group ≡ e.group) [ true ↦ λ h. rw h | false ↦ λ h. rw h ] refl
+
+pub requesting_mems-parent : (g : Group) (mems : Ids) (e : GroupEntry) → (requesting_mems g mems e).parent ≡ e.parent
+requesting_mems-parent g mems e = elim (same_group e.group g) as (λ t. same_group e.group g ≡ t → (requesting_mems g mems e).parent ≡ e.parent) [ true ↦ λ h. rw h | false ↦ λ h. rw h ] refl
+
+pub entry_of-with_cpus : CpusWritten
+entry_of-with_cpus s g cpus p = entry_among-map (requesting_cpus g cpus) (requesting_cpus-group g cpus) s.groups p
+
+pub entry_of-with_mems : MemsWritten
+entry_of-with_mems s g mems p = entry_among-map (requesting_mems g mems) (requesting_mems-group g mems) s.groups p
+
+-- a group that is not there is none that is
+pub differs_from : (s : TreeState) (g p : Group) → has_group s g ≡ false → has_group s p ≡ true → same_group g p ≡ false
+differs_from s g p fresh there =
+    elim (same_group g p) as (λ t. same_group g p ≡ t → t ≡ false) [
+      | true ↦ λ h. absurd (both_ways (has_group s g) fresh (ap (has_group s) (same_group-equal g p h) ∙ there))
+      | false ↦ λ _. refl
+    ] refl
+
+pub entry_of-with_group : (s : TreeState) (g parent : Group) (name : List ℕ) → entry_of (with_group s g parent name) g ≡ Some (new_entry g (Some parent) name)
+entry_of-with_group s g parent name = entry_among-here (new_entry g (Some parent) name) s.groups g (same_group_itself g)
+
+pub entry_of-with_group_other : (s : TreeState) (g parent : Group) (name : List ℕ) (p : Group) → same_group g p ≡ false → entry_of (with_group s g parent name) p ≡ entry_of s p
+entry_of-with_group_other s g parent name p other = entry_among-there (new_entry g (Some parent) name) s.groups p other
+
+pub added_leaves : AddedLeaves
+added_leaves s new parent name g adds = subst (λ (n : TreeState). GroupAdded s n parent name g) (sym adds.added) (record {
+  there = entry_of-with_group s g parent name;
+  others = entry_of-with_group_other s g parent name;
+  differs = λ p there. differs_from s g p adds.fresh there;
+})
+
+pub removed_leaves : RemovedLeaves
+removed_leaves s g = record { gone = entry_among-removed g s.groups; others = λ p other. entry_among-without g s.groups p other }
+
+-- the first entry that passes is that of its group
+found_entry : (test : GroupEntry → Bool) (next : ℕ) (groups : List GroupEntry) → IsFalling next groups → (e : GroupEntry) → find test groups ≡ Some e
+    → (entry_among groups e.group ≡ Some e) × (test e ≡ true) × (e.group.serial < next)
+found_entry test next [] _ e at = absurd (none-some e at)
+found_entry test next (h ∷ older) (below, up, rest) e at =
+    elim (test h) as (λ t. test h ≡ t → (entry_among (h ∷ older) e.group ≡ Some e) × (test e ≡ true) × (e.group.serial < next)) [
+      | true ↦ λ is.
+          let one : h ≡ e = same_Some h e (sym (cond-true (test h) (Some h) (find test older) is) ∙ at) in
+          (
+            entry_among-here h older e.group (ap (λ (x : GroupEntry). same_group h.group x.group) (sym one) ∙ same_group_itself h.group) ∙ ap Some one,
+            ap test (sym one) ∙ is,
+            subst (λ (x : GroupEntry). x.group.serial < next) one below
+          )
+      | false ↦ λ is.
+          let deeper : (entry_among older e.group ≡ Some e) × (test e ≡ true) × (e.group.serial < h.group.serial) =
+              found_entry test h.group.serial older rest e (sym (cond-false (test h) (Some h) (find test older) is) ∙ at) in
+          let lower : e.group.serial < h.group.serial = deeper.2 in
+          (
+            entry_among-there h older e.group (other_serial h.group e.group (λ same. absurd (omega arith))) ∙ deeper.0,
+            deeper.1,
+            omega arith
+          )
+    ] refl
+
+is_parent-some : (o : Option Group) (g : Group) → is_parent o g ≡ true → o ≡ Some g
+is_parent-some None g h = absurd (both_ways false refl h)
+is_parent-some (Some p) g h = ap Some (same_group-equal p g h)
+
+pub found_is_child : FoundIsChild
+found_is_child s parent name g well at = from (find (λ e. is_parent e.parent parent && pointwise nat_eq e.name name) s.groups) refl
+  where
+    from : (o : Option GroupEntry) → find (λ e. is_parent e.parent parent && pointwise nat_eq e.name name) s.groups ≡ o → IsChild s parent name g
+    from None is = absurd (none-some g (sym (ap (option_map (λ e. e.group)) is) ∙ at))
+    from (Some e) is =
+        let group : e.group ≡ g = same_Some e.group g (sym (ap (option_map (λ e. e.group)) is) ∙ at) in
+        let found : (entry_of s e.group ≡ Some e) × ((is_parent e.parent parent && pointwise nat_eq e.name name) ≡ true) × (e.group.serial < s.next_serial) =
+            found_entry (λ e. is_parent e.parent parent && pointwise nat_eq e.name name) s.next_serial s.groups well.falling e is in
+        let parts : (is_parent e.parent parent ≡ true) × (pointwise nat_eq e.name name ≡ true) = and_parts (is_parent e.parent parent) (pointwise nat_eq e.name name) found.1 in
+        record {
+          entry = e;
+          there = ap (entry_of s) (sym group) ∙ found.0;
+          below = is_parent-some e.parent parent parts.0;
+          named = parts.1;
+        }
+
+-- the groups without one that has no children
+IsFalling-below : (next more : ℕ) (groups : List GroupEntry) → next ≤ more → IsFalling next groups → IsFalling more groups
+IsFalling-below next more [] le _ = tt
+IsFalling-below next more (e ∷ older) le (below, up, rest) = (omega arith, up, rest)
+
+parent-without : (g : Group) (o : Option Group) (older : List GroupEntry) → is_parent o g ≡ false → ParentIsAmong o older → ParentIsAmong o (filter (λ e. not (same_group e.group g)) older)
+parent-without g None older none h = ap (filter (λ e. not (same_group e.group g))) h
+parent-without g (Some p) older none h = ap is_some (entry_among-without g older p (same_group_sym g p ∙ none)) ∙ h
+
+pub IsFalling-without : (g : Group) (next : ℕ) (groups : List GroupEntry) → has_child_among groups g ≡ false → IsFalling next groups
+    → IsFalling next (filter (λ e. not (same_group e.group g)) groups)
+IsFalling-without g next [] none _ = tt
+IsFalling-without g next (e ∷ older) none (below, up, rest) =
+    let parts : (is_parent e.parent g ≡ false) × (has_child_among older g ≡ false) = or_parts (is_parent e.parent g) (has_child_among older g) none in
+    let deeper : IsFalling e.group.serial (filter (λ e. not (same_group e.group g)) older) = IsFalling-without g e.group.serial older parts.1 rest in
+    elim (same_group e.group g) as (λ t. same_group e.group g ≡ t → IsFalling next (filter (λ e. not (same_group e.group g)) (e ∷ older))) [
+      | true ↦ λ is.
+          subst (λ (l : List GroupEntry). IsFalling next l)
+          (sym (cond-false (not (same_group e.group g)) (e ∷ filter (λ e. not (same_group e.group g)) older) (filter (λ e. not (same_group e.group g)) older) (ap not is)))
+          (IsFalling-below e.group.serial next (filter (λ e. not (same_group e.group g)) older) (omega arith) deeper)
+      | false ↦ λ is.
+          subst (λ (l : List GroupEntry). IsFalling next l)
+          (sym (cond-true (not (same_group e.group g)) (e ∷ filter (λ e. not (same_group e.group g)) older) (filter (λ e. not (same_group e.group g)) older) (ap not is)))
+          (below, parent-without g e.parent older parts.0 up, deeper)
+    ] refl
+
+pub root_among-without : (g : Group) (next : ℕ) (groups : List GroupEntry) → IsFalling next groups → is_root_entry (entry_among groups g) ≡ false
+    → root_among (filter (λ e. not (same_group e.group g)) groups) ≡ root_among groups
+root_among-without g next [] _ child = refl
+root_among-without g next (e ∷ older) (below, up, rest) child =
+    elim (same_group e.group g) as (λ t. same_group e.group g ≡ t → root_among (filter (λ e. not (same_group e.group g)) (e ∷ older)) ≡ root_among (e ∷ older)) [
+      | true ↦ λ is.
+          ap root_among (cond-false (not (same_group e.group g)) (e ∷ filter (λ e. not (same_group e.group g)) older) (filter (λ e. not (same_group e.group g)) older) (ap not is))
+          ∙ root_among-without g e.group.serial older rest (gone is)
+          ∙ sym (ap (option_map (λ x. x.group)) (cond-false (is_none e.parent) (Some e) (find (λ x. is_none x.parent) older) (ap is_root_entry (sym (entry_among-here e older g is)) ∙ child)))
+      | false ↦ λ is.
+          let stays : root_among (filter (λ e. not (same_group e.group g)) older) ≡ root_among older =
+              root_among-without g e.group.serial older rest (ap is_root_entry (sym (entry_among-there e older g is)) ∙ child) in
+          ap root_among (cond-true (not (same_group e.group g)) (e ∷ filter (λ e. not (same_group e.group g)) older) (filter (λ e. not (same_group e.group g)) older) (ap not is))
+          ∙ elim (is_none e.parent) as (λ t. is_none e.parent ≡ t → root_among (e ∷ filter (λ e. not (same_group e.group g)) older) ≡ root_among (e ∷ older)) [
+            | true ↦ λ h. rw h
+            | false ↦ λ h. rw h stays
+          ] refl
+    ] refl
+  where
+    gone : same_group e.group g ≡ true → is_root_entry (entry_among older g) ≡ false
+    gone is = ap is_root_entry (none_of (entry_among older g) refl)
+      where
+        none_of : (o : Option GroupEntry) → entry_among older g ≡ o → o ≡ None
+        none_of None at = refl
+        none_of (Some x) at =
+            let lower : g.serial < e.group.serial = serial_below e.group.serial older rest g (ap is_some at) in
+            let same : e.group.serial ≡ g.serial = same_group-serial e.group g is in
+            absurd (omega arith)
+
+pub stays_well_formed : ChangesStayWellFormed
+stays_well_formed s well = record {
+  added = λ new parent name g there adds. subst (λ (n : TreeState). IsWellFormed n) (sym adds.added) (record {
+    falling = (
+      let serial : g.serial ≡ s.next_serial = adds.serial in omega arith,
+      there,
+      subst (λ (n : ℕ). IsFalling n s.groups) (sym adds.serial) well.falling
+    );
+    rooted = well.rooted;
+  });
+  removed = λ g child childless. record {
+    falling = IsFalling-without g s.next_serial s.groups childless well.falling;
+    rooted = ap is_some (root_among-without g s.next_serial s.groups well.falling child) ∙ well.rooted;
+  };
+  cpus = λ g cpus. record {
+    falling = IsFalling-map (requesting_cpus g cpus) (requesting_cpus-group g cpus) (requesting_cpus-parent g cpus) s.next_serial s.groups well.falling;
+    rooted = ap is_some (root_among-map (requesting_cpus g cpus) (requesting_cpus-group g cpus) (requesting_cpus-parent g cpus) s.groups) ∙ well.rooted;
+  };
+  mems = λ g mems. record {
+    falling = IsFalling-map (requesting_mems g mems) (requesting_mems-group g mems) (requesting_mems-parent g mems) s.next_serial s.groups well.falling;
+    rooted = ap is_some (root_among-map (requesting_mems g mems) (requesting_mems-group g mems) (requesting_mems-parent g mems) s.groups) ∙ well.rooted;
+  };
+  online = λ online. record { falling = well.falling; rooted = well.rooted };
+}
+
+pub first_is_well_formed : FirstIsWellFormed
+first_is_well_formed online nodes first_serial s first = subst (λ (n : TreeState). IsWellFormed n) (sym first.is) (record {
+  falling = (omega arith, refl, tt);
+  rooted = refl;
+})
+
+pub well_formed_runs_up : WellFormedRunsUp
+well_formed_runs_up s well = RunsUpThePath-well_formed s well.falling

@@ -1,0 +1,5 @@
+use Rattle.proctable.proofs.TableLaws.{added_leaves, exited_leaves, ended_leaves, ended_is_empty}
+use Rattle.proctable.proofs.laws.changes.Goals as goal
+
+pub returns : goal.returns
+returns c = record { added = added_leaves; exited = exited_leaves; ended = ended_leaves; ended_empty = ended_is_empty }
