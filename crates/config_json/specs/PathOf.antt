@@ -3,7 +3,7 @@ use Rattle.std.specs.Prelude.{ℕ, List, codes}
 use Rattle.config_json.specs.declared.field.Field.{Field}
 use Rattle.config_json.specs.declared.field.Field.TheVariants.{OciVersion, Root, RootPath, Linux, Resources, Cpu, Quota, Period, Cpus, Mems}
 
--- the path
+-- the names from the top of the config down, with dots between
 abbrev pub path_of : Field → List ℕ
 path_of OciVersion = codes "ociVersion"
 path_of Root = codes "root"

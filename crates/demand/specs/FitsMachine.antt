@@ -16,6 +16,7 @@ abbrev pub FitsKind : Kind → Ids → Type 0
 FitsKind (Pinned count) allowed = (1 ≤ count) × (count ≤ CPU_LIMIT) × (allowed ≢ set.empty)
 FitsKind Shared allowed = allowed ≡ set.empty
 
+-- homes that exist; allowed CPUs that are present, not reserved and in reach of a home
 pub record FitsMachine (m : Layout) (d : Demand) : Type 0 where
   pub kind : FitsKind d.kind d.allowed
   pub homes : AreHomes m d.homes

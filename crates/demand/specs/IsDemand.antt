@@ -20,6 +20,7 @@ IsKind (Some limit) period allowed s Shared = ⊥
 IsKind None period allowed s (Pinned count) = (is_pinned s ≡ true) × (count ≡ set.len allowed)
 IsKind None period allowed s Shared = is_pinned s ≡ false
 
+-- the homes, the allowed CPUs, which are none of a shared container, and the count
 pub record IsDemand (m : Layout) (s : Section) (d : Demand) : Type 0 where
   pub homes : d.homes ≡ homes_of m s.mems
   pub allowed : d.allowed ≡ (if is_pinned s then allowed_of m s else set.empty)

@@ -23,6 +23,7 @@ pub enum Kind {
 /// What one container asks for.
 #[derive(Clone, Copy, Debug)]
 pub struct Demand {
+    /// How many CPUs of its own, if any.
     pub kind: Kind,
     /// The CPUs that it may get; none of a shared container.
     pub allowed: IdSet,
@@ -35,6 +36,15 @@ impl Demand {
     ghost use Rattle.demand.specs.FitsMachine.{FitsMachine};
 
     /// What a container with this CPU section asks for on this machine.
+    ///
+    /// Its homes are the nodes that `mems` names, or all where it names none. It may get the CPUs that
+    /// are present, named by `cpus` if that names any, not reserved, and with a way to a home. A quota
+    /// above zero asks for as many CPUs as it takes to run it in one period, rounded up; a period that
+    /// is absent or zero is [`DEFAULT_PERIOD`](crate::DEFAULT_PERIOD). With no such quota a container
+    /// that names a CPU asks for all that it may get, and one that names none is shared.
+    ///
+    /// The first fault in this order is answered: `BadCpus`, `NoSuchCpu`, `BadMems`, `NoSuchNode`,
+    /// `QuotaTooLarge`, `NothingAllowed`.
     #[tactic(auto, using(crate::proofs::Asked::last_check))]
     pub fn of(section: &CpuSection, machine: &Machine) -> Result<Demand, DemandFault>
         ensures fault { demand_fault machine.now section.now ≡ fault_of result }
@@ -76,3 +86,6 @@ fn is_pinned(count: Option<u32>, cpus: &IdSet) -> bool
 pub fn count_is_one()
     ensures { IsOneCount }
 {}
+
+#[cfg(test)]
+mod tests;
