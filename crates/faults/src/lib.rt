@@ -1,13 +1,14 @@
 //! The words with which definitions say which of several faults decides: the first in a written order.
 //!
-//! Nothing here runs. The readers' definitions are lists of checks made of these words, and the two
-//! laws below say in plain terms what the word for a loop of checks means.
+//! Nothing here runs. The readers' definitions are lists of checks made of these words, and the laws
+//! below say in plain terms what the word for a loop of checks means.
 #![tactic(auto)]
 
 ghost use Rattle.faults.specs.FirstLaws.{NoneWhereNone, LeastDecides, AlikeDecideAlike};
 
-/// The law of the first fault below a bound, for faults of any type `F`: there is none where no number
-/// below the bound has one, and else the fault of the least number that has one decides.
+/// The laws of the first fault below a bound, for faults of any type `F`: there is none where no number
+/// below the bound has one, else the fault of the least number that has one decides, and checks that
+/// agree below the bound have the same first fault there.
 pub fn least_decides<F>()
     ensures none { NoneWhereNone F }
     ensures least { LeastDecides F }
