@@ -34,6 +34,12 @@ fn combines_sets(rt: HostRuntime) {
 }
 
 #[test]
+fn has_room_for_1024_numbers(rt: HostRuntime) {
+    assert_eq!(rt; CPU_LIMIT, 1024);
+    assert_eq!(rt; std::mem::size_of::<IdSet>(), 1024);
+}
+
+#[test]
 fn holds_what_was_put_in_and_not_taken_out(rt: HostRuntime) {
     let mut set = set_of(&[7, 1023]);
     set.remove(7);
