@@ -3,11 +3,6 @@ use Rattle.slit.specs.declared.fault.SlitFault.{SlitFault}
 use Rattle.slit.specs.declared.fault.SlitError.{SlitError}
 use Rattle.slit.specs.declared.fault.SlitError.TheVariants.{Memory, Fault}
 
--- the fault of a check that takes no memory
-abbrev pub fault_of : {T : Type 0} → Result T SlitFault → Option SlitFault
-fault_of (Ok x) = None
-fault_of (Err e) = Some e
-
 -- the reader answers this fault; memory is asked for only where there is none
 abbrev pub Meets : {T : Type 0} → Result T SlitError → Option SlitFault → Type 0
 Meets (Ok x) fault = fault ≡ None

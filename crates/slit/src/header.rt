@@ -1,9 +1,9 @@
 ghost use Rattle.std.specs.Prelude.{◌≡◌, ℕ, ◌≤◌, ◌%◌, ◌*◌, length, IfOk, sum};
+ghost use Rattle.std.specs.Result.{result_err};
 ghost use Rattle.std.specs.Int.{from_le_bytes, w32, w64};
 ghost use Rattle.slit.specs.Describes.{table_of};
 ghost use Rattle.slit.specs.Header.{HasHeader};
 ghost use Rattle.slit.specs.HeaderFault.{header_fault};
-ghost use Rattle.slit.specs.Meets.{fault_of};
 ghost use Rattle.slit.specs.Table.{table};
 
 use crate::{MAX_LOCALITIES, SlitFault};
@@ -14,7 +14,7 @@ pub(crate) const ENTRIES_AT: usize = 44;
 /// The number of localities of a table whose header is in order, or the first fault of the header.
 #[tactic(auto, unfolding(crate::specs::HeaderFault::header_fault, crate::specs::Header::count_of, crate::specs::Header::size_of))]
 pub(crate) fn check_header(bytes: &[u8]) -> Result<usize, SlitFault>
-    ensures fault { header_fault bytes.now ≡ fault_of result }
+    ensures fault { header_fault bytes.now ≡ result_err result }
     ensures ok { IfOk result (HasHeader bytes.now) }
 {
     if bytes.len() < ENTRIES_AT {

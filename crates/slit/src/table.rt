@@ -54,7 +54,6 @@ impl Slit {
         ensures localities { result ≡ self.now.localities }
         ensures sound { AreDistances self.now }
     {
-        let _ = &self.distances;
         self.count
     }
 
