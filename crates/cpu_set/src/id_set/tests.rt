@@ -14,7 +14,14 @@ fn set_of(numbers: &[u16]) -> IdSet {
 fn walks_its_members_in_rising_order(rt: HostRuntime) {
     let set = set_of(&[1023, 64, 0, 1022, 63]);
     assert_eq!(rt; set.first(), Some(0));
-    for (n, next) in [(0, Some(63)), (63, Some(64)), (64, Some(1022)), (1022, Some(1023)), (1023, None), (u16::MAX, None)] {
+    for (n, next) in [
+        (0, Some(63)),
+        (63, Some(64)),
+        (64, Some(1022)),
+        (1022, Some(1023)),
+        (1023, None),
+        (u16::MAX, None),
+    ] {
         assert_eq!(rt; set.next_after(n), next);
     }
     assert_eq!(rt; set.count(), 5);
@@ -44,7 +51,13 @@ fn holds_what_was_put_in_and_not_taken_out(rt: HostRuntime) {
     let mut set = set_of(&[7, 1023]);
     set.remove(7);
     set.insert(8);
-    for (n, is_member) in [(7, false), (8, true), (1023, true), (1024, false), (u16::MAX, false)] {
+    for (n, is_member) in [
+        (7, false),
+        (8, true),
+        (1023, true),
+        (1024, false),
+        (u16::MAX, false),
+    ] {
         assert_eq!(rt; set.contains(n), is_member);
     }
 }
