@@ -5,6 +5,5 @@ pub mod NodeLaws
 pub mod NodeSteps
 pub mod RowSteps
 pub mod SubsetLaws
-pub mod TextTests
 pub mod TwiceLaws
 pub mod WeightLaws

@@ -4,7 +4,6 @@ pub mod Nodes
 pub mod Weight
 pub mod IsSound
 pub mod FieldName
-pub mod JsonOf
 pub mod Members
 pub mod Listed
 pub mod KindFaults
@@ -14,3 +13,4 @@ pub mod Distances
 pub mod DistancesFault
 pub mod BootFaults
 pub mod MachineOf
+pub mod JsonFault

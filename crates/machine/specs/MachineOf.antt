@@ -12,7 +12,7 @@ use Rattle.machine.specs.declared.field.Field.TheVariants.{Nodes}
 use Rattle.machine.specs.BootFaults.{reserved_fault, offline_fault}
 use Rattle.machine.specs.Distances.{distances_in}
 use Rattle.machine.specs.DistancesFault.{distances_fault}
-use Rattle.machine.specs.JsonOf.{json_of}
+use Rattle.json_text.specs.JsonOf.{json_of}
 use Rattle.machine.specs.KindFaults.{array_fault}
 use Rattle.machine.specs.Layout.{Layout}
 use Rattle.machine.specs.Listed.{listed, listed_in}

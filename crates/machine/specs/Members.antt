@@ -1,24 +1,9 @@
 -- The members of a machine file.
-use Rattle.std.specs.Prelude.{ℕ, List, [], ◌∷◌, Option, Some, None, option_map, option_and_then, codes}
+use Rattle.std.specs.Prelude.{List, [], ◌∷◌, Option, codes}
 use Rattle.std.specs.Option.{option_map_or}
-use Rattle.std.specs.Borrow.{Bor}
-use Rattle.serde_json.specs.Data.{Data, null, boolean, number, string, array, object, Items, no_items, item}
-use Rattle.serde_json.specs.Find.{get, as_array}
-use Rattle.serde_json.specs.View.{view}
-use Rattle.serde_json.specs.declared.value.Value.{Value}
-
--- a value that is not null
-abbrev pub not_null : Data → Option Data
-not_null null = None
-not_null (boolean b) = Some (boolean b)
-not_null (number n) = Some (number n)
-not_null (string s) = Some (string s)
-not_null (array ds) = Some (array ds)
-not_null (object ms) = Some (object ms)
-
--- the member of that name; one that is null counts as absent, and a value that is no object has none
-abbrev pub member_of : List ℕ → Data → Option Data
-member_of name d = option_and_then not_null (get name d)
+use Rattle.json_text.specs.Members.{member_of}
+use Rattle.serde_json.specs.Data.{Data, Items, no_items, item}
+use Rattle.serde_json.specs.Find.{as_array}
 
 -- the lists of the nodes' CPUs, node 0 first
 abbrev pub nodes_member : Data → Option Data
@@ -48,7 +33,3 @@ items_of d = option_map_or item_list (as_array d) []
 -- the items of a member that is an array
 abbrev pub items_in : Option Data → List Data
 items_in found = option_map_or items_of found []
-
--- the value behind a reference that may be absent
-abbrev pub seen : Option (Bor Value) → Option Data
-seen found = option_map (λ v. view v.now) found

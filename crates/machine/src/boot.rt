@@ -1,7 +1,7 @@
 //! The reserved CPUs, and those that are online at boot.
 ghost use Rattle.std.specs.Prelude.{◌≡◌, ◌≢◌, true, IfOk};
 ghost use Rattle.std.specs.FinSet as set;
-ghost use Rattle.machine.specs.Members.{seen};
+ghost use Rattle.json_text.specs.Members.{seen};
 ghost use Rattle.machine.specs.Listed.{listed_in};
 ghost use Rattle.machine.specs.BootFaults.{required_fault, optional_fault, reserved_fault, offline_fault};
 ghost use Rattle.machine.specs.Answers.{fault_of};

@@ -1,4 +1,5 @@
 use crate::field::Field;
+use json_text::JsonError;
 use std::alloc::AllocError;
 
 /// Why a text describes no machine. The variants stand in the order in which they are looked for, but
@@ -55,5 +56,19 @@ impl From<AllocError> for MachineError {
 
     fn from(_e: AllocError) -> MachineError {
         MachineError::Memory
+    }
+}
+
+impl From<JsonError> for MachineError {
+    ghost use Rattle.std.specs.Prelude.{◌≡◌};
+    ghost use Rattle.machine.specs.JsonFault.{json_fault};
+
+    ghost from_gives = { λ json e. e ≡ json_fault json };
+
+    fn from(e: JsonError) -> MachineError {
+        match e {
+            JsonError::Memory => MachineError::Memory,
+            JsonError::NotJson => MachineError::Fault(MachineFault::NotJson),
+        }
     }
 }

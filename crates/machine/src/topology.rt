@@ -1,4 +1,4 @@
-ghost use Rattle.std.specs.Prelude.{◌≡◌, ◌≢◌, ℕ, ◌<◌, ◌≤◌, ◌↔◌, true, nat_lt, position, length, option_map, Err, IfOk};
+ghost use Rattle.std.specs.Prelude.{◌≡◌, ◌≢◌, ℕ, ◌<◌, ◌≤◌, ◌↔◌, true, nat_lt, position, length, option_map, Err, IfOk, IsErrOf};
 ghost use Rattle.serde_json.specs.View.{view};
 ghost use Rattle.std.specs.FinSet as set;
 ghost use Rattle.machine.specs.Layout.{Layout, node_count, distance};
@@ -9,11 +9,12 @@ ghost use Rattle.machine.specs.Weight.{weight, IsWeight, AreHomes};
 use crate::boot::{read_offline, read_reserved};
 use crate::fault::{MachineError, MachineFault};
 use crate::field::Field;
-use crate::lookup::{array, member, parse};
+use crate::lookup::array;
 use crate::node_sets::{read_nodes, union_of};
 use crate::table::read_distances;
 use crate::{MAX_BYTES, UNREACHABLE};
 use cpu_set::IdSet;
+use json_text::{member, parse};
 use serde_json::Value;
 use slit::Slit;
 use std::alloc::Global;
@@ -74,6 +75,7 @@ impl Machine {
     pub fn read(alloc: Global, json: &[u8], slit: Option<&Slit>) -> Result<Machine, MachineError>
         ensures machine { Gives result (machine_of (option_map (λ s. s.now) slit.entry) json.now) }
         ensures long { MAX_BYTES < length json.now → result ≡ Err (MachineError.Fault MachineFault.NotJson) }
+        ensures memory { IsErrOf result MachineError.Memory → 0 < length json.now }
     {
         if json.len() > MAX_BYTES {
             return Err(MachineError::Fault(MachineFault::NotJson));
@@ -205,3 +207,6 @@ impl Machine {
         least
     }
 }
+
+#[cfg(test)]
+mod tests;
