@@ -1,2 +1,1 @@
-pub mod TextTests
 pub mod Words

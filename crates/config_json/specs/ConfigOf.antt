@@ -5,7 +5,7 @@ use Rattle.config_json.specs.declared.config.TheConstants.{MAX_BYTES}
 use Rattle.config_json.specs.declared.config.Config.{Config}
 use Rattle.config_json.specs.declared.fault.ConfigFault.{ConfigFault}
 use Rattle.config_json.specs.declared.fault.ConfigFault.TheVariants.{TooLong, NotJson}
-use Rattle.config_json.specs.JsonOf.{json_of}
+use Rattle.json_text.specs.JsonOf.{json_of}
 use Rattle.config_json.specs.ValueFault.{value_fault}
 use Rattle.config_json.specs.SectionOf.{section_of}
 use Rattle.config_json.specs.IsRunnable.{is_runnable}

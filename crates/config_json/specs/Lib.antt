@@ -1,4 +1,3 @@
-pub mod JsonOf
 pub mod Members
 pub mod Checks
 pub mod VersionFault
@@ -9,3 +8,4 @@ pub mod ConfigOf
 pub mod Answers
 pub mod PathOf
 pub mod FoundView
+pub mod ErrorOfJson

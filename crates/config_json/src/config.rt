@@ -1,8 +1,7 @@
-ghost use Rattle.std.specs.Prelude.{◌≡◌, ◌≢◌, ◌<◌, ◌≤◌, length, IfOk, IfErr, OnOk, IsErrOf, is_some};
+ghost use Rattle.std.specs.Prelude.{◌≡◌, ◌<◌, ◌≤◌, length, IsErrOf, is_some};
 ghost use Rattle.std.specs.List.{list_all};
 ghost use Rattle.serde_json.specs.Find.{as_str};
 ghost use Rattle.serde_json.specs.View.{view, items_view};
-ghost use Rattle.config_json.specs.JsonOf.{json_of};
 ghost use Rattle.config_json.specs.ConfigOf.{config_of};
 ghost use Rattle.config_json.specs.IsRunnable.{are_words, is_runnable};
 ghost use Rattle.config_json.specs.ValueFault.{root_fault};
@@ -11,8 +10,9 @@ ghost use Rattle.config_json.specs.Answers.{Gives, fault_of};
 use crate::cpu_section::{CpuSection, Found};
 use crate::fault::{ConfigError, ConfigFault};
 use crate::field::Field;
-use crate::lookup::{check_object, inner, member, required, text};
+use crate::lookup::{check_object, required, text};
 use crate::version::check_version;
+use json_text::{inner, member, parse};
 use serde_json::Value;
 use std::alloc::Global;
 
@@ -59,22 +59,6 @@ impl Config {
             runnable: runnable(&value),
             cpu: found.to_section(alloc)?,
         })
-    }
-}
-
-// The JSON value that the bytes are.
-#[tactic(auto, using(crate::proofs::TextTests::utf8_tests, crate::proofs::TextTests::no_bytes), unfolding(crate::specs::JsonOf::json_of))]
-fn parse(alloc: Global, bytes: &[u8]) -> Result<Value, ConfigError>
-    ensures ok { IfOk result (λ v. json_of bytes.now ≡ Some (view v)) }
-    ensures some { OnOk result (0 < length bytes.now) }
-    ensures err { IfErr result (λ e. e ≢ ConfigError.Memory
-        → (e ≡ ConfigError.Fault ConfigFault.NotJson) × (json_of bytes.now ≡ None)) }
-    ensures memory { IsErrOf result ConfigError.Memory → 0 < length bytes.now }
-{
-    match Value::from_slice(alloc, bytes) {
-        Ok(value) => Ok(value),
-        Err(e) if e.is_memory() => Err(ConfigError::Memory),
-        Err(_) => Err(ConfigError::Fault(ConfigFault::NotJson)),
     }
 }
 

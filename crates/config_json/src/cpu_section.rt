@@ -6,9 +6,8 @@ ghost use Rattle.config_json.specs.Answers.{fault_of};
 
 use crate::fault::ConfigFault;
 use crate::field::Field;
-use crate::lookup::{
-    inner, member, optional_object, optional_signed, optional_text, optional_unsigned,
-};
+use crate::lookup::{optional_object, optional_signed, optional_text, optional_unsigned};
+use json_text::{inner, member};
 use serde_json::Value;
 use std::alloc::{AllocError, Global};
 use std::marker::Model;

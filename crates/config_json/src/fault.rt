@@ -1,4 +1,5 @@
 use crate::field::Field;
+use json_text::JsonError;
 use std::alloc::AllocError;
 
 /// Why a text is no config that can be read.
@@ -46,5 +47,19 @@ impl From<AllocError> for ConfigError {
 
     fn from(_e: AllocError) -> ConfigError {
         ConfigError::Memory
+    }
+}
+
+impl From<JsonError> for ConfigError {
+    ghost use Rattle.std.specs.Prelude.{◌≡◌};
+    ghost use Rattle.config_json.specs.ErrorOfJson.{error_of_json};
+
+    ghost from_gives = { λ error e. e ≡ error_of_json error };
+
+    fn from(error: JsonError) -> ConfigError {
+        match error {
+            JsonError::Memory => ConfigError::Memory,
+            JsonError::NotJson => ConfigError::Fault(ConfigFault::NotJson),
+        }
     }
 }

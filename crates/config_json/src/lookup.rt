@@ -1,31 +1,14 @@
-//! Looking up members of a JSON value, and reading them as the kind that they must have.
+//! Reading the members of a JSON value as the kind that they must have.
 ghost use Rattle.std.specs.Prelude.{◌≡◌, IfOk, option_map, option_and_then};
 ghost use Rattle.serde_json.specs.Find.{as_object, as_str};
 ghost use Rattle.serde_json.specs.View.{view};
-ghost use Rattle.config_json.specs.Members.{member_of, inner_of, seen};
+ghost use Rattle.json_text.specs.Members.{seen};
 ghost use Rattle.config_json.specs.Checks.{signed_of, unsigned_of, missing_fault, other_kind, kind_fault};
 ghost use Rattle.config_json.specs.Answers.{fault_of};
 
 use crate::fault::ConfigFault;
 use crate::field::Field;
 use serde_json::Value;
-
-// The member of that name; one that is null counts as absent.
-pub fn member<'v>(value: &'v Value, name: &str) -> Option<&'v Value>
-    ensures { seen result ≡ member_of name.now (view value.now) }
-{
-    match value.get(name) {
-        Some(Value::Null) => None,
-        found => found,
-    }
-}
-
-// The member of that name of a value that may be absent.
-pub fn inner<'v>(found: Option<&'v Value>, name: &str) -> Option<&'v Value>
-    ensures { seen result ≡ inner_of name.now (seen found.entry) }
-{
-    member(found?, name)
-}
 
 // A member that has to be there.
 pub fn required(found: Option<&Value>, field: Field) -> Result<&Value, ConfigFault>

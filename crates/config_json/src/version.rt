@@ -7,7 +7,8 @@ ghost use Rattle.config_json.specs.Answers.{Meets};
 
 use crate::fault::{ConfigError, ConfigFault};
 use crate::field::Field;
-use crate::lookup::{member, required, text};
+use crate::lookup::{required, text};
+use json_text::member;
 use semver::Version;
 use serde_json::Value;
 use std::alloc::{AllocError, Global};
