@@ -9,7 +9,7 @@ use Rattle.cpu_set.specs.Ids.{Ids}
 use Rattle.cpuset_tree.specs.declared.groups.Group.{Group}
 use Rattle.cpuset_tree.specs.declared.groups.Cgroup.{Cgroup}
 use Rattle.cpuset_tree.specs.TreeState.{GroupEntry}
-use Rattle.cpuset_tree.specs.LookUps.{same_group, is_parent, has_child_among, entry_among, root_among}
+use Rattle.cpuset_tree.specs.Groups.{same_group, is_parent, has_child_among, entry_among, root_among}
 use Rattle.cpuset_tree.specs.Kept.{entry_of_kept, listed, HasParentAmong, IsInOrder, KeepsEffective, AllKept, ChangesAt, behind}
 use Rattle.cpuset_tree.proofs.GroupLemmas.{same_group-key, same_group-equal, same_group_sym, other_key, entry_among-here, entry_among-there, effective-without, standing_alike}
 use Rattle.cpuset_tree.proofs.KeptLemmas.{listed_at, key_is_absent, listed-others, AllKept-others}

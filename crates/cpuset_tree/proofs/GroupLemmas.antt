@@ -5,7 +5,7 @@ use Rattle.std.specs.Prelude.{Option, Some, None, ◌==◌}
 use Rattle.cpu_set.specs.Ids.{Ids}
 use Rattle.cpuset_tree.specs.declared.groups.Group.{Group}
 use Rattle.cpuset_tree.specs.TreeState.{GroupEntry}
-use Rattle.cpuset_tree.specs.LookUps.{same_group, entry_among, is_parent, has_child_among}
+use Rattle.cpuset_tree.specs.Groups.{same_group, entry_among, is_parent, has_child_among}
 use Rattle.cpuset_tree.specs.Effective.{granted, standing, effective}
 
 pub same_group-key : (a b : Group) → same_group a b ≡ true → a.key ≡ b.key

@@ -9,7 +9,7 @@ use Rattle.cpu_set.specs.Ids.{Ids}
 use Rattle.cpuset_tree.specs.declared.groups.Group.{Group}
 use Rattle.cpuset_tree.specs.declared.groups.Cgroup.{Cgroup}
 use Rattle.cpuset_tree.specs.TreeState.{GroupEntry}
-use Rattle.cpuset_tree.specs.LookUps.{same_group, entry_among}
+use Rattle.cpuset_tree.specs.Groups.{same_group, entry_among}
 use Rattle.cpuset_tree.specs.Effective.{effective}
 use Rattle.cpuset_tree.specs.Kept.{entry_of_kept, before, listed, HasParentAmong, IsInOrder, KeepsEffective, AllKept, IsOrder, cpus_kept, mems_kept, refreshed, ChangesAt}
 use Rattle.cpuset_tree.proofs.GroupLemmas.{same_group-key, entry_among-there, effective-here, effective-there, standing_alike}

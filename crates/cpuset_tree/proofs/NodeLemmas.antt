@@ -8,7 +8,7 @@ use Rattle.cpu_set.specs.Ids.{Ids}
 use Rattle.cpuset_tree.specs.declared.groups.Group.{Group}
 use Rattle.cpuset_tree.specs.declared.groups.Cgroup.{Cgroup}
 use Rattle.cpuset_tree.specs.TreeState.{TreeState}
-use Rattle.cpuset_tree.specs.LookUps.{same_group, entry_among, is_root_entry}
+use Rattle.cpuset_tree.specs.Groups.{same_group, entry_among, is_root_entry}
 use Rattle.cpuset_tree.specs.Kept.{listed, IsSound, IsKeptOf, entry_of_kept, cpus_kept, mems_kept}
 use Rattle.cpuset_tree.proofs.KeptLemmas.{cpus_kept-effective, mems_kept-effective}
 use Rattle.cpuset_tree.proofs.ChangeLemmas.{found, not_found}

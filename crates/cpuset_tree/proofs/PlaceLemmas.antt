@@ -10,7 +10,7 @@ use Rattle.cpu_set.specs.Ids.{Ids}
 use Rattle.cpuset_tree.specs.declared.groups.Group.{Group}
 use Rattle.cpuset_tree.specs.declared.groups.Cgroup.{Cgroup}
 use Rattle.cpuset_tree.specs.TreeState.{GroupEntry}
-use Rattle.cpuset_tree.specs.LookUps.{same_group, entry_among, root_among}
+use Rattle.cpuset_tree.specs.Groups.{same_group, entry_among, root_among}
 use Rattle.cpuset_tree.specs.Kept.{before, listed, HasParentAmong, IsInOrder, IsOrder, refreshed, ChangesAt, bare, OnlyKeptDiffers}
 
 -- a group and its parent

@@ -10,7 +10,7 @@ use Rattle.cpu_set.specs.Ids.{Ids}
 use Rattle.cpuset_tree.specs.declared.groups.Group.{Group}
 use Rattle.cpuset_tree.specs.declared.groups.Cgroup.{Cgroup}
 use Rattle.cpuset_tree.specs.TreeState.{GroupEntry}
-use Rattle.cpuset_tree.specs.LookUps.{same_group, entry_among, root_among, has_child_among}
+use Rattle.cpuset_tree.specs.Groups.{same_group, entry_among, root_among, has_child_among}
 use Rattle.cpuset_tree.specs.Effective.{granted, standing, effective}
 use Rattle.cpuset_tree.specs.Kept.{entry_of_kept, listed, HasParentAmong, IsInOrder, AllKept, KeepsEffective, IsSound}
 use Rattle.cpuset_tree.proofs.SetLemmas.{granted-empty}

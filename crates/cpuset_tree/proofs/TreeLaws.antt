@@ -1,17 +1,16 @@
 -- What each change leaves of a tree.
-use Rattle.std.proofs.Common.{◌≡◌, ◌≢◌, ℕ, ◌+◌, ◌<◌, ◌≤◌, Bool, true, false, not, ◌||◌, ◌&&◌, List, [], ◌∷◌, refl, sym, ap, ◌∙◌, subst, arith, map, filter}
-use Rattle.std.proofs.lemmas.Bool.{or_parts, and_parts, cond-true, cond-false, both_ways, not_from_false}
+use Rattle.std.proofs.Common.{◌≡◌, ℕ, ◌<◌, ◌≤◌, Bool, true, false, not, ◌&&◌, List, [], ◌∷◌, refl, sym, ap, ◌∙◌, subst, arith, map, filter}
+use Rattle.std.proofs.lemmas.Bool.{or_parts, and_parts, cond-true, cond-false, both_ways}
 use Rattle.std.proofs.lemmas.Option.{same_Some, none-some}
 use Rattle.std.specs.Prelude.{Option, Some, None, is_some, is_none, option_map, find, nat_eq}
 use Rattle.std.specs.Cmp.Lexicographic.{pointwise}
 use Rattle.cpu_set.specs.Ids.{Ids}
 use Rattle.cpuset_tree.specs.declared.groups.Group.{Group}
 use Rattle.cpuset_tree.specs.TreeState.{GroupEntry, TreeState}
-use Rattle.cpuset_tree.specs.LookUps.{same_group, entry_among, entry_of, has_group, is_parent, is_root_entry, has_child_among, child_among, child_of, root_among}
-use Rattle.cpuset_tree.specs.Changes.{requesting_cpus, requesting_mems, with_cpus, with_mems, with_group, without_group, new_entry, first_tree}
-use Rattle.cpuset_tree.specs.Answers.{AddsGroup}
-use Rattle.cpuset_tree.specs.WellFormed.{ParentIsAmong, IsFalling, IsWellFormed}
-use Rattle.cpuset_tree.specs.Laws.{CpusWritten, MemsWritten, GroupAdded, AddedLeaves, RemovedLeaves, IsChild, FoundIsChild, StaysWellFormed, ChangesStayWellFormed, FirstIsWellFormed, WellFormedRunsUp}
+use Rattle.cpuset_tree.specs.Groups.{same_group, entry_among, entry_of, has_group, is_parent, is_root_entry, has_child_among, root_among}
+use Rattle.cpuset_tree.specs.TreeChanges.{requesting_cpus, requesting_mems, with_group, new_entry}
+use Rattle.cpuset_tree.specs.TreeWellFormed.{ParentIsAmong, IsFalling, IsWellFormed}
+use Rattle.cpuset_tree.specs.TreeLaws.{CpusWritten, MemsWritten, GroupAdded, AddedLeaves, RemovedLeaves, IsChild, FoundIsChild, ChangesStayWellFormed, FirstIsWellFormed, WellFormedRunsUp}
 use Rattle.cpuset_tree.proofs.GroupLemmas.{same_group-equal, same_group_itself, same_group_sym, same_group-serial, other_serial, entry_among-here, entry_among-there}
 use Rattle.cpuset_tree.proofs.ChangeLemmas.{entry_among-without, entry_among-removed}
 use Rattle.cpuset_tree.proofs.WellFormedLemmas.{serial_below, RunsUpThePath-well_formed}
@@ -42,7 +41,7 @@ module _ (r : GroupEntry → GroupEntry) (group : (e : GroupEntry) → (r e).gro
     IsFalling-map next (e ∷ older) (below, up, rest) = (
       subst (λ (g : Group). g.serial < next) (sym (group e)) below,
       subst (λ (o : Option Group). ParentIsAmong o (map r older)) (sym (parent e)) (parent-map e.parent older up),
-      subst (λ (g : Group). IsFalling g.serial (map r older)) (sym (group e)) (IsFalling-map e.group.serial older rest)
+      subst (λ (g : Group). IsFalling g.serial (map r older)) (sym (group e)) (IsFalling-map e.group.serial older rest),
     )
 
     pub root_among-map : (groups : List GroupEntry) → root_among (map r groups) ≡ root_among groups
@@ -108,20 +107,18 @@ found_entry test next [] _ e at = absurd (none-some e at)
 found_entry test next (h ∷ older) (below, up, rest) e at =
     elim (test h) as (λ t. test h ≡ t → (entry_among (h ∷ older) e.group ≡ Some e) × (test e ≡ true) × (e.group.serial < next)) [
       | true ↦ λ is.
-          let one : h ≡ e = same_Some h e (sym (cond-true (test h) (Some h) (find test older) is) ∙ at) in
-          (
+          let one : h ≡ e = same_Some h e (sym (cond-true (test h) (Some h) (find test older) is) ∙ at) in (
             entry_among-here h older e.group (ap (λ (x : GroupEntry). same_group h.group x.group) (sym one) ∙ same_group_itself h.group) ∙ ap Some one,
             ap test (sym one) ∙ is,
-            subst (λ (x : GroupEntry). x.group.serial < next) one below
+            subst (λ (x : GroupEntry). x.group.serial < next) one below,
           )
       | false ↦ λ is.
           let deeper : (entry_among older e.group ≡ Some e) × (test e ≡ true) × (e.group.serial < h.group.serial) =
-              found_entry test h.group.serial older rest e (sym (cond-false (test h) (Some h) (find test older) is) ∙ at) in
-          let lower : e.group.serial < h.group.serial = deeper.2 in
-          (
+          found_entry test h.group.serial older rest e (sym (cond-false (test h) (Some h) (find test older) is) ∙ at) in
+          let lower : e.group.serial < h.group.serial = deeper.2 in (
             entry_among-there h older e.group (other_serial h.group e.group (λ same. absurd (omega arith))) ∙ deeper.0,
             deeper.1,
-            omega arith
+            omega arith,
           )
     ] refl
 
@@ -137,7 +134,7 @@ found_is_child s parent name g well at = from (find (λ e. is_parent e.parent pa
     from (Some e) is =
         let group : e.group ≡ g = same_Some e.group g (sym (ap (option_map (λ e. e.group)) is) ∙ at) in
         let found : (entry_of s e.group ≡ Some e) × ((is_parent e.parent parent && pointwise nat_eq e.name name) ≡ true) × (e.group.serial < s.next_serial) =
-            found_entry (λ e. is_parent e.parent parent && pointwise nat_eq e.name name) s.next_serial s.groups well.falling e is in
+        found_entry (λ e. is_parent e.parent parent && pointwise nat_eq e.name name) s.next_serial s.groups well.falling e is in
         let parts : (is_parent e.parent parent ≡ true) × (pointwise nat_eq e.name name ≡ true) = and_parts (is_parent e.parent parent) (pointwise nat_eq e.name name) found.1 in
         record {
           entry = e;
@@ -183,7 +180,7 @@ root_among-without g next (e ∷ older) (below, up, rest) child =
           ∙ sym (ap (option_map (λ x. x.group)) (cond-false (is_none e.parent) (Some e) (find (λ x. is_none x.parent) older) (ap is_root_entry (sym (entry_among-here e older g is)) ∙ child)))
       | false ↦ λ is.
           let stays : root_among (filter (λ e. not (same_group e.group g)) older) ≡ root_among older =
-              root_among-without g e.group.serial older rest (ap is_root_entry (sym (entry_among-there e older g is)) ∙ child) in
+          root_among-without g e.group.serial older rest (ap is_root_entry (sym (entry_among-there e older g is)) ∙ child) in
           ap root_among (cond-true (not (same_group e.group g)) (e ∷ filter (λ e. not (same_group e.group g)) older) (filter (λ e. not (same_group e.group g)) older) (ap not is))
           ∙ elim (is_none e.parent) as (λ t. is_none e.parent ≡ t → root_among (e ∷ filter (λ e. not (same_group e.group g)) older) ≡ root_among (e ∷ older)) [
             | true ↦ λ h. rw h
@@ -207,7 +204,7 @@ stays_well_formed s well = record {
     falling = (
       let serial : g.serial ≡ s.next_serial = adds.serial in omega arith,
       there,
-      subst (λ (n : ℕ). IsFalling n s.groups) (sym adds.serial) well.falling
+      subst (λ (n : ℕ). IsFalling n s.groups) (sym adds.serial) well.falling,
     );
     rooted = well.rooted;
   });

@@ -8,10 +8,10 @@ use Rattle.cpu_set.specs.Ids.{Ids}
 use Rattle.cpuset_tree.specs.declared.groups.Group.{Group}
 use Rattle.cpuset_tree.specs.declared.groups.Cgroup.{Cgroup}
 use Rattle.cpuset_tree.specs.TreeState.{GroupEntry, TreeState}
-use Rattle.cpuset_tree.specs.LookUps.{same_group, entry_among}
+use Rattle.cpuset_tree.specs.Groups.{same_group, entry_among}
 use Rattle.cpuset_tree.specs.Effective.{standing, effective}
-use Rattle.cpuset_tree.specs.WellFormed.{ParentIsAmong, IsFalling}
-use Rattle.cpuset_tree.specs.Laws.{RunsUpThePath}
+use Rattle.cpuset_tree.specs.TreeWellFormed.{ParentIsAmong, IsFalling}
+use Rattle.cpuset_tree.specs.TreeLaws.{RunsUpThePath}
 use Rattle.cpuset_tree.specs.Kept.{listed, HasParentAmong, IsInOrder}
 use Rattle.cpuset_tree.proofs.GroupLemmas.{same_group-serial, other_serial, entry_among-here, entry_among-there, effective-here, effective-there, standing_alike}
 use Rattle.cpuset_tree.proofs.KeptLemmas.{listed_at}

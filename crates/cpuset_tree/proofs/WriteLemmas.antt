@@ -7,8 +7,8 @@ use Rattle.cpu_set.specs.Ids.{Ids}
 use Rattle.cpuset_tree.specs.declared.groups.Group.{Group}
 use Rattle.cpuset_tree.specs.declared.groups.Cgroup.{Cgroup}
 use Rattle.cpuset_tree.specs.TreeState.{GroupEntry}
-use Rattle.cpuset_tree.specs.LookUps.{same_group}
-use Rattle.cpuset_tree.specs.Changes.{requesting_cpus, requesting_mems}
+use Rattle.cpuset_tree.specs.Groups.{same_group}
+use Rattle.cpuset_tree.specs.TreeChanges.{requesting_cpus, requesting_mems}
 use Rattle.cpuset_tree.specs.Kept.{entry_of_kept, before, listed, IsOrder, AllKept, IsSound, ChangesAt, OnlyKeptDiffers, bare, behind, with_cpus_kept, with_mems_kept}
 use Rattle.cpuset_tree.proofs.PlaceLemmas.{place, SamePlaces, SamePlaces-from_kept, same_from_change, IsOrder-same}
 use Rattle.cpuset_tree.proofs.ChangeLemmas.{AllKept-older, listed-written}

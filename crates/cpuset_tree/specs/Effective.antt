@@ -4,7 +4,7 @@ use Rattle.std.specs.FinSet as set
 use Rattle.cpu_set.specs.Ids.{Ids}
 use Rattle.cpuset_tree.specs.declared.groups.Group.{Group}
 use Rattle.cpuset_tree.specs.TreeState.{GroupEntry, TreeState}
-use Rattle.cpuset_tree.specs.LookUps.{same_group}
+use Rattle.cpuset_tree.specs.Groups.{same_group}
 
 -- whether a set has no number
 abbrev pub is_empty : Ids → Bool

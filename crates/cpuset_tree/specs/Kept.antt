@@ -7,7 +7,7 @@ use Rattle.cpu_set.specs.Ids.{Ids}
 use Rattle.cpuset_tree.specs.declared.groups.Group.{Group}
 use Rattle.cpuset_tree.specs.declared.groups.Cgroup.{Cgroup}
 use Rattle.cpuset_tree.specs.TreeState.{GroupEntry, TreeState}
-use Rattle.cpuset_tree.specs.LookUps.{entry_of, entry_among, root_among}
+use Rattle.cpuset_tree.specs.Groups.{entry_of, entry_among, root_among}
 use Rattle.cpuset_tree.specs.Effective.{standing, effective, effective_cpus, effective_mems}
 
 -- what a kept group is to the tree's callers

@@ -1,8 +1,8 @@
 pub mod TreeState
-pub mod LookUps
+pub mod Groups
 pub mod Effective
-pub mod Changes
-pub mod Answers
-pub mod WellFormed
-pub mod Laws
+pub mod TreeChanges
+pub mod TreeAnswers
+pub mod TreeWellFormed
+pub mod TreeLaws
 pub mod Kept

@@ -1,11 +1,11 @@
 ghost use Rattle.std.specs.Prelude.{◌≡◌, ◌<◌, IfOk, OnErr, MatchResult, Some, None, true, false, string_bytes};
 ghost use Rattle.std.specs.Option.{option_copied};
-ghost use Rattle.cpuset_tree.specs.LookUps.{root_of, has_group, is_root, child_of, has_children, requested_cpus, requested_mems};
+ghost use Rattle.cpuset_tree.specs.Groups.{root_of, has_group, is_root, child_of, has_children, requested_cpus, requested_mems};
 ghost use Rattle.cpuset_tree.specs.Effective.{effective_cpus, effective_mems};
-ghost use Rattle.cpuset_tree.specs.Changes.{IsFirstTree, without_group, with_cpus, with_mems, with_online};
-ghost use Rattle.cpuset_tree.specs.Answers.{Decides, Makes, AddsGroup, remove_refusal, write_refusal, read_of};
-ghost use Rattle.cpuset_tree.specs.WellFormed.{IsWellFormed};
-ghost use Rattle.cpuset_tree.specs.Laws.{RunsUpThePath};
+ghost use Rattle.cpuset_tree.specs.TreeChanges.{IsFirstTree, without_group, with_cpus, with_mems, with_online};
+ghost use Rattle.cpuset_tree.specs.TreeAnswers.{Decides, Makes, AddsGroup, remove_refusal, write_refusal, read_of};
+ghost use Rattle.cpuset_tree.specs.TreeWellFormed.{IsWellFormed};
+ghost use Rattle.cpuset_tree.specs.TreeLaws.{RunsUpThePath};
 
 use crate::groups::{Cgroup, put_cpus, put_mems};
 use crate::refresh::{refresh, refresh_from};

@@ -1,5 +1,5 @@
 ghost use Rattle.std.specs.Prelude.{◌≡◌};
-ghost use Rattle.cpuset_tree.specs.LookUps.{is_parent};
+ghost use Rattle.cpuset_tree.specs.Groups.{is_parent};
 ghost use Rattle.cpuset_tree.specs.Effective.{granted};
 ghost use Rattle.cpuset_tree.specs.Kept.{ChangesAt, with_cpus_kept, with_mems_kept};
 

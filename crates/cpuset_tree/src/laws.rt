@@ -1,4 +1,4 @@
-ghost use Rattle.cpuset_tree.specs.Laws.{CpusWritten, MemsWritten, AddedLeaves, RemovedLeaves, FoundIsChild, ChangesStayWellFormed, FirstIsWellFormed, WellFormedRunsUp};
+ghost use Rattle.cpuset_tree.specs.TreeLaws.{CpusWritten, MemsWritten, AddedLeaves, RemovedLeaves, FoundIsChild, ChangesStayWellFormed, FirstIsWellFormed, WellFormedRunsUp};
 
 /// What each change leaves of a tree; nothing runs.
 pub fn changes()

@@ -3,12 +3,12 @@ use Rattle.std.specs.Prelude.{◌≡◌, ℕ, false, if◌then◌else◌, List, 
 use Rattle.std.specs.FinSet as set
 use Rattle.cpu_set.specs.Ids.{Ids}
 use Rattle.cpuset_tree.specs.declared.Group.{Group}
-use Rattle.cpuset_tree.specs.LookUps.{has_group}
-use Rattle.cpuset_tree.specs.Changes.{with_group, without_group, with_cpus, with_mems, with_online}
-use Rattle.cpuset_tree.specs.Answers.{Decides}
+use Rattle.cpuset_tree.specs.Groups.{has_group}
+use Rattle.cpuset_tree.specs.TreeChanges.{with_group, without_group, with_cpus, with_mems, with_online}
+use Rattle.cpuset_tree.specs.TreeAnswers.{Decides}
 use Rattle.proctable.specs.declared.Process.{Process}
-use Rattle.proctable.specs.LookUps.{process_of, is_alive}
-use Rattle.proctable.specs.Changes.{with_process, exited, ended_in}
+use Rattle.proctable.specs.Processes.{process_of, is_alive}
+use Rattle.proctable.specs.TableChanges.{with_process, exited, ended_in}
 use Rattle.kernel_model.specs.declared.faults.KernelFault.{KernelFault}
 use Rattle.kernel_model.specs.declared.faults.KernelFault.TheVariants.{NoGroup, Failed}
 use Rattle.kernel_model.specs.declared.faults.KernelError.{KernelError}

@@ -3,9 +3,9 @@ use Rattle.std.specs.Prelude.{◌≡◌, ℕ, ◌+◌, refl}
 use Rattle.std.specs.Coded.{Coded, code_by, coded×, coded_ℕ}
 use Rattle.cpu_set.specs.Ids.{Ids, ids_code}
 use Rattle.cpuset_tree.specs.TreeState.{TreeState, tree_code}
-use Rattle.cpuset_tree.specs.Changes.{IsFirstTree}
+use Rattle.cpuset_tree.specs.TreeChanges.{IsFirstTree}
 use Rattle.proctable.specs.TableState.{TableState, table_code}
-use Rattle.proctable.specs.Changes.{first_table as table_at}
+use Rattle.proctable.specs.TableChanges.{first_table as table_at}
 
 -- the groups with what they request, the online CPUs, the nodes and the next serial; the live processes with their groups
 -- and first processes, and the next pid; the present CPUs, those of them that are reserved, and how many writes failed

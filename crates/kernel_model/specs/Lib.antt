@@ -1,3 +1,16 @@
+pub use Rattle.cpuset_tree.specs.TreeState
+pub use Rattle.cpuset_tree.specs.Groups
+pub use Rattle.cpuset_tree.specs.Effective
+pub use Rattle.cpuset_tree.specs.TreeChanges
+pub use Rattle.cpuset_tree.specs.TreeAnswers
+pub use Rattle.cpuset_tree.specs.TreeWellFormed
+pub use Rattle.cpuset_tree.specs.TreeLaws
+pub use Rattle.proctable.specs.TableState
+pub use Rattle.proctable.specs.Processes
+pub use Rattle.proctable.specs.TableChanges
+pub use Rattle.proctable.specs.TableAnswers
+pub use Rattle.proctable.specs.TableWellFormed
+pub use Rattle.proctable.specs.TableLaws
 pub mod Faults
 pub mod KernelState
 pub mod Refusals
@@ -5,3 +18,4 @@ pub mod Cases
 pub mod Fuse
 pub mod Runs
 pub mod WellFormed
+pub mod Laws

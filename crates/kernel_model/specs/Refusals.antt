@@ -3,9 +3,9 @@ use Rattle.std.specs.Prelude.{ℕ, ◌==◌, not, nat_lt, if◌then◌else◌, L
 use Rattle.std.specs.FinSet as set
 use Rattle.cpuset_tree.specs.declared.Group.{Group}
 use Rattle.cpuset_tree.specs.declared.TheConstants.{SERIAL_LIMIT}
-use Rattle.cpuset_tree.specs.LookUps.{has_group, has_children, child_of, is_root}
+use Rattle.cpuset_tree.specs.Groups.{has_group, has_children, child_of, is_root}
 use Rattle.proctable.specs.declared.TheConstants.{LAST_PID}
-use Rattle.proctable.specs.LookUps.{is_alive, count_in}
+use Rattle.proctable.specs.Processes.{is_alive, count_in}
 use Rattle.kernel_model.specs.declared.faults.KernelFault.{KernelFault}
 use Rattle.kernel_model.specs.declared.faults.KernelFault.TheVariants.{NoGroup, Exists, HasChildren, HasProcesses, IsRoot, NoPids, NoProcess, NoSerials, Reserved, NoCpu}
 use Rattle.kernel_model.specs.KernelState.{KernelState}

@@ -1,9 +1,9 @@
 -- A list of calls, made one after another.
 use Rattle.std.specs.Prelude.{◌≡◌, List, [], ◌∷◌, Some, Result, Ok, Err, string_bytes}
 use Rattle.cpuset_tree.specs.declared.Group.{Group}
-use Rattle.cpuset_tree.specs.LookUps.{root_of, child_of, requested_cpus, requested_mems}
+use Rattle.cpuset_tree.specs.Groups.{root_of, child_of, requested_cpus, requested_mems}
 use Rattle.cpuset_tree.specs.Effective.{effective_cpus, effective_mems}
-use Rattle.proctable.specs.LookUps.{is_alive}
+use Rattle.proctable.specs.Processes.{is_alive}
 use Rattle.kernel_model.specs.declared.faults.KernelFault.{KernelFault}
 use Rattle.kernel_model.specs.declared.faults.KernelError.{KernelError}
 use Rattle.kernel_model.specs.declared.faults.KernelError.TheVariants.{Fault}

@@ -1,6 +1,6 @@
 -- Which values are kernels.
-use Rattle.cpuset_tree.specs.WellFormed as tree
-use Rattle.proctable.specs.WellFormed as table
+use Rattle.cpuset_tree.specs.TreeWellFormed as tree
+use Rattle.proctable.specs.TableWellFormed as table
 use Rattle.kernel_model.specs.KernelState.{KernelState}
 
 -- the groups are a tree, and the processes a table

@@ -1,7 +1,7 @@
 ghost use Rattle.std.specs.Prelude.{◌≡◌, Some};
-ghost use Rattle.cpuset_tree.specs.LookUps.{root_of, child_of, requested_cpus, requested_mems};
+ghost use Rattle.cpuset_tree.specs.Groups.{root_of, child_of, requested_cpus, requested_mems};
 ghost use Rattle.cpuset_tree.specs.Effective.{effective_cpus, effective_mems};
-ghost use Rattle.proctable.specs.LookUps.{is_alive};
+ghost use Rattle.proctable.specs.Processes.{is_alive};
 ghost use Rattle.kernel_model.specs.KernelState.{KernelState};
 ghost use Rattle.kernel_model.specs.Cases.{MakesGroup, RemovesGroup, WritesCpus, WritesMems, Spawns, EndsGroup, Forks, Exits, GoesOffline, ComesOnline, read_of};
 ghost use Rattle.kernel_model.specs.WellFormed.{IsWellFormed};

@@ -6,6 +6,7 @@ mod call;
 mod faults;
 mod fused_kernel;
 mod interface;
+pub mod laws;
 mod model_kernel;
 
 pub use call::{Call, Reply, make_call, make_calls};

@@ -1,20 +1,20 @@
 -- What each change leaves of a table.
-use Rattle.std.proofs.Common.{◌≡◌, ◌≢◌, ℕ, ◌+◌, ◌≤◌, Bool, true, false, not, List, [], ◌∷◌, ◌++◌, refl, sym, ap, ◌∙◌, subst, arith, filter, cond, zero-add, eq-eqb, eqb-true}
+use Rattle.std.proofs.Common.{◌≡◌, ◌≢◌, ℕ, ◌+◌, Bool, true, false, not, List, [], ◌∷◌, ◌++◌, refl, sym, ap, ◌∙◌, subst, arith, filter, cond, zero-add, eq-eqb}
 use Rattle.std.proofs.lemmas.List.Sums.{sum_by-cons}
 use Rattle.std.specs.Prelude.{count_by}
 use Rattle.std.proofs.lemmas.Bool.{both_ways, ne_eqb, not_from_true, not_from_false, cond-true, cond-false}
-use Rattle.std.proofs.lemmas.Option.{same_Some, none-some}
-use Rattle.std.specs.Prelude.{Option, Some, None, is_some, ◌==◌}
+use Rattle.std.proofs.lemmas.Option.{none-some}
+use Rattle.std.specs.Prelude.{Option, Some, None, is_some}
 use Rattle.cpuset_tree.specs.declared.Group.{Group}
-use Rattle.cpuset_tree.specs.LookUps.{same_group}
+use Rattle.cpuset_tree.specs.Groups.{same_group}
 use Rattle.proctable.specs.declared.processes.Process.{Process}
 use Rattle.proctable.specs.TableState.{TableState}
-use Rattle.proctable.specs.LookUps.{process_among, process_of, is_alive}
-use Rattle.proctable.specs.Changes.{ends_with, exited, ended_in, with_process}
-use Rattle.proctable.specs.Answers.{AddsProcess, ForksOf}
-use Rattle.proctable.specs.WellFormed.{RisesBelow, Belongs, AllBelong, IsWellFormed}
-use Rattle.proctable.specs.Laws.{ProcessAdded, AddedLeaves, SomeEnd, ExitedLeaves, EndedLeaves, EndedIsEmpty, LiveBelong, EmptyOnceFirstEnded, StaysWellFormed, ChangesStayWellFormed, FirstIsWellFormed}
-use Rattle.proctable.proofs.TableLemmas.{process-here, process-there, process-pid, process-fresh, process-below, RisesBelow-push, process-push, process-push-old, process-push-new, AllBelong-push, RisesBelow-filter, process-filter-stays, process-filter-none, process-filter-ends, AllBelong-filter, together-exited, together-ended, Belongs-found}
+use Rattle.proctable.specs.Processes.{process_among, process_of, is_alive}
+use Rattle.proctable.specs.TableChanges.{ends_with}
+use Rattle.proctable.specs.TableAnswers.{AddsProcess}
+use Rattle.proctable.specs.TableWellFormed.{RisesBelow, Belongs, IsWellFormed}
+use Rattle.proctable.specs.TableLaws.{ProcessAdded, AddedLeaves, SomeEnd, ExitedLeaves, EndedLeaves, EndedIsEmpty, LiveBelong, EmptyOnceFirstEnded, ChangesStayWellFormed, FirstIsWellFormed}
+use Rattle.proctable.proofs.TableLemmas.{process-here, process-there, process-below, RisesBelow-push, process-push, process-push-old, process-push-new, AllBelong-push, RisesBelow-filter, process-filter-stays, process-filter-none, process-filter-ends, AllBelong-filter, together-exited, together-ended, Belongs-found}
 
 none_of : (o : Option Process) → is_some o ≡ false → o ≡ None
 none_of None h = refl
@@ -66,7 +66,7 @@ each_found P low next [] _ found = tt
 each_found P low next (p ∷ later) (le, rest) found = (
   found p.pid p (process-here p later p.pid (eq-eqb p.pid p.pid refl)),
   each_found P (p.pid + 1) next later rest (λ q x at. found q x (process-there p later q (ne_eqb p.pid q (λ e.
-      none-some x (sym (process-below (p.pid + 1) next q later rest (omega arith)) ∙ at))) ∙ at))
+      none-some x (sym (process-below (p.pid + 1) next q later rest (omega arith)) ∙ at))) ∙ at)),
 )
 
 count_none : (test : Process → Bool) (ps : List Process) → EachIs (λ p. test p ≡ false) ps → count_by test ps ≡ 0
@@ -94,12 +94,12 @@ pub empty_once_first_ended : EmptyOnceFirstEnded
 empty_once_first_ended t g first well gone belong =
     count_none (λ p. same_group p.group g) t.live
     (each_found (λ p. same_group p.group g ≡ false) 0 t.next_pid t.live well.rising (λ q p at.
-      elim (same_group p.group g) as (λ b. same_group p.group g ≡ b → b ≡ false) [
-        | true ↦ λ e.
-            let b : Belongs t.live p = Belongs-found t.live t.live well.belong q p at in
-            absurd (both_ways (is_alive t first) gone (ap (is_alive t) (sym (belong q p at e)) ∙ ap is_some b.alive))
-        | false ↦ λ _. refl
-      ] refl))
+    elim (same_group p.group g) as (λ b. same_group p.group g ≡ b → b ≡ false) [
+      | true ↦ λ e.
+          let b : Belongs t.live p = Belongs-found t.live t.live well.belong q p at in
+          absurd (both_ways (is_alive t first) gone (ap (is_alive t) (sym (belong q p at e)) ∙ ap is_some b.alive))
+      | false ↦ λ _. refl
+    ] refl))
 
 pub stays_well_formed : ChangesStayWellFormed
 stays_well_formed t well = record {

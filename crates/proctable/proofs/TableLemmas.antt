@@ -4,11 +4,11 @@ use Rattle.std.proofs.lemmas.Bool.{ne_eqb, cond-true, cond-false, or_parts, or_f
 use Rattle.std.proofs.lemmas.Option.{same_Some, none-some}
 use Rattle.std.specs.Prelude.{Some, None, ◌==◌}
 use Rattle.cpuset_tree.specs.declared.Group.{Group}
-use Rattle.cpuset_tree.specs.LookUps.{same_group}
+use Rattle.cpuset_tree.specs.Groups.{same_group}
 use Rattle.proctable.specs.declared.processes.Process.{Process}
-use Rattle.proctable.specs.LookUps.{process_among}
-use Rattle.proctable.specs.Changes.{ends_with}
-use Rattle.proctable.specs.WellFormed.{RisesBelow, Belongs, AllBelong}
+use Rattle.proctable.specs.Processes.{process_among}
+use Rattle.proctable.specs.TableChanges.{ends_with}
+use Rattle.proctable.specs.TableWellFormed.{RisesBelow, Belongs, AllBelong}
 
 pub process-here : (p : Process) (later : List Process) (pid : ℕ) → (p.pid == pid) ≡ true → process_among (p ∷ later) pid ≡ Some p
 process-here p later pid h = cond-true (p.pid == pid) (Some p) (process_among later pid) h

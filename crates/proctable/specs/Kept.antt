@@ -4,8 +4,8 @@ use Rattle.cpuset_tree.specs.declared.Group.{Group}
 use Rattle.proctable.specs.declared.TheConstants.{LAST_PID}
 use Rattle.proctable.specs.declared.processes.Process.{Process}
 use Rattle.proctable.specs.TableState.{TableState}
-use Rattle.proctable.specs.LookUps.{process_of}
-use Rattle.proctable.specs.WellFormed.{RisesBelow, AllBelong}
+use Rattle.proctable.specs.Processes.{process_of}
+use Rattle.proctable.specs.TableWellFormed.{RisesBelow, AllBelong}
 
 -- the table is well formed, and its next pid is at most one more than the last
 pub record IsSound (live : List Process) (next : ℕ) : Type 0 where

@@ -1,7 +1,7 @@
 pub mod TableState
-pub mod LookUps
-pub mod Changes
-pub mod Answers
-pub mod WellFormed
-pub mod Laws
+pub mod Processes
+pub mod TableChanges
+pub mod TableAnswers
+pub mod TableWellFormed
+pub mod TableLaws
 pub mod Kept

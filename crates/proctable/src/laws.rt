@@ -1,4 +1,4 @@
-ghost use Rattle.proctable.specs.Laws.{AddedLeaves, ExitedLeaves, EndedLeaves, EndedIsEmpty, LiveBelong, EmptyOnceFirstEnded, ChangesStayWellFormed, FirstIsWellFormed};
+ghost use Rattle.proctable.specs.TableLaws.{AddedLeaves, ExitedLeaves, EndedLeaves, EndedIsEmpty, LiveBelong, EmptyOnceFirstEnded, ChangesStayWellFormed, FirstIsWellFormed};
 
 /// What each change leaves of a table; nothing runs.
 pub fn changes()

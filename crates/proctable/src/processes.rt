@@ -1,9 +1,9 @@
 ghost use Rattle.std.specs.Prelude.{◌≡◌, ◌≤◌, IfOk, OnErr};
-ghost use Rattle.cpuset_tree.specs.Answers.{Decides};
-ghost use Rattle.proctable.specs.LookUps.{process_of, is_alive, group_of, count_in};
-ghost use Rattle.proctable.specs.Changes.{first_table, exited, ended_in};
-ghost use Rattle.proctable.specs.Answers.{exit_refusal, AddsProcess, Spawns, Forks};
-ghost use Rattle.proctable.specs.WellFormed.{IsWellFormed};
+ghost use Rattle.cpuset_tree.specs.TreeAnswers.{Decides};
+ghost use Rattle.proctable.specs.Processes.{process_of, is_alive, group_of, count_in};
+ghost use Rattle.proctable.specs.TableChanges.{first_table, exited, ended_in};
+ghost use Rattle.proctable.specs.TableAnswers.{exit_refusal, AddsProcess, Spawns, Forks};
+ghost use Rattle.proctable.specs.TableWellFormed.{IsWellFormed};
 ghost use Rattle.proctable.specs.Kept.{BelongsNext};
 
 use crate::{LAST_PID, ProcError, ProcFault};

@@ -4,10 +4,10 @@ use Rattle.slab.specs.Slab.{Slab, get, Updates}
 use Rattle.cpuset_tree.specs.declared.groups.Group.{Group}
 use Rattle.cpuset_tree.specs.declared.groups.Cgroup.{Cgroup}
 use Rattle.cpuset_tree.specs.TreeState.{TreeState}
-use Rattle.cpuset_tree.specs.LookUps.{has_group}
+use Rattle.cpuset_tree.specs.Groups.{has_group}
 use Rattle.cpuset_tree.specs.Effective.{effective_cpus, effective_mems}
-use Rattle.cpuset_tree.specs.Changes.{new_entry}
-use Rattle.cpuset_tree.specs.Answers.{AddsGroup}
+use Rattle.cpuset_tree.specs.TreeChanges.{new_entry}
+use Rattle.cpuset_tree.specs.TreeAnswers.{AddsGroup}
 use Rattle.cpuset_tree.specs.Kept.{IsSound, entry_of_kept, listed}
 use Rattle.cpuset_tree.proofs.ChangeLemmas.{not_found}
 use Rattle.cpuset_tree.proofs.SoundLemmas.{IsSound-room, IsSound-added, listed-added}

@@ -1,5 +1,5 @@
 use Rattle.std.proofs.Common.{◌≡◌, drop}
-use Rattle.cpuset_tree.specs.LookUps.{child_among}
+use Rattle.cpuset_tree.specs.Groups.{child_among}
 use Rattle.cpuset_tree.specs.Kept.{listed}
 use Rattle.cpuset_tree.proofs.cpusets.Tree.child.Given as goal
 

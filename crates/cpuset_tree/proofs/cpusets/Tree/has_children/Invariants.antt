@@ -1,5 +1,5 @@
 use Rattle.std.proofs.Common.{◌≡◌, drop}
-use Rattle.cpuset_tree.specs.LookUps.{has_child_among}
+use Rattle.cpuset_tree.specs.Groups.{has_child_among}
 use Rattle.cpuset_tree.specs.Kept.{listed}
 use Rattle.cpuset_tree.proofs.cpusets.Tree.has_children.Given as goal
 

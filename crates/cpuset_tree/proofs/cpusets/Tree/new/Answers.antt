@@ -8,8 +8,8 @@ use Rattle.cpu_set.specs.Ids.{Ids}
 use Rattle.cpuset_tree.specs.declared.groups.Group.{Group}
 use Rattle.cpuset_tree.specs.declared.groups.Cgroup.{Cgroup}
 use Rattle.cpuset_tree.specs.TreeState.{GroupEntry}
-use Rattle.cpuset_tree.specs.LookUps.{root_among}
-use Rattle.cpuset_tree.specs.Changes.{new_entry}
+use Rattle.cpuset_tree.specs.Groups.{root_among}
+use Rattle.cpuset_tree.specs.TreeChanges.{new_entry}
 use Rattle.cpuset_tree.specs.Kept.{IsSound, HasParentAmong, KeepsEffective, entry_of_kept, listed}
 use Rattle.cpuset_tree.specs.Effective.{standing, effective}
 use Rattle.cpuset_tree.proofs.KeptLemmas.{listed_at}

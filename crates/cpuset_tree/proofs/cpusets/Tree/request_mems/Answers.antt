@@ -1,7 +1,7 @@
 use Rattle.std.proofs.Common.{ℕ, List, sym, ap, ◌∙◌, refl, subst}
 use Rattle.cpuset_tree.specs.TreeState.{TreeState}
-use Rattle.cpuset_tree.specs.LookUps.{has_group}
-use Rattle.cpuset_tree.specs.Changes.{with_mems}
+use Rattle.cpuset_tree.specs.Groups.{has_group}
+use Rattle.cpuset_tree.specs.TreeChanges.{with_mems}
 use Rattle.cpuset_tree.specs.Kept.{AllKept, IsOrder, behind, with_mems_kept}
 use Rattle.cpuset_tree.proofs.NodeLemmas.{KeptThere, kept_there}
 use Rattle.cpuset_tree.proofs.WriteLemmas.{written_order, written_kept, written_sound, listed-mems}

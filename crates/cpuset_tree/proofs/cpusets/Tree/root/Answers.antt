@@ -2,8 +2,8 @@ use Rattle.std.proofs.Common.{ap, subst}
 use Rattle.std.specs.Prelude.{is_some}
 use Rattle.cpuset_tree.specs.TreeState.{TreeState}
 use Rattle.cpuset_tree.specs.Kept.{listed}
-use Rattle.cpuset_tree.specs.WellFormed.{IsWellFormed}
-use Rattle.cpuset_tree.specs.Laws.{RunsUpThePath}
+use Rattle.cpuset_tree.specs.TreeWellFormed.{IsWellFormed}
+use Rattle.cpuset_tree.specs.TreeLaws.{RunsUpThePath}
 use Rattle.cpuset_tree.proofs.WellFormedLemmas.{IsFalling-listed, RunsUpThePath-well_formed}
 use Rattle.cpuset_tree.proofs.cpusets.Tree.root.Goals as goal
 

@@ -2,8 +2,8 @@ use Rattle.std.proofs.Common.{◌≡◌, ℕ, not, List, filter, sym, ap, ◌∙
 use Rattle.std.proofs.lemmas.Fn.{filter_same}
 use Rattle.std.specs.Prelude.{◌==◌}
 use Rattle.cpuset_tree.specs.TreeState.{TreeState}
-use Rattle.cpuset_tree.specs.LookUps.{has_group, is_root, has_children}
-use Rattle.cpuset_tree.specs.Changes.{without_group}
+use Rattle.cpuset_tree.specs.Groups.{has_group, is_root, has_children}
+use Rattle.cpuset_tree.specs.TreeChanges.{without_group}
 use Rattle.cpuset_tree.specs.Kept.{IsSound, listed}
 use Rattle.cpuset_tree.proofs.NodeLemmas.{KeptThere, kept_there}
 use Rattle.cpuset_tree.proofs.ChangeLemmas.{listed-removed}

@@ -4,9 +4,9 @@ use Rattle.cpuset_tree.specs.declared.Group.{Group}
 use Rattle.proctable.specs.declared.processes.Process.{Process}
 use Rattle.proctable.specs.declared.TheConstants.{LAST_PID}
 use Rattle.proctable.specs.TableState.{TableState}
-use Rattle.proctable.specs.LookUps.{process_of}
-use Rattle.proctable.specs.Answers.{AddsProcess}
-use Rattle.proctable.specs.WellFormed.{Belongs}
+use Rattle.proctable.specs.Processes.{process_of}
+use Rattle.proctable.specs.TableAnswers.{AddsProcess}
+use Rattle.proctable.specs.TableWellFormed.{Belongs}
 use Rattle.proctable.specs.Kept.{IsSound, BelongsNext}
 use Rattle.proctable.proofs.TableLemmas.{RisesBelow-push, AllBelong-push, process-fresh, process-push-new, process-push-old}
 use Rattle.proctable.proofs.processes.ProcTable.add.Goals as goal

@@ -2,7 +2,7 @@ use Rattle.std.proofs.Common.{List, not, sym, ap, ◌∙◌, subst, rules}
 use Rattle.std.proofs.lemmas.Fn.{filter_same}
 use Rattle.proctable.specs.declared.processes.Process.{Process}
 use Rattle.proctable.specs.TableState.{TableState}
-use Rattle.proctable.specs.Changes.{ends_with, exited}
+use Rattle.proctable.specs.TableChanges.{ends_with, exited}
 use Rattle.proctable.specs.Kept.{IsSound}
 use Rattle.proctable.proofs.TableLemmas.{RisesBelow-filter, AllBelong-filter, together-exited}
 use Rattle.proctable.proofs.processes.ProcTable.end.Goals as goal

@@ -1,9 +1,9 @@
 use Rattle.std.proofs.Common.{List, not, sym, ap, ◌∙◌, subst, rules}
 use Rattle.std.proofs.lemmas.Fn.{filter_same}
-use Rattle.cpuset_tree.specs.LookUps.{same_group}
+use Rattle.cpuset_tree.specs.Groups.{same_group}
 use Rattle.proctable.specs.declared.processes.Process.{Process}
 use Rattle.proctable.specs.TableState.{TableState}
-use Rattle.proctable.specs.Changes.{ended_in}
+use Rattle.proctable.specs.TableChanges.{ended_in}
 use Rattle.proctable.specs.Kept.{IsSound}
 use Rattle.proctable.proofs.TableLemmas.{RisesBelow-filter, AllBelong-filter, together-ended}
 use Rattle.proctable.proofs.processes.ProcTable.end_in.Goals as goal

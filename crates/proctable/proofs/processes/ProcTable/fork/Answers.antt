@@ -1,7 +1,7 @@
 use Rattle.std.proofs.Common.{sym, ap, ◌∙◌, subst, inr}
 use Rattle.proctable.specs.TableState.{TableState}
-use Rattle.proctable.specs.LookUps.{process_of}
-use Rattle.proctable.specs.WellFormed.{Belongs}
+use Rattle.proctable.specs.Processes.{process_of}
+use Rattle.proctable.specs.TableWellFormed.{Belongs}
 use Rattle.proctable.specs.Kept.{BelongsNext}
 use Rattle.proctable.proofs.TableLemmas.{Belongs-found}
 use Rattle.proctable.proofs.processes.ProcTable.fork.Goals as goal

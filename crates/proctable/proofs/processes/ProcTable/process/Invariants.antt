@@ -1,5 +1,5 @@
 use Rattle.std.proofs.Common.{◌≡◌, drop}
-use Rattle.proctable.specs.LookUps.{process_among}
+use Rattle.proctable.specs.Processes.{process_among}
 use Rattle.proctable.proofs.processes.ProcTable.process.Given as goal
 
 abbrev pub invariant-loop-process : goal.invariant-loop-process

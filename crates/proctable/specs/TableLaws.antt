@@ -1,13 +1,13 @@
 -- What holds of each table, and what each change leaves of it.
-use Rattle.std.specs.Prelude.{◌≡◌, ◌≢◌, ℕ, ◌+◌, ◌≤◌, Bool, true, false, not, if◌then◌else◌, Option, Some, None}
+use Rattle.std.specs.Prelude.{◌≡◌, ◌≢◌, ℕ, Bool, true, false, Some, None}
 use Rattle.cpuset_tree.specs.declared.Group.{Group}
-use Rattle.cpuset_tree.specs.LookUps.{same_group}
+use Rattle.cpuset_tree.specs.Groups.{same_group}
 use Rattle.proctable.specs.declared.processes.Process.{Process}
 use Rattle.proctable.specs.TableState.{TableState}
-use Rattle.proctable.specs.LookUps.{process_of, is_alive, count_in}
-use Rattle.proctable.specs.Changes.{first_table, ends_with, exited as after_exit, ended_in}
-use Rattle.proctable.specs.Answers.{AddsProcess, ForksOf}
-use Rattle.proctable.specs.WellFormed.{Belongs, IsWellFormed}
+use Rattle.proctable.specs.Processes.{process_of, is_alive, count_in}
+use Rattle.proctable.specs.TableChanges.{first_table, ends_with, exited as after_exit, ended_in}
+use Rattle.proctable.specs.TableAnswers.{AddsProcess, ForksOf}
+use Rattle.proctable.specs.TableWellFormed.{Belongs, IsWellFormed}
 
 -- a new process is there, and all others stay
 pub record ProcessAdded (t new : TableState) (g : Group) (first pid : ℕ) : Type 0 where

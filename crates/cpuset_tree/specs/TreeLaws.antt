@@ -1,15 +1,15 @@
 -- What holds of each tree, and what each change leaves of it.
-use Rattle.std.specs.Prelude.{◌≡◌, ℕ, ◌<◌, Bool, true, false, ◌==◌, List, Option, Some, None, is_some, option_map}
+use Rattle.std.specs.Prelude.{◌≡◌, ℕ, true, false, List, Some, None, option_map}
 use Rattle.std.specs.Cmp.Lexicographic.{pointwise}
 use Rattle.std.specs.Prelude.{nat_eq}
 use Rattle.cpu_set.specs.Ids.{Ids}
 use Rattle.cpuset_tree.specs.declared.groups.Group.{Group}
 use Rattle.cpuset_tree.specs.TreeState.{GroupEntry, TreeState}
-use Rattle.cpuset_tree.specs.LookUps.{same_group, entry_of, has_group, has_children, is_root, child_of, is_parent, requested_cpus, requested_mems}
+use Rattle.cpuset_tree.specs.Groups.{same_group, entry_of, has_group, has_children, is_root, child_of}
 use Rattle.cpuset_tree.specs.Effective.{standing, effective_cpus, effective_mems}
-use Rattle.cpuset_tree.specs.Changes.{new_entry, IsFirstTree, with_group, without_group, requesting_cpus, requesting_mems, with_cpus, with_mems, with_online}
-use Rattle.cpuset_tree.specs.Answers.{AddsGroup}
-use Rattle.cpuset_tree.specs.WellFormed.{IsWellFormed}
+use Rattle.cpuset_tree.specs.TreeChanges.{new_entry, IsFirstTree, without_group, requesting_cpus, requesting_mems, with_cpus, with_mems, with_online}
+use Rattle.cpuset_tree.specs.TreeAnswers.{AddsGroup}
+use Rattle.cpuset_tree.specs.TreeWellFormed.{IsWellFormed}
 
 -- what is in effect is the recursion up the path: all at the root, and else what is granted of the parent's in the same tree
 pub record RunsUpThePath (s : TreeState) : Type 0 where

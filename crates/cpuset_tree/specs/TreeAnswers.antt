@@ -7,8 +7,8 @@ use Rattle.cpuset_tree.specs.declared.faults.TreeFault.TheVariants.{NoGroup, Exi
 use Rattle.cpuset_tree.specs.declared.faults.TreeError.{TreeError}
 use Rattle.cpuset_tree.specs.declared.faults.TreeError.TheVariants.{Memory, Fault}
 use Rattle.cpuset_tree.specs.TreeState.{TreeState}
-use Rattle.cpuset_tree.specs.LookUps.{has_group, has_children, child_of, is_root}
-use Rattle.cpuset_tree.specs.Changes.{with_group}
+use Rattle.cpuset_tree.specs.Groups.{has_group, has_children, child_of, is_root}
+use Rattle.cpuset_tree.specs.TreeChanges.{with_group}
 
 -- a call answers the first thing that stands against it and changes nothing, or does what it is for
 module _ {S A F : Type 0} (refusal : Option F) (Does : A → S → Type 0) (old : S) where

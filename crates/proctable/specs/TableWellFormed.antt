@@ -2,7 +2,7 @@
 use Rattle.std.specs.Prelude.{◌≡◌, ℕ, ◌+◌, ◌≤◌, List, [], ◌∷◌, Some}
 use Rattle.proctable.specs.declared.processes.Process.{Process}
 use Rattle.proctable.specs.TableState.{TableState}
-use Rattle.proctable.specs.LookUps.{process_among}
+use Rattle.proctable.specs.Processes.{process_among}
 
 -- the pids rise, from `low` on and below `next`
 abbrev pub RisesBelow : ℕ → ℕ → List Process → Type 0

@@ -8,8 +8,8 @@ use Rattle.proctable.specs.declared.faults.ProcError.{ProcError}
 use Rattle.proctable.specs.declared.faults.ProcError.TheVariants.{Memory, Fault}
 use Rattle.proctable.specs.declared.processes.Process.{Process}
 use Rattle.proctable.specs.TableState.{TableState}
-use Rattle.proctable.specs.LookUps.{process_of, is_alive}
-use Rattle.proctable.specs.Changes.{with_process}
+use Rattle.proctable.specs.Processes.{process_of, is_alive}
+use Rattle.proctable.specs.TableChanges.{with_process}
 
 -- what stands against one process more
 abbrev pub spawn_refusal : TableState → Option ProcFault

@@ -2,7 +2,7 @@
 use Rattle.std.specs.Prelude.{◌≡◌, ℕ, ◌<◌, true, List, [], ◌∷◌, Option, Some, None, is_some}
 use Rattle.cpuset_tree.specs.declared.groups.Group.{Group}
 use Rattle.cpuset_tree.specs.TreeState.{GroupEntry, TreeState}
-use Rattle.cpuset_tree.specs.LookUps.{entry_among, root_among}
+use Rattle.cpuset_tree.specs.Groups.{entry_among, root_among}
 
 -- a parent is among the older groups, and only the oldest group has none
 abbrev pub ParentIsAmong : Option Group → List GroupEntry → Type 0

@@ -1,7 +1,7 @@
 -- What is looked up in a table.
 use Rattle.std.specs.Prelude.{ℕ, Bool, ◌==◌, List, find, count_by, Option, is_some, option_map}
 use Rattle.cpuset_tree.specs.declared.Group.{Group}
-use Rattle.cpuset_tree.specs.LookUps.{same_group}
+use Rattle.cpuset_tree.specs.Groups.{same_group}
 use Rattle.proctable.specs.declared.processes.Process.{Process}
 use Rattle.proctable.specs.TableState.{TableState}
 
