@@ -1,5 +1,5 @@
 -- Which line of a text is the first bad one.
-use Rattle.std.proofs.Common.{◌≡◌, Bool, true, false, ℕ, ◌+◌, ◌<◌, ◌≤◌, inl, inr, ◌++◌, List, [], ◌∷◌, length, Option, Some, None, refl, sym, ap, ◌∙◌, subst, arith, length-append}
+use Rattle.std.proofs.Common.{◌≡◌, ◌⊎◌, Bool, true, false, ℕ, ◌+◌, ◌<◌, ◌≤◌, inl, inr, ◌++◌, List, [], ◌∷◌, length, Option, Some, None, Result, Ok, Err, IfOk, IfErr, refl, sym, ap, ◌∙◌, subst, arith, length-append}
 use Rattle.std.specs.Prelude.{option_and_then, ◌==◌}
 use Rattle.std.specs.List.{AllZip}
 use Rattle.std.proofs.lemmas.List.{append_assoc}
@@ -13,12 +13,15 @@ use Rattle.certificate.specs.declared.text.draft.Stage.TheVariants.{Start, Body,
 use Rattle.certificate.specs.Line.{LineView, Spells}
 use Rattle.certificate.specs.CertificateText.{AreLines, IsText}
 use Rattle.certificate.specs.FirstBadLine.{CanBegin, IsFirstBadLine}
+use Rattle.certificate.specs.TextError.{IsTextError, IsRead}
+use Rattle.certificate.specs.declared.text.reading.TextError.{TextError}
+use Rattle.certificate.specs.declared.text.reading.TextError.TheVariants.{Memory, BadText}
 use Rattle.certificate.specs.Begun.{run, IsBegun}
 use Rattle.certificate.specs.Finished.{said_by, finished, finished_at}
 use Rattle.certificate.specs.Parts.{parts}
 use Rattle.certificate.specs.DraftView.{DraftView, next, empty_draft}
 use Rattle.certificate.proofs.DraftLines.{ended_of}
-use Rattle.certificate.proofs.Grammar.{lines_begun, begun_once, begun_ended}
+use Rattle.certificate.proofs.Grammar.{lines_begun, begun_once, begun_ended, one_certificate}
 use Rattle.certificate.proofs.Completing.{begun_can}
 use Rattle.certificate.proofs.Runs.{run_after, begun_none, begun_more}
 use Rattle.certificate.proofs.SpelledOnce.{spelled_once}
@@ -150,18 +153,18 @@ read_whole text before last d c whole none b done =
     finished_stage Ended d c h = (refl, same_Some (said_by d) c h)
 
 -- so far: the lines before the rest of the text make the draft, and the rest begins at the line of this number
-pub record IsRead (text rest : List ℕ) (d : DraftView) (n : ℕ) : Type 0 where
+pub record IsReadTo (text rest : List ℕ) (d : DraftView) (n : ℕ) : Type 0 where
   pub before : List (List ℕ)
   pub whole : parts 10 text ≡ before ++ parts 10 rest
   pub begun : IsBegun before d
   pub number : n ≡ length before + 1
   pub fits : n + length rest ≤ length text + 1
 
-pub read_none : (text : List ℕ) → IsRead text text empty_draft 1
+pub read_none : (text : List ℕ) → IsReadTo text text empty_draft 1
 read_none text = record { before = []; whole = refl; begun = begun_none; number = refl; fits = omega arith }
 
-pub read_more : (text rest line after : List ℕ) (d e : DraftView) (n : ℕ) (l : LineView) → IsRead text rest d n → parts 10 rest ≡ line ∷ parts 10 after
-    → length after < length rest → Spells line l → next d l ≡ Some e → IsRead text after e (n + 1)
+pub read_more : (text rest line after : List ℕ) (d e : DraftView) (n : ℕ) (l : LineView) → IsReadTo text rest d n → parts 10 rest ≡ line ∷ parts 10 after
+    → length after < length rest → Spells line l → next d l ≡ Some e → IsReadTo text after e (n + 1)
 read_more text rest line after d e n l r cut shorter s taken =
     let number : n ≡ length r.before + 1 = r.number in
     let fits : n + length rest ≤ length text + 1 = r.fits in
@@ -173,22 +176,22 @@ read_more text rest line after d e n l r cut shorter s taken =
       fits = omega arith;
     }
 
-pub read_bad : (text rest line after : List ℕ) (d : DraftView) (n : ℕ) → IsRead text rest d n → parts 10 rest ≡ line ∷ parts 10 after
+pub read_bad : (text rest line after : List ℕ) (d : DraftView) (n : ℕ) → IsReadTo text rest d n → parts 10 rest ≡ line ∷ parts 10 after
     → ((l : LineView) → Spells line l → next d l ≡ None) → IsFirstBadLine text n
 read_bad text rest line after d n r cut refused =
     bad_line text r.before line after d n (r.whole ∙ ap (λ ls. r.before ++ ls) cut) r.begun r.number refused
 
-pub read_no_feed : (text rest : List ℕ) (d : DraftView) (n : ℕ) → IsRead text rest d n → parts 10 rest ≡ rest ∷ [] → (rest ≡ [] → ⊥) → IsFirstBadLine text n
+pub read_no_feed : (text rest : List ℕ) (d : DraftView) (n : ℕ) → IsReadTo text rest d n → parts 10 rest ≡ rest ∷ [] → (rest ≡ [] → ⊥) → IsFirstBadLine text n
 read_no_feed text rest d n r cut some =
     let whole : parts 10 text ≡ r.before ++ rest ∷ [] = r.whole ∙ ap (λ ls. r.before ++ ls) cut in
     bad_end text r.before rest d n whole r.begun r.number (no_feed text r.before rest whole some)
 
-pub read_too_early : (text rest : List ℕ) (d : DraftView) (n : ℕ) → IsRead text rest d n → parts 10 rest ≡ rest ∷ [] → finished d ≡ None → IsFirstBadLine text n
+pub read_too_early : (text rest : List ℕ) (d : DraftView) (n : ℕ) → IsReadTo text rest d n → parts 10 rest ≡ rest ∷ [] → finished d ≡ None → IsFirstBadLine text n
 read_too_early text rest d n r cut short =
     let whole : parts 10 text ≡ r.before ++ rest ∷ [] = r.whole ∙ ap (λ ls. r.before ++ ls) cut in
     bad_end text r.before rest d n whole r.begun r.number (too_early text r.before rest d whole r.begun short)
 
-pub read_all : (text rest : List ℕ) (d : DraftView) (n : ℕ) (c : Certificate) → IsRead text rest d n → parts 10 rest ≡ rest ∷ [] → rest ≡ [] → finished d ≡ Some c → IsText text c
+pub read_all : (text rest : List ℕ) (d : DraftView) (n : ℕ) (c : Certificate) → IsReadTo text rest d n → parts 10 rest ≡ rest ∷ [] → rest ≡ [] → finished d ≡ Some c → IsText text c
 read_all text rest d n c r cut none done =
     read_whole text r.before rest d c (r.whole ∙ ap (λ ls. r.before ++ ls) cut) none r.begun done
 
@@ -199,3 +202,62 @@ no_bytes (b ∷ bytes) empty e h = absurd (grind (arith, nat_tests))
 pub some_bytes : (bytes : List ℕ) (empty : Bool) → empty ≡ (length bytes == 0) → empty ≡ false → bytes ≡ [] → ⊥
 some_bytes [] empty e h same = false≢true (sym h ∙ e)
 some_bytes (b ∷ bytes) empty e h same = absurd (cc)
+
+-- lines that can begin a certificate: so can the first of them
+can_begin_front : (front more : List (List ℕ)) → CanBegin (front ++ more) → CanBegin front
+can_begin_front front more c = (more ++ c.0, c.1, subst (λ (k : List (List ℕ)). AreLines k c.1) (append_assoc front more c.0) c.2)
+
+-- of two places in a list the first is the other, or stands before it, or behind it
+pub data Places (xs : List (List ℕ)) (y : List ℕ) (zs us : List (List ℕ)) (v : List ℕ) (ws : List (List ℕ)) : Type 0 where
+  Same : length xs ≡ length us → Places xs y zs us v ws
+  Before : (more : List (List ℕ)) → us ≡ (xs ++ y ∷ []) ++ more → (zs ≡ [] → ⊥) → Places xs y zs us v ws
+  Behind : (more : List (List ℕ)) → xs ≡ (us ++ v ∷ []) ++ more → (ws ≡ [] → ⊥) → Places xs y zs us v ws
+
+some_more : (us : List (List ℕ)) (v : List ℕ) (ws : List (List ℕ)) → us ++ v ∷ ws ≡ [] → ⊥
+some_more [] v ws h = absurd (cc)
+some_more (u ∷ us) v ws h = absurd (cc)
+
+places_more : (b : List ℕ) (xs : List (List ℕ)) (y : List ℕ) (zs us : List (List ℕ)) (v : List ℕ) (ws : List (List ℕ)) → Places xs y zs us v ws
+    → Places (b ∷ xs) y zs (b ∷ us) v ws
+places_more b xs y zs us v ws (Same e) = Same (omega arith)
+places_more b xs y zs us v ws (Before more e s) = Before more (ap (λ l. b ∷ l) e) s
+places_more b xs y zs us v ws (Behind more e s) = Behind more (ap (λ l. b ∷ l) e) s
+
+places : (xs : List (List ℕ)) (y : List ℕ) (zs us : List (List ℕ)) (v : List ℕ) (ws : List (List ℕ)) → xs ++ y ∷ zs ≡ us ++ v ∷ ws → Places xs y zs us v ws
+places [] y zs [] v ws e = Same refl
+places [] y zs (u ∷ us) v ws e =
+    let first : y ≡ u = cc in
+    let rest : zs ≡ us ++ v ∷ ws = cc in
+    Before us (ap (λ x. x ∷ us) (sym first)) (λ none. some_more us v ws (sym rest ∙ none))
+places (x ∷ xs) y zs [] v ws e =
+    let first : x ≡ v = cc in
+    let rest : xs ++ y ∷ zs ≡ ws = cc in
+    Behind xs (ap (λ u. u ∷ xs) first) (λ none. some_more xs y zs (rest ∙ none))
+places (x ∷ xs) y zs (u ∷ us) v ws e =
+    let first : x ≡ u = cc in
+    let rest : xs ++ y ∷ zs ≡ us ++ v ∷ ws = cc in
+    subst (λ (b : List ℕ). Places (x ∷ xs) y zs (b ∷ us) v ws) first (places_more x xs y zs us v ws (places xs y zs us v ws rest))
+
+-- a text has one first bad line at most
+pub one_bad_line : (text : List ℕ) (m n : ℕ) → IsFirstBadLine text m → IsFirstBadLine text n → m ≡ n
+one_bad_line text m n p q = at (places p.before p.line p.after q.before q.line q.after (sym p.lines_are ∙ q.lines_are)) where
+  passed : (front more before : List (List ℕ)) → before ≡ front ++ more → CanBegin before → CanBegin front
+  passed front more before e c = can_begin_front front more (subst (λ (k : List (List ℕ)). CanBegin k) e c)
+
+  at : Places p.before p.line p.after q.before q.line q.after → m ≡ n
+  at (Same e) = p.number ∙ ap (λ k. k + 1) e ∙ sym q.number
+  at (Before more e some) = absurd (refuted p.cannot) where
+    refuted : (p.after ≡ []) ⊎ (CanBegin (p.before ++ p.line ∷ []) → ⊥) → ⊥
+    refuted (inl none) = some none
+    refuted (inr cannot) = cannot (passed (p.before ++ p.line ∷ []) more q.before e q.begun)
+  at (Behind more e some) = absurd (refuted q.cannot) where
+    refuted : (q.after ≡ []) ⊎ (CanBegin (q.before ++ q.line ∷ []) → ⊥) → ⊥
+    refuted (inl none) = some none
+    refuted (inr cannot) = cannot (passed (q.before ++ q.line ∷ []) more p.before e p.begun)
+
+-- where the text stands for a certificate, that one was read, unless memory ran out
+pub is_read : (text : List ℕ) (r : Result Certificate TextError) → IfOk r (λ c. IsText text c) → IfErr r (λ e. IsTextError text e)
+    → (c : Certificate) → IsText text c → IsRead r c
+is_read text (Ok d) ok bad c t = one_certificate text d c ok t
+is_read text (Err Memory) ok bad c t = refl
+is_read text (Err (BadText n)) ok bad c t = absurd (bad.no_text c t)

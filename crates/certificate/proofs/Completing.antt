@@ -1,5 +1,5 @@
 -- Each draft that lines make is the beginning of some certificate.
-use Rattle.std.proofs.Common.{◌≡◌, ◌≢◌, ℕ, zero, suc, ◌+◌, ◌-◌, ◌<◌, ◌≤◌, ◌^◌, Bool, true, false, ◌||◌, ◌&&◌, ◌++◌, List, [], ◌∷◌, length, get_or, Option, Some, None, refl, sym, ap, ◌∙◌, subst, arith, length-append}
+use Rattle.std.proofs.Common.{inr, ◌≡◌, ◌≢◌, ℕ, zero, suc, ◌+◌, ◌-◌, ◌<◌, ◌≤◌, ◌^◌, Bool, true, false, ◌||◌, ◌&&◌, ◌++◌, List, [], ◌∷◌, length, get_or, Option, Some, None, refl, sym, ap, ◌∙◌, subst, arith, length-append}
 use Rattle.std.specs.Prelude.{codes, slice_get, option_and_then, ◌==◌, nat_le}
 use Rattle.std.specs.List.{AllZip}
 use Rattle.std.specs.FinSet as set
@@ -11,8 +11,7 @@ use Rattle.std.proofs.lemmas.List.Splits.{slice_split_at}
 use Rattle.cpu_set.specs.Ids.{Ids}
 use Rattle.cpu_set.specs.Pointwise.{contains-empty, contains-insert}
 use Rattle.cpu_set.specs.declared.TheConstants.{CPU_LIMIT}
-use Rattle.cpu_list.specs.FirstFault.{first_fault}
-use Rattle.cpu_list.specs.ListText.{names, item_of, number_of, range_of}
+use Rattle.cpu_list.specs.ListText.{IsList, names, item_of, number_of, range_of}
 use Rattle.certificate.specs.RowView.{RowView}
 use Rattle.certificate.specs.declared.text.draft.Stage.{Stage}
 use Rattle.certificate.specs.declared.text.draft.Stage.TheVariants.{Start, Body, Totalled, Ended}
@@ -38,17 +37,9 @@ zero_set = set.insert set.empty 0
 zero_is_number : IsNumber (2 ^ 64) (codes "0") 0
 zero_is_number = record { digits = sym (decimal_digit 0 (omega arith)); fits = omega arith }
 
-zero_range : range_of (codes "0") ≡ Some (0, 0)
-unfolding range_of number_of
-zero_range = refl
-
-zero_item : item_of (codes "0") ≡ codes "0"
-unfolding item_of
-zero_item = refl
-
-zero_is_list : first_fault CPU_LIMIT (codes "0") ≡ None
+zero_is_list : IsList CPU_LIMIT (codes "0")
 unfolding range_of number_of item_of
-zero_is_list = refl
+zero_is_list = (inr (0, 0, refl, omega arith, omega arith), tt)
 
 only_zero : (n : ℕ) → ((n == 0) || false) ≡ (nat_le 0 n && nat_le n 0 || false)
 only_zero n = grind (arith, nat_tests)

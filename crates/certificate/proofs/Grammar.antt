@@ -2,13 +2,13 @@
 use Rattle.std.proofs.Common.{◌≡◌, ℕ, ◌++◌, List, [], ◌∷◌, map, Some, refl, sym, ap, ◌∙◌, subst}
 use Rattle.std.specs.List.{AllZip}
 use Rattle.std.proofs.lemmas.Option.{option_and_then_some, same_Some}
-use Rattle.std.proofs.lemmas.List.{append-nil, append_assoc}
+use Rattle.std.proofs.lemmas.List.{append-nil, append_assoc, append_cancel_right}
 use Rattle.certificate.specs.declared.certificates.Certificate.{Certificate}
 use Rattle.certificate.specs.declared.certificates.Certificate.TheVariants.{Plan}
 use Rattle.certificate.specs.declared.text.draft.Stage.{Stage}
 use Rattle.certificate.specs.declared.text.draft.Stage.TheVariants.{Ended}
 use Rattle.certificate.specs.Line.{LineView, HeaderLine, RowLine, PriceLine, TotalLine, EndLine, Spells}
-use Rattle.certificate.specs.CertificateText.{hold_lines, lines_of, AreLines}
+use Rattle.certificate.specs.CertificateText.{IsText, hold_lines, lines_of, AreLines}
 use Rattle.certificate.specs.Begun.{run, IsBegun}
 use Rattle.certificate.specs.Finished.{said_by}
 use Rattle.certificate.specs.DraftView.{DraftView, next, empty_draft}
@@ -82,3 +82,8 @@ pub lines_once : (ls : List (List ℕ)) (c d : Certificate) → AreLines ls c �
 lines_once ls c d a b =
     let same = begun_once ls (ended_of c) (ended_of d) (lines_begun ls c a) (lines_begun ls d b) in
     sym (said_by_ended c) ∙ ap said_by same ∙ said_by_ended d
+
+pub one_certificate : (text : List ℕ) (c d : Certificate) → IsText text c → IsText text d → c ≡ d
+one_certificate text c d p q =
+    let same : p.0 ≡ q.0 = append_cancel_right p.0 q.0 ([] ∷ []) (sym p.1 ∙ q.1) in
+    lines_once p.0 c d p.2 (rw (← same) at q.2)

@@ -26,3 +26,4 @@ pub mod RowIds
 pub mod Runs
 pub mod SpelledOnce
 pub mod Zips
+pub mod Verdicts

@@ -19,3 +19,7 @@ pub record IsFirstBadLine (text : List ℕ) (n : ℕ) : Type 0 where
   pub begun : CanBegin before
   pub cannot : (after ≡ []) ⊎ (CanBegin (before ++ line ∷ []) → ⊥)
   pub no_text : (c : Certificate) → IsText text c → ⊥
+
+-- a text has one first bad line at most
+abbrev pub OneBadLine : Type 0
+OneBadLine = (text : List ℕ) (m n : ℕ) → IsFirstBadLine text m → IsFirstBadLine text n → m ≡ n

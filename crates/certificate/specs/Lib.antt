@@ -25,3 +25,4 @@ pub mod DraftView
 pub mod DraftRead
 pub mod Begun
 pub mod Finished
+pub mod Verdict

@@ -31,4 +31,6 @@ pub use plans::Plan;
 pub use price_lists::{Price, Prices};
 pub use problems::Problem;
 pub use rows::{Offer, Row};
-pub use text::{ID_LIMIT, TextError, is_id, one_certificate, read_text};
+pub use text::{
+    ID_LIMIT, TextError, Verdict, VerdictError, check_text, is_id, one_reading, read_text,
+};

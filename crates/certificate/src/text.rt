@@ -1,3 +1,4 @@
+mod checking;
 mod cut;
 mod decimal;
 mod draft;
@@ -11,6 +12,7 @@ mod reading;
 mod taking;
 mod word_pairs;
 
+pub use checking::{Verdict, VerdictError, check_text};
 pub use id::{ID_LIMIT, is_id};
-pub use laws::one_certificate;
+pub use laws::one_reading;
 pub use reading::{TextError, read_text};

@@ -1,6 +1,8 @@
 ghost use Rattle.certificate.specs.CertificateText.{OneCertificate};
+ghost use Rattle.certificate.specs.FirstBadLine.{OneBadLine};
 
-/// No text stands for two certificates.
-pub fn one_certificate()
-    ensures { OneCertificate }
+/// No text stands for two certificates, and none has two first bad lines.
+pub fn one_reading()
+    ensures certificate { OneCertificate }
+    ensures line { OneBadLine }
 {}

@@ -1,9 +1,10 @@
 ghost use Rattle.std.specs.Prelude.{IfOk, IfErr};
+ghost use Rattle.certificate.specs.declared.certificates.Certificate.{Certificate};
 ghost use Rattle.certificate.specs.CertificateText.{IsText};
-ghost use Rattle.certificate.specs.TextError.{IsTextError};
+ghost use Rattle.certificate.specs.TextError.{IsTextError, IsRead};
 
 use super::cut::cut;
-use super::draft::{Draft, finish, new_draft};
+use super::draft::{finish, new_draft};
 use super::line_fault::LineFault;
 use super::taking::take_line;
 use crate::Certificate;
@@ -14,15 +15,31 @@ use std::alloc::Global;
 pub enum TextError {
     /// E1: there was no memory for what the text says.
     Memory,
-    /// E77: the text is no certificate; the first line, counted from 1, that can't follow the lines before it.
+    /// E77: the text is no certificate's. This line, counted from 1, is the first that can't follow the lines before it;
+    /// it is the last line where no line feed ends that, and the one after the last where the text ends too early.
     BadText(u64),
 }
 
 /// Reads a certificate from its text, in one pass.
 ///
+/// The text's lines are `numarun-certificate 1`; `row ID DEMAND` and offers `WEIGHT:LIST`, for each row;
+/// `hold ID LIST VALUE`, for each row in the same order; `price AMOUNT LIST`, any number of them;
+/// `total N`; and `end`. A line feed ends each, one space stands between two words, and numbers have no leading zeros.
+///
 /// # Errors
 /// `Memory`, and `BadText` where the text is no certificate's.
 pub fn read_text(alloc: Global, text: &[u8]) -> Result<Certificate, TextError>
+    // What is read is what the text stands for,
+    ensures ok { IfOk result (λ c. IsText text.now c) }
+    // what the text stands for is read,
+    ensures complete { (c : Certificate) → IsText text.now c → IsRead result c }
+    // and where it stands for nothing, this says from which line on.
+    ensures bad { IfErr result (λ e. IsTextError text.now e) }
+{
+    read_lines(alloc, text)
+}
+
+fn read_lines(alloc: Global, text: &[u8]) -> Result<Certificate, TextError>
     ensures ok { IfOk result (λ c. IsText text.now c) }
     ensures bad { IfErr result (λ e. IsTextError text.now e) }
 {

@@ -1,10 +1,24 @@
 use Rattle.std.proofs.Common.{◌≡◌, refl, sym, ◌∙◌}
-use Rattle.std.specs.Cmp.{nat_cmp_total}
-use Rattle.std.specs.FinSet as set
-use Rattle.std.specs.FinSet.{nat_cmp-IsAntisymmetric}
+use Rattle.std.proofs.lemmas.Option.{none-some}
+use Rattle.std.proofs.lemmas.Bool.{false≢true}
+use Rattle.cpu_set.specs.Pointwise.{same_members}
+use Rattle.cpu_set.specs.declared.TheConstants.{CPU_LIMIT}
+use Rattle.cpu_list.proofs.FirstFaults.{none_where_list}
 use Rattle.certificate.proofs.text.list_word.read_cpus.Goals as goal
+
+pub returns-in_default : goal.returns-in_default
+returns-in_default c = λ cpus h.
+    let accepted = (none_where_list CPU_LIMIT c.args.word.now).1 h.is_list in
+    none-some c.in_default.field-0 (sym accepted ∙ c.in_default.ensures)
 
 pub returns-then-is_empty : goal.returns-then-is_empty
 returns-then-is_empty c = λ cpus h.
-    let same : cpus ≡ c.in-Ok.cpus = set.same_set nat_cmp_total nat_cmp-IsAntisymmetric cpus c.in-Ok.cpus (λ n. h.names n ∙ sym (c.in-Ok.ensures.1 n)) in
+    let same : cpus ≡ c.in-Ok.cpus = same_members cpus c.in-Ok.cpus (λ n. h.names n ∙ sym (c.in-Ok.ensures.1 n)) in
     h.some (same ∙ c.if-is_empty.ensures.0 refl)
+
+pub returns : goal.returns
+returns c = record {
+  is_list = (none_where_list CPU_LIMIT c.args.word.now).0 c.in-Ok.ensures.0;
+  names = c.in-Ok.ensures.1;
+  some = λ e. absurd (false≢true (c.if-is_empty.ensures.1 e));
+}
