@@ -13,15 +13,31 @@ texts words = map (λ (word : Bor Text). word.now) words
 abbrev pub command : Text → List Rule → Shape
 command name rules = record (new_app name).top { rules = rules }
 
+-- an argument that stands alone in its place, and that the help shows under one name
+abbrev pub placed : Text → Rule
+placed id = record (new_rule id) { value_names = 1 }
+
+-- such an argument that has to be given
+abbrev pub required : Text → Rule
+required id = record (placed id) { required = true }
+
 -- check [FILE]
 abbrev pub check_command : Shape
-check_command = command (codes "check") (new_rule (codes "file") ∷ [])
+check_command = command (codes "check") (placed (codes "file") ∷ [])
+
+-- list TEXT
+abbrev pub list_command : Shape
+list_command = command (codes "list") (required (codes "text") ∷ [])
+
+-- slit FILE
+abbrev pub slit_command : Shape
+slit_command = command (codes "slit") (required (codes "file") ∷ [])
 
 -- numarun and its subcommands, of which one has to be given
 abbrev pub numarun : App
 numarun = record {
   top = record (new_app (codes "numarun")).top { no_binary_name = true; subcommand_required = true; is_leaf = false };
-  subs = check_command ∷ [];
+  subs = check_command ∷ list_command ∷ slit_command ∷ [];
 }
 
 -- a command of this shape with no subcommands of its own

@@ -43,3 +43,6 @@ pub fn read_all<R: Read>(alloc: Global, reader: &mut R) -> Result<Vec<u8>, ReadE
     }
     Err(ReadError::Fault)
 }
+
+#[cfg(test)]
+mod tests;
