@@ -1,5 +1,6 @@
 pub mod Answer
 pub mod Asked
+pub mod CheckAnswer
 pub mod CommandLine
 pub mod ConsumesUpTo
 pub mod FaultRefusal

@@ -2,6 +2,7 @@
 //! byte that it writes.
 #![tactic(auto)]
 
+mod check;
 mod command_line;
 mod distances;
 #[cfg(test)]
@@ -16,6 +17,7 @@ mod spellings;
 mod words;
 mod write_fault;
 
+pub use check::do_check;
 pub use distances::do_slit;
 pub use list::do_list;
 pub use parse_fault::ParseFault;

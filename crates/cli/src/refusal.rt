@@ -1,12 +1,12 @@
 ghost use Rattle.std.specs.Prelude.{◌≡◌};
-ghost use Rattle.cli.specs.FaultRefusal.{read_refusal, slit_refusal};
+ghost use Rattle.cli.specs.FaultRefusal.{read_refusal, slit_refusal, verdict_refusal};
 ghost use Rattle.cli.specs.declared.refusal.Refusal.TheVariants.{List};
 ghost use Rattle.cli.specs.RefusalLine.{arguments_of, check_arguments_of, check_title_of, list_title_of, numbers_of, slit_arguments_of, slit_title_of, refusal_line, title_of};
 ghost use Rattle.cpu_list.specs.Output.{Writes};
 
 use crate::output::put_all;
 use crate::read_error::ReadError;
-use certificate::CheckFault;
+use certificate::{CheckFault, VerdictError};
 use cpu_list::{ListError, ListErrorKind};
 use itoa::Buffer;
 use slit::{SlitError, SlitFault};
@@ -202,5 +202,17 @@ impl From<ListError> for Refusal {
 
     fn from(error: ListError) -> Refusal {
         Refusal::List(error)
+    }
+}
+
+impl From<VerdictError> for Refusal {
+    ghost from_gives = { λ error refusal. refusal ≡ verdict_refusal error };
+
+    fn from(error: VerdictError) -> Refusal {
+        match error {
+            VerdictError::Memory => Refusal::Memory,
+            VerdictError::BadText(line) => Refusal::BadText { line },
+            VerdictError::Fault(fault) => Refusal::Check(fault),
+        }
     }
 }
