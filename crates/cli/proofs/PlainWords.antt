@@ -1,0 +1,57 @@
+-- Command lines in plain words, computed.
+use Rattle.std.proofs.Common.{◌≡◌, ℕ, List, [], ◌∷◌, Some, None, codes, bytes_eq, false, refl, rules}
+use Rattle.clap.proofs.OnLiterals.{clap_on_literals}
+use Rattle.clap.specs.Words.{Text}
+use Rattle.cli.specs.Asked.{check, list, slit}
+use Rattle.cli.specs.Spellings.{CheckSpellings, IsPlain, ListSpellings, SlitSpellings, Spells}
+
+-- a word that begins with no hyphen isn't `--`
+pub no_dashes : (word : Text) → IsPlain word → bytes_eq word (45 ∷ 45 ∷ []) ≡ false
+no_dashes [] plain = refl
+no_dashes (x ∷ xs) plain = search rules
+
+check_file : (word : Text) → IsPlain word → Spells (codes "check" ∷ word ∷ []) (check (Some word))
+unfolding clap_on_literals
+check_file word plain = let other = no_dashes word plain in record { asks = simp (other, plain); right = simp (other, plain) }
+
+check_escaped : (word : Text) → Spells (codes "check" ∷ codes "--" ∷ word ∷ []) (check (Some word))
+unfolding clap_on_literals
+check_escaped word = record { asks = refl; right = refl }
+
+check_bare : Spells (codes "check" ∷ []) (check None)
+unfolding clap_on_literals
+check_bare = record { asks = refl; right = refl }
+
+pub check_spelled : CheckSpellings
+check_spelled = record {
+  nothing = record { asks = refl; right = refl };
+  bare = check_bare;
+  file = check_file;
+  escaped = check_escaped;
+}
+
+list_text : (word : Text) → IsPlain word → Spells (codes "list" ∷ word ∷ []) (list word)
+unfolding clap_on_literals
+list_text word plain = let other = no_dashes word plain in record { asks = simp (other, plain); right = simp (other, plain) }
+
+list_hyphen : Spells (codes "list" ∷ codes "-" ∷ []) (list (codes "-"))
+unfolding clap_on_literals
+list_hyphen = record { asks = refl; right = refl }
+
+list_escaped : (word : Text) → Spells (codes "list" ∷ codes "--" ∷ word ∷ []) (list word)
+unfolding clap_on_literals
+list_escaped word = record { asks = refl; right = refl }
+
+pub list_spelled : ListSpellings
+list_spelled = record { text = list_text; hyphen = list_hyphen; escaped = list_escaped }
+
+slit_file : (word : Text) → IsPlain word → Spells (codes "slit" ∷ word ∷ []) (slit word)
+unfolding clap_on_literals
+slit_file word plain = let other = no_dashes word plain in record { asks = simp (other, plain); right = simp (other, plain) }
+
+slit_escaped : (word : Text) → Spells (codes "slit" ∷ codes "--" ∷ word ∷ []) (slit word)
+unfolding clap_on_literals
+slit_escaped word = record { asks = refl; right = refl }
+
+pub slit_spelled : SlitSpellings
+slit_spelled = record { file = slit_file; escaped = slit_escaped }

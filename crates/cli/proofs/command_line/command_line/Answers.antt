@@ -1,0 +1,18 @@
+-- One subcommand after another.
+use Rattle.std.proofs.Common.{rules, ◌≡◌, [], true, codes}
+use Rattle.std.proofs.lemmas.Result.{IfOk-weaker}
+use Rattle.clap.specs.Words.{App, app_of, new_app, with_subcommand}
+use Rattle.cli.specs.CommandLine.{check_command, list_command}
+use Rattle.cli.proofs.Leaves.{app_of-leaf}
+use Rattle.cli.proofs.command_line.command_line.Goals as goal
+
+-- numarun before its subcommands
+abbrev bare : App
+bare = record { top = record (new_app (codes "numarun")).top { no_binary_name = true; subcommand_required = true }; subs = [] }
+
+pub returns : goal.returns
+returns c =
+    let none : app_of c.subcommand_required.result ≡ bare = search rules in
+    let one = app_of-leaf _ _ _ none c.in_ok-check.ensures c.in_ok-subcommand.ensures in
+    let two = app_of-leaf _ _ _ one c.in_ok-list.ensures c.in_ok-subcommand-2.ensures in
+    IfOk-weaker c.subcommand-3.result _ _ (λ all adds. app_of-leaf _ _ all two c.in_ok-slit.ensures adds) c.subcommand-3.ensures

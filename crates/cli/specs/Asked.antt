@@ -1,0 +1,39 @@
+-- What the words after the program's name ask for.
+use Rattle.std.specs.Prelude.{Option, Some, None, List, [], ◌∷◌, codes, bytes_eq, if◌then◌else◌, option_map, string_bytes, unwrap_or}
+use Rattle.clap.specs.Words.{Row, Text, first_of, subcommand_of}
+use Rattle.cli.specs.CommandLine.{numarun}
+use Rattle.cli.specs.declared.words.Words.{Words}
+use Rattle.cli.specs.declared.words.Words.TheVariants as words
+
+-- the check of a file, or of standard input; a list; the distance table in a file
+pub data Asked : Type 0 where
+  check : Option Text → Asked
+  list : Text → Asked
+  slit : Text → Asked
+
+-- what numarun is asked to do, its strings as texts
+abbrev pub asked : Words → Asked
+asked (words.Check file) = check (option_map string_bytes file)
+asked (words.List text) = list (string_bytes text)
+asked (words.Slit file) = slit (string_bytes file)
+
+-- the value of an argument that has to be given
+abbrev pub value : Text → List Row → Text
+value id rows = unwrap_or (first_of id rows) []
+
+-- what a subcommand of this name asks for with these values of its arguments
+abbrev pub asked_by : Text × List Row → Asked
+asked_by given =
+    if bytes_eq given.0 (codes "list") then list (value (codes "text") given.1)
+    else if bytes_eq given.0 (codes "slit") then slit (value (codes "file") given.1)
+    else check (first_of (codes "file") given.1)
+
+-- what the subcommand that was given asks for
+abbrev pub asked_in : Option (Text × List Row) → Asked
+asked_in None = check None
+asked_in (Some given) = asked_by given
+
+-- no words ask for a check of standard input
+abbrev pub asked_for : List Text → Asked
+asked_for [] = check None
+asked_for (word ∷ rest) = asked_in (subcommand_of numarun (word ∷ rest))

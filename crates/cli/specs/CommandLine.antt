@@ -1,0 +1,46 @@
+-- The command line of numarun: its subcommands and what each takes.
+use Rattle.std.specs.Borrow.{Bor}
+use Rattle.std.specs.Prelude.{◌≡◌, List, [], ◌∷◌, Some, codes, map, true, false}
+use Rattle.clap.specs.Words.{App, Rule, Shape, Text, app_of, new_app, new_rule}
+use Rattle.clap.specs.declared.builder.command.Command.{Command}
+use Rattle.clap.specs.declared.builder.command.Command.TheViews.{out-Command}
+
+-- the texts of words
+abbrev pub texts : List (Bor Text) → List Text
+texts words = map (λ (word : Bor Text). word.now) words
+
+-- a subcommand that takes these arguments
+abbrev pub command : Text → List Rule → Shape
+command name rules = record (new_app name).top { rules = rules }
+
+-- an argument that stands alone in its place, and that the help shows under one name
+abbrev pub placed : Text → Rule
+placed id = record (new_rule id) { value_names = 1 }
+
+-- such an argument that has to be given
+abbrev pub required : Text → Rule
+required id = record (placed id) { required = true }
+
+-- check [FILE]
+abbrev pub check_command : Shape
+check_command = command (codes "check") (placed (codes "file") ∷ [])
+
+-- list TEXT
+abbrev pub list_command : Shape
+list_command = command (codes "list") (required (codes "text") ∷ [])
+
+-- slit FILE
+abbrev pub slit_command : Shape
+slit_command = command (codes "slit") (required (codes "file") ∷ [])
+
+-- numarun and its subcommands, of which one has to be given
+abbrev pub numarun : App
+numarun = record {
+  top = record (new_app (codes "numarun")).top { no_binary_name = true; subcommand_required = true; is_leaf = false };
+  subs = check_command ∷ list_command ∷ slit_command ∷ [];
+}
+
+-- a command of this shape with no subcommands of its own
+pub record IsLeaf (shape : Shape) (c : Command) : Type 0 where
+  pub app : app_of c ≡ record { top = shape; subs = [] }
+  pub local : (out-Command c).has_globals ≡ false

@@ -1,0 +1,22 @@
+-- Which refusal stands for a fault of a layer below.
+use Rattle.certificate.specs.declared.text.checking.VerdictError.{VerdictError}
+use Rattle.certificate.specs.declared.text.checking.VerdictError.TheVariants as verdict
+use Rattle.cli.specs.declared.read_error.ReadError.{ReadError}
+use Rattle.cli.specs.declared.read_error.ReadError.TheVariants as read
+use Rattle.cli.specs.declared.refusal.Refusal.{Refusal}
+use Rattle.cli.specs.declared.refusal.Refusal.TheVariants.{Memory, Slit, Check, BadText, ReadFault}
+use Rattle.slit.specs.declared.fault.SlitError.{SlitError}
+use Rattle.slit.specs.declared.fault.SlitError.TheVariants as slit
+
+abbrev pub read_refusal : ReadError → Refusal
+read_refusal read.Memory = Memory
+read_refusal read.Fault = ReadFault
+
+abbrev pub slit_refusal : SlitError → Refusal
+slit_refusal slit.Memory = Memory
+slit_refusal (slit.Fault fault) = Slit fault
+
+abbrev pub verdict_refusal : VerdictError → Refusal
+verdict_refusal verdict.Memory = Memory
+verdict_refusal (verdict.BadText line) = BadText line
+verdict_refusal (verdict.Fault fault) = Check fault

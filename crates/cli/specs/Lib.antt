@@ -1,0 +1,12 @@
+pub mod Answer
+pub mod Asked
+pub mod CheckAnswer
+pub mod CommandLine
+pub mod ConsumesUpTo
+pub mod FaultRefusal
+pub mod ListAnswer
+pub mod Mistakes
+pub mod Parts
+pub mod RefusalLine
+pub mod SlitAnswer
+pub mod Spellings

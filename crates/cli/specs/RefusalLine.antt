@@ -1,0 +1,88 @@
+-- The line that a refusal is printed as: `refused`, its number, its name, and each argument after a space.
+use Rattle.std.specs.Prelude.{ℕ, List, [], ◌∷◌, ◌++◌, codes, decimal}
+use Rattle.std.specs.List.{flat_map}
+use Rattle.cpu_list.specs.declared.list_error.ListError.{ListError}
+use Rattle.cpu_list.specs.declared.list_error.ListErrorKind.{ListErrorKind}
+use Rattle.cpu_list.specs.declared.list_error.ListErrorKind.TheVariants.{BadItem, TooLarge, Descending}
+use Rattle.slit.specs.declared.fault.SlitFault.{SlitFault}
+use Rattle.slit.specs.declared.fault.SlitFault.TheVariants.{TooShort, BadSignature, BadCount, BadLength, BadSum, ReservedValue, BadDiagonal}
+use Rattle.certificate.specs.declared.check_faults.CheckFault.{CheckFault}
+use Rattle.certificate.specs.declared.check_faults.CheckFault.TheVariants.{BadProblem, WrongCount, NotAllowed, HeldTwice, ValueTooHigh, Gap}
+use Rattle.cli.specs.declared.refusal.Arguments.{Arguments}
+use Rattle.cli.specs.declared.refusal.Arguments.TheVariants as arguments
+use Rattle.cli.specs.declared.refusal.Refusal.{Refusal}
+use Rattle.cli.specs.declared.refusal.Refusal.TheVariants as refusal
+
+-- the number and the name of what is wrong with a list's item
+abbrev pub list_title_of : ListErrorKind → List ℕ
+list_title_of BadItem = codes "E10 BadItem"
+list_title_of TooLarge = codes "E11 TooLarge"
+list_title_of Descending = codes "E12 Descending"
+
+-- the number and the name of what is wrong with a distance table
+abbrev pub slit_title_of : SlitFault → List ℕ
+slit_title_of TooShort = codes "E15 TooShort"
+slit_title_of BadSignature = codes "E16 BadSignature"
+slit_title_of BadLength = codes "E17 BadLength"
+slit_title_of BadCount = codes "E18 BadCount"
+slit_title_of BadSum = codes "E19 BadSum"
+slit_title_of (ReservedValue row column) = codes "E20 ReservedValue"
+slit_title_of (BadDiagonal row) = codes "E21 BadDiagonal"
+
+-- where it stands: the row and the column, or the row
+abbrev pub slit_arguments_of : SlitFault → List ℕ
+slit_arguments_of TooShort = []
+slit_arguments_of BadSignature = []
+slit_arguments_of BadLength = []
+slit_arguments_of BadCount = []
+slit_arguments_of BadSum = []
+slit_arguments_of (ReservedValue row column) = row ∷ column ∷ []
+slit_arguments_of (BadDiagonal row) = row ∷ []
+
+-- the number and the name of what the check found
+abbrev pub check_title_of : CheckFault → List ℕ
+check_title_of BadProblem = codes "E70 BadProblem"
+check_title_of (WrongCount row) = codes "E71 WrongCount"
+check_title_of (NotAllowed row cpu) = codes "E72 NotAllowed"
+check_title_of (HeldTwice cpu) = codes "E73 HeldTwice"
+check_title_of (ValueTooHigh row cpu) = codes "E74 ValueTooHigh"
+check_title_of Gap = codes "E75 Gap"
+
+-- where the check found it: the row, the CPU, or the row and then the CPU
+abbrev pub check_arguments_of : CheckFault → List ℕ
+check_arguments_of BadProblem = []
+check_arguments_of (WrongCount row) = row ∷ []
+check_arguments_of (NotAllowed row cpu) = row ∷ cpu ∷ []
+check_arguments_of (HeldTwice cpu) = cpu ∷ []
+check_arguments_of (ValueTooHigh row cpu) = row ∷ cpu ∷ []
+check_arguments_of Gap = []
+
+-- the number and the name of a refusal
+abbrev pub title_of : Refusal → List ℕ
+title_of refusal.Memory = codes "E1 Memory"
+title_of (refusal.List error) = list_title_of error.kind
+title_of (refusal.Slit fault) = slit_title_of fault
+title_of (refusal.Check fault) = check_title_of fault
+title_of (refusal.BadText line) = codes "E77 BadText"
+title_of refusal.ReadFault = codes "E113 ReadFault"
+
+-- the numbers behind the name
+abbrev pub arguments_of : Refusal → List ℕ
+arguments_of refusal.Memory = []
+arguments_of (refusal.List error) = error.at ∷ []
+arguments_of (refusal.Slit fault) = slit_arguments_of fault
+arguments_of (refusal.Check fault) = check_arguments_of fault
+arguments_of (refusal.BadText line) = line ∷ []
+arguments_of refusal.ReadFault = []
+
+abbrev pub numbers_of : Arguments → List ℕ
+numbers_of arguments.None = []
+numbers_of (arguments.One first) = first ∷ []
+numbers_of (arguments.Two first second) = first ∷ second ∷ []
+
+-- the line of a title and its arguments
+abbrev pub line_of : List ℕ → List ℕ → List ℕ
+line_of title numbers = codes "refused " ++ (title ++ (flat_map (λ n. 32 ∷ decimal n) numbers ++ codes "\n"))
+
+abbrev pub refusal_line : Refusal → List ℕ
+refusal_line why = line_of (title_of why) (arguments_of why)

@@ -1,0 +1,37 @@
+-- What numarun answers to the bytes of a distance table.
+use Rattle.std.specs.Prelude.{◌≡◌, ℕ, ◌≤◌, ◌==◌, if◌then◌else◌, List, [], ◌++◌, length, Option, Some, None, Result, Ok, Err, ⊤, IfSome, codes, decimal}
+use Rattle.std.specs.List.{flat_map, range_with_len}
+use Rattle.slit.specs.Describes.{Describes}
+use Rattle.slit.specs.SlitFaultOf.{slit_fault}
+use Rattle.slit.specs.Table.{Table, distance}
+use Rattle.cli.specs.Answer.{WritesAnswer}
+use Rattle.cli.specs.declared.reading.TheConstants.{MOST_BYTES}
+use Rattle.cli.specs.declared.refusal.Refusal.{Refusal}
+use Rattle.cli.specs.declared.refusal.Refusal.TheVariants as refusal
+use Rattle.cli.specs.declared.write_fault.WriteFault.{WriteFault}
+
+-- an entry of a row, behind a space unless it is the first
+abbrev pub entry_text : ℕ → ℕ → List ℕ
+entry_text j entry = (if j == 0 then [] else codes " ") ++ decimal entry
+
+-- the distances from locality i, as one line
+abbrev pub row_text : Table → ℕ → List ℕ
+row_text t i = flat_map (λ j. entry_text j (distance t i j)) (range_with_len 0 t.localities) ++ codes "\n"
+
+-- the number of localities, and a line for each of them
+abbrev pub table_text : Table → List ℕ
+table_text t = (codes "localities " ++ (decimal t.localities ++ codes "\n")) ++ flat_map (row_text t) (range_with_len 0 t.localities)
+
+-- the table that the bytes describe, or their first fault; no one can know beforehand whether memory suffices or a read fails
+abbrev pub IsTableOrRefusal : List ℕ → Result Table Refusal → Type 0
+IsTableOrRefusal bytes (Ok t) = (length bytes ≤ MOST_BYTES) × Describes bytes t
+IsTableOrRefusal bytes (Err (refusal.Slit fault)) = (length bytes ≤ MOST_BYTES) × (slit_fault bytes ≡ Some fault)
+IsTableOrRefusal bytes (Err refusal.ReadFault) = ⊤
+IsTableOrRefusal bytes (Err refusal.Memory) = ⊤
+IsTableOrRefusal bytes (Err _) = ⊥
+
+-- the answer to all that the reader had was written
+pub record SlitAnswers (read out out' : Option (List ℕ)) (result : Result ℕ WriteFault) : Type 0 where
+  pub answer : Result Table Refusal
+  pub right : IfSome read (λ bytes. IsTableOrRefusal bytes answer)
+  pub written : WritesAnswer table_text out out' answer result

@@ -1,0 +1,33 @@
+-- Command lines in plain words, and what each asks for.
+use Rattle.std.specs.Prelude.{◌≡◌, List, [], ◌∷◌, Option, Some, None, codes}
+use Rattle.clap.specs.Lexer.{strip_byte}
+use Rattle.clap.specs.Words.{Text}
+use Rattle.cli.specs.Asked.{Asked, asked_for, check, list, slit}
+use Rattle.cli.specs.Mistakes.{mistakes}
+
+-- the word doesn't begin with a hyphen
+abbrev pub IsPlain : Text → Type 0
+IsPlain word = strip_byte 45 word ≡ None
+
+-- the words have no mistake, and ask for this
+pub record Spells (words : List Text) (wanted : Asked) : Type 0 where
+  pub asks : asked_for words ≡ wanted
+  pub right : mistakes words ≡ []
+
+-- numarun; numarun check; numarun check FILE; and behind `--` any word is a file
+pub record CheckSpellings : Type 0 where
+  pub nothing : Spells [] (check None)
+  pub bare : Spells (codes "check" ∷ []) (check None)
+  pub file : (word : Text) → IsPlain word → Spells (codes "check" ∷ word ∷ []) (check (Some word))
+  pub escaped : (word : Text) → Spells (codes "check" ∷ codes "--" ∷ word ∷ []) (check (Some word))
+
+-- numarun list TEXT, where TEXT may also be a lone hyphen
+pub record ListSpellings : Type 0 where
+  pub text : (word : Text) → IsPlain word → Spells (codes "list" ∷ word ∷ []) (list word)
+  pub hyphen : Spells (codes "list" ∷ codes "-" ∷ []) (list (codes "-"))
+  pub escaped : (word : Text) → Spells (codes "list" ∷ codes "--" ∷ word ∷ []) (list word)
+
+-- numarun slit FILE
+pub record SlitSpellings : Type 0 where
+  pub file : (word : Text) → IsPlain word → Spells (codes "slit" ∷ word ∷ []) (slit word)
+  pub escaped : (word : Text) → Spells (codes "slit" ∷ codes "--" ∷ word ∷ []) (slit word)

@@ -1,0 +1,101 @@
+//! `numarun slit`.
+ghost use Rattle.std.specs.Prelude.{◌++◌, ◌<◌, IfSome, codes};
+ghost use Rattle.std.specs.List.{flat_map, range_with_len};
+ghost use Rattle.slit.specs.Table.{distance};
+ghost use Rattle.cli.specs.SlitAnswer.{IsTableOrRefusal, SlitAnswers, entry_text, row_text, table_text};
+ghost use Rattle.cpu_list.specs.Output.{Writes};
+
+use crate::output::{put_all, put_number_line};
+use crate::reading::read_all;
+use crate::refusal::Refusal;
+use crate::write_fault::WriteFault;
+use cpu_list::put;
+use itoa::Buffer;
+use slit::Slit;
+use std::alloc::Global;
+use std::io;
+use std::io::{Read, Write};
+
+/// Writes the distance table that the reader has left: a line `localities N`, and then for each locality a
+/// line of its distances to all of them; or why the bytes are no table. The status is 0, or 1 for a refusal.
+///
+/// # Errors
+/// Where the lines can't be written; a front of them then went out.
+pub fn do_slit<R: Read, W: Write>(
+    alloc: Global,
+    reader: &mut R,
+    w: &mut W,
+) -> Result<u8, WriteFault>
+    ensures { SlitAnswers (R.remaining reader.old) (W.contents w.old) (W.contents w.new) result }
+{
+    match read_table(alloc, reader) {
+        Ok(table) => {
+            write_table(&table, w)?;
+            Ok(0)
+        }
+        Err(refusal) => {
+            refusal.write(w)?;
+            Ok(1)
+        }
+    }
+}
+
+fn read_table<R: Read>(alloc: Global, reader: &mut R) -> Result<Slit, Refusal>
+    ensures { IfSome (R.remaining reader.old) (λ bytes. IsTableOrRefusal bytes result) }
+{
+    let bytes = read_all(alloc, reader)?;
+    Ok(Slit::read(alloc, bytes.as_slice())?)
+}
+
+fn write_table<W: Write>(table: &Slit, w: &mut W) -> io::Result<()>
+    ensures { Writes (W.contents w.old) (W.contents w.new) result (table_text table.now) }
+{
+    put_number_line(b"localities ", table.localities() as u64, w)?;
+    write_rows(table, w)
+}
+
+fn write_rows<W: Write>(table: &Slit, w: &mut W) -> io::Result<()>
+    ensures { Writes (W.contents w.old) (W.contents w.new) result
+        (flat_map (row_text table.now) (range_with_len 0 table.now.localities)) }
+{
+    for i in 0..table.localities() {
+        write_row(table, i, w)?;
+    }
+    Ok(())
+}
+
+fn write_row<W: Write>(table: &Slit, i: usize, w: &mut W) -> io::Result<()>
+    requires { i < table.now.localities }
+    ensures { Writes (W.contents w.old) (W.contents w.new) result (row_text table.now i) }
+{
+    write_entries(table, i, w)?;
+    put(b"\n", w)
+}
+
+fn write_entries<W: Write>(table: &Slit, i: usize, w: &mut W) -> io::Result<()>
+    requires { i < table.now.localities }
+    ensures { Writes (W.contents w.old) (W.contents w.new) result
+        (flat_map (λ j. entry_text j (distance table.now i j)) (range_with_len 0 table.now.localities)) }
+{
+    for j in 0..table.localities() {
+        write_entry(table, i, j, w)?;
+    }
+    Ok(())
+}
+
+fn write_entry<W: Write>(table: &Slit, i: usize, j: usize, w: &mut W) -> io::Result<()>
+    requires i_is_locality { i < table.now.localities }
+    requires j_is_locality { j < table.now.localities }
+    ensures { Writes (W.contents w.old) (W.contents w.new) result (entry_text j (distance table.now i j)) }
+{
+    let mut digits = Buffer::new();
+    let entry = digits.format(table.distance(i, j)).as_bytes();
+    if j == 0 {
+        put(entry, w)
+    } else {
+        put_all(&[b" ".as_slice(), entry], w)
+    }
+}
+
+#[cfg(test)]
+mod tests;

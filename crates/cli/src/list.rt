@@ -1,0 +1,46 @@
+//! `numarun list`.
+ghost use Rattle.cli.specs.ListAnswer.{IsSetOrRefusal, ListAnswers, set_line};
+ghost use Rattle.cpu_list.specs.Output.{Writes};
+
+use crate::refusal::Refusal;
+use crate::write_fault::WriteFault;
+use cpu_list::{put, read, write_list};
+use cpu_set::{CPU_LIMIT, IdSet};
+use std::io;
+use std::io::Write;
+
+/// Writes the one spelling of the list's set and a line feed, or why the text is no list of numbers below
+/// [`CPU_LIMIT`](cpu_set::CPU_LIMIT). The status is 0, or 1 for a refusal.
+///
+/// # Errors
+/// Where the line can't be written; a front of it then went out.
+pub fn do_list<W: Write>(text: &[u8], w: &mut W) -> Result<u8, WriteFault>
+    ensures { ListAnswers text.now (W.contents w.old) (W.contents w.new) result }
+{
+    match set_of(text) {
+        Ok(set) => {
+            write_set(&set, w)?;
+            Ok(0)
+        }
+        Err(refusal) => {
+            refusal.write(w)?;
+            Ok(1)
+        }
+    }
+}
+
+fn set_of(text: &[u8]) -> Result<IdSet, Refusal>
+    ensures { IsSetOrRefusal text.now result }
+{
+    Ok(read(text, CPU_LIMIT)?)
+}
+
+fn write_set<W: Write>(set: &IdSet, w: &mut W) -> io::Result<()>
+    ensures { Writes (W.contents w.old) (W.contents w.new) result (set_line set.now) }
+{
+    write_list(set, w)?;
+    put(b"\n", w)
+}
+
+#[cfg(test)]
+mod tests;

@@ -1,0 +1,28 @@
+//! Output in several parts.
+ghost use Rattle.std.specs.Prelude.{◌++◌, codes, decimal};
+ghost use Rattle.cli.specs.Parts.{bytes_of};
+ghost use Rattle.cpu_list.specs.Output.{Writes};
+
+use cpu_list::put;
+use itoa::Buffer;
+use std::io;
+use std::io::Write;
+
+/// Writes the parts, one after another.
+pub fn put_all<W: Write>(parts: &[&[u8]], w: &mut W) -> io::Result<()>
+    ensures { Writes (W.contents w.old) (W.contents w.new) result (bytes_of parts.now) }
+{
+    for part in parts {
+        put(part, w)?;
+    }
+    Ok(())
+}
+
+/// Writes a line of a label and a number.
+pub fn put_number_line<W: Write>(label: &[u8], number: u64, w: &mut W) -> io::Result<()>
+    ensures { Writes (W.contents w.old) (W.contents w.new) result (label.now ++ (decimal number ++ codes "\n")) }
+{
+    let mut digits = Buffer::new();
+    let number = digits.format(number).as_bytes();
+    put_all(&[label, number, b"\n".as_slice()], w)
+}

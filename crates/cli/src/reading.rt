@@ -1,0 +1,48 @@
+ghost use Rattle.std.specs.Prelude.{◌≡◌, ◌+◌, ◌≤◌, IfOk, IfSome, OnErr, OnOk, vec_len};
+ghost use Rattle.std.specs.Io.KnownBytes.{IsAtEnd};
+ghost use Rattle.cli.specs.ConsumesUpTo.{ConsumesUpTo};
+
+use crate::read_error::ReadError;
+use std::alloc::Global;
+use std::io::Read;
+
+/// The most bytes that are read of one input, 64 MiB.
+pub const MOST_BYTES: usize = 67_108_864;
+
+/// The most reads that one input is given to come to its end.
+pub const MOST_READS: u32 = 1_000_000;
+
+/// The most bytes that are asked for at once.
+const PIECE: usize = 65_536;
+
+/// All that the reader has left.
+///
+/// `Fault` where a read fails, where `MOST_READS` reads haven't come to the end, or where there are more
+/// than `MOST_BYTES` bytes.
+pub fn read_all<R: Read>(alloc: Global, reader: &mut R) -> Result<Vec<u8>, ReadError>
+    ensures bytes { IfOk result (λ bytes. IfSome (R.remaining reader.old) (λ all. bytes.items ≡ all)) }
+    ensures end { OnOk result (IsAtEnd (R.remaining reader.new)) }
+    ensures size { IfOk result (λ bytes. vec_len bytes ≤ MOST_BYTES) }
+    // At most one byte is read past the bound.
+    ensures err { OnErr result (ConsumesUpTo (MOST_BYTES + 1) (R.remaining reader.old) (R.remaining reader.new)) }
+{
+    let mut bytes = Vec::new(alloc);
+    let mut buffer = [0u8; PIECE];
+    for _ in 0..MOST_READS {
+        let room = buffer.len().min(MOST_BYTES + 1 - bytes.len());
+        let Ok(count) = reader.read(&mut buffer[..room]) else {
+            return Err(ReadError::Fault);
+        };
+        if count == 0 {
+            return Ok(bytes);
+        }
+        if count > MOST_BYTES - bytes.len() {
+            return Err(ReadError::Fault);
+        }
+        bytes.extend_from_slice(&buffer[..count])?;
+    }
+    Err(ReadError::Fault)
+}
+
+#[cfg(test)]
+mod tests;

@@ -1,0 +1,218 @@
+ghost use Rattle.std.specs.Prelude.{◌≡◌};
+ghost use Rattle.cli.specs.FaultRefusal.{read_refusal, slit_refusal, verdict_refusal};
+ghost use Rattle.cli.specs.declared.refusal.Refusal.TheVariants.{List};
+ghost use Rattle.cli.specs.RefusalLine.{arguments_of, check_arguments_of, check_title_of, list_title_of, numbers_of, slit_arguments_of, slit_title_of, refusal_line, title_of};
+ghost use Rattle.cpu_list.specs.Output.{Writes};
+
+use crate::output::put_all;
+use crate::read_error::ReadError;
+use certificate::{CheckFault, VerdictError};
+use cpu_list::{ListError, ListErrorKind};
+use itoa::Buffer;
+use slit::{SlitError, SlitFault};
+use std::io;
+use std::io::Write;
+
+/// Why numarun turns an input down.
+#[derive(Clone, Copy, Debug, PartialEq, Eq)]
+pub enum Refusal {
+    /// E1: there was no memory.
+    Memory,
+    /// E10 to E12: the text is no list of CPUs.
+    List(ListError),
+    /// E15 to E21: the bytes are no distance table.
+    Slit(SlitFault),
+    /// E70 to E75: the certificate doesn't pass its check.
+    Check(CheckFault),
+    /// E77: the line of this number, counted from 1, can't follow those before it.
+    BadText { line: u64 },
+    /// E113: the input can't be opened or read, or passes a bound.
+    ReadFault,
+}
+
+/// What a refusal's line names behind its title.
+#[derive(Clone, Copy)]
+enum Arguments {
+    None,
+    One(u64),
+    Two(u64, u64),
+}
+
+impl Refusal {
+    /// The refusal's number and its name.
+    fn title(self) -> &'static str
+        ensures { result.now ≡ title_of self }
+    {
+        match self {
+            Refusal::Memory => "E1 Memory",
+            Refusal::List(error) => list_title(error.kind),
+            Refusal::Slit(fault) => slit_title(fault),
+            Refusal::Check(fault) => check_title(fault),
+            Refusal::BadText { .. } => "E77 BadText",
+            Refusal::ReadFault => "E113 ReadFault",
+        }
+    }
+
+    fn arguments(self) -> Arguments
+        ensures { numbers_of result ≡ arguments_of self }
+    {
+        match self {
+            Refusal::List(error) => Arguments::One(error.at as u64),
+            Refusal::Slit(fault) => slit_arguments(fault),
+            Refusal::Check(fault) => check_arguments(fault),
+            Refusal::BadText { line } => Arguments::One(line),
+            Refusal::Memory | Refusal::ReadFault => Arguments::None,
+        }
+    }
+
+    /// Writes the refusal's line.
+    ///
+    /// # Errors
+    /// That of the first write that fails or takes no byte; a front of the line then went out.
+    pub fn write<W: Write>(self, w: &mut W) -> io::Result<()>
+        ensures { Writes (W.contents w.old) (W.contents w.new) result (refusal_line self) }
+    {
+        let title = self.title().as_bytes();
+        match self.arguments() {
+            Arguments::None => put_all(&[b"refused ".as_slice(), title, b"\n".as_slice()], w),
+            Arguments::One(argument) => {
+                let mut digits = Buffer::new();
+                let first = digits.format(argument).as_bytes();
+                put_all(
+                    &[
+                        b"refused ".as_slice(),
+                        title,
+                        b" ".as_slice(),
+                        first,
+                        b"\n".as_slice(),
+                    ],
+                    w,
+                )
+            }
+            Arguments::Two(argument, other) => {
+                let mut digits = Buffer::new();
+                let mut more_digits = Buffer::new();
+                let first = digits.format(argument).as_bytes();
+                let second = more_digits.format(other).as_bytes();
+                put_all(
+                    &[
+                        b"refused ".as_slice(),
+                        title,
+                        b" ".as_slice(),
+                        first,
+                        b" ".as_slice(),
+                        second,
+                        b"\n".as_slice(),
+                    ],
+                    w,
+                )
+            }
+        }
+    }
+}
+
+fn list_title(kind: ListErrorKind) -> &'static str
+    ensures { result.now ≡ list_title_of kind }
+{
+    match kind {
+        ListErrorKind::BadItem => "E10 BadItem",
+        ListErrorKind::TooLarge => "E11 TooLarge",
+        ListErrorKind::Descending => "E12 Descending",
+    }
+}
+
+fn slit_title(fault: SlitFault) -> &'static str
+    ensures { result.now ≡ slit_title_of fault }
+{
+    match fault {
+        SlitFault::TooShort => "E15 TooShort",
+        SlitFault::BadSignature => "E16 BadSignature",
+        SlitFault::BadLength => "E17 BadLength",
+        SlitFault::BadCount => "E18 BadCount",
+        SlitFault::BadSum => "E19 BadSum",
+        SlitFault::ReservedValue(_, _) => "E20 ReservedValue",
+        SlitFault::BadDiagonal(_) => "E21 BadDiagonal",
+    }
+}
+
+fn slit_arguments(fault: SlitFault) -> Arguments
+    ensures { numbers_of result ≡ slit_arguments_of fault }
+{
+    match fault {
+        SlitFault::ReservedValue(row, column) => Arguments::Two(row as u64, column as u64),
+        SlitFault::BadDiagonal(row) => Arguments::One(row as u64),
+        SlitFault::TooShort
+        | SlitFault::BadSignature
+        | SlitFault::BadLength
+        | SlitFault::BadCount
+        | SlitFault::BadSum => Arguments::None,
+    }
+}
+
+fn check_title(fault: CheckFault) -> &'static str
+    ensures { result.now ≡ check_title_of fault }
+{
+    match fault {
+        CheckFault::BadProblem => "E70 BadProblem",
+        CheckFault::WrongCount { .. } => "E71 WrongCount",
+        CheckFault::NotAllowed { .. } => "E72 NotAllowed",
+        CheckFault::HeldTwice { .. } => "E73 HeldTwice",
+        CheckFault::ValueTooHigh { .. } => "E74 ValueTooHigh",
+        CheckFault::Gap => "E75 Gap",
+    }
+}
+
+fn check_arguments(fault: CheckFault) -> Arguments
+    ensures { numbers_of result ≡ check_arguments_of fault }
+{
+    match fault {
+        CheckFault::WrongCount { row } => Arguments::One(row as u64),
+        CheckFault::NotAllowed { row, cpu } | CheckFault::ValueTooHigh { row, cpu } => {
+            Arguments::Two(row as u64, u64::from(cpu))
+        }
+        CheckFault::HeldTwice { cpu } => Arguments::One(u64::from(cpu)),
+        CheckFault::BadProblem | CheckFault::Gap => Arguments::None,
+    }
+}
+
+impl From<ReadError> for Refusal {
+    ghost from_gives = { λ error refusal. refusal ≡ read_refusal error };
+
+    fn from(error: ReadError) -> Refusal {
+        match error {
+            ReadError::Memory => Refusal::Memory,
+            ReadError::Fault => Refusal::ReadFault,
+        }
+    }
+}
+
+impl From<SlitError> for Refusal {
+    ghost from_gives = { λ error refusal. refusal ≡ slit_refusal error };
+
+    fn from(error: SlitError) -> Refusal {
+        match error {
+            SlitError::Memory => Refusal::Memory,
+            SlitError::Fault(fault) => Refusal::Slit(fault),
+        }
+    }
+}
+
+impl From<ListError> for Refusal {
+    ghost from_gives = { λ error refusal. refusal ≡ List error };
+
+    fn from(error: ListError) -> Refusal {
+        Refusal::List(error)
+    }
+}
+
+impl From<VerdictError> for Refusal {
+    ghost from_gives = { λ error refusal. refusal ≡ verdict_refusal error };
+
+    fn from(error: VerdictError) -> Refusal {
+        match error {
+            VerdictError::Memory => Refusal::Memory,
+            VerdictError::BadText(line) => Refusal::BadText { line },
+            VerdictError::Fault(fault) => Refusal::Check(fault),
+        }
+    }
+}

@@ -1,0 +1,20 @@
+//! Laws of the command line in plain words.
+ghost use Rattle.cli.specs.Spellings.{CheckSpellings, ListSpellings, SlitSpellings};
+
+/// No words and `check` ask for a check of standard input; `check FILE` asks for that of the file, where its
+/// name doesn't begin with a hyphen or has `--` before it.
+pub fn check_spellings()
+    ensures { CheckSpellings }
+{}
+
+/// `list TEXT` asks for the spelling of that list, where the text is a lone hyphen, doesn't begin with one or
+/// has `--` before it.
+pub fn list_spellings()
+    ensures { ListSpellings }
+{}
+
+/// `slit FILE` asks for the distance table in that file, where its name doesn't begin with a hyphen or has
+/// `--` before it.
+pub fn slit_spellings()
+    ensures { SlitSpellings }
+{}
