@@ -34,22 +34,22 @@ use Rattle.certificate.proofs.Duality.{no_plan_below_bound}
 
 -- ---- no fault, in parts
 
-none_of_both : {A : Type 0} (a b : Option A) → option_or a b ≡ None → (a ≡ None) × (b ≡ None)
+pub none_of_both : {A : Type 0} (a b : Option A) → option_or a b ≡ None → (a ≡ None) × (b ≡ None)
 none_of_both None b e = (refl, e)
 none_of_both (Some x) b e = absurd (cc)
 
-unmapped : {A B : Type 0} (f : A → B) (a : Option A) → option_map f a ≡ None → a ≡ None
+pub unmapped : {A B : Type 0} (f : A → B) (a : Option A) → option_map f a ≡ None → a ≡ None
 unmapped f None e = refl
 unmapped f (Some x) e = absurd (cc)
 
-passed : {A : Type 0} (b : Bool) (fault : A) → when (not b) fault ≡ None → b ≡ true
+pub passed : {A : Type 0} (b : Bool) (fault : A) → when (not b) fault ≡ None → b ≡ true
 passed true fault e = refl
 passed false fault e = absurd (cc)
 
 no_when : {A : Type 0} (b : Bool) (fault : A) → b ≡ true → when (not b) fault ≡ None
 no_when b fault e = rw e refl
 
-none_below :
+pub none_below :
     {A : Type 0} (n : ℕ) (f : ℕ → Option A) → first_below n f ≡ None → (k : ℕ) → k < n → f k ≡ None
 unfolding first_below
 none_below zero f none k lt = absurd (omega arith)
@@ -63,7 +63,7 @@ none_below (suc n) f none k lt =
 -- ---- two lists, place by place
 
 module _ {A B : Type 0} (R : A → B → Type 0) where
-  all_zip : (xs : List A) (ys : List B) → length ys ≡ length xs → ((k : ℕ) (x : A) (y : B) → slice_get xs k ≡ Some x → slice_get ys k ≡ Some y → R x y) → AllZip R xs ys
+  pub all_zip : (xs : List A) (ys : List B) → length ys ≡ length xs → ((k : ℕ) (x : A) (y : B) → slice_get xs k ≡ Some x → slice_get ys k ≡ Some y → R x y) → AllZip R xs ys
   all_zip [] [] same each = tt
   all_zip [] (y ∷ ys) same each = absurd (omega arith)
   all_zip (x ∷ xs) [] same each = absurd (omega arith)
@@ -77,12 +77,12 @@ module _ {A B : Type 0} (R : A → B → Type 0) where
   no_fault_at f (x ∷ xs) (y ∷ ys) none all zero = none x y all.0
   no_fault_at f (x ∷ xs) (y ∷ ys) none all (suc k) = no_fault_at f xs ys none all.1 k
 
-at_both_is :
+pub at_both_is :
     {A B : Type 0} (f : A → B → Option CheckFault) (xs : List A) (ys : List B) (k : ℕ) (x : A) (y : B)
     → slice_get xs k ≡ Some x → slice_get ys k ≡ Some y → at_both f xs ys k ≡ f x y
 at_both_is f xs ys k x y x_is y_is = rw (x_is, y_is) refl
 
-within : {A : Type 0} (xs : List A) (k : ℕ) (x : A) → slice_get xs k ≡ Some x → k < length xs
+pub within : {A : Type 0} (xs : List A) (k : ℕ) (x : A) → slice_get xs k ≡ Some x → k < length xs
 within [] k x e = absurd (cc)
 within (a ∷ xs) zero x e = omega arith
 within (a ∷ xs) (suc k) x e = omega (arith, within xs k x e)
@@ -98,7 +98,7 @@ has_weight : (a b : Bool) → (a ≡ true → b ≡ true) → (a && not b) ≡ f
 has_weight true b f = ap not (f refl)
 has_weight false b f = refl
 
-row_fault-says : (k : ℕ) (row : RowView) (s : Ids) → InRange s → row_fault k row s ≡ None → Meets row s
+pub row_fault-says : (k : ℕ) (row : RowView) (s : Ids) → InRange s → row_fault k row s ≡ None → Meets row s
 unfolding row_fault
 row_fault-says k row s in_range none =
     let first = none_of_both (when (not (nat_eq (set.len s) row.demand)) (WrongCount k)) _ none in
@@ -115,7 +115,7 @@ row_fault-none k row s meets =
     rw (eq-eqb (set.len s) row.demand meets.size, least_none (is_not_allowed row s) (λ c is_cpu. has_weight (set.contains s c) (is_some (weight row c)) (meets.allowed c)))
     refl
 
-rows_fault-says : (rows : List RowView) (sets : List Ids) → length sets ≡ length rows → All InRange sets → rows_fault rows sets ≡ None → AllZip Meets rows sets
+pub rows_fault-says : (rows : List RowView) (sets : List Ids) → length sets ≡ length rows → All InRange sets → rows_fault rows sets ≡ None → AllZip Meets rows sets
 unfolding rows_fault
 rows_fault-says rows sets same in_range none =
     all_zip Meets rows sets same (λ k row s row_is s_is.
@@ -130,16 +130,23 @@ rows_fault-none rows sets met =
 
 -- ---- sets that are apart
 
-apart_fault-says : (sets : List Ids) → All InRange sets → apart_fault sets ≡ None → AllPairs IsDisjoint sets
-unfolding apart_fault
-apart_fault-says sets in_range none = λ i j d lt below c one other.
-    let at_j : twice_fault sets j ≡ None = none_below (length sets) (twice_fault sets) none j below in
+-- as far as no set has a fault, each two are disjoint
+pub apart_below :
+    (sets : List Ids) (n : ℕ) → n ≤ length sets → All InRange sets → ((j : ℕ) → j < n → twice_fault sets j ≡ None)
+    → (i j : ℕ) (d : Ids) → i < j → j < n → IsDisjoint (get_or sets i d) (get_or sets j d)
+apart_below sets n few in_range none i j d lt below c one other =
+    let in_sets : j < length sets = omega arith in
     let never : (set.contains (get_or sets j set.empty) c && is_held (take j sets) c) ≡ false =
-    least_none_says (λ cpu. set.contains (get_or sets j set.empty) cpu && is_held (take j sets) cpu) (unmapped HeldTwice _ at_j) c (in_range j d below c other) in
-    let has : set.contains (get_or sets j set.empty) c ≡ true = ap (λ s. set.contains s c) (get_or_default sets j set.empty d below) ∙ other in
+    least_none_says (λ cpu. set.contains (get_or sets j set.empty) cpu && is_held (take j sets) cpu) (unmapped HeldTwice _ (none j below)) c (in_range j d in_sets c other) in
+    let has : set.contains (get_or sets j set.empty) c ≡ true = ap (λ s. set.contains s c) (get_or_default sets j set.empty d in_sets) ∙ other in
     let held : is_held (take j sets) c ≡ true =
     list_any_at (λ s. set.contains s c) (take j sets) i d (rw length-take (omega arith)) (ap (λ s. set.contains s c) (get_or-take j sets i d lt) ∙ one) in
     not_true _ never (both _ _ has held)
+
+pub apart_fault-says : (sets : List Ids) → All InRange sets → apart_fault sets ≡ None → AllPairs IsDisjoint sets
+unfolding apart_fault
+apart_fault-says sets in_range none =
+    apart_below sets (length sets) (omega arith) in_range (none_below (length sets) (twice_fault sets) none)
 
 apart_fault-none : (sets : List Ids) → AllPairs IsDisjoint sets → apart_fault sets ≡ None
 unfolding apart_fault
@@ -157,7 +164,7 @@ apart_fault-none sets apart =
 
 -- ---- a row and its value
 
-value_fault-says : (prices : List Price) (k : ℕ) (row : RowView) (value : ℕ) → value_fault prices k row value ≡ None → IsValueOf prices row value
+pub value_fault-says : (prices : List Price) (k : ℕ) (row : RowView) (value : ℕ) → value_fault prices k row value ≡ None → IsValueOf prices row value
 value_fault-says prices k row value none = λ c w is_cpu w_is.
     ltb-false _ _ (rw w_is at (least_none_says (is_too_high prices row value) (unmapped (ValueTooHigh k) _ none) c is_cpu))
 
@@ -169,7 +176,7 @@ value_fault-none : (prices : List Price) (k : ℕ) (row : RowView) (value : ℕ)
 value_fault-none prices k row value is_value =
     ap (option_map (ValueTooHigh k)) (least_none (is_too_high prices row value) (λ c is_cpu. low (weight row c) (price prices c) value (λ w e. is_value c w is_cpu e)))
 
-values_fault-says : (rows : List RowView) (values : List ℕ) (prices : List Price) → length values ≡ length rows → values_fault rows values prices ≡ None → AllZip (IsValueOf prices) rows values
+pub values_fault-says : (rows : List RowView) (values : List ℕ) (prices : List Price) → length values ≡ length rows → values_fault rows values prices ≡ None → AllZip (IsValueOf prices) rows values
 unfolding values_fault
 values_fault-says rows values prices same none =
     all_zip (IsValueOf prices) rows values same (λ k row value row_is value_is.

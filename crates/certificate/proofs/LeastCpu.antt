@@ -41,6 +41,30 @@ none_passes test a (suc n) none k from below =
     first_fails true x rest e = absurd (cc)
     first_fails false x rest e = (refl, e)
 
+some_passes :
+    (test : ℕ → Bool) (a n k : ℕ) → find test (range_with_len a n) ≡ Some k
+    → (k < a + n) × (test k ≡ true) × ((j : ℕ) → a ≤ j → j < k → test j ≡ false)
+some_passes test a zero k found = absurd (cc)
+some_passes test a (suc n) k found = by_cases (test a) refl found (some_passes test (a + 1) n k)
+  where
+    by_cases :
+        (b : Bool) → test a ≡ b → cond b (Some a) (find test (range_with_len (a + 1) n)) ≡ Some k
+        → (find test (range_with_len (a + 1) n) ≡ Some k → (k < a + 1 + n) × (test k ≡ true) × ((j : ℕ) → a + 1 ≤ j → j < k → test j ≡ false))
+        → (k < a + suc n) × (test k ≡ true) × ((j : ℕ) → a ≤ j → j < k → test j ≡ false)
+    by_cases true e found rest =
+        let same : a ≡ k = cc in
+        (omega arith, ap test (sym same) ∙ e, λ j from lt. absurd (omega arith))
+    by_cases false e found rest =
+        let r = rest found in
+        (omega (arith, r.0), r.1, λ j from lt. elim (cases_eq a j) [ inl same ↦ ap test (sym same) ∙ e | inr other ↦ r.2 j (omega arith) lt ])
+
+some_at :
+    (test : ℕ → Bool) (n k : ℕ) → n ≡ CPU_LIMIT → least_cpu test ≡ Some k
+    → (IsCpu k) × (test k ≡ true) × ((j : ℕ) → j < k → test j ≡ false)
+some_at test n k e found =
+    let r = some_passes test 0 n k (ap (find test) (sym (cpus_from n e)) ∙ found) in
+    (omega (arith, r.0), r.1, λ j lt. r.2 j (omega arith) lt)
+
 least_none_at : (test : ℕ → Bool) (n : ℕ) → n ≡ CPU_LIMIT → ((k : ℕ) → IsCpu k → test k ≡ false) → least_cpu test ≡ None
 least_none_at test n e none = rw (cpus_from n e) (none_in_range test 0 n (λ k lt. none k (omega arith)))
 
@@ -79,3 +103,9 @@ least_is test s (Some n) same here in_range =
   where
     below : (j n : ℕ) → j < n → IsCpu n → IsCpu j
     below j n lt is_cpu = omega arith
+
+-- the least one passes, and no lesser one does
+pub least_some_says :
+    (test : ℕ → Bool) (k : ℕ) → least_cpu test ≡ Some k
+    → (IsCpu k) × (test k ≡ true) × ((j : ℕ) → j < k → test j ≡ false)
+least_some_says test k found = some_at test CPU_LIMIT k refl found

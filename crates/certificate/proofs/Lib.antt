@@ -13,6 +13,7 @@ pub mod TooHigh
 pub mod Duality
 pub mod LimitFacts
 pub mod Exact
+pub mod Causes
 pub mod BadLines
 pub mod Completing
 pub mod Cuts

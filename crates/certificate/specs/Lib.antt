@@ -12,6 +12,7 @@ pub mod IsPriceTable
 pub mod IsOfferTooHigh
 pub mod IsProved
 pub mod PlanFault
+pub mod IsCause
 pub mod Laws
 pub mod Parts
 pub mod IdWord

@@ -25,7 +25,7 @@ least_cpu test = find test cpus
 abbrev pub is_not_allowed : RowView → Ids → ℕ → Bool
 is_not_allowed row s cpu = set.contains s cpu && not (is_some (weight row cpu))
 
--- row k and its set
+-- row k and its set: another count than the demand, then a CPU that is not allowed
 unfoldable pub row_fault : ℕ → RowView → Ids → Option CheckFault
 row_fault k row s = first_of (
     when (not (set.len s == row.demand)) (WrongCount k)
@@ -36,6 +36,7 @@ row_fault k row s = first_of (
 abbrev pub at_both : {A B : Type 0} → (A → B → Option CheckFault) → List A → List B → ℕ → Option CheckFault
 at_both f xs ys k = option_and_then (λ e. f e.0 e.1) (option_zip (slice_get xs k) (slice_get ys k))
 
+-- the first row whose set is not as it asks
 unfoldable pub rows_fault : List RowView → List Ids → Option CheckFault
 rows_fault rows sets = first_below (length rows) (λ k. at_both (row_fault k) rows sets k)
 
@@ -48,6 +49,7 @@ abbrev pub twice_fault : List Ids → ℕ → Option CheckFault
 twice_fault sets k =
     option_map HeldTwice (least_cpu (λ cpu. set.contains (slice_index_or sets k set.empty) cpu && is_held (take k sets) cpu))
 
+-- the first set that has a CPU of an earlier one
 unfoldable pub apart_fault : List Ids → Option CheckFault
 apart_fault sets = first_below (length sets) (twice_fault sets)
 
@@ -55,10 +57,11 @@ apart_fault sets = first_below (length sets) (twice_fault sets)
 abbrev pub is_too_high : List Price → RowView → ℕ → ℕ → Bool
 is_too_high prices row value cpu = option_map_or (λ w. nat_lt (w + price prices cpu) value) (weight row cpu) false
 
--- row k and its value
+-- row k and its value: the least CPU at which it is too high
 abbrev pub value_fault : List Price → ℕ → RowView → ℕ → Option CheckFault
 value_fault prices k row value = option_map (ValueTooHigh k) (least_cpu (is_too_high prices row value))
 
+-- the first row whose value is too high
 unfoldable pub values_fault : List RowView → List ℕ → List Price → Option CheckFault
 values_fault rows values prices = first_below (length rows) (λ k. at_both (value_fault prices k) rows values k)
 

@@ -9,6 +9,7 @@ pub record PricesView : Type 0 where
   pub values : List ℕ
   pub of_cpu : List Price
 
+-- a price and a list of them are stored as the pairs of their fields, and so are values with prices
 abbrev pub price_code : Coded Price
 price_code =
     code_by (ℕ × Ids) (coded× coded_ℕ ids_code) (λ p. (p.amount, p.cpus))

@@ -10,6 +10,7 @@ pub record RowView : Type 0 where
   pub demand : ℕ
   pub offers : List Offer
 
+-- an offer, a row and a list of rows are stored as the tuples of their fields
 abbrev pub offer_code : Coded Offer
 offer_code =
     code_by (ℕ × Ids) (coded× coded_ℕ ids_code) (λ o. (o.weight, o.cpus))

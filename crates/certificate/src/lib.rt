@@ -25,7 +25,7 @@ mod value_checks;
 pub use certificates::Certificate;
 pub use check_faults::CheckFault;
 pub use checks::check_plan;
-pub use laws::no_plan_is_below_a_bound;
+pub use laws::{each_fault_has_its_cause, no_plan_is_below_a_bound};
 pub use limits::{MAX_AMOUNT, MAX_DEMAND, MAX_ROWS, MAX_WEIGHT};
 pub use plans::Plan;
 pub use price_lists::{Price, Prices};
