@@ -1,6 +1,6 @@
 ghost use Rattle.std.specs.Prelude.{◌≡◌, Some, None, OnOk, IfErr, length, slice_get};
 ghost use Rattle.certificate.specs.Line.{HoldLine, PriceLine, RowLine, TotalLine};
-ghost use Rattle.certificate.specs.DraftView.{next_in_body, empty_draft, is_id_of};
+ghost use Rattle.certificate.specs.DraftView.{next_in_body, empty_draft, is_held, is_id_of};
 ghost use Rattle.certificate.specs.Finished.{finished};
 ghost use Rattle.certificate.specs.DraftRead.{draft_view, KnowsIds};
 
@@ -90,13 +90,20 @@ pub fn add_hold(draft: &mut Draft, id: &[u8], cpus: IdSet, value: u64) -> Result
     Ok(())
 }
 
+// Whether each row has its set and value.
+fn is_held(draft: &Draft) -> bool
+    ensures { result ≡ is_held (draft_view draft.now) }
+{
+    draft.sets.len() == draft.rows.len()
+}
+
 pub fn add_price(draft: &mut Draft, price: Price) -> Result<(), LineFault>
     requires { KnowsIds draft.old }
     ensures ids { OnOk result (KnowsIds draft.new) }
     ensures ok { OnOk result (next_in_body (draft_view draft.old) (PriceLine price) ≡ Some (draft_view draft.new)) }
     ensures bad { IfErr result (λ fault. fault ≡ LineFault.Bad → next_in_body (draft_view draft.old) (PriceLine price) ≡ None) }
 {
-    if draft.sets.len() != draft.rows.len() {
+    if !is_held(draft) {
         return Err(LineFault::Bad);
     }
     draft.prices.push(price)?;
@@ -109,7 +116,7 @@ pub fn add_total(draft: &mut Draft, total: u64) -> Result<(), LineFault>
     ensures ok { OnOk result (next_in_body (draft_view draft.old) (TotalLine total) ≡ Some (draft_view draft.new)) }
     ensures bad { IfErr result (λ fault. fault ≡ LineFault.Bad → next_in_body (draft_view draft.old) (TotalLine total) ≡ None) }
 {
-    if draft.sets.len() != draft.rows.len() {
+    if !is_held(draft) {
         return Err(LineFault::Bad);
     }
     draft.total = total;

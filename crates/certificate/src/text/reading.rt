@@ -63,3 +63,6 @@ fn read_lines(alloc: Global, text: &[u8]) -> Result<Certificate, TextError>
         None => Err(TextError::BadText(number)),
     }
 }
+
+#[cfg(test)]
+mod tests;
