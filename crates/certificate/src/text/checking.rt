@@ -75,3 +75,6 @@ fn check(certificate: &Certificate) -> Result<Verdict, CheckFault>
     }
     Ok(Verdict::Plan(cost))
 }
+
+#[cfg(test)]
+mod tests;

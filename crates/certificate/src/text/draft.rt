@@ -1,8 +1,5 @@
 ghost use Rattle.std.specs.Prelude.{◌≡◌, Some, None, OnOk, IfErr, length, slice_get};
 ghost use Rattle.certificate.specs.Line.{HoldLine, PriceLine, RowLine, TotalLine};
-ghost use Rattle.certificate.specs.DraftView.{next_in_body, empty_draft, is_id_of};
-ghost use Rattle.certificate.specs.Finished.{finished};
-ghost use Rattle.certificate.specs.DraftRead.{draft_view, KnowsIds};
 
 use super::line_fault::LineFault;
 use crate::{Certificate, Plan, Price, Prices, Problem, Row};
@@ -13,13 +10,17 @@ use std::collections::BTreeSet;
 /// How far a text has been read.
 #[derive(Clone, Copy)]
 pub enum Stage {
+    /// Nothing yet.
     Start,
+    /// The header, and some rows, sets and prices.
     Body,
+    /// The total too.
     Totalled,
+    /// The last line too.
     Ended,
 }
 
-/// What has been read of a certificate.
+/// What has been read of a certificate's text.
 #[derive(Drop)]
 pub struct Draft {
     pub stage: Stage,
@@ -31,112 +32,129 @@ pub struct Draft {
     total: u64,
 }
 
-/// A draft of which nothing has been read.
-pub fn new_draft(alloc: Global) -> Draft
-    ensures empty { draft_view result ≡ empty_draft }
-    ensures ids { KnowsIds result }
-{
-    Draft {
-        stage: Stage::Start,
-        rows: Vec::new(alloc),
-        ids: BTreeSet::new(alloc),
-        sets: Vec::new(alloc),
-        values: Vec::new(alloc),
-        prices: Vec::new(alloc),
-        total: 0,
-    }
-}
+impl Draft {
+    ghost use Rattle.certificate.specs.DraftView.{next_in_body, empty_draft, is_held, is_id_of};
+    ghost use Rattle.certificate.specs.DraftRead.{draft_view, KnowsIds};
+    ghost use Rattle.certificate.specs.Finished.{finished};
 
-pub fn add_row(draft: &mut Draft, row: Row) -> Result<(), LineFault>
-    requires { KnowsIds draft.old }
-    ensures ids { OnOk result (KnowsIds draft.new) }
-    ensures ok { OnOk result (next_in_body (draft_view draft.old) (RowLine row) ≡ Some (draft_view draft.new)) }
-    ensures bad { IfErr result (λ fault. fault ≡ LineFault.Bad → next_in_body (draft_view draft.old) (RowLine row) ≡ None) }
-{
-    if !draft.sets.is_empty() {
-        return Err(LineFault::Bad);
+    /// A draft of which nothing has been read.
+    pub fn new(alloc: Global) -> Draft
+        ensures empty { draft_view result ≡ empty_draft }
+        ensures ids { KnowsIds result }
+    {
+        Draft {
+            stage: Stage::Start,
+            rows: Vec::new(alloc),
+            ids: BTreeSet::new(alloc),
+            sets: Vec::new(alloc),
+            values: Vec::new(alloc),
+            prices: Vec::new(alloc),
+            total: 0,
+        }
     }
-    if !draft.prices.is_empty() {
-        return Err(LineFault::Bad);
-    }
-    if !draft.ids.insert(row.id.clone()?)? {
-        return Err(LineFault::Bad);
-    }
-    draft.rows.push(row)?;
-    Ok(())
-}
 
-// Whether the next row that has no set yet is of this id.
-fn awaits(draft: &Draft, id: &[u8]) -> bool
-    ensures { result ≡ is_id_of id.now (slice_get draft.now.rows.items (length draft.now.sets.items)) }
-{
-    match draft.rows.get(draft.sets.len()) {
-        Some(row) => row.id.as_bytes() == id,
-        None => false,
+    /// Adds a row. Rows come before all sets and prices, and no two have one id.
+    pub fn add_row(&mut self, row: Row) -> Result<(), LineFault>
+        requires { KnowsIds self.old }
+        ensures ids { OnOk result (KnowsIds self.new) }
+        ensures ok { OnOk result (next_in_body (draft_view self.old) (RowLine row) ≡ Some (draft_view self.new)) }
+        ensures bad { IfErr result (λ fault. fault ≡ LineFault.Bad → next_in_body (draft_view self.old) (RowLine row) ≡ None) }
+    {
+        if !self.sets.is_empty() {
+            return Err(LineFault::Bad);
+        }
+        if !self.prices.is_empty() {
+            return Err(LineFault::Bad);
+        }
+        if !self.ids.insert(row.id.clone()?)? {
+            return Err(LineFault::Bad);
+        }
+        self.rows.push(row)?;
+        Ok(())
     }
-}
 
-pub fn add_hold(draft: &mut Draft, id: &[u8], cpus: IdSet, value: u64) -> Result<(), LineFault>
-    requires { KnowsIds draft.old }
-    ensures ids { OnOk result (KnowsIds draft.new) }
-    ensures ok { OnOk result (next_in_body (draft_view draft.old) (HoldLine id.now cpus value) ≡ Some (draft_view draft.new)) }
-    ensures bad { IfErr result (λ fault. fault ≡ LineFault.Bad → next_in_body (draft_view draft.old) (HoldLine id.now cpus value) ≡ None) }
-{
-    if !awaits(draft, id) {
-        return Err(LineFault::Bad);
+    // Whether the first row that has no set yet is of this id.
+    fn awaits(&self, id: &[u8]) -> bool
+        ensures { result ≡ is_id_of id.now (slice_get self.now.rows.items (length self.now.sets.items)) }
+    {
+        match self.rows.get(self.sets.len()) {
+            Some(row) => row.id.as_bytes() == id,
+            None => false,
+        }
     }
-    draft.sets.push(cpus)?;
-    draft.values.push(value)?;
-    Ok(())
-}
 
-pub fn add_price(draft: &mut Draft, price: Price) -> Result<(), LineFault>
-    requires { KnowsIds draft.old }
-    ensures ids { OnOk result (KnowsIds draft.new) }
-    ensures ok { OnOk result (next_in_body (draft_view draft.old) (PriceLine price) ≡ Some (draft_view draft.new)) }
-    ensures bad { IfErr result (λ fault. fault ≡ LineFault.Bad → next_in_body (draft_view draft.old) (PriceLine price) ≡ None) }
-{
-    if draft.sets.len() != draft.rows.len() {
-        return Err(LineFault::Bad);
+    /// Adds the set and the value of the first row that has none yet, which must be of this id.
+    pub fn add_hold(&mut self, id: &[u8], cpus: IdSet, value: u64) -> Result<(), LineFault>
+        requires { KnowsIds self.old }
+        ensures ids { OnOk result (KnowsIds self.new) }
+        ensures ok { OnOk result (next_in_body (draft_view self.old) (HoldLine id.now cpus value) ≡ Some (draft_view self.new)) }
+        ensures bad { IfErr result (λ fault. fault ≡ LineFault.Bad → next_in_body (draft_view self.old) (HoldLine id.now cpus value) ≡ None) }
+    {
+        if !self.awaits(id) {
+            return Err(LineFault::Bad);
+        }
+        self.sets.push(cpus)?;
+        self.values.push(value)?;
+        Ok(())
     }
-    draft.prices.push(price)?;
-    Ok(())
-}
 
-pub fn add_total(draft: &mut Draft, total: u64) -> Result<(), LineFault>
-    requires { KnowsIds draft.old }
-    ensures ids { OnOk result (KnowsIds draft.new) }
-    ensures ok { OnOk result (next_in_body (draft_view draft.old) (TotalLine total) ≡ Some (draft_view draft.new)) }
-    ensures bad { IfErr result (λ fault. fault ≡ LineFault.Bad → next_in_body (draft_view draft.old) (TotalLine total) ≡ None) }
-{
-    if draft.sets.len() != draft.rows.len() {
-        return Err(LineFault::Bad);
+    // Whether each row has its set and value.
+    fn is_held(&self) -> bool
+        ensures { result ≡ is_held (draft_view self.now) }
+    {
+        self.sets.len() == self.rows.len()
     }
-    draft.total = total;
-    draft.stage = Stage::Totalled;
-    Ok(())
-}
 
-// The certificate of which everything has been read.
-pub fn finish(draft: Draft) -> Option<Certificate>
-    ensures { result ≡ finished (draft_view draft) }
-{
-    let Draft {
-        stage,
-        rows,
-        ids: _,
-        sets,
-        values,
-        prices: of_cpu,
-        total,
-    } = draft;
-    match stage {
-        Stage::Ended => Some(Certificate::Plan {
-            problem: Problem { rows },
-            plan: Plan { sets },
-            prices: Prices { values, of_cpu },
+    /// Adds a price, once each row has its set.
+    pub fn add_price(&mut self, price: Price) -> Result<(), LineFault>
+        requires { KnowsIds self.old }
+        ensures ids { OnOk result (KnowsIds self.new) }
+        ensures ok { OnOk result (next_in_body (draft_view self.old) (PriceLine price) ≡ Some (draft_view self.new)) }
+        ensures bad { IfErr result (λ fault. fault ≡ LineFault.Bad → next_in_body (draft_view self.old) (PriceLine price) ≡ None) }
+    {
+        if !self.is_held() {
+            return Err(LineFault::Bad);
+        }
+        self.prices.push(price)?;
+        Ok(())
+    }
+
+    /// Adds the total, once each row has its set.
+    pub fn add_total(&mut self, total: u64) -> Result<(), LineFault>
+        requires { KnowsIds self.old }
+        ensures ids { OnOk result (KnowsIds self.new) }
+        ensures ok { OnOk result (next_in_body (draft_view self.old) (TotalLine total) ≡ Some (draft_view self.new)) }
+        ensures bad { IfErr result (λ fault. fault ≡ LineFault.Bad → next_in_body (draft_view self.old) (TotalLine total) ≡ None) }
+    {
+        if !self.is_held() {
+            return Err(LineFault::Bad);
+        }
+        self.total = total;
+        self.stage = Stage::Totalled;
+        Ok(())
+    }
+
+    /// The certificate, if all of it has been read.
+    pub fn finish(self) -> Option<Certificate>
+        ensures { result ≡ finished (draft_view self) }
+    {
+        let Draft {
+            stage,
+            rows,
+            ids: _,
+            sets,
+            values,
+            prices: of_cpu,
             total,
-        }),
-        _ => None,
+        } = self;
+        match stage {
+            Stage::Ended => Some(Certificate::Plan {
+                problem: Problem { rows },
+                plan: Plan { sets },
+                prices: Prices { values, of_cpu },
+                total,
+            }),
+            _ => None,
+        }
     }
 }

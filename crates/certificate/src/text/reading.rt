@@ -4,7 +4,7 @@ ghost use Rattle.certificate.specs.CertificateText.{IsText};
 ghost use Rattle.certificate.specs.TextError.{IsTextError, IsRead};
 
 use super::cut::cut;
-use super::draft::{finish, new_draft};
+use super::draft::Draft;
 use super::line_fault::LineFault;
 use super::taking::take_line;
 use crate::Certificate;
@@ -43,7 +43,7 @@ fn read_lines(alloc: Global, text: &[u8]) -> Result<Certificate, TextError>
     ensures ok { IfOk result (λ c. IsText text.now c) }
     ensures bad { IfErr result (λ e. IsTextError text.now e) }
 {
-    let mut draft = new_draft(alloc);
+    let mut draft = Draft::new(alloc);
     let mut rest = text;
     let mut number = 1;
     while let Some((line, after)) = cut(rest, b'\n') {
@@ -58,8 +58,11 @@ fn read_lines(alloc: Global, text: &[u8]) -> Result<Certificate, TextError>
     if !rest.is_empty() {
         return Err(TextError::BadText(number));
     }
-    match finish(draft) {
+    match draft.finish() {
         Some(certificate) => Ok(certificate),
         None => Err(TextError::BadText(number)),
     }
 }
+
+#[cfg(test)]
+mod tests;

@@ -1,62 +1,75 @@
 ghost use Rattle.std.specs.Prelude.{◌≡◌, List, ℕ, Some, None, OnOk, IfErr};
-ghost use Rattle.certificate.specs.Line.{LineView, RowLine, HoldLine, PriceLine, TotalLine, words, AreRowWords, AreHoldWords, ArePriceWords, AreTotalWords, Spells};
-ghost use Rattle.certificate.specs.RowView.{RowView};
 ghost use Rattle.cpu_set.specs.Ids.{Ids};
+ghost use Rattle.certificate.specs.RowView.{RowView};
 ghost use Rattle.certificate.specs.declared.price_lists.Price.{Price};
+ghost use Rattle.certificate.specs.Line.{LineView, RowLine, HoldLine, PriceLine, TotalLine, words, AreRowWords, AreHoldWords, ArePriceWords, AreTotalWords, Spells};
 ghost use Rattle.certificate.specs.DraftView.{next, next_in_body};
 ghost use Rattle.certificate.specs.DraftRead.{draft_view, KnowsIds};
 
 use super::cut::cut;
-use super::draft::{Draft, Stage, add_hold, add_price, add_row, add_total};
+use super::draft::{Draft, Stage};
 use super::line_fault::LineFault;
 use super::line_words::{read_hold, read_price, read_row, read_total};
 use std::alloc::Global;
 
+// Adds what the words after `row` say.
 fn take_row(alloc: Global, draft: &mut Draft, text: &[u8]) -> Result<(), LineFault>
     requires { KnowsIds draft.old }
     ensures ids { OnOk result (KnowsIds draft.new) }
-    ensures ok { OnOk result ((row : RowView) × AreRowWords (words text.now) row × (next_in_body (draft_view draft.old) (RowLine row) ≡ Some (draft_view draft.new))) }
-    ensures bad { IfErr result (λ fault. fault ≡ LineFault.Bad → (row : RowView) → AreRowWords (words text.now) row → next_in_body (draft_view draft.old) (RowLine row) ≡ None) }
+    ensures ok { OnOk result ((row : RowView) × AreRowWords (words text.now) row
+        × (next_in_body (draft_view draft.old) (RowLine row) ≡ Some (draft_view draft.new))) }
+    ensures bad { IfErr result (λ fault. fault ≡ LineFault.Bad → (row : RowView) → AreRowWords (words text.now) row
+        → next_in_body (draft_view draft.old) (RowLine row) ≡ None) }
 {
-    add_row(draft, read_row(alloc, text)?)
+    draft.add_row(read_row(alloc, text)?)
 }
 
+// Adds what the words after `hold` say.
 fn take_hold(draft: &mut Draft, text: &[u8]) -> Result<(), LineFault>
     requires { KnowsIds draft.old }
     ensures ids { OnOk result (KnowsIds draft.new) }
-    ensures ok { OnOk result ((id : List ℕ) × (cpus : Ids) × (value : ℕ) × AreHoldWords (words text.now) id cpus value × (next_in_body (draft_view draft.old) (HoldLine id cpus value) ≡ Some (draft_view draft.new))) }
-    ensures bad { IfErr result (λ fault. fault ≡ LineFault.Bad → (id : List ℕ) (cpus : Ids) (value : ℕ) → AreHoldWords (words text.now) id cpus value → next_in_body (draft_view draft.old) (HoldLine id cpus value) ≡ None) }
+    ensures ok { OnOk result ((id : List ℕ) × (cpus : Ids) × (value : ℕ) × AreHoldWords (words text.now) id cpus value
+        × (next_in_body (draft_view draft.old) (HoldLine id cpus value) ≡ Some (draft_view draft.new))) }
+    ensures bad { IfErr result (λ fault. fault ≡ LineFault.Bad → (id : List ℕ) (cpus : Ids) (value : ℕ) → AreHoldWords (words text.now) id cpus value
+        → next_in_body (draft_view draft.old) (HoldLine id cpus value) ≡ None) }
 {
     let Some(hold) = read_hold(text) else {
         return Err(LineFault::Bad);
     };
-    add_hold(draft, hold.id, hold.cpus, hold.value)
+    draft.add_hold(hold.id, hold.cpus, hold.value)
 }
 
+// Adds what the words after `price` say.
 fn take_price(draft: &mut Draft, text: &[u8]) -> Result<(), LineFault>
     requires { KnowsIds draft.old }
     ensures ids { OnOk result (KnowsIds draft.new) }
-    ensures ok { OnOk result ((price : Price) × ArePriceWords (words text.now) price × (next_in_body (draft_view draft.old) (PriceLine price) ≡ Some (draft_view draft.new))) }
-    ensures bad { IfErr result (λ fault. fault ≡ LineFault.Bad → (price : Price) → ArePriceWords (words text.now) price → next_in_body (draft_view draft.old) (PriceLine price) ≡ None) }
+    ensures ok { OnOk result ((price : Price) × ArePriceWords (words text.now) price
+        × (next_in_body (draft_view draft.old) (PriceLine price) ≡ Some (draft_view draft.new))) }
+    ensures bad { IfErr result (λ fault. fault ≡ LineFault.Bad → (price : Price) → ArePriceWords (words text.now) price
+        → next_in_body (draft_view draft.old) (PriceLine price) ≡ None) }
 {
     let Some(price) = read_price(text) else {
         return Err(LineFault::Bad);
     };
-    add_price(draft, price)
+    draft.add_price(price)
 }
 
+// Adds what the words after `total` say.
 fn take_total(draft: &mut Draft, text: &[u8]) -> Result<(), LineFault>
     requires { KnowsIds draft.old }
     ensures ids { OnOk result (KnowsIds draft.new) }
-    ensures ok { OnOk result ((total : ℕ) × AreTotalWords (words text.now) total × (next_in_body (draft_view draft.old) (TotalLine total) ≡ Some (draft_view draft.new))) }
-    ensures bad { IfErr result (λ fault. fault ≡ LineFault.Bad → (total : ℕ) → AreTotalWords (words text.now) total → next_in_body (draft_view draft.old) (TotalLine total) ≡ None) }
+    ensures ok { OnOk result ((total : ℕ) × AreTotalWords (words text.now) total
+        × (next_in_body (draft_view draft.old) (TotalLine total) ≡ Some (draft_view draft.new))) }
+    ensures bad { IfErr result (λ fault. fault ≡ LineFault.Bad → (total : ℕ) → AreTotalWords (words text.now) total
+        → next_in_body (draft_view draft.old) (TotalLine total) ≡ None) }
 {
     let Some(total) = read_total(text) else {
         return Err(LineFault::Bad);
     };
-    add_total(draft, total)
+    draft.add_total(total)
 }
 
+// Adds what a line between the header and the last line says.
 fn take_in_body(alloc: Global, draft: &mut Draft, line: &[u8]) -> Result<(), LineFault>
     requires { KnowsIds draft.old }
     ensures ids { OnOk result (KnowsIds draft.new) }
@@ -81,6 +94,7 @@ fn take_in_body(alloc: Global, draft: &mut Draft, line: &[u8]) -> Result<(), Lin
     Err(LineFault::Bad)
 }
 
+/// Adds what the next line of the text says, if that line can follow the lines before it.
 pub fn take_line(alloc: Global, draft: &mut Draft, line: &[u8]) -> Result<(), LineFault>
     requires { KnowsIds draft.old }
     ensures ids { OnOk result (KnowsIds draft.new) }

@@ -1,0 +1,154 @@
+use super::{TextError, read_text};
+use crate::Certificate;
+use std::alloc::{AllocError, Global};
+use std::test::Fail;
+
+const CERTIFICATE: &str = "numarun-certificate 1
+row a 1 10:1 11:2
+row b 1 12:1 50:2
+hold a 2 11
+hold b 1 13
+price 1 1
+total 23
+end
+";
+
+#[test]
+fn reads_a_certificate(rt: HostRuntime) -> Result<(), Fail> {
+    let Certificate::Plan {
+        problem,
+        plan,
+        prices,
+        total,
+    } = read_text(rt.alloc(), CERTIFICATE.as_bytes())?;
+    assert_eq!(rt; problem.rows.len(), 2);
+    let row = &problem.rows[1];
+    assert_eq!(rt; row.id.as_str(), "b");
+    assert_eq!(rt; row.demand, 1);
+    assert_eq!(rt; row.offers.len(), 2);
+    assert_eq!(rt; row.offers[1].weight, 50);
+    assert!(rt; row.offers[1].cpus.contains(2));
+    assert_eq!(rt; plan.sets.len(), 2);
+    assert!(rt; plan.sets[0].contains(2));
+    assert_eq!(rt; prices.values.as_slice(), [11, 13].as_slice());
+    assert_eq!(rt; prices.of_cpu.len(), 1);
+    assert_eq!(rt; prices.of_cpu[0].amount, 1);
+    assert_eq!(rt; total, 23);
+    Ok(())
+}
+
+/// The number of the first bad line, or 0 where the text is a certificate's.
+fn bad_line(alloc: Global, text: &[u8]) -> Result<u64, TextError> {
+    match read_text(alloc, text) {
+        Ok(_) => Ok(0),
+        Err(TextError::BadText(line)) => Ok(line),
+        Err(TextError::Memory) => Err(TextError::Memory),
+    }
+}
+
+#[test]
+fn each_front_is_too_short(rt: HostRuntime) -> Result<(), Fail> {
+    let text = CERTIFICATE.as_bytes();
+    let mut line: u64 = 1;
+    for n in 0..text.len() {
+        assert_eq!(rt; bad_line(rt.alloc(), &text[..n])?, line);
+        if text[n] == b'\n' {
+            line = line.saturating_add(1);
+        }
+    }
+    assert_eq!(rt; bad_line(rt.alloc(), text)?, 0);
+    Ok(())
+}
+
+/// The certificate with another line of this number, counted from 1.
+fn with_line(alloc: Global, number: u64, line: &str) -> Result<String, AllocError> {
+    let mut text = String::new(alloc);
+    let mut at: u64 = 0;
+    for old in CERTIFICATE.lines() {
+        at = at.saturating_add(1);
+        text.push_str(if at == number { line } else { old })?;
+        text.push('\n')?;
+    }
+    Ok(text)
+}
+
+#[test]
+fn names_the_first_bad_line(rt: HostRuntime) -> Result<(), Fail> {
+    let cases = [
+        (1, "numarun-certificate 2", 1),
+        (1, "numarun-certificate 01", 1),
+        (1, " numarun-certificate 1", 1),
+        (2, "", 2),
+        (2, "row  a 1", 2),
+        (2, "row a 1 ", 2),
+        (2, "row a 01", 2),
+        (2, "row a 4294967296", 2),
+        (2, "row a +1", 2),
+        (2, "row . 1", 2),
+        (2, "row .. 1", 2),
+        (2, "row a/b 1", 2),
+        (2, "row \u{e9} 1", 2),
+        (2, "row a\0 1", 2),
+        (2, "Row a 1", 2),
+        (2, "row a 1 11", 2),
+        (2, "row a 1 11:", 2),
+        (2, "row a 1 11:,", 2),
+        (2, "row a 1 11:2:3", 2),
+        (2, "row a 1 11:1024", 2),
+        (2, "row a 1 011:2", 2),
+        (3, "row a 1 12:1 50:2", 3),
+        (4, "hold b 2 11", 4),
+        (4, "hold a 2 18446744073709551616", 4),
+        (4, "price 1 1", 4),
+        (4, "short a", 4),
+        (5, "hold a 1 13", 5),
+        (5, "total 23", 5),
+        (6, "hold b 1 13", 6),
+        (6, "row c 1", 6),
+        (7, "total 18446744073709551616", 7),
+        (7, "total 1000000000000000000000000000000000000000000000", 7),
+        (7, "end", 7),
+        (8, "end ", 8),
+        (8, "end\nend", 9),
+    ];
+    for (number, line, bad) in cases {
+        let text = with_line(rt.alloc(), number, line)?;
+        assert_eq!(rt; bad_line(rt.alloc(), text.as_bytes())?, bad, "{line}");
+    }
+    Ok(())
+}
+
+#[test]
+fn takes_what_the_check_may_refuse(rt: HostRuntime) -> Result<(), Fail> {
+    let cases = [
+        (2, "row a 0"),
+        (2, "row a 4294967295 4294967295:01-03,,2 4294967295:1"),
+        (4, "hold a 0-1023 18446744073709551615"),
+        (6, "price 0 0\nprice 0 0"),
+        (7, "total 18446744073709551615"),
+    ];
+    for (number, line) in cases {
+        let text = with_line(rt.alloc(), number, line)?;
+        assert_eq!(rt; bad_line(rt.alloc(), text.as_bytes())?, 0, "{line}");
+    }
+    Ok(())
+}
+
+#[test]
+fn reads_bytes_that_are_no_text(rt: HostRuntime) -> Result<(), Fail> {
+    assert_eq!(rt;
+        bad_line(rt.alloc(), b"numarun-certificate 1\nrow \xff 1\n")?,
+        2
+    );
+    assert_eq!(rt; bad_line(rt.alloc(), b"\0\0\n")?, 1);
+    assert_eq!(rt; bad_line(rt.alloc(), b"numarun-certificate 1\r\n")?, 1);
+    assert_eq!(rt;
+        bad_line(rt.alloc(), b"numarun-certificate 1\ntotal 0\nend\n")?,
+        0
+    );
+    assert_eq!(rt;
+        bad_line(rt.alloc(), b"numarun-certificate 1\nprice 1 1\nrow a 1\n")?,
+        3
+    );
+    Ok(())
+}
