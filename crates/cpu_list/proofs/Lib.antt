@@ -1,3 +1,4 @@
+pub mod Below
 pub mod Canonical
 pub mod Digits
 pub mod FirstFaults

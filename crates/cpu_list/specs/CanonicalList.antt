@@ -4,14 +4,15 @@ use Rattle.std.specs.FinSet as set
 use Rattle.std.specs.List.{join_with_byte, list_any}
 use Rattle.cpu_set.specs.Ids.{Ids}
 use Rattle.cpu_set.specs.Members.{members}
+use Rattle.cpu_list.specs.ListText.{comma, hyphen}
 
 -- one number, or the first and the last of several with a hyphen between
 abbrev pub range_text : ℕ × ℕ → List ℕ
-range_text r = if r.0 == r.1 then decimal r.0 else decimal r.0 ++ 45 ∷ decimal r.1
+range_text r = if r.0 == r.1 then decimal r.0 else decimal r.0 ++ hyphen ∷ decimal r.1
 
 -- the ranges with commas between
 abbrev pub ranges_text : List (ℕ × ℕ) → List ℕ
-ranges_text ranges = join_with_byte 44 (map range_text ranges)
+ranges_text ranges = join_with_byte comma (map range_text ranges)
 
 -- n and the ranges above it: in the first of them, where it touches that
 abbrev pub with_number : ℕ → List (ℕ × ℕ) → List (ℕ × ℕ)

@@ -1,6 +1,6 @@
 -- Which texts are lists of numbers, and which numbers a list names: cpuset(7), List Format, with commas, numbers and ranges.
 -- This project also takes blanks round an item, empty items, leading zeros, and items in any order, repeated or overlapping.
-use Rattle.std.specs.Prelude.{◌≡◌, ℕ, ◌+◌, ◌-◌, ◌<◌, ◌≤◌, Bool, false, ◌&&◌, ◌||◌, ◌⊎◌, ◌==◌, nat_lt, nat_le, if◌then◌else◌, List, [], length, take, drop, position, Option, Some, None}
+use Rattle.std.specs.Prelude.{◌≡◌, ℕ, ◌+◌, ◌-◌, ◌<◌, ◌≤◌, Bool, true, false, ◌&&◌, ◌||◌, ◌⊎◌, ◌==◌, nat_lt, nat_le, if◌then◌else◌, List, [], length, take, drop, position, Option, Some, None}
 use Rattle.std.specs.Char.{is_ascii_digit}
 use Rattle.std.specs.FinSet as set
 use Rattle.std.specs.List.{slice_split, prefix_len, suffix_len, list_any, list_all, AllByRecursion}
@@ -8,11 +8,18 @@ use Rattle.std.specs.Option.{option_zip}
 use Rattle.std.specs.Ordering.{nat_cmp}
 use Rattle.std.specs.Str.Parse.{digits_value}
 
+-- what stands between items, and between the two numbers of a range
+abbrev pub comma : ℕ
+comma = 44
+
+abbrev pub hyphen : ℕ
+hyphen = 45
+
 abbrev pub is_comma : ℕ → Bool
-is_comma b = b == 44
+is_comma b = b == comma
 
 abbrev pub is_hyphen : ℕ → Bool
-is_hyphen b = b == 45
+is_hyphen b = b == hyphen
 
 -- a space, a tab or a line feed
 abbrev pub is_blank : ℕ → Bool
@@ -70,3 +77,7 @@ names text n = list_any (piece_names n) (pieces text)
 -- s has the numbers that the items of the text name, and no other
 abbrev pub IsSetOf : List ℕ → set.FinSet nat_cmp → Type 0
 IsSetOf text s = (n : ℕ) → set.contains s n ≡ names text n
+
+-- a list under a limit names numbers below it alone
+abbrev pub ListIsBelow : Type 0
+ListIsBelow = (limit : ℕ) (text : List ℕ) (n : ℕ) → IsList limit text → names text n ≡ true → n < limit

@@ -5,6 +5,7 @@ use Rattle.std.specs.List.{range_with_len}
 use Rattle.cpu_set.specs.Ids.{Ids}
 use Rattle.cpu_set.specs.Members.{IsCpu}
 use Rattle.cpu_set.specs.declared.TheConstants.{CPU_LIMIT}
+use Rattle.cpu_list.specs.ListText.{comma}
 use Rattle.cpu_list.specs.CanonicalList.{range_text, ranges_of}
 
 -- the ranges of the members at or above a number
@@ -19,7 +20,7 @@ ranges_left s (Some n) = ranges_from s n
 -- the text of ranges behind what separates the first of them from those before
 abbrev pub text_after : List ℕ → List (ℕ × ℕ) → List ℕ
 text_after separator [] = []
-text_after separator (r ∷ more) = separator ++ (range_text r ++ text_after (44 ∷ []) more)
+text_after separator (r ∷ more) = separator ++ (range_text r ++ text_after (comma ∷ []) more)
 
 -- `last` ends the range of members that begins at `first`
 pub record IsRangeOf (s : Ids) (first last : ℕ) : Type 0 where

@@ -1,12 +1,18 @@
 // What holds of the definitions alone.
 ghost use Rattle.cpu_list.specs.CanonicalLaws.{TextIsCanonical, OneCanonicalText, CanonicalReadsAgain, TextIsPlain, TextLacks, TextIsEmpty};
 ghost use Rattle.cpu_list.specs.FirstFault.{NoneWhereList, FirstDecides};
+ghost use Rattle.cpu_list.specs.ListText.{ListIsBelow};
 
 /// A text is a list exactly where it has no first fault, and its first fault is that of the first
 /// faulty item.
 pub fn first_faults()
     ensures none { NoneWhereList }
     ensures first { FirstDecides }
+{}
+
+/// A list under a limit names numbers below that limit alone.
+pub fn lists_stay_below()
+    ensures { ListIsBelow }
 {}
 
 /// The printed text of a set of CPU numbers is canonical, and a set has no other canonical text.

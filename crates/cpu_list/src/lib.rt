@@ -10,7 +10,7 @@ mod range;
 mod reading;
 mod writing;
 
-pub use laws::{canonical_texts, first_faults, plain_texts};
+pub use laws::{canonical_texts, first_faults, lists_stay_below, plain_texts};
 pub use list_error::{ListError, ListErrorKind};
 pub use output::put;
 pub use printing::print;
