@@ -4,6 +4,7 @@ pub mod ListLaws
 pub mod NodeLaws
 pub mod NodeSteps
 pub mod RowSteps
+pub mod SoundLaws
 pub mod SubsetLaws
 pub mod TwiceLaws
 pub mod WeightLaws

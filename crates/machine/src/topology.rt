@@ -74,6 +74,7 @@ impl Machine {
     #[tactic(auto, unfolding(crate::specs::MachineOf::machine_of))]
     pub fn read(alloc: Global, json: &[u8], slit: Option<&Slit>) -> Result<Machine, MachineError>
         ensures machine { Gives result (machine_of (option_map (λ s. s.now) slit.entry) json.now) }
+        ensures sound { IfOk result IsSound }
         ensures long { MAX_BYTES < length json.now → result ≡ Err (MachineError.Fault MachineFault.NotJson) }
         ensures memory { IsErrOf result MachineError.Memory → 0 < length json.now }
     {
@@ -88,6 +89,7 @@ impl Machine {
     fn describe(alloc: Global, value: &Value, slit: Option<&Slit>) -> Result<Machine, MachineError>
         ensures fault { Meets result (value_fault (option_map (λ s. s.now) slit.entry) (view value.now)) }
         ensures said { IfOk result (λ m. m ≡ said_by (option_map (λ s. s.now) slit.entry) (view value.now)) }
+        ensures sound { IfOk result IsSound }
     {
         if !value.is_object() {
             return Err(MachineError::Fault(MachineFault::NotJson));

@@ -3,21 +3,17 @@ use Rattle.std.proofs.lemmas.List.{length-map}
 use Rattle.serde_json.specs.View.{view}
 use Rattle.machine.specs.Listed.{listed}
 use Rattle.machine.specs.Present.{union_of}
-use Rattle.machine.proofs.SubsetLaws.{is_subset-difference, is_subset-left}
+use Rattle.machine.proofs.SoundLaws.{IsSound-parts}
 use Rattle.machine.proofs.topology.Machine.describe.Goals as goal
 
 pub invariant_of-result : goal.invariant_of-result
 invariant_of-result c =
     let count : length c.in_ok-nodes.nodes.items ≡ length c.in_ok-items.items.now =
-    ap length c.in_ok-nodes.ensures.sets ∙ length-map (map view c.in_ok-items.items.now) listed ∙ length-map c.in_ok-items.items.now view in
-    let all : c.union_of-present.result ≡ union_of c.in_ok-nodes.nodes.items = c.union_of-present.ensures ∙ ap union_of c.deref.ensures.value in
-    record {
-      some = c.in_ok-nodes.ensures.some;
-      few = c.in_ok-nodes.ensures.few;
-      apart = c.in_ok-nodes.ensures.apart;
-      distances = rw count c.in_ok-distances.ensures.are;
-      reserved_some = c.in_ok-reserved.ensures.some;
-      reserved_online = rw c.minus.ensures
-          (is_subset-left _ _ _ c.in_ok-reserved.ensures.present c.in_ok-offline.ensures.within);
-      online_present = rw (c.minus.ensures, ← all) (is_subset-difference _ _);
-    }
+        ap length c.in_ok-nodes.ensures.sets ∙ length-map (map view c.in_ok-items.items.now) listed ∙ length-map c.in_ok-items.items.now view in
+    IsSound-parts _ _ _ _ _ _
+    c.in_ok-nodes.ensures.some c.in_ok-nodes.ensures.few c.in_ok-nodes.ensures.apart (rw count c.in_ok-distances.ensures.are)
+    (c.union_of-present.ensures ∙ ap union_of c.deref.ensures.value)
+    c.in_ok-reserved.ensures.some c.in_ok-reserved.ensures.present c.in_ok-offline.ensures.within c.minus.ensures
+
+pub returns-clause-sound : goal.returns-clause-sound
+returns-clause-sound c = invariant_of-result c
