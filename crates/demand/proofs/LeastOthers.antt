@@ -7,7 +7,7 @@ use Rattle.faults.proofs.FirstBelow.{first_below-none, first_below-at}
 use Rattle.cpu_set.specs.Ids.{Ids, NoneFrom, IsFirstFrom}
 use Rattle.cpu_set.specs.Pointwise.{contains-difference}
 use Rattle.demand.specs.Named.{named}
-use Rattle.demand.specs.DemandFaultOf.{least_other}
+use Rattle.demand.specs.DemandFaultOf.{list_fault, least_other}
 use Rattle.demand.proofs.NamedSets.{named_below}
 
 not_so : (n : ℕ) (b : Bool) → b ≡ false → when b n ≡ None
@@ -36,10 +36,10 @@ both_true false b is = absurd (false≢true is)
 -- of a named set that is below the limit
 pub least_other-named :
     (limit n : ℕ) (list : Option (List ℕ)) (known : Ids)
-    → IsFirstFrom (set.difference (named limit list) known) 0 n → least_other limit (named limit list) known ≡ Some n
-least_other-named limit n list known first =
-    let in_both = both_true _ _ (sym (contains-difference (named limit list) known n) ∙ first.member) in
-    least_other-some limit n (named limit list) known first (named_below limit n list in_both.0)
+    → list_fault limit list ≡ None → IsFirstFrom (set.difference (named list) known) 0 n → least_other limit (named list) known ≡ Some n
+least_other-named limit n list known right first =
+    let in_both = both_true _ _ (sym (contains-difference (named list) known n) ∙ first.member) in
+    least_other-some limit n (named list) known first (named_below limit n list right in_both.0)
 
 known_too : (a b : Bool) → (a && not b) ≡ false → a ≡ true → b ≡ true
 known_too true true none has = refl

@@ -1,5 +1,5 @@
 -- The set that a list names, as its reader gives it and as the definition has it.
-use Rattle.std.proofs.Common.{◌≡◌, ℕ, ◌+◌, ◌<◌, inl, inr, ◌⊎◌, Bool, true, false, ◌&&◌, ◌||◌, nat_lt, List, [], ◌∷◌, length, Option, Some, None, refl, sym, ◌∙◌, arith}
+use Rattle.std.proofs.Common.{◌≡◌, ℕ, ◌+◌, ◌<◌, ◌≤◌, inl, inr, ◌⊎◌, Bool, true, false, ◌&&◌, ◌||◌, nat_lt, List, [], ◌∷◌, length, Option, Some, None, refl, sym, ◌∙◌, arith}
 use Rattle.std.specs.List.{list_any}
 use Rattle.std.proofs.lemmas.Bool.{false≢true}
 use Rattle.std.proofs.lemmas.Bool.Decides.{nat_tests}
@@ -15,7 +15,10 @@ use Rattle.cpu_list.specs.declared.list_error.ListError.{ListError}
 use Rattle.cpu_list.specs.ListText.{pieces, item_of, range_of, range_names, piece_names, names, IsSetOf}
 use Rattle.cpu_list.specs.FirstFault.{range_fault, item_fault, piece_fault, faults_from, first_fault}
 use Rattle.cpu_list.proofs.Pieces.{range_of-nil}
+use Rattle.cpu_set.specs.declared.TheConstants.{CPU_LIMIT}
+use Rattle.machine.specs.Listed.{set_of}
 use Rattle.demand.specs.Named.{named}
+use Rattle.demand.specs.DemandFaultOf.{list_fault}
 
 -- what stands in a range without fault is below the limit
 range_below : (limit n : ℕ) (r : Option (ℕ × ℕ)) → range_fault limit r ≡ None → range_names r n ≡ true → n < limit
@@ -56,26 +59,31 @@ names_below limit n text right has = pieces_below limit 0 n (pieces text) right 
 within : (limit n : ℕ) (b : Bool) → (b ≡ true → n < limit) → b ≡ (nat_lt n limit && b)
 within limit n b below = grind (arith, nat_tests)
 
--- the set that a list names
-pub named_is : (limit : ℕ) (text : List ℕ) (s : Ids) → first_fault limit text ≡ None → IsSetOf text s → s ≡ named limit (Some text)
-unfolding named
-named_is limit text s right is =
-    same_members s (those (names text) limit) (λ n.
-    is n ∙ within limit n (names text n) (names_below limit n text right) ∙ sym (contains-those (names text) limit n))
+-- the set of a list's numbers, under a limit up to that of sets
+named_is :
+    (limit : ℕ) (text : List ℕ) (s : Ids) → limit ≤ CPU_LIMIT → first_fault limit text ≡ None → IsSetOf text s → s ≡ named (Some text)
+unfolding named set_of
+named_is limit text s few right is =
+    same_members s (those (names text) CPU_LIMIT) (λ n.
+    is n ∙ within CPU_LIMIT n (names text n) (λ has. let below = names_below limit n text right has in omega arith)
+    ∙ sym (contains-those (names text) CPU_LIMIT n))
 
 -- what a reader answers for a list is the set that the list names
 pub read_named :
-    (limit : ℕ) (text : List ℕ) (answer : Result Ids ListError)
+    (limit : ℕ) (text : List ℕ) (answer : Result Ids ListError) → limit ≤ CPU_LIMIT
     → MatchResult answer (λ s. (first_fault limit text ≡ None) × IsSetOf text s) (λ e. first_fault limit text ≡ Some e)
-    → IfOk answer (λ s. s ≡ named limit (Some text))
-read_named limit text (Ok s) is = named_is limit text s is.0 is.1
-read_named limit text (Err e) is = tt
+    → IfOk answer (λ s. s ≡ named (Some text))
+read_named limit text (Ok s) few is = named_is limit text s few is.0 is.1
+read_named limit text (Err e) few is = tt
 
-below_limit : (limit n : ℕ) (b : Bool) → (nat_lt n limit && b) ≡ true → n < limit
-below_limit limit n b is = grind (arith, nat_tests)
+right_part : (a b : Bool) → (a && b) ≡ true → b ≡ true
+right_part true b is = is
+right_part false b is = absurd (false≢true is)
 
--- the members of a named set are below the limit
-pub named_below : (limit n : ℕ) (list : Option (List ℕ)) → set.contains (named limit list) n ≡ true → n < limit
-unfolding named
-named_below limit n None has = absurd (false≢true (sym (contains-empty n) ∙ has))
-named_below limit n (Some text) has = below_limit limit n (names text n) (sym (contains-those (names text) limit n) ∙ has)
+-- the members of a list's set are below the limit of the list
+pub named_below : (limit n : ℕ) (list : Option (List ℕ)) → list_fault limit list ≡ None → set.contains (named list) n ≡ true → n < limit
+unfolding named set_of
+named_below limit n None right has = absurd (false≢true (sym (contains-empty n) ∙ has))
+named_below limit n (Some text) right has =
+    names_below limit n text right
+    (right_part (nat_lt n CPU_LIMIT) (names text n) (sym (contains-those (names text) CPU_LIMIT n) ∙ has))

@@ -27,4 +27,4 @@ allowed_by m cpus homes = those (is_allowed m cpus homes) CPU_LIMIT
 
 -- those of a section
 abbrev pub allowed_of : Layout → Section → Ids
-allowed_of m s = allowed_by m (named CPU_LIMIT s.cpus) (homes_of m s.mems)
+allowed_of m s = allowed_by m (named s.cpus) (homes_of m s.mems)

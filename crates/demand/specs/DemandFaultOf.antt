@@ -30,14 +30,14 @@ least_other limit s known = first_below limit (λ n. when (set.contains s n && n
 unfoldable pub cpus_fault : Layout → Option (List ℕ) → Option DemandFault
 cpus_fault m cpus = first_of (
     option_map BadCpus (list_fault CPU_LIMIT cpus)
-    ∷ option_map NoSuchCpu (least_other CPU_LIMIT (named CPU_LIMIT cpus) (present m))
+    ∷ option_map NoSuchCpu (least_other CPU_LIMIT (named cpus) (present m))
     ∷ [])
 
 -- `mems` is a list of the machine's nodes
 unfoldable pub mems_fault : Layout → Option (List ℕ) → Option DemandFault
 mems_fault m mems = first_of (
     option_map BadMems (list_fault NODE_LIMIT mems)
-    ∷ option_map NoSuchNode (least_other NODE_LIMIT (named NODE_LIMIT mems) (nodes_of m))
+    ∷ option_map NoSuchNode (least_other NODE_LIMIT (named mems) (nodes_of m))
     ∷ [])
 
 -- a limit is above what the number of CPUs that there can be may run in a period
@@ -51,7 +51,7 @@ quota_fault quota period = limit_fault (limit_of quota) (period_of period)
 
 -- a container gets CPUs of its own where its quota is a limit or it names a CPU
 abbrev pub is_pinned : Section → Bool
-is_pinned s = is_some (limit_of s.quota) || not (has_none (named CPU_LIMIT s.cpus))
+is_pinned s = is_some (limit_of s.quota) || not (has_none (named s.cpus))
 
 -- one that gets CPUs of its own is allowed one
 unfoldable pub allowed_fault : Layout → Section → Option DemandFault

@@ -1,11 +1,10 @@
 -- Where a container's memory lies.
 use Rattle.std.specs.Prelude.{ℕ, List, Option, if◌then◌else◌}
 use Rattle.cpu_set.specs.Ids.{Ids}
-use Rattle.machine.specs.declared.TheConstants.{NODE_LIMIT}
 use Rattle.machine.specs.Layout.{Layout}
 use Rattle.machine.specs.Nodes.{nodes_of}
 use Rattle.demand.specs.Named.{named, has_none}
 
 -- the nodes that `mems` names, or all nodes where it names none
 abbrev pub homes_of : Layout → Option (List ℕ) → Ids
-homes_of m mems = if has_none (named NODE_LIMIT mems) then nodes_of m else named NODE_LIMIT mems
+homes_of m mems = if has_none (named mems) then nodes_of m else named mems

@@ -3,13 +3,12 @@ use Rattle.std.specs.Prelude.{ℕ, ◌==◌, Bool, List, Option, Some, None, opt
 use Rattle.std.specs.Borrow.{Bor}
 use Rattle.std.specs.FinSet as set
 use Rattle.cpu_set.specs.Ids.{Ids}
-use Rattle.cpu_set.specs.Flags.{those}
-use Rattle.cpu_list.specs.ListText.{names}
+use Rattle.machine.specs.Listed.{set_of}
 
--- the numbers below a limit that a list names; where there is no list, none
-unfoldable pub named : ℕ → Option (List ℕ) → Ids
-named limit None = set.empty
-named limit (Some text) = those (names text) limit
+-- the numbers that a list names; where there is no list, none
+unfoldable pub named : Option (List ℕ) → Ids
+named None = set.empty
+named (Some text) = set_of text
 
 -- a set without a number
 abbrev pub has_none : Ids → Bool

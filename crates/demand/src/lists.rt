@@ -18,7 +18,7 @@ use machine::{Machine, NODE_LIMIT};
 fn read(list: Option<&str>, limit: u16) -> Result<IdSet, ListError>
     requires { limit ≤ CPU_LIMIT }
     ensures fault { list_fault limit (text_of list.entry) ≡ error_of result }
-    ensures set { IfOk result (λ s. s ≡ named limit (text_of list.entry)) }
+    ensures set { IfOk result (λ s. s ≡ named (text_of list.entry)) }
 {
     match list {
         Some(text) => cpu_list::read(text.as_bytes(), limit),
@@ -30,7 +30,7 @@ fn read(list: Option<&str>, limit: u16) -> Result<IdSet, ListError>
 #[tactic(auto, using(crate::proofs::LeastOthers::least_others), unfolding(crate::specs::DemandFaultOf::cpus_fault))]
 pub fn cpus(list: Option<&str>, machine: &Machine) -> Result<IdSet, DemandFault>
     ensures fault { cpus_fault machine.now (text_of list.entry) ≡ fault_of result }
-    ensures set { IfOk result (λ s. s ≡ named CPU_LIMIT (text_of list.entry)) }
+    ensures set { IfOk result (λ s. s ≡ named (text_of list.entry)) }
 {
     let cpus = match read(list, CPU_LIMIT) {
         Ok(cpus) => cpus,
@@ -46,7 +46,7 @@ pub fn cpus(list: Option<&str>, machine: &Machine) -> Result<IdSet, DemandFault>
 #[tactic(auto, using(crate::proofs::LeastOthers::least_others, crate::proofs::LeastOthers::all_known), unfolding(crate::specs::DemandFaultOf::mems_fault))]
 pub fn nodes(list: Option<&str>, machine: &Machine) -> Result<IdSet, DemandFault>
     ensures fault { mems_fault machine.now (text_of list.entry) ≡ fault_of result }
-    ensures set { IfOk result (λ s. s ≡ named NODE_LIMIT (text_of list.entry)) }
+    ensures set { IfOk result (λ s. s ≡ named (text_of list.entry)) }
     ensures known { IfOk result (λ s. (n : ℕ) → set.contains s n ≡ true
         → set.contains (nodes_of machine.now) n ≡ true) }
 {
