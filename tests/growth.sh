@@ -6,6 +6,7 @@ top=$(cd "$(dirname "$0")/.." && pwd)
 work=$(mktemp -d)
 trap 'rm -rf "$work"' EXIT
 
+command -v gcc >/dev/null || { apt-get -qq update && apt-get -qq install -y gcc libc6-dev; } >/dev/null || exit 1
 gcc -O2 -shared -fPIC -o "$work/refuse.so" "$top/tests/refuse.c" || exit 1
 (cd "$top/crates/numarun" && rt run <stdin >"$work/log" 2>&1) || { cat "$work/log"; exit 1; }
 program=$top/crates/numarun/out/numarun
