@@ -316,10 +316,11 @@ impl Tree {
         ensures { self.new ≡ with_online self.old online }
     {
         self.online = online;
+        let all = self.order.len();
         refresh(
             &mut self.groups,
             &self.order,
-            self.order.len(),
+            all,
             &self.online,
             &self.nodes,
         );

@@ -8,6 +8,8 @@ mod faults;
 mod groups;
 pub mod laws;
 mod refresh;
+#[cfg(test)]
+mod tests;
 
 pub use cpusets::Tree;
 pub use faults::{TreeError, TreeFault};

@@ -154,9 +154,9 @@ impl Kernel for ModelKernel {
         if self.reserved.contains(cpu) {
             return Err(KernelFault::Reserved);
         }
-        let mut online = self.tree.online();
-        online.remove(cpu);
-        self.tree.set_online(online);
+        let mut left = self.tree.online();
+        left.remove(cpu);
+        self.tree.set_online(left);
         Ok(())
     }
 
@@ -164,9 +164,9 @@ impl Kernel for ModelKernel {
         let Some(cpu) = present_cpu(&self.present, cpu) else {
             return Err(KernelFault::NoCpu);
         };
-        let mut online = self.tree.online();
-        online.insert(cpu);
-        self.tree.set_online(online);
+        let mut more = self.tree.online();
+        more.insert(cpu);
+        self.tree.set_online(more);
         Ok(())
     }
 }

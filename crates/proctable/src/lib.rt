@@ -4,6 +4,8 @@
 mod faults;
 pub mod laws;
 mod processes;
+#[cfg(test)]
+mod tests;
 
 pub use faults::{ProcError, ProcFault};
 pub use processes::{ProcTable, Process};
