@@ -9,7 +9,7 @@ use Rattle.certificate.proofs.text.list_word.read_cpus.Goals as goal
 pub returns-in_default : goal.returns-in_default
 returns-in_default c = λ cpus h.
     let accepted = (none_where_list CPU_LIMIT c.args.word.now).1 h.is_list in
-    none-some c.in_default.field-0 (sym accepted ∙ c.in_default.ensures)
+    none-some c.in_default.field-0 (sym accepted ∙ c.in_default.ensures.0)
 
 pub returns-then-is_empty : goal.returns-then-is_empty
 returns-then-is_empty c = λ cpus h.
