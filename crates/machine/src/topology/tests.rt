@@ -1,6 +1,8 @@
+mod layouts;
+
 use super::Machine;
 use crate::{Field, MAX_BYTES, MachineError, MachineFault};
-use cpu_set::IdSet;
+use cpu_set::{CPU_LIMIT, IdSet};
 use slit::Slit;
 use std::process::Abort;
 use std::test::Fail;
@@ -29,7 +31,7 @@ const THREE_LOCALITIES: [u8; 53] = [
 
 /// The set of the numbers in a list.
 fn set(rt: &impl Abort, list: &str) -> IdSet {
-    cpu_list::read(list.as_bytes(), 64)
+    cpu_list::read(list.as_bytes(), CPU_LIMIT)
         .ok()
         .expect(rt, "a list")
 }

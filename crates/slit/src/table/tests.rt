@@ -8,6 +8,27 @@ const TWO: [u8; 48] = [
     0, 0, 0, 0, 0, 0, 0, 0, 0, 0, 0, 0x02, 0, 0, 0, 0, 0, 0, 0, 0x0a, 0x15, 0x15, 0x0a,
 ];
 
+/// Three localities, each pair with another distance in each direction, as ACPICA's iasl 20200925 compiles
+/// `examples/slit/one-way.asl`.
+const ONE_WAY: [u8; 53] = [
+    0x53, 0x4c, 0x49, 0x54, 0x35, 0x00, 0x00, 0x00, 0x01, 0x67, 0x4e, 0x55, 0x4d, 0x52, 0x55, 0x4e,
+    0x4f, 0x4e, 0x45, 0x57, 0x41, 0x59, 0x20, 0x20, 0x01, 0x00, 0x00, 0x00, 0x49, 0x4e, 0x54, 0x4c,
+    0x25, 0x09, 0x20, 0x20, 0x03, 0x00, 0x00, 0x00, 0x00, 0x00, 0x00, 0x00, 0x0a, 0x0c, 0xff, 0x10,
+    0x0a, 0x14, 0x11, 0x28, 0x0a,
+];
+
+#[test]
+fn reads_what_iasl_compiles(rt: HostRuntime) -> Result<(), Fail> {
+    let slit = Slit::read(rt.alloc(), &ONE_WAY)?;
+    assert_eq!(rt; slit.localities(), 3);
+    for (i, row) in [[10, 12, 255], [16, 10, 20], [17, 40, 10]].iter().enumerate() {
+        for (j, entry) in row.iter().enumerate() {
+            assert_eq!(rt; slit.distance(i, j), *entry, "from {i} to {j}");
+        }
+    }
+    Ok(())
+}
+
 #[test]
 fn reads_two_localities(rt: HostRuntime) -> Result<(), Fail> {
     let slit = Slit::read(rt.alloc(), &TWO)?;
