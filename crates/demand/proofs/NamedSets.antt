@@ -12,8 +12,8 @@ use Rattle.cpu_set.specs.Flags.{those}
 use Rattle.cpu_set.specs.Pointwise.{same_members, contains-empty}
 use Rattle.cpu_set.specs.FlagLaws.{contains-those}
 use Rattle.cpu_list.specs.declared.list_error.ListError.{ListError}
-use Rattle.cpu_list.specs.ListText.{pieces, item_of, range_of, range_names, piece_names, names, IsSetOf}
-use Rattle.cpu_list.specs.FirstFault.{range_fault, item_fault, piece_fault, faults_from, first_fault}
+use Rattle.cpu_list.specs.ListText.{pieces, item_of, range_of, range_names, piece_names, names, IsSetOf, IsList}
+use Rattle.cpu_list.specs.FirstFault.{range_fault, item_fault, piece_fault, faults_from, first_fault, IsFirstFault}
 use Rattle.cpu_list.proofs.Pieces.{range_of-nil}
 use Rattle.cpu_set.specs.declared.TheConstants.{CPU_LIMIT}
 use Rattle.machine.specs.Listed.{set_of}
@@ -71,7 +71,8 @@ named_is limit text s few right is =
 -- what a reader answers for a list is the set that the list names
 pub read_named :
     (limit : ℕ) (text : List ℕ) (answer : Result Ids ListError) → limit ≤ CPU_LIMIT
-    → MatchResult answer (λ s. (first_fault limit text ≡ None) × IsSetOf text s) (λ e. first_fault limit text ≡ Some e)
+    → MatchResult answer (λ s. (first_fault limit text ≡ None) × IsSetOf text s × IsList limit text)
+      (λ e. (first_fault limit text ≡ Some e) × IsFirstFault limit text e)
     → IfOk answer (λ s. s ≡ named (Some text))
 read_named limit text (Ok s) few is = named_is limit text s few is.0 is.1
 read_named limit text (Err e) few is = tt

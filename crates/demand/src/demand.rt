@@ -2,7 +2,7 @@ ghost use Rattle.std.specs.Prelude.{◌≡◌, ◌||◌, IfOk, is_some, not};
 ghost use Rattle.demand.specs.AsksFor.{IsOneCount};
 ghost use Rattle.demand.specs.Named.{has_none};
 ghost use Rattle.demand.specs.DemandFaultOf.{demand_fault};
-ghost use Rattle.demand.specs.Answers.{fault_of};
+ghost use Rattle.std.specs.Result.{result_err};
 
 use crate::allowed::allowed;
 use crate::demand_fault::DemandFault;
@@ -47,7 +47,7 @@ impl Demand {
     /// `QuotaTooLarge`, `NothingAllowed`.
     #[tactic(auto, using(crate::proofs::Asked::last_check))]
     pub fn of(section: &CpuSection, machine: &Machine) -> Result<Demand, DemandFault>
-        ensures fault { demand_fault machine.now section.now ≡ fault_of result }
+        ensures fault { demand_fault machine.now section.now ≡ result_err result }
         ensures demand { IfOk result (λ d. IsDemand machine.now section.now d) }
         ensures fits { IfOk result (λ d. FitsMachine machine.now d) }
     {
@@ -74,7 +74,7 @@ impl Demand {
     }
 }
 
-// Whether a container gets CPUs of its own: its quota is a limit, or it names a CPU.
+/// Whether a container gets CPUs of its own: its quota is a limit, or it names a CPU.
 #[tactic(auto, using(crate::proofs::HomeNodes::home_nodes))]
 fn is_pinned(count: Option<u32>, cpus: &IdSet) -> bool
     ensures { result ≡ (is_some count || not (has_none cpus.now)) }
@@ -83,7 +83,7 @@ fn is_pinned(count: Option<u32>, cpus: &IdSet) -> bool
 }
 
 /// No quota asks for two different counts of CPUs in one period.
-pub fn count_is_one()
+pub fn no_quota_asks_for_two_counts()
     ensures { IsOneCount }
 {}
 

@@ -10,6 +10,6 @@ mod demand_fault;
 mod lists;
 mod quota;
 
-pub use demand::{Demand, Kind, count_is_one};
+pub use demand::{Demand, Kind, no_quota_asks_for_two_counts};
 pub use demand_fault::DemandFault;
 pub use quota::DEFAULT_PERIOD;

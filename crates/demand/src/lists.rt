@@ -6,18 +6,18 @@ ghost use Rattle.machine.specs.Nodes.{nodes_of};
 ghost use Rattle.machine.specs.Weight.{AreHomes};
 ghost use Rattle.demand.specs.Named.{named, has_none, text_of};
 ghost use Rattle.demand.specs.DemandFaultOf.{list_fault, cpus_fault, mems_fault};
-ghost use Rattle.demand.specs.Answers.{fault_of, error_of};
+ghost use Rattle.std.specs.Result.{result_err};
 
 use crate::demand_fault::DemandFault;
 use cpu_list::ListError;
 use cpu_set::{CPU_LIMIT, IdSet};
 use machine::{Machine, NODE_LIMIT};
 
-// The numbers that a list names, and none where there is no list.
+/// The numbers that a list names, and none where there is no list.
 #[tactic(auto, using(crate::proofs::NamedSets::read_named), unfolding(crate::specs::Named::named))]
 fn read(list: Option<&str>, limit: u16) -> Result<IdSet, ListError>
     requires { limit ≤ CPU_LIMIT }
-    ensures fault { list_fault limit (text_of list.entry) ≡ error_of result }
+    ensures fault { list_fault limit (text_of list.entry) ≡ result_err result }
     ensures set { IfOk result (λ s. s ≡ named (text_of list.entry)) }
 {
     match list {
@@ -26,10 +26,10 @@ fn read(list: Option<&str>, limit: u16) -> Result<IdSet, ListError>
     }
 }
 
-// The CPUs that a container's list names.
+/// The CPUs that a container's list names.
 #[tactic(auto, using(crate::proofs::LeastOthers::least_others), unfolding(crate::specs::DemandFaultOf::cpus_fault))]
 pub fn cpus(list: Option<&str>, machine: &Machine) -> Result<IdSet, DemandFault>
-    ensures fault { cpus_fault machine.now (text_of list.entry) ≡ fault_of result }
+    ensures fault { cpus_fault machine.now (text_of list.entry) ≡ result_err result }
     ensures set { IfOk result (λ s. s ≡ named (text_of list.entry)) }
 {
     let cpus = match read(list, CPU_LIMIT) {
@@ -42,10 +42,10 @@ pub fn cpus(list: Option<&str>, machine: &Machine) -> Result<IdSet, DemandFault>
     }
 }
 
-// The nodes that a container's list names.
+/// The nodes that a container's list names.
 #[tactic(auto, using(crate::proofs::LeastOthers::least_others, crate::proofs::LeastOthers::all_known), unfolding(crate::specs::DemandFaultOf::mems_fault))]
 pub fn nodes(list: Option<&str>, machine: &Machine) -> Result<IdSet, DemandFault>
-    ensures fault { mems_fault machine.now (text_of list.entry) ≡ fault_of result }
+    ensures fault { mems_fault machine.now (text_of list.entry) ≡ result_err result }
     ensures set { IfOk result (λ s. s ≡ named (text_of list.entry)) }
     ensures known { IfOk result (λ s. (n : ℕ) → set.contains s n ≡ true
         → set.contains (nodes_of machine.now) n ≡ true) }
@@ -60,7 +60,7 @@ pub fn nodes(list: Option<&str>, machine: &Machine) -> Result<IdSet, DemandFault
     }
 }
 
-// The home nodes: those that are named, or all where none is.
+/// The home nodes: those that are named, or all where none is.
 #[tactic(auto, using(crate::proofs::HomeNodes::home_nodes))]
 pub fn homes(named: &IdSet, machine: &Machine) -> IdSet
     requires { (n : ℕ) → set.contains named.now n ≡ true → set.contains (nodes_of machine.now) n ≡ true }

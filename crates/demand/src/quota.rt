@@ -2,7 +2,7 @@ ghost use Rattle.std.specs.Prelude.{◌≡◌, ℕ, ◌*◌, ◌<◌, ◌≤◌,
 ghost use Rattle.demand.specs.AsksFor.{AsksFor};
 ghost use Rattle.demand.specs.Quota.{limit_of, period_of, IsCount};
 ghost use Rattle.demand.specs.DemandFaultOf.{quota_fault};
-ghost use Rattle.demand.specs.Answers.{fault_of};
+ghost use Rattle.std.specs.Result.{result_err};
 
 use crate::demand_fault::DemandFault;
 use cpu_set::CPU_LIMIT;
@@ -11,7 +11,7 @@ use cpu_set::CPU_LIMIT;
 /// kernel's cgroup-v2 documentation.
 pub const DEFAULT_PERIOD: u64 = 100_000;
 
-// The quota as a limit, where it is one.
+/// The quota as a limit, where it is one.
 fn limit_of(quota: Option<i64>) -> Option<u64>
     ensures value { result ≡ limit_of quota }
     ensures positive { IfSome result (λ n. 0 < n) }
@@ -23,7 +23,7 @@ fn limit_of(quota: Option<i64>) -> Option<u64>
     }
 }
 
-// The length of the period.
+/// The length of the period.
 fn period_of(period: Option<u64>) -> u64
     ensures value { result ≡ period_of period }
     ensures positive { 0 < result }
@@ -34,7 +34,7 @@ fn period_of(period: Option<u64>) -> u64
     }
 }
 
-// How many CPUs a quota asks for: the time that it gives in whole periods, rounded up.
+/// How many CPUs a quota asks for: the time that it gives in whole periods, rounded up.
 #[tactic(auto, using(crate::proofs::Rounding::asks_whole, crate::proofs::Rounding::asks_more))]
 fn rounded_up(quota: u64, period: u64) -> u64
     requires quota { 0 < quota }
@@ -49,7 +49,7 @@ fn rounded_up(quota: u64, period: u64) -> u64
     whole + 1
 }
 
-// How many CPUs a quota asks for, unless it asks for more than there can be.
+/// How many CPUs a quota asks for, unless it asks for more than there can be.
 fn cpus_asked(quota: u64, period: u64) -> Option<u32>
     requires quota { 0 < quota }
     requires signed { quota < 2 ^ 63 }
@@ -67,10 +67,10 @@ fn cpus_asked(quota: u64, period: u64) -> Option<u32>
     }
 }
 
-// How many CPUs a container's quota asks for; none where it is no limit.
+/// How many CPUs a container's quota asks for; none where it is no limit.
 #[tactic(auto, unfolding(crate::specs::DemandFaultOf::quota_fault))]
 pub fn count(quota: Option<i64>, period: Option<u64>) -> Result<Option<u32>, DemandFault>
-    ensures fault { quota_fault quota period ≡ fault_of result }
+    ensures fault { quota_fault quota period ≡ result_err result }
     ensures count { IfOk result (λ n. IsCount (limit_of quota) (period_of period) n) }
     ensures some { IfOk result (λ n. is_some n ≡ is_some (limit_of quota)) }
 {

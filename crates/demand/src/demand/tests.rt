@@ -27,7 +27,7 @@ fn owned(alloc: Global, text: Option<&str>) -> Result<Option<String>, AllocError
     }
 }
 
-// A section with these lists and no quota.
+/// A section with these lists and no quota.
 fn lists(alloc: Global, cpus: Option<&str>, mems: Option<&str>) -> Result<CpuSection, AllocError> {
     Ok(CpuSection {
         quota: None,
@@ -37,7 +37,7 @@ fn lists(alloc: Global, cpus: Option<&str>, mems: Option<&str>) -> Result<CpuSec
     })
 }
 
-// A section with a quota and no lists.
+/// A section with a quota and no lists.
 fn quota(quota: i64, period: Option<u64>) -> CpuSection {
     CpuSection {
         quota: Some(quota),
@@ -52,7 +52,8 @@ fn a_quota_asks_for_cpus(rt: HostRuntime) {
     let machine = machine(&rt, rt.alloc(), TWO_NODES);
     let cases = [
         (150_000, Some(100_000), Ok(Kind::Pinned(2))),
-        (150_000, None, Ok(Kind::Pinned(2))),
+        (100_000, None, Ok(Kind::Pinned(1))),
+        (100_001, None, Ok(Kind::Pinned(2))),
         (200_000, Some(100_000), Ok(Kind::Pinned(2))),
         (200_001, Some(100_000), Ok(Kind::Pinned(3))),
         (50_000, Some(0), Ok(Kind::Pinned(1))),
@@ -106,7 +107,7 @@ fn lists_name_cpus_and_homes(rt: HostRuntime) -> Result<(), Fail> {
     Ok(())
 }
 
-// The fault of a list at a place.
+/// The fault of a list at a place.
 fn at(at: usize, kind: ListErrorKind) -> ListError {
     ListError { at, kind }
 }
