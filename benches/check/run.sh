@@ -11,10 +11,12 @@ program=$top/crates/numarun/out/numarun
 python3 "$here/largest.py" >"$work/largest"
 ls -l "$work/largest" | awk '{ print "certificate: " $5 " bytes" }'
 
+exec 2>&1
 TIMEFORMAT='%3R s'
 for round in 1 2 3; do
     echo "round $round"
-    printf 'numarun check: '; time "$program" check "$work/largest"
-    printf 'cat: '; time cat "$work/largest" >/dev/null
-    printf 'wc -l: '; time wc -l <"$work/largest"
+    echo -n 'numarun check: '; time "$program" check "$work/largest" >"$work/answer"
+    echo -n 'cat: '; time cat "$work/largest" >/dev/null
+    echo -n 'wc -l: '; time wc -l "$work/largest" >/dev/null
 done
+cat "$work/answer"

@@ -1,5 +1,5 @@
 -- An output in several parts.
-use Rattle.std.proofs.Common.{◌≡◌, ℕ, ◌<◌, ◌+◌, List, ◌∷◌, ◌++◌, length, take, drop, get_or, suc, Option, refl, sym, ap, ◌∙◌, arith, append_assoc, length-append, take-append-drop, drop-cons, Bor}
+use Rattle.std.proofs.Common.{◌≡◌, ℕ, ◌<◌, List, ◌++◌, length, take, drop, get_or, suc, Option, sym, ap, ◌∙◌, arith, append_assoc, length-append, take-append-drop, drop-cons, Bor}
 use Rattle.std.proofs.KnownBytes.{Appends-trans}
 use Rattle.std.proofs.lemmas.Grind.{flat_map-append}
 use Rattle.std.specs.Io.KnownBytes.{Appends}

@@ -1,5 +1,5 @@
 -- Command lines in plain words, computed.
-use Rattle.std.proofs.Common.{◌≡◌, ℕ, List, [], ◌∷◌, Some, None, codes, bytes_eq, false, refl, rules}
+use Rattle.std.proofs.Common.{◌≡◌, [], ◌∷◌, Some, None, codes, bytes_eq, false, refl, rules}
 use Rattle.clap.proofs.OnLiterals.{clap_on_literals}
 use Rattle.clap.specs.Words.{Text}
 use Rattle.cli.specs.Asked.{check, list, slit}

@@ -1,5 +1,5 @@
 -- What numarun answers to the bytes of a certificate.
-use Rattle.std.specs.Prelude.{◌≡◌, ℕ, ◌≤◌, List, ◌++◌, length, Option, Result, Ok, Err, ⊤, IfSome, MatchResult, codes, decimal}
+use Rattle.std.specs.Prelude.{◌≡◌, ℕ, ◌≤◌, List, ◌++◌, length, Option, Result, ⊤, IfSome, MatchResult, codes, decimal}
 use Rattle.certificate.specs.Verdict.{IsVerdict, IsVerdictError, SaysLeast}
 use Rattle.certificate.specs.declared.text.checking.Verdict.{Verdict}
 use Rattle.certificate.specs.declared.text.checking.Verdict.TheVariants.{Plan}

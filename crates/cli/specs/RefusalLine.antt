@@ -1,7 +1,6 @@
 -- The line that a refusal is printed as: `refused`, its number, its name, and each argument after a space.
 use Rattle.std.specs.Prelude.{ℕ, List, [], ◌∷◌, ◌++◌, codes, decimal}
 use Rattle.std.specs.List.{flat_map}
-use Rattle.cpu_list.specs.declared.list_error.ListError.{ListError}
 use Rattle.cpu_list.specs.declared.list_error.ListErrorKind.{ListErrorKind}
 use Rattle.cpu_list.specs.declared.list_error.ListErrorKind.TheVariants.{BadItem, TooLarge, Descending}
 use Rattle.slit.specs.declared.fault.SlitFault.{SlitFault}

@@ -1,5 +1,5 @@
 -- What numarun answers to the bytes of a distance table.
-use Rattle.std.specs.Prelude.{◌≡◌, ℕ, ◌≤◌, ◌==◌, if◌then◌else◌, List, [], ◌++◌, length, Option, Some, None, Result, Ok, Err, ⊤, IfSome, codes, decimal}
+use Rattle.std.specs.Prelude.{◌≡◌, ℕ, ◌≤◌, ◌==◌, if◌then◌else◌, List, [], ◌++◌, length, Option, Some, Result, Ok, Err, ⊤, IfSome, codes, decimal}
 use Rattle.std.specs.List.{flat_map, range_with_len}
 use Rattle.slit.specs.Describes.{Describes}
 use Rattle.slit.specs.SlitFaultOf.{slit_fault}

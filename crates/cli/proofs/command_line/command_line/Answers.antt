@@ -1,8 +1,7 @@
 -- One subcommand after another.
 use Rattle.std.proofs.Common.{rules, ◌≡◌, [], true, codes}
 use Rattle.std.proofs.lemmas.Result.{IfOk-weaker}
-use Rattle.clap.specs.Words.{App, app_of, new_app, with_subcommand}
-use Rattle.cli.specs.CommandLine.{check_command, list_command}
+use Rattle.clap.specs.Words.{App, app_of, new_app}
 use Rattle.cli.proofs.Leaves.{app_of-leaf}
 use Rattle.cli.proofs.command_line.command_line.Goals as goal
 

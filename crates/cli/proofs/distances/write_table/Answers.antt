@@ -1,5 +1,4 @@
 -- The number of localities, and then the rows.
-use Rattle.std.proofs.Common.{ℕ, List, ◌++◌, codes, decimal}
 use Rattle.std.proofs.lemmas.Result.{err_from_is_err_and}
 use Rattle.cpu_list.proofs.Sending.{SendsFront-more, Writes-then}
 use Rattle.cli.proofs.distances.write_table.Goals as goal
