@@ -3,6 +3,7 @@ pub mod GroupLemmas
 pub mod KeptLemmas
 pub mod PlaceLemmas
 pub mod ChangeLemmas
+pub mod RefreshLemmas
 pub mod WellFormedLemmas
 pub mod SoundLemmas
 pub mod NodeLemmas

@@ -1,5 +1,5 @@
 -- How a `Tree` keeps its groups, and what it keeps of them. No public clause cites this module.
-use Rattle.std.specs.Prelude.{◌≡◌, ◌≢◌, ℕ, ◌<◌, true, ◌==◌, if◌then◌else◌, List, [], ◌∷◌, Option, Some, None, is_some, option_map, string_bytes}
+use Rattle.std.specs.Prelude.{◌≡◌, ◌≢◌, ℕ, ◌<◌, Bool, true, false, ◌==◌, if◌then◌else◌, List, [], ◌∷◌, Option, Some, None, is_some, option_map, string_bytes}
 use Rattle.std.specs.List.{list_any}
 use Rattle.std.specs.FinSet as set
 use Rattle.slab.specs.Slab.{Slab, get}
@@ -80,7 +80,32 @@ abbrev pub refreshed : Slab Cgroup → Ids → Ids → Cgroup → Cgroup
 refreshed s online nodes n = record n {
   effective_cpus = standing n.parent n.cpus online (λ p. cpus_kept (get s p.key));
   effective_mems = standing n.parent n.mems nodes (λ p. mems_kept (get s p.key));
+  touched = true;
 }
+
+-- whether there is a group that was brought up to date
+abbrev pub is_touched : Option Cgroup → Bool
+is_touched None = false
+is_touched (Some n) = n.touched
+
+-- whether the parent was brought up to date
+abbrev pub is_below_touched : Slab Cgroup → Option Group → Bool
+is_below_touched s None = false
+is_below_touched s (Some parent) = is_touched (get s parent.key)
+
+-- the group, brought up to date where its parent was
+abbrev pub passed : Slab Cgroup → Ids → Ids → Cgroup → Cgroup
+passed s online nodes n =
+    if is_below_touched s n.parent then refreshed s online nodes n else record n { touched = false }
+
+-- what is kept of a group is what it is granted of what is kept of its parent
+pub record IsGranted (s : Slab Cgroup) (online nodes : Ids) (n : Cgroup) : Type 0 where
+  pub cpus : n.effective_cpus ≡ standing n.parent n.cpus online (λ p. cpus_kept (get s p.key))
+  pub mems : n.effective_mems ≡ standing n.parent n.mems nodes (λ p. mems_kept (get s p.key))
+
+-- the same of each group but that of one key
+abbrev pub AllGrantedBut : Slab Cgroup → Ids → Ids → ℕ → Type 0
+AllGrantedBut s online nodes written = (key : ℕ) (n : Cgroup) → key ≢ written → get s key ≡ Some n → IsGranted s online nodes n
 
 -- the group, requesting these CPUs
 abbrev pub with_cpus_kept : Ids → Cgroup → Cgroup
@@ -97,7 +122,7 @@ pub record ChangesAt (old new : Slab Cgroup) (key : ℕ) (f : Cgroup → Cgroup)
 
 -- a kept group without what is kept as effective
 abbrev pub bare : Cgroup → Cgroup
-bare n = record n { effective_cpus = set.empty; effective_mems = set.empty }
+bare n = record n { effective_cpus = set.empty; effective_mems = set.empty; touched = false }
 
 -- the groups are the same, but for what is kept as effective
 abbrev pub OnlyKeptDiffers : Slab Cgroup → Slab Cgroup → Type 0

@@ -82,6 +82,7 @@ impl Tree {
             mems: IdSet::empty(),
             effective_cpus: online,
             effective_mems: nodes,
+            touched: false,
         });
         Ok(Tree {
             alloc,
@@ -208,6 +209,7 @@ impl Tree {
             mems: IdSet::empty(),
             effective_cpus: cpus,
             effective_mems: mems,
+            touched: false,
         });
         self.next_serial += 1;
         Ok(group)
@@ -316,14 +318,7 @@ impl Tree {
         ensures { self.new ≡ with_online self.old online }
     {
         self.online = online;
-        let all = self.order.len();
-        refresh(
-            &mut self.groups,
-            &self.order,
-            all,
-            &self.online,
-            &self.nodes,
-        );
+        refresh(&mut self.groups, &self.order, &self.online, &self.nodes);
     }
 
     /// The CPUs that a group requests.

@@ -25,6 +25,8 @@ pub struct Cgroup {
     pub mems: IdSet,
     pub effective_cpus: IdSet,
     pub effective_mems: IdSet,
+    // Whether the last write that went past the group brought it up to date.
+    pub touched: bool,
 }
 
 impl Cgroup {

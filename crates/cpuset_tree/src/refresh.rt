@@ -1,8 +1,9 @@
 //! What is kept of the groups as their effective sets, brought up to date.
-ghost use Rattle.std.specs.Prelude.{◌≡◌, ◌≤◌, length, drop};
+ghost use Rattle.std.specs.Prelude.{◌≡◌, ◌<◌, ◌==◌, ◌∷◌, true, length, drop};
+ghost use Rattle.std.specs.List.{list_any};
 ghost use Rattle.slab.specs.Slab.{get};
 ghost use Rattle.cpuset_tree.specs.Effective.{standing};
-ghost use Rattle.cpuset_tree.specs.Kept.{cpus_kept, mems_kept, refreshed, ChangesAt, OnlyKeptDiffers, AllKept, IsOrder, behind};
+ghost use Rattle.cpuset_tree.specs.Kept.{cpus_kept, mems_kept, refreshed, is_below_touched as below_touched, passed, AllGrantedBut, ChangesAt, OnlyKeptDiffers, AllKept, IsOrder, behind};
 
 use crate::groups::{Cgroup, Group, granted_of};
 use cpu_set::IdSet;
@@ -56,42 +57,62 @@ fn refresh_group(groups: &mut Slab<Cgroup>, key: usize, online: &IdSet, nodes: &
     if let Some(kept) = groups.get_mut(key) {
         kept.effective_cpus = cpus;
         kept.effective_mems = mems;
+        kept.touched = true;
     }
 }
 
-/// How many keys stand before those behind this one: up to it, or all.
-fn count_to(order: &[usize], key: usize) -> usize
-    ensures within { result ≤ length order.now }
-    ensures behind { drop result order.now ≡ behind key order.now }
-{
-    for (place, other) in order.iter().enumerate() {
-        if *other == key {
-            return place + 1;
-        }
-    }
-    order.len()
-}
-
-/// Brings the groups of the first `count` keys up to date, the oldest first; those behind them are.
-pub fn refresh(
-    groups: &mut Slab<Cgroup>,
-    order: &[usize],
-    count: usize,
-    online: &IdSet,
-    nodes: &IdSet,
-)
-    requires within { count ≤ length order.now }
-    requires in_order { IsOrder groups.old order.now }
-    requires kept { AllKept groups.old online.now nodes.now (drop count order.now) }
+/// Brings all groups up to date, the oldest first.
+pub fn refresh(groups: &mut Slab<Cgroup>, order: &[usize], online: &IdSet, nodes: &IdSet)
+    requires { IsOrder groups.old order.now }
     ensures kept { AllKept groups.new online.now nodes.now order.now }
     ensures same { OnlyKeptDiffers groups.old groups.new }
 {
-    for place in (0..count).rev() {
+    for place in (0..order.len()).rev() {
         refresh_group(groups, order[place], online, nodes);
     }
 }
 
-/// Brings a group and what is below it up to date; the older ones are.
+fn is_below_touched(groups: &Slab<Cgroup>, parent: Option<Group>) -> bool
+    ensures { result ≡ below_touched groups.now parent }
+{
+    match parent {
+        None => false,
+        Some(parent) => match groups.get(parent.key) {
+            None => false,
+            Some(above) => above.touched,
+        },
+    }
+}
+
+/// Brings one group up to date where its parent was.
+fn pass_group(groups: &mut Slab<Cgroup>, key: usize, online: &IdSet, nodes: &IdSet)
+    ensures { ChangesAt groups.old groups.new key (passed groups.old online.now nodes.now) }
+{
+    let Some(kept) = groups.get(key) else {
+        return;
+    };
+    if is_below_touched(groups, kept.parent) {
+        refresh_group(groups, key, online, nodes);
+    } else if let Some(kept) = groups.get_mut(key) {
+        kept.touched = false;
+    }
+}
+
+/// The place of a key that is there.
+fn place_of(order: &[usize], key: usize) -> usize
+    requires { list_any (λ k. k == key) order.now ≡ true }
+    ensures within { result < length order.now }
+    ensures here { drop result order.now ≡ key ∷ behind key order.now }
+{
+    for (place, other) in order.iter().enumerate() {
+        if *other == key {
+            return place;
+        }
+    }
+    unreachable!()
+}
+
+/// Brings a group and what is below it up to date, the oldest first; the groups behind its key are.
 pub fn refresh_from(
     groups: &mut Slab<Cgroup>,
     order: &[usize],
@@ -100,10 +121,15 @@ pub fn refresh_from(
     nodes: &IdSet,
 )
     requires in_order { IsOrder groups.old order.now }
+    requires there { list_any (λ k. k == key) order.now ≡ true }
     requires kept { AllKept groups.old online.now nodes.now (behind key order.now) }
+    requires granted { AllGrantedBut groups.old online.now nodes.now key }
     ensures kept { AllKept groups.new online.now nodes.now order.now }
     ensures same { OnlyKeptDiffers groups.old groups.new }
 {
-    let count = count_to(order, key);
-    refresh(groups, order, count, online, nodes);
+    refresh_group(groups, key, online, nodes);
+    let count = place_of(order, key);
+    for place in (0..count).rev() {
+        pass_group(groups, order[place], online, nodes);
+    }
 }
