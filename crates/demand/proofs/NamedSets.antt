@@ -72,7 +72,7 @@ named_is limit text s few right is =
 pub read_named :
     (limit : ℕ) (text : List ℕ) (answer : Result Ids ListError) → limit ≤ CPU_LIMIT
     → MatchResult answer (λ s. (first_fault limit text ≡ None) × IsSetOf text s × IsList limit text)
-      (λ e. (first_fault limit text ≡ Some e) × IsFirstFault limit text e)
+    (λ e. (first_fault limit text ≡ Some e) × IsFirstFault limit text e)
     → IfOk answer (λ s. s ≡ named (Some text))
 read_named limit text (Ok s) few is = named_is limit text s few is.0 is.1
 read_named limit text (Err e) few is = tt

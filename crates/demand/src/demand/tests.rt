@@ -7,11 +7,15 @@ use std::alloc::{AllocError, Global};
 use std::process::Abort;
 use std::test::Fail;
 
-const TWO_NODES: &str = "{\"nodes\":[\"0-3\",\"4-7\"],\"distances\":[[10,21],[21,10]],\"reserved\":\"0\"}";
-const NO_WAY_BACK: &str = "{\"nodes\":[\"0-3\",\"4-7\"],\"distances\":[[10,21],[255,10]],\"reserved\":\"0\"}";
-const EIGHT_NODES: &str = "{\"nodes\":[\"0\",\"1\",\"2\",\"3\",\"4\",\"5\",\"6\",\"7\"],\"distances\":[\
-    [10,20,20,20,20,20,20,20],[20,10,20,20,20,20,20,20],[20,20,10,20,20,20,20,20],[20,20,20,10,20,20,20,20],\
-    [20,20,20,20,10,20,20,20],[20,20,20,20,20,10,20,20],[20,20,20,20,20,20,10,20],[20,20,20,20,20,20,20,10]],\"reserved\":\"0\"}";
+const TWO_NODES: &str = r#"{"nodes":["0-3","4-7"],"distances":[[10,21],[21,10]],"reserved":"0"}"#;
+
+const NO_WAY_BACK: &str =
+    r#"{"nodes":["0-3","4-7"],"distances":[[10,21],[255,10]],"reserved":"0"}"#;
+
+const EIGHT_NODES: &str = r#"{"nodes":["0","1","2","3","4","5","6","7"],"distances":[
+    [10,20,20,20,20,20,20,20],[20,10,20,20,20,20,20,20],[20,20,10,20,20,20,20,20],[20,20,20,10,20,20,20,20],
+    [20,20,20,20,10,20,20,20],[20,20,20,20,20,10,20,20],[20,20,20,20,20,20,10,20],[20,20,20,20,20,20,20,10]],
+    "reserved":"0"}"#;
 
 fn machine(rt: &impl Abort, alloc: Global, text: &str) -> Machine {
     match Machine::read(alloc, text.as_bytes(), None) {
@@ -63,8 +67,16 @@ fn a_quota_asks_for_cpus(rt: HostRuntime) {
         (102_400_001, Some(100_000), Err(DemandFault::QuotaTooLarge)),
         (1024, Some(1), Ok(Kind::Pinned(1024))),
         (1025, Some(1), Err(DemandFault::QuotaTooLarge)),
-        (i64::MAX, Some(9_007_199_254_740_992), Ok(Kind::Pinned(1024))),
-        (i64::MAX, Some(9_007_199_254_740_991), Err(DemandFault::QuotaTooLarge)),
+        (
+            i64::MAX,
+            Some(9_007_199_254_740_992),
+            Ok(Kind::Pinned(1024)),
+        ),
+        (
+            i64::MAX,
+            Some(9_007_199_254_740_991),
+            Err(DemandFault::QuotaTooLarge),
+        ),
         (i64::MAX, Some(1), Err(DemandFault::QuotaTooLarge)),
         (0, Some(100_000), Ok(Kind::Shared)),
         (-1, None, Ok(Kind::Shared)),
@@ -84,15 +96,79 @@ fn lists_name_cpus_and_homes(rt: HostRuntime) -> Result<(), Fail> {
     let alloc = rt.alloc();
     let cases = [
         (TWO_NODES, None, None, None, Kind::Shared, "", "0-1"),
-        (TWO_NODES, None, Some(""), Some(" , "), Kind::Shared, "", "0-1"),
+        (
+            TWO_NODES,
+            None,
+            Some(""),
+            Some(" , "),
+            Kind::Shared,
+            "",
+            "0-1",
+        ),
         (TWO_NODES, None, None, Some("1"), Kind::Shared, "", "1"),
-        (TWO_NODES, Some(-1), Some("1-3"), None, Kind::Pinned(3), "1-3", "0-1"),
-        (TWO_NODES, None, Some(" 3 ,, 0-2"), Some("0"), Kind::Pinned(3), "1-3", "0"),
-        (TWO_NODES, Some(100_000), Some("7,6"), Some("0-1"), Kind::Pinned(1), "6-7", "0-1"),
-        (TWO_NODES, Some(800_000), None, Some("1"), Kind::Pinned(8), "1-7", "1"),
-        (NO_WAY_BACK, Some(400_000), None, Some("0"), Kind::Pinned(4), "1-3", "0"),
-        (NO_WAY_BACK, Some(400_000), None, Some("1"), Kind::Pinned(4), "1-7", "1"),
-        (EIGHT_NODES, Some(200_000), Some("2-3"), Some("0-7"), Kind::Pinned(2), "2-3", "0-7"),
+        (
+            TWO_NODES,
+            Some(-1),
+            Some("1-3"),
+            None,
+            Kind::Pinned(3),
+            "1-3",
+            "0-1",
+        ),
+        (
+            TWO_NODES,
+            None,
+            Some(" 3 ,, 0-2"),
+            Some("0"),
+            Kind::Pinned(3),
+            "1-3",
+            "0",
+        ),
+        (
+            TWO_NODES,
+            Some(100_000),
+            Some("7,6"),
+            Some("0-1"),
+            Kind::Pinned(1),
+            "6-7",
+            "0-1",
+        ),
+        (
+            TWO_NODES,
+            Some(800_000),
+            None,
+            Some("1"),
+            Kind::Pinned(8),
+            "1-7",
+            "1",
+        ),
+        (
+            NO_WAY_BACK,
+            Some(400_000),
+            None,
+            Some("0"),
+            Kind::Pinned(4),
+            "1-3",
+            "0",
+        ),
+        (
+            NO_WAY_BACK,
+            Some(400_000),
+            None,
+            Some("1"),
+            Kind::Pinned(4),
+            "1-7",
+            "1",
+        ),
+        (
+            EIGHT_NODES,
+            Some(200_000),
+            Some("2-3"),
+            Some("0-7"),
+            Kind::Pinned(2),
+            "2-3",
+            "0-7",
+        ),
     ];
     for (text, limit, cpus, mems, kind, allowed, homes) in cases {
         let mut section = lists(alloc, cpus, mems)?;
@@ -116,17 +192,57 @@ fn at(at: usize, kind: ListErrorKind) -> ListError {
 fn the_first_fault_decides(rt: HostRuntime) -> Result<(), Fail> {
     let alloc = rt.alloc();
     let cases = [
-        (TWO_NODES, Some("3-1"), None, DemandFault::BadCpus(at(0, ListErrorKind::Descending))),
-        (TWO_NODES, Some("1,1024"), None, DemandFault::BadCpus(at(2, ListErrorKind::TooLarge))),
-        (TWO_NODES, Some("x"), Some("y"), DemandFault::BadCpus(at(0, ListErrorKind::BadItem))),
+        (
+            TWO_NODES,
+            Some("3-1"),
+            None,
+            DemandFault::BadCpus(at(0, ListErrorKind::Descending)),
+        ),
+        (
+            TWO_NODES,
+            Some("1,1024"),
+            None,
+            DemandFault::BadCpus(at(2, ListErrorKind::TooLarge)),
+        ),
+        (
+            TWO_NODES,
+            Some("x"),
+            Some("y"),
+            DemandFault::BadCpus(at(0, ListErrorKind::BadItem)),
+        ),
         (TWO_NODES, Some("8"), None, DemandFault::NoSuchCpu(8)),
-        (TWO_NODES, Some("1023,9,2,12"), Some("y"), DemandFault::NoSuchCpu(9)),
-        (TWO_NODES, Some("0"), Some("x"), DemandFault::BadMems(at(0, ListErrorKind::BadItem))),
-        (TWO_NODES, None, Some("0,64"), DemandFault::BadMems(at(2, ListErrorKind::TooLarge))),
+        (
+            TWO_NODES,
+            Some("1023,9,2,12"),
+            Some("y"),
+            DemandFault::NoSuchCpu(9),
+        ),
+        (
+            TWO_NODES,
+            Some("0"),
+            Some("x"),
+            DemandFault::BadMems(at(0, ListErrorKind::BadItem)),
+        ),
+        (
+            TWO_NODES,
+            None,
+            Some("0,64"),
+            DemandFault::BadMems(at(2, ListErrorKind::TooLarge)),
+        ),
         (TWO_NODES, None, Some("0-7"), DemandFault::NoSuchNode(2)),
-        (TWO_NODES, Some("0"), Some("63,3"), DemandFault::NoSuchNode(3)),
+        (
+            TWO_NODES,
+            Some("0"),
+            Some("63,3"),
+            DemandFault::NoSuchNode(3),
+        ),
         (TWO_NODES, Some("0"), None, DemandFault::NothingAllowed),
-        (NO_WAY_BACK, Some("0,4-7"), Some("0"), DemandFault::NothingAllowed),
+        (
+            NO_WAY_BACK,
+            Some("0,4-7"),
+            Some("0"),
+            DemandFault::NothingAllowed,
+        ),
     ];
     for (text, cpus, mems, want) in cases {
         match Demand::of(&lists(alloc, cpus, mems)?, &machine(&rt, alloc, text)) {
