@@ -96,23 +96,23 @@ module _ (s : Slab Cgroup) (online nodes : Ids) where
       there
 
   -- a group that was brought up to date keeps what it has in effect, if the older groups do
-  pub refreshed-kept : (next : ℕ) (older : List ℕ) (n : Cgroup) → IsInOrder s next older → AllKept s online nodes older → HasParentAmong s n.parent older
-      → KeepsEffective online nodes (listed s older) (refreshed s online nodes n)
-  refreshed-kept next older n rest kept parent = record {
+  pub refreshed-kept : (by next : ℕ) (older : List ℕ) (n : Cgroup) → IsInOrder s next older → AllKept s online nodes older → HasParentAmong s n.parent older
+      → KeepsEffective online nodes (listed s older) (refreshed by s online nodes n)
+  refreshed-kept by next older n rest kept parent = record {
     cpus = standing_alike (λ e. e.cpus) online n.parent n.cpus _ _ (λ p of. cpus_kept-effective next older rest kept p (subst (λ (o : Option Group). HasParentAmong s o older) of parent));
     mems = standing_alike (λ e. e.mems) nodes n.parent n.mems _ _ (λ p of. mems_kept-effective next older rest kept p (subst (λ (o : Option Group). HasParentAmong s o older) of parent));
   }
 
 -- one more group is brought up to date
-pub AllKept-refreshed : (old new : Slab Cgroup) (online nodes : Ids) (next key : ℕ) (older : List ℕ) → IsInOrder old next (key ∷ older)
-    → ChangesAt old new key (refreshed old online nodes) → AllKept old online nodes older → AllKept new online nodes (key ∷ older)
-AllKept-refreshed old new online nodes next key older (m, at, knows, below, parent, rest) change kept =
+pub AllKept-refreshed : (by : ℕ) (old new : Slab Cgroup) (online nodes : Ids) (next key : ℕ) (older : List ℕ) → IsInOrder old next (key ∷ older)
+    → ChangesAt old new key (refreshed by old online nodes) → AllKept old online nodes older → AllKept new online nodes (key ∷ older)
+AllKept-refreshed by old new online nodes next key older (m, at, knows, below, parent, rest) change kept =
     let absent : list_any (λ k. k == key) older ≡ false = key_is_absent old m.group.serial older rest key m at (omega arith) in (
       (λ n is.
           subst (λ (l : List GroupEntry). KeepsEffective online nodes l n) (sym (listed-others old new key change.others older absent))
           (subst (λ (x : Cgroup). KeepsEffective online nodes (listed old older) x)
-          (same_Some (refreshed old online nodes m) n (ap (option_map (refreshed old online nodes)) (sym at) ∙ sym change.changed ∙ is))
-          (refreshed-kept old online nodes m.group.serial older m rest kept parent))),
+          (same_Some (refreshed by old online nodes m) n (ap (option_map (refreshed by old online nodes)) (sym at) ∙ sym change.changed ∙ is))
+          (refreshed-kept old online nodes by m.group.serial older m rest kept parent))),
       AllKept-others old new online nodes key change.others older absent kept,
     )
 

@@ -52,8 +52,8 @@ module _ (f : Cgroup → Cgroup) where
       (λ ne. ap (option_map h) (change.others k ne))
       (cases_eq k key)
 
-pub OnlyKeptDiffers-refreshed : (old new : Slab Cgroup) (online nodes : Ids) (key : ℕ) → ChangesAt old new key (refreshed old online nodes) → OnlyKeptDiffers old new
-OnlyKeptDiffers-refreshed old new online nodes key change = same_from_change (refreshed old online nodes) bare (λ n. refl) old new key change
+pub OnlyKeptDiffers-refreshed : (by : ℕ) (old new : Slab Cgroup) (online nodes : Ids) (key : ℕ) → ChangesAt old new key (refreshed by old online nodes) → OnlyKeptDiffers old new
+OnlyKeptDiffers-refreshed by old new online nodes key change = same_from_change (refreshed by old online nodes) bare (λ n. refl) old new key change
 
 abbrev front : Option (Group × Option Group) → List (Group × Option Group) → List (Group × Option Group)
 front None l = l

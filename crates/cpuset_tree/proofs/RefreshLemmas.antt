@@ -91,33 +91,32 @@ AllKept-more old new online nodes serial key older m f rest absent at change kee
   AllKept-others old new online nodes key change.others older absent kept,
 )
 
-passed_alike : {B : Type 0} (h : Cgroup → B) (s : Slab Cgroup) (online nodes : Ids) (n : Cgroup) → h (refreshed s online nodes n) ≡ h n → h (record n { touched = false }) ≡ h n
-    → h (passed s online nodes n) ≡ h n
-passed_alike h s online nodes n a b = elim (is_below_touched s n.parent) as (λ t. is_below_touched s n.parent ≡ t → h (passed s online nodes n) ≡ h n) [
-  | true ↦ λ e. ap h (cond-true (is_below_touched s n.parent) (refreshed s online nodes n) (record n { touched = false }) e) ∙ a
-  | false ↦ λ e. ap h (cond-false (is_below_touched s n.parent) (refreshed s online nodes n) (record n { touched = false }) e) ∙ b
+passed_alike : {B : Type 0} (h : Cgroup → B) (by : ℕ) (s : Slab Cgroup) (online nodes : Ids) (n : Cgroup) → h (refreshed by s online nodes n) ≡ h n → h (passed by s online nodes n) ≡ h n
+passed_alike h by s online nodes n a = elim (is_below_touched by s n.parent) as (λ t. is_below_touched by s n.parent ≡ t → h (passed by s online nodes n) ≡ h n) [
+  | true ↦ λ e. ap h (cond-true (is_below_touched by s n.parent) (refreshed by s online nodes n) n e) ∙ a
+  | false ↦ λ e. ap h (cond-false (is_below_touched by s n.parent) (refreshed by s online nodes n) n e)
 ] refl
 
 -- how far the groups are: those of the places from this one on are up to date, the others are as they were, and a group
 -- that is not touched keeps the sets that it had
-pub record IsRefreshing (mid cur : Slab Cgroup) (online nodes : Ids) (written : ℕ) (keys : List ℕ) (place : ℕ) : Type 0 where
+pub record IsRefreshing (mid cur : Slab Cgroup) (online nodes : Ids) (by written : ℕ) (keys : List ℕ) (place : ℕ) : Type 0 where
   pub order : IsOrder cur keys
   pub kept : AllKept cur online nodes (drop place keys)
   pub visited : list_any (λ k. k == written) (drop place keys) ≡ true
   pub unvisited : (k : ℕ) → list_any (λ j. j == k) (drop place keys) ≡ false → get cur k ≡ get mid k
-  pub untouched : (k : ℕ) → is_touched (get cur k) ≡ false → option_map sets (get cur k) ≡ option_map sets (get mid k)
+  pub untouched : (k : ℕ) → is_touched by (get cur k) ≡ false → option_map sets (get cur k) ≡ option_map sets (get mid k)
   pub same : OnlyKeptDiffers mid cur
 
-module _ (mid : Slab Cgroup) (online nodes : Ids) (written : ℕ) (keys : List ℕ) where
+module _ (mid : Slab Cgroup) (online nodes : Ids) (by written : ℕ) (keys : List ℕ) where
   -- the written group comes first
   pub IsRefreshing-first : (cur : Slab Cgroup) (place : ℕ) → IsOrder mid keys → drop place keys ≡ written ∷ behind written keys → AllKept mid online nodes (behind written keys)
-      → ChangesAt mid cur written (refreshed mid online nodes) → IsRefreshing mid cur online nodes written keys place
+      → ChangesAt mid cur written (refreshed by mid online nodes) → IsRefreshing mid cur online nodes by written keys place
   IsRefreshing-first cur place order split kept change =
       let rest : IsOrder mid (written ∷ behind written keys) = subst (λ (l : List ℕ). IsOrder mid l) split (IsOrder-drop mid place keys order) in
-      let differs : OnlyKeptDiffers mid cur = OnlyKeptDiffers-refreshed mid cur online nodes written change in
+      let differs : OnlyKeptDiffers mid cur = OnlyKeptDiffers-refreshed by mid cur online nodes written change in
       record {
         order = IsOrder-same mid cur (SamePlaces-from_kept mid cur differs) keys order;
-        kept = subst (λ (l : List ℕ). AllKept cur online nodes l) (sym split) (AllKept-refreshed mid cur online nodes rest.0 written (behind written keys) rest.1 change kept);
+        kept = subst (λ (l : List ℕ). AllKept cur online nodes l) (sym split) (AllKept-refreshed by mid cur online nodes rest.0 written (behind written keys) rest.1 change kept);
         visited = ap (list_any (λ k. k == written)) split ∙ or_left (written == written) (list_any (λ k. k == written) (behind written keys)) (eq-eqb written written refl);
         unvisited = λ k none. change.others k (λ e.
             both_ways (written == k) (or_parts (written == k) (list_any (λ j. j == k) (behind written keys)) (sym (ap (list_any (λ j. j == k)) split) ∙ none)).0 (eq-eqb written k (sym e)));
@@ -128,27 +127,27 @@ module _ (mid : Slab Cgroup) (online nodes : Ids) (written : ℕ) (keys : List �
         same = differs;
       }
     where
-      at_written : (o : Option Cgroup) → get mid written ≡ o → (k : ℕ) → k ≡ written → is_touched (get cur k) ≡ false → option_map sets (get cur k) ≡ option_map sets (get mid k)
+      at_written : (o : Option Cgroup) → get mid written ≡ o → (k : ℕ) → k ≡ written → is_touched by (get cur k) ≡ false → option_map sets (get cur k) ≡ option_map sets (get mid k)
       at_written None at k e quiet =
-          ap (λ (q : ℕ). option_map sets (get cur q)) e ∙ ap (option_map sets) (change.changed ∙ ap (option_map (refreshed mid online nodes)) at)
+          ap (λ (q : ℕ). option_map sets (get cur q)) e ∙ ap (option_map sets) (change.changed ∙ ap (option_map (refreshed by mid online nodes)) at)
           ∙ sym (ap (option_map sets) at) ∙ ap (λ (q : ℕ). option_map sets (get mid q)) (sym e)
       at_written (Some n) at k e quiet =
-          absurd (both_ways true (sym (ap is_touched (ap (get cur) e ∙ change.changed ∙ ap (option_map (refreshed mid online nodes)) at)) ∙ quiet) refl)
+          absurd (both_ways (by == by) (sym (ap (is_touched by) (ap (get cur) e ∙ change.changed ∙ ap (option_map (refreshed by mid online nodes)) at)) ∙ quiet) (eq-eqb by by refl))
 
   -- one group more
   pub IsRefreshing-more : (cur new : Slab Cgroup) (place i : ℕ) → place ≡ i + 1 → i < length keys → AllGrantedBut mid online nodes written
-      → ChangesAt cur new (get_or keys i 0) (passed cur online nodes) → IsRefreshing mid cur online nodes written keys place → IsRefreshing mid new online nodes written keys i
+      → ChangesAt cur new (get_or keys i 0) (passed by cur online nodes) → IsRefreshing mid cur online nodes by written keys place → IsRefreshing mid new online nodes by written keys i
   IsRefreshing-more cur new place i next within granted change so_far =
       let key : ℕ = get_or keys i 0 in
       let split : drop i keys ≡ key ∷ drop place keys = drop_more keys i 0 within ∙ ap (λ (n : ℕ). key ∷ drop n keys) (sym next) in
       let rest : IsOrder cur (key ∷ drop place keys) = subst (λ (l : List ℕ). IsOrder cur l) split (IsOrder-drop cur i keys so_far.order) in
       step key split rest.0 rest.1 change
     where
-      abbreviated : (key : ℕ) → ChangesAt cur new key (passed cur online nodes) → OnlyKeptDiffers cur new
-      abbreviated key change = same_from_change (passed cur online nodes) bare (λ n. passed_alike bare cur online nodes n refl refl) cur new key change
+      abbreviated : (key : ℕ) → ChangesAt cur new key (passed by cur online nodes) → OnlyKeptDiffers cur new
+      abbreviated key change = same_from_change (passed by cur online nodes) bare (λ n. passed_alike bare by cur online nodes n refl) cur new key change
 
-      step : (key : ℕ) → drop i keys ≡ key ∷ drop place keys → (top : ℕ) → IsInOrder cur top (key ∷ drop place keys) → ChangesAt cur new key (passed cur online nodes)
-          → IsRefreshing mid new online nodes written keys i
+      step : (key : ℕ) → drop i keys ≡ key ∷ drop place keys → (top : ℕ) → IsInOrder cur top (key ∷ drop place keys) → ChangesAt cur new key (passed by cur online nodes)
+          → IsRefreshing mid new online nodes by written keys i
       step key split top (m, at, knows, below, parent, rest) change =
           let absent : list_any (λ k. k == key) (drop place keys) ≡ false = key_is_absent cur m.group.serial (drop place keys) rest key m at (omega arith) in
           let as_before : get cur key ≡ get mid key = so_far.unvisited key absent in
@@ -158,7 +157,7 @@ module _ (mid : Slab Cgroup) (online nodes : Ids) (written : ℕ) (keys : List �
           record {
             order = IsOrder-same cur new (SamePlaces-from_kept cur new differs) keys so_far.order;
             kept = subst (λ (l : List ℕ). AllKept new online nodes l) (sym split)
-                (AllKept-more cur new online nodes m.group.serial key (drop place keys) m (passed cur online nodes) rest absent at change (keeps m rest parent fits) so_far.kept);
+                (AllKept-more cur new online nodes m.group.serial key (drop place keys) m (passed by cur online nodes) rest absent at change (keeps m rest parent fits) so_far.kept);
             visited = ap (list_any (λ k. k == written)) split ∙ or_right (key == written) (list_any (λ k. k == written) (drop place keys)) so_far.visited;
             unvisited = λ k none.
                 let parts : ((key == k) ≡ false) × (list_any (λ j. j == k) (drop place keys) ≡ false) =
@@ -166,35 +165,35 @@ module _ (mid : Slab Cgroup) (online nodes : Ids) (written : ℕ) (keys : List �
                 change.others k (λ e. both_ways (key == k) parts.0 (eq-eqb key k (sym e))) ∙ so_far.unvisited k parts.1;
             untouched = λ k quiet. ⊎_elim
                 (λ e. at_key key change m at as_before k e quiet)
-                (λ ne. ap (option_map sets) (change.others k ne) ∙ so_far.untouched k (sym (ap is_touched (change.others k ne)) ∙ quiet))
+                (λ ne. ap (option_map sets) (change.others k ne) ∙ so_far.untouched k (sym (ap (is_touched by) (change.others k ne)) ∙ quiet))
                 (cases_eq k key);
             same = λ k. differs k ∙ so_far.same k;
           }
         where
           keeps : (m : Cgroup) → IsInOrder cur m.group.serial (drop place keys) → HasParentAmong cur m.parent (drop place keys) → IsGranted mid online nodes m
-              → KeepsEffective online nodes (listed cur (drop place keys)) (passed cur online nodes m)
-          keeps m rest parent fits = elim (is_below_touched cur m.parent) as (λ t. is_below_touched cur m.parent ≡ t → KeepsEffective online nodes (listed cur (drop place keys)) (passed cur online nodes m)) [
+              → KeepsEffective online nodes (listed cur (drop place keys)) (passed by cur online nodes m)
+          keeps m rest parent fits = elim (is_below_touched by cur m.parent) as (λ t. is_below_touched by cur m.parent ≡ t → KeepsEffective online nodes (listed cur (drop place keys)) (passed by cur online nodes m)) [
             | true ↦ λ e.
                 subst (λ (x : Cgroup). KeepsEffective online nodes (listed cur (drop place keys)) x)
-                (sym (cond-true (is_below_touched cur m.parent) (refreshed cur online nodes m) (record m { touched = false }) e))
-                (refreshed-kept cur online nodes m.group.serial (drop place keys) m rest so_far.kept parent)
+                (sym (cond-true (is_below_touched by cur m.parent) (refreshed by cur online nodes m) m e))
+                (refreshed-kept cur online nodes by m.group.serial (drop place keys) m rest so_far.kept parent)
             | false ↦ λ e.
                 let k : KeepsEffective online nodes (listed cur (drop place keys)) m =
                 kept_of_granted cur online nodes m.group.serial (drop place keys) m rest so_far.kept parent
-                (granted_alike mid cur online nodes m (λ p of. so_far.untouched p.key (ap (is_below_touched cur) (sym of) ∙ e)) fits) in
+                (granted_alike mid cur online nodes m (λ p of. so_far.untouched p.key (ap (is_below_touched by cur) (sym of) ∙ e)) fits) in
                 subst (λ (x : Cgroup). KeepsEffective online nodes (listed cur (drop place keys)) x)
-                (sym (cond-false (is_below_touched cur m.parent) (refreshed cur online nodes m) (record m { touched = false }) e))
-                (record { cpus = k.cpus; mems = k.mems })
+                (sym (cond-false (is_below_touched by cur m.parent) (refreshed by cur online nodes m) m e))
+                k
           ] refl
 
-          at_key : (key : ℕ) → ChangesAt cur new key (passed cur online nodes) → (m : Cgroup) → get cur key ≡ Some m → get cur key ≡ get mid key
-              → (k : ℕ) → k ≡ key → is_touched (get new k) ≡ false → option_map sets (get new k) ≡ option_map sets (get mid k)
+          at_key : (key : ℕ) → ChangesAt cur new key (passed by cur online nodes) → (m : Cgroup) → get cur key ≡ Some m → get cur key ≡ get mid key
+              → (k : ℕ) → k ≡ key → is_touched by (get new k) ≡ false → option_map sets (get new k) ≡ option_map sets (get mid k)
           at_key key change m at as_before k e quiet =
-              let now : get new k ≡ Some (passed cur online nodes m) = ap (get new) e ∙ change.changed ∙ ap (option_map (passed cur online nodes)) at in
-              elim (is_below_touched cur m.parent) as (λ t. is_below_touched cur m.parent ≡ t → option_map sets (get new k) ≡ option_map sets (get mid k)) [
+              let now : get new k ≡ Some (passed by cur online nodes m) = ap (get new) e ∙ change.changed ∙ ap (option_map (passed by cur online nodes)) at in
+              elim (is_below_touched by cur m.parent) as (λ t. is_below_touched by cur m.parent ≡ t → option_map sets (get new k) ≡ option_map sets (get mid k)) [
                 | true ↦ λ b.
-                    absurd (both_ways true (sym (ap is_touched (now ∙ ap Some (cond-true (is_below_touched cur m.parent) (refreshed cur online nodes m) (record m { touched = false }) b))) ∙ quiet) refl)
+                    absurd (both_ways (by == by) (sym (ap (is_touched by) (now ∙ ap Some (cond-true (is_below_touched by cur m.parent) (refreshed by cur online nodes m) m b))) ∙ quiet) (eq-eqb by by refl))
                 | false ↦ λ b.
-                    ap (option_map sets) (now ∙ ap Some (cond-false (is_below_touched cur m.parent) (refreshed cur online nodes m) (record m { touched = false }) b))
+                    ap (option_map sets) (now ∙ ap Some (cond-false (is_below_touched by cur m.parent) (refreshed by cur online nodes m) m b))
                     ∙ sym (ap (option_map sets) at) ∙ ap (option_map sets) as_before ∙ ap (λ (q : ℕ). option_map sets (get mid q)) (sym e)
               ] refl

@@ -75,28 +75,27 @@ abbrev pub mems_kept : Option Cgroup → Ids
 mems_kept None = set.empty
 mems_kept (Some n) = n.effective_mems
 
--- the group with what it has in effect, if that is right of the others
-abbrev pub refreshed : Slab Cgroup → Ids → Ids → Cgroup → Cgroup
-refreshed s online nodes n = record n {
+-- the group with what it has in effect, if that is right of the others, for a write of the group of this serial
+abbrev pub refreshed : ℕ → Slab Cgroup → Ids → Ids → Cgroup → Cgroup
+refreshed by s online nodes n = record n {
   effective_cpus = standing n.parent n.cpus online (λ p. cpus_kept (get s p.key));
   effective_mems = standing n.parent n.mems nodes (λ p. mems_kept (get s p.key));
-  touched = true;
+  touched_by = by;
 }
 
--- whether there is a group that was brought up to date
-abbrev pub is_touched : Option Cgroup → Bool
-is_touched None = false
-is_touched (Some n) = n.touched
+-- whether there is a group that was brought up to date for a write of the group of this serial
+abbrev pub is_touched : ℕ → Option Cgroup → Bool
+is_touched by None = false
+is_touched by (Some n) = n.touched_by == by
 
--- whether the parent was brought up to date
-abbrev pub is_below_touched : Slab Cgroup → Option Group → Bool
-is_below_touched s None = false
-is_below_touched s (Some parent) = is_touched (get s parent.key)
+-- whether the parent was
+abbrev pub is_below_touched : ℕ → Slab Cgroup → Option Group → Bool
+is_below_touched by s None = false
+is_below_touched by s (Some parent) = is_touched by (get s parent.key)
 
 -- the group, brought up to date where its parent was
-abbrev pub passed : Slab Cgroup → Ids → Ids → Cgroup → Cgroup
-passed s online nodes n =
-    if is_below_touched s n.parent then refreshed s online nodes n else record n { touched = false }
+abbrev pub passed : ℕ → Slab Cgroup → Ids → Ids → Cgroup → Cgroup
+passed by s online nodes n = if is_below_touched by s n.parent then refreshed by s online nodes n else n
 
 -- what is kept of a group is what it is granted of what is kept of its parent
 pub record IsGranted (s : Slab Cgroup) (online nodes : Ids) (n : Cgroup) : Type 0 where
@@ -122,7 +121,7 @@ pub record ChangesAt (old new : Slab Cgroup) (key : ℕ) (f : Cgroup → Cgroup)
 
 -- a kept group without what is kept as effective
 abbrev pub bare : Cgroup → Cgroup
-bare n = record n { effective_cpus = set.empty; effective_mems = set.empty; touched = false }
+bare n = record n { effective_cpus = set.empty; effective_mems = set.empty; touched_by = 0 }
 
 -- the groups are the same, but for what is kept as effective
 abbrev pub OnlyKeptDiffers : Slab Cgroup → Slab Cgroup → Type 0

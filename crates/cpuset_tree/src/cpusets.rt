@@ -82,7 +82,7 @@ impl Tree {
             mems: IdSet::empty(),
             effective_cpus: online,
             effective_mems: nodes,
-            touched: false,
+            touched_by: SERIAL_LIMIT,
         });
         Ok(Tree {
             alloc,
@@ -209,7 +209,7 @@ impl Tree {
             mems: IdSet::empty(),
             effective_cpus: cpus,
             effective_mems: mems,
-            touched: false,
+            touched_by: SERIAL_LIMIT,
         });
         self.next_serial += 1;
         Ok(group)
@@ -293,7 +293,7 @@ impl Tree {
         refresh_from(
             &mut self.groups,
             &self.order,
-            group.key,
+            group,
             &self.online,
             &self.nodes,
         );
@@ -307,7 +307,7 @@ impl Tree {
         refresh_from(
             &mut self.groups,
             &self.order,
-            group.key,
+            group,
             &self.online,
             &self.nodes,
         );

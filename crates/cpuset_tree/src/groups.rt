@@ -25,8 +25,8 @@ pub struct Cgroup {
     pub mems: IdSet,
     pub effective_cpus: IdSet,
     pub effective_mems: IdSet,
-    // Whether the last write that went past the group brought it up to date.
-    pub touched: bool,
+    // The serial of the last written group that this one is, or is below, and that it was brought up to date for.
+    pub touched_by: u64,
 }
 
 impl Cgroup {

@@ -5,6 +5,7 @@ ghost use Rattle.slab.specs.Slab.{get};
 ghost use Rattle.cpuset_tree.specs.Effective.{standing};
 ghost use Rattle.cpuset_tree.specs.Kept.{cpus_kept, mems_kept, refreshed, is_below_touched as below_touched, passed, AllGrantedBut, ChangesAt, OnlyKeptDiffers, AllKept, IsOrder, behind};
 
+use crate::SERIAL_LIMIT;
 use crate::groups::{Cgroup, Group, granted_of};
 use cpu_set::IdSet;
 use slab::Slab;
@@ -45,9 +46,9 @@ fn standing_mems(groups: &Slab<Cgroup>, kept: &Cgroup, nodes: &IdSet) -> IdSet
     }
 }
 
-/// Brings one group up to date, whose parent is.
-fn refresh_group(groups: &mut Slab<Cgroup>, key: usize, online: &IdSet, nodes: &IdSet)
-    ensures { ChangesAt groups.old groups.new key (refreshed groups.old online.now nodes.now) }
+/// Brings one group up to date, whose parent is, for a write of the group of this serial.
+fn refresh_group(groups: &mut Slab<Cgroup>, key: usize, by: u64, online: &IdSet, nodes: &IdSet)
+    ensures { ChangesAt groups.old groups.new key (refreshed by groups.old online.now nodes.now) }
 {
     let Some(kept) = groups.get(key) else {
         return;
@@ -57,7 +58,7 @@ fn refresh_group(groups: &mut Slab<Cgroup>, key: usize, online: &IdSet, nodes: &
     if let Some(kept) = groups.get_mut(key) {
         kept.effective_cpus = cpus;
         kept.effective_mems = mems;
-        kept.touched = true;
+        kept.touched_by = by;
     }
 }
 
@@ -68,33 +69,31 @@ pub fn refresh(groups: &mut Slab<Cgroup>, order: &[usize], online: &IdSet, nodes
     ensures same { OnlyKeptDiffers groups.old groups.new }
 {
     for place in (0..order.len()).rev() {
-        refresh_group(groups, order[place], online, nodes);
+        refresh_group(groups, order[place], SERIAL_LIMIT, online, nodes);
     }
 }
 
-fn is_below_touched(groups: &Slab<Cgroup>, parent: Option<Group>) -> bool
-    ensures { result ≡ below_touched groups.now parent }
+fn is_below_touched(groups: &Slab<Cgroup>, parent: Option<Group>, by: u64) -> bool
+    ensures { result ≡ below_touched by groups.now parent }
 {
     match parent {
         None => false,
         Some(parent) => match groups.get(parent.key) {
             None => false,
-            Some(above) => above.touched,
+            Some(above) => above.touched_by == by,
         },
     }
 }
 
-/// Brings one group up to date where its parent was.
-fn pass_group(groups: &mut Slab<Cgroup>, key: usize, online: &IdSet, nodes: &IdSet)
-    ensures { ChangesAt groups.old groups.new key (passed groups.old online.now nodes.now) }
+/// Brings one group up to date where its parent was, for a write of the group of this serial.
+fn pass_group(groups: &mut Slab<Cgroup>, key: usize, by: u64, online: &IdSet, nodes: &IdSet)
+    ensures { ChangesAt groups.old groups.new key (passed by groups.old online.now nodes.now) }
 {
     let Some(kept) = groups.get(key) else {
         return;
     };
-    if is_below_touched(groups, kept.parent) {
-        refresh_group(groups, key, online, nodes);
-    } else if let Some(kept) = groups.get_mut(key) {
-        kept.touched = false;
+    if is_below_touched(groups, kept.parent, by) {
+        refresh_group(groups, key, by, online, nodes);
     }
 }
 
@@ -116,20 +115,20 @@ fn place_of(order: &[usize], key: usize) -> usize
 pub fn refresh_from(
     groups: &mut Slab<Cgroup>,
     order: &[usize],
-    key: usize,
+    group: Group,
     online: &IdSet,
     nodes: &IdSet,
 )
     requires in_order { IsOrder groups.old order.now }
-    requires there { list_any (λ k. k == key) order.now ≡ true }
-    requires kept { AllKept groups.old online.now nodes.now (behind key order.now) }
-    requires granted { AllGrantedBut groups.old online.now nodes.now key }
+    requires there { list_any (λ k. k == group.key) order.now ≡ true }
+    requires kept { AllKept groups.old online.now nodes.now (behind group.key order.now) }
+    requires granted { AllGrantedBut groups.old online.now nodes.now group.key }
     ensures kept { AllKept groups.new online.now nodes.now order.now }
     ensures same { OnlyKeptDiffers groups.old groups.new }
 {
-    refresh_group(groups, key, online, nodes);
-    let count = place_of(order, key);
+    refresh_group(groups, group.key, group.serial, online, nodes);
+    let count = place_of(order, group.key);
     for place in (0..count).rev() {
-        pass_group(groups, order[place], online, nodes);
+        pass_group(groups, order[place], group.serial, online, nodes);
     }
 }

@@ -4,26 +4,27 @@ use Rattle.slab.specs.Slab.{Slab}
 use Rattle.cpu_set.specs.Ids.{Ids}
 use Rattle.cpuset_tree.specs.declared.groups.Cgroup.{Cgroup}
 use Rattle.cpuset_tree.specs.Kept.{AllKept, IsOrder, OnlyKeptDiffers, ChangesAt, refreshed}
+use Rattle.cpuset_tree.specs.declared.TheConstants.{SERIAL_LIMIT}
 use Rattle.cpuset_tree.proofs.KeptLemmas.{AllKept-refreshed, IsOrder-drop}
 use Rattle.cpuset_tree.proofs.PlaceLemmas.{OnlyKeptDiffers-refreshed, SamePlaces-from_kept, IsOrder-same}
 use Rattle.cpuset_tree.proofs.refresh.refresh.Goals as goal
 
 -- one more group is brought up to date
 refreshed_step : (old new : Slab Cgroup) (online nodes : Ids) (keys : List ℕ) (place i : ℕ) → place ≡ i + 1 → i < length keys
-    → IsOrder old keys → AllKept old online nodes (drop place keys) → ChangesAt old new (get_or keys i 0) (refreshed old online nodes)
+    → IsOrder old keys → AllKept old online nodes (drop place keys) → ChangesAt old new (get_or keys i 0) (refreshed SERIAL_LIMIT old online nodes)
     → AllKept new online nodes (drop i keys)
 refreshed_step old new online nodes keys place i next within order kept change =
     let split : drop i keys ≡ get_or keys i 0 ∷ drop (i + 1) keys = drop_more keys i 0 within in
     let rest : IsOrder old (get_or keys i 0 ∷ drop (i + 1) keys) = subst (λ (l : List ℕ). IsOrder old l) split (IsOrder-drop old i keys order) in
     subst (λ (l : List ℕ). AllKept new online nodes l) (sym split)
-    (AllKept-refreshed old new online nodes rest.0 (get_or keys i 0) (drop (i + 1) keys) rest.1 change
+    (AllKept-refreshed SERIAL_LIMIT old new online nodes rest.0 (get_or keys i 0) (drop (i + 1) keys) rest.1 change
     (subst (λ (n : ℕ). AllKept old online nodes (drop n keys)) next kept))
 
 pub loop-place-preserved : goal.loop-place-preserved
 loop-place-preserved c =
     let old = c.loop-place.groups in
     let new = c.refresh_group.new.groups in
-    let differs : OnlyKeptDiffers old new = OnlyKeptDiffers-refreshed old new c.args.online.now c.args.nodes.now (get_or c.args.order.now (c.loop-place.place - 1) 0) c.refresh_group.ensures in (
+    let differs : OnlyKeptDiffers old new = OnlyKeptDiffers-refreshed SERIAL_LIMIT old new c.args.online.now c.args.nodes.now (get_or c.args.order.now (c.loop-place.place - 1) 0) c.refresh_group.ensures in (
       IsOrder-same old new (SamePlaces-from_kept old new differs) c.args.order.now c.loop-place.invariant.0,
       refreshed_step old new c.args.online.now c.args.nodes.now c.args.order.now c.loop-place.place (c.loop-place.place - 1) (omega arith) (omega arith) c.loop-place.invariant.0 c.loop-place.invariant.1 c.refresh_group.ensures,
       (λ key. differs key ∙ c.loop-place.invariant.2 key),

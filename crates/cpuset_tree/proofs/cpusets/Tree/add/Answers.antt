@@ -1,6 +1,7 @@
-use Rattle.std.proofs.Common.{false, ◌≡◌, ℕ, ◌+◌, List, ◌∷◌, sym, ap, ◌∙◌, refl, subst}
+use Rattle.std.proofs.Common.{◌≡◌, ℕ, ◌+◌, List, ◌∷◌, sym, ap, ◌∙◌, refl, subst}
 use Rattle.std.specs.Prelude.{Some, None, is_some, string_bytes}
 use Rattle.slab.specs.Slab.{Slab, get, Updates}
+use Rattle.cpuset_tree.specs.declared.TheConstants.{SERIAL_LIMIT}
 use Rattle.cpuset_tree.specs.declared.groups.Group.{Group}
 use Rattle.cpuset_tree.specs.declared.groups.Cgroup.{Cgroup}
 use Rattle.cpuset_tree.specs.TreeState.{TreeState}
@@ -32,7 +33,7 @@ invariant_of-self-2 c =
     let i = c.self.inside in
     let key = c.vacant_key.result in
     let g : Group = record { key = key; serial = i.next_serial } in
-    let n : Cgroup = record { group = g; parent = Some c.args.parent; name = c.args.name; cpus = c.empty.result; mems = c.empty-2.result; effective_cpus = c.args.cpus; effective_mems = c.args.mems; touched = false } in
+    let n : Cgroup = record { group = g; parent = Some c.args.parent; name = c.args.name; cpus = c.empty.result; mems = c.empty-2.result; effective_cpus = c.args.cpus; effective_mems = c.args.mems; touched_by = SERIAL_LIMIT } in
     let roomy : Slab Cgroup = record i.groups { capacity = c.reserve.new.self.capacity } in
     let kept : c.reserve.new.self ≡ roomy = c.in_ok-reserve.ensures.rest_kept in
     let updates : Updates c.reserve.new.self c.insert_reserved.new.self key (Some n) =
@@ -53,7 +54,7 @@ returns-clause-ok c =
     let i = c.self.inside in
     let key = c.vacant_key.result in
     let g : Group = record { key = key; serial = i.next_serial } in
-    let n : Cgroup = record { group = g; parent = Some c.args.parent; name = c.args.name; cpus = c.empty.result; mems = c.empty-2.result; effective_cpus = c.args.cpus; effective_mems = c.args.mems; touched = false } in
+    let n : Cgroup = record { group = g; parent = Some c.args.parent; name = c.args.name; cpus = c.empty.result; mems = c.empty-2.result; effective_cpus = c.args.cpus; effective_mems = c.args.mems; touched_by = SERIAL_LIMIT } in
     let roomy : Slab Cgroup = record i.groups { capacity = c.reserve.new.self.capacity } in
     let kept : c.reserve.new.self ≡ roomy = c.in_ok-reserve.ensures.rest_kept in
     let sound : IsSound roomy i.order.items i.online i.nodes i.root i.next_serial = IsSound-room i.groups c.reserve.new.self.capacity i.order.items i.online i.nodes i.root i.next_serial c.self.invariant in

@@ -5,6 +5,7 @@ use Rattle.std.proofs.lemmas.Option.{same_Some}
 use Rattle.std.specs.Prelude.{Option, Some, None, is_some, ◌==◌, slice_index_or}
 use Rattle.slab.specs.Slab.{Slab, get, Updates}
 use Rattle.cpu_set.specs.Ids.{Ids}
+use Rattle.cpuset_tree.specs.declared.TheConstants.{SERIAL_LIMIT}
 use Rattle.cpuset_tree.specs.declared.groups.Group.{Group}
 use Rattle.cpuset_tree.specs.declared.groups.Cgroup.{Cgroup}
 use Rattle.cpuset_tree.specs.TreeState.{GroupEntry}
@@ -54,7 +55,7 @@ pub invariant_of-result : goal.invariant_of-result
 invariant_of-result c =
     let key = c.vacant_key-key.result in
     let root : Group = record { key = key; serial = c.args.first_serial } in
-    let n : Cgroup = record { group = root; parent = None; name = c.new.result; cpus = c.empty.result; mems = c.empty-2.result; effective_cpus = c.args.online; effective_mems = c.args.nodes; touched = false } in
+    let n : Cgroup = record { group = root; parent = None; name = c.new.result; cpus = c.empty.result; mems = c.empty-2.result; effective_cpus = c.args.online; effective_mems = c.args.nodes; touched_by = SERIAL_LIMIT } in
     let items : c.push.new.self.items ≡ key ∷ [] = c.in_ok-push.ensures.items ∙ ap (λ (l : List ℕ). l ++ key ∷ []) c.new-order.ensures.items in
     subst (λ (l : List ℕ). IsSound c.insert_reserved.new.self l c.args.online c.args.nodes root (c.args.first_serial + 1)) (sym items)
     (first_sound c.reserve.new.self c.insert_reserved.new.self c.args.online c.args.nodes root n
@@ -66,7 +67,7 @@ pub returns : goal.returns
 returns c =
     let key = c.vacant_key-key.result in
     let root : Group = record { key = key; serial = c.args.first_serial } in
-    let n : Cgroup = record { group = root; parent = None; name = c.new.result; cpus = c.empty.result; mems = c.empty-2.result; effective_cpus = c.args.online; effective_mems = c.args.nodes; touched = false } in
+    let n : Cgroup = record { group = root; parent = None; name = c.new.result; cpus = c.empty.result; mems = c.empty-2.result; effective_cpus = c.args.online; effective_mems = c.args.nodes; touched_by = SERIAL_LIMIT } in
     let items : c.push.new.self.items ≡ key ∷ [] = c.in_ok-push.ensures.items ∙ ap (λ (l : List ℕ). l ++ key ∷ []) c.new-order.ensures.items in
     let changed : get c.insert_reserved.new.self key ≡ Some n =
     ap (λ (k : ℕ). get c.insert_reserved.new.self k) (c.vacant_key-key.ensures.value ∙ sym c.insert_reserved.ensures.key) ∙ c.insert_reserved.ensures.updates.changed in
