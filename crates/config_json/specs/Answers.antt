@@ -4,11 +4,6 @@ use Rattle.config_json.specs.declared.fault.ConfigFault.{ConfigFault}
 use Rattle.config_json.specs.declared.fault.ConfigError.{ConfigError}
 use Rattle.config_json.specs.declared.fault.ConfigError.TheVariants.{Memory, Fault}
 
--- the fault of a check that takes no memory
-abbrev pub fault_of : {A : Type 0} → Result A ConfigFault → Option ConfigFault
-fault_of (Ok x) = None
-fault_of (Err e) = Some e
-
 -- the fault that is answered, where memory sufficed
 abbrev pub Meets : {A : Type 0} → Result A ConfigError → Option ConfigFault → Type 0
 Meets (Ok x) fault = fault ≡ None

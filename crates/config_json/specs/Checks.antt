@@ -1,5 +1,6 @@
 -- The two checks that a member may fail: it is required and absent, or it is of another kind than its reader takes.
-use Rattle.std.specs.Prelude.{ℕ, ℤ, Option, Some, None, is_some, option_and_then, cond}
+use Rattle.std.specs.Prelude.{ℕ, ℤ, Option, Some, None, is_some, not, option_and_then}
+use Rattle.faults.specs.First.{when}
 use Rattle.serde_json.specs.Data.{Data}
 use Rattle.serde_json.specs.Find.{as_number, as_i64, as_u64}
 use Rattle.config_json.specs.declared.fault.ConfigFault.{ConfigFault}
@@ -21,7 +22,7 @@ missing_fault field (Some d) = None
 
 -- a value is not of the kind that the reader takes
 abbrev pub other_kind : {A : Type 0} → Field → (Data → Option A) → Data → Option ConfigFault
-other_kind field reader d = cond (is_some (reader d)) None (Some (BadField field))
+other_kind field reader d = when (not (is_some (reader d))) (BadField field)
 
 -- a member is there, and is not of the kind that the reader takes
 abbrev pub kind_fault : {A : Type 0} → Field → (Data → Option A) → Option Data → Option ConfigFault

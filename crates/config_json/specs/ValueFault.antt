@@ -10,13 +10,13 @@ use Rattle.config_json.specs.Members.{version_of, root_of, root_path_of, linux_o
 use Rattle.config_json.specs.Checks.{signed_of, unsigned_of, missing_fault, kind_fault}
 use Rattle.config_json.specs.VersionFault.{version_fault_of}
 
+-- the version of the specification is not there, or is no text
+abbrev pub version_kind_fault : Data → Option ConfigFault
+version_kind_fault d = first_of (missing_fault OciVersion (version_of d) ∷ kind_fault OciVersion as_str (version_of d) ∷ [])
+
 -- the version of the specification: there, a text, and one that is read
 unfoldable pub oci_version_fault : Data → Option ConfigFault
-oci_version_fault d = first_of (
-    missing_fault OciVersion (version_of d)
-    ∷ kind_fault OciVersion as_str (version_of d)
-    ∷ version_fault_of (option_and_then as_str (version_of d))
-    ∷ [])
+oci_version_fault d = first_of (version_kind_fault d ∷ version_fault_of (option_and_then as_str (version_of d)) ∷ [])
 
 -- the root filesystem: an object with a path
 unfoldable pub root_fault : Data → Option ConfigFault
@@ -38,6 +38,10 @@ cpu_fault d = first_of (
     ∷ kind_fault Cpus as_str (cpu_member (codes "cpus") d)
     ∷ kind_fault Mems as_str (cpu_member (codes "mems") d)
     ∷ [])
+
+-- what may be wrong before the text of the version is read; nothing until then asks for memory
+abbrev pub early_fault : Data → Option ConfigFault
+early_fault d = first_of (when (not (is_some (as_object d))) NotObject ∷ version_kind_fault d ∷ [])
 
 -- the first fault of a value
 abbrev pub value_fault : Data → Option ConfigFault

@@ -1,5 +1,6 @@
 -- Which versions of the specification are read: SemVer 2.0.0 text with major number 1.
-use Rattle.std.specs.Prelude.{◌≡◌, ℕ, ◌==◌, Bool, false, length, IsOk, List, Option, Some, None, Result, Ok, Err, cond}
+use Rattle.std.specs.Prelude.{◌≡◌, ℕ, ◌==◌, Bool, false, length, IsOk, List, Option, Some, None, Result, Ok, Err, not}
+use Rattle.faults.specs.First.{when}
 use Rattle.semver.specs.Parse.{Parts, version_parts}
 use Rattle.config_json.specs.declared.fault.ConfigFault.{ConfigFault}
 use Rattle.config_json.specs.declared.fault.ConfigFault.TheVariants.{BadVersion}
@@ -11,7 +12,7 @@ is_major_one (Err e) = false
 
 -- the text is no version, or one with another major number
 abbrev pub version_fault : List ℕ → Option ConfigFault
-version_fault text = cond (is_major_one (version_parts text)) None (Some BadVersion)
+version_fault text = when (not (is_major_one (version_parts text))) BadVersion
 
 -- the same of a text that may be absent
 abbrev pub version_fault_of : Option (List ℕ) → Option ConfigFault

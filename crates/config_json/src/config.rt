@@ -1,11 +1,12 @@
-ghost use Rattle.std.specs.Prelude.{◌≡◌, ◌<◌, ◌≤◌, length, IsErrOf, is_some};
+ghost use Rattle.std.specs.Prelude.{◌≡◌, ◌<◌, ◌≤◌, length, None, Some, IsErrOf, is_some};
+ghost use Rattle.std.specs.Result.{result_err};
 ghost use Rattle.std.specs.List.{list_all};
 ghost use Rattle.serde_json.specs.Find.{as_str};
 ghost use Rattle.serde_json.specs.View.{view, items_view};
-ghost use Rattle.config_json.specs.ConfigOf.{config_of};
+ghost use Rattle.config_json.specs.ConfigOf.{answer_to, config_of};
 ghost use Rattle.config_json.specs.IsRunnable.{are_words, is_runnable};
-ghost use Rattle.config_json.specs.ValueFault.{root_fault};
-ghost use Rattle.config_json.specs.Answers.{Gives, fault_of};
+ghost use Rattle.config_json.specs.ValueFault.{early_fault, root_fault};
+ghost use Rattle.config_json.specs.Answers.{Gives};
 
 use crate::cpu_section::{CpuSection, Found};
 use crate::fault::{ConfigError, ConfigFault};
@@ -48,24 +49,32 @@ impl Config {
         if bytes.len() > MAX_BYTES {
             return Err(ConfigError::Fault(ConfigFault::TooLong));
         }
-        let value = parse(alloc, bytes)?;
+        Config::of(alloc, &parse(alloc, bytes)?)
+    }
+
+    /// What a JSON value says. Memory is asked for by some versions, and by the texts of a value without fault.
+    #[tactic(auto, unfolding(crate::specs::ValueFault::oci_version_fault))]
+    fn of(alloc: Global, value: &Value) -> Result<Config, ConfigError>
+        ensures value { Gives result (answer_to (Some (view value.now))) }
+        ensures memory { IsErrOf result ConfigError.Memory → early_fault (view value.now) ≡ None }
+    {
         if !value.is_object() {
             return Err(ConfigError::Fault(ConfigFault::NotObject));
         }
-        check_version(alloc, &value)?;
-        check_root(&value)?;
-        let found = Found::of(&value)?;
+        check_version(alloc, value)?;
+        check_root(value)?;
+        let found = Found::of(value)?;
         Ok(Config {
-            runnable: runnable(&value),
+            runnable: runnable(value),
             cpu: found.to_section(alloc)?,
         })
     }
 }
 
-// Checks `root` and `root.path`.
+/// Checks `root` and `root.path`.
 #[tactic(auto, unfolding(crate::specs::ValueFault::root_fault))]
 fn check_root(value: &Value) -> Result<(), ConfigFault>
-    ensures { root_fault (view value.now) ≡ fault_of result }
+    ensures { root_fault (view value.now) ≡ result_err result }
 {
     let root = required(member(value, "root"), Field::Root)?;
     check_object(root, Field::Root)?;
@@ -74,14 +83,14 @@ fn check_root(value: &Value) -> Result<(), ConfigFault>
     Ok(())
 }
 
-// Whether each value is a text.
+/// Whether each value is a text.
 fn are_texts(values: &[Value]) -> bool
     ensures { result ≡ list_all (λ v. is_some (as_str (view v))) values.now }
 {
     values.iter().all(|value| value.is_string())
 }
 
-// Whether there is a value, and each is a text.
+/// Whether there is a value, and each is a text.
 #[tactic(auto, using(crate::proofs::Words::word_tests))]
 fn are_words(values: &[Value]) -> bool
     ensures { result ≡ are_words (items_view values.now) }
@@ -89,7 +98,7 @@ fn are_words(values: &[Value]) -> bool
     !values.is_empty() && are_texts(values)
 }
 
-// Whether `process.args` is an array of one text or more.
+/// Whether `process.args` is an array of one text or more.
 fn runnable(value: &Value) -> bool
     ensures { result ≡ is_runnable (view value.now) }
 {

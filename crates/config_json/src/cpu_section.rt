@@ -1,8 +1,8 @@
 ghost use Rattle.std.specs.Prelude.{◌≡◌, IfOk, option_map, string_bytes};
+ghost use Rattle.std.specs.Result.{result_err};
 ghost use Rattle.serde_json.specs.View.{view};
 ghost use Rattle.config_json.specs.SectionOf.{section_of};
 ghost use Rattle.config_json.specs.ValueFault.{cpu_fault};
-ghost use Rattle.config_json.specs.Answers.{fault_of};
 
 use crate::fault::ConfigFault;
 use crate::field::Field;
@@ -39,7 +39,7 @@ impl Model for CpuSection {
     } };
 }
 
-// The same members as they were found, with the texts still in the JSON value.
+/// The same members as they were found, with the texts still in the JSON value.
 #[derive(Drop)]
 pub(crate) struct Found<'v> {
     quota: Option<i64>,
@@ -51,10 +51,10 @@ pub(crate) struct Found<'v> {
 impl Found<'_> {
     ghost use Rattle.config_json.specs.FoundView.{found_view};
 
-    // Looks the members up, and checks what leads to them and then each of them.
+    /// Looks the members up, and checks what leads to them and then each of them.
     #[tactic(auto, unfolding(crate::specs::ValueFault::cpu_fault))]
     pub(crate) fn of(config: &Value) -> Result<Found<'_>, ConfigFault>
-        ensures fault { cpu_fault (view config.now) ≡ fault_of result }
+        ensures fault { cpu_fault (view config.now) ≡ result_err result }
         ensures value { IfOk result (λ found. found_view found ≡ section_of (view config.now)) }
     {
         let linux = member(config, "linux");
@@ -71,7 +71,7 @@ impl Found<'_> {
         })
     }
 
-    // The section, with the texts copied.
+    /// The section, with the texts copied.
     pub(crate) fn to_section(&self, alloc: Global) -> Result<CpuSection, AllocError>
         ensures { IfOk result (λ section. section ≡ found_view self.now) }
     {
@@ -84,7 +84,7 @@ impl Found<'_> {
     }
 }
 
-// A copy of a text that may be absent.
+/// A copy of a text that may be absent.
 fn copied(alloc: Global, text: Option<&str>) -> Result<Option<String>, AllocError>
     ensures { IfOk result (λ copy. option_map string_bytes copy ≡ option_map (λ t. t.now) text.entry) }
 {

@@ -1,11 +1,11 @@
-use super::{Config, MAX_BYTES};
+use super::Config;
 use crate::fault::{ConfigError, ConfigFault};
 use crate::field::Field;
 use std::alloc::{AllocError, Global};
 use std::process::Abort;
 use std::test::Fail;
 
-// The fault of a text that is refused.
+/// The fault of a text that is refused.
 fn fault_of(rt: &impl Abort, alloc: Global, bytes: &[u8]) -> Option<ConfigFault> {
     match Config::read(alloc, bytes) {
         Ok(_) => None,
@@ -14,14 +14,14 @@ fn fault_of(rt: &impl Abort, alloc: Global, bytes: &[u8]) -> Option<ConfigFault>
     }
 }
 
-// A config with this text as its CPU section.
+/// A config with this text as its CPU section.
 fn with_cpu(alloc: Global, cpu: &str) -> Result<String, AllocError> {
     format!(in alloc;
         "{{\"ociVersion\":\"1.0.2\",\"root\":{{\"path\":\"r\"}},\"linux\":{{\"resources\":{{\"cpu\":{cpu}}}}}}}"
     )
 }
 
-// A config with an ignored member that holds arrays in one another.
+/// A config with an ignored member that holds arrays in one another.
 fn nested(alloc: Global, depth: usize) -> Result<String, AllocError> {
     let mut text = String::from_str(
         alloc,
@@ -95,6 +95,10 @@ fn version_and_root_are_required(rt: HostRuntime) -> Result<(), Fail> {
         ),
         (
             "{\"ociVersion\":\"1.0.2\",\"root\":null}",
+            ConfigFault::Missing(Field::Root),
+        ),
+        (
+            "{\"ociVersion\":\"1.0.2\",\"linux\":7}",
             ConfigFault::Missing(Field::Root),
         ),
         (
@@ -350,7 +354,7 @@ fn depth_and_length(rt: HostRuntime) -> Result<(), Fail> {
             "{end}"
         );
     }
-    for _ in text.len()..MAX_BYTES {
+    for _ in text.len()..1_048_576 {
         text.push(' ')?;
     }
     assert_eq!(rt; fault_of(&rt, alloc, text.as_bytes()), None);
@@ -366,8 +370,14 @@ fn depth_and_length(rt: HostRuntime) -> Result<(), Fail> {
 fn paths_of_members(rt: HostRuntime) {
     let paths = [
         (Field::OciVersion, "ociVersion"),
+        (Field::Root, "root"),
         (Field::RootPath, "root.path"),
+        (Field::Linux, "linux"),
+        (Field::Resources, "linux.resources"),
+        (Field::Cpu, "linux.resources.cpu"),
         (Field::Quota, "linux.resources.cpu.quota"),
+        (Field::Period, "linux.resources.cpu.period"),
+        (Field::Cpus, "linux.resources.cpu.cpus"),
         (Field::Mems, "linux.resources.cpu.mems"),
     ];
     for (field, path) in paths {
