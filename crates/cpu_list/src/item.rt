@@ -1,16 +1,16 @@
-// One item of a list: a number, or a range of two with a hyphen between.
+//! One item of a list: a number, or a range of two with a hyphen between.
 ghost use Rattle.std.specs.Prelude.{◌≡◌, ◌≤◌, ◌<◌, min, length, option_map, position};
 ghost use Rattle.cpu_list.specs.ListText.{is_blank, is_comma, is_hyphen, indent, trim_end, item_of, number_of, range_of};
 ghost use Rattle.std.specs.List.{before_first};
 
-// A space, a tab or a line feed.
+/// A space, a tab or a line feed.
 fn is_blank(byte: u8) -> bool
     ensures { result ≡ is_blank byte }
 {
     byte == b' ' || byte == b'\t' || byte == b'\n'
 }
 
-// The text up to its first comma.
+/// The text up to its first comma.
 pub(crate) fn first_piece(text: &[u8]) -> &[u8]
     ensures { result.now ≡ before_first is_comma text.now }
 {
@@ -22,7 +22,7 @@ pub(crate) fn first_piece(text: &[u8]) -> &[u8]
     text
 }
 
-// How many blanks stand before the first byte of the piece's item.
+/// How many blanks stand before the first byte of the piece's item.
 pub(crate) fn indent(piece: &[u8]) -> usize
     ensures value { result ≡ indent piece.now }
     ensures within { result ≤ length piece.now }
@@ -45,7 +45,7 @@ fn trim_end(piece: &[u8]) -> &[u8]
     &piece[..end]
 }
 
-// The piece without the blanks round it.
+/// The piece without the blanks round it.
 #[tactic(auto, unfolding(crate::specs::ListText::item_of))]
 pub(crate) fn item_of(piece: &[u8]) -> &[u8]
     ensures { result.now ≡ item_of piece.now }
@@ -53,7 +53,7 @@ pub(crate) fn item_of(piece: &[u8]) -> &[u8]
     trim_end(&piece[indent(piece)..])
 }
 
-// The number that the digits write, or the limit where it isn't below that.
+/// The number that the digits write, or the limit where it isn't below that.
 #[tactic(auto, unfolding(crate::specs::ListText::number_of))]
 fn read_number(digits: &[u8], limit: u16) -> Option<u16>
     ensures { result ≡ option_map (min limit) (number_of digits.now) }
@@ -77,7 +77,7 @@ fn hyphen_in(item: &[u8]) -> Option<usize>
     item.iter().position(|byte| *byte == b'-')
 }
 
-// The first and the last number of an item, each the limit where it isn't below that.
+/// The first and the last number of an item, each the limit where it isn't below that.
 #[tactic(auto, unfolding(crate::specs::ListText::range_of))]
 pub(crate) fn read_range(item: &[u8], limit: u16) -> Option<(u16, u16)>
     ensures { result ≡ option_map (λ r. (min limit r.0, min limit r.1)) (range_of item.now) }

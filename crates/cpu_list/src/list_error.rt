@@ -1,4 +1,4 @@
-// What is wrong with a text that is no list, and where.
+//! What is wrong with a text that is no list, and where.
 
 /// Why an item is no part of a list. Of several causes that stand the first in this order is named.
 #[derive(Clone, Copy, Debug, PartialEq, Eq)]

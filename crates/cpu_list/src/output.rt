@@ -1,4 +1,4 @@
-// Bytes to a writer, where a fault has to say how far they came.
+//! Bytes to a writer, where a fault has to say how far they came.
 ghost use Rattle.cpu_list.specs.Output.{Writes};
 
 use std::io;

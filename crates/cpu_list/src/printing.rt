@@ -1,4 +1,4 @@
-// A set as text, in memory.
+//! A set as text, in memory.
 ghost use Rattle.std.specs.Prelude.{◌≡◌, ◌++◌, IfOk, OnOk, decimal, string_bytes};
 ghost use Rattle.cpu_list.specs.CanonicalList.{range_text, list_text};
 

@@ -1,4 +1,4 @@
-// A set of numbers from a text.
+//! A set of numbers from a text.
 ghost use Rattle.std.specs.Prelude.{◌≡◌, ℕ, ◌<◌, ◌≤◌, ◌||◌, Some, None, OnOk, IfErr, MatchResult};
 ghost use Rattle.std.specs.FinSet as finset;
 ghost use Rattle.cpu_set.specs.Members.{IsCpu};
@@ -19,7 +19,7 @@ fn insert_range(set: &mut IdSet, first: u16, last: u16)
     }
 }
 
-// Adds what one piece of a list names.
+/// Adds what one piece of a list names.
 fn add_piece(set: &mut IdSet, piece: &[u8], limit: u16) -> Result<(), ListErrorKind>
     requires { limit ≤ CPU_LIMIT }
     ensures right { OnOk result (item_fault limit (item_of piece.now) ≡ None) }

@@ -1,4 +1,4 @@
-// A set as text, to a writer.
+//! A set as text, to a writer.
 ghost use Rattle.std.specs.Prelude.{◌≡◌, ◌≤◌, ◌++◌, decimal};
 ghost use Rattle.cpu_list.specs.CanonicalList.{range_text, list_text};
 ghost use Rattle.cpu_list.specs.Output.{Writes};

@@ -25,7 +25,7 @@ pub struct Cgroup {
     pub mems: IdSet,
     pub effective_cpus: IdSet,
     pub effective_mems: IdSet,
-    // The serial of the last written group that this one is, or is below, and that it was brought up to date for.
+    /// The serial of the last written group that this one is, or is below, and that it was brought up to date for.
     pub touched_by: u64,
 }
 

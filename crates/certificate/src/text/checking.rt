@@ -58,7 +58,7 @@ fn read_and_check(alloc: Global, text: &[u8]) -> Result<Verdict, VerdictError>
     }
 }
 
-// Checks the plan, and the total that is written with it.
+/// Checks the plan, and the total that is written with it.
 fn check(certificate: &Certificate) -> Result<Verdict, CheckFault>
     ensures proved { IfOk result (λ v. IsProvedCertificate certificate.now v) }
     ensures fault { certificate_fault certificate.now ≡ result_err result }

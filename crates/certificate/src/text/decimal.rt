@@ -19,7 +19,7 @@ pub fn read_u64(word: &[u8]) -> Option<u64>
     Some(number)
 }
 
-// The number with one more digit behind it.
+/// The number with one more digit behind it.
 fn with_digit(number: u64, digit: u8) -> Option<u64>
     ensures { SomeIff result ((is_ascii_digit digit ≡ true) × (number * 10 + digit_value digit < 2 ^ 64)) (number * 10 + digit_value digit) }
 {

@@ -73,7 +73,7 @@ impl Draft {
         Ok(())
     }
 
-    // Whether the first row that has no set yet is of this id.
+    /// Whether the first row that has no set yet is of this id.
     fn awaits(&self, id: &[u8]) -> bool
         ensures { result ≡ is_id_of id.now (slice_get self.now.rows.items (length self.now.sets.items)) }
     {
@@ -98,7 +98,7 @@ impl Draft {
         Ok(())
     }
 
-    // Whether each row has its set and value.
+    /// Whether each row has its set and value.
     fn is_held(&self) -> bool
         ensures { result ≡ is_held (draft_view self.now) }
     {

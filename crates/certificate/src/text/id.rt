@@ -33,7 +33,7 @@ fn is_letter(byte: u8) -> bool
     byte.is_ascii_alphanumeric() || matches!(byte, b'_' | b'-' | b'.' | b'+')
 }
 
-// The id that the word is.
+/// The id that the word is.
 pub fn read_id(alloc: Global, word: &[u8]) -> Result<String, LineFault>
     ensures ok { IfOk result (λ id. IsId word.now × (string_bytes id ≡ word.now)) }
     ensures bad { IfErr result (λ fault. fault ≡ LineFault.Bad → IsId word.now → ⊥) }

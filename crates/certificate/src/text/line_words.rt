@@ -15,7 +15,7 @@ use crate::{Price, Row};
 use cpu_set::IdSet;
 use std::alloc::Global;
 
-// ID DEMAND, and offers.
+/// ID DEMAND, and offers.
 pub fn read_row(alloc: Global, text: &[u8]) -> Result<Row, LineFault>
     ensures ok { IfOk result (λ row. AreRowWords (words text.now) row) }
     ensures bad { IfErr result (λ fault. fault ≡ LineFault.Bad → (row : RowView) → AreRowWords (words text.now) row → ⊥) }
@@ -46,7 +46,7 @@ pub struct Hold<'a> {
     pub value: u64,
 }
 
-// ID LIST VALUE.
+/// ID LIST VALUE.
 pub fn read_hold(text: &[u8]) -> Option<Hold<'_>>
     ensures { MatchOption result ((id : List ℕ) (cpus : Ids) (value : ℕ) → AreHoldWords (words text.now) id cpus value → ⊥)
         (λ hold. AreHoldWords (words text.now) hold.id.now hold.cpus hold.value) }
@@ -57,7 +57,7 @@ pub fn read_hold(text: &[u8]) -> Option<Hold<'_>>
     Some(Hold { id, cpus, value })
 }
 
-// AMOUNT LIST.
+/// AMOUNT LIST.
 pub fn read_price(text: &[u8]) -> Option<Price>
     ensures { MatchOption result ((price : Price) → ArePriceWords (words text.now) price → ⊥) (λ price. ArePriceWords (words text.now) price) }
 {
@@ -67,7 +67,7 @@ pub fn read_price(text: &[u8]) -> Option<Price>
     Some(Price { amount, cpus })
 }
 
-// TOTAL.
+/// TOTAL.
 pub fn read_total(text: &[u8]) -> Option<u64>
     ensures { MatchOption result ((total : ℕ) → AreTotalWords (words text.now) total → ⊥) (λ total. AreTotalWords (words text.now) total) }
 {

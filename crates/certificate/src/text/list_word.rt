@@ -4,7 +4,7 @@ ghost use Rattle.certificate.specs.ListWord.{IsListWord};
 
 use cpu_set::{CPU_LIMIT, IdSet};
 
-// The CPUs that the word names as a list, one at least.
+/// The CPUs that the word names as a list, one at least.
 pub fn read_cpus(word: &[u8]) -> Option<IdSet>
     ensures { MatchOption result ((cpus : Ids) → IsListWord word.now cpus → ⊥) (λ cpus. IsListWord word.now cpus) }
 {

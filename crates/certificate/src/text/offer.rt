@@ -11,7 +11,7 @@ use super::word_pairs::two;
 use crate::Offer;
 use std::alloc::Global;
 
-// The offer that the word WEIGHT:LIST spells.
+/// The offer that the word WEIGHT:LIST spells.
 fn read_offer(word: &[u8]) -> Option<Offer>
     ensures { MatchOption result ((o : Offer) → IsOfferWord word.now o → ⊥) (λ o. IsOfferWord word.now o) }
 {
@@ -21,7 +21,7 @@ fn read_offer(word: &[u8]) -> Option<Offer>
     Some(Offer { weight, cpus })
 }
 
-// The offers that the words of the text spell, one each.
+/// The offers that the words of the text spell, one each.
 pub fn read_offers(alloc: Global, text: &[u8]) -> Result<Vec<Offer>, LineFault>
     ensures ok { IfOk result (λ offers. AllZip IsOfferWord (words text.now) offers.items) }
     ensures bad { IfErr result (λ fault. fault ≡ LineFault.Bad → (os : List Offer) → AllZip IsOfferWord (words text.now) os → ⊥) }

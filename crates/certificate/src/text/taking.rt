@@ -12,7 +12,7 @@ use super::line_fault::LineFault;
 use super::line_words::{read_hold, read_price, read_row, read_total};
 use std::alloc::Global;
 
-// Adds what the words after `row` say.
+/// Adds what the words after `row` say.
 fn take_row(alloc: Global, draft: &mut Draft, text: &[u8]) -> Result<(), LineFault>
     requires { KnowsIds draft.old }
     ensures ids { OnOk result (KnowsIds draft.new) }
@@ -24,7 +24,7 @@ fn take_row(alloc: Global, draft: &mut Draft, text: &[u8]) -> Result<(), LineFau
     draft.add_row(read_row(alloc, text)?)
 }
 
-// Adds what the words after `hold` say.
+/// Adds what the words after `hold` say.
 fn take_hold(draft: &mut Draft, text: &[u8]) -> Result<(), LineFault>
     requires { KnowsIds draft.old }
     ensures ids { OnOk result (KnowsIds draft.new) }
@@ -39,7 +39,7 @@ fn take_hold(draft: &mut Draft, text: &[u8]) -> Result<(), LineFault>
     draft.add_hold(hold.id, hold.cpus, hold.value)
 }
 
-// Adds what the words after `price` say.
+/// Adds what the words after `price` say.
 fn take_price(draft: &mut Draft, text: &[u8]) -> Result<(), LineFault>
     requires { KnowsIds draft.old }
     ensures ids { OnOk result (KnowsIds draft.new) }
@@ -54,7 +54,7 @@ fn take_price(draft: &mut Draft, text: &[u8]) -> Result<(), LineFault>
     draft.add_price(price)
 }
 
-// Adds what the words after `total` say.
+/// Adds what the words after `total` say.
 fn take_total(draft: &mut Draft, text: &[u8]) -> Result<(), LineFault>
     requires { KnowsIds draft.old }
     ensures ids { OnOk result (KnowsIds draft.new) }
@@ -69,7 +69,7 @@ fn take_total(draft: &mut Draft, text: &[u8]) -> Result<(), LineFault>
     draft.add_total(total)
 }
 
-// Adds what a line between the header and the last line says.
+/// Adds what a line between the header and the last line says.
 fn take_in_body(alloc: Global, draft: &mut Draft, line: &[u8]) -> Result<(), LineFault>
     requires { KnowsIds draft.old }
     ensures ids { OnOk result (KnowsIds draft.new) }

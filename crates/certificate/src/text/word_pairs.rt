@@ -3,7 +3,7 @@ ghost use Rattle.certificate.specs.Parts.{parts};
 
 use super::cut::cut;
 
-// The two parts of a text round its one separator.
+/// The two parts of a text round its one separator.
 pub fn two(text: &[u8], separator: u8) -> Option<(&[u8], &[u8])>
     ensures { MatchOption result ((a b : List ℕ) → parts separator text.now ≡ a ∷ b ∷ [] → ⊥) (λ p. parts separator text.now ≡ p.0.now ∷ p.1.now ∷ []) }
 {
@@ -14,7 +14,7 @@ pub fn two(text: &[u8], separator: u8) -> Option<(&[u8], &[u8])>
     }
 }
 
-// The three parts of a text round its two separators.
+/// The three parts of a text round its two separators.
 pub fn three(text: &[u8], separator: u8) -> Option<(&[u8], &[u8], &[u8])>
     ensures { MatchOption result ((a b d : List ℕ) → parts separator text.now ≡ a ∷ b ∷ d ∷ [] → ⊥) (λ p. parts separator text.now ≡ p.0.now ∷ p.1.now ∷ p.2.now ∷ []) }
 {
