@@ -1,14 +1,29 @@
-//! Prints what bundles ask for on a machine, a line for each config: `ask MACHINE CONFIG..`.
-#![tactic(auto)]
+//! What bundles ask for on a machine.
 
 use anyhow::{Context, Result, bail};
 use config_json::Config;
 use demand::{Demand, Kind};
 use machine::Machine;
 use std::alloc::{AllocError, Global};
-use std::{env, fs};
+use std::fs;
+use std::rt::Files;
 
-// What a config asks for on the machine, in words.
+/// Prints, for each config that is named after the machine file, what its container asks for there.
+pub fn bundles<R: AllocGlobal + Files + Print>(rt: &R, paths: &[String]) -> Result<()> {
+    let (path, configs) = paths.split_first().context("ask MACHINE CONFIG..")?;
+    let text = fs::read(rt, path.as_str())?;
+    let Ok(machine) = Machine::read(rt.alloc(), text.as_slice(), None) else {
+        bail!("{path} is no machine");
+    };
+    for path in configs {
+        let bytes = fs::read(rt, path.as_str())?;
+        let answer = answer(rt.alloc(), &machine, bytes.as_slice())?;
+        println!(rt; "{path}: {answer}")?;
+    }
+    Ok(())
+}
+
+/// What a config asks for on the machine, in words.
 fn answer(alloc: Global, machine: &Machine, bytes: &[u8]) -> Result<String, AllocError> {
     let config = match Config::read(alloc, bytes) {
         Ok(config) => config,
@@ -18,7 +33,11 @@ fn answer(alloc: Global, machine: &Machine, bytes: &[u8]) -> Result<String, Allo
         Ok(demand) => demand,
         Err(e) => return format!(in alloc; "refused {e:?}"),
     };
-    let start = if config.runnable { "runnable" } else { "not runnable" };
+    let start = if config.runnable {
+        "runnable"
+    } else {
+        "not runnable"
+    };
     let homes = cpu_list::print(alloc, &demand.homes)?;
     match demand.kind {
         Kind::Shared => format!(in alloc; "{start}, shared, homes {homes}"),
@@ -27,19 +46,4 @@ fn answer(alloc: Global, machine: &Machine, bytes: &[u8]) -> Result<String, Allo
             format!(in alloc; "{start}, pinned {count}, allowed {allowed}, homes {homes}")
         }
     }
-}
-
-fn main(rt: HostRuntime) -> Result<()> {
-    let mut words = env::args(&rt)?.skip(1);
-    let path = words.next().context("ask MACHINE CONFIG..")?;
-    let text = fs::read(&rt, path.as_str())?;
-    let Ok(machine) = Machine::read(rt.alloc(), text.as_slice(), None) else {
-        bail!("{path} is no machine");
-    };
-    for path in words {
-        let bytes = fs::read(&rt, path.as_str())?;
-        let answer = answer(rt.alloc(), &machine, bytes.as_slice())?;
-        println!(rt; "{path}: {answer}")?;
-    }
-    Ok(())
 }

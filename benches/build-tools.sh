@@ -1,0 +1,13 @@
+# Builds the program `tools`, and names it.
+tools_crate=$(cd "$(dirname "${BASH_SOURCE[0]}")/../crates/tools" && pwd)
+(cd "$tools_crate" && rt run -- lists 3 >/dev/null) || exit 1
+tools=$tools_crate/out/tools
+
+# timed LABEL COMMAND..: runs the command, and prints what it took
+TIMEFORMAT='%3R s'
+timed() {
+    local label=$1
+    shift
+    printf '%s: ' "$label"
+    time "$@" >/dev/null
+}

@@ -1,0 +1,19 @@
+#!/usr/bin/env bash
+# Times the readers of machine files, lists and configs, beside common tools.
+set -eu
+here=$(cd "$(dirname "$0")" && pwd)
+. "$here/../build-tools.sh"
+work=$(mktemp -d)
+trap 'rm -rf "$work"' EXIT
+
+python3 "$here/inputs.py" "$work"
+ls -l "$work" | awk 'NR > 1 { print $9 ": " $5 " bytes" }'
+timed 'machine file, read 100 times' "$tools" machine 100 <"$work/machine.json"
+timed 'config of 1 MiB, read 10 times' "$tools" config 10 <"$work/config.json"
+timed 'set of 512 CPUs, printed and read 100,000 times' "$tools" lists 100000
+if command -v jq >/dev/null; then
+    timed 'jq . on the config, 10 times' bash -c 'for i in {1..10}; do jq . "$1"; done' - "$work/config.json"
+fi
+if command -v hwloc-calc >/dev/null; then
+    timed 'hwloc-calc, 100 lists of 512 CPUs' hwloc-calc --input pu:1024 -q <"$work/lists"
+fi
