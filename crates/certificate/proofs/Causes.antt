@@ -1,24 +1,23 @@
 -- Each fault has its cause.
-use Rattle.std.proofs.Common.{◌≡◌, ◌≢◌, ◌⊎◌, ℕ, zero, suc, ◌+◌, ◌<◌, ◌≤◌, Bool, true, false, cond, not, ◌&&◌, Option, Some, None, option_map, option_and_then, is_some, IsSome, List, [], ◌∷◌, length, take, get_or, refl, sym, ap, ◌∙◌, subst, inl, inr, arith, All, slice_get, nat_eq, nat_lt}
+use Rattle.std.proofs.Common.{◌≡◌, ◌⊎◌, ℕ, zero, suc, ◌+◌, ◌<◌, ◌≤◌, Bool, true, false, not, ◌&&◌, Option, Some, None, option_map, option_and_then, is_some, List, [], ◌∷◌, length, take, get_or, refl, sym, ◌∙◌, subst, inl, inr, arith, All, slice_get, nat_eq, nat_lt}
 use Rattle.std.specs.List.{AllZip, AllPairs}
 use Rattle.std.specs.Option.{option_or, option_zip, option_map_or}
 use Rattle.std.specs.FinSet as set
-use Rattle.std.proofs.lemmas.Bool.{eqb-true, eqb-false, ltb-false, ltb-true, cases_lt}
+use Rattle.std.proofs.lemmas.Bool.{eqb-true, eqb-false, ltb-false, ltb-true}
 use Rattle.std.proofs.lemmas.Option.{slice_get-get_or, get_or_from_slice_get}
 use Rattle.std.proofs.lemmas.List.{get_or-take, length-take}
 use Rattle.faults.specs.First.{when, first_below}
 use Rattle.cpu_set.specs.Ids.{Ids, IsDisjoint}
-use Rattle.cpu_set.specs.Members.{IsCpu, InRange}
+use Rattle.cpu_set.specs.Members.{InRange}
 use Rattle.certificate.specs.RowView.{RowView}
 use Rattle.certificate.specs.PricesView.{PricesView}
 use Rattle.certificate.specs.Weight.{weight}
 use Rattle.certificate.specs.IsPlan.{Meets, IsPlan}
-use Rattle.certificate.specs.Cost.{cost}
-use Rattle.certificate.specs.Price.{price, all_prices}
-use Rattle.certificate.specs.IsBound.{IsValueOf, worth}
+use Rattle.certificate.specs.Price.{price}
+use Rattle.certificate.specs.IsBound.{IsValueOf}
 use Rattle.certificate.specs.Limits.{is_within_limits}
 use Rattle.certificate.specs.PlanFault.{least_cpu, is_not_allowed, row_fault, at_both, rows_fault, is_held, twice_fault, apart_fault, is_too_high, value_fault, values_fault, is_tight, plan_fault}
-use Rattle.certificate.specs.IsCause.{IsLeastThat, IsFirstBad, IsMiscounted, HasNotAllowed, IsBelowAt, IsFirstShared, IsCause}
+use Rattle.certificate.specs.IsCause.{IsMiscounted, HasNotAllowed, IsBelowAt, IsCause}
 use Rattle.certificate.specs.Laws.{EachFaultHasItsCause}
 use Rattle.certificate.specs.declared.price_lists.Price.{Price}
 use Rattle.certificate.specs.declared.check_faults.CheckFault.{CheckFault}
@@ -26,7 +25,7 @@ use Rattle.certificate.specs.declared.check_faults.CheckFault.TheVariants.{BadPr
 use Rattle.certificate.proofs.Tests.{not_true, and_left, and_right, both}
 use Rattle.certificate.proofs.LeastCpu.{least_some_says}
 use Rattle.certificate.proofs.LimitFacts.{limit_facts}
-use Rattle.certificate.proofs.Exact.{none_of_both, passed, none_below, all_zip, at_both_is, within, row_fault-says, rows_fault-says, apart_below, apart_fault-says, value_fault-says, values_fault-says}
+use Rattle.certificate.proofs.Exact.{passed, none_below, all_zip, at_both_is, within, row_fault-says, rows_fault-says, apart_below, apart_fault-says, value_fault-says, values_fault-says}
 
 -- ---- which fault it is
 

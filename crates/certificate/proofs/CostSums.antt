@@ -1,5 +1,5 @@
 -- What rows cost and are worth, one after another.
-use Rattle.std.proofs.Common.{◌≡◌, ℕ, zero, suc, ◌+◌, ◌*◌, ◌<◌, ◌≤◌, Bool, true, false, cond, ◌&&◌, Option, Some, None, option_map, unwrap_or, is_some, List, [], ◌∷◌, ◌++◌, length, take, get_or, sum_by, zip, refl, sym, ap, ◌∙◌, arith, nat_le}
+use Rattle.std.proofs.Common.{◌≡◌, ℕ, zero, suc, ◌+◌, ◌*◌, ◌<◌, ◌≤◌, Bool, true, false, cond, ◌&&◌, Option, Some, None, option_map, unwrap_or, is_some, List, [], ◌∷◌, length, take, get_or, sum_by, zip, refl, sym, ap, ◌∙◌, arith, nat_le}
 use Rattle.std.specs.Prelude.{find}
 use Rattle.std.specs.List.{list_all}
 use Rattle.std.specs.Option.{option_or}
@@ -22,7 +22,7 @@ use Rattle.certificate.specs.declared.limits.TheConstants.{MAX_DEMAND, MAX_WEIGH
 use Rattle.certificate.proofs.Tests.{and_left, and_right, both, not_true}
 use Rattle.certificate.proofs.Sums.{sum_by_none, sum_by_same, sum_by_plus, sum_by-filter, sum_by-constant}
 use Rattle.certificate.proofs.Cpus.{sum_by-cpus-le, len-times, length-cpus}
-use Rattle.certificate.proofs.ApartTest.{is_in_one, apart_at}
+use Rattle.certificate.proofs.ApartTest.{apart_at}
 use Rattle.certificate.proofs.Offers.{is_some-find}
 
 module _ {A B : Type 0} (f : A × B → ℕ) where

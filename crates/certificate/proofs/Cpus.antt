@@ -1,14 +1,14 @@
 -- Sums over all CPUs, and over the members of a set.
-use Rattle.std.proofs.Common.{◌≡◌, ℕ, zero, suc, ◌+◌, ◌*◌, ◌<◌, ◌≤◌, Bool, true, false, cond, List, [], ◌∷◌, length, refl, sym, ap, ◌∙◌, sum_by, arith}
-use Rattle.std.specs.List.{filter, range_with_len}
+use Rattle.std.proofs.Common.{◌≡◌, ℕ, ◌*◌, ◌≤◌, cond, length, refl, sym, ap, ◌∙◌, sum_by, arith}
+use Rattle.std.specs.List.{range_with_len}
 use Rattle.std.specs.FinSet as set
 use Rattle.std.proofs.lemmas.List.Sums.{length-filter}
 use Rattle.std.proofs.lemmas.List.FromFn.{length-range_with_len}
 use Rattle.cpu_set.specs.Ids.{Ids}
-use Rattle.cpu_set.specs.Members.{IsCpu, InRange, cpus, members}
+use Rattle.cpu_set.specs.Members.{IsCpu, InRange, cpus}
 use Rattle.cpu_set.proofs.SetLaws.{length-members}
 use Rattle.cpu_set.specs.declared.TheConstants.{CPU_LIMIT}
-use Rattle.certificate.proofs.Sums.{sum_by_times, sum_by-filter, sum_by-range-le}
+use Rattle.certificate.proofs.Sums.{sum_by_times, sum_by-range-le}
 
 -- all CPUs, as a range of any length that is theirs
 pub cpus_from : (n : ℕ) → n ≡ CPU_LIMIT → cpus ≡ range_with_len 0 n

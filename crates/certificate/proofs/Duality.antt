@@ -1,23 +1,23 @@
 -- No plan costs less than a bound.
-use Rattle.std.proofs.Common.{◌≡◌, ℕ, zero, suc, ◌+◌, ◌*◌, ◌<◌, ◌≤◌, Bool, true, false, cond, ◌||◌, Option, Some, None, unwrap_or, List, [], ◌∷◌, length, refl, sym, ap, ◌∙◌, sum_by, arith, IsSome}
-use Rattle.std.specs.List.{AllZip, AllPairs, list_any, zip}
+use Rattle.std.proofs.Common.{◌≡◌, ℕ, ◌+◌, ◌*◌, ◌≤◌, Bool, true, false, cond, ◌||◌, Option, Some, None, unwrap_or, List, [], ◌∷◌, refl, sym, sum_by, arith, IsSome}
+use Rattle.std.specs.List.{AllZip, AllPairs, zip}
 use Rattle.std.specs.FinSet as set
 use Rattle.std.proofs.lemmas.Bool.{false≢true}
 use Rattle.std.proofs.lemmas.List.Sums.{sum_by-cons}
 use Rattle.cpu_set.specs.Ids.{Ids, IsDisjoint}
-use Rattle.cpu_set.specs.Members.{IsCpu, InRange, cpus, members}
+use Rattle.cpu_set.specs.Members.{cpus, members}
 use Rattle.certificate.specs.RowView.{RowView}
 use Rattle.certificate.specs.Weight.{weight}
-use Rattle.certificate.specs.IsPlan.{Meets, IsPlan}
+use Rattle.certificate.specs.IsPlan.{Meets}
 use Rattle.certificate.specs.Cost.{row_cost, cost}
 use Rattle.certificate.specs.Price.{price, all_prices}
-use Rattle.certificate.specs.IsBound.{IsValueOf, worth, IsBound}
+use Rattle.certificate.specs.IsBound.{IsValueOf, worth}
 use Rattle.certificate.specs.PlanFault.{is_held}
 use Rattle.certificate.specs.Laws.{NoPlanBelowBound}
 use Rattle.certificate.specs.declared.price_lists.Price.{Price}
 use Rattle.certificate.proofs.Sums.{sum_by_none, sum_by_same, sum_by_plus, sum_by-filter}
 use Rattle.certificate.proofs.Cpus.{sum_by-cpus-le, len-times}
-use Rattle.certificate.proofs.Apart.{AllPairs-tail, AllPairs-head, IsApartFrom, not_held}
+use Rattle.certificate.proofs.Apart.{AllPairs-tail, AllPairs-head, not_held}
 
 -- the prices of a set's CPUs, summed
 abbrev prices_of : List Price → Ids → ℕ

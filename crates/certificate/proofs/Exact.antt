@@ -1,6 +1,6 @@
 -- What is proved has no fault, and what has none is proved.
-use Rattle.std.proofs.Common.{◌≡◌, ◌≢◌, ℕ, zero, suc, ◌+◌, ◌<◌, ◌≤◌, Bool, true, false, cond, not, ◌&&◌, Option, Some, None, option_map, is_some, IsSome, Result, Ok, Err, IfOk, OnOk, List, [], ◌∷◌, length, take, get_or, refl, sym, ap, ◌∙◌, subst, inl, inr, arith, All, slice_get, nat_eq, nat_lt}
-use Rattle.std.specs.List.{AllZip, AllPairs, list_any}
+use Rattle.std.proofs.Common.{◌≡◌, ℕ, zero, suc, ◌+◌, ◌<◌, ◌≤◌, Bool, true, false, not, ◌&&◌, Option, Some, None, option_map, is_some, Result, Ok, Err, IfOk, OnOk, List, [], ◌∷◌, length, take, get_or, refl, sym, ap, ◌∙◌, subst, inl, inr, arith, All, slice_get, nat_eq, nat_lt}
+use Rattle.std.specs.List.{AllZip, AllPairs}
 use Rattle.std.specs.Option.{option_or, option_map_or}
 use Rattle.std.specs.Result.{result_err}
 use Rattle.std.specs.FinSet as set
@@ -11,14 +11,14 @@ use Rattle.std.proofs.lemmas.List.Folds.{list_any_at, Any-from_list_any}
 use Rattle.faults.specs.First.{when, first_below}
 use Rattle.faults.proofs.FirstBelow.{first_below-none}
 use Rattle.cpu_set.specs.Ids.{Ids, IsDisjoint}
-use Rattle.cpu_set.specs.Members.{IsCpu, InRange}
+use Rattle.cpu_set.specs.Members.{InRange}
 use Rattle.certificate.specs.RowView.{RowView}
 use Rattle.certificate.specs.PricesView.{PricesView}
 use Rattle.certificate.specs.Weight.{weight}
-use Rattle.certificate.specs.IsPlan.{Meets, IsPlan}
+use Rattle.certificate.specs.IsPlan.{Meets}
 use Rattle.certificate.specs.Cost.{cost}
 use Rattle.certificate.specs.Price.{price, all_prices}
-use Rattle.certificate.specs.IsBound.{IsValueOf, worth, IsBound}
+use Rattle.certificate.specs.IsBound.{IsValueOf}
 use Rattle.certificate.specs.IsLeast.{IsLeast}
 use Rattle.certificate.specs.IsProved.{IsProved}
 use Rattle.certificate.specs.Limits.{is_within_limits}

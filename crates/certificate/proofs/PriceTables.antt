@@ -1,15 +1,15 @@
 -- Prices, one after another and by CPU.
-use Rattle.std.proofs.Common.{◌≡◌, ℕ, zero, suc, ◌+◌, ◌*◌, ◌<◌, ◌≤◌, Bool, true, false, cond, ◌||◌, ◌&&◌, Option, Some, None, option_map, unwrap_or, is_some, List, [], ◌∷◌, ◌++◌, length, take, get_or, replicate, sum, sum_by, map, refl, sym, ap, ◌∙◌, arith, nat_le}
+use Rattle.std.proofs.Common.{◌≡◌, ℕ, zero, suc, ◌+◌, ◌*◌, ◌<◌, ◌≤◌, Bool, true, false, cond, Option, Some, None, option_map, unwrap_or, is_some, List, [], ◌∷◌, length, take, get_or, replicate, sum, sum_by, refl, sym, ap, ◌∙◌, arith, nat_le}
 use Rattle.std.specs.Prelude.{find}
-use Rattle.std.specs.List.{list_any, list_all, range_with_len}
+use Rattle.std.specs.List.{list_all, range_with_len}
 use Rattle.std.specs.Option.{option_or}
 use Rattle.std.specs.FinSet as set
-use Rattle.std.proofs.lemmas.Bool.{false≢true, leb-true}
+use Rattle.std.proofs.lemmas.Bool.{leb-true}
 use Rattle.std.proofs.lemmas.List.{take_more}
 use Rattle.std.proofs.lemmas.List.Folds.{find-append}
 use Rattle.std.proofs.lemmas.List.FromFn.{fill_by_all}
 use Rattle.std.proofs.lemmas.List.Sums.{sum-map}
-use Rattle.cpu_set.specs.Members.{IsCpu, cpus}
+use Rattle.cpu_set.specs.Members.{cpus}
 use Rattle.cpu_set.specs.declared.TheConstants.{CPU_LIMIT}
 use Rattle.certificate.specs.Price.{price, all_prices}
 use Rattle.certificate.specs.Limits.{are_apart, prices_fit}
@@ -19,7 +19,7 @@ use Rattle.certificate.specs.declared.limits.TheConstants.{MAX_AMOUNT}
 use Rattle.certificate.proofs.Tests.{and_left, and_right, not_true}
 use Rattle.certificate.proofs.Sums.{sum_by-constant}
 use Rattle.certificate.proofs.Cpus.{cpus_from, sum_by-cpus-le, length-cpus}
-use Rattle.certificate.proofs.ApartTest.{is_in_one, apart_at}
+use Rattle.certificate.proofs.ApartTest.{apart_at}
 use Rattle.certificate.proofs.Offers.{is_some-find}
 
 pub zeros : (n k : ℕ) → get_or {A = ℕ} (replicate n 0) k 0 ≡ 0

@@ -1,6 +1,5 @@
 -- The faults of rows and their sets, place by place.
-use Rattle.std.proofs.Common.{◌≡◌, ℕ, suc, zero, ◌+◌, ◌<◌, Bool, true, false, not, ◌&&◌, Option, Some, None, MatchOption, IfSome, option_map, is_some, List, [], ◌∷◌, length, take, get_or, refl, sym, ap, ◌∙◌, slice_get, slice_index_or, arith}
-use Rattle.std.specs.Option.{option_zip}
+use Rattle.std.proofs.Common.{◌≡◌, ℕ, ◌<◌, not, ◌&&◌, Option, MatchOption, IfSome, option_map, is_some, List, length, take, get_or, refl, ap, ◌∙◌, slice_index_or}
 use Rattle.std.specs.FinSet as set
 use Rattle.std.proofs.lemmas.Option.{slice_get_read}
 use Rattle.std.proofs.lemmas.List.{get_or_default}

@@ -1,5 +1,5 @@
 -- Where a value is above weight and price.
-use Rattle.std.proofs.Common.{◌≡◌, ◌≢◌, subst, MatchOption, IfSome, ℕ, ◌+◌, ◌<◌, ◌≤◌, Bool, true, false, cond, ◌&&◌, ◌||◌, Option, Some, None, option_map, List, [], ◌∷◌, refl, sym, ap, ◌∙◌, inl, inr, arith, nat_lt, nat_eq}
+use Rattle.std.proofs.Common.{◌≡◌, ◌≢◌, subst, MatchOption, IfSome, ℕ, ◌+◌, ◌<◌, ◌≤◌, Bool, true, false, cond, ◌&&◌, ◌||◌, Option, Some, option_map, List, [], ◌∷◌, refl, sym, ap, ◌∙◌, inl, inr, arith, nat_lt, nat_eq}
 use Rattle.std.specs.Prelude.{find}
 use Rattle.std.specs.List.{list_any, list_all}
 use Rattle.std.specs.Option.{option_map_or}
@@ -9,7 +9,7 @@ use Rattle.cpu_set.specs.Ids.{Ids, NoneFrom, IsFirstFrom}
 use Rattle.cpu_set.specs.Members.{IsCpu}
 use Rattle.cpu_set.specs.Pointwise.{contains-insert}
 use Rattle.certificate.specs.RowView.{RowView}
-use Rattle.certificate.specs.Weight.{weight_in, weight}
+use Rattle.certificate.specs.Weight.{weight_in}
 use Rattle.certificate.specs.Price.{price}
 use Rattle.certificate.specs.Limits.{is_disjoint, are_apart, row_fits}
 use Rattle.certificate.specs.IsOfferTooHigh.{is_offer_too_high}

@@ -1,5 +1,5 @@
 -- Laws over the definitions alone.
-use Rattle.std.specs.Prelude.{◌≡◌, ℕ, ◌≤◌, Option, Some, None, List, All}
+use Rattle.std.specs.Prelude.{◌≡◌, ℕ, ◌≤◌, Some, None, List, All}
 use Rattle.cpu_set.specs.Ids.{Ids}
 use Rattle.cpu_set.specs.Members.{InRange}
 use Rattle.certificate.specs.RowView.{RowView}

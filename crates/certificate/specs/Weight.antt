@@ -1,5 +1,5 @@
 -- What a CPU costs a row that holds it.
-use Rattle.std.specs.Prelude.{ℕ, List, Option, option_map, unwrap_or, find}
+use Rattle.std.specs.Prelude.{ℕ, List, Option, option_map, find}
 use Rattle.std.specs.FinSet as set
 use Rattle.certificate.specs.RowView.{RowView}
 use Rattle.certificate.specs.declared.rows.Offer.{Offer}

@@ -1,4 +1,4 @@
-use Rattle.std.proofs.Common.{◌≡◌, ◌+◌, ◌∙◌, ap, sym, arith}
+use Rattle.std.proofs.Common.{sym, arith}
 use Rattle.cpu_set.specs.Ids.{Ids}
 use Rattle.certificate.specs.RowView.{RowView}
 use Rattle.certificate.specs.Cost.{row_cost}

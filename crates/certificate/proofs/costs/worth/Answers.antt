@@ -1,7 +1,6 @@
-use Rattle.std.proofs.Common.{◌≡◌, ◌+◌, ◌*◌, ◌≤◌, ℕ, ◌∙◌, ap, sym, get_or, arith}
+use Rattle.std.proofs.Common.{◌≡◌, ◌*◌, ◌≤◌, ℕ, ◌∙◌, ap, sym, get_or, arith}
 use Rattle.std.proofs.lemmas.List.{get_or_default}
 use Rattle.certificate.specs.RowView.{RowView}
-use Rattle.certificate.specs.IsBound.{worth}
 use Rattle.certificate.specs.declared.limits.TheConstants.{MAX_DEMAND, MAX_AMOUNT}
 use Rattle.certificate.proofs.CostSums.{worth_small, sum_zip_more}
 use Rattle.certificate.proofs.costs.worth.Goals as goal

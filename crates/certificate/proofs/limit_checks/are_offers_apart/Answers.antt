@@ -1,4 +1,4 @@
-use Rattle.std.proofs.Common.{sym, ap, ◌∙◌, refl}
+use Rattle.std.proofs.Common.{sym, refl}
 use Rattle.certificate.specs.declared.rows.Offer.{Offer}
 use Rattle.cpu_set.specs.Pointwise.{contains-empty}
 use Rattle.certificate.proofs.Tests.{not_true}

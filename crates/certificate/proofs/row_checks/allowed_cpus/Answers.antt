@@ -1,4 +1,4 @@
-use Rattle.std.proofs.Common.{sym, ap, ◌∙◌, refl, take_all}
+use Rattle.std.proofs.Common.{sym, ap, ◌∙◌, take_all}
 use Rattle.cpu_set.specs.Pointwise.{contains-empty}
 use Rattle.certificate.specs.declared.rows.Offer.{Offer}
 use Rattle.certificate.proofs.ApartTest.{is_in_one, is_in_one_more}

@@ -1,4 +1,4 @@
-use Rattle.std.proofs.Common.{◌≡◌, None, subst, ap, ◌∙◌, arith, below_more}
+use Rattle.std.proofs.Common.{◌≡◌, None, subst, ◌∙◌, arith, below_more}
 use Rattle.std.proofs.lemmas.Result.{err_from_is_err_and}
 use Rattle.std.proofs.lemmas.List.Elements.{All-more}
 use Rattle.cpu_set.specs.Members.{InRange}

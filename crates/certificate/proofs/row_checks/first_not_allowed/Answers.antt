@@ -1,4 +1,4 @@
-use Rattle.std.proofs.Common.{sym, ap, ◌∙◌}
+use Rattle.std.proofs.Common.{sym}
 use Rattle.certificate.proofs.RowFaults.{not_allowed_is}
 use Rattle.certificate.proofs.row_checks.first_not_allowed.Goals as goal
 

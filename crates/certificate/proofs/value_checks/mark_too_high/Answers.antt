@@ -1,7 +1,5 @@
-use Rattle.std.proofs.Common.{◌≡◌, ℕ, Bool, ◌&&◌, ◌||◌, nat_lt, nat_eq, ◌+◌, ap, sym, ◌∙◌}
-use Rattle.std.specs.FinSet as set
+use Rattle.std.proofs.Common.{◌∙◌}
 use Rattle.std.proofs.lemmas.Bool.{lt-ltb, le-ltb}
-use Rattle.certificate.specs.Price.{price}
 use Rattle.certificate.proofs.TooHigh.{marked_more, insert_is, same_is}
 use Rattle.certificate.proofs.value_checks.mark_too_high.Goals as goal
 use Rattle.certificate.proofs.value_checks.mark_too_high.Goals.{then-weight-price, else-weight-price}

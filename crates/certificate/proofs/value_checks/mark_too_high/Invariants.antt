@@ -1,7 +1,5 @@
-use Rattle.std.proofs.Common.{◌≡◌, ℕ, ◌-◌, Bool, ◌||◌}
+use Rattle.std.proofs.Common.{◌≡◌, ◌||◌}
 use Rattle.std.specs.FinSet as set
-use Rattle.cpu_set.specs.Members.{IsCpu}
-use Rattle.cpu_set.specs.declared.TheConstants.{CPU_LIMIT}
 use Rattle.certificate.specs.IsOfferTooHigh.{is_offer_too_high}
 use Rattle.certificate.proofs.Walks.{IsWalkAt, left_after}
 use Rattle.certificate.proofs.value_checks.mark_too_high.Given as goal

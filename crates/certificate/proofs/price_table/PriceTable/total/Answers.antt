@@ -1,5 +1,4 @@
-use Rattle.std.proofs.Common.{◌≡◌, ◌≤◌, sum, arith, ◌∙◌}
-use Rattle.certificate.specs.Price.{all_prices}
+use Rattle.std.proofs.Common.{arith, ◌∙◌}
 use Rattle.certificate.proofs.PriceTables.{sum-table, all_prices_small}
 use Rattle.certificate.proofs.price_table.PriceTable.total.Goals as goal
 
