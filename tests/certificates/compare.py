@@ -1,0 +1,101 @@
+"""Compares what the program answers with what the second checker answers: `compare.py PROGRAM EXAMPLE`.
+
+The texts are every front of the example, the example with random edits, and random small certificates, most of
+them with values and prices that prove the plan. Where the program says yes, no plan at all costs less.
+"""
+
+import random
+import subprocess
+import sys
+from collections import Counter
+
+from reference import check, least_cost, read
+
+PIECES = [b" ", b"  ", b"\n", b"\r", b"\0", b"\t", b"\xff", b"+", b"-", b",", b":", b"0", b"00", b"1", b"9" * 1000, b"1023",
+          b"1024", b"1-3", b"2-1", b"4294967295", b"4294967296", b"18446744073709551615", b"18446744073709551616",
+          b"1099511627776", b"1099511627777", b"33554431", b"33554432", b"..", b"x" * 65, b"row a 1 10:1\n",
+          b"hold a 1 10\n", b"price 0 5\n", b"price 3 2\n", b"total 23\n", b"end\n", b"short a\n"]
+
+
+def edited(text):
+    for _ in range(random.randint(1, 3)):
+        at = random.randint(0, len(text))
+        kind = random.random()
+        if kind < 0.35:
+            text = text[:at] + random.choice(PIECES) + text[at:]
+        elif kind < 0.5:
+            text = text[:at] + text[at + random.randint(1, 6) :]
+        elif kind < 0.8:
+            text = text[:at] + random.choice([b"0", b"1", b"2", b"9", b" ", b","]) + text[at + 1 :]
+        else:
+            lines = text.split(b"\n")
+            a, b = random.randrange(len(lines)), random.randrange(len(lines))
+            lines[a], lines[b] = lines[b], lines[a]
+            text = b"\n".join(lines)
+    return text
+
+
+def proof(rows, cost, cpus):
+    """Values and prices that prove the cost, if a few tries find any."""
+    for _ in range(300):
+        price = {cpu: random.choice([0, 0, 0, 1, 2, 3]) for cpu in cpus}
+        values = [min([w + price[c] for w, s in offers for c in s], default=0) for _, _, offers in rows]
+        if sum(row[1] * value for row, value in zip(rows, values)) - sum(price.values()) == cost:
+            return values, price
+    return [random.randint(0, 5) for _ in rows], {cpu: random.randint(0, 2) for cpu in cpus}
+
+
+def made():
+    """A random small certificate."""
+    cpus = range(1, random.randint(2, 6))
+    rows = []
+    for k in range(random.randint(0, 3)):
+        left, offers = random.sample(cpus, len(cpus)), []
+        while left and random.random() < 0.85:
+            count = random.randint(1, len(left))
+            offers.append((random.randint(0, 4), left[:count]))
+            left = left[count:]
+        rows.append((k, random.randint(1, 2), offers))
+    cost = least_cost(rows)
+    sets = [random.sample(cpus, min(len(cpus), demand)) for _, demand, _ in rows]
+    for _ in range(200):
+        weights = [{c: w for w, s in offers for c in s} for _, _, offers in rows]
+        tried = [random.sample(cpus, min(len(cpus), demand)) for _, demand, _ in rows]
+        if all(set(s) <= w.keys() for s, w in zip(tried, weights)) and len(set().union(*tried)) == sum(map(len, tried)):
+            if sum(w[c] for s, w in zip(tried, weights) for c in s) == cost:
+                sets = tried
+                break
+    values, price = proof(rows, cost, cpus)
+    if values and random.random() < 0.1:
+        values[0] += 1
+    lines = ["numarun-certificate 1"]
+    for k, demand, offers in rows:
+        lines.append(" ".join([f"row r{k} {demand}"] + [f"{w}:{','.join(map(str, s))}" for w, s in offers]))
+    for k, s in enumerate(sets):
+        lines.append(f"hold r{k} {','.join(map(str, s))} {values[k]}")
+    lines += [f"price {amount} {cpu}" for cpu, amount in price.items() if amount]
+    lines += [f"total {(cost or 0) + (random.random() < 0.1)}", "end", ""]
+    return "\n".join(lines).encode()
+
+
+def main(program, example):
+    random.seed(1)
+    text = open(example, "rb").read()
+    texts = [text[:end] for end in range(len(text) + 1)]
+    texts += [edited(text) for _ in range(2000)] + [made() for _ in range(2000)]
+    seen = Counter()
+    for text in texts:
+        answer = subprocess.run([program, "check"], input=text, capture_output=True)
+        expected = check(text)
+        status = 0 if expected.startswith("plan") else 1
+        if (answer.stdout, answer.stderr, answer.returncode) != (expected.encode() + b"\n", b"", status):
+            sys.exit(f"compare: {text!r}: expected {expected!r}, found {answer}")
+        if status == 0:
+            rows = read(text)[0]
+            if all(len(s) < 9 for _, _, offers in rows for _, s in offers) and expected != f"plan total {least_cost(rows)}":
+                sys.exit(f"compare: {text!r}: a plan costs {least_cost(rows)}")
+        seen[expected.split()[1]] += 1
+    print("compare:", ", ".join(f"{name} {count}" for name, count in sorted(seen.items())))
+
+
+main(*sys.argv[1:])

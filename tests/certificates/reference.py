@@ -1,0 +1,140 @@
+"""A second checker of certificate texts, written from docs/formats.md alone and by other means: it reads with
+regular expressions, keeps sets as Python's, and finds the cost of a least plan by trying every plan."""
+
+import itertools
+import re
+
+CPUS = 1024
+MOST = 1_099_511_627_776
+
+
+class BadText(Exception):
+    pass
+
+
+def numbers(word):
+    """The set that a list names, or None where the word is no list or names nothing."""
+    named = set()
+    for item in word.split(b","):
+        item = item.strip(b" \t\n")
+        if not item:
+            continue
+        found = re.fullmatch(rb"([0-9]+)(?:-([0-9]+))?", item)
+        if found is None:
+            return None
+        first, last = int(found[1]), int(found[2] or found[1])
+        if max(first, last) >= CPUS or last < first:
+            return None
+        named.update(range(first, last + 1))
+    return named or None
+
+
+def number(word, bits):
+    return int(word) if re.fullmatch(rb"0|[1-9][0-9]*", word) and int(word) < 2**bits else None
+
+
+def is_id(word):
+    return re.fullmatch(rb"[A-Za-z0-9_\-.+]{1,64}", word) is not None and word not in (b".", b"..")
+
+
+def wanted(value, line):
+    if value is None:
+        raise BadText(line)
+    return value
+
+
+def read(text):
+    """Rows (id, demand, offers), holds (set, value), prices (amount, set) and the total."""
+    rows, holds, prices, total = [], [], [], None
+    lines = text.split(b"\n")
+    section = "head"
+    for at, line in enumerate(lines, 1):
+        words = line.split(b" ")
+        if section == "done":
+            if at == len(lines) and line == b"":
+                return rows, holds, prices, total
+            raise BadText(at)
+        if at == len(lines):
+            raise BadText(at)
+        if section == "head" and line == b"numarun-certificate 1":
+            section = "rows"
+        elif section == "rows" and words[0] == b"row" and len(words) >= 3:
+            if not is_id(words[1]) or any(words[1] == row[0] for row in rows):
+                raise BadText(at)
+            offers = []
+            for word in words[3:]:
+                parts = word.split(b":")
+                if len(parts) != 2:
+                    raise BadText(at)
+                offers.append((wanted(number(parts[0], 32), at), wanted(numbers(parts[1]), at)))
+            rows.append((words[1], wanted(number(words[2], 32), at), offers))
+        elif section == "rows" and len(holds) < len(rows) and words[0] == b"hold" and len(words) == 4:
+            if words[1] != rows[len(holds)][0]:
+                raise BadText(at)
+            holds.append((wanted(numbers(words[2]), at), wanted(number(words[3], 64), at)))
+            section = "holds"
+        elif section == "holds" and len(holds) < len(rows) and words[0] == b"hold" and len(words) == 4:
+            if words[1] != rows[len(holds)][0]:
+                raise BadText(at)
+            holds.append((wanted(numbers(words[2]), at), wanted(number(words[3], 64), at)))
+        elif section in ("rows", "holds") and len(holds) == len(rows) and words[0] == b"price" and len(words) == 3:
+            prices.append((wanted(number(words[1], 64), at), wanted(numbers(words[2]), at)))
+            section = "holds"
+        elif section in ("rows", "holds") and len(holds) == len(rows) and words[0] == b"total" and len(words) == 2:
+            total = wanted(number(words[1], 64), at)
+            section = "end"
+        elif section == "end" and line == b"end":
+            section = "done"
+        else:
+            raise BadText(at)
+    raise BadText(len(lines))
+
+
+def overlap(sets):
+    return sum(len(s) for s in sets) != len(set().union(*sets))
+
+
+def check(text):
+    """The line that a check of the text answers."""
+    try:
+        rows, holds, prices, total = read(text)
+    except BadText as bad:
+        return f"refused E77 BadText {bad.args[0]}"
+    too_much = len(rows) > 256 or any(not 1 <= demand <= 1024 for _, demand, _ in rows)
+    too_much |= any(weight > 33_554_431 for _, _, offers in rows for weight, _ in offers)
+    too_much |= any(value > MOST for _, value in holds) or any(amount > MOST for amount, _ in prices)
+    too_much |= any(overlap([s for _, s in offers]) for _, _, offers in rows) or overlap([s for _, s in prices])
+    if too_much:
+        return "refused E70 BadProblem"
+    weights = [{cpu: weight for weight, s in offers for cpu in s} for _, _, offers in rows]
+    for k, (_, demand, _) in enumerate(rows):
+        if len(holds[k][0]) != demand:
+            return f"refused E71 WrongCount {k}"
+        if holds[k][0] - weights[k].keys():
+            return f"refused E72 NotAllowed {k} {min(holds[k][0] - weights[k].keys())}"
+    for k in range(len(rows)):
+        twice = holds[k][0] & set().union(*(s for s, _ in holds[:k]))
+        if twice:
+            return f"refused E73 HeldTwice {min(twice)}"
+    price = {cpu: amount for amount, s in prices for cpu in s}
+    for k, (_, value) in enumerate(holds):
+        high = [cpu for cpu in weights[k] if value > weights[k][cpu] + price.get(cpu, 0)]
+        if high:
+            return f"refused E74 ValueTooHigh {k} {min(high)}"
+    cost = sum(weights[k][cpu] for k in range(len(rows)) for cpu in holds[k][0])
+    bound = sum(demand * holds[k][1] for k, (_, demand, _) in enumerate(rows)) - sum(price.values())
+    return f"plan total {cost}" if cost == bound == total else "refused E75 Gap"
+
+
+def least_cost(rows):
+    """The cost of a least plan, by trying every plan, or None where there is none. For small problems alone."""
+    costs = {frozenset(): 0}
+    for _, demand, offers in rows:
+        weights = {cpu: weight for weight, s in offers for cpu in s}
+        grown = {}
+        for held, cost in costs.items():
+            for cpus in itertools.combinations(sorted(weights.keys() - held), demand):
+                key = held | set(cpus)
+                grown[key] = min(grown.get(key, cost + sum(weights[c] for c in cpus)), cost + sum(weights[c] for c in cpus))
+        costs = grown
+    return min(costs.values(), default=None)
