@@ -18,7 +18,7 @@ returns-then-is_empty c = λ cpus h.
 
 pub returns : goal.returns
 returns c = record {
-  is_list = (none_where_list CPU_LIMIT c.args.word.now).0 c.in-Ok.ensures.0;
+  is_list = c.in-Ok.ensures.2;
   names = c.in-Ok.ensures.1;
   some = λ e. absurd (false≢true (c.if-is_empty.ensures.1 e));
 }
