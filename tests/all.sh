@@ -1,6 +1,8 @@
 #!/usr/bin/env bash
-# Everything: the proofs from nothing, the wrong bodies, the tests and the program, and each growth refused in turn.
+# Everything: the built program against a second checker, each of its growths refused in turn, and then the proofs from
+# nothing, the wrong bodies, the tests and the program.
 set -eu
 cd "$(dirname "$0")/.."
+bash tests/certificates.sh
 bash tests/growth.sh
 rt ci
