@@ -23,7 +23,6 @@ use Rattle.certificate.specs.IsLeast.{IsLeast}
 use Rattle.certificate.specs.IsProved.{IsProved}
 use Rattle.certificate.specs.Limits.{is_within_limits}
 use Rattle.certificate.specs.PlanFault.{least_cpu, is_not_allowed, row_fault, at_both, rows_fault, is_held, twice_fault, apart_fault, is_too_high, value_fault, values_fault, is_tight, plan_fault}
-use Rattle.certificate.specs.Laws.{ProvedHasNoFault}
 use Rattle.certificate.specs.declared.price_lists.Price.{Price}
 use Rattle.certificate.specs.declared.check_faults.CheckFault.{CheckFault}
 use Rattle.certificate.specs.declared.check_faults.CheckFault.TheVariants.{BadProblem, WrongCount, NotAllowed, HeldTwice, ValueTooHigh, Gap}
@@ -215,7 +214,9 @@ plan_fault-says rows sets prices in_range none =
     }
 
 -- a plan that is proved has no fault
-pub plan_fault-none : ProvedHasNoFault
+pub plan_fault-none :
+    (rows : List RowView) (sets : List Ids) (prices : PricesView) (total : ℕ) → IsProved rows sets prices total
+    → plan_fault rows sets prices ≡ None
 unfolding plan_fault
 plan_fault-none rows sets prices total proved =
     let tight : is_tight rows sets prices ≡ true = eq-eqb _ _ (proved.bound.sum ∙ ap (λ n. n + all_prices prices.of_cpu) (sym proved.costs)) in

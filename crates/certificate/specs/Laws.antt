@@ -1,5 +1,5 @@
 -- Laws over the definitions alone.
-use Rattle.std.specs.Prelude.{◌≡◌, ℕ, ◌≤◌, Some, None, List, All}
+use Rattle.std.specs.Prelude.{◌≡◌, ℕ, ◌≤◌, Some, List, All}
 use Rattle.cpu_set.specs.Ids.{Ids}
 use Rattle.cpu_set.specs.Members.{InRange}
 use Rattle.certificate.specs.RowView.{RowView}
@@ -7,7 +7,6 @@ use Rattle.certificate.specs.PricesView.{PricesView}
 use Rattle.certificate.specs.IsPlan.{IsPlan}
 use Rattle.certificate.specs.Cost.{cost}
 use Rattle.certificate.specs.IsBound.{IsBound}
-use Rattle.certificate.specs.IsProved.{IsProved}
 use Rattle.certificate.specs.PlanFault.{plan_fault}
 use Rattle.certificate.specs.IsCause.{IsCause}
 use Rattle.certificate.specs.declared.check_faults.CheckFault.{CheckFault}
@@ -24,9 +23,3 @@ abbrev pub EachFaultHasItsCause : Type 0
 EachFaultHasItsCause =
     (rows : List RowView) (sets : List Ids) (prices : PricesView) (fault : CheckFault) → All InRange sets
     → plan_fault rows sets prices ≡ Some fault → IsCause rows sets prices fault
-
--- what is proved has no fault, and sets of CPUs without a fault are proved
-abbrev pub ProvedHasNoFault : Type 0
-ProvedHasNoFault =
-    (rows : List RowView) (sets : List Ids) (prices : PricesView) (total : ℕ)
-    → IsProved rows sets prices total → plan_fault rows sets prices ≡ None

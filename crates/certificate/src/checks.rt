@@ -1,3 +1,4 @@
+//! The check of a plan by its values and prices.
 ghost use Rattle.std.specs.Prelude.{◌≡◌, ℕ, All, IfOk, OnOk};
 ghost use Rattle.std.specs.Result.{result_err};
 ghost use Rattle.cpu_set.specs.Members.{InRange};
@@ -34,6 +35,7 @@ pub fn check_plan(problem: &Problem, plan: &Plan, prices: &Prices) -> Result<u64
     checked_cost(problem.rows.as_slice(), plan.sets.as_slice(), prices)
 }
 
+/// The plan's cost, or the first fault: the checks in their order.
 #[tactic(auto, unfolding(crate::specs::PlanFault::plan_fault))]
 fn checked_cost(rows: &[Row], sets: &[IdSet], prices: &Prices) -> Result<u64, CheckFault>
     ensures fault { plan_fault rows.now sets.now prices.now ≡ result_err result }

@@ -1,3 +1,4 @@
+//! What a plan costs, and what its rows are worth.
 ghost use Rattle.std.specs.Prelude.{◌≡◌, ◌≤◌, ◌*◌, IsTrue, length, sum_by, unwrap_or};
 ghost use Rattle.std.specs.List.{list_all};
 ghost use Rattle.cpu_set.specs.Members.{members};
@@ -32,6 +33,7 @@ fn row_cost(row: &Row, held: &IdSet) -> u64
     offers_cost(row.offers.as_slice(), held)
 }
 
+/// The weights of the CPUs held, summed offer by offer: no CPU is in two.
 fn offers_cost(offers: &[Offer], held: &IdSet) -> u64
     requires { IsTrue (offers_fit offers.now) }
     ensures cost { result ≡ sum_by (λ cpu. unwrap_or (weight_in offers.now cpu) 0) (members held.now) }

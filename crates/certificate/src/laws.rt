@@ -1,3 +1,4 @@
+//! Laws over the definitions alone: nothing here runs.
 ghost use Rattle.certificate.specs.Laws.{NoPlanBelowBound, EachFaultHasItsCause};
 
 /// Weak duality: no plan costs less than a bound, for any rows, values and prices.

@@ -1,3 +1,4 @@
+//! The test that a problem, a plan and its prices can be checked at all.
 ghost use Rattle.std.specs.Prelude.{◌≡◌, nat_le};
 ghost use Rattle.std.specs.List.{list_all};
 ghost use Rattle.certificate.specs.Limits.{are_apart, offers_fit, row_fits, prices_fit, values_fit, is_within_limits};

@@ -5,6 +5,7 @@ use std::marker::Model;
 #[derive(Debug, Drop)]
 pub struct Prices {
     /// The value of each row, in the rows' order: at most the weight and the price together, of each CPU that it may have.
+    /// None is above [`MAX_AMOUNT`](crate::MAX_AMOUNT).
     pub values: Vec<u64>,
     /// The prices of CPUs. A CPU in none of them has the price 0.
     pub of_cpu: Vec<Price>,
@@ -13,6 +14,7 @@ pub struct Prices {
 /// CPUs of one price.
 #[derive(Clone, Copy, Debug)]
 pub struct Price {
+    /// At most [`MAX_AMOUNT`](crate::MAX_AMOUNT), counted as weights are.
     pub amount: u64,
     pub cpus: IdSet,
 }

@@ -1,3 +1,4 @@
+//! The checks of a plan's sets: each row by itself, and no CPU in two rows.
 ghost use Rattle.std.specs.Prelude.{◌≡◌, ℕ, length, is_some, All, OnOk};
 ghost use Rattle.std.specs.Result.{result_err};
 ghost use Rattle.std.specs.FinSet as set;
@@ -20,6 +21,7 @@ pub(crate) fn check_rows(rows: &[Row], sets: &[IdSet]) -> Result<(), CheckFault>
     Ok(())
 }
 
+/// Row `k` and the set that it holds.
 #[tactic(auto, unfolding(crate::specs::PlanFault::row_fault))]
 fn check_row(k: usize, row: &Row, held: &IdSet) -> Result<(), CheckFault>
     ensures fault { row_fault k row.now held.now ≡ result_err result }
@@ -34,6 +36,7 @@ fn check_row(k: usize, row: &Row, held: &IdSet) -> Result<(), CheckFault>
     }
 }
 
+/// The least CPU of the set that no offer of the row has.
 fn first_not_allowed(row: &Row, held: &IdSet) -> Option<u16>
     ensures { result ≡ least_cpu (is_not_allowed row.now held.now) }
 {

@@ -6,7 +6,7 @@ use std::marker::Model;
 pub struct Row {
     /// The container's id.
     pub id: String,
-    /// How many CPUs it asks for.
+    /// How many CPUs it asks for, 1 to [`MAX_DEMAND`](crate::MAX_DEMAND).
     pub demand: u32,
     /// The CPUs that it may have, by weight. A CPU in no offer is not allowed.
     pub offers: Vec<Offer>,
@@ -15,6 +15,8 @@ pub struct Row {
 /// CPUs of one weight: what each of them costs a row that holds it.
 #[derive(Clone, Copy, Debug)]
 pub struct Offer {
+    /// At most [`MAX_WEIGHT`](crate::MAX_WEIGHT). For pinning it is the CPU's distance to the container's
+    /// nearest home node, as ACPI's SLIT counts distances: 10 is local.
     pub weight: u32,
     pub cpus: IdSet,
 }

@@ -1,3 +1,4 @@
+//! The check that no row's value is above weight and price of a CPU that it may have.
 ghost use Rattle.std.specs.Prelude.{◌≡◌, ℕ, ◌||◌, IsTrue, length};
 ghost use Rattle.std.specs.List.{list_all, list_any};
 ghost use Rattle.std.specs.Result.{result_err};
@@ -29,6 +30,7 @@ pub(crate) fn check_values(
     Ok(())
 }
 
+/// The least CPU at which the value is above the row's weight and the price together.
 fn first_too_high(row: &Row, value: u64, prices: &PriceTable<'_>) -> Option<u16>
     requires { IsTrue (row_fits row.now) }
     ensures { result ≡ least_cpu (is_too_high prices.now row.now value) }
@@ -47,6 +49,7 @@ fn too_high(offers: &[Offer], value: u64, prices: &PriceTable<'_>) -> IdSet
     found
 }
 
+/// Adds to `found` the offer's CPUs whose weight and price together are below the value.
 fn mark_too_high(found: &mut IdSet, offer: &Offer, value: u64, prices: &PriceTable<'_>)
     ensures { (cpu : ℕ) → set.contains found.new cpu ≡ (set.contains found.old cpu || is_offer_too_high prices.now value offer.now cpu) }
 {
