@@ -7,7 +7,7 @@ use std::test::Fail;
 // The one spelling of the set that a list names.
 #[test]
 fn lists(rt: HostRuntime) -> Result<(), Fail> {
-    let rows: [(&[u8], u16, &str); 12] = [
+    let rows: [(&[u8], u16, &str); 13] = [
         (b" 3,1-2,,2\n", 8, "1-3"),
         (b"", 8, ""),
         (b"", 0, ""),
@@ -19,6 +19,7 @@ fn lists(rt: HostRuntime) -> Result<(), Fail> {
         (b"2-5,0-3,4-4", 8, "0-5"),
         (b"6,4,2,0", 8, "0,2,4,6"),
         (b"0-4,9", 10, "0-4,9"),
+        (b"1023", 1024, "1023"),
         (b"\t1-3 ,\n5-7", 8, "1-3,5-7"),
     ];
     for (text, limit, want) in rows {
@@ -32,7 +33,7 @@ fn lists(rt: HostRuntime) -> Result<(), Fail> {
 // The place and the cause of the first faulty item.
 #[test]
 fn faults(rt: HostRuntime) {
-    let rows: [(&[u8], u16, usize, ListErrorKind); 20] = [
+    let rows: [(&[u8], u16, usize, ListErrorKind); 21] = [
         (b"5-3", 8, 0, ListErrorKind::Descending),
         (b"1,8", 8, 2, ListErrorKind::TooLarge),
         (b"1-", 8, 0, ListErrorKind::BadItem),
@@ -40,6 +41,7 @@ fn faults(rt: HostRuntime) {
         (b"5-9", 8, 0, ListErrorKind::TooLarge),
         (b"8-8", 8, 0, ListErrorKind::TooLarge),
         (b"0", 0, 0, ListErrorKind::TooLarge),
+        (b"1024", 1024, 0, ListErrorKind::TooLarge),
         (b"-1", CPU_LIMIT, 0, ListErrorKind::BadItem),
         (b"1--2", CPU_LIMIT, 0, ListErrorKind::BadItem),
         (b"0-", CPU_LIMIT, 0, ListErrorKind::BadItem),

@@ -12,7 +12,7 @@ enum End {
     TakesNone,
 }
 
-// Takes a byte of each write, and after some writes no more.
+// Takes a byte of each write, and after some writes has one fault; a write behind that would be taken.
 #[derive(Drop)]
 struct Narrow<'a> {
     taken: &'a mut Vec<u8>,
@@ -23,6 +23,7 @@ struct Narrow<'a> {
 impl Write for Narrow<'_> {
     fn write(&mut self, buf: &[u8]) -> io::Result<usize> {
         if self.writes == 0 || buf.is_empty() {
+            self.writes = usize::MAX;
             return match self.end {
                 End::Fails => Err(io::Error::from(ErrorKind::BrokenPipe)),
                 End::TakesNone => Ok(0),
