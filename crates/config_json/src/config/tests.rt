@@ -17,16 +17,13 @@ fn fault_of(rt: &impl Abort, alloc: Global, bytes: &[u8]) -> Option<ConfigFault>
 /// A config with this text as its CPU section.
 fn with_cpu(alloc: Global, cpu: &str) -> Result<String, AllocError> {
     format!(in alloc;
-        "{{\"ociVersion\":\"1.0.2\",\"root\":{{\"path\":\"r\"}},\"linux\":{{\"resources\":{{\"cpu\":{cpu}}}}}}}"
+        r#"{{"ociVersion":"1.0.2","root":{{"path":"r"}},"linux":{{"resources":{{"cpu":{cpu}}}}}}}"#
     )
 }
 
 /// A config with an ignored member that holds arrays in one another.
 fn nested(alloc: Global, depth: usize) -> Result<String, AllocError> {
-    let mut text = String::from_str(
-        alloc,
-        "{\"ociVersion\":\"1.0.2\",\"root\":{\"path\":\"r\"},\"x\":",
-    )?;
+    let mut text = String::from_str(alloc, r#"{"ociVersion":"1.0.2","root":{"path":"r"},"x":"#)?;
     for _ in 0..depth {
         text.push('[')?;
     }
@@ -42,13 +39,13 @@ fn the_text_is_an_object(rt: HostRuntime) -> Result<(), Fail> {
     let cases: [(&[u8], ConfigFault); 9] = [
         (b"", ConfigFault::NotJson),
         (b"{", ConfigFault::NotJson),
-        (b"{\"ociVersion\":\"1.0.2\"", ConfigFault::NotJson),
+        (br#"{"ociVersion":"1.0.2""#, ConfigFault::NotJson),
         (b"\xff", ConfigFault::NotJson),
         (b"{\"ociVersion\":\"\xff\"}", ConfigFault::NotJson),
-        (b"{\"x\":1e999}", ConfigFault::NotJson),
+        (br#"{"x":1e999}"#, ConfigFault::NotJson),
         (b"[]", ConfigFault::NotObject),
         (b"null", ConfigFault::NotObject),
-        (b"\"ociVersion\"", ConfigFault::NotObject),
+        (br#""ociVersion""#, ConfigFault::NotObject),
     ];
     for (bytes, fault) in cases {
         assert_eq!(rt; fault_of(&rt, rt.alloc(), bytes), Some(fault), "{bytes:?}");
@@ -61,64 +58,64 @@ fn version_and_root_are_required(rt: HostRuntime) -> Result<(), Fail> {
     let cases = [
         ("{}", ConfigFault::Missing(Field::OciVersion)),
         (
-            "{\"ociVersion\":null}",
+            r#"{"ociVersion":null}"#,
             ConfigFault::Missing(Field::OciVersion),
         ),
         (
-            "{\"ociVersion\":1}",
+            r#"{"ociVersion":1}"#,
             ConfigFault::BadField(Field::OciVersion),
         ),
         (
-            "{\"ociVersion\":[\"1.0.2\"]}",
+            r#"{"ociVersion":["1.0.2"]}"#,
             ConfigFault::BadField(Field::OciVersion),
         ),
         (
-            "{\"ociVersion\":\"2.0.0\",\"root\":{\"path\":\"r\"}}",
+            r#"{"ociVersion":"2.0.0","root":{"path":"r"}}"#,
             ConfigFault::BadVersion,
         ),
         (
-            "{\"ociVersion\":\"0.9.0\",\"root\":{\"path\":\"r\"}}",
+            r#"{"ociVersion":"0.9.0","root":{"path":"r"}}"#,
             ConfigFault::BadVersion,
         ),
         (
-            "{\"ociVersion\":\"1.0\",\"root\":{\"path\":\"r\"}}",
+            r#"{"ociVersion":"1.0","root":{"path":"r"}}"#,
             ConfigFault::BadVersion,
         ),
-        ("{\"ociVersion\":\"\"}", ConfigFault::BadVersion),
+        (r#"{"ociVersion":""}"#, ConfigFault::BadVersion),
         (
-            "{\"ociVersion\":\"1.0.2\",\"ociVersion\":\"2.0.0\"}",
+            r#"{"ociVersion":"1.0.2","ociVersion":"2.0.0"}"#,
             ConfigFault::BadVersion,
         ),
         (
-            "{\"ociVersion\":\"1.0.2\"}",
+            r#"{"ociVersion":"1.0.2"}"#,
             ConfigFault::Missing(Field::Root),
         ),
         (
-            "{\"ociVersion\":\"1.0.2\",\"root\":null}",
+            r#"{"ociVersion":"1.0.2","root":null}"#,
             ConfigFault::Missing(Field::Root),
         ),
         (
-            "{\"ociVersion\":\"1.0.2\",\"linux\":7}",
+            r#"{"ociVersion":"1.0.2","linux":7}"#,
             ConfigFault::Missing(Field::Root),
         ),
         (
-            "{\"ociVersion\":\"1.0.2\",\"root\":\"r\"}",
+            r#"{"ociVersion":"1.0.2","root":"r"}"#,
             ConfigFault::BadField(Field::Root),
         ),
         (
-            "{\"ociVersion\":\"1.0.2\",\"root\":{}}",
+            r#"{"ociVersion":"1.0.2","root":{}}"#,
             ConfigFault::Missing(Field::RootPath),
         ),
         (
-            "{\"ociVersion\":\"1.0.2\",\"root\":{\"path\":7}}",
+            r#"{"ociVersion":"1.0.2","root":{"path":7}}"#,
             ConfigFault::BadField(Field::RootPath),
         ),
         (
-            "{\"ociVersion\":\"1.0.2\",\"root\":{\"path\":\"r\"},\"linux\":[]}",
+            r#"{"ociVersion":"1.0.2","root":{"path":"r"},"linux":[]}"#,
             ConfigFault::BadField(Field::Linux),
         ),
         (
-            "{\"ociVersion\":\"1.0.2\",\"root\":{\"path\":\"r\"},\"linux\":{\"resources\":true}}",
+            r#"{"ociVersion":"1.0.2","root":{"path":"r"},"linux":{"resources":true}}"#,
             ConfigFault::BadField(Field::Resources),
         ),
     ];
@@ -135,7 +132,7 @@ fn version_and_root_are_required(rt: HostRuntime) -> Result<(), Fail> {
 #[test]
 fn members_of_another_kind(rt: HostRuntime) -> Result<(), Fail> {
     let alloc = rt.alloc();
-    let kinds = ["true", "7", "-7", "1.5", "\"7\"", "[]", "{}"];
+    let kinds = ["true", "7", "-7", "1.5", r#""7""#, "[]", "{}"];
     // Which of the kinds each member takes.
     let members = [
         (
@@ -161,7 +158,7 @@ fn members_of_another_kind(rt: HostRuntime) -> Result<(), Fail> {
     ];
     for (name, field, taken) in members {
         for (kind, takes) in kinds.iter().zip(&taken) {
-            let text = with_cpu(alloc, format!(in alloc; "{{\"{name}\":{kind}}}")?.as_str())?;
+            let text = with_cpu(alloc, format!(in alloc; r#"{{"{name}":{kind}}}"#)?.as_str())?;
             let fault = if *takes {
                 None
             } else {
@@ -174,7 +171,7 @@ fn members_of_another_kind(rt: HostRuntime) -> Result<(), Fail> {
             );
         }
     }
-    let text = with_cpu(alloc, "\"quota\"")?;
+    let text = with_cpu(alloc, r#""quota""#)?;
     assert_eq!(rt;
         fault_of(&rt, alloc, text.as_bytes()),
         Some(ConfigFault::BadField(Field::Cpu))
@@ -186,26 +183,26 @@ fn members_of_another_kind(rt: HostRuntime) -> Result<(), Fail> {
 fn numbers_that_are_no_whole_ones_of_64_bits(rt: HostRuntime) -> Result<(), Fail> {
     let alloc = rt.alloc();
     let cases = [
-        ("{\"quota\":-0}", Field::Quota),
-        ("{\"quota\":1e2}", Field::Quota),
-        ("{\"quota\":100.0}", Field::Quota),
-        ("{\"quota\":9223372036854775808}", Field::Quota),
-        ("{\"quota\":-9223372036854775809}", Field::Quota),
+        (r#"{"quota":-0}"#, Field::Quota),
+        (r#"{"quota":1e2}"#, Field::Quota),
+        (r#"{"quota":100.0}"#, Field::Quota),
+        (r#"{"quota":9223372036854775808}"#, Field::Quota),
+        (r#"{"quota":-9223372036854775809}"#, Field::Quota),
         (
-            "{\"quota\":1111111111111111111111111111111111111111111111111111111111111111111111111111111111111111111111111111}",
+            r#"{"quota":1111111111111111111111111111111111111111111111111111111111111111111111111111111111111111111111111111}"#,
             Field::Quota,
         ),
-        ("{\"period\":-1}", Field::Period),
-        ("{\"period\":-0}", Field::Period),
-        ("{\"period\":0.5}", Field::Period),
-        ("{\"period\":18446744073709551616}", Field::Period),
+        (r#"{"period":-1}"#, Field::Period),
+        (r#"{"period":-0}"#, Field::Period),
+        (r#"{"period":0.5}"#, Field::Period),
+        (r#"{"period":18446744073709551616}"#, Field::Period),
         // The first in the order of the members, wherever it stands in the text.
         (
-            "{\"mems\":0,\"cpus\":0,\"period\":-1,\"quota\":\"\"}",
+            r#"{"mems":0,"cpus":0,"period":-1,"quota":""}"#,
             Field::Quota,
         ),
-        ("{\"mems\":0,\"cpus\":0,\"period\":-1}", Field::Period),
-        ("{\"mems\":0,\"cpus\":0}", Field::Cpus),
+        (r#"{"mems":0,"cpus":0,"period":-1}"#, Field::Period),
+        (r#"{"mems":0,"cpus":0}"#, Field::Cpus),
     ];
     for (cpu, field) in cases {
         let text = with_cpu(alloc, cpu)?;
@@ -224,48 +221,48 @@ fn the_cpu_section_is_read(rt: HostRuntime) -> Result<(), Fail> {
     let cases = [
         ("null", None, None, None, None),
         (
-            "{\"quota\":null,\"period\":null,\"cpus\":null,\"mems\":null}",
+            r#"{"quota":null,"period":null,"cpus":null,"mems":null}"#,
             None,
             None,
             None,
             None,
         ),
         (
-            "{\"quota\":1000000,\"period\":500000,\"cpus\":\"2-3\",\"mems\":\"0-7\"}",
+            r#"{"quota":1000000,"period":500000,"cpus":"2-3","mems":"0-7"}"#,
             Some(1000000),
             Some(500000),
             Some("2-3"),
             Some("0-7"),
         ),
         (
-            "{\"quota\":9223372036854775807,\"period\":0}",
+            r#"{"quota":9223372036854775807,"period":0}"#,
             Some(9223372036854775807),
             Some(0),
             None,
             None,
         ),
         (
-            "{\"quota\":-9223372036854775808,\"period\":18446744073709551615}",
+            r#"{"quota":-9223372036854775808,"period":18446744073709551615}"#,
             Some(-9223372036854775808),
             Some(18446744073709551615),
             None,
             None,
         ),
         (
-            "{\"quota\":0,\"cpus\":\"\",\"shares\":1024,\"idle\":[]}",
+            r#"{"quota":0,"cpus":"","shares":1024,"idle":[]}"#,
             Some(0),
             None,
             Some(""),
             None,
         ),
         (
-            "{\"cpus\":\"\\u0032-3\",\"cpus\":\"4\"}",
+            r#"{"cpus":"\u0032-3","cpus":"4"}"#,
             None,
             None,
             Some("4"),
             None,
         ),
-        ("{\"mems\":\"\\u0030\\t\"}", None, None, None, Some("0\t")),
+        (r#"{"mems":"\u0030\t"}"#, None, None, None, Some("0\t")),
     ];
     for (cpu, quota, period, cpus, mems) in cases {
         let text = with_cpu(alloc, cpu)?;
@@ -285,39 +282,39 @@ fn the_cpu_section_is_read(rt: HostRuntime) -> Result<(), Fail> {
 fn a_program_to_start(rt: HostRuntime) -> Result<(), Fail> {
     let cases = [
         (
-            "{\"ociVersion\":\"1.2.0\",\"root\":{\"path\":\"r\"},\"hooks\":7,\"linux\":null}",
+            r#"{"ociVersion":"1.2.0","root":{"path":"r"},"hooks":7,"linux":null}"#,
             false,
         ),
         (
-            "{\"ociVersion\":\"1.0.2-dev\",\"root\":{\"path\":\"r\"},\"process\":{\"args\":[\"x\"]}}",
+            r#"{"ociVersion":"1.0.2-dev","root":{"path":"r"},"process":{"args":["x"]}}"#,
             true,
         ),
         (
-            "{\"ociVersion\":\"1.0.2+build.7\",\"root\":{\"path\":\"r\"},\"process\":{\"args\":[\"x\",\"\"]}}",
+            r#"{"ociVersion":"1.0.2+build.7","root":{"path":"r"},"process":{"args":["x",""]}}"#,
             true,
         ),
         (
-            "{\"ociVersion\":\"1.0.2-dev\",\"root\":{\"path\":\"r\"},\"process\":{\"args\":[]}}",
+            r#"{"ociVersion":"1.0.2-dev","root":{"path":"r"},"process":{"args":[]}}"#,
             false,
         ),
         (
-            "{\"ociVersion\":\"1.0.2-dev\",\"root\":{\"path\":\"r\"},\"process\":{\"args\":[\"x\",1]}}",
+            r#"{"ociVersion":"1.0.2-dev","root":{"path":"r"},"process":{"args":["x",1]}}"#,
             false,
         ),
         (
-            "{\"ociVersion\":\"1.0.2\",\"root\":{\"path\":\"r\"},\"process\":{\"args\":\"x\"}}",
+            r#"{"ociVersion":"1.0.2","root":{"path":"r"},"process":{"args":"x"}}"#,
             false,
         ),
         (
-            "{\"ociVersion\":\"1.0.2\",\"root\":{\"path\":\"r\"},\"process\":{\"args\":null}}",
+            r#"{"ociVersion":"1.0.2","root":{"path":"r"},"process":{"args":null}}"#,
             false,
         ),
         (
-            "{\"ociVersion\":\"1.0.2\",\"root\":{\"path\":\"r\"},\"process\":[]}",
+            r#"{"ociVersion":"1.0.2","root":{"path":"r"},"process":[]}"#,
             false,
         ),
         (
-            "{\"ociVersion\":\"2.0.0\",\"ociVersion\":\"1.99.0\",\"root\":{\"path\":\"r\"}}",
+            r#"{"ociVersion":"2.0.0","ociVersion":"1.99.0","root":{"path":"r"}}"#,
             false,
         ),
     ];
