@@ -1,9 +1,10 @@
 /// Why a certificate is refused: the first cause that stands, in the order of this list.
 #[derive(Clone, Copy, Debug, PartialEq, Eq)]
 pub enum CheckFault {
-    /// E70: more rows than [`MAX_ROWS`](crate::MAX_ROWS), a demand not 1 to [`MAX_DEMAND`](crate::MAX_DEMAND),
-    /// a weight above [`MAX_WEIGHT`](crate::MAX_WEIGHT), a value or an amount above [`MAX_AMOUNT`](crate::MAX_AMOUNT),
-    /// a CPU in two offers of a row or in two prices, or not one set and one value for each row.
+    /// E70: more rows than [`MAX_ROWS`](crate::MAX_ROWS), a demand not 1 to
+    /// [`MAX_DEMAND`](crate::MAX_DEMAND), a weight above [`MAX_WEIGHT`](crate::MAX_WEIGHT), a value or an
+    /// amount above [`MAX_AMOUNT`](crate::MAX_AMOUNT), a CPU in two offers of a row or in two prices, or
+    /// not one set and one value for each row.
     BadProblem,
     /// E71: the row's set has not as many CPUs as the row asks for.
     WrongCount { row: usize },
@@ -11,7 +12,8 @@ pub enum CheckFault {
     NotAllowed { row: usize, cpu: u16 },
     /// E73: of the first row that holds a CPU of an earlier row, the least such CPU.
     HeldTwice { cpu: u16 },
-    /// E74: the row's value is above the CPU's weight and price together; the least such CPU of the first such row.
+    /// E74: the row's value is above the CPU's weight and price together; the least such CPU of the first
+    /// such row.
     ValueTooHigh { row: usize, cpu: u16 },
     /// E75: the bound that values and prices give is not the plan's cost.
     Gap,

@@ -17,8 +17,9 @@ use cpu_set::IdSet;
 
 /// Checks that a plan is of least cost, by values and prices: the plan's cost, or the first cause why not.
 ///
-/// The causes come in the order of [`CheckFault`]. Takes no memory. Every set is passed whole or once
-/// from end to end, so the work is linear in the offers, prices and rows together, times the CPUs of a set.
+/// The causes come in the order of [`CheckFault`]. Takes no memory. Each set is passed whole, or once
+/// from end to end, so the work is linear in the offers, prices and rows together, times the CPUs of
+/// a set.
 pub fn check_plan(problem: &Problem, plan: &Plan, prices: &Prices) -> Result<u64, CheckFault>
     // A yes: within the limits, a plan of this cost, and values and prices give the same number as a bound.
     ensures proved { IfOk result (λ total. IsProved problem.now plan.now prices.now total) }
@@ -27,7 +28,8 @@ pub fn check_plan(problem: &Problem, plan: &Plan, prices: &Prices) -> Result<u64
     ensures least { OnOk result (IsLeast problem.now plan.now) }
 
     // And a yes wherever all of that holds.
-    ensures complete { (total : ℕ) → IsProved problem.now plan.now prices.now total → result ≡ Ok total }
+    ensures complete { (total : ℕ) → IsProved problem.now plan.now prices.now total
+        → result ≡ Ok total }
 
     // A no: the first fault in the order of the checks.
     ensures fault { plan_fault problem.now plan.now prices.now ≡ result_err result }

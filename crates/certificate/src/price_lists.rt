@@ -4,7 +4,8 @@ use std::marker::Model;
 /// The numbers by which a plan shows that no plan costs less.
 #[derive(Debug, Drop)]
 pub struct Prices {
-    /// The value of each row, in the rows' order: at most the weight and the price together, of each CPU that it may have.
+    /// The value of each row, in the rows' order: at most weight and price together of each CPU that
+    /// the row may have.
     /// None is above [`MAX_AMOUNT`](crate::MAX_AMOUNT).
     pub values: Vec<u64>,
     /// The prices of CPUs. A CPU in none of them has the price 0.

@@ -65,7 +65,8 @@ impl<'a> PriceTable<'a> {
 
 /// Writes the amount of one price for each of its CPUs.
 fn write_amount(amounts: &mut [u64; CPUS], price: &Price)
-    ensures each { (cpu : ℕ) → IsCpu cpu → slice_index amounts.new cpu ≡ (if set.contains price.now.cpus cpu then price.now.amount else slice_index amounts.old cpu) }
+    ensures each { (cpu : ℕ) → IsCpu cpu → slice_index amounts.new cpu
+        ≡ (if set.contains price.now.cpus cpu then price.now.amount else slice_index amounts.old cpu) }
     ensures long { length amounts.new ≡ CPUS }
 {
     for cpu in 0..CPUS {

@@ -40,7 +40,8 @@ fn first_too_high(row: &Row, value: u64, prices: &PriceTable<'_>) -> Option<u16>
 
 /// The CPUs of the offers whose weight and price together are below the value.
 fn too_high(offers: &[Offer], value: u64, prices: &PriceTable<'_>) -> IdSet
-    ensures { (cpu : ℕ) → set.contains result cpu ≡ list_any (λ o. is_offer_too_high prices.now value o cpu) offers.now }
+    ensures { (cpu : ℕ) → set.contains result cpu
+        ≡ list_any (λ o. is_offer_too_high prices.now value o cpu) offers.now }
 {
     let mut found = IdSet::empty();
     for offer in offers {
@@ -51,7 +52,8 @@ fn too_high(offers: &[Offer], value: u64, prices: &PriceTable<'_>) -> IdSet
 
 /// Adds to `found` the offer's CPUs whose weight and price together are below the value.
 fn mark_too_high(found: &mut IdSet, offer: &Offer, value: u64, prices: &PriceTable<'_>)
-    ensures { (cpu : ℕ) → set.contains found.new cpu ≡ (set.contains found.old cpu || is_offer_too_high prices.now value offer.now cpu) }
+    ensures { (cpu : ℕ) → set.contains found.new cpu
+        ≡ (set.contains found.old cpu || is_offer_too_high prices.now value offer.now cpu) }
 {
     let weight = u64::from(offer.weight);
     let mut next = offer.cpus.first();
