@@ -4,6 +4,8 @@
 //! Nothing here knows how a plan was found. Whoever wrote a certificate, a yes of [`check_plan`] means
 //! that the plan is one of the least cost: the prices give a lower bound on the cost of every plan, and
 //! the plan's own cost is that bound.
+//!
+//! A certificate is also a text: [`read_text`] reads one, and [`check_text`] checks what it read.
 #![tactic(auto)]
 
 mod certificates;
