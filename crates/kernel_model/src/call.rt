@@ -1,4 +1,4 @@
-ghost use Rattle.std.specs.Prelude.{IfOk};
+ghost use Rattle.std.specs.Prelude.{◌≡◌, IfOk, OnErr};
 ghost use Rattle.kernel_model.specs.Runs.{Step, Run};
 
 use crate::{Kernel, KernelError};
@@ -103,17 +103,18 @@ pub fn make_call<K: Kernel>(kernel: &mut K, call: &Call) -> Result<Reply, Kernel
 
 /// Makes calls of a kernel, one after another, and keeps what they answered.
 ///
-/// The only error is want of memory for the answers; the calls made until then stay made.
+/// The only error is want of memory for the answers, before the first call.
 pub fn make_calls<K: Kernel>(
     alloc: Global,
     kernel: &mut K,
     calls: &[Call],
 ) -> Result<Vec<Result<Reply, KernelError>>, AllocError>
-    ensures { IfOk result (λ replies. Run (K.state kernel.old) calls.now replies.items (K.state kernel.new)) }
+    ensures ok { IfOk result (λ replies. Run (K.state kernel.old) calls.now replies.items (K.state kernel.new)) }
+    ensures err { OnErr result (K.state kernel.new ≡ K.state kernel.old) }
 {
-    let mut replies = Vec::new(alloc);
+    let mut replies = Vec::with_capacity(alloc, calls.len())?;
     for call in calls {
-        replies.push(make_call(kernel, call))?;
+        replies.push_reserved(make_call(kernel, call));
     }
     Ok(replies)
 }

@@ -17,7 +17,18 @@ Run-push old mid new (head ∷ calls) [] call r h step = absurd h
 Run-push old mid new (head ∷ calls) (first ∷ replies) call r (next, one, rest) step = (next, one, Run-push next mid new calls replies call r rest step)
 
 pub loop-call-preserved : goal.loop-call-preserved
-loop-call-preserved g c =
-    rw (take_more c.args.calls.now c.loop-call.call-index c.call-item.result (omega arith), ← c.call-item.is, c.in_ok-push.ensures.items)
-    (Run-push (g.K.Kernel.state c.args.kernel.now) (g.K.Kernel.state c.loop-call.kernel) (g.K.Kernel.state c.make_call.new.kernel)
-    (take c.loop-call.call-index c.args.calls.now) c.loop-call.replies.items c.call-item.result c.make_call.result c.loop-call.invariant c.make_call.ensures)
+loop-call-preserved g c = (
+  rw (take_more c.args.calls.now c.loop-call.call-index c.call-item.result (omega arith), ← c.call-item.is, c.push_reserved.ensures.items)
+      (Run-push
+      (g.K.Kernel.state c.args.kernel.now)
+      (g.K.Kernel.state c.loop-call.kernel)
+      (g.K.Kernel.state c.make_call.new.kernel)
+      (take c.loop-call.call-index c.args.calls.now)
+      c.loop-call.replies.items
+      c.call-item.result
+      c.make_call.result
+      c.loop-call.invariant.0
+      c.make_call.ensures),
+  omega (arith, c.push_reserved.ensures.len, c.loop-call.invariant.1),
+  omega (arith, c.push_reserved.ensures.capacity, c.loop-call.invariant.2),
+)
