@@ -150,7 +150,7 @@ columns ds n all k lt =
     ]
 
 -- the entry in row i and column j stands after i rows of n entries and j entries more
-entry_at :
+pub entry_at :
     (ds : List Data) (n i j : ℕ) → ((k : ℕ) → k < length ds → length (items_of (get_or ds k null)) ≡ n)
     → i < length ds → j < n
     → distance (table n (flat_map row_entries ds)) i j ≡ entry_of (get_or (items_of (get_or ds i null)) j null)

@@ -6,7 +6,6 @@ use Rattle.cpu_set.specs.Ids.{Ids, IsDisjoint}
 use Rattle.machine.specs.declared.TheConstants.{NODE_LIMIT}
 use Rattle.machine.specs.Distances.{AreEntries}
 use Rattle.machine.specs.IsSound.{IsSound}
-use Rattle.machine.specs.Layout.{Layout}
 use Rattle.machine.specs.Present.{union_of}
 use Rattle.machine.proofs.SubsetLaws.{is_subset-difference, is_subset-left}
 

@@ -14,3 +14,5 @@ pub mod DistancesFault
 pub mod BootFaults
 pub mod MachineOf
 pub mod JsonFault
+pub mod HasMembers
+pub mod SoundIsRead

@@ -2,8 +2,8 @@ use crate::field::Field;
 use json_text::JsonError;
 use std::alloc::AllocError;
 
-/// Why a text describes no machine. The variants stand in the order in which they are looked for, but
-/// for `BadField`, which comes before the other faults of its member.
+/// Why a text describes no machine; [`Machine::read`](crate::Machine::read) has the order in which the
+/// causes are looked for.
 #[derive(Clone, Copy, Debug, PartialEq, Eq)]
 pub enum MachineFault {
     /// The text has more than [`MAX_BYTES`](crate::MAX_BYTES) bytes, is not JSON, or is no object.

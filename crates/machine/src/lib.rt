@@ -16,7 +16,7 @@ mod topology;
 pub use fault::{MachineError, MachineFault};
 pub use field::Field;
 pub use slit::{LOCAL, UNREACHABLE};
-pub use topology::Machine;
+pub use topology::{Machine, sound_machines_are_read};
 
 /// The most nodes that a machine may have.
 pub const NODE_LIMIT: usize = 64;

@@ -5,6 +5,7 @@ ghost use Rattle.machine.specs.Layout.{Layout, node_count, distance};
 ghost use Rattle.machine.specs.Present.{present, IsPresent};
 ghost use Rattle.machine.specs.Nodes.{nodes_of, node_of, IsOfNode};
 ghost use Rattle.machine.specs.Weight.{weight, IsWeight, AreHomes};
+ghost use Rattle.machine.specs.SoundIsRead.{SoundIsRead};
 
 use crate::boot::{read_offline, read_reserved};
 use crate::fault::{MachineError, MachineFault};
@@ -69,8 +70,12 @@ impl Machine {
     ///
     /// # Errors
     ///
-    /// The first fault in the order of [`MachineFault`], where the nodes are checked one by one, and the
-    /// distances entry by entry in rows. [`MachineError::Memory`] is answered where a growth was refused.
+    /// The first fault in this order. [`MachineFault::NotJson`]; of `nodes` `BadField` and `NodeCount`,
+    /// and node by node `BadField` and `CpuTwice`; `BothDistances` and `NoDistances`; of a SLIT
+    /// `WrongSize`; of `distances` `BadField` where it or a row is no array, `WrongSize`, and entry by
+    /// entry in rows `BadField` and `BadDistance`; of `reserved` `BadField` and `BadReserved`; of
+    /// `offline` `BadField` and `BadOffline`. [`MachineError::Memory`] is answered where a growth was
+    /// refused.
     #[tactic(auto, unfolding(crate::specs::MachineOf::machine_of))]
     pub fn read(alloc: Global, json: &[u8], slit: Option<&Slit>) -> Result<Machine, MachineError>
         ensures machine { Gives result (machine_of (option_map (λ s. s.now) slit.entry) json.now) }
@@ -209,6 +214,12 @@ impl Machine {
         least
     }
 }
+
+/// The law that no machine is refused without a cause: a text that has the members of a machine file,
+/// each of its kind, and says a machine that is sound, describes that machine.
+pub fn sound_machines_are_read()
+    ensures { SoundIsRead }
+{}
 
 #[cfg(test)]
 mod tests;
