@@ -79,17 +79,41 @@ const MEMORY_ONLY_NODES: &str = r#"{
 fn reads_real_layouts(rt: HostRuntime) -> Result<(), Fail> {
     for (text, nodes, present, weights) in [
         (TWO_SOCKET, "0-1", "0-31", [("1", 0, 21), ("1", 24, 10)]),
-        (FOUR_SOCKET_RING, "0-3", "0-31", [("0", 16, 30), ("0-1", 16, 20)]),
-        (TWO_NODES_A_SOCKET, "0-3", "0-127", [("3", 0, 33), ("1", 64, 25)]),
-        (FOUR_NODES_A_SOCKET, "0-7", "0-127", [("7", 64, 32), ("1-3", 71, 16)]),
-        (MEMORY_ONLY_NODES, "0-7", "0-175", [("2", 0, 80), ("0,2", 100, 40)]),
+        (
+            FOUR_SOCKET_RING,
+            "0-3",
+            "0-31",
+            [("0", 16, 30), ("0-1", 16, 20)],
+        ),
+        (
+            TWO_NODES_A_SOCKET,
+            "0-3",
+            "0-127",
+            [("3", 0, 33), ("1", 64, 25)],
+        ),
+        (
+            FOUR_NODES_A_SOCKET,
+            "0-7",
+            "0-127",
+            [("7", 64, 32), ("1-3", 71, 16)],
+        ),
+        (
+            MEMORY_ONLY_NODES,
+            "0-7",
+            "0-175",
+            [("2", 0, 80), ("0,2", 100, 40)],
+        ),
     ] {
         let machine = Machine::read(rt.alloc(), text.as_bytes(), None)?;
         assert_eq!(rt; machine.nodes(), set(&rt, nodes), "{text}");
         assert_eq!(rt; machine.present(), set(&rt, present), "{text}");
         assert_eq!(rt; machine.boot_online(), machine.present(), "{text}");
         for (homes, cpu, least) in weights {
-            assert_eq!(rt; weight(&rt, &machine, homes, cpu), least, "CPU {cpu} and homes {homes} of {text}");
+            assert_eq!(rt;
+                weight(&rt, &machine, homes, cpu),
+                least,
+                "CPU {cpu} and homes {homes} of {text}"
+            );
         }
     }
     Ok(())
