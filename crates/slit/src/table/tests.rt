@@ -21,7 +21,10 @@ const ONE_WAY: [u8; 53] = [
 fn reads_what_iasl_compiles(rt: HostRuntime) -> Result<(), Fail> {
     let slit = Slit::read(rt.alloc(), &ONE_WAY)?;
     assert_eq!(rt; slit.localities(), 3);
-    for (i, row) in [[10, 12, 255], [16, 10, 20], [17, 40, 10]].iter().enumerate() {
+    for (i, row) in [[10, 12, 255], [16, 10, 20], [17, 40, 10]]
+        .iter()
+        .enumerate()
+    {
         for (j, entry) in row.iter().enumerate() {
             assert_eq!(rt; slit.distance(i, j), *entry, "from {i} to {j}");
         }
