@@ -1,17 +1,16 @@
 -- What a verdict on a text means.
-use Rattle.std.proofs.Common.{◌≡◌, ℕ, Bool, true, false, not, List, Option, Some, None, Result, Ok, Err, IfOk, IfErr, refl, sym, ap, ◌∙◌, subst, arith}
+use Rattle.std.proofs.Common.{◌≡◌, ℕ, Bool, true, false, not, List, Option, Some, None, Result, Ok, Err, IfOk, IfErr, refl, sym, ap, ◌∙◌, arith}
 use Rattle.std.specs.Prelude.{◌==◌}
 use Rattle.std.specs.Option.{option_or}
 use Rattle.std.proofs.lemmas.Bool.Decides.{nat_tests}
 use Rattle.std.proofs.lemmas.Option.{none-some}
-use Rattle.faults.specs.First.{when, first_of}
+use Rattle.faults.specs.First.{when}
 use Rattle.cpu_set.specs.Ids.{Ids}
 use Rattle.certificate.specs.RowView.{RowView}
 use Rattle.certificate.specs.PricesView.{PricesView}
 use Rattle.certificate.specs.Cost.{cost}
 use Rattle.certificate.specs.IsProved.{IsProved}
 use Rattle.certificate.specs.PlanFault.{plan_fault}
-use Rattle.certificate.specs.CertificateText.{IsText}
 use Rattle.certificate.specs.declared.certificates.Certificate.{Certificate}
 use Rattle.certificate.specs.declared.certificates.Certificate.TheVariants.{Plan as PlanCertificate}
 use Rattle.certificate.specs.declared.check_faults.CheckFault.{CheckFault}
@@ -20,7 +19,7 @@ use Rattle.certificate.specs.declared.text.checking.Verdict.{Verdict}
 use Rattle.certificate.specs.declared.text.checking.Verdict.TheVariants.{Plan}
 use Rattle.certificate.specs.declared.text.checking.VerdictError.{VerdictError}
 use Rattle.certificate.specs.declared.text.checking.VerdictError.TheVariants.{Memory, BadText, Fault}
-use Rattle.certificate.specs.Verdict.{Proves, IsVerdict, HasLeastPlan, SaysLeast, certificate_fault, IsVerdictError, IsAnswered}
+use Rattle.certificate.specs.Verdict.{IsVerdict, SaysLeast, certificate_fault, IsVerdictError, IsAnswered}
 use Rattle.certificate.proofs.Exact.{plan_fault-none, proved_is_least}
 use Rattle.certificate.proofs.Grammar.{one_certificate}
 
