@@ -26,6 +26,7 @@ pub record HasText (rows : List RowView) (sets : List Ids) (values : List ℕ) :
   pub values_len : length values ≡ length rows
   pub apart : AllPairs (λ r s. r.id ≢ s.id) rows
 
+-- the same of a certificate
 abbrev pub CanBeText : Certificate → Type 0
 CanBeText (Plan rows sets prices total) = HasText rows sets prices.values
 

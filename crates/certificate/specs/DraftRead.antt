@@ -4,6 +4,7 @@ use Rattle.std.specs.BTreeSet.{contains_text}
 use Rattle.certificate.specs.declared.text.draft.Draft.{Draft}
 use Rattle.certificate.specs.DraftView.{DraftView, has_id}
 
+-- its lists without where they lie in memory, and without the kept ids
 abbrev pub draft_view : Draft → DraftView
 draft_view d = record {
   stage = d.stage;

@@ -9,6 +9,7 @@ use Rattle.certificate.specs.declared.text.draft.Stage.{Stage}
 use Rattle.certificate.specs.declared.text.draft.Stage.TheVariants.{Start, Body, Totalled, Ended}
 use Rattle.certificate.specs.Line.{LineView, HeaderLine, RowLine, HoldLine, PriceLine, TotalLine, EndLine}
 
+-- how far the text has been read, and what it said; the total counts once it has been read
 pub record DraftView : Type 0 where
   pub stage : Stage
   pub rows : List RowView
@@ -45,6 +46,7 @@ next_in_body d (TotalLine total) = if is_held d then Some (record d { stage = To
 next_in_body d HeaderLine = None
 next_in_body d EndLine = None
 
+-- the same, by how far the text has been read
 abbrev pub next_at : Stage → DraftView → LineView → Option DraftView
 next_at Start d HeaderLine = Some (record d { stage = Body })
 next_at Body d l = next_in_body d l
@@ -57,5 +59,6 @@ next_at Ended d l = None
 abbrev pub next : DraftView → LineView → Option DraftView
 next d l = next_at d.stage d l
 
+-- nothing has been read
 abbrev pub empty_draft : DraftView
 empty_draft = record { stage = Start; rows = []; sets = []; values = []; prices = []; total = 0 }

@@ -8,6 +8,7 @@ use Rattle.certificate.specs.declared.text.id.TheConstants.{ID_LIMIT}
 abbrev pub is_id_letter : ℕ → Bool
 is_id_letter b = is_ascii_alphanumeric b || (b == 95 || (b == 45 || (b == 46 || b == 43)))
 
+-- the word is an id
 pub record IsId (word : List ℕ) : Type 0 where
   pub some : 0 < length word
   pub short : length word ≤ ID_LIMIT

@@ -10,6 +10,7 @@ use Rattle.certificate.specs.ListWord.{IsListWord}
 use Rattle.certificate.specs.NumberWord.{IsNumber}
 use Rattle.certificate.specs.Parts.{parts}
 
+-- what a line says
 pub data LineView : Type 0 where
   HeaderLine : LineView
   RowLine : (row : RowView) → LineView

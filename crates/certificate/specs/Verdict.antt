@@ -31,6 +31,7 @@ pub record Proves (text : List ℕ) (total : ℕ) : Type 0 where
 abbrev pub IsProvedCertificate : Certificate → Verdict → Type 0
 IsProvedCertificate (PlanCertificate rows sets prices total) (Plan proved) = IsProved rows sets prices total × (proved ≡ total)
 
+-- the verdict's total is proved by the text
 abbrev pub IsVerdict : List ℕ → Verdict → Type 0
 IsVerdict text (Plan total) = Proves text total
 
@@ -43,6 +44,7 @@ pub record HasLeastPlan (text : List ℕ) (total : ℕ) : Type 0 where
   pub least : IsLeast rows sets
   pub costs : cost rows sets ≡ total
 
+-- the verdict's total is the cost of the text's plan, which is least
 abbrev pub SaysLeast : List ℕ → Verdict → Type 0
 SaysLeast text (Plan total) = HasLeastPlan text total
 
