@@ -7,10 +7,10 @@ use Rattle.std.specs.Cmp.Lexicographic.{pointwise}
 use Rattle.cpu_set.specs.Ids.{Ids}
 use Rattle.cpuset_tree.specs.declared.groups.Group.{Group}
 use Rattle.cpuset_tree.specs.TreeState.{GroupEntry, TreeState}
-use Rattle.cpuset_tree.specs.Groups.{same_group, entry_among, entry_of, has_group, is_parent, is_root_entry, has_child_among, root_among}
+use Rattle.cpuset_tree.specs.Groups.{cpus_in, mems_in, same_group, entry_among, entry_of, has_group, is_parent, is_root_entry, has_child_among, root_among}
 use Rattle.cpuset_tree.specs.TreeChanges.{requesting_cpus, requesting_mems, with_group, new_entry}
 use Rattle.cpuset_tree.specs.TreeWellFormed.{ParentIsAmong, IsFalling, IsWellFormed}
-use Rattle.cpuset_tree.specs.TreeLaws.{CpusWritten, MemsWritten, GroupAdded, AddedLeaves, RemovedLeaves, IsChild, FoundIsChild, ChangesStayWellFormed, FirstIsWellFormed, WellFormedRunsUp}
+use Rattle.cpuset_tree.specs.TreeLaws.{WritesRequest, CpusWritten, MemsWritten, GroupAdded, AddedLeaves, RemovedLeaves, IsChild, FoundIsChild, ChangesStayWellFormed, FirstIsWellFormed, WellFormedRunsUp}
 use Rattle.cpuset_tree.proofs.GroupLemmas.{same_group-equal, same_group_itself, same_group_sym, same_group-serial, other_serial, entry_among-here, entry_among-there}
 use Rattle.cpuset_tree.proofs.ChangeLemmas.{entry_among-without, entry_among-removed}
 use Rattle.cpuset_tree.proofs.WellFormedLemmas.{serial_below, RunsUpThePath-well_formed}
@@ -231,3 +231,59 @@ first_is_well_formed online nodes first_serial s first = subst (λ (n : TreeStat
 
 pub well_formed_runs_up : WellFormedRunsUp
 well_formed_runs_up s well = RunsUpThePath-well_formed s well.falling
+
+-- an entry that is found is that of the group
+pub entry_among-same : (groups : List GroupEntry) (g : Group) (e : GroupEntry) → entry_among groups g ≡ Some e → same_group e.group g ≡ true
+entry_among-same [] g e at = absurd (none-some e at)
+entry_among-same (h ∷ older) g e at =
+    elim (same_group h.group g) as (λ t. same_group h.group g ≡ t → same_group e.group g ≡ true) [
+      | true ↦ λ is. ap (λ (x : GroupEntry). same_group x.group g) (sym (same_Some h e (sym (entry_among-here h older g is) ∙ at))) ∙ is
+      | false ↦ λ is. entry_among-same older g e (sym (entry_among-there h older g is) ∙ at)
+    ] refl
+
+requesting_cpus-mems : (g : Group) (cpus : Ids) (e : GroupEntry) → (requesting_cpus g cpus e).mems ≡ e.mems
+requesting_cpus-mems g cpus e = elim (same_group e.group g) as (λ t. same_group e.group g ≡ t → (requesting_cpus g cpus e).mems ≡ e.mems) [ true ↦ λ h. rw h | false ↦ λ h. rw h ] refl
+
+requesting_mems-cpus : (g : Group) (mems : Ids) (e : GroupEntry) → (requesting_mems g mems e).cpus ≡ e.cpus
+requesting_mems-cpus g mems e = elim (same_group e.group g) as (λ t. same_group e.group g ≡ t → (requesting_mems g mems e).cpus ≡ e.cpus) [ true ↦ λ h. rw h | false ↦ λ h. rw h ] refl
+
+-- what is read of an entry that a write maps
+read_own : {A : Type 0} (read : Option GroupEntry → A) (r : GroupEntry → GroupEntry) (value : A) (s : TreeState) (g : Group)
+    → ((e : GroupEntry) → same_group e.group g ≡ true → read (Some (r e)) ≡ value) → has_group s g ≡ true → read (option_map r (entry_of s g)) ≡ value
+read_own read r value s g own there = from (entry_of s g) refl
+  where
+    from : (o : Option GroupEntry) → entry_of s g ≡ o → read (option_map r (entry_of s g)) ≡ value
+    from None at = absurd (both_ways (has_group s g) (ap is_some at) there)
+    from (Some e) at = ap (λ (o : Option GroupEntry). read (option_map r o)) at ∙ own e (entry_among-same s.groups g e at)
+
+read_other : {A : Type 0} (read : Option GroupEntry → A) (r : GroupEntry → GroupEntry) (s : TreeState) (p : Group)
+    → ((e : GroupEntry) → same_group e.group p ≡ true → read (Some (r e)) ≡ read (Some e)) → read (option_map r (entry_of s p)) ≡ read (entry_of s p)
+read_other read r s p stays = from (entry_of s p) refl
+  where
+    from : (o : Option GroupEntry) → entry_of s p ≡ o → read (option_map r (entry_of s p)) ≡ read (entry_of s p)
+    from None at = ap (λ (o : Option GroupEntry). read (option_map r o)) at ∙ sym (ap read at)
+    from (Some e) at = ap (λ (o : Option GroupEntry). read (option_map r o)) at ∙ stays e (entry_among-same s.groups p e at) ∙ sym (ap read at)
+
+-- the entry of another group is not this group's
+not_this : (g p : Group) (e : GroupEntry) → same_group g p ≡ false → same_group e.group p ≡ true → same_group e.group g ≡ false
+not_this g p e other is = ap (λ (x : Group). same_group x g) (same_group-equal e.group p is) ∙ same_group_sym p g ∙ other
+
+pub writes_request : WritesRequest
+writes_request = (
+  (λ s g cpus. record {
+    own = λ there. ap cpus_in (entry_of-with_cpus s g cpus g)
+        ∙ read_own cpus_in (requesting_cpus g cpus) cpus s g (λ e is. ap (λ (x : GroupEntry). x.cpus) (cond-true (same_group e.group g) (record e { cpus = cpus }) e is)) there;
+    others = λ p other. ap cpus_in (entry_of-with_cpus s g cpus p)
+        ∙ read_other cpus_in (requesting_cpus g cpus) s p (λ e is. ap (λ (x : GroupEntry). x.cpus) (cond-false (same_group e.group g) (record e { cpus = cpus }) e (not_this g p e other is)));
+    mems = λ p. ap mems_in (entry_of-with_cpus s g cpus p) ∙ read_other mems_in (requesting_cpus g cpus) s p (λ e is. requesting_cpus-mems g cpus e);
+    there = λ p. ap is_some (entry_of-with_cpus s g cpus p) ∙ read_other is_some (requesting_cpus g cpus) s p (λ e is. refl);
+  }),
+  (λ s g mems. record {
+    own = λ there. ap mems_in (entry_of-with_mems s g mems g)
+        ∙ read_own mems_in (requesting_mems g mems) mems s g (λ e is. ap (λ (x : GroupEntry). x.mems) (cond-true (same_group e.group g) (record e { mems = mems }) e is)) there;
+    others = λ p other. ap mems_in (entry_of-with_mems s g mems p)
+        ∙ read_other mems_in (requesting_mems g mems) s p (λ e is. ap (λ (x : GroupEntry). x.mems) (cond-false (same_group e.group g) (record e { mems = mems }) e (not_this g p e other is)));
+    cpus = λ p. ap cpus_in (entry_of-with_mems s g mems p) ∙ read_other cpus_in (requesting_mems g mems) s p (λ e is. requesting_mems-cpus g mems e);
+    there = λ p. ap is_some (entry_of-with_mems s g mems p) ∙ read_other is_some (requesting_mems g mems) s p (λ e is. refl);
+  }),
+)

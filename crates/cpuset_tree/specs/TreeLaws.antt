@@ -5,7 +5,7 @@ use Rattle.std.specs.Prelude.{nat_eq}
 use Rattle.cpu_set.specs.Ids.{Ids}
 use Rattle.cpuset_tree.specs.declared.groups.Group.{Group}
 use Rattle.cpuset_tree.specs.TreeState.{GroupEntry, TreeState}
-use Rattle.cpuset_tree.specs.Groups.{same_group, entry_of, has_group, has_children, is_root, child_of}
+use Rattle.cpuset_tree.specs.Groups.{same_group, entry_of, has_group, has_children, is_root, child_of, requested_cpus, requested_mems}
 use Rattle.cpuset_tree.specs.Effective.{standing, effective_cpus, effective_mems}
 use Rattle.cpuset_tree.specs.TreeChanges.{new_entry, IsFirstTree, without_group, requesting_cpus, requesting_mems, with_cpus, with_mems, with_online}
 use Rattle.cpuset_tree.specs.TreeAnswers.{AddsGroup}
@@ -24,6 +24,23 @@ CpusWritten = (s : TreeState) (g : Group) (cpus : Ids) (p : Group) → entry_of 
 
 abbrev pub MemsWritten : Type 0
 MemsWritten = (s : TreeState) (g : Group) (mems : Ids) (p : Group) → entry_of (with_mems s g mems) p ≡ option_map (requesting_mems g mems) (entry_of s p)
+
+-- after a write of a group's CPUs it requests these, and every other group what it did; no group's memory nodes change
+pub record CpusRequested (s : TreeState) (g : Group) (cpus : Ids) : Type 0 where
+  pub own : has_group s g ≡ true → requested_cpus (with_cpus s g cpus) g ≡ cpus
+  pub others : (p : Group) → same_group g p ≡ false → requested_cpus (with_cpus s g cpus) p ≡ requested_cpus s p
+  pub mems : (p : Group) → requested_mems (with_cpus s g cpus) p ≡ requested_mems s p
+  pub there : (p : Group) → has_group (with_cpus s g cpus) p ≡ has_group s p
+
+-- and the same after a write of its memory nodes
+pub record MemsRequested (s : TreeState) (g : Group) (mems : Ids) : Type 0 where
+  pub own : has_group s g ≡ true → requested_mems (with_mems s g mems) g ≡ mems
+  pub others : (p : Group) → same_group g p ≡ false → requested_mems (with_mems s g mems) p ≡ requested_mems s p
+  pub cpus : (p : Group) → requested_cpus (with_mems s g mems) p ≡ requested_cpus s p
+  pub there : (p : Group) → has_group (with_mems s g mems) p ≡ has_group s p
+
+abbrev pub WritesRequest : Type 0
+WritesRequest = ((s : TreeState) (g : Group) (cpus : Ids) → CpusRequested s g cpus) × ((s : TreeState) (g : Group) (mems : Ids) → MemsRequested s g mems)
 
 -- a new group requests nothing, and all others stay
 pub record GroupAdded (s new : TreeState) (parent : Group) (name : List ℕ) (g : Group) : Type 0 where

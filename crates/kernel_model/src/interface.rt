@@ -58,6 +58,8 @@ pub trait Kernel {
         ensures { EndsGroup (state self.old) group result (state self.new) };
 
     /// The group that has no parent.
+    ///
+    /// Whoever asks for it knows that the kernel's meaning is well formed.
     fn root(&self) -> Group
         ensures root { root_of (state self.now).tree ≡ Some result }
         ensures well_formed { IsWellFormed (state self.now) };
@@ -100,7 +102,7 @@ pub trait Kernel {
     fn nodes(&self) -> IdSet
         ensures { result ≡ (state self.now).tree.nodes };
 
-    /// Whether a process of this pid is alive.
+    /// Whether a process of this pid is alive, as a container's first process.
     fn first_alive(&self, pid: u32) -> bool
         ensures { result ≡ is_alive (state self.now).table pid };
 
