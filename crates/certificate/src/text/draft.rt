@@ -1,5 +1,6 @@
-ghost use Rattle.std.specs.Prelude.{◌≡◌, Some, None, OnOk, IfErr, length, slice_get};
+ghost use Rattle.std.specs.Prelude.{◌≡◌, Some, None, OnOk, length, slice_get};
 ghost use Rattle.certificate.specs.Line.{HoldLine, PriceLine, RowLine, TotalLine};
+ghost use Rattle.certificate.specs.OnBad.{OnBad};
 
 use super::line_fault::LineFault;
 use crate::{Certificate, Plan, Price, Prices, Problem, Row};
@@ -58,7 +59,7 @@ impl Draft {
         requires { KnowsIds self.old }
         ensures ids { OnOk result (KnowsIds self.new) }
         ensures ok { OnOk result (next_in_body (draft_view self.old) (RowLine row) ≡ Some (draft_view self.new)) }
-        ensures bad { IfErr result (λ fault. fault ≡ LineFault.Bad → next_in_body (draft_view self.old) (RowLine row) ≡ None) }
+        ensures bad { OnBad result (next_in_body (draft_view self.old) (RowLine row) ≡ None) }
     {
         if !self.sets.is_empty() {
             return Err(LineFault::Bad);
@@ -88,7 +89,7 @@ impl Draft {
         requires { KnowsIds self.old }
         ensures ids { OnOk result (KnowsIds self.new) }
         ensures ok { OnOk result (next_in_body (draft_view self.old) (HoldLine id.now cpus value) ≡ Some (draft_view self.new)) }
-        ensures bad { IfErr result (λ fault. fault ≡ LineFault.Bad → next_in_body (draft_view self.old) (HoldLine id.now cpus value) ≡ None) }
+        ensures bad { OnBad result (next_in_body (draft_view self.old) (HoldLine id.now cpus value) ≡ None) }
     {
         if !self.awaits(id) {
             return Err(LineFault::Bad);
@@ -110,7 +111,7 @@ impl Draft {
         requires { KnowsIds self.old }
         ensures ids { OnOk result (KnowsIds self.new) }
         ensures ok { OnOk result (next_in_body (draft_view self.old) (PriceLine price) ≡ Some (draft_view self.new)) }
-        ensures bad { IfErr result (λ fault. fault ≡ LineFault.Bad → next_in_body (draft_view self.old) (PriceLine price) ≡ None) }
+        ensures bad { OnBad result (next_in_body (draft_view self.old) (PriceLine price) ≡ None) }
     {
         if !self.is_held() {
             return Err(LineFault::Bad);
@@ -124,7 +125,7 @@ impl Draft {
         requires { KnowsIds self.old }
         ensures ids { OnOk result (KnowsIds self.new) }
         ensures ok { OnOk result (next_in_body (draft_view self.old) (TotalLine total) ≡ Some (draft_view self.new)) }
-        ensures bad { IfErr result (λ fault. fault ≡ LineFault.Bad → next_in_body (draft_view self.old) (TotalLine total) ≡ None) }
+        ensures bad { OnBad result (next_in_body (draft_view self.old) (TotalLine total) ≡ None) }
     {
         if !self.is_held() {
             return Err(LineFault::Bad);

@@ -1,8 +1,9 @@
-ghost use Rattle.std.specs.Prelude.{◌≡◌, ℕ, List, MatchOption, IfOk, IfErr};
+ghost use Rattle.std.specs.Prelude.{◌≡◌, ℕ, List, MatchOption, IfOk};
 ghost use Rattle.cpu_set.specs.Ids.{Ids};
 ghost use Rattle.certificate.specs.RowView.{RowView};
 ghost use Rattle.certificate.specs.declared.price_lists.Price.{Price};
 ghost use Rattle.certificate.specs.Line.{words, AreRowWords, AreHoldWords, ArePriceWords, AreTotalWords};
+ghost use Rattle.certificate.specs.OnBad.{OnBad};
 
 use super::cut::cut;
 use super::decimal::{read_u32, read_u64};
@@ -18,7 +19,7 @@ use std::alloc::Global;
 /// ID DEMAND, and offers.
 pub fn read_row(alloc: Global, text: &[u8]) -> Result<Row, LineFault>
     ensures ok { IfOk result (λ row. AreRowWords (words text.now) row) }
-    ensures bad { IfErr result (λ fault. fault ≡ LineFault.Bad → (row : RowView) → AreRowWords (words text.now) row → ⊥) }
+    ensures bad { OnBad result ((row : RowView) → AreRowWords (words text.now) row → ⊥) }
 {
     let Some((id, rest)) = cut(text, b' ') else {
         return Err(LineFault::Bad);
