@@ -58,7 +58,8 @@ impl Draft {
     pub fn add_row(&mut self, row: Row) -> Result<(), LineFault>
         requires { KnowsIds self.old }
         ensures ids { OnOk result (KnowsIds self.new) }
-        ensures ok { OnOk result (next_in_body (draft_view self.old) (RowLine row) ≡ Some (draft_view self.new)) }
+        ensures ok { OnOk result (next_in_body (draft_view self.old) (RowLine row)
+            ≡ Some (draft_view self.new)) }
         ensures bad { OnBad result (next_in_body (draft_view self.old) (RowLine row) ≡ None) }
     {
         if !self.sets.is_empty() {
@@ -110,7 +111,8 @@ impl Draft {
     pub fn add_price(&mut self, price: Price) -> Result<(), LineFault>
         requires { KnowsIds self.old }
         ensures ids { OnOk result (KnowsIds self.new) }
-        ensures ok { OnOk result (next_in_body (draft_view self.old) (PriceLine price) ≡ Some (draft_view self.new)) }
+        ensures ok { OnOk result (next_in_body (draft_view self.old) (PriceLine price)
+            ≡ Some (draft_view self.new)) }
         ensures bad { OnBad result (next_in_body (draft_view self.old) (PriceLine price) ≡ None) }
     {
         if !self.is_held() {
@@ -124,7 +126,8 @@ impl Draft {
     pub fn add_total(&mut self, total: u64) -> Result<(), LineFault>
         requires { KnowsIds self.old }
         ensures ids { OnOk result (KnowsIds self.new) }
-        ensures ok { OnOk result (next_in_body (draft_view self.old) (TotalLine total) ≡ Some (draft_view self.new)) }
+        ensures ok { OnOk result (next_in_body (draft_view self.old) (TotalLine total)
+            ≡ Some (draft_view self.new)) }
         ensures bad { OnBad result (next_in_body (draft_view self.old) (TotalLine total) ≡ None) }
     {
         if !self.is_held() {

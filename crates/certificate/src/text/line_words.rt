@@ -49,7 +49,8 @@ pub struct Hold<'a> {
 
 /// ID LIST VALUE.
 pub fn read_hold(text: &[u8]) -> Option<Hold<'_>>
-    ensures { MatchOption result ((id : List ℕ) (cpus : Ids) (value : ℕ) → AreHoldWords (words text.now) id cpus value → ⊥)
+    ensures { MatchOption result ((id : List ℕ) (cpus : Ids) (value : ℕ)
+        → AreHoldWords (words text.now) id cpus value → ⊥)
         (λ hold. AreHoldWords (words text.now) hold.id.now hold.cpus hold.value) }
 {
     let (id, cpus, value) = three(text, b' ')?;
@@ -60,7 +61,8 @@ pub fn read_hold(text: &[u8]) -> Option<Hold<'_>>
 
 /// AMOUNT LIST.
 pub fn read_price(text: &[u8]) -> Option<Price>
-    ensures { MatchOption result ((price : Price) → ArePriceWords (words text.now) price → ⊥) (λ price. ArePriceWords (words text.now) price) }
+    ensures { MatchOption result ((price : Price) → ArePriceWords (words text.now) price → ⊥)
+        (λ price. ArePriceWords (words text.now) price) }
 {
     let (amount, cpus) = two(text, b' ')?;
     let amount = read_u64(amount)?;
@@ -70,7 +72,8 @@ pub fn read_price(text: &[u8]) -> Option<Price>
 
 /// TOTAL.
 pub fn read_total(text: &[u8]) -> Option<u64>
-    ensures { MatchOption result ((total : ℕ) → AreTotalWords (words text.now) total → ⊥) (λ total. AreTotalWords (words text.now) total) }
+    ensures { MatchOption result ((total : ℕ) → AreTotalWords (words text.now) total → ⊥)
+        (λ total. AreTotalWords (words text.now) total) }
 {
     match cut(text, b' ') {
         Some(_) => None,

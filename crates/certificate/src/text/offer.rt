@@ -14,7 +14,8 @@ use std::alloc::Global;
 
 /// The offer that the word WEIGHT:LIST spells.
 fn read_offer(word: &[u8]) -> Option<Offer>
-    ensures { MatchOption result ((o : Offer) → IsOfferWord word.now o → ⊥) (λ o. IsOfferWord word.now o) }
+    ensures { MatchOption result ((o : Offer) → IsOfferWord word.now o → ⊥)
+        (λ o. IsOfferWord word.now o) }
 {
     let (weight, cpus) = two(word, b':')?;
     let weight = read_u32(weight)?;

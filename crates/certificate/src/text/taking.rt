@@ -29,9 +29,11 @@ fn take_row(alloc: Global, draft: &mut Draft, text: &[u8]) -> Result<(), LineFau
 fn take_hold(draft: &mut Draft, text: &[u8]) -> Result<(), LineFault>
     requires { KnowsIds draft.old }
     ensures ids { OnOk result (KnowsIds draft.new) }
-    ensures ok { OnOk result ((id : List ℕ) × (cpus : Ids) × (value : ℕ) × AreHoldWords (words text.now) id cpus value
+    ensures ok { OnOk result ((id : List ℕ) × (cpus : Ids) × (value : ℕ)
+        × AreHoldWords (words text.now) id cpus value
         × (next_in_body (draft_view draft.old) (HoldLine id cpus value) ≡ Some (draft_view draft.new))) }
-    ensures bad { OnBad result ((id : List ℕ) (cpus : Ids) (value : ℕ) → AreHoldWords (words text.now) id cpus value
+    ensures bad { OnBad result ((id : List ℕ) (cpus : Ids) (value : ℕ)
+        → AreHoldWords (words text.now) id cpus value
         → next_in_body (draft_view draft.old) (HoldLine id cpus value) ≡ None) }
 {
     let Some(hold) = read_hold(text) else {
@@ -74,8 +76,10 @@ fn take_total(draft: &mut Draft, text: &[u8]) -> Result<(), LineFault>
 fn take_in_body(alloc: Global, draft: &mut Draft, line: &[u8]) -> Result<(), LineFault>
     requires { KnowsIds draft.old }
     ensures ids { OnOk result (KnowsIds draft.new) }
-    ensures ok { OnOk result ((l : LineView) × Spells line.now l × (next_in_body (draft_view draft.old) l ≡ Some (draft_view draft.new))) }
-    ensures bad { OnBad result ((l : LineView) → Spells line.now l → next_in_body (draft_view draft.old) l ≡ None) }
+    ensures ok { OnOk result ((l : LineView) × Spells line.now l
+        × (next_in_body (draft_view draft.old) l ≡ Some (draft_view draft.new))) }
+    ensures bad { OnBad result ((l : LineView) → Spells line.now l
+        → next_in_body (draft_view draft.old) l ≡ None) }
 {
     let Some((kind, text)) = cut(line, b' ') else {
         return Err(LineFault::Bad);
@@ -99,8 +103,10 @@ fn take_in_body(alloc: Global, draft: &mut Draft, line: &[u8]) -> Result<(), Lin
 pub fn take_line(alloc: Global, draft: &mut Draft, line: &[u8]) -> Result<(), LineFault>
     requires { KnowsIds draft.old }
     ensures ids { OnOk result (KnowsIds draft.new) }
-    ensures ok { OnOk result ((l : LineView) × Spells line.now l × (next (draft_view draft.old) l ≡ Some (draft_view draft.new))) }
-    ensures bad { OnBad result ((l : LineView) → Spells line.now l → next (draft_view draft.old) l ≡ None) }
+    ensures ok { OnOk result ((l : LineView) × Spells line.now l
+        × (next (draft_view draft.old) l ≡ Some (draft_view draft.new))) }
+    ensures bad { OnBad result ((l : LineView) → Spells line.now l
+        → next (draft_view draft.old) l ≡ None) }
 {
     match draft.stage {
         Stage::Start => {
