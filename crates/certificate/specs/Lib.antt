@@ -27,3 +27,4 @@ pub mod DraftRead
 pub mod Begun
 pub mod Finished
 pub mod Verdict
+pub mod OnBad

@@ -1,3 +1,5 @@
+//! Certificates as text, line by line: [`read_text`] reads one, [`check_text`] checks what it read.
+
 mod checking;
 mod cut;
 mod decimal;

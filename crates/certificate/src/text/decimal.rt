@@ -4,7 +4,8 @@ ghost use Rattle.certificate.specs.NumberWord.{IsNumber};
 
 /// The number that the word writes in decimal digits without leading zeros, if it fits 64 bits.
 pub fn read_u64(word: &[u8]) -> Option<u64>
-    ensures { MatchOption result ((n : ℕ) → IsNumber (2 ^ 64) word.now n → ⊥) (λ n. IsNumber (2 ^ 64) word.now n) }
+    ensures { MatchOption result ((n : ℕ) → IsNumber (2 ^ 64) word.now n → ⊥)
+        (λ n. IsNumber (2 ^ 64) word.now n) }
 {
     if word.is_empty() {
         return None;
@@ -21,7 +22,9 @@ pub fn read_u64(word: &[u8]) -> Option<u64>
 
 /// The number with one more digit behind it.
 fn with_digit(number: u64, digit: u8) -> Option<u64>
-    ensures { SomeIff result ((is_ascii_digit digit ≡ true) × (number * 10 + digit_value digit < 2 ^ 64)) (number * 10 + digit_value digit) }
+    ensures { SomeIff result
+        ((is_ascii_digit digit ≡ true) × (number * 10 + digit_value digit < 2 ^ 64))
+        (number * 10 + digit_value digit) }
 {
     if !digit.is_ascii_digit() {
         return None;
@@ -31,7 +34,8 @@ fn with_digit(number: u64, digit: u8) -> Option<u64>
 
 /// The number that the word writes in decimal digits without leading zeros, if it fits 32 bits.
 pub fn read_u32(word: &[u8]) -> Option<u32>
-    ensures { MatchOption result ((n : ℕ) → IsNumber (2 ^ 32) word.now n → ⊥) (λ n. IsNumber (2 ^ 32) word.now n) }
+    ensures { MatchOption result ((n : ℕ) → IsNumber (2 ^ 32) word.now n → ⊥)
+        (λ n. IsNumber (2 ^ 32) word.now n) }
 {
     match read_u64(word) {
         Some(number) => u32::try_from(number).ok(),

@@ -1,5 +1,6 @@
-ghost use Rattle.std.specs.Prelude.{◌≡◌, Some, None, OnOk, IfErr, length, slice_get};
+ghost use Rattle.std.specs.Prelude.{◌≡◌, Some, None, OnOk, length, slice_get};
 ghost use Rattle.certificate.specs.Line.{HoldLine, PriceLine, RowLine, TotalLine};
+ghost use Rattle.certificate.specs.OnBad.{OnBad};
 
 use super::line_fault::LineFault;
 use crate::{Certificate, Plan, Price, Prices, Problem, Row};
@@ -57,8 +58,9 @@ impl Draft {
     pub fn add_row(&mut self, row: Row) -> Result<(), LineFault>
         requires { KnowsIds self.old }
         ensures ids { OnOk result (KnowsIds self.new) }
-        ensures ok { OnOk result (next_in_body (draft_view self.old) (RowLine row) ≡ Some (draft_view self.new)) }
-        ensures bad { IfErr result (λ fault. fault ≡ LineFault.Bad → next_in_body (draft_view self.old) (RowLine row) ≡ None) }
+        ensures ok { OnOk result (next_in_body (draft_view self.old) (RowLine row)
+            ≡ Some (draft_view self.new)) }
+        ensures bad { OnBad result (next_in_body (draft_view self.old) (RowLine row) ≡ None) }
     {
         if !self.sets.is_empty() {
             return Err(LineFault::Bad);
@@ -88,7 +90,7 @@ impl Draft {
         requires { KnowsIds self.old }
         ensures ids { OnOk result (KnowsIds self.new) }
         ensures ok { OnOk result (next_in_body (draft_view self.old) (HoldLine id.now cpus value) ≡ Some (draft_view self.new)) }
-        ensures bad { IfErr result (λ fault. fault ≡ LineFault.Bad → next_in_body (draft_view self.old) (HoldLine id.now cpus value) ≡ None) }
+        ensures bad { OnBad result (next_in_body (draft_view self.old) (HoldLine id.now cpus value) ≡ None) }
     {
         if !self.awaits(id) {
             return Err(LineFault::Bad);
@@ -109,8 +111,9 @@ impl Draft {
     pub fn add_price(&mut self, price: Price) -> Result<(), LineFault>
         requires { KnowsIds self.old }
         ensures ids { OnOk result (KnowsIds self.new) }
-        ensures ok { OnOk result (next_in_body (draft_view self.old) (PriceLine price) ≡ Some (draft_view self.new)) }
-        ensures bad { IfErr result (λ fault. fault ≡ LineFault.Bad → next_in_body (draft_view self.old) (PriceLine price) ≡ None) }
+        ensures ok { OnOk result (next_in_body (draft_view self.old) (PriceLine price)
+            ≡ Some (draft_view self.new)) }
+        ensures bad { OnBad result (next_in_body (draft_view self.old) (PriceLine price) ≡ None) }
     {
         if !self.is_held() {
             return Err(LineFault::Bad);
@@ -123,8 +126,9 @@ impl Draft {
     pub fn add_total(&mut self, total: u64) -> Result<(), LineFault>
         requires { KnowsIds self.old }
         ensures ids { OnOk result (KnowsIds self.new) }
-        ensures ok { OnOk result (next_in_body (draft_view self.old) (TotalLine total) ≡ Some (draft_view self.new)) }
-        ensures bad { IfErr result (λ fault. fault ≡ LineFault.Bad → next_in_body (draft_view self.old) (TotalLine total) ≡ None) }
+        ensures ok { OnOk result (next_in_body (draft_view self.old) (TotalLine total)
+            ≡ Some (draft_view self.new)) }
+        ensures bad { OnBad result (next_in_body (draft_view self.old) (TotalLine total) ≡ None) }
     {
         if !self.is_held() {
             return Err(LineFault::Bad);

@@ -1,6 +1,7 @@
-ghost use Rattle.std.specs.Prelude.{◌≡◌, ◌↔◌, IsTrue, IfOk, IfErr, string_bytes};
+ghost use Rattle.std.specs.Prelude.{◌≡◌, ◌↔◌, IsTrue, IfOk, string_bytes};
 ghost use Rattle.std.specs.List.{list_all};
 ghost use Rattle.certificate.specs.IdWord.{is_id_letter, IsId};
+ghost use Rattle.certificate.specs.OnBad.{OnBad};
 
 use super::line_fault::LineFault;
 use std::alloc::Global;
@@ -36,7 +37,7 @@ fn is_letter(byte: u8) -> bool
 /// The id that the word is.
 pub fn read_id(alloc: Global, word: &[u8]) -> Result<String, LineFault>
     ensures ok { IfOk result (λ id. IsId word.now × (string_bytes id ≡ word.now)) }
-    ensures bad { IfErr result (λ fault. fault ≡ LineFault.Bad → IsId word.now → ⊥) }
+    ensures bad { OnBad result (IsId word.now → ⊥) }
 {
     if !is_id(word) {
         return Err(LineFault::Bad);

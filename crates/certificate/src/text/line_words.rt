@@ -1,8 +1,9 @@
-ghost use Rattle.std.specs.Prelude.{◌≡◌, ℕ, List, MatchOption, IfOk, IfErr};
+ghost use Rattle.std.specs.Prelude.{◌≡◌, ℕ, List, MatchOption, IfOk};
 ghost use Rattle.cpu_set.specs.Ids.{Ids};
 ghost use Rattle.certificate.specs.RowView.{RowView};
 ghost use Rattle.certificate.specs.declared.price_lists.Price.{Price};
 ghost use Rattle.certificate.specs.Line.{words, AreRowWords, AreHoldWords, ArePriceWords, AreTotalWords};
+ghost use Rattle.certificate.specs.OnBad.{OnBad};
 
 use super::cut::cut;
 use super::decimal::{read_u32, read_u64};
@@ -18,7 +19,7 @@ use std::alloc::Global;
 /// ID DEMAND, and offers.
 pub fn read_row(alloc: Global, text: &[u8]) -> Result<Row, LineFault>
     ensures ok { IfOk result (λ row. AreRowWords (words text.now) row) }
-    ensures bad { IfErr result (λ fault. fault ≡ LineFault.Bad → (row : RowView) → AreRowWords (words text.now) row → ⊥) }
+    ensures bad { OnBad result ((row : RowView) → AreRowWords (words text.now) row → ⊥) }
 {
     let Some((id, rest)) = cut(text, b' ') else {
         return Err(LineFault::Bad);
@@ -48,7 +49,8 @@ pub struct Hold<'a> {
 
 /// ID LIST VALUE.
 pub fn read_hold(text: &[u8]) -> Option<Hold<'_>>
-    ensures { MatchOption result ((id : List ℕ) (cpus : Ids) (value : ℕ) → AreHoldWords (words text.now) id cpus value → ⊥)
+    ensures { MatchOption result ((id : List ℕ) (cpus : Ids) (value : ℕ)
+        → AreHoldWords (words text.now) id cpus value → ⊥)
         (λ hold. AreHoldWords (words text.now) hold.id.now hold.cpus hold.value) }
 {
     let (id, cpus, value) = three(text, b' ')?;
@@ -59,7 +61,8 @@ pub fn read_hold(text: &[u8]) -> Option<Hold<'_>>
 
 /// AMOUNT LIST.
 pub fn read_price(text: &[u8]) -> Option<Price>
-    ensures { MatchOption result ((price : Price) → ArePriceWords (words text.now) price → ⊥) (λ price. ArePriceWords (words text.now) price) }
+    ensures { MatchOption result ((price : Price) → ArePriceWords (words text.now) price → ⊥)
+        (λ price. ArePriceWords (words text.now) price) }
 {
     let (amount, cpus) = two(text, b' ')?;
     let amount = read_u64(amount)?;
@@ -69,7 +72,8 @@ pub fn read_price(text: &[u8]) -> Option<Price>
 
 /// TOTAL.
 pub fn read_total(text: &[u8]) -> Option<u64>
-    ensures { MatchOption result ((total : ℕ) → AreTotalWords (words text.now) total → ⊥) (λ total. AreTotalWords (words text.now) total) }
+    ensures { MatchOption result ((total : ℕ) → AreTotalWords (words text.now) total → ⊥)
+        (λ total. AreTotalWords (words text.now) total) }
 {
     match cut(text, b' ') {
         Some(_) => None,

@@ -1,7 +1,8 @@
-ghost use Rattle.std.specs.Prelude.{◌≡◌, MatchOption, IfOk, IfErr, List};
+ghost use Rattle.std.specs.Prelude.{◌≡◌, MatchOption, IfOk, List};
 ghost use Rattle.std.specs.List.{AllZip};
 ghost use Rattle.certificate.specs.declared.rows.Offer.{Offer};
 ghost use Rattle.certificate.specs.Line.{IsOfferWord, words};
+ghost use Rattle.certificate.specs.OnBad.{OnBad};
 
 use super::cut::cut;
 use super::decimal::read_u32;
@@ -13,7 +14,8 @@ use std::alloc::Global;
 
 /// The offer that the word WEIGHT:LIST spells.
 fn read_offer(word: &[u8]) -> Option<Offer>
-    ensures { MatchOption result ((o : Offer) → IsOfferWord word.now o → ⊥) (λ o. IsOfferWord word.now o) }
+    ensures { MatchOption result ((o : Offer) → IsOfferWord word.now o → ⊥)
+        (λ o. IsOfferWord word.now o) }
 {
     let (weight, cpus) = two(word, b':')?;
     let weight = read_u32(weight)?;
@@ -24,7 +26,7 @@ fn read_offer(word: &[u8]) -> Option<Offer>
 /// The offers that the words of the text spell, one each.
 pub fn read_offers(alloc: Global, text: &[u8]) -> Result<Vec<Offer>, LineFault>
     ensures ok { IfOk result (λ offers. AllZip IsOfferWord (words text.now) offers.items) }
-    ensures bad { IfErr result (λ fault. fault ≡ LineFault.Bad → (os : List Offer) → AllZip IsOfferWord (words text.now) os → ⊥) }
+    ensures bad { OnBad result ((os : List Offer) → AllZip IsOfferWord (words text.now) os → ⊥) }
 {
     let mut offers = Vec::new(alloc);
     let mut rest = text;

@@ -1,10 +1,11 @@
-ghost use Rattle.std.specs.Prelude.{◌≡◌, List, ℕ, Some, None, OnOk, IfErr};
+ghost use Rattle.std.specs.Prelude.{◌≡◌, List, ℕ, Some, None, OnOk};
 ghost use Rattle.cpu_set.specs.Ids.{Ids};
 ghost use Rattle.certificate.specs.RowView.{RowView};
 ghost use Rattle.certificate.specs.declared.price_lists.Price.{Price};
 ghost use Rattle.certificate.specs.Line.{LineView, RowLine, HoldLine, PriceLine, TotalLine, words, AreRowWords, AreHoldWords, ArePriceWords, AreTotalWords, Spells};
 ghost use Rattle.certificate.specs.DraftView.{next, next_in_body};
 ghost use Rattle.certificate.specs.DraftRead.{draft_view, KnowsIds};
+ghost use Rattle.certificate.specs.OnBad.{OnBad};
 
 use super::cut::cut;
 use super::draft::{Draft, Stage};
@@ -18,7 +19,7 @@ fn take_row(alloc: Global, draft: &mut Draft, text: &[u8]) -> Result<(), LineFau
     ensures ids { OnOk result (KnowsIds draft.new) }
     ensures ok { OnOk result ((row : RowView) × AreRowWords (words text.now) row
         × (next_in_body (draft_view draft.old) (RowLine row) ≡ Some (draft_view draft.new))) }
-    ensures bad { IfErr result (λ fault. fault ≡ LineFault.Bad → (row : RowView) → AreRowWords (words text.now) row
+    ensures bad { OnBad result ((row : RowView) → AreRowWords (words text.now) row
         → next_in_body (draft_view draft.old) (RowLine row) ≡ None) }
 {
     draft.add_row(read_row(alloc, text)?)
@@ -28,9 +29,11 @@ fn take_row(alloc: Global, draft: &mut Draft, text: &[u8]) -> Result<(), LineFau
 fn take_hold(draft: &mut Draft, text: &[u8]) -> Result<(), LineFault>
     requires { KnowsIds draft.old }
     ensures ids { OnOk result (KnowsIds draft.new) }
-    ensures ok { OnOk result ((id : List ℕ) × (cpus : Ids) × (value : ℕ) × AreHoldWords (words text.now) id cpus value
+    ensures ok { OnOk result ((id : List ℕ) × (cpus : Ids) × (value : ℕ)
+        × AreHoldWords (words text.now) id cpus value
         × (next_in_body (draft_view draft.old) (HoldLine id cpus value) ≡ Some (draft_view draft.new))) }
-    ensures bad { IfErr result (λ fault. fault ≡ LineFault.Bad → (id : List ℕ) (cpus : Ids) (value : ℕ) → AreHoldWords (words text.now) id cpus value
+    ensures bad { OnBad result ((id : List ℕ) (cpus : Ids) (value : ℕ)
+        → AreHoldWords (words text.now) id cpus value
         → next_in_body (draft_view draft.old) (HoldLine id cpus value) ≡ None) }
 {
     let Some(hold) = read_hold(text) else {
@@ -45,7 +48,7 @@ fn take_price(draft: &mut Draft, text: &[u8]) -> Result<(), LineFault>
     ensures ids { OnOk result (KnowsIds draft.new) }
     ensures ok { OnOk result ((price : Price) × ArePriceWords (words text.now) price
         × (next_in_body (draft_view draft.old) (PriceLine price) ≡ Some (draft_view draft.new))) }
-    ensures bad { IfErr result (λ fault. fault ≡ LineFault.Bad → (price : Price) → ArePriceWords (words text.now) price
+    ensures bad { OnBad result ((price : Price) → ArePriceWords (words text.now) price
         → next_in_body (draft_view draft.old) (PriceLine price) ≡ None) }
 {
     let Some(price) = read_price(text) else {
@@ -60,7 +63,7 @@ fn take_total(draft: &mut Draft, text: &[u8]) -> Result<(), LineFault>
     ensures ids { OnOk result (KnowsIds draft.new) }
     ensures ok { OnOk result ((total : ℕ) × AreTotalWords (words text.now) total
         × (next_in_body (draft_view draft.old) (TotalLine total) ≡ Some (draft_view draft.new))) }
-    ensures bad { IfErr result (λ fault. fault ≡ LineFault.Bad → (total : ℕ) → AreTotalWords (words text.now) total
+    ensures bad { OnBad result ((total : ℕ) → AreTotalWords (words text.now) total
         → next_in_body (draft_view draft.old) (TotalLine total) ≡ None) }
 {
     let Some(total) = read_total(text) else {
@@ -73,8 +76,10 @@ fn take_total(draft: &mut Draft, text: &[u8]) -> Result<(), LineFault>
 fn take_in_body(alloc: Global, draft: &mut Draft, line: &[u8]) -> Result<(), LineFault>
     requires { KnowsIds draft.old }
     ensures ids { OnOk result (KnowsIds draft.new) }
-    ensures ok { OnOk result ((l : LineView) × Spells line.now l × (next_in_body (draft_view draft.old) l ≡ Some (draft_view draft.new))) }
-    ensures bad { IfErr result (λ fault. fault ≡ LineFault.Bad → (l : LineView) → Spells line.now l → next_in_body (draft_view draft.old) l ≡ None) }
+    ensures ok { OnOk result ((l : LineView) × Spells line.now l
+        × (next_in_body (draft_view draft.old) l ≡ Some (draft_view draft.new))) }
+    ensures bad { OnBad result ((l : LineView) → Spells line.now l
+        → next_in_body (draft_view draft.old) l ≡ None) }
 {
     let Some((kind, text)) = cut(line, b' ') else {
         return Err(LineFault::Bad);
@@ -98,8 +103,10 @@ fn take_in_body(alloc: Global, draft: &mut Draft, line: &[u8]) -> Result<(), Lin
 pub fn take_line(alloc: Global, draft: &mut Draft, line: &[u8]) -> Result<(), LineFault>
     requires { KnowsIds draft.old }
     ensures ids { OnOk result (KnowsIds draft.new) }
-    ensures ok { OnOk result ((l : LineView) × Spells line.now l × (next (draft_view draft.old) l ≡ Some (draft_view draft.new))) }
-    ensures bad { IfErr result (λ fault. fault ≡ LineFault.Bad → (l : LineView) → Spells line.now l → next (draft_view draft.old) l ≡ None) }
+    ensures ok { OnOk result ((l : LineView) × Spells line.now l
+        × (next (draft_view draft.old) l ≡ Some (draft_view draft.new))) }
+    ensures bad { OnBad result ((l : LineView) → Spells line.now l
+        → next (draft_view draft.old) l ≡ None) }
 {
     match draft.stage {
         Stage::Start => {

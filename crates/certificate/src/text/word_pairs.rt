@@ -5,7 +5,8 @@ use super::cut::cut;
 
 /// The two parts of a text round its one separator.
 pub fn two(text: &[u8], separator: u8) -> Option<(&[u8], &[u8])>
-    ensures { MatchOption result ((a b : List ℕ) → parts separator text.now ≡ a ∷ b ∷ [] → ⊥) (λ p. parts separator text.now ≡ p.0.now ∷ p.1.now ∷ []) }
+    ensures { MatchOption result ((a b : List ℕ) → parts separator text.now ≡ a ∷ b ∷ [] → ⊥)
+        (λ p. parts separator text.now ≡ p.0.now ∷ p.1.now ∷ []) }
 {
     let (first, rest) = cut(text, separator)?;
     match cut(rest, separator) {
@@ -16,7 +17,8 @@ pub fn two(text: &[u8], separator: u8) -> Option<(&[u8], &[u8])>
 
 /// The three parts of a text round its two separators.
 pub fn three(text: &[u8], separator: u8) -> Option<(&[u8], &[u8], &[u8])>
-    ensures { MatchOption result ((a b d : List ℕ) → parts separator text.now ≡ a ∷ b ∷ d ∷ [] → ⊥) (λ p. parts separator text.now ≡ p.0.now ∷ p.1.now ∷ p.2.now ∷ []) }
+    ensures { MatchOption result ((a b d : List ℕ) → parts separator text.now ≡ a ∷ b ∷ d ∷ [] → ⊥)
+        (λ p. parts separator text.now ≡ p.0.now ∷ p.1.now ∷ p.2.now ∷ []) }
 {
     let (first, rest) = cut(text, separator)?;
     let (second, third) = two(rest, separator)?;
