@@ -17,8 +17,9 @@ const PIECE: usize = 65_536;
 
 /// All that the reader has left.
 ///
-/// `Fault` where a read fails, where `MOST_READS` reads haven't come to the end, or where there are more
-/// than `MOST_BYTES` bytes.
+/// # Errors
+/// `Fault` where a read fails, where [`MOST_READS`] reads haven't come to the end, or where there are more
+/// than [`MOST_BYTES`] bytes; `Memory` where there is none for them. The reader then gave what was read so far.
 pub fn read_all<R: Read>(alloc: Global, reader: &mut R) -> Result<Vec<u8>, ReadError>
     ensures bytes { IfOk result (λ bytes. IfSome (R.remaining reader.old) (λ all. bytes.items ≡ all)) }
     ensures end { OnOk result (IsAtEnd (R.remaining reader.new)) }

@@ -23,7 +23,9 @@ pub enum Words {
 
 /// What the words after the program's name ask for; no words ask for a check of standard input.
 ///
-/// `Line` has the mistake in the words, or their request for the help.
+/// # Errors
+/// `Line` has the mistake in the words, or their request for the help. `Memory` comes where there is none for the
+/// parse.
 pub fn parse(alloc: Global, words: &[&str]) -> Result<Words, ParseFault>
     ensures ok { IfOk result (λ asks. asked asks ≡ asked_for (texts words.now)) }
     ensures accepted { OnOk result (mistakes (texts words.now) ≡ []) }
