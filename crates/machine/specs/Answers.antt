@@ -4,11 +4,6 @@ use Rattle.machine.specs.declared.fault.MachineFault.{MachineFault}
 use Rattle.machine.specs.declared.fault.MachineError.{MachineError}
 use Rattle.machine.specs.declared.fault.MachineError.TheVariants.{Memory, Fault}
 
--- the fault of a check that takes no memory
-abbrev pub fault_of : {A : Type 0} → Result A MachineFault → Option MachineFault
-fault_of (Ok x) = None
-fault_of (Err e) = Some e
-
 -- the error is this fault, or want of memory
 abbrev pub IsErrorOf : MachineError → Option MachineFault → Type 0
 IsErrorOf Memory fault = Unit {0}

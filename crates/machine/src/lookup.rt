@@ -1,11 +1,11 @@
 //! Reading members of a machine file as what they have to be.
 ghost use Rattle.std.specs.Prelude.{◌≡◌, IfOk, map};
+ghost use Rattle.std.specs.Result.{result_err};
 ghost use Rattle.serde_json.specs.View.{view};
 ghost use Rattle.json_text.specs.Members.{member_of, seen};
 ghost use Rattle.machine.specs.Members.{items_in};
 ghost use Rattle.machine.specs.Listed.{listed};
 ghost use Rattle.machine.specs.KindFaults.{array_fault, list_fault};
-ghost use Rattle.machine.specs.Answers.{fault_of};
 
 use crate::fault::MachineFault;
 use crate::field::Field;
@@ -15,7 +15,7 @@ use serde_json::Value;
 /// The items of a member that has to be an array.
 #[tactic(auto, using(crate::proofs::ItemLaws::item_lists))]
 pub(crate) fn array(found: Option<&Value>, field: Field) -> Result<&[Value], MachineFault>
-    ensures fault { array_fault field (seen found.entry) ≡ fault_of result }
+    ensures fault { array_fault field (seen found.entry) ≡ result_err result }
     ensures items { IfOk result (λ items. items_in (seen found.entry) ≡ map view items.now) }
 {
     let Some(value) = found else {
@@ -29,7 +29,7 @@ pub(crate) fn array(found: Option<&Value>, field: Field) -> Result<&[Value], Mac
 
 /// The CPUs of a value that has to be a list as text.
 pub(crate) fn list(value: &Value, field: Field) -> Result<IdSet, MachineFault>
-    ensures fault { list_fault field (view value.now) ≡ fault_of result }
+    ensures fault { list_fault field (view value.now) ≡ result_err result }
     ensures cpus { IfOk result (λ cpus. cpus ≡ listed (view value.now)) }
 {
     let Some(text) = value.as_str() else {

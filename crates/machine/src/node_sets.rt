@@ -1,12 +1,13 @@
 //! The CPUs of each node, as the member `nodes` has them.
 ghost use Rattle.std.specs.Prelude.{◌≡◌, ◌≤◌, IfOk, OnOk, AllPairs, length, map, fold};
+ghost use Rattle.std.specs.Result.{result_err};
 ghost use Rattle.std.specs.FinSet as set;
 ghost use Rattle.serde_json.specs.View.{view};
 ghost use Rattle.cpu_set.specs.Ids.{IsDisjoint};
 ghost use Rattle.machine.specs.Present.{union_of};
 ghost use Rattle.machine.specs.Listed.{listed};
 ghost use Rattle.machine.specs.NodesFault.{twice_fault, node_fault, first_node_fault, nodes_fault};
-ghost use Rattle.machine.specs.Answers.{fault_of, Meets};
+ghost use Rattle.machine.specs.Answers.{Meets};
 
 use crate::NODE_LIMIT;
 use crate::fault::{MachineError, MachineFault};
@@ -51,7 +52,7 @@ fn read_sets(alloc: Global, items: &[Value]) -> Result<Vec<IdSet>, MachineError>
 /// The CPUs of one node, none of which an earlier one has.
 #[tactic(auto, unfolding(crate::specs::NodesFault::node_fault))]
 fn read_node(item: &Value, earlier: &IdSet) -> Result<IdSet, MachineFault>
-    ensures fault { node_fault earlier.now (view item.now) ≡ fault_of result }
+    ensures fault { node_fault earlier.now (view item.now) ≡ result_err result }
     ensures cpus { IfOk result (λ cpus. cpus ≡ listed (view item.now)) }
     ensures apart { IfOk result (λ cpus. IsDisjoint earlier.now cpus) }
 {
@@ -62,7 +63,7 @@ fn read_node(item: &Value, earlier: &IdSet) -> Result<IdSet, MachineFault>
 
 /// Checks that no earlier node has one of the CPUs.
 fn check_apart(cpus: &IdSet, earlier: &IdSet) -> Result<(), MachineFault>
-    ensures fault { twice_fault earlier.now cpus.now ≡ fault_of result }
+    ensures fault { twice_fault earlier.now cpus.now ≡ result_err result }
     ensures apart { OnOk result (IsDisjoint earlier.now cpus.now) }
 {
     match cpus.meet(earlier).first() {

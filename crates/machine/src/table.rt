@@ -1,5 +1,6 @@
 //! The distances between the nodes, as the member `distances` or a SLIT has them.
 ghost use Rattle.std.specs.Prelude.{◌≡◌, ℕ, ◌<◌, ◌≤◌, ◌++◌, ◌==◌, true, Some, None, IfOk, OnOk, length, map, is_some, option_map};
+ghost use Rattle.std.specs.Result.{result_err};
 ghost use Rattle.std.specs.List.{list_all, flat_map};
 ghost use Rattle.serde_json.specs.Find.{as_array};
 ghost use Rattle.serde_json.specs.View.{view};
@@ -8,7 +9,7 @@ ghost use Rattle.json_text.specs.Members.{seen};
 ghost use Rattle.machine.specs.Members.{items_of};
 ghost use Rattle.machine.specs.Distances.{number_of, entry_of, row_entries, distances_in, AreEntries, IsRowAllowed, AreRowsAllowed};
 ghost use Rattle.machine.specs.DistancesFault.{entry_fault, row_fault, rows_fault, shape_fault, distances_fault};
-ghost use Rattle.machine.specs.Answers.{fault_of, Meets};
+ghost use Rattle.machine.specs.Answers.{Meets};
 
 use crate::fault::{MachineError, MachineFault};
 use crate::field::Field;
@@ -78,7 +79,7 @@ fn from_rows(alloc: Global, rows: &Value, count: usize) -> Result<Vec<u8>, Machi
 /// Checks that there are so many rows, and so many entries in each.
 #[tactic(auto, using(crate::proofs::ItemLaws::item_counts, crate::proofs::ItemLaws::item_tests), unfolding(crate::specs::DistancesFault::shape_fault))]
 fn check_shape(rows: &[Value], count: usize) -> Result<(), MachineFault>
-    ensures fault { shape_fault count (map view rows.now) ≡ fault_of result }
+    ensures fault { shape_fault count (map view rows.now) ≡ result_err result }
     ensures rows { OnOk result (length rows.now ≡ count) }
     ensures columns { OnOk result (list_all (λ row. length (items_of row) == count) (map view rows.now) ≡ true) }
 {
@@ -147,7 +148,7 @@ fn read_row(entries: &mut Vec<u8>, cells: &[Value], i: usize) -> Result<(), Mach
 
 /// The entry in row `i` and column `j`.
 fn read_entry(cell: &Value, i: usize, j: usize) -> Result<u8, MachineFault>
-    ensures fault { entry_fault i j (number_of (view cell.now)) ≡ fault_of result }
+    ensures fault { entry_fault i j (number_of (view cell.now)) ≡ result_err result }
     ensures entry { IfOk result (λ d. d ≡ entry_of (view cell.now)) }
     ensures allowed { IfOk result (IsEntry i j) }
 {
