@@ -47,3 +47,6 @@ pub fn read_id(alloc: Global, word: &[u8]) -> Result<String, LineFault>
     };
     Ok(String::from_str(alloc, text)?)
 }
+
+#[cfg(test)]
+mod tests;

@@ -1,7 +1,7 @@
 mod layouts;
 
 use super::Machine;
-use crate::{Field, MAX_BYTES, MachineError, MachineFault};
+use crate::{Field, MachineError, MachineFault};
 use cpu_set::{CPU_LIMIT, IdSet};
 use slit::Slit;
 use std::process::Abort;
@@ -281,7 +281,7 @@ fn reads_what_may_be_left_out_or_added(rt: HostRuntime) -> Result<(), Fail> {
 #[test]
 fn reads_no_longer_text_than_the_limit(rt: HostRuntime) -> Result<(), Fail> {
     let mut text = Vec::from_slice(rt.alloc(), TWO_NODES.as_bytes())?;
-    for _ in TWO_NODES.len()..MAX_BYTES {
+    for _ in TWO_NODES.len()..1_048_576 {
         text.push(b' ')?;
     }
     assert_eq!(rt;
