@@ -1,4 +1,4 @@
-use crate::{Group, SERIAL_LIMIT, Tree, TreeError, TreeFault};
+use crate::{Group, Tree, TreeError, TreeFault};
 use cpu_set::IdSet;
 use std::process::Abort;
 use std::test::Fail;
@@ -61,9 +61,9 @@ fn a_serial_is_never_given_twice(rt: HostRuntime) -> Result<(), Fail> {
     let again = tree.make(root, "x")?;
     assert_eq!(rt; (root.serial, x.serial, again.serial), (7, 8, 9));
     assert!(rt; x != again);
-    let mut last = Tree::new(rt.alloc(), ids(1), ids(1), SERIAL_LIMIT - 1)?;
+    let mut last = Tree::new(rt.alloc(), ids(1), ids(1), u64::MAX - 1)?;
     let root = last.root();
-    assert_eq!(rt; root.serial, SERIAL_LIMIT - 1);
+    assert_eq!(rt; root.serial, u64::MAX - 1);
     assert_eq!(rt;
         last.make(root, "x"),
         Err(TreeError::Fault(TreeFault::NoSerials))
