@@ -1,7 +1,7 @@
 ghost use Rattle.std.specs.Prelude.{◌≡◌, IfOk, OnErr};
-ghost use Rattle.kernel_model.specs.Runs.{Step, Run};
+ghost use Rattle.kernel_model.specs.Runs.{Step, Run, reply_at_once};
 
-use crate::{Kernel, KernelError};
+use crate::{Kernel, KernelError, KernelFault};
 use cpu_set::IdSet;
 use cpuset_tree::Group;
 use std::alloc::{AllocError, Global};
@@ -45,60 +45,46 @@ pub enum Reply {
 pub fn make_call<K: Kernel>(kernel: &mut K, call: &Call) -> Result<Reply, KernelError>
     ensures { Step (K.state kernel.old) call.now result (K.state kernel.new) }
 {
-    let done = |_: ()| Reply::Done;
     match call {
         Call::MakeGroup(parent, name) => kernel
             .make_group(*parent, name.as_str())
             .map(Reply::Group),
-        Call::RemoveGroup(group) => kernel
-            .remove_group(*group)
-            .map(done)
-            .map_err(KernelError::Fault),
-        Call::WriteCpus(group, cpus) => kernel
-            .write_cpus(*group, *cpus)
-            .map(done)
-            .map_err(KernelError::Fault),
-        Call::WriteMems(group, mems) => kernel
-            .write_mems(*group, *mems)
-            .map(done)
-            .map_err(KernelError::Fault),
+        Call::RemoveGroup(group) => done(kernel.remove_group(*group)),
+        Call::WriteCpus(group, cpus) => done(kernel.write_cpus(*group, *cpus)),
+        Call::WriteMems(group, mems) => done(kernel.write_mems(*group, *mems)),
         Call::Spawn(group) => kernel.spawn(*group).map(Reply::Pid),
-        Call::EndGroup(group) => kernel
-            .end_group(*group)
-            .map(done)
-            .map_err(KernelError::Fault),
+        Call::EndGroup(group) => done(kernel.end_group(*group)),
         Call::Root => Ok(Reply::Group(kernel.root())),
         Call::FindGroup(parent, name) => kernel
             .find_group(*parent, name.as_str())
             .map(Reply::Found)
             .map_err(KernelError::Fault),
-        Call::RequestedCpus(group) => kernel
-            .requested_cpus(*group)
-            .map(Reply::Ids)
-            .map_err(KernelError::Fault),
-        Call::EffectiveCpus(group) => kernel
-            .effective_cpus(*group)
-            .map(Reply::Ids)
-            .map_err(KernelError::Fault),
-        Call::RequestedMems(group) => kernel
-            .requested_mems(*group)
-            .map(Reply::Ids)
-            .map_err(KernelError::Fault),
-        Call::EffectiveMems(group) => kernel
-            .effective_mems(*group)
-            .map(Reply::Ids)
-            .map_err(KernelError::Fault),
+        Call::RequestedCpus(group) => ids(kernel.requested_cpus(*group)),
+        Call::EffectiveCpus(group) => ids(kernel.effective_cpus(*group)),
+        Call::RequestedMems(group) => ids(kernel.requested_mems(*group)),
+        Call::EffectiveMems(group) => ids(kernel.effective_mems(*group)),
         Call::Online => Ok(Reply::Ids(kernel.online())),
         Call::Nodes => Ok(Reply::Ids(kernel.nodes())),
         Call::FirstAlive(pid) => Ok(Reply::Alive(kernel.first_alive(*pid))),
         Call::Fork(parent) => kernel.fork(*parent).map(Reply::Pid),
-        Call::Exit(pid) => kernel.exit(*pid).map(done).map_err(KernelError::Fault),
-        Call::Offline(cpu) => kernel.offline(*cpu).map(done).map_err(KernelError::Fault),
-        Call::OnlineCpu(cpu) => kernel
-            .online_cpu(*cpu)
-            .map(done)
-            .map_err(KernelError::Fault),
+        Call::Exit(pid) => done(kernel.exit(*pid)),
+        Call::Offline(cpu) => done(kernel.offline(*cpu)),
+        Call::OnlineCpu(cpu) => done(kernel.online_cpu(*cpu)),
     }
+}
+
+/// The reply of a call that answers nothing.
+fn done(answer: Result<(), KernelFault>) -> Result<Reply, KernelError>
+    ensures { result ≡ reply_at_once (λ _. Reply.Done) answer }
+{
+    answer.map(|_| Reply::Done).map_err(KernelError::Fault)
+}
+
+/// The reply of a call that answers a set.
+fn ids(answer: Result<IdSet, KernelFault>) -> Result<Reply, KernelError>
+    ensures { result ≡ reply_at_once Reply.Ids answer }
+{
+    answer.map(Reply::Ids).map_err(KernelError::Fault)
 }
 
 /// Makes calls of a kernel, one after another, and keeps what they answered.
