@@ -9,6 +9,9 @@ const LEAVES: usize = 256;
 
 const CPUS: u16 = 64;
 
+/// How many forked processes are alive at a time.
+const CHILDREN: u32 = 64;
+
 /// A set of neighbours, as many CPUs as `to - from`.
 fn range(from: u16, to: u16) -> IdSet {
     let mut set = IdSet::empty();
@@ -103,16 +106,18 @@ pub fn plain_online_changes(alloc: Global, count: u32) -> Option<u64> {
     Some(sum)
 }
 
-/// A process forks, and the new process ends.
+/// A process forks, and the process that it forked some turns before ends.
 pub fn forks(alloc: Global, count: u32) -> Option<u64> {
     let (tree, _) = tree(alloc)?;
     let mut table = ProcTable::new(alloc, 2);
     let first = table.spawn(tree.root()).ok()?;
     let mut sum: u64 = 0;
-    for _ in 0..count {
+    for n in 0..count {
         let pid = table.fork(first).ok()?;
-        sum = sum.wrapping_add(u64::from(pid));
-        table.exit(pid).ok()?;
+        if n >= CHILDREN {
+            table.exit(pid.checked_sub(CHILDREN)?).ok()?;
+        }
+        sum = sum.wrapping_add(table.count_in(tree.root()) as u64);
     }
     Some(sum)
 }
