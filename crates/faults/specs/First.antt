@@ -1,5 +1,5 @@
 -- Which of several faults a reader answers: the first in a written order. A check that may fail is an optional fault.
-use Rattle.std.specs.Prelude.{ℕ, suc, zero, Bool, cond, Option, Some, None, List, [], ◌∷◌}
+use Rattle.std.specs.Prelude.{ℕ, suc, zero, Bool, cond, Option, Some, None, Result, Ok, Err, List, [], ◌∷◌}
 use Rattle.std.specs.Option.{option_or}
 
 -- a fault, where a test says so
@@ -15,3 +15,8 @@ first_of (a ∷ rest) = option_or a (first_of rest)
 unfoldable pub first_below : {A : Type 0} → ℕ → (ℕ → Option A) → Option A
 first_below zero f = None
 first_below (suc n) f = option_or (first_below n f) (f n)
+
+-- the fault where there is one, else the value
+abbrev pub unless : {A F : Type 0} → Option F → A → Result A F
+unless None x = Ok x
+unless (Some fault) x = Err fault

@@ -1,10 +1,15 @@
-//! The words with which definitions say which of several faults decides: the first in a written order.
+//! What the readers share: the words with which definitions say which of several faults decides, the
+//! first in a written order, and the error of a call that may want memory.
 //!
-//! Nothing here runs. The readers' definitions are lists of checks made of these words, and the laws
-//! below say in plain terms what the word for a loop of checks means.
+//! The readers' definitions are lists of checks made of these words, and the laws below say in plain
+//! terms what the word for a loop of checks means.
 #![tactic(auto)]
 
+mod or_memory;
+
 ghost use Rattle.faults.specs.FirstLaws.{NoneWhereNone, LeastDecides, AlikeDecideAlike};
+
+pub use or_memory::{Fault, OrMemory};
 
 /// The laws of the first fault below a bound, for faults of any type `F`: there is none where no number
 /// below the bound has one, else the fault of the least number that has one decides, and checks that
