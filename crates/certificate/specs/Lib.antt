@@ -7,6 +7,8 @@ pub mod Cost
 pub mod IsLeast
 pub mod Price
 pub mod IsBound
+pub mod IsShortage
+pub mod IsDealt
 pub mod Limits
 pub mod IsPriceTable
 pub mod IsOfferTooHigh
