@@ -14,17 +14,3 @@ pub mod Duality
 pub mod LimitFacts
 pub mod Exact
 pub mod Causes
-pub mod BadLines
-pub mod Completing
-pub mod Cuts
-pub mod Decimals
-pub mod DraftLines
-pub mod DraftSteps
-pub mod Grammar
-pub mod Ids
-pub mod Refusing
-pub mod RowIds
-pub mod Runs
-pub mod SpelledOnce
-pub mod Zips
-pub mod Verdicts

@@ -16,17 +16,3 @@ pub mod IsProved
 pub mod PlanFault
 pub mod IsCause
 pub mod Laws
-pub mod Parts
-pub mod IdWord
-pub mod NumberWord
-pub mod ListWord
-pub mod Line
-pub mod CertificateText
-pub mod FirstBadLine
-pub mod TextError
-pub mod DraftView
-pub mod DraftRead
-pub mod Begun
-pub mod Finished
-pub mod Verdict
-pub mod OnBad

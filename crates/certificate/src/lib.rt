@@ -4,11 +4,8 @@
 //! Nothing here knows how a plan was found. Whoever wrote a certificate, a yes of [`check_plan`] means
 //! that the plan is one of the least cost: the prices give a lower bound on the cost of every plan, and
 //! the plan's own cost is that bound.
-//!
-//! A certificate is also a text: [`read_text`] reads one, and [`check_text`] checks what it read.
 #![tactic(auto)]
 
-mod certificates;
 mod check_faults;
 mod checks;
 mod costs;
@@ -21,10 +18,8 @@ mod price_table;
 mod problems;
 mod row_checks;
 mod rows;
-mod text;
 mod value_checks;
 
-pub use certificates::Certificate;
 pub use check_faults::CheckFault;
 pub use checks::check_plan;
 pub use laws::{each_fault_has_its_cause, no_plan_is_below_a_bound};
@@ -33,6 +28,3 @@ pub use plans::Plan;
 pub use price_lists::{Price, Prices};
 pub use problems::Problem;
 pub use rows::{Offer, Row};
-pub use text::{
-    ID_LIMIT, TextError, Verdict, VerdictError, check_text, is_id, one_reading, read_text,
-};

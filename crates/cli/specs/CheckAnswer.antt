@@ -1,9 +1,9 @@
 -- What numarun answers to the bytes of a certificate.
 use Rattle.std.specs.Prelude.{◌≡◌, ℕ, ◌≤◌, List, ◌++◌, length, Option, Result, ⊤, IfSome, MatchResult, codes, decimal}
-use Rattle.certificate.specs.Verdict.{IsVerdict, IsVerdictError, SaysLeast}
-use Rattle.certificate.specs.declared.text.checking.Verdict.{Verdict}
-use Rattle.certificate.specs.declared.text.checking.Verdict.TheVariants.{Plan}
-use Rattle.certificate.specs.declared.text.checking.VerdictError.TheVariants as error
+use Rattle.certificate_text.specs.Verdict.{IsVerdict, IsVerdictError, SaysLeast}
+use Rattle.certificate_text.specs.declared.checking.Verdict.{Verdict}
+use Rattle.certificate_text.specs.declared.checking.Verdict.TheVariants.{Plan}
+use Rattle.certificate_text.specs.declared.checking.VerdictError.TheVariants as error
 use Rattle.cli.specs.Answer.{WritesAnswer}
 use Rattle.cli.specs.declared.reading.TheConstants.{MOST_BYTES}
 use Rattle.cli.specs.declared.refusal.Refusal.{Refusal}

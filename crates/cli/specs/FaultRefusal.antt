@@ -1,6 +1,6 @@
 -- Which refusal stands for a fault of a layer below.
-use Rattle.certificate.specs.declared.text.checking.VerdictError.{VerdictError}
-use Rattle.certificate.specs.declared.text.checking.VerdictError.TheVariants as verdict
+use Rattle.certificate_text.specs.declared.checking.VerdictError.{VerdictError}
+use Rattle.certificate_text.specs.declared.checking.VerdictError.TheVariants as verdict
 use Rattle.cli.specs.declared.read_error.ReadError.{ReadError}
 use Rattle.cli.specs.declared.read_error.ReadError.TheVariants as read
 use Rattle.cli.specs.declared.refusal.Refusal.{Refusal}

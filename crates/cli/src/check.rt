@@ -6,7 +6,7 @@ use crate::output::put_number_line;
 use crate::reading::read_all;
 use crate::refusal::Refusal;
 use crate::write_fault::WriteFault;
-use certificate::{Verdict, check_text};
+use certificate_text::{Verdict, check_text};
 use std::alloc::Global;
 use std::io::{Read, Write};
 

@@ -6,7 +6,8 @@ ghost use Rattle.cpu_list.specs.Output.{Writes};
 
 use crate::output::put_all;
 use crate::read_error::ReadError;
-use certificate::{CheckFault, VerdictError};
+use certificate::CheckFault;
+use certificate_text::VerdictError;
 use cpu_list::{ListError, ListErrorKind};
 use itoa::Buffer;
 use slit::{SlitError, SlitFault};

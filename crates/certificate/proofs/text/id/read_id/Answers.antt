@@ -1,5 +1,0 @@
-use Rattle.certificate.proofs.Ids.{IsUtf8-id}
-use Rattle.certificate.proofs.text.id.read_id.Goals as goal
-
-pub returns-in_default-clause-bad : goal.returns-in_default-clause-bad
-returns-in_default-clause-bad c = λ bad h. c.in_default.ensures.cases.0 (IsUtf8-id c.args.word.now h)

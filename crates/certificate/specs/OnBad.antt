@@ -1,8 +1,0 @@
--- What holds where a line was turned away.
-use Rattle.std.specs.Prelude.{◌≡◌, Result, IfErr}
-use Rattle.certificate.specs.declared.text.line_fault.LineFault.{LineFault}
-use Rattle.certificate.specs.declared.text.line_fault.LineFault.TheVariants.{Bad}
-
--- this holds where the answer is `Bad`, and not want of memory
-abbrev pub OnBad : {A : Type 0} → Result A LineFault → Type 0 → Type 0
-OnBad r P = IfErr r (λ fault. fault ≡ Bad → P)

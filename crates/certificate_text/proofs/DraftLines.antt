@@ -1,0 +1,139 @@
+-- A certificate's lines, taken one after another, make the certificate.
+use Rattle.std.proofs.Common.{◌≡◌, ℕ, zero, suc, Bool, true, false, not, ◌&&◌, ◌++◌, List, [], ◌∷◌, map, length, Option, Some, None, cond, refl, sym, ap, ◌∙◌, subst, arith, length-append}
+use Rattle.std.specs.Prelude.{◌==◌, slice_get, option_and_then}
+use Rattle.std.specs.List.{AllPairs}
+use Rattle.std.specs.Str.{bytes_eq}
+use Rattle.std.proofs.lemmas.Bool.Decides.{nat_tests}
+use Rattle.std.proofs.lemmas.Slice.Eq.{bytes_eq-Decides}
+use Rattle.std.proofs.lemmas.List.{append-nil, append_assoc}
+use Rattle.cpu_set.specs.Ids.{Ids}
+use Rattle.certificate.specs.RowView.{RowView}
+use Rattle.certificate.specs.PricesView.{PricesView}
+use Rattle.certificate.specs.declared.price_lists.Price.{Price}
+use Rattle.certificate_text.specs.declared.certificates.Certificate.{Certificate}
+use Rattle.certificate_text.specs.declared.certificates.Certificate.TheVariants.{Plan}
+use Rattle.certificate_text.specs.declared.draft.Stage.{Stage}
+use Rattle.certificate_text.specs.declared.draft.Stage.TheVariants.{Body, Totalled, Ended}
+use Rattle.certificate_text.specs.Line.{LineView, RowLine, HoldLine, PriceLine, TotalLine, EndLine}
+use Rattle.certificate_text.specs.CertificateText.{hold_lines, lines_of, CanBeText}
+use Rattle.certificate_text.specs.Begun.{run}
+use Rattle.certificate_text.specs.DraftView.{DraftView, has_id, is_id_of, is_held, next_in_body, next_at, next, empty_draft}
+use Rattle.certificate_text.proofs.RowIds.{IsNew, Differ, has_id_from_new, new_after}
+
+-- the draft in its body
+abbrev pub body : List RowView → List Ids → List ℕ → List Price → DraftView
+body rows sets values prices = record { stage = Body; rows = rows; sets = sets; values = values; prices = prices; total = 0 }
+
+and_of : (a b : Bool) → a ≡ true → b ≡ true → (a && b) ≡ true
+and_of true true p q = refl
+and_of true false p q = q
+and_of false b p q = p
+
+cond_at : {A : Type 0} (b : Bool) (x y : A) → b ≡ true → cond b x y ≡ x
+cond_at true x y h = refl
+cond_at false x y h = absurd (grind arith)
+
+not_of : (b : Bool) → b ≡ false → not b ≡ true
+not_of false h = refl
+not_of true h = absurd (grind arith)
+
+same_length : (m n : ℕ) → m ≡ n → (m == n) ≡ true
+same_length m n h = grind (arith, nat_tests)
+
+-- one step, where the next draft is known
+run_step : (d e : DraftView) (l : LineView) (ls : List LineView) → next d l ≡ Some e → run d (l ∷ ls) ≡ run e ls
+run_step d e l ls h = ap (λ (o : Option DraftView). option_and_then (λ x. run x ls) o) h
+
+take_row : (done : List RowView) (row : RowView) → IsNew row.id done → next (body done [] [] []) (RowLine row) ≡ Some (body (done ++ row ∷ []) [] [] [])
+take_row done row new =
+    let absent = not_of (has_id row.id done) (has_id_from_new row.id done new) in
+    cond_at (true && not (has_id row.id done)) (Some (body (done ++ row ∷ []) [] [] [])) None absent
+
+run_rows : (done more : List RowView) (ls : List LineView) → AllPairs Differ (done ++ more)
+    → run (body done [] [] []) (map RowLine more ++ ls) ≡ run (body (done ++ more) [] [] []) ls
+run_rows done [] ls h = ap (λ rows. run (body rows [] [] []) ls) (sym (append-nil done))
+run_rows done (row ∷ more) ls h =
+    let whole : (done ++ row ∷ []) ++ more ≡ done ++ row ∷ more = append_assoc done (row ∷ []) more in
+    let first = run_step (body done [] [] []) (body (done ++ row ∷ []) [] [] []) (RowLine row) (map RowLine more ++ ls) (take_row done row (new_after done row more h)) in
+    let rest = run_rows (done ++ row ∷ []) more ls (rw whole h) in
+    first ∙ rest ∙ ap (λ rows. run (body rows [] [] []) ls) whole
+
+bytes_eq_refl : (bs : List ℕ) → bytes_eq bs bs ≡ true
+bytes_eq_refl bs = let dec = bytes_eq-Decides bs bs in dec.1 refl
+
+slice_get_seam : (done : List RowView) (row : RowView) (more : List RowView) (n : ℕ) → length done ≡ n → slice_get (done ++ row ∷ more) n ≡ Some row
+slice_get_seam [] row more zero h = refl
+slice_get_seam [] row more (suc n) h = absurd (omega arith)
+slice_get_seam (r ∷ done) row more zero h = absurd (omega arith)
+slice_get_seam (r ∷ done) row more (suc n) h = slice_get_seam done row more n (omega arith)
+
+pub take_hold : (d : DraftView) (row : RowView) (s : Ids) (v : ℕ) → d.stage ≡ Body → slice_get d.rows (length d.sets) ≡ Some row
+    → next d (HoldLine row.id s v) ≡ Some (record d { sets = d.sets ++ s ∷ []; values = d.values ++ v ∷ [] })
+take_hold d row s v b g =
+    let e : DraftView = record d { sets = d.sets ++ s ∷ []; values = d.values ++ v ∷ [] } in
+    let mine : is_id_of row.id (slice_get d.rows (length d.sets)) ≡ true = ap (is_id_of row.id) g ∙ bytes_eq_refl row.id in
+    let taken : next_in_body d (HoldLine row.id s v) ≡ Some e = cond_at (is_id_of row.id (slice_get d.rows (length d.sets))) (Some e) None mine in
+    subst (λ (stage : Stage). next_at stage d (HoldLine row.id s v) ≡ Some e) (sym b) taken
+
+run_holds : (rows done more : List RowView) (sets sets' : List Ids) (values values' : List ℕ) (ls : List LineView) → rows ≡ done ++ more
+    → length sets ≡ length done → length sets' ≡ length more → length values' ≡ length more
+    → run (body rows sets values []) (hold_lines more sets' values' ++ ls) ≡ run (body rows (sets ++ sets') (values ++ values') []) ls
+run_holds rows done [] sets [] values [] ls e a b f =
+    ap (λ s. run (body rows s values []) ls) (sym (append-nil sets)) ∙ ap (λ v. run (body rows (sets ++ []) v []) ls) (sym (append-nil values))
+run_holds rows done (row ∷ more) sets (s ∷ sets') values (v ∷ values') ls e a b f =
+    let at : slice_get rows (length sets) ≡ Some row = rw e (slice_get_seam done row more (length sets) (sym a)) in
+    let first = run_step (body rows sets values []) (body rows (sets ++ s ∷ []) (values ++ v ∷ []) []) (HoldLine row.id s v) (hold_lines more sets' values' ++ ls)
+    (take_hold (body rows sets values []) row s v refl at) in
+    let whole : rows ≡ (done ++ row ∷ []) ++ more = e ∙ sym (append_assoc done (row ∷ []) more) in
+    let long : length (sets ++ s ∷ []) ≡ length (done ++ row ∷ []) = simp length-append (omega arith) in
+    let rest = run_holds rows (done ++ row ∷ []) more (sets ++ s ∷ []) sets' (values ++ v ∷ []) values' ls whole long (omega arith) (omega arith) in
+    first ∙ rest ∙ ap (λ x. run (body rows x ((values ++ v ∷ []) ++ values') []) ls) (append_assoc sets (s ∷ []) sets')
+    ∙ ap (λ x. run (body rows (sets ++ s ∷ sets') x []) ls) (append_assoc values (v ∷ []) values')
+run_holds rows done [] sets [] values (v ∷ values') ls e a b f = absurd (omega arith)
+run_holds rows done [] sets (s ∷ sets') values values' ls e a b f = absurd (omega arith)
+run_holds rows done (row ∷ more) sets [] values values' ls e a b f = absurd (omega arith)
+run_holds rows done (row ∷ more) sets (s ∷ sets') values [] ls e a b f = absurd (omega arith)
+
+take_price : (rows : List RowView) (sets : List Ids) (values : List ℕ) (prices : List Price) (p : Price) → length sets ≡ length rows
+    → next (body rows sets values prices) (PriceLine p) ≡ Some (body rows sets values (prices ++ p ∷ []))
+take_price rows sets values prices p h =
+    cond_at (length sets == length rows) (Some (body rows sets values (prices ++ p ∷ []))) None (same_length (length sets) (length rows) h)
+
+run_prices : (rows : List RowView) (sets : List Ids) (values : List ℕ) (prices more : List Price) (ls : List LineView) → length sets ≡ length rows
+    → run (body rows sets values prices) (map PriceLine more ++ ls) ≡ run (body rows sets values (prices ++ more)) ls
+run_prices rows sets values prices [] ls h = ap (λ p. run (body rows sets values p) ls) (sym (append-nil prices))
+run_prices rows sets values prices (p ∷ more) ls h =
+    run_step (body rows sets values prices) (body rows sets values (prices ++ p ∷ [])) (PriceLine p) (map PriceLine more ++ ls) (take_price rows sets values prices p h)
+    ∙ run_prices rows sets values (prices ++ p ∷ []) more ls h
+    ∙ ap (λ x. run (body rows sets values x) ls) (append_assoc prices (p ∷ []) more)
+
+pub take_total : (d : DraftView) (total : ℕ) → d.stage ≡ Body → length d.sets ≡ length d.rows
+    → next d (TotalLine total) ≡ Some (record d { stage = Totalled; total = total })
+take_total d total b h =
+    let e : DraftView = record d { stage = Totalled; total = total } in
+    let taken : next_in_body d (TotalLine total) ≡ Some e = cond_at (is_held d) (Some e) None (same_length (length d.sets) (length d.rows) h) in
+    subst (λ (stage : Stage). next_at stage d (TotalLine total) ≡ Some e) (sym b) taken
+
+-- a draft to which nothing can be added
+abbrev pub ended : List RowView → List Ids → PricesView → ℕ → DraftView
+ended rows sets prices total = record { stage = Ended; rows = rows; sets = sets; values = prices.values; prices = prices.of_cpu; total = total }
+
+run_end : (rows : List RowView) (sets : List Ids) (prices : PricesView) (total : ℕ) → length sets ≡ length rows
+    → run (body rows sets prices.values prices.of_cpu) (TotalLine total ∷ EndLine ∷ []) ≡ Some (ended rows sets prices total)
+run_end rows sets prices total h =
+    let d : DraftView = body rows sets prices.values prices.of_cpu in
+    run_step d (record d { stage = Totalled; total = total }) (TotalLine total) (EndLine ∷ []) (take_total d total refl h)
+
+-- the draft that the certificate's lines make
+abbrev pub ended_of : Certificate → DraftView
+ended_of (Plan rows sets prices total) = ended rows sets prices total
+
+pub run-lines_of : (c : Certificate) → CanBeText c → run empty_draft (lines_of c) ≡ Some (ended_of c)
+run-lines_of (Plan rows sets prices total) h =
+    let end = TotalLine total ∷ EndLine ∷ [] in
+    let last = map PriceLine prices.of_cpu ++ end in
+    let held = hold_lines rows sets prices.values ++ last in
+    run_rows [] rows held h.apart
+    ∙ run_holds rows [] rows [] sets [] prices.values last refl refl h.sets_len h.values_len
+    ∙ run_prices rows sets prices.values [] prices.of_cpu end h.sets_len
+    ∙ run_end rows sets prices total h.sets_len

@@ -1,0 +1,14 @@
+pub mod Cuts
+pub mod Decimals
+pub mod Ids
+pub mod RowIds
+pub mod Zips
+pub mod Runs
+pub mod DraftLines
+pub mod DraftSteps
+pub mod Refusing
+pub mod SpelledOnce
+pub mod Grammar
+pub mod Completing
+pub mod BadLines
+pub mod Verdicts

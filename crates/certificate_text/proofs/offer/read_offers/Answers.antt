@@ -1,0 +1,39 @@
+use Rattle.std.proofs.Common.{◌≡◌, [], ◌∷◌, ◌++◌, sym, ◌∙◌, ap, append_assoc}
+use Rattle.std.specs.List.{AllZip}
+use Rattle.certificate_text.specs.Line.{IsOfferWord, words}
+use Rattle.certificate_text.proofs.Zips.{zip_at, zip_append}
+use Rattle.certificate_text.proofs.offer.read_offers.Goals as goal
+
+pub returns-in_default-read_offer-clause-bad : goal.returns-in_default-read_offer-clause-bad
+returns-in_default-read_offer-clause-bad c = λ bad os h.
+    let front = c.loop-word.invariant.0 in
+    let whole : words c.args.text.now ≡ front ++ c.in-Some.word.now ∷ words c.in-Some.after.now =
+    c.loop-word.invariant.1 ∙ ap (λ ws. front ++ ws) c.in-Some.ensures.0 in
+    let some = zip_at IsOfferWord front c.in-Some.word.now (words c.in-Some.after.now) os (rw whole at h) in
+    c.in_default-read_offer.ensures some.0 some.1
+
+pub loop-word-preserved : goal.loop-word-preserved
+loop-word-preserved c =
+    let front = c.loop-word.invariant.0 in
+    let offer = c.in-Some-read_offer.offer in
+    let whole : words c.args.text.now ≡ (front ++ c.in-Some.word.now ∷ []) ++ words c.in-Some.after.now =
+    c.loop-word.invariant.1 ∙ ap (λ ws. front ++ ws) c.in-Some.ensures.0 ∙ sym (append_assoc front (c.in-Some.word.now ∷ []) (words c.in-Some.after.now)) in
+    let one : AllZip IsOfferWord (c.in-Some.word.now ∷ []) (offer ∷ []) = (c.in-Some-read_offer.ensures, tt) in
+    (front ++ c.in-Some.word.now ∷ [], whole, rw c.in_ok-push.ensures.items (zip_append IsOfferWord front (c.in-Some.word.now ∷ []) c.loop-word.offers.items (offer ∷ []) c.loop-word.invariant.2 one))
+
+pub returns-in_default-read_offer-2-clause-bad : goal.returns-in_default-read_offer-2-clause-bad
+returns-in_default-read_offer-2-clause-bad c = λ bad os h.
+    let front = c.loop-word.invariant.0 in
+    let whole : words c.args.text.now ≡ front ++ c.loop-word.rest.now ∷ [] =
+    c.loop-word.invariant.1 ∙ ap (λ ws. front ++ ws) c.in_default.ensures in
+    let some = zip_at IsOfferWord front c.loop-word.rest.now [] os (rw whole at h) in
+    c.in_default-read_offer-2.ensures some.0 some.1
+
+pub returns-clause-ok : goal.returns-clause-ok
+returns-clause-ok c =
+    let front = c.loop-word.invariant.0 in
+    let offer = c.in-Some-read_offer-2.offer in
+    let whole : words c.args.text.now ≡ front ++ c.loop-word.rest.now ∷ [] =
+    c.loop-word.invariant.1 ∙ ap (λ ws. front ++ ws) c.in_default.ensures in
+    let one : AllZip IsOfferWord (c.loop-word.rest.now ∷ []) (offer ∷ []) = (c.in-Some-read_offer-2.ensures, tt) in
+    rw (whole, c.in_ok-push-2.ensures.items) (zip_append IsOfferWord front (c.loop-word.rest.now ∷ []) c.loop-word.offers.items (offer ∷ []) c.loop-word.invariant.2 one)

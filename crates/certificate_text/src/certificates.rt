@@ -1,0 +1,13 @@
+use certificate::{Plan, Prices, Problem};
+
+/// A problem together with what shows its answer.
+#[derive(Debug, Drop)]
+pub enum Certificate {
+    /// A plan of least cost, the numbers that show it, and the cost that its writer claims.
+    Plan {
+        problem: Problem,
+        plan: Plan,
+        prices: Prices,
+        total: u64,
+    },
+}

@@ -1,0 +1,82 @@
+ghost use Rattle.std.specs.Prelude.{◌≡◌, ℕ, List, MatchOption, IfOk};
+ghost use Rattle.cpu_set.specs.Ids.{Ids};
+ghost use Rattle.certificate.specs.RowView.{RowView};
+ghost use Rattle.certificate.specs.declared.price_lists.Price.{Price};
+ghost use Rattle.certificate_text.specs.Line.{words, AreRowWords, AreHoldWords, ArePriceWords, AreTotalWords};
+ghost use Rattle.certificate_text.specs.OnBad.{OnBad};
+
+use crate::cut::cut;
+use crate::decimal::{read_u32, read_u64};
+use crate::id::read_id;
+use crate::line_fault::LineFault;
+use crate::list_word::read_cpus;
+use crate::offer::read_offers;
+use crate::word_pairs::{three, two};
+use certificate::{Price, Row};
+use cpu_set::IdSet;
+use std::alloc::Global;
+
+/// ID DEMAND, and offers.
+pub fn read_row(alloc: Global, text: &[u8]) -> Result<Row, LineFault>
+    ensures ok { IfOk result (λ row. AreRowWords (words text.now) row) }
+    ensures bad { OnBad result ((row : RowView) → AreRowWords (words text.now) row → ⊥) }
+{
+    let Some((id, rest)) = cut(text, b' ') else {
+        return Err(LineFault::Bad);
+    };
+    let id = read_id(alloc, id)?;
+    match cut(rest, b' ') {
+        Some((demand, offers)) => {
+            let demand = read_u32(demand).ok_or(LineFault::Bad)?;
+            let offers = read_offers(alloc, offers)?;
+            Ok(Row { id, demand, offers })
+        }
+        None => {
+            let demand = read_u32(rest).ok_or(LineFault::Bad)?;
+            let offers = Vec::new(alloc);
+            Ok(Row { id, demand, offers })
+        }
+    }
+}
+
+/// A row's set and value, by the row's id.
+#[derive(Clone, Copy)]
+pub struct Hold<'a> {
+    pub id: &'a [u8],
+    pub cpus: IdSet,
+    pub value: u64,
+}
+
+/// ID LIST VALUE.
+pub fn read_hold(text: &[u8]) -> Option<Hold<'_>>
+    ensures { MatchOption result ((id : List ℕ) (cpus : Ids) (value : ℕ)
+        → AreHoldWords (words text.now) id cpus value → ⊥)
+        (λ hold. AreHoldWords (words text.now) hold.id.now hold.cpus hold.value) }
+{
+    let (id, cpus, value) = three(text, b' ')?;
+    let cpus = read_cpus(cpus)?;
+    let value = read_u64(value)?;
+    Some(Hold { id, cpus, value })
+}
+
+/// AMOUNT LIST.
+pub fn read_price(text: &[u8]) -> Option<Price>
+    ensures { MatchOption result ((price : Price) → ArePriceWords (words text.now) price → ⊥)
+        (λ price. ArePriceWords (words text.now) price) }
+{
+    let (amount, cpus) = two(text, b' ')?;
+    let amount = read_u64(amount)?;
+    let cpus = read_cpus(cpus)?;
+    Some(Price { amount, cpus })
+}
+
+/// TOTAL.
+pub fn read_total(text: &[u8]) -> Option<u64>
+    ensures { MatchOption result ((total : ℕ) → AreTotalWords (words text.now) total → ⊥)
+        (λ total. AreTotalWords (words text.now) total) }
+{
+    match cut(text, b' ') {
+        Some(_) => None,
+        None => read_u64(text),
+    }
+}

@@ -1,0 +1,45 @@
+ghost use Rattle.std.specs.Prelude.{◌≡◌, MatchOption, IfOk, List};
+ghost use Rattle.std.specs.List.{AllZip};
+ghost use Rattle.certificate.specs.declared.rows.Offer.{Offer};
+ghost use Rattle.certificate_text.specs.Line.{IsOfferWord, words};
+ghost use Rattle.certificate_text.specs.OnBad.{OnBad};
+
+use crate::cut::cut;
+use crate::decimal::read_u32;
+use crate::line_fault::LineFault;
+use crate::list_word::read_cpus;
+use crate::word_pairs::two;
+use certificate::Offer;
+use std::alloc::Global;
+
+/// The offer that the word WEIGHT:LIST spells.
+fn read_offer(word: &[u8]) -> Option<Offer>
+    ensures { MatchOption result ((o : Offer) → IsOfferWord word.now o → ⊥)
+        (λ o. IsOfferWord word.now o) }
+{
+    let (weight, cpus) = two(word, b':')?;
+    let weight = read_u32(weight)?;
+    let cpus = read_cpus(cpus)?;
+    Some(Offer { weight, cpus })
+}
+
+/// The offers that the words of the text spell, one each.
+pub fn read_offers(alloc: Global, text: &[u8]) -> Result<Vec<Offer>, LineFault>
+    ensures ok { IfOk result (λ offers. AllZip IsOfferWord (words text.now) offers.items) }
+    ensures bad { OnBad result ((os : List Offer) → AllZip IsOfferWord (words text.now) os → ⊥) }
+{
+    let mut offers = Vec::new(alloc);
+    let mut rest = text;
+    while let Some((word, after)) = cut(rest, b' ') {
+        let Some(offer) = read_offer(word) else {
+            return Err(LineFault::Bad);
+        };
+        offers.push(offer)?;
+        rest = after;
+    }
+    let Some(offer) = read_offer(rest) else {
+        return Err(LineFault::Bad);
+    };
+    offers.push(offer)?;
+    Ok(offers)
+}
