@@ -8,7 +8,7 @@ use Rattle.std.proofs.lemmas.List.{take_more}
 use Rattle.std.proofs.lemmas.List.Folds.{list_all-append, list_any_more}
 use Rattle.cpu_set.specs.Ids.{Ids, IsDisjoint}
 use Rattle.cpu_set.specs.Pointwise.{contains-union}
-use Rattle.cpu_set.proofs.SetLaws.{meet_empty-IsDisjoint, IsDisjoint-meet_empty}
+use Rattle.cpu_set.specs.SetLaws.{meet_empty-IsDisjoint, IsDisjoint-meet_empty}
 use Rattle.certificate.specs.Limits.{is_disjoint, are_apart}
 use Rattle.certificate.proofs.Tests.{is_false, is_true, not_true, both, and_left, and_right, and_false, or_left, or_right}
 

@@ -6,7 +6,7 @@ use Rattle.std.proofs.lemmas.List.Sums.{length-filter}
 use Rattle.std.proofs.lemmas.List.FromFn.{length-range_with_len}
 use Rattle.cpu_set.specs.Ids.{Ids}
 use Rattle.cpu_set.specs.Members.{IsCpu, InRange, cpus}
-use Rattle.cpu_set.proofs.SetLaws.{length-members}
+use Rattle.cpu_set.specs.SetLaws.{length-members}
 use Rattle.cpu_set.specs.declared.TheConstants.{CPU_LIMIT}
 use Rattle.certificate.proofs.Sums.{sum_by_times, sum_by-range-le}
 

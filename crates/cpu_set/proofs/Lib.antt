@@ -1,2 +1,2 @@
 pub mod FlagSteps
-pub mod SetLaws
+pub mod Counting

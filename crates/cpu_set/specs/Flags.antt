@@ -1,13 +1,9 @@
 -- A set kept as one truth value for each number.
-use Rattle.std.specs.Prelude.{ℕ, zero, suc, Bool, false, cond, List, map, length, slice_index_or}
+use Rattle.std.specs.Prelude.{Bool, false, List, map, length, slice_index_or}
 use Rattle.std.specs.FinSet as set
 use Rattle.cpu_set.specs.Ids.{Ids}
 use Rattle.cpu_set.specs.Members.{cpus}
-
--- the numbers below n that pass
-unfoldable pub those : (ℕ → Bool) → ℕ → Ids
-those p zero = set.empty
-those p (suc n) = cond (p n) (set.insert (those p n) n) (those p n)
+use Rattle.cpu_set.specs.Those.{those}
 
 -- the numbers whose truth value is true
 abbrev pub set_of_flags : List Bool → Ids

@@ -1,5 +1,9 @@
 pub mod Ids
 pub mod Members
-pub mod Flags
 pub mod Pointwise
+pub mod Those
+pub mod SetLaws
+pub mod Least
+pub mod LeastLaws
+pub mod Flags
 pub mod FlagLaws

@@ -5,8 +5,10 @@
 #![tactic(auto)]
 
 mod id_set;
+mod laws;
 
 pub use id_set::IdSet;
+pub use laws::{least_cpus, least_members, set_laws, the_limits};
 
 /// CPU numbers are below this limit, and so are all numbers in a set.
 pub const CPU_LIMIT: u16 = 1_024;

@@ -4,7 +4,7 @@ use Rattle.std.proofs.lemmas.Bool.{false≢true}
 use Rattle.std.proofs.lemmas.Bool.Decides.{nat_tests}
 use Rattle.std.specs.FinSet as set
 use Rattle.cpu_set.specs.Ids.{Ids}
-use Rattle.cpu_set.specs.Flags.{those}
+use Rattle.cpu_set.specs.Those.{those}
 use Rattle.cpu_set.specs.Pointwise.{contains-intersection, contains-difference}
 use Rattle.machine.specs.Layout.{Layout}
 use Rattle.machine.specs.Present.{present, IsPresent}
@@ -12,7 +12,7 @@ use Rattle.demand.specs.Named.{has_none}
 use Rattle.slit.specs.declared.TheConstants.{UNREACHABLE}
 use Rattle.cpu_set.specs.declared.TheConstants.{CPU_LIMIT}
 use Rattle.machine.specs.Weight.{weight}
-use Rattle.cpu_set.specs.FlagLaws.{contains-those}
+use Rattle.cpu_set.specs.Those.{contains-those}
 use Rattle.demand.specs.Allowed.{is_free, is_allowed, allowed_by}
 use Rattle.demand.proofs.HomeNodes.{has_none-empty, has_none-some}
 

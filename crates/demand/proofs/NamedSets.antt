@@ -8,9 +8,9 @@ use Rattle.std.specs.Prelude.{option_map, Result, Ok, Err, IfOk, MatchResult}
 use Rattle.std.specs.FinSet as set
 use Rattle.faults.specs.First.{first_of}
 use Rattle.cpu_set.specs.Ids.{Ids}
-use Rattle.cpu_set.specs.Flags.{those}
+use Rattle.cpu_set.specs.Those.{those}
 use Rattle.cpu_set.specs.Pointwise.{same_members, contains-empty}
-use Rattle.cpu_set.specs.FlagLaws.{contains-those}
+use Rattle.cpu_set.specs.Those.{contains-those}
 use Rattle.cpu_list.specs.declared.list_error.ListError.{ListError}
 use Rattle.cpu_list.specs.ListText.{pieces, item_of, range_of, range_names, piece_names, names, IsSetOf, IsList}
 use Rattle.cpu_list.specs.FirstFault.{range_fault, item_fault, piece_fault, faults_from, first_fault, IsFirstFault}

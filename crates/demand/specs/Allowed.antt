@@ -2,7 +2,7 @@
 use Rattle.std.specs.Prelude.{ℕ, Bool, not, ◌&&◌, ◌||◌, nat_lt}
 use Rattle.std.specs.FinSet as set
 use Rattle.cpu_set.specs.Ids.{Ids}
-use Rattle.cpu_set.specs.Flags.{those}
+use Rattle.cpu_set.specs.Those.{those}
 use Rattle.cpu_set.specs.declared.TheConstants.{CPU_LIMIT}
 use Rattle.slit.specs.declared.TheConstants.{UNREACHABLE}
 use Rattle.config_json.specs.SectionOf.{Section}

@@ -10,7 +10,7 @@ use Rattle.faults.specs.First.{first_of}
 use Rattle.cpu_list.specs.FirstFault.{first_fault, faults_from, piece_fault, item_fault, range_fault}
 use Rattle.cpu_list.specs.ListText.{names, piece_names, range_names, range_of, item_of, pieces, IsSetOf}
 use Rattle.cpu_list.proofs.Pieces.{range_of-nil}
-use Rattle.cpu_set.specs.FlagLaws.{contains-those}
+use Rattle.cpu_set.specs.Those.{contains-those}
 use Rattle.cpu_set.specs.Ids.{Ids}
 use Rattle.cpu_set.specs.Pointwise.{same_members}
 use Rattle.cpu_set.specs.declared.TheConstants.{CPU_LIMIT}

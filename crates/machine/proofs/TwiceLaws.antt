@@ -6,7 +6,7 @@ use Rattle.faults.specs.First.{when}
 use Rattle.cpu_set.specs.Ids.{Ids, IsDisjoint, NoneFrom, IsFirstFrom}
 use Rattle.cpu_set.specs.Members.{IsCpu}
 use Rattle.cpu_set.specs.Pointwise.{contains-intersection}
-use Rattle.cpu_set.proofs.SetLaws.{empty_of_none, meet_empty-IsDisjoint}
+use Rattle.cpu_set.specs.SetLaws.{empty_of_none, meet_empty-IsDisjoint}
 use Rattle.cpu_set.specs.declared.TheConstants.{CPU_LIMIT}
 use Rattle.machine.specs.declared.fault.MachineFault.TheVariants.{CpuTwice}
 use Rattle.machine.specs.NodesFault.{twice_fault}

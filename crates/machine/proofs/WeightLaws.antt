@@ -3,7 +3,7 @@ use Rattle.std.proofs.Common.{◌≡◌, ℕ, zero, suc, ◌<◌, ◌≤◌, ◌
 use Rattle.std.proofs.lemmas.Bool.{cases_lt, true≢false, false≢true, false_from_ne_true}
 use Rattle.std.specs.FinSet as set
 use Rattle.cpu_set.specs.Ids.{Ids}
-use Rattle.cpu_set.proofs.SetLaws.{empty_of_none}
+use Rattle.cpu_set.specs.SetLaws.{empty_of_none}
 use Rattle.slit.specs.declared.TheConstants.{UNREACHABLE}
 use Rattle.machine.specs.IsSound.{IsSound}
 use Rattle.machine.specs.Layout.{Layout, node_count, distance}

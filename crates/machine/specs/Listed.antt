@@ -6,7 +6,7 @@ use Rattle.serde_json.specs.Data.{Data}
 use Rattle.serde_json.specs.Find.{as_str}
 use Rattle.cpu_list.specs.FirstFault.{first_fault}
 use Rattle.cpu_list.specs.ListText.{names}
-use Rattle.cpu_set.specs.Flags.{those}
+use Rattle.cpu_set.specs.Those.{those}
 use Rattle.cpu_set.specs.Ids.{Ids}
 use Rattle.cpu_set.specs.declared.TheConstants.{CPU_LIMIT}
 

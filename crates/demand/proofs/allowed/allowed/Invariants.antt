@@ -1,5 +1,5 @@
 use Rattle.std.proofs.Common.{◌≡◌}
-use Rattle.cpu_set.specs.Flags.{those}
+use Rattle.cpu_set.specs.Those.{those}
 use Rattle.demand.specs.Allowed.{is_allowed}
 use Rattle.demand.proofs.allowed.allowed.Given as goal
 

@@ -1,5 +1,6 @@
 use Rattle.std.proofs.Common.{sym, arith}
-use Rattle.cpu_set.proofs.SetLaws.{len-those_none, counted, not_counted, InRange-flags, count-members}
+use Rattle.cpu_set.specs.SetLaws.{len-those_none}
+use Rattle.cpu_set.proofs.Counting.{counted, not_counted, InRange-flags, count-members}
 use Rattle.cpu_set.proofs.id_set.IdSet.count.Goals as goal
 use Rattle.cpu_set.proofs.id_set.IdSet.count.Goals.{then-self-n, else-self-n}
 

@@ -1,6 +1,6 @@
 use Rattle.std.proofs.Common.{◌≡◌, ◌≤◌, false, get_or}
 use Rattle.std.specs.FinSet as set
-use Rattle.cpu_set.specs.Flags.{those}
+use Rattle.cpu_set.specs.Those.{those}
 use Rattle.cpu_set.proofs.id_set.IdSet.count.Given as goal
 
 abbrev pub invariant-loop-n : goal.invariant-loop-n

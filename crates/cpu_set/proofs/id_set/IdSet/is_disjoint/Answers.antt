@@ -1,5 +1,5 @@
 use Rattle.std.proofs.Common.{◌∙◌, sym}
-use Rattle.cpu_set.proofs.SetLaws.{meet_empty-IsDisjoint, IsDisjoint-meet_empty}
+use Rattle.cpu_set.specs.SetLaws.{meet_empty-IsDisjoint, IsDisjoint-meet_empty}
 use Rattle.cpu_set.proofs.id_set.IdSet.is_disjoint.Goals as goal
 
 pub returns : goal.returns

@@ -1,4 +1,4 @@
-use Rattle.cpu_set.proofs.SetLaws.{is_empty-first}
+use Rattle.cpu_set.proofs.Counting.{is_empty-first}
 use Rattle.cpu_set.proofs.id_set.IdSet.is_empty.Goals as goal
 
 pub returns : goal.returns

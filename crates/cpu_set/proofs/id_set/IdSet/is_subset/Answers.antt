@@ -1,5 +1,5 @@
 use Rattle.std.specs.Bool.{one_answer}
-use Rattle.cpu_set.proofs.SetLaws.{is_subset-Decides}
+use Rattle.cpu_set.specs.SetLaws.{is_subset-Decides}
 use Rattle.cpu_set.proofs.id_set.IdSet.is_subset.Goals as goal
 
 pub returns : goal.returns

@@ -1,5 +1,5 @@
 -- Laws on sets of numbers, for the crates that stand on this one.
-use Rattle.std.proofs.Common.{◌≡◌, ℕ, zero, suc, ◌+◌, ◌<◌, Bool, true, false, not, cond, ◌&&◌, nat_lt, List, [], ◌∷◌, ◌++◌, length, get_or, filter, length-append, refl, sym, ap, subst, ◌∙◌, arith}
+use Rattle.std.proofs.Common.{◌≡◌, ℕ, zero, suc, ◌+◌, ◌<◌, Bool, true, false, not, cond, ◌&&◌, nat_lt, List, [], ◌∷◌, ◌++◌, length, filter, length-append, refl, sym, ap, subst, ◌∙◌, arith}
 use Rattle.std.specs.List.{range_with_len}
 use Rattle.std.proofs.lemmas.Bool.{true≢false, false≢true}
 use Rattle.std.proofs.lemmas.Bool.Decides.{nat_tests}
@@ -8,16 +8,30 @@ use Rattle.std.specs.Cmp.{nat_cmp_total}
 use Rattle.std.proofs.Math.Numerals.{add-one}
 use Rattle.std.proofs.lemmas.List.{map-id}
 use Rattle.std.proofs.lemmas.List.FromFn.{filter_of_map_range_with_len_more}
-use Rattle.std.specs.Prelude.{Option, Some, None, MatchOption, IsTrue, is_some}
+use Rattle.std.specs.Prelude.{◌↔◌}
 use Rattle.cpu_set.specs.declared.TheConstants.{CPU_LIMIT}
 use Rattle.std.specs.FinSet as set
 use Rattle.std.specs.Ordering.{nat_cmp}
-use Rattle.cpu_set.specs.Ids.{Ids, IsDisjoint, NoneFrom, IsFirstFrom}
+use Rattle.cpu_set.specs.Ids.{Ids, IsDisjoint, NoneFrom}
 use Rattle.cpu_set.specs.Members.{InRange, cpus, members}
-use Rattle.cpu_set.specs.Flags.{those, set_of_flags}
-use Rattle.cpu_set.proofs.FlagSteps.{members_below}
-use Rattle.cpu_set.specs.FlagLaws.{contains-those}
+use Rattle.cpu_set.specs.Those.{those, contains-those}
 use Rattle.cpu_set.specs.Pointwise.{same_members, contains-empty, contains-intersection, contains-difference, is_subset-contains, contains-is_subset}
+
+-- a set is empty just where it has no member
+abbrev pub EmptyWhereNone : Type 0
+EmptyWhereNone = (s : Ids) → (s ≡ set.empty) ↔ NoneFrom s 0
+
+-- two sets are disjoint just where they meet in nothing
+abbrev pub DisjointWhereMeetIsEmpty : Type 0
+DisjointWhereMeetIsEmpty = (s t : Ids) → IsDisjoint s t ↔ (set.intersection s t ≡ set.empty)
+
+-- one set is within another just where nothing of it is left without the other
+abbrev pub SubsetWhereNoneIsLeft : Type 0
+SubsetWhereNoneIsLeft = (s t : Ids) → (set.is_subset s t ≡ true) ↔ (set.difference s t ≡ set.empty)
+
+-- the members in rising order are as many as the set has
+abbrev pub MembersAreCounted : Type 0
+MembersAreCounted = (s : Ids) → InRange s → length (members s) ≡ set.len s
 
 -- a set with no member is the empty one
 pub empty_of_none : (s : Ids) → NoneFrom s 0 → s ≡ set.empty
@@ -110,37 +124,8 @@ pub length-members : (s : Ids) → InRange s → length (members s) ≡ set.len 
 unfolding cpus
 length-members s low = length-members_below (set.contains s) CPU_LIMIT ∙ ap set.len (those-contains s CPU_LIMIT low)
 
--- a set is empty where it has no first member
-pub is_empty-first :
-    (s : Ids) (first : Option ℕ) (b : Bool)
-    → MatchOption first (NoneFrom s 0) (λ n. IsFirstFrom s 0 n) → is_some first ≡ not b
-    → (IsTrue b → s ≡ set.empty) × (s ≡ set.empty → IsTrue b)
-is_empty-first s None true none e = (λ _. empty_of_none s none, λ _. refl)
-is_empty-first s None false none e = absurd (false≢true e)
-is_empty-first s (Some n) true has e = absurd (true≢false e)
-is_empty-first s (Some n) false has e =
-    (λ is_true. absurd (false≢true is_true), λ is. absurd (true≢false (sym has.member ∙ none_of_empty s is n)))
+pub empty_where_none : EmptyWhereNone
+empty_where_none s = (λ e n _. none_of_empty s e n, empty_of_none s)
 
--- a count of those below n, with the next one counted or passed by
-pub counted : (p : ℕ → Bool) (n count new : ℕ) → count ≡ set.len (those p n) → p n ≡ true → new ≡ count + 1 → new ≡ set.len (those p (n + 1))
-counted p n count new e passes is = is ∙ ap (λ k. k + 1) e ∙ sym (len-those_more p n ∙ ap (λ b. set.len (those p n) + cond b 1 0) passes)
-
-pub not_counted : (p : ℕ → Bool) (n count new : ℕ) → count ≡ set.len (those p n) → p n ≡ false → new ≡ count → new ≡ set.len (those p (n + 1))
-not_counted p n count new e passed is =
-    is ∙ e ∙ plus_none _ ∙ sym (len-those_more p n ∙ ap (λ b. set.len (those p n) + cond b 1 0) passed)
-  where
-    plus_none : (k : ℕ) → k ≡ k + 0
-    plus_none k = omega arith
-
--- each member of a set of as many truth values as there are numbers is one of these
-pub InRange-flags : (flags : List Bool) → length flags ≡ CPU_LIMIT → InRange (set_of_flags flags)
-InRange-flags flags long q member =
-    let lt : q < length flags = members_below flags q member in
-    omega arith
-
--- what was counted among all truth values is the number of members
-pub count-members :
-    (flags : List Bool) (n count : ℕ) → length flags ≡ CPU_LIMIT → n ≡ length flags
-    → count ≡ set.len (those (λ k. get_or flags k false) n) → count ≡ length (members (set_of_flags flags))
-count-members flags n count long all e =
-    e ∙ ap (λ m. set.len (those (λ k. get_or flags k false) m)) all ∙ sym (length-members _ (InRange-flags flags long))
+pub disjoint_where_meet_is_empty : DisjointWhereMeetIsEmpty
+disjoint_where_meet_is_empty s t = (IsDisjoint-meet_empty s t, meet_empty-IsDisjoint s t)

@@ -1,0 +1,34 @@
+//! What holds of the definitions alone.
+ghost use Rattle.std.specs.Prelude.{◌≡◌};
+ghost use Rattle.cpu_set.specs.LeastLaws.{LeastIsLeast, LeastPasses, NoneWhereNone, LeastIsFirst, LeastOfDifference, LeastOfBoth};
+ghost use Rattle.cpu_set.specs.SetLaws.{EmptyWhereNone, DisjointWhereMeetIsEmpty, SubsetWhereNoneIsLeft, MembersAreCounted};
+
+use crate::CPU_LIMIT;
+
+/// `least_that` answers the least CPU that passes, and none just where none passes.
+pub fn least_cpus()
+    ensures is_least { LeastIsLeast }
+    ensures passes { LeastPasses }
+    ensures none { NoneWhereNone }
+{}
+
+/// Of the CPUs of a set `least_that` answers what `first` does, so too of a difference and of what
+/// two sets share.
+pub fn least_members()
+    ensures first { LeastIsFirst }
+    ensures difference { LeastOfDifference }
+    ensures both { LeastOfBoth }
+{}
+
+/// What sets share, leave and count, in words of the sets alone.
+pub fn set_laws()
+    ensures empty { EmptyWhereNone }
+    ensures disjoint { DisjointWhereMeetIsEmpty }
+    ensures subset { SubsetWhereNoneIsLeft }
+    ensures counted { MembersAreCounted }
+{}
+
+/// Numbers are below 1,024.
+pub fn the_limits()
+    ensures cpus { CPU_LIMIT ≡ 1_024 }
+{}
