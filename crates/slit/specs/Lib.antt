@@ -5,4 +5,3 @@ pub mod HeaderFault
 pub mod EntriesFault
 pub mod Describes
 pub mod SlitFaultOf
-pub mod Meets

@@ -1,4 +1,4 @@
-use std::alloc::AllocError;
+use faults::Fault;
 
 /// Why bytes are no distance table. The variants stand in the order in which they are looked for.
 #[derive(Clone, Copy, Debug, PartialEq, Eq)]
@@ -19,33 +19,4 @@ pub enum SlitFault {
     BadDiagonal(usize),
 }
 
-/// Why a table was not read.
-#[derive(Clone, Copy, Debug, PartialEq, Eq)]
-pub enum SlitError {
-    /// There was no memory for the distances.
-    Memory,
-    /// The bytes are no distance table.
-    Fault(SlitFault),
-}
-
-impl From<SlitFault> for SlitError {
-    ghost use Rattle.std.specs.Prelude.{◌≡◌};
-    ghost use Rattle.slit.specs.declared.fault.SlitError.TheVariants.{Fault};
-
-    ghost from_gives = { λ fault e. e ≡ Fault fault };
-
-    fn from(fault: SlitFault) -> SlitError {
-        SlitError::Fault(fault)
-    }
-}
-
-impl From<AllocError> for SlitError {
-    ghost use Rattle.std.specs.Prelude.{◌≡◌};
-    ghost use Rattle.slit.specs.declared.fault.SlitError.TheVariants.{Memory};
-
-    ghost from_gives = { λ _ e. e ≡ Memory };
-
-    fn from(_: AllocError) -> SlitError {
-        SlitError::Memory
-    }
-}
+impl Fault for SlitFault {}

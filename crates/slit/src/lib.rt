@@ -15,7 +15,7 @@ mod fault;
 mod header;
 mod table;
 
-pub use fault::{SlitError, SlitFault};
+pub use fault::SlitFault;
 pub use table::Slit;
 
 /// The most localities that a table may have.

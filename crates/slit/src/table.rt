@@ -1,9 +1,10 @@
-ghost use Rattle.std.specs.Prelude.{◌≡◌, ◌<◌, IfOk};
+ghost use Rattle.std.specs.Prelude.{◌≡◌, ◌<◌, Ok, IfOk};
 ghost use Rattle.slit.specs.Table.{Table, distance};
 
-use crate::SlitError;
+use crate::SlitFault;
 use crate::entries::{check_entries, entry_at};
 use crate::header::{check_header, entries_of};
+use faults::OrMemory;
 use std::alloc::Global;
 use std::marker::Model;
 
@@ -29,7 +30,7 @@ impl Slit {
     ghost use Rattle.slit.specs.AreDistances.{AreDistances};
     ghost use Rattle.slit.specs.Describes.{Describes};
     ghost use Rattle.slit.specs.SlitFaultOf.{slit_fault};
-    ghost use Rattle.slit.specs.Meets.{Meets, IsReadAs};
+    ghost use Rattle.faults.specs.Answers.{Reports, Gives, ChecksFirst};
 
     /// The table that the bytes are.
     ///
@@ -37,10 +38,11 @@ impl Slit {
     ///
     /// The first fault in the order of [`SlitFault`]: of the header, and then entry by entry in rows.
     /// Memory is asked for only where there is no fault.
-    pub fn read(alloc: Global, bytes: &[u8]) -> Result<Slit, SlitError>
-        ensures fault { Meets result (slit_fault bytes.now) }
+    pub fn read(alloc: Global, bytes: &[u8]) -> Result<Slit, OrMemory<SlitFault>>
+        ensures fault { Reports result (slit_fault bytes.now) }
+        ensures memory { ChecksFirst result (slit_fault bytes.now) }
         ensures table { IfOk result (Describes bytes.now) }
-        ensures only { (t : Table) → Describes bytes.now t → IsReadAs t result }
+        ensures only { (t : Table) → Describes bytes.now t → Gives result (Ok t) }
     {
         let count = check_header(bytes)?;
         let entries = entries_of(bytes, count);

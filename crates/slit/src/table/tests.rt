@@ -1,5 +1,6 @@
 use super::Slit;
-use crate::{SlitError, SlitFault};
+use crate::SlitFault;
+use faults::OrMemory;
 use std::test::Fail;
 
 /// Two localities, 21 apart.
@@ -89,7 +90,7 @@ fn answers_the_first_fault(rt: HostRuntime) {
         bytes[at] = byte;
         bytes[9] = sum;
         let found = Slit::read(rt.alloc(), &bytes).err();
-        assert_eq!(rt; found, Some(SlitError::Fault(fault)), "byte {at} is {byte}");
+        assert_eq!(rt; found, Some(OrMemory::Fault(fault)), "byte {at} is {byte}");
     }
 }
 
@@ -102,7 +103,7 @@ fn wants_the_whole_table(rt: HostRuntime) {
             SlitFault::BadLength
         };
         let found = Slit::read(rt.alloc(), &TWO[..len]).err();
-        assert_eq!(rt; found, Some(SlitError::Fault(fault)), "{len} bytes");
+        assert_eq!(rt; found, Some(OrMemory::Fault(fault)), "{len} bytes");
     }
 }
 
