@@ -5,16 +5,17 @@ use Rattle.cli.specs.declared.read_error.ReadError.{ReadError}
 use Rattle.cli.specs.declared.read_error.ReadError.TheVariants as read
 use Rattle.cli.specs.declared.refusal.Refusal.{Refusal}
 use Rattle.cli.specs.declared.refusal.Refusal.TheVariants.{Memory, Slit, Check, BadText, ReadFault}
-use Rattle.slit.specs.declared.fault.SlitError.{SlitError}
-use Rattle.slit.specs.declared.fault.SlitError.TheVariants as slit
+use Rattle.faults.specs.declared.or_memory.OrMemory.{OrMemory}
+use Rattle.faults.specs.declared.or_memory.OrMemory.TheVariants as either
+use Rattle.slit.specs.declared.fault.SlitFault.{SlitFault}
 
 abbrev pub read_refusal : ReadError → Refusal
 read_refusal read.Memory = Memory
 read_refusal read.Fault = ReadFault
 
-abbrev pub slit_refusal : SlitError → Refusal
-slit_refusal slit.Memory = Memory
-slit_refusal (slit.Fault fault) = Slit fault
+abbrev pub slit_refusal : OrMemory SlitFault → Refusal
+slit_refusal either.Memory = Memory
+slit_refusal (either.Fault fault) = Slit fault
 
 abbrev pub verdict_refusal : VerdictError → Refusal
 verdict_refusal verdict.Memory = Memory

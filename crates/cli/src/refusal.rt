@@ -9,8 +9,9 @@ use crate::read_error::ReadError;
 use certificate::CheckFault;
 use certificate_text::VerdictError;
 use cpu_list::{ListError, ListErrorKind};
+use faults::OrMemory;
 use itoa::Buffer;
-use slit::{SlitError, SlitFault};
+use slit::SlitFault;
 use std::io;
 use std::io::Write;
 
@@ -187,13 +188,13 @@ impl From<ReadError> for Refusal {
     }
 }
 
-impl From<SlitError> for Refusal {
+impl From<OrMemory<SlitFault>> for Refusal {
     ghost from_gives = { λ error refusal. refusal ≡ slit_refusal error };
 
-    fn from(error: SlitError) -> Refusal {
+    fn from(error: OrMemory<SlitFault>) -> Refusal {
         match error {
-            SlitError::Memory => Refusal::Memory,
-            SlitError::Fault(fault) => Refusal::Slit(fault),
+            OrMemory::Memory => Refusal::Memory,
+            OrMemory::Fault(fault) => Refusal::Slit(fault),
         }
     }
 }
