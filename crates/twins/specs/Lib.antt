@@ -1,0 +1,5 @@
+pub mod SharesCode
+pub mod IsGrouping
+pub mod ClassWeight
+pub mod Holdings
+pub mod IsDeal

@@ -1,0 +1,12 @@
+//! CPUs that are alike to all rows of a problem, in classes; and the CPUs of the classes dealt to the rows.
+//!
+//! Two CPUs are twins where in each row both have the same weight, or both have none. Whoever seeks a
+//! plan needs to know only how many CPUs of each class of twins a row holds: [`group`] makes the classes,
+//! and [`deal`] the rows' sets.
+#![tactic(auto)]
+
+mod classes;
+mod holders;
+
+pub use classes::Classes;
+pub use holders::{Holders, Share};
