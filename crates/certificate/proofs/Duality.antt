@@ -1,5 +1,5 @@
 -- No plan costs less than a bound.
-use Rattle.std.proofs.Common.{◌≡◌, ℕ, ◌+◌, ◌*◌, ◌≤◌, Bool, true, false, cond, ◌||◌, Option, Some, None, unwrap_or, List, [], ◌∷◌, refl, sym, sum_by, arith, IsSome}
+use Rattle.std.proofs.Common.{◌≡◌, ℕ, ◌+◌, ◌*◌, ◌≤◌, Bool, true, false, cond, Option, Some, None, unwrap_or, List, [], ◌∷◌, refl, sum_by, arith, IsSome}
 use Rattle.std.specs.List.{AllZip, AllPairs, zip}
 use Rattle.std.specs.FinSet as set
 use Rattle.std.proofs.lemmas.Bool.{false≢true}
@@ -15,9 +15,9 @@ use Rattle.certificate.specs.IsBound.{IsValueOf, worth}
 use Rattle.certificate.specs.PlanFault.{is_held}
 use Rattle.certificate.specs.Laws.{NoPlanBelowBound}
 use Rattle.certificate.specs.declared.price_lists.Price.{Price}
-use Rattle.certificate.proofs.Sums.{sum_by_none, sum_by_same, sum_by_plus, sum_by-filter}
+use Rattle.certificate.proofs.Sums.{sum_by_plus, sum_by-filter}
 use Rattle.certificate.proofs.Cpus.{sum_by-cpus-le, len-times}
-use Rattle.certificate.proofs.Apart.{AllPairs-tail, AllPairs-head, not_held}
+use Rattle.certificate.proofs.Apart.{sums_of_sets}
 
 -- the prices of a set's CPUs, summed
 abbrev prices_of : List Price → Ids → ℕ
@@ -63,31 +63,13 @@ rows_pay prices (row ∷ rows) (s ∷ sets) (v ∷ values) met below =
       rows_pay prices rows sets values met.1 below.1,
     )
 
-apart_once : (p : ℕ) (a b : Bool) → (a ≡ true → b ≡ false) → cond a p 0 + cond b p 0 ≡ cond (a || b) p 0
-apart_once p true b once = rw (once refl) (omega arith)
-apart_once p false b once = omega arith
-
--- where no CPU is in two sets, their prices are those of the CPUs that are held
-prices_of_sets :
-    (prices : List Price) (sets : List Ids) → AllPairs IsDisjoint sets
-    → sum_by (prices_of prices) sets ≡ sum_by (λ c. cond (is_held sets c) (price prices c) 0) cpus
-prices_of_sets prices [] apart = sym (sum_by_none _ cpus (λ c. refl))
-prices_of_sets prices (s ∷ sets) apart =
-    rw (
-      sum_by-cons (prices_of prices) s sets,
-      prices_of_sets prices sets (AllPairs-tail s sets apart),
-      sum_by-filter (set.contains s) (price prices) cpus,
-      ← sum_by_plus (λ c. cond (set.contains s c) (price prices c) 0) (λ c. cond (is_held sets c) (price prices c) 0) cpus,
-    )
-    (sum_by_same _ _ cpus (λ c. apart_once (price prices c) (set.contains s c) (is_held sets c) (not_held s sets (AllPairs-head s sets apart) c)))
-
 part_of : (p : ℕ) (b : Bool) → cond b p 0 ≤ p
 part_of p true = omega arith
 part_of p false = omega arith
 
 held_prices : (prices : List Price) (sets : List Ids) → AllPairs IsDisjoint sets → sum_by (prices_of prices) sets ≤ all_prices prices
 held_prices prices sets apart =
-    rw (prices_of_sets prices sets apart)
+    rw (sums_of_sets (price prices) sets apart)
     (sum_by-cpus-le _ _ (λ c is_cpu. part_of (price prices c) (is_held sets c)))
 
 pub no_plan_below_bound : NoPlanBelowBound

@@ -11,6 +11,7 @@ pub mod CostSums
 pub mod Walks
 pub mod TooHigh
 pub mod Duality
+pub mod Shortages
 pub mod LimitFacts
 pub mod Exact
 pub mod Causes

@@ -22,7 +22,10 @@ mod value_checks;
 
 pub use check_faults::CheckFault;
 pub use checks::check_plan;
-pub use laws::{each_fault_has_its_cause, no_plan_is_below_a_bound};
+pub use laws::{
+    a_shortage_leaves_no_plan, each_fault_has_its_cause, no_plan_is_below_a_bound,
+    what_is_proved_has_no_fault,
+};
 pub use limits::{MAX_AMOUNT, MAX_DEMAND, MAX_ROWS, MAX_WEIGHT};
 pub use plans::Plan;
 pub use price_lists::{Price, Prices};
