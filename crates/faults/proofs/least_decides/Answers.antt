@@ -1,4 +1,4 @@
-use Rattle.faults.proofs.FirstBelow.{first_below-none, first_below-at, first_below-same}
+use Rattle.faults.specs.FirstLaws.{first_below-none, first_below-at, first_below-same}
 use Rattle.faults.proofs.least_decides.Goals as goal
 
 pub returns-clause-none : goal.returns-clause-none
