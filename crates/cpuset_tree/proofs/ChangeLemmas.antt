@@ -11,7 +11,7 @@ use Rattle.cpuset_tree.specs.declared.groups.Cgroup.{Cgroup}
 use Rattle.cpuset_tree.specs.TreeState.{GroupEntry}
 use Rattle.cpuset_tree.specs.Groups.{same_group, is_parent, has_child_among, entry_among, root_among}
 use Rattle.cpuset_tree.specs.Kept.{entry_of_kept, listed, HasParentAmong, IsInOrder, KeepsEffective, AllKept, ChangesAt, behind}
-use Rattle.cpuset_tree.proofs.GroupLemmas.{same_group-key, same_group-equal, same_group_sym, other_key, entry_among-here, entry_among-there, effective-without, standing_alike}
+use Rattle.cpuset_tree.specs.GroupLemmas.{same_group-key, same_group-equal, same_group_sym, other_key, entry_among-here, entry_among-there, entry_among-without, effective-without, standing_alike}
 use Rattle.cpuset_tree.proofs.KeptLemmas.{listed_at, key_is_absent, listed-others, AllKept-others}
 
 -- a bound on the serials may be raised
@@ -109,39 +109,6 @@ not_found s next (k ∷ older) (m, at, knows, below, parent, rest) g other =
     ∙ elim (same_group m.group g) as (λ t. same_group m.group g ≡ t → entry_among (entry_of_kept m ∷ listed s older) g ≡ None) [
       | true ↦ λ e. absurd (both_ways (same_group m.group g) (other m (ap (get s) (sym (sym knows ∙ same_group-key m.group g e)) ∙ at)) e)
       | false ↦ λ e. entry_among-there (entry_of_kept m) (listed s older) g e ∙ not_found s m.group.serial older rest g other
-    ] refl
-
--- the entry of another group stays when one is removed
-pub entry_among-without : (g : Group) (groups : List GroupEntry) (p : Group) → same_group g p ≡ false
-    → entry_among (filter (λ e. not (same_group e.group g)) groups) p ≡ entry_among groups p
-entry_among-without g [] p other = refl
-entry_among-without g (e ∷ older) p other =
-    elim (same_group e.group g) as (λ t. same_group e.group g ≡ t → entry_among (filter (λ e. not (same_group e.group g)) (e ∷ older)) p ≡ entry_among (e ∷ older) p) [
-      | true ↦ λ is.
-          ap (λ (l : List GroupEntry). entry_among l p) (cond-false (not (same_group e.group g)) (e ∷ filter (λ e. not (same_group e.group g)) older) (filter (λ e. not (same_group e.group g)) older) (ap not is))
-          ∙ entry_among-without g older p other
-          ∙ sym (entry_among-there e older p (ap (λ (h : Group). same_group h p) (same_group-equal e.group g is) ∙ other))
-      | false ↦ λ is.
-          ap (λ (l : List GroupEntry). entry_among l p) (cond-true (not (same_group e.group g)) (e ∷ filter (λ e. not (same_group e.group g)) older) (filter (λ e. not (same_group e.group g)) older) (ap not is))
-          ∙ elim (same_group e.group p) as (λ t. same_group e.group p ≡ t → entry_among (e ∷ filter (λ e. not (same_group e.group g)) older) p ≡ entry_among (e ∷ older) p) [
-            | true ↦ λ at. entry_among-here e (filter (λ e. not (same_group e.group g)) older) p at ∙ sym (entry_among-here e older p at)
-            | false ↦ λ at.
-                entry_among-there e (filter (λ e. not (same_group e.group g)) older) p at ∙ entry_among-without g older p other ∙ sym (entry_among-there e older p at)
-          ] refl
-    ] refl
-
--- a removed group is there no more
-pub entry_among-removed : (g : Group) (groups : List GroupEntry) → entry_among (filter (λ e. not (same_group e.group g)) groups) g ≡ None
-entry_among-removed g [] = refl
-entry_among-removed g (e ∷ older) =
-    elim (same_group e.group g) as (λ t. same_group e.group g ≡ t → entry_among (filter (λ e. not (same_group e.group g)) (e ∷ older)) g ≡ None) [
-      | true ↦ λ is.
-          ap (λ (l : List GroupEntry). entry_among l g) (cond-false (not (same_group e.group g)) (e ∷ filter (λ e. not (same_group e.group g)) older) (filter (λ e. not (same_group e.group g)) older) (ap not is))
-          ∙ entry_among-removed g older
-      | false ↦ λ is.
-          ap (λ (l : List GroupEntry). entry_among l g) (cond-true (not (same_group e.group g)) (e ∷ filter (λ e. not (same_group e.group g)) older) (filter (λ e. not (same_group e.group g)) older) (ap not is))
-          ∙ entry_among-there e (filter (λ e. not (same_group e.group g)) older) g is
-          ∙ entry_among-removed g older
     ] refl
 
 -- one group is removed, which has no children and is not the root

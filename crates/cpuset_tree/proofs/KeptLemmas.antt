@@ -11,8 +11,9 @@ use Rattle.cpuset_tree.specs.declared.groups.Cgroup.{Cgroup}
 use Rattle.cpuset_tree.specs.TreeState.{GroupEntry}
 use Rattle.cpuset_tree.specs.Groups.{same_group, entry_among}
 use Rattle.cpuset_tree.specs.Effective.{effective}
+use Rattle.cpuset_tree.specs.TreeWellFormed.{ParentIsAmong, IsFalling}
 use Rattle.cpuset_tree.specs.Kept.{entry_of_kept, before, listed, HasParentAmong, IsInOrder, KeepsEffective, AllKept, IsOrder, cpus_kept, mems_kept, refreshed, ChangesAt}
-use Rattle.cpuset_tree.proofs.GroupLemmas.{same_group-key, entry_among-there, effective-here, effective-there, standing_alike}
+use Rattle.cpuset_tree.specs.GroupLemmas.{same_group-key, entry_among-there, effective-here, effective-there, standing_alike}
 
 -- the group under a key that has one stands before the older ones
 pub listed_at : (s : Slab Cgroup) (key : ℕ) (older : List ℕ) (n : Cgroup) → get s key ≡ Some n → listed s (key ∷ older) ≡ entry_of_kept n ∷ listed s older
@@ -121,3 +122,13 @@ pub IsOrder-drop : (s : Slab Cgroup) (n : ℕ) (keys : List ℕ) → IsOrder s k
 IsOrder-drop s zero keys order = order
 IsOrder-drop s (suc n) [] order = order
 IsOrder-drop s (suc n) (k ∷ older) (next, (m, at, knows, below, parent, rest)) = IsOrder-drop s n older (m.group.serial, rest)
+
+-- what is listed is well formed
+pub IsFalling-listed : (s : Slab Cgroup) (next : ℕ) (keys : List ℕ) → IsInOrder s next keys → IsFalling next (listed s keys)
+IsFalling-listed s next [] _ = tt
+IsFalling-listed s next (k ∷ older) (m, at, knows, below, parent, rest) =
+    subst (λ (l : List GroupEntry). IsFalling next l) (sym (listed_at s k older m at)) (below, up m.parent parent, IsFalling-listed s m.group.serial older rest)
+  where
+    up : (parent : Option Group) → HasParentAmong s parent older → ParentIsAmong parent (listed s older)
+    up None h = ap (listed s) h
+    up (Some p) h = h

@@ -1,11 +1,7 @@
-pub mod SetLemmas
-pub mod GroupLemmas
 pub mod KeptLemmas
 pub mod PlaceLemmas
 pub mod ChangeLemmas
 pub mod RefreshLemmas
-pub mod WellFormedLemmas
 pub mod SoundLemmas
 pub mod NodeLemmas
 pub mod WriteLemmas
-pub mod TreeLaws

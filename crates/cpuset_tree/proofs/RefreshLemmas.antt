@@ -11,7 +11,7 @@ use Rattle.cpuset_tree.specs.declared.groups.Group.{Group}
 use Rattle.cpuset_tree.specs.declared.groups.Cgroup.{Cgroup}
 use Rattle.cpuset_tree.specs.TreeState.{GroupEntry}
 use Rattle.cpuset_tree.specs.Kept.{listed, HasParentAmong, IsInOrder, IsOrder, KeepsEffective, AllKept, IsSound, cpus_kept, mems_kept, refreshed, is_touched, is_below_touched, passed, IsGranted, AllGrantedBut, ChangesAt, bare, OnlyKeptDiffers, behind}
-use Rattle.cpuset_tree.proofs.GroupLemmas.{standing_alike}
+use Rattle.cpuset_tree.specs.GroupLemmas.{standing_alike}
 use Rattle.cpuset_tree.proofs.KeptLemmas.{key_is_absent, listed-others, AllKept-others, cpus_kept-effective, mems_kept-effective, refreshed-kept, AllKept-refreshed, IsOrder-drop}
 use Rattle.cpuset_tree.proofs.PlaceLemmas.{SamePlaces-from_kept, same_from_change, OnlyKeptDiffers-refreshed, IsOrder-same}
 

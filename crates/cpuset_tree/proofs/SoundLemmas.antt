@@ -13,7 +13,7 @@ use Rattle.cpuset_tree.specs.TreeState.{GroupEntry}
 use Rattle.cpuset_tree.specs.Groups.{same_group, entry_among, root_among, has_child_among}
 use Rattle.cpuset_tree.specs.Effective.{granted, standing, effective}
 use Rattle.cpuset_tree.specs.Kept.{entry_of_kept, listed, HasParentAmong, IsInOrder, AllKept, KeepsEffective, IsSound}
-use Rattle.cpuset_tree.proofs.SetLemmas.{granted-empty}
+use Rattle.cpuset_tree.specs.GrantedLemmas.{granted-empty}
 use Rattle.cpuset_tree.proofs.KeptLemmas.{listed_at, vacant_is_absent, listed-others, AllKept-others}
 use Rattle.cpuset_tree.proofs.PlaceLemmas.{SamePlaces, IsInOrder-same, complete-same, root-same}
 use Rattle.cpuset_tree.proofs.ChangeLemmas.{IsInOrder-others, IsInOrder-removed, AllKept-removed, complete-removed, root-removed}

@@ -5,4 +5,8 @@ pub mod TreeChanges
 pub mod TreeAnswers
 pub mod TreeWellFormed
 pub mod TreeLaws
+pub mod GroupLemmas
+pub mod GrantedLemmas
+pub mod WellFormedLemmas
+pub mod TreeLemmas
 pub mod Kept

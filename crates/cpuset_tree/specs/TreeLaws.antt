@@ -1,12 +1,11 @@
 -- What holds of each tree, and what each change leaves of it.
-use Rattle.std.specs.Prelude.{◌≡◌, ℕ, true, false, List, Some, None, option_map}
-use Rattle.std.specs.Cmp.Lexicographic.{pointwise}
-use Rattle.std.specs.Prelude.{nat_eq}
+use Rattle.std.specs.Prelude.{◌≡◌, ◌≢◌, ◌↔◌, ℕ, ◌<◌, ◌≤◌, true, false, ◌&&◌, List, Some, None, option_map}
+use Rattle.std.specs.FinSet as set
 use Rattle.cpu_set.specs.Ids.{Ids}
 use Rattle.cpuset_tree.specs.declared.groups.Group.{Group}
 use Rattle.cpuset_tree.specs.TreeState.{GroupEntry, TreeState}
-use Rattle.cpuset_tree.specs.Groups.{same_group, entry_of, has_group, has_children, is_root, child_of, requested_cpus, requested_mems}
-use Rattle.cpuset_tree.specs.Effective.{standing, effective_cpus, effective_mems}
+use Rattle.cpuset_tree.specs.Groups.{same_group, entry_of, has_group, has_children, is_root, child_of, root_of, requested_cpus, requested_mems}
+use Rattle.cpuset_tree.specs.Effective.{granted, standing, effective_cpus, effective_mems}
 use Rattle.cpuset_tree.specs.TreeChanges.{new_entry, IsFirstTree, without_group, requesting_cpus, requesting_mems, with_cpus, with_mems, with_online}
 use Rattle.cpuset_tree.specs.TreeAnswers.{AddsGroup}
 use Rattle.cpuset_tree.specs.TreeWellFormed.{IsWellFormed}
@@ -17,6 +16,101 @@ pub record RunsUpThePath (s : TreeState) : Type 0 where
       → effective_cpus s g ≡ standing e.parent e.cpus s.online (effective_cpus s)
   pub mems : (g : Group) (e : GroupEntry) → entry_of s g ≡ Some e
       → effective_mems s g ≡ standing e.parent e.mems s.nodes (effective_mems s)
+
+-- two groups are one exactly where they are equal, and the entry that is found of a group is its own
+abbrev pub SameIsEqual : Type 0
+SameIsEqual = (g h : Group) → (same_group g h ≡ true) ↔ (g ≡ h)
+
+abbrev pub EntryIsOwn : Type 0
+EntryIsOwn = (s : TreeState) (g : Group) (e : GroupEntry) → entry_of s g ≡ Some e → e.group ≡ g
+
+-- the root is there, and has no parent
+pub record IsRootEntry (s : TreeState) (g : Group) : Type 0 where
+  pub entry : GroupEntry
+  pub there : entry_of s g ≡ Some entry
+  pub above : entry.parent ≡ None
+
+abbrev pub RootIsThere : Type 0
+RootIsThere = (s : TreeState) (g : Group) → IsWellFormed s → root_of s ≡ Some g → IsRootEntry s g
+
+-- a parent is there, and a group that is nobody's parent has no children
+abbrev pub ParentIsThere : Type 0
+ParentIsThere = (s : TreeState) (g p : Group) (e : GroupEntry) → IsWellFormed s → entry_of s g ≡ Some e → e.parent ≡ Some p → has_group s p ≡ true
+
+abbrev pub NoParentNoChildren : Type 0
+NoParentNoChildren =
+    (s : TreeState) (g : Group) → IsWellFormed s → ((p : Group) (e : GroupEntry) → entry_of s p ≡ Some e → e.parent ≢ Some g) → has_children s g ≡ false
+
+-- what is granted: all where nothing is requested, and what is requested where that is something of what the parent has
+abbrev pub GrantsAll : Type 0
+GrantsAll = (above : Ids) → granted set.empty above ≡ above
+
+abbrev pub GrantsWithin : Type 0
+GrantsWithin = (requested above : Ids) → requested ≢ set.empty → set.is_subset requested above ≡ true → granted requested above ≡ requested
+
+-- a group two below the root, with its entry and its parent's
+pub record IsTwoBelowRoot (s : TreeState) (g : Group) (e above : GroupEntry) : Type 0 where
+  pub root : Group
+  pub parent : Group
+  pub top : root_of s ≡ Some root
+  pub there : entry_of s g ≡ Some e
+  pub below : e.parent ≡ Some parent
+  pub parent_there : entry_of s parent ≡ Some above
+  pub parent_below : above.parent ≡ Some root
+
+-- it has what it is granted of all that is online, and of all nodes, where its parent requests nothing
+pub record GrantedOfAll (s : TreeState) (g : Group) (e above : GroupEntry) : Type 0 where
+  pub cpus : above.cpus ≡ set.empty → effective_cpus s g ≡ granted e.cpus s.online
+  pub mems : above.mems ≡ set.empty → effective_mems s g ≡ granted e.mems s.nodes
+
+abbrev pub TwoBelowRoot : Type 0
+TwoBelowRoot = (s : TreeState) (g : Group) (e above : GroupEntry) → IsWellFormed s → IsTwoBelowRoot s g e above → GrantedOfAll s g e above
+
+-- entries of one group, below one parent and of one name
+pub record SamePlace (e f : GroupEntry) : Type 0 where
+  pub group : e.group ≡ f.group
+  pub parent : e.parent ≡ f.parent
+  pub name : e.name ≡ f.name
+
+-- an entry of this group, in the same place
+pub record StandsAs (s : TreeState) (g : Group) (e : GroupEntry) : Type 0 where
+  pub entry : GroupEntry
+  pub there : entry_of s g ≡ Some entry
+  pub place : SamePlace e entry
+
+-- the groups of both trees stand alike: they differ at most in what they request
+pub record StandAlike (s new : TreeState) : Type 0 where
+  pub before : (p : Group) (e : GroupEntry) → entry_of new p ≡ Some e → StandsAs s p e
+  pub after : (p : Group) (e : GroupEntry) → entry_of s p ≡ Some e → StandsAs new p e
+  pub there : (p : Group) → has_group new p ≡ has_group s p
+  pub rootness : (p : Group) → is_root new p ≡ is_root s p
+  pub child : (parent : Group) (name : List ℕ) → child_of new parent name ≡ child_of s parent name
+  pub children : (p : Group) → has_children new p ≡ has_children s p
+  pub root : root_of new ≡ root_of s
+  pub next_serial : new.next_serial ≡ s.next_serial
+
+abbrev pub WritesLeavePlaces : Type 0
+WritesLeavePlaces =
+    ((s : TreeState) (g : Group) (cpus : Ids) → StandAlike s (with_cpus s g cpus)) × ((s : TreeState) (g : Group) (mems : Ids) → StandAlike s (with_mems s g mems))
+
+-- a group that is there has a serial that was given, and no serial is given twice: what is there of a serial that was given
+-- before was there before
+abbrev pub SerialIsGiven : Type 0
+SerialIsGiven = (s : TreeState) (g : Group) → IsWellFormed s → has_group s g ≡ true → g.serial < s.next_serial
+
+pub record KeepsSerials (s new : TreeState) : Type 0 where
+  pub rise : s.next_serial ≤ new.next_serial
+  pub same : (g : Group) (e : GroupEntry) → g.serial < s.next_serial → entry_of new g ≡ Some e → StandsAs s g e
+
+pub record ChangesKeepSerials (s : TreeState) : Type 0 where
+  pub added : (new : TreeState) (parent : Group) (name : List ℕ) (g : Group) → AddsGroup s parent name g new → KeepsSerials s new
+  pub removed : (g : Group) → KeepsSerials s (without_group s g)
+  pub cpus : (g : Group) (cpus : Ids) → KeepsSerials s (with_cpus s g cpus)
+  pub mems : (g : Group) (mems : Ids) → KeepsSerials s (with_mems s g mems)
+  pub online : (online : Ids) → KeepsSerials s (with_online s online)
+
+abbrev pub SerialsGivenOnce : Type 0
+SerialsGivenOnce = (s : TreeState) → ChangesKeepSerials s
 
 -- a write of one group changes what that group requests, and no other entry
 abbrev pub CpusWritten : Type 0
@@ -29,6 +123,7 @@ MemsWritten = (s : TreeState) (g : Group) (mems : Ids) (p : Group) → entry_of 
 pub record CpusRequested (s : TreeState) (g : Group) (cpus : Ids) : Type 0 where
   pub own : has_group s g ≡ true → requested_cpus (with_cpus s g cpus) g ≡ cpus
   pub others : (p : Group) → same_group g p ≡ false → requested_cpus (with_cpus s g cpus) p ≡ requested_cpus s p
+  pub apart : (p : Group) → same_group g p ≡ false → entry_of (with_cpus s g cpus) p ≡ entry_of s p
   pub mems : (p : Group) → requested_mems (with_cpus s g cpus) p ≡ requested_mems s p
   pub there : (p : Group) → has_group (with_cpus s g cpus) p ≡ has_group s p
 
@@ -36,6 +131,7 @@ pub record CpusRequested (s : TreeState) (g : Group) (cpus : Ids) : Type 0 where
 pub record MemsRequested (s : TreeState) (g : Group) (mems : Ids) : Type 0 where
   pub own : has_group s g ≡ true → requested_mems (with_mems s g mems) g ≡ mems
   pub others : (p : Group) → same_group g p ≡ false → requested_mems (with_mems s g mems) p ≡ requested_mems s p
+  pub apart : (p : Group) → same_group g p ≡ false → entry_of (with_mems s g mems) p ≡ entry_of s p
   pub cpus : (p : Group) → requested_cpus (with_mems s g mems) p ≡ requested_cpus s p
   pub there : (p : Group) → has_group (with_mems s g mems) p ≡ has_group s p
 
@@ -47,6 +143,9 @@ pub record GroupAdded (s new : TreeState) (parent : Group) (name : List ℕ) (g 
   pub there : entry_of new g ≡ Some (new_entry g (Some parent) name)
   pub others : (p : Group) → same_group g p ≡ false → entry_of new p ≡ entry_of s p
   pub differs : (p : Group) → has_group s p ≡ true → same_group g p ≡ false
+  pub child : child_of new parent name ≡ Some g
+  pub cpus : (p : Group) → requested_cpus new p ≡ requested_cpus s p
+  pub mems : (p : Group) → requested_mems new p ≡ requested_mems s p
 
 abbrev pub AddedLeaves : Type 0
 AddedLeaves = (s new : TreeState) (parent : Group) (name : List ℕ) (g : Group) → AddsGroup s parent name g new → GroupAdded s new parent name g
@@ -64,7 +163,7 @@ pub record IsChild (s : TreeState) (parent : Group) (name : List ℕ) (g : Group
   pub entry : GroupEntry
   pub there : entry_of s g ≡ Some entry
   pub below : entry.parent ≡ Some parent
-  pub named : pointwise nat_eq entry.name name ≡ true
+  pub named : entry.name ≡ name
 
 abbrev pub FoundIsChild : Type 0
 FoundIsChild = (s : TreeState) (parent : Group) (name : List ℕ) (g : Group) → IsWellFormed s → child_of s parent name ≡ Some g → IsChild s parent name g

@@ -1,13 +1,15 @@
-ghost use Rattle.cpuset_tree.specs.TreeLaws.{CpusWritten, MemsWritten, WritesRequest, AddedLeaves, RemovedLeaves, FoundIsChild, ChangesStayWellFormed, FirstIsWellFormed, WellFormedRunsUp};
+ghost use Rattle.cpuset_tree.specs.TreeLaws.{SameIsEqual, EntryIsOwn, RootIsThere, ParentIsThere, NoParentNoChildren, GrantsAll, GrantsWithin, TwoBelowRoot, SerialIsGiven, WritesLeavePlaces, SerialsGivenOnce, CpusWritten, MemsWritten, WritesRequest, AddedLeaves, RemovedLeaves, FoundIsChild, ChangesStayWellFormed, FirstIsWellFormed, WellFormedRunsUp};
 
 /// What each change leaves of a tree; nothing runs.
 pub fn changes()
     ensures cpus { CpusWritten }
     ensures mems { MemsWritten }
     ensures requests { WritesRequest }
+    ensures places { WritesLeavePlaces }
     ensures added { AddedLeaves }
     ensures removed { RemovedLeaves }
     ensures found { FoundIsChild }
+    ensures serials { SerialsGivenOnce }
 {}
 
 /// What holds of each tree that calls can make; nothing runs.
@@ -15,4 +17,17 @@ pub fn well_formed()
     ensures first { FirstIsWellFormed }
     ensures stays { ChangesStayWellFormed }
     ensures path { WellFormedRunsUp }
+    ensures root { RootIsThere }
+    ensures parents { ParentIsThere }
+    ensures childless { NoParentNoChildren }
+    ensures serial { SerialIsGiven }
+    ensures below { TwoBelowRoot }
+{}
+
+/// What holds of all groups, entries and sets; nothing runs.
+pub fn words()
+    ensures same { SameIsEqual }
+    ensures own { EntryIsOwn }
+    ensures all { GrantsAll }
+    ensures within { GrantsWithin }
 {}

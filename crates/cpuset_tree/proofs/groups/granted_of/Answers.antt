@@ -1,6 +1,6 @@
 use Rattle.std.proofs.Common.{sym, ◌∙◌, refl}
 use Rattle.std.proofs.lemmas.Bool.{iff_false}
-use Rattle.cpuset_tree.proofs.SetLemmas.{granted_all, granted_part}
+use Rattle.cpuset_tree.specs.GrantedLemmas.{granted_all, granted_part}
 use Rattle.cpuset_tree.proofs.groups.granted_of.Goals as goal
 
 pub returns-then-is_empty : goal.returns-then-is_empty

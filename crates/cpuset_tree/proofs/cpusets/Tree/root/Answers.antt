@@ -4,7 +4,8 @@ use Rattle.cpuset_tree.specs.TreeState.{TreeState}
 use Rattle.cpuset_tree.specs.Kept.{listed}
 use Rattle.cpuset_tree.specs.TreeWellFormed.{IsWellFormed}
 use Rattle.cpuset_tree.specs.TreeLaws.{RunsUpThePath}
-use Rattle.cpuset_tree.proofs.WellFormedLemmas.{IsFalling-listed, RunsUpThePath-well_formed}
+use Rattle.cpuset_tree.specs.WellFormedLemmas.{RunsUpThePath-well_formed}
+use Rattle.cpuset_tree.proofs.KeptLemmas.{IsFalling-listed}
 use Rattle.cpuset_tree.proofs.cpusets.Tree.root.Goals as goal
 
 pub returns-clause-well_formed : goal.returns-clause-well_formed

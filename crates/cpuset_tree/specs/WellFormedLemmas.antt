@@ -3,28 +3,14 @@ use Rattle.std.proofs.Common.{◌≡◌, ℕ, ◌<◌, true, false, List, [], �
 use Rattle.std.proofs.lemmas.Bool.{both_ways}
 use Rattle.std.proofs.lemmas.Option.{same_Some, none-some}
 use Rattle.std.specs.Prelude.{Option, Some, None, is_some}
-use Rattle.slab.specs.Slab.{Slab}
 use Rattle.cpu_set.specs.Ids.{Ids}
 use Rattle.cpuset_tree.specs.declared.groups.Group.{Group}
-use Rattle.cpuset_tree.specs.declared.groups.Cgroup.{Cgroup}
 use Rattle.cpuset_tree.specs.TreeState.{GroupEntry, TreeState}
 use Rattle.cpuset_tree.specs.Groups.{same_group, entry_among}
 use Rattle.cpuset_tree.specs.Effective.{standing, effective}
 use Rattle.cpuset_tree.specs.TreeWellFormed.{ParentIsAmong, IsFalling}
 use Rattle.cpuset_tree.specs.TreeLaws.{RunsUpThePath}
-use Rattle.cpuset_tree.specs.Kept.{listed, HasParentAmong, IsInOrder}
-use Rattle.cpuset_tree.proofs.GroupLemmas.{same_group-serial, other_serial, entry_among-here, entry_among-there, effective-here, effective-there, standing_alike}
-use Rattle.cpuset_tree.proofs.KeptLemmas.{listed_at}
-
--- what is listed is well formed
-pub IsFalling-listed : (s : Slab Cgroup) (next : ℕ) (keys : List ℕ) → IsInOrder s next keys → IsFalling next (listed s keys)
-IsFalling-listed s next [] _ = tt
-IsFalling-listed s next (k ∷ older) (m, at, knows, below, parent, rest) =
-    subst (λ (l : List GroupEntry). IsFalling next l) (sym (listed_at s k older m at)) (below, up m.parent parent, IsFalling-listed s m.group.serial older rest)
-  where
-    up : (parent : Option Group) → HasParentAmong s parent older → ParentIsAmong parent (listed s older)
-    up None h = ap (listed s) h
-    up (Some p) h = h
+use Rattle.cpuset_tree.specs.GroupLemmas.{same_group-serial, other_serial, entry_among-here, entry_among-there, effective-here, effective-there, standing_alike}
 
 -- a group that is there has a serial below the next
 pub serial_below : (next : ℕ) (groups : List GroupEntry) → IsFalling next groups → (p : Group) → is_some (entry_among groups p) ≡ true → p.serial < next

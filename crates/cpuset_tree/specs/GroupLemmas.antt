@@ -43,6 +43,39 @@ entry_among-here e older g h = cond-true (same_group e.group g) (Some e) (entry_
 pub entry_among-there : (e : GroupEntry) (older : List GroupEntry) (g : Group) → same_group e.group g ≡ false → entry_among (e ∷ older) g ≡ entry_among older g
 entry_among-there e older g h = cond-false (same_group e.group g) (Some e) (entry_among older g) h
 
+-- the entry of another group stays when one is removed
+pub entry_among-without : (g : Group) (groups : List GroupEntry) (p : Group) → same_group g p ≡ false
+    → entry_among (filter (λ e. not (same_group e.group g)) groups) p ≡ entry_among groups p
+entry_among-without g [] p other = refl
+entry_among-without g (e ∷ older) p other =
+    elim (same_group e.group g) as (λ t. same_group e.group g ≡ t → entry_among (filter (λ e. not (same_group e.group g)) (e ∷ older)) p ≡ entry_among (e ∷ older) p) [
+      | true ↦ λ is.
+          ap (λ (l : List GroupEntry). entry_among l p) (cond-false (not (same_group e.group g)) (e ∷ filter (λ e. not (same_group e.group g)) older) (filter (λ e. not (same_group e.group g)) older) (ap not is))
+          ∙ entry_among-without g older p other
+          ∙ sym (entry_among-there e older p (ap (λ (h : Group). same_group h p) (same_group-equal e.group g is) ∙ other))
+      | false ↦ λ is.
+          ap (λ (l : List GroupEntry). entry_among l p) (cond-true (not (same_group e.group g)) (e ∷ filter (λ e. not (same_group e.group g)) older) (filter (λ e. not (same_group e.group g)) older) (ap not is))
+          ∙ elim (same_group e.group p) as (λ t. same_group e.group p ≡ t → entry_among (e ∷ filter (λ e. not (same_group e.group g)) older) p ≡ entry_among (e ∷ older) p) [
+            | true ↦ λ at. entry_among-here e (filter (λ e. not (same_group e.group g)) older) p at ∙ sym (entry_among-here e older p at)
+            | false ↦ λ at.
+                entry_among-there e (filter (λ e. not (same_group e.group g)) older) p at ∙ entry_among-without g older p other ∙ sym (entry_among-there e older p at)
+          ] refl
+    ] refl
+
+-- a removed group is there no more
+pub entry_among-removed : (g : Group) (groups : List GroupEntry) → entry_among (filter (λ e. not (same_group e.group g)) groups) g ≡ None
+entry_among-removed g [] = refl
+entry_among-removed g (e ∷ older) =
+    elim (same_group e.group g) as (λ t. same_group e.group g ≡ t → entry_among (filter (λ e. not (same_group e.group g)) (e ∷ older)) g ≡ None) [
+      | true ↦ λ is.
+          ap (λ (l : List GroupEntry). entry_among l g) (cond-false (not (same_group e.group g)) (e ∷ filter (λ e. not (same_group e.group g)) older) (filter (λ e. not (same_group e.group g)) older) (ap not is))
+          ∙ entry_among-removed g older
+      | false ↦ λ is.
+          ap (λ (l : List GroupEntry). entry_among l g) (cond-true (not (same_group e.group g)) (e ∷ filter (λ e. not (same_group e.group g)) older) (filter (λ e. not (same_group e.group g)) older) (ap not is))
+          ∙ entry_among-there e (filter (λ e. not (same_group e.group g)) older) g is
+          ∙ entry_among-removed g older
+    ] refl
+
 module _ (requested : GroupEntry → Ids) (top : Ids) where
   pub effective-here : (e : GroupEntry) (older : List GroupEntry) (g : Group) → same_group e.group g ≡ true
       → effective requested top (e ∷ older) g ≡ standing e.parent (requested e) top (effective requested top older)
