@@ -4,4 +4,6 @@ pub mod TableChanges
 pub mod TableAnswers
 pub mod TableWellFormed
 pub mod TableLaws
+pub mod ProcessLemmas
+pub mod TableLemmas
 pub mod Kept

@@ -14,7 +14,7 @@ use Rattle.proctable.specs.TableChanges.{ends_with}
 use Rattle.proctable.specs.TableAnswers.{AddsProcess}
 use Rattle.proctable.specs.TableWellFormed.{RisesBelow, Belongs, IsWellFormed}
 use Rattle.proctable.specs.TableLaws.{ProcessAdded, AddedLeaves, SomeEnd, ExitedLeaves, EndedLeaves, EndedIsEmpty, LiveBelong, EmptyOnceFirstEnded, ChangesStayWellFormed, FirstIsWellFormed}
-use Rattle.proctable.proofs.TableLemmas.{process-here, process-there, process-below, RisesBelow-push, process-push, process-push-old, process-push-new, AllBelong-push, RisesBelow-filter, process-filter-stays, process-filter-none, process-filter-ends, AllBelong-filter, together-exited, together-ended, Belongs-found}
+use Rattle.proctable.specs.ProcessLemmas.{process-here, process-there, process-below, RisesBelow-push, process-push, process-push-old, process-push-new, AllBelong-push, RisesBelow-filter, process-filter-stays, process-filter-none, process-filter-ends, AllBelong-filter, together-exited, together-ended, Belongs-found}
 
 none_of : (o : Option Process) → is_some o ≡ false → o ≡ None
 none_of None h = refl

@@ -1,4 +1,4 @@
-use Rattle.proctable.proofs.TableLaws.{added_leaves, exited_leaves, ended_leaves, ended_is_empty}
+use Rattle.proctable.specs.TableLemmas.{added_leaves, exited_leaves, ended_leaves, ended_is_empty}
 use Rattle.proctable.proofs.laws.changes.Goals as goal
 
 pub returns : goal.returns

@@ -1,4 +1,4 @@
-use Rattle.proctable.proofs.TableLaws.{first_is_well_formed, stays_well_formed, live_belong, empty_once_first_ended}
+use Rattle.proctable.specs.TableLemmas.{first_is_well_formed, stays_well_formed, live_belong, empty_once_first_ended}
 use Rattle.proctable.proofs.laws.well_formed.Goals as goal
 
 pub returns : goal.returns

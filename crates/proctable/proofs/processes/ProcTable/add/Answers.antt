@@ -8,7 +8,7 @@ use Rattle.proctable.specs.Processes.{process_of}
 use Rattle.proctable.specs.TableAnswers.{AddsProcess}
 use Rattle.proctable.specs.TableWellFormed.{Belongs}
 use Rattle.proctable.specs.Kept.{IsSound, BelongsNext}
-use Rattle.proctable.proofs.TableLemmas.{RisesBelow-push, AllBelong-push, process-fresh, process-push-new, process-push-old}
+use Rattle.proctable.specs.ProcessLemmas.{RisesBelow-push, AllBelong-push, process-fresh, process-push-new, process-push-old}
 use Rattle.proctable.proofs.processes.ProcTable.add.Goals as goal
 
 -- a table stays sound when a process of the next pid comes that belongs to itself or to a live first process

@@ -5,7 +5,7 @@ use Rattle.proctable.specs.declared.processes.Process.{Process}
 use Rattle.proctable.specs.TableState.{TableState}
 use Rattle.proctable.specs.TableChanges.{ended_in}
 use Rattle.proctable.specs.Kept.{IsSound}
-use Rattle.proctable.proofs.TableLemmas.{RisesBelow-filter, AllBelong-filter, together-ended}
+use Rattle.proctable.specs.ProcessLemmas.{RisesBelow-filter, AllBelong-filter, together-ended}
 use Rattle.proctable.proofs.processes.ProcTable.end_in.Goals as goal
 
 pub invariant_of-self : goal.invariant_of-self

@@ -3,7 +3,7 @@ use Rattle.proctable.specs.TableState.{TableState}
 use Rattle.proctable.specs.Processes.{process_of}
 use Rattle.proctable.specs.TableWellFormed.{Belongs}
 use Rattle.proctable.specs.Kept.{BelongsNext}
-use Rattle.proctable.proofs.TableLemmas.{Belongs-found}
+use Rattle.proctable.specs.ProcessLemmas.{Belongs-found}
 use Rattle.proctable.proofs.processes.ProcTable.fork.Goals as goal
 
 pub add-requires-clause-belongs : goal.add-requires-clause-belongs
