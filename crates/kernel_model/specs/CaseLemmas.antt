@@ -1,13 +1,33 @@
--- What holds of the state after a call, whatever the call answered.
-use Rattle.std.proofs.Common.{◌≡◌, sym, subst}
-use Rattle.std.specs.Prelude.{Option, None, Result, Ok, Err}
+-- What holds of an answer and of the state after a call.
+use Rattle.std.proofs.Common.{◌≡◌, false, refl, sym, subst}
+use Rattle.std.specs.Prelude.{Option, Some, None, Result, Ok, Err}
 use Rattle.cpuset_tree.specs.TreeAnswers.{Decides}
 use Rattle.kernel_model.specs.declared.faults.KernelFault.{KernelFault}
 use Rattle.kernel_model.specs.declared.faults.KernelFault.TheVariants.{Failed}
 use Rattle.kernel_model.specs.declared.faults.KernelError.{KernelError}
 use Rattle.kernel_model.specs.declared.faults.KernelError.TheVariants.{Memory, Fault}
 use Rattle.kernel_model.specs.KernelState.{KernelState, failed}
-use Rattle.kernel_model.specs.Cases.{Writes, Grows, GrowingWrites}
+use Rattle.kernel_model.specs.Cases.{Writes, Grows, GrowingWrites, is_failed}
+
+module _ {A : Type 0} (refusal : Option KernelFault) (Does : A → KernelState → Type 0) (old : KernelState) where
+  -- what holds of an answer and of what the call makes of the state, of a refusal and the state before, and of a failure
+  module _ (P : Result A KernelFault → KernelState → Type 0)
+      (does : (value : A) (new : KernelState) → refusal ≡ None → Does value new → P (Ok value) new)
+      (fails : P (Err Failed) (failed old)) (kept : (fault : KernelFault) → is_failed fault ≡ false → refusal ≡ Some fault → P (Err fault) old) where
+    pub Writes-answers : (answer : Result A KernelFault) (new : KernelState) → Writes refusal Does old answer new → P answer new
+    Writes-answers (Ok value) new h = does value new h.0 h.1
+    Writes-answers (Err Failed) new h = subst (λ (k : KernelState). P (Err Failed) k) (sym h) fails
+    Writes-answers (Err fault) new h = subst (λ (k : KernelState). P (Err fault) k) (sym h.1) (kept fault refl h.0)
+
+  -- the same where memory is asked for, and of want of it
+  module _ (P : Result A KernelError → KernelState → Type 0)
+      (does : (value : A) (new : KernelState) → refusal ≡ None → Does value new → P (Ok value) new) (wants : P (Err Memory) old)
+      (fails : P (Err (Fault Failed)) (failed old)) (kept : (fault : KernelFault) → is_failed fault ≡ false → refusal ≡ Some fault → P (Err (Fault fault)) old) where
+    pub GrowingWrites-answers : (answer : Result A KernelError) (new : KernelState) → GrowingWrites refusal Does old answer new → P answer new
+    GrowingWrites-answers (Ok value) new h = does value new h.0 h.1
+    GrowingWrites-answers (Err Memory) new h = subst (λ (k : KernelState). P (Err Memory) k) (sym h.1) wants
+    GrowingWrites-answers (Err (Fault Failed)) new h = subst (λ (k : KernelState). P (Err (Fault Failed)) k) (sym h) fails
+    GrowingWrites-answers (Err (Fault fault)) new h = subst (λ (k : KernelState). P (Err (Fault fault)) k) (sym h.1) (kept fault refl h.0)
 
 -- what holds of the state before, of that state with one failure more, and of what the call makes of it, holds after the call
 module _ {A : Type 0} (P : KernelState → Type 0) (refusal : Option KernelFault) (Does : A → KernelState → Type 0) (old : KernelState)
@@ -23,11 +43,7 @@ module _ {A : Type 0} (P : KernelState → Type 0) (refusal : Option KernelFault
 
   module _ (fails : P (failed old)) where
     pub Writes-keeps : (answer : Result A KernelFault) (new : KernelState) → Writes refusal Does old answer new → P new
-    Writes-keeps (Ok value) new h = does value new h.0 h.1
-    Writes-keeps (Err Failed) new h = subst (λ (k : KernelState). P k) (sym h) fails
-    Writes-keeps (Err fault) new h = subst (λ (k : KernelState). P k) (sym h.1) kept
+    Writes-keeps = Writes-answers refusal Does old (λ _. P) does fails (λ fault other against. kept)
 
     pub GrowingWrites-keeps : (answer : Result A KernelError) (new : KernelState) → GrowingWrites refusal Does old answer new → P new
-    GrowingWrites-keeps (Ok value) new h = does value new h.0 h.1
-    GrowingWrites-keeps (Err Memory) new h = subst (λ (k : KernelState). P k) (sym h.1) kept
-    GrowingWrites-keeps (Err (Fault fault)) new h = Writes-keeps (Err fault) new h
+    GrowingWrites-keeps = GrowingWrites-answers refusal Does old (λ _. P) does kept fails (λ fault other against. kept)

@@ -1,5 +1,5 @@
 -- One case for each call of a kernel: what it answers, and what it changes.
-use Rattle.std.specs.Prelude.{◌≡◌, ℕ, false, if◌then◌else◌, List, Option, Some, None, Result, Ok, Err}
+use Rattle.std.specs.Prelude.{◌≡◌, ℕ, Bool, true, false, cond, if◌then◌else◌, List, Option, Some, None, Result, Ok, Err}
 use Rattle.std.specs.FinSet as set
 use Rattle.cpu_set.specs.Ids.{Ids}
 use Rattle.cpuset_tree.specs.declared.Group.{Group}
@@ -15,6 +15,21 @@ use Rattle.kernel_model.specs.declared.faults.KernelError.{KernelError}
 use Rattle.kernel_model.specs.declared.faults.KernelError.TheVariants.{Memory, Fault}
 use Rattle.kernel_model.specs.KernelState.{KernelState, failed}
 use Rattle.kernel_model.specs.Refusals.{make_refusal, remove_refusal, write_refusal, spawn_refusal, end_refusal, fork_refusal, exit_refusal, offline_refusal, online_refusal}
+
+-- whether it is this that a write answers that failed
+abbrev pub is_failed : KernelFault → Bool
+is_failed Failed = true
+is_failed fault = false
+
+-- by how much the count of failures rises where a write answers this: by one where it failed
+abbrev pub rise : {A : Type 0} → Result A KernelFault → ℕ
+rise (Ok value) = 0
+rise (Err fault) = cond (is_failed fault) 1 0
+
+abbrev pub rise_or_memory : {A : Type 0} → Result A KernelError → ℕ
+rise_or_memory (Ok value) = 0
+rise_or_memory (Err Memory) = 0
+rise_or_memory (Err (Fault fault)) = cond (is_failed fault) 1 0
 
 module _ {A : Type 0} (refusal : Option KernelFault) (Does : A → KernelState → Type 0) (old : KernelState) where
   -- a write answers the first thing that stands against it and changes nothing, or does what it is for; or it fails

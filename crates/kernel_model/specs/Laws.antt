@@ -1,15 +1,21 @@
 -- What each case leaves of a kernel, for those that stand on the trait alone.
-use Rattle.std.specs.Prelude.{◌≡◌, ℕ, ◌<◌, ◌≤◌, List, Some, Result}
+use Rattle.std.specs.Prelude.{◌≡◌, ◌≢◌, ◌↔◌, ℕ, ◌+◌, ◌<◌, ◌≤◌, true, false, List, Some, None, Result, IfOk, OnErr}
+use Rattle.std.specs.FinSet as set
 use Rattle.cpu_set.specs.Ids.{Ids}
 use Rattle.cpuset_tree.specs.declared.Group.{Group}
+use Rattle.cpuset_tree.specs.declared.TheConstants.{SERIAL_LIMIT}
+use Rattle.cpuset_tree.specs.Groups.{same_group, entry_of, has_group, has_children, child_of, is_root, requested_cpus, requested_mems}
+use Rattle.cpuset_tree.specs.TreeLaws.{StandAlike, KeepsSerials, GroupAdded}
 use Rattle.proctable.specs.declared.Process.{Process}
-use Rattle.proctable.specs.Processes.{process_of}
+use Rattle.proctable.specs.declared.TheConstants.{LAST_PID}
+use Rattle.proctable.specs.Processes.{process_of, is_alive, count_in}
 use Rattle.kernel_model.specs.declared.faults.KernelFault.{KernelFault}
 use Rattle.kernel_model.specs.declared.faults.KernelError.{KernelError}
 use Rattle.kernel_model.specs.declared.call.Call.{Call}
 use Rattle.kernel_model.specs.declared.call.Reply.{Reply}
 use Rattle.kernel_model.specs.KernelState.{KernelState, IsFirstKernel}
-use Rattle.kernel_model.specs.Cases.{MakesGroup, RemovesGroup, WritesCpus, WritesMems, Spawns, EndsGroup, Forks, Exits, GoesOffline, ComesOnline}
+use Rattle.kernel_model.specs.Refusals.{make_refusal, remove_refusal, write_refusal, spawn_refusal, end_refusal, fork_refusal, exit_refusal, offline_refusal, online_refusal}
+use Rattle.kernel_model.specs.Cases.{rise, rise_or_memory, MakesGroup, RemovesGroup, WritesCpus, WritesMems, Spawns, EndsGroup, Forks, Exits, GoesOffline, ComesOnline}
 use Rattle.kernel_model.specs.Runs.{Step, Run}
 use Rattle.kernel_model.specs.WellFormed.{IsWellFormed}
 
@@ -53,11 +59,92 @@ pub record WritesKeepTree : Type 0 where
   pub spawn : (old new : KernelState) (g : Group) (r : Result ℕ KernelError) → Spawns old g r new → new.tree ≡ old.tree
   pub end : (old new : KernelState) (g : Group) (r : Result (Unit {0}) KernelFault) → EndsGroup old g r new → new.tree ≡ old.tree
 
--- each call leaves a kernel, and the machine's part of it, and gives no pid twice
+-- what a write of a group's CPUs leaves, whatever it answers: they are what the group requests where it is Ok, the tree is
+-- as it was where it is not, and all other groups, all memory nodes and the places of all groups are as they were
+pub record CpusWriteLeaves (old : KernelState) (g : Group) (cpus : Ids) (r : Result (Unit {0}) KernelFault) (new : KernelState) : Type 0 where
+  pub own : IfOk r (λ _. requested_cpus new.tree g ≡ cpus)
+  pub refused : OnErr r (new.tree ≡ old.tree)
+  pub others : (p : Group) → same_group g p ≡ false → requested_cpus new.tree p ≡ requested_cpus old.tree p
+  pub apart : (p : Group) → same_group g p ≡ false → entry_of new.tree p ≡ entry_of old.tree p
+  pub mems : (p : Group) → requested_mems new.tree p ≡ requested_mems old.tree p
+  pub places : StandAlike old.tree new.tree
+
+-- and the same of a write of its memory nodes
+pub record MemsWriteLeaves (old : KernelState) (g : Group) (mems : Ids) (r : Result (Unit {0}) KernelFault) (new : KernelState) : Type 0 where
+  pub own : IfOk r (λ _. requested_mems new.tree g ≡ mems)
+  pub refused : OnErr r (new.tree ≡ old.tree)
+  pub others : (p : Group) → same_group g p ≡ false → requested_mems new.tree p ≡ requested_mems old.tree p
+  pub apart : (p : Group) → same_group g p ≡ false → entry_of new.tree p ≡ entry_of old.tree p
+  pub cpus : (p : Group) → requested_cpus new.tree p ≡ requested_cpus old.tree p
+  pub places : StandAlike old.tree new.tree
+
+-- a new group is the only one that differs, and it requests nothing
+pub record MakeLeaves (old : KernelState) (parent : Group) (name : List ℕ) (r : Result Group KernelError) (new : KernelState) : Type 0 where
+  pub made : IfOk r (λ g. GroupAdded old.tree new.tree parent name g)
+  pub refused : OnErr r (new.tree ≡ old.tree)
+  pub cpus : (p : Group) → requested_cpus new.tree p ≡ requested_cpus old.tree p
+  pub mems : (p : Group) → requested_mems new.tree p ≡ requested_mems old.tree p
+
+-- a removed group is the only one that differs
+pub record RemoveLeaves (old : KernelState) (g : Group) (r : Result (Unit {0}) KernelFault) (new : KernelState) : Type 0 where
+  pub gone : IfOk r (λ _. entry_of new.tree g ≡ None)
+  pub refused : OnErr r (new.tree ≡ old.tree)
+  pub apart : (p : Group) → same_group g p ≡ false → entry_of new.tree p ≡ entry_of old.tree p
+
+pub record WritesLeaveGroups : Type 0 where
+  pub make : (old new : KernelState) (parent : Group) (name : List ℕ) (r : Result Group KernelError) → MakesGroup old parent name r new → MakeLeaves old parent name r new
+  pub remove : (old new : KernelState) (g : Group) (r : Result (Unit {0}) KernelFault) → RemovesGroup old g r new → RemoveLeaves old g r new
+  pub cpus : (old new : KernelState) (g : Group) (cpus : Ids) (r : Result (Unit {0}) KernelFault) → WritesCpus old g cpus r new → CpusWriteLeaves old g cpus r new
+  pub mems : (old new : KernelState) (g : Group) (mems : Ids) (r : Result (Unit {0}) KernelFault) → WritesMems old g mems r new → MemsWriteLeaves old g mems r new
+
+-- a write that fails is counted, and no other
+pub record WritesCount : Type 0 where
+  pub make : (old new : KernelState) (parent : Group) (name : List ℕ) (r : Result Group KernelError) → MakesGroup old parent name r new → new.failures ≡ old.failures + rise_or_memory r
+  pub remove : (old new : KernelState) (g : Group) (r : Result (Unit {0}) KernelFault) → RemovesGroup old g r new → new.failures ≡ old.failures + rise r
+  pub cpus : (old new : KernelState) (g : Group) (cpus : Ids) (r : Result (Unit {0}) KernelFault) → WritesCpus old g cpus r new → new.failures ≡ old.failures + rise r
+  pub mems : (old new : KernelState) (g : Group) (mems : Ids) (r : Result (Unit {0}) KernelFault) → WritesMems old g mems r new → new.failures ≡ old.failures + rise r
+  pub spawn : (old new : KernelState) (g : Group) (r : Result ℕ KernelError) → Spawns old g r new → new.failures ≡ old.failures + rise_or_memory r
+  pub end : (old new : KernelState) (g : Group) (r : Result (Unit {0}) KernelFault) → EndsGroup old g r new → new.failures ≡ old.failures + rise r
+
+-- when nothing stands against a call
+pub record NothingAgainst (k : KernelState) : Type 0 where
+  pub make : (parent : Group) (name : List ℕ)
+      → (make_refusal k parent name ≡ None) ↔ ((has_group k.tree parent ≡ true) × (child_of k.tree parent name ≡ None) × (k.tree.next_serial ≢ SERIAL_LIMIT))
+  pub remove : (g : Group)
+      → (remove_refusal k g ≡ None) ↔ ((has_group k.tree g ≡ true) × (is_root k.tree g ≡ false) × (has_children k.tree g ≡ false) × (count_in k.table g ≡ 0))
+  pub write : (g : Group) → (write_refusal k g ≡ None) ↔ ((has_group k.tree g ≡ true) × (is_root k.tree g ≡ false))
+  pub spawn : (g : Group) → (spawn_refusal k g ≡ None) ↔ ((has_group k.tree g ≡ true) × (k.table.next_pid ≤ LAST_PID))
+  pub end : (g : Group) → (end_refusal k g ≡ None) ↔ (has_group k.tree g ≡ true)
+  pub fork : (parent : ℕ) → (fork_refusal k parent ≡ None) ↔ ((is_alive k.table parent ≡ true) × (k.table.next_pid ≤ LAST_PID))
+  pub exit : (pid : ℕ) → (exit_refusal k pid ≡ None) ↔ (is_alive k.table pid ≡ true)
+  pub offline : (cpu : ℕ) → (offline_refusal k cpu ≡ None) ↔ ((set.contains k.present cpu ≡ true) × (set.contains k.reserved cpu ≡ false))
+  pub online : (cpu : ℕ) → (online_refusal k cpu ≡ None) ↔ (set.contains k.present cpu ≡ true)
+
+abbrev pub CallsAreFree : Type 0
+CallsAreFree = (k : KernelState) → NothingAgainst k
+
+-- each call leaves a kernel, and the machine's part of it, and gives no pid and no serial twice
 pub record StepKeeps (old new : KernelState) : Type 0 where
   pub well_formed : IsWellFormed new
   pub machine : KeepsMachine old new
   pub pids : KeepsPids old new
+  pub serials : KeepsSerials old.tree new.tree
+
+-- the same of each case
+pub record CasesKeep (old new : KernelState) : Type 0 where
+  pub make : (parent : Group) (name : List ℕ) (r : Result Group KernelError) → MakesGroup old parent name r new → StepKeeps old new
+  pub remove : (g : Group) (r : Result (Unit {0}) KernelFault) → RemovesGroup old g r new → StepKeeps old new
+  pub cpus : (g : Group) (cpus : Ids) (r : Result (Unit {0}) KernelFault) → WritesCpus old g cpus r new → StepKeeps old new
+  pub mems : (g : Group) (mems : Ids) (r : Result (Unit {0}) KernelFault) → WritesMems old g mems r new → StepKeeps old new
+  pub spawn : (g : Group) (r : Result ℕ KernelError) → Spawns old g r new → StepKeeps old new
+  pub end : (g : Group) (r : Result (Unit {0}) KernelFault) → EndsGroup old g r new → StepKeeps old new
+  pub fork : (parent : ℕ) (r : Result ℕ KernelError) → Forks old parent r new → StepKeeps old new
+  pub exit : (pid : ℕ) (r : Result (Unit {0}) KernelFault) → Exits old pid r new → StepKeeps old new
+  pub offline : (cpu : ℕ) (r : Result (Unit {0}) KernelFault) → GoesOffline old cpu r new → StepKeeps old new
+  pub online : (cpu : ℕ) (r : Result (Unit {0}) KernelFault) → ComesOnline old cpu r new → StepKeeps old new
+
+abbrev pub EachCaseKeeps : Type 0
+EachCaseKeeps = (old new : KernelState) → IsWellFormed old → CasesKeep old new
 
 abbrev pub StepsKeep : Type 0
 StepsKeep = (old new : KernelState) (call : Call) (r : Result Reply KernelError) → IsWellFormed old → Step old call r new → StepKeeps old new

@@ -5,12 +5,14 @@ pub use Rattle.cpuset_tree.specs.TreeChanges
 pub use Rattle.cpuset_tree.specs.TreeAnswers
 pub use Rattle.cpuset_tree.specs.TreeWellFormed
 pub use Rattle.cpuset_tree.specs.TreeLaws
+pub use Rattle.cpuset_tree.specs.TreeLemmas
 pub use Rattle.proctable.specs.TableState
 pub use Rattle.proctable.specs.Processes
 pub use Rattle.proctable.specs.TableChanges
 pub use Rattle.proctable.specs.TableAnswers
 pub use Rattle.proctable.specs.TableWellFormed
 pub use Rattle.proctable.specs.TableLaws
+pub use Rattle.proctable.specs.TableLemmas
 pub mod Faults
 pub mod KernelState
 pub mod Refusals
@@ -19,3 +21,5 @@ pub mod Fuse
 pub mod Runs
 pub mod WellFormed
 pub mod Laws
+pub mod CaseLemmas
+pub mod KernelLemmas
