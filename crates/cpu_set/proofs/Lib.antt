@@ -1,2 +1,4 @@
-pub mod FlagSteps
-pub mod Counting
+pub mod Bits
+pub mod Combined
+pub mod Finding
+pub mod Counted

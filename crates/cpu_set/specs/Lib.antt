@@ -5,5 +5,6 @@ pub mod Those
 pub mod SetLaws
 pub mod Least
 pub mod LeastLaws
-pub mod Flags
-pub mod FlagLaws
+pub mod Word
+pub mod Words
+pub mod WordLaws

@@ -1,5 +1,5 @@
 -- The numbers that an `IdSet` may have, and the members of one in rising order.
-use Rattle.std.specs.Prelude.{◌≡◌, ℕ, ◌<◌, true, List, filter}
+use Rattle.std.specs.Prelude.{◌≡◌, ℕ, ◌<◌, true, not, ◌&&◌, nat_lt, List, filter}
 use Rattle.std.specs.List.{range_with_len}
 use Rattle.std.specs.FinSet as set
 use Rattle.cpu_set.specs.Ids.{Ids}
@@ -20,3 +20,7 @@ InRange s = (n : ℕ) → set.contains s n ≡ true → IsCpu n
 -- the members, in rising order
 abbrev pub members : Ids → List ℕ
 members s = filter (set.contains s) cpus
+
+-- the numbers that a set may have and does not
+abbrev pub IsComplement : Ids → Ids → Type 0
+IsComplement s t = (n : ℕ) → set.contains t n ≡ (nat_lt n CPU_LIMIT && not (set.contains s n))

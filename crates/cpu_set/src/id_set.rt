@@ -1,37 +1,41 @@
-ghost use Rattle.std.specs.Prelude.{◌≡◌, ℕ, ◌+◌, ◌<◌, ◌≤◌, ◌↔◌, length, IsTrue, IfSome, MatchOption};
+ghost use Rattle.std.specs.Prelude.{◌≡◌, ℕ, ◌+◌, ◌*◌, ◌<◌, ◌≤◌, ◌↔◌, ◌||◌, ◌&&◌, ◌==◌, nat_le, not, length, IsTrue, IfSome, MatchOption};
 ghost use Rattle.std.specs.FinSet as set;
 ghost use Rattle.cpu_set.specs.Ids.{IsDisjoint, NoneFrom, IsFirstFrom};
-ghost use Rattle.cpu_set.specs.Members.{IsCpu, InRange, members};
+ghost use Rattle.cpu_set.specs.Members.{IsCpu, InRange, IsComplement, members};
+ghost use Rattle.cpu_set.specs.Words.{AreWords, set_of_words};
 
 use crate::CPU_LIMIT;
+use crate::word::{bits_of_range, first_bit};
+use std::fmt;
 use std::marker::Model;
+use std::simd::prelude::*;
 
-const FLAGS: usize = CPU_LIMIT as usize;
+const WORD_BITS: usize = 64;
 
-/// A set of numbers below [`CPU_LIMIT`]: CPUs, or nodes.
-#[derive(Clone, Copy, Debug)]
+const WORDS: usize = CPU_LIMIT as usize / WORD_BITS;
+
+/// A set of numbers below [`CPU_LIMIT`]: CPUs, or nodes. Number n is bit `n % 64` of word `n / 64`.
+#[derive(Clone, Copy)]
 pub struct IdSet {
-    flags: [bool; FLAGS],
+    words: [u64; WORDS],
 }
 
 impl Model for IdSet {
-    ghost use Rattle.std.specs.Prelude.{◌≡◌, length};
     ghost use Rattle.cpu_set.specs.Ids.{Ids, ids_code};
-    ghost use Rattle.cpu_set.specs.Flags.{set_of_flags, flags_of_set};
-    ghost use Rattle.cpu_set.specs.FlagLaws.{flags_of_set-set_of_flags};
-    ghost use Rattle.cpu_set.specs.declared.TheConstants.{CPU_LIMIT};
+    ghost use Rattle.cpu_set.specs.Words.{AreWords, set_of_words, words_of_set};
+    ghost use Rattle.cpu_set.specs.WordLaws.{words_of_set-set_of_words};
 
     ghost Value = { Ids };
 
     ghost coded = { ids_code };
 
-    ghost view = { λ a. set_of_flags a.flags };
+    ghost view = { λ a. set_of_words a.words };
 
-    ghost invariant = { λ a. length a.flags ≡ CPU_LIMIT };
+    ghost invariant = { λ a. AreWords a.words };
 
-    ghost inverse = { λ s. record { flags = flags_of_set s } };
+    ghost inverse = { λ s. record { words = words_of_set s } };
 
-    ghost inverse_ok = { λ a h. (λ i. record { flags = flags_of_set-set_of_flags a.flags h i }) };
+    ghost inverse_ok = { λ a h. (λ i. record { words = words_of_set-set_of_words a.words h i }) };
 }
 
 impl IdSet {
@@ -39,16 +43,14 @@ impl IdSet {
     pub fn empty() -> IdSet
         ensures { result ≡ set.empty }
     {
-        IdSet {
-            flags: [false; FLAGS],
-        }
+        IdSet { words: [0; WORDS] }
     }
 
     /// Whether the set has the number; no set has one at or above the limit.
     pub fn contains(&self, n: u16) -> bool
         ensures { result ≡ set.contains self.now n }
     {
-        n < CPU_LIMIT && self.flags[n as usize]
+        n < CPU_LIMIT && (self.words[n as usize / WORD_BITS] >> (n % 64)) & 1 == 1
     }
 
     /// Adds a number; one that is there stays.
@@ -56,7 +58,8 @@ impl IdSet {
         requires { IsCpu n }
         ensures { self.new ≡ set.insert self.old n }
     {
-        self.flags[n as usize] = true;
+        let at = n as usize / WORD_BITS;
+        self.words[at] = self.words[at] | (1 << (n % 64));
     }
 
     /// Takes a number out, where it is there.
@@ -64,61 +67,67 @@ impl IdSet {
         requires { IsCpu n }
         ensures { self.new ≡ set.remove self.old n }
     {
-        self.flags[n as usize] = false;
+        let at = n as usize / WORD_BITS;
+        self.words[at] = self.words[at] & !(1 << (n % 64));
+    }
+
+    /// Adds the numbers from `first` up to `last`.
+    pub fn insert_range(&mut self, first: u16, last: u16)
+        requires { IsCpu last }
+        ensures { (n : ℕ) → set.contains self.new n ≡ (set.contains self.old n || (nat_le first n && nat_le n last)) }
+    {
+        for k in first as usize / WORD_BITS..last as usize / WORD_BITS + 1 {
+            self.words[k] = self.words[k] | bits_of_range((k * WORD_BITS) as u16, first, last);
+        }
     }
 
     /// The numbers that are in one of the two sets, or in both.
     pub fn union(&self, other: &IdSet) -> IdSet
         ensures { result ≡ set.union self.now other.now }
     {
-        let mut flags = self.flags;
-        for n in 0..FLAGS {
-            flags[n] = self.flags[n] || other.flags[n];
-        }
-        IdSet { flags }
+        IdSet::of_lanes(self.lanes() | other.lanes())
     }
 
     /// The numbers that are in both sets.
     pub fn meet(&self, other: &IdSet) -> IdSet
         ensures { result ≡ set.intersection self.now other.now }
     {
-        let mut flags = self.flags;
-        for n in 0..FLAGS {
-            flags[n] = self.flags[n] && other.flags[n];
-        }
-        IdSet { flags }
+        IdSet::of_lanes(self.lanes() & other.lanes())
     }
 
     /// The numbers of this set that are not in the other.
     pub fn minus(&self, other: &IdSet) -> IdSet
         ensures { result ≡ set.difference self.now other.now }
     {
-        let mut flags = self.flags;
-        for n in 0..FLAGS {
-            flags[n] = self.flags[n] && !other.flags[n];
-        }
-        IdSet { flags }
+        IdSet::of_lanes(self.lanes() & !other.lanes())
+    }
+
+    /// The numbers below the limit that are not in the set.
+    pub fn complement(&self) -> IdSet
+        ensures { IsComplement self.now result }
+    {
+        IdSet::of_lanes(!self.lanes())
     }
 
     /// Whether no number is in both sets.
     pub fn is_disjoint(&self, other: &IdSet) -> bool
         ensures { IsTrue result ↔ IsDisjoint self.now other.now }
     {
-        self.meet(other).is_empty()
+        has_none(self.lanes() & other.lanes())
     }
 
     /// Whether each number of this set is in the other.
     pub fn is_subset(&self, other: &IdSet) -> bool
         ensures { result ≡ set.is_subset self.now other.now }
     {
-        self.minus(other).is_empty()
+        has_none(self.lanes() & !other.lanes())
     }
 
     /// Whether the set has no number.
     pub fn is_empty(&self) -> bool
         ensures { IsTrue result ↔ (self.now ≡ set.empty) }
     {
-        self.first().is_none()
+        has_none(self.lanes())
     }
 
     /// How many numbers the set has.
@@ -128,13 +137,7 @@ impl IdSet {
         ensures in_range { InRange self.now }
         ensures members { result ≡ length (members self.now) }
     {
-        let mut count = 0;
-        for n in 0..FLAGS {
-            if self.flags[n] {
-                count += 1;
-            }
-        }
-        count
+        self.lanes().count_ones().strict_reduce_sum() as u32
     }
 
     /// The least number of the set.
@@ -142,7 +145,7 @@ impl IdSet {
         ensures first { MatchOption result (NoneFrom self.now 0) (λ n. IsFirstFrom self.now 0 n) }
         ensures in_range { IfSome result (λ n. IsCpu n) }
     {
-        self.first_from(0)
+        self.first_in_words(0)
     }
 
     /// The least number of the set above `n`.
@@ -150,19 +153,73 @@ impl IdSet {
         ensures first { MatchOption result (NoneFrom self.now (n + 1)) (λ m. IsFirstFrom self.now (n + 1) m) }
         ensures in_range { IfSome result (λ m. IsCpu m) }
     {
-        self.first_from(n as usize + 1)
+        let words = &self.words;
+        let from = n as usize + 1;
+        if from >= CPU_LIMIT as usize {
+            return None;
+        }
+        let k = from / WORD_BITS;
+        match first_bit(words[k], (from % WORD_BITS) as u32) {
+            Some(i) => Some((k * WORD_BITS) as u16 + i as u16),
+            None => self.first_in_words(k + 1),
+        }
     }
 
-    fn first_from(&self, from: usize) -> Option<u16>
-        ensures first { MatchOption result (NoneFrom self.now from) (λ n. IsFirstFrom self.now from n) }
+    // The least number in the words from this one on.
+    fn first_in_words(&self, from: usize) -> Option<u16>
+        ensures first { MatchOption result (NoneFrom self.now (from * 64)) (λ n. IsFirstFrom self.now (from * 64) n) }
         ensures in_range { IfSome result (λ n. IsCpu n) }
     {
-        for n in from..FLAGS {
-            if self.flags[n] {
-                return Some(n as u16);
+        for k in from..WORDS {
+            let word = self.words[k];
+            if word != 0 {
+                return Some((k * WORD_BITS) as u16 + word.trailing_zeros() as u16);
             }
         }
         None
+    }
+
+    fn lanes(&self) -> Simd<u64, WORDS>
+        ensures words { AreWords result }
+        ensures numbers { set_of_words result ≡ self.now }
+    {
+        Simd::from_array(self.words)
+    }
+
+    fn of_lanes(lanes: Simd<u64, WORDS>) -> IdSet
+        requires { AreWords lanes }
+        ensures { result ≡ set_of_words lanes }
+    {
+        IdSet {
+            words: lanes.to_array(),
+        }
+    }
+}
+
+fn has_none(lanes: Simd<u64, WORDS>) -> bool
+    requires { AreWords lanes }
+    ensures { IsTrue result ↔ (set_of_words lanes ≡ set.empty) }
+{
+    lanes.reduce_or() == 0
+}
+
+// As a list, `{0-2,7}`.
+impl fmt::Debug for IdSet {
+    fn fmt<W: fmt::Write>(&self, f: &mut fmt::Formatter<W>) -> fmt::Result {
+        let absent = self.complement();
+        let mut separator = '{';
+        let mut next = self.first();
+        while let Some(first) = next {
+            let last = absent.next_after(first).unwrap_or(CPU_LIMIT) - 1;
+            if first == last {
+                write!(f, "{separator}{first}")?;
+            } else {
+                write!(f, "{separator}{first}-{last}")?;
+            }
+            separator = ',';
+            next = self.next_after(last);
+        }
+        f.write_str(if self.is_empty() { "{}" } else { "}" })
     }
 }
 

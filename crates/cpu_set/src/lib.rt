@@ -6,6 +6,7 @@
 
 mod id_set;
 mod laws;
+mod word;
 
 pub use id_set::IdSet;
 pub use laws::{least_cpus, least_members, set_laws, the_limits};

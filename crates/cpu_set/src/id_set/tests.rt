@@ -1,4 +1,5 @@
 use super::*;
+use std::alloc::AllocError;
 
 fn set_of(numbers: &[u16]) -> IdSet {
     let mut set = IdSet::empty();
@@ -30,20 +31,63 @@ fn walks_its_members_in_rising_order(rt: HostRuntime) {
 
 #[test]
 fn combines_sets(rt: HostRuntime) {
-    let a = set_of(&[1, 2, 3]);
-    let b = set_of(&[3, 4]);
-    assert!(rt; a.union(&b) == set_of(&[1, 2, 3, 4]));
-    assert!(rt; a.meet(&b) == set_of(&[3]));
-    assert!(rt; a.minus(&b) == set_of(&[1, 2]));
-    assert!(rt; !a.is_disjoint(&b) && a.minus(&b).is_disjoint(&b));
-    assert!(rt; !a.is_subset(&b) && a.meet(&b).is_subset(&b));
-    assert!(rt; a != b && !a.is_empty() && IdSet::empty().is_empty());
+    for (a, b, union, meet, minus) in [
+        (
+            &[1, 2, 3][..],
+            &[3, 4][..],
+            &[1, 2, 3, 4][..],
+            &[3][..],
+            &[1, 2][..],
+        ),
+        (
+            &[63, 64, 1023],
+            &[0, 64, 1023],
+            &[0, 63, 64, 1023],
+            &[64, 1023],
+            &[63],
+        ),
+        (&[5], &[700], &[5, 700], &[], &[5]),
+        (&[], &[9], &[9], &[], &[]),
+    ] {
+        let (a, b, meet) = (set_of(a), set_of(b), set_of(meet));
+        assert_eq!(rt; a.union(&b), set_of(union));
+        assert_eq!(rt; a.meet(&b), meet);
+        assert_eq!(rt; a.minus(&b), set_of(minus));
+        assert_eq!(rt; a.is_disjoint(&b), meet.is_empty());
+        assert_eq!(rt; a.is_subset(&b), set_of(minus).is_empty());
+        assert!(rt; meet.is_subset(&a) && a != b);
+        assert!(rt; a.complement().is_disjoint(&a) && a.complement().count() == 1024 - a.count());
+    }
+}
+
+#[test]
+fn takes_in_a_range(rt: HostRuntime) {
+    for (first, last, count) in [
+        (0, 1023, 1024),
+        (0, 0, 2),
+        (63, 64, 3),
+        (5, 63, 59),
+        (64, 127, 65),
+        (60, 700, 641),
+        (1022, 1023, 3),
+        (9, 8, 1),
+    ] {
+        let mut set = set_of(&[60]);
+        set.insert_range(first, last);
+        assert_eq!(rt; set.count(), count);
+        assert!(rt;
+            set.contains(60) && (first > last || set.contains(first) && set.contains(last))
+        );
+        assert!(rt;
+            !set.contains(last + 1) && (first == 0 || first == 61 || !set.contains(first - 1))
+        );
+    }
 }
 
 #[test]
 fn has_room_for_1024_numbers(rt: HostRuntime) {
     assert_eq!(rt; CPU_LIMIT, 1024);
-    assert_eq!(rt; std::mem::size_of::<IdSet>(), 1024);
+    assert_eq!(rt; std::mem::size_of::<IdSet>(), 128);
 }
 
 #[test]
@@ -60,4 +104,18 @@ fn holds_what_was_put_in_and_not_taken_out(rt: HostRuntime) {
     ] {
         assert_eq!(rt; set.contains(n), is_member);
     }
+}
+
+#[test]
+fn prints_as_its_list(rt: HostRuntime) -> Result<(), AllocError> {
+    for (numbers, text) in [
+        (&[][..], "{}"),
+        (&[7][..], "{7}"),
+        (&[0, 1, 2, 7], "{0-2,7}"),
+        (&[62, 63, 64, 1022, 1023], "{62-64,1022-1023}"),
+    ] {
+        let written = format!(in rt.alloc(); "{:?}", set_of(numbers))?;
+        assert!(rt; written.as_str() == text);
+    }
+    Ok(())
 }

@@ -1,10 +1,11 @@
-use Rattle.std.proofs.Common.{sym}
-use Rattle.cpu_set.specs.FlagLaws.{contains-set_of_flags}
-use Rattle.cpu_set.proofs.FlagSteps.{contains-past}
+use Rattle.std.proofs.Common.{sym, ap, ◌∙◌, ◌==◌}
+use Rattle.std.proofs.lemmas.Nat.Bits.{shr_and_one}
+use Rattle.cpu_set.specs.WordLaws.{contains-set_of_words}
+use Rattle.cpu_set.proofs.Combined.{contains-past}
 use Rattle.cpu_set.proofs.id_set.IdSet.contains.Goals as goal
 
 pub returns-then-n-lt-CPU_LIMIT : goal.returns-then-n-lt-CPU_LIMIT
-returns-then-n-lt-CPU_LIMIT c = rw (← c.self.view_is) (sym (contains-set_of_flags _ _))
+returns-then-n-lt-CPU_LIMIT c = rw (← c.self.view_is) (ap (λ v. v == 1) (shr_and_one _ _) ∙ sym (contains-set_of_words _ c.self.invariant _))
 
 pub returns-else-n-lt-CPU_LIMIT : goal.returns-else-n-lt-CPU_LIMIT
-returns-else-n-lt-CPU_LIMIT c = rw (← c.self.view_is) (contains-past _ _ _ c.self.invariant c.if-n-lt-CPU_LIMIT.false)
+returns-else-n-lt-CPU_LIMIT c = rw (← c.self.view_is) (contains-past _ _ c.self.invariant c.if-n-lt-CPU_LIMIT.false)

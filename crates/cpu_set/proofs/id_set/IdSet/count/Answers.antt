@@ -1,23 +1,22 @@
-use Rattle.std.proofs.Common.{sym, arith}
-use Rattle.cpu_set.specs.SetLaws.{len-those_none}
-use Rattle.cpu_set.proofs.Counting.{counted, not_counted, InRange-flags, count-members}
+use Rattle.std.proofs.Common.{◌∙◌, ap, arith}
+use Rattle.std.specs.FinSet as set
+use Rattle.cpu_set.proofs.Counted.{fold-is_len, fold_fits, fold_small, len-small, len-members, InRange-words}
 use Rattle.cpu_set.proofs.id_set.IdSet.count.Goals as goal
-use Rattle.cpu_set.proofs.id_set.IdSet.count.Goals.{then-self-n, else-self-n}
 
-pub loop-n-init : goal.loop-n-init
-loop-n-init c = record { is_len = sym (len-those_none _); small = omega arith }
+pub overflow_add-result : goal.overflow_add-result
+overflow_add-result c = fold_fits _ c.lanes.ensures.words
 
-pub loop-n-preserved : goal.loop-n-preserved
-loop-n-preserved c = record {
-  is_len = elim c.if-self-n.branch [
-    | then-self-n w ↦ counted _ _ _ _ c.loop-n.invariant.is_len w.if-self-n.true w.count-is
-    | else-self-n w ↦ not_counted _ _ _ _ c.loop-n.invariant.is_len w.if-self-n.false w.count-is
-  ];
-  small = elim c.if-self-n.branch [ then-self-n w ↦ omega arith | else-self-n w ↦ omega arith ];
-}
+pub overflow_cast-result-2 : goal.overflow_cast-result-2
+overflow_cast-result-2 c = record { fits = fold_small _ c.lanes.ensures.words }
+
+pub returns-clause-is_len : goal.returns-clause-is_len
+returns-clause-is_len c = fold-is_len _ c.lanes.ensures.words ∙ ap set.len c.lanes.ensures.numbers
+
+pub returns-clause-small : goal.returns-clause-small
+returns-clause-small c = let e = fold-is_len _ c.lanes.ensures.words in let le = len-small c.lanes.result in omega arith
 
 pub returns-clause-in_range : goal.returns-clause-in_range
-returns-clause-in_range c = rw (← c.self.view_is) (InRange-flags _ c.self.invariant)
+returns-clause-in_range c = rw (← c.lanes.ensures.numbers) (InRange-words c.lanes.result)
 
 pub returns-clause-members : goal.returns-clause-members
-returns-clause-members c = rw (← c.self.view_is) (count-members _ _ _ c.self.invariant (omega arith) c.loop-n.invariant.is_len)
+returns-clause-members c = rw (← c.lanes.ensures.numbers) (fold-is_len _ c.lanes.ensures.words ∙ len-members c.lanes.result)

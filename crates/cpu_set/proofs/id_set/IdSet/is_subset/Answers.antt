@@ -1,6 +1,15 @@
+use Rattle.std.proofs.Common.{◌&&◌, not}
 use Rattle.std.specs.Bool.{one_answer}
+use Rattle.std.specs.Prelude.{bit_and}
+use Rattle.std.specs.Int.{bit_not, w64}
+use Rattle.std.specs.FinSet as set
+use Rattle.cpu_set.specs.Pointwise.{contains-difference}
 use Rattle.cpu_set.specs.SetLaws.{is_subset-Decides}
+use Rattle.cpu_set.proofs.Combined.{AreWords-lanes, set_of_words-lanes, without, without-IsBitwise, zip2-map}
 use Rattle.cpu_set.proofs.id_set.IdSet.is_subset.Goals as goal
 
+pub has_none-requires : goal.has_none-requires
+has_none-requires c = rw (zip2-map bit_and (bit_not w64)) (AreWords-lanes without (λ a b. a && not b) _ _ without-IsBitwise c.lanes.ensures.words c.lanes-2.ensures.words)
+
 pub returns : goal.returns
-returns c = one_answer _ _ (rw c.minus.ensures at c.is_empty.ensures) (is_subset-Decides _ _)
+returns c = let e = set_of_words-lanes without (λ a b. a && not b) set.difference contains-difference _ _ without-IsBitwise c.lanes.ensures.words c.lanes-2.ensures.words in one_answer _ _ (rw (zip2-map bit_and (bit_not w64), e, c.lanes.ensures.numbers, c.lanes-2.ensures.numbers) at c.has_none.ensures) (is_subset-Decides _ _)

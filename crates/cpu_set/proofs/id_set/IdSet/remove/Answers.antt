@@ -1,6 +1,9 @@
 use Rattle.std.proofs.Common.{arith}
-use Rattle.cpu_set.proofs.FlagSteps.{set_of_flags-set_false}
+use Rattle.cpu_set.proofs.Combined.{AreWords-set, removed_fits, set_of_words-removed}
 use Rattle.cpu_set.proofs.id_set.IdSet.remove.Goals as goal
 
+pub invariant_of-self : goal.invariant_of-self
+invariant_of-self c = AreWords-set _ _ _ c.self.invariant (omega arith) (removed_fits _ _ (c.self.invariant.fit _))
+
 pub returns : goal.returns
-returns c = rw (← c.self.view_is) (set_of_flags-set_false _ _ (omega arith))
+returns c = rw (← c.self.view_is) (set_of_words-removed _ _ c.self.invariant (omega arith))
