@@ -1,5 +1,5 @@
 -- What holds of each table, and what each change leaves of it.
-use Rattle.std.specs.Prelude.{◌≡◌, ◌≢◌, ℕ, Bool, true, false, Some, None}
+use Rattle.std.specs.Prelude.{◌≡◌, ◌≢◌, ℕ, ◌<◌, Bool, true, false, Some, None}
 use Rattle.cpuset_tree.specs.declared.Group.{Group}
 use Rattle.cpuset_tree.specs.Groups.{same_group}
 use Rattle.proctable.specs.declared.processes.Process.{Process}
@@ -33,6 +33,17 @@ EndedLeaves = (t : TableState) (g : Group) → IsWellFormed t → SomeEnd t (end
 -- after the end of all processes of a group it has none
 abbrev pub EndedIsEmpty : Type 0
 EndedIsEmpty = (t : TableState) (g : Group) → count_in (ended_in t g) g ≡ 0
+
+-- a process that is found is the one of that pid, and its pid was given
+abbrev pub FoundHasPid : Type 0
+FoundHasPid = (t : TableState) (q : ℕ) (p : Process) → process_of t q ≡ Some p → p.pid ≡ q
+
+abbrev pub PidIsGiven : Type 0
+PidIsGiven = (t : TableState) (q : ℕ) → IsWellFormed t → is_alive t q ≡ true → q < t.next_pid
+
+-- a group of which no process is counted has none
+abbrev pub NoneWhereNoneCounted : Type 0
+NoneWhereNoneCounted = (t : TableState) (g : Group) → count_in t g ≡ 0 → (q : ℕ) (p : Process) → process_of t q ≡ Some p → same_group p.group g ≡ false
 
 -- a live process belongs to a live first process of its group
 abbrev pub LiveBelong : Type 0

@@ -1,10 +1,11 @@
--- What each change leaves of a table.
-use Rattle.std.proofs.Common.{◌≡◌, ◌≢◌, ℕ, ◌+◌, Bool, true, false, not, List, [], ◌∷◌, ◌++◌, refl, sym, ap, ◌∙◌, subst, arith, filter, cond, zero-add, eq-eqb}
+-- The laws of tables, proved.
+use Rattle.std.proofs.Common.{◌≡◌, ◌≢◌, ℕ, ◌+◌, ◌<◌, ◌≤◌, Bool, true, false, not, List, [], ◌∷◌, ◌++◌, refl, sym, ap, ◌∙◌, subst, arith, filter, cond, zero-add, eq-eqb}
 use Rattle.std.proofs.lemmas.List.Sums.{sum_by-cons}
 use Rattle.std.specs.Prelude.{count_by}
 use Rattle.std.proofs.lemmas.Bool.{both_ways, ne_eqb, not_from_true, not_from_false, cond-true, cond-false}
-use Rattle.std.proofs.lemmas.Option.{none-some}
-use Rattle.std.specs.Prelude.{Option, Some, None, is_some}
+use Rattle.std.proofs.lemmas.Option.{same_Some, none-some}
+use Rattle.std.specs.Prelude.{Option, Some, None, is_some, nat_lt, ◌==◌}
+use Rattle.std.proofs.lemmas.Bool.Decides.{nat_tests}
 use Rattle.cpuset_tree.specs.declared.Group.{Group}
 use Rattle.cpuset_tree.specs.Groups.{same_group}
 use Rattle.proctable.specs.declared.processes.Process.{Process}
@@ -13,8 +14,8 @@ use Rattle.proctable.specs.Processes.{process_among, process_of, is_alive}
 use Rattle.proctable.specs.TableChanges.{ends_with}
 use Rattle.proctable.specs.TableAnswers.{AddsProcess}
 use Rattle.proctable.specs.TableWellFormed.{RisesBelow, Belongs, IsWellFormed}
-use Rattle.proctable.specs.TableLaws.{ProcessAdded, AddedLeaves, SomeEnd, ExitedLeaves, EndedLeaves, EndedIsEmpty, LiveBelong, EmptyOnceFirstEnded, ChangesStayWellFormed, FirstIsWellFormed}
-use Rattle.proctable.specs.ProcessLemmas.{process-here, process-there, process-below, RisesBelow-push, process-push, process-push-old, process-push-new, AllBelong-push, RisesBelow-filter, process-filter-stays, process-filter-none, process-filter-ends, AllBelong-filter, together-exited, together-ended, Belongs-found}
+use Rattle.proctable.specs.TableLaws.{ProcessAdded, AddedLeaves, SomeEnd, ExitedLeaves, EndedLeaves, EndedIsEmpty, FoundHasPid, PidIsGiven, NoneWhereNoneCounted, LiveBelong, EmptyOnceFirstEnded, ChangesStayWellFormed, FirstIsWellFormed}
+use Rattle.proctable.specs.ProcessLemmas.{process-here, process-there, process-pid, process-fresh, process-below, RisesBelow-push, process-push, process-push-old, process-push-new, AllBelong-push, RisesBelow-filter, process-filter-stays, process-filter-none, process-filter-ends, AllBelong-filter, together-exited, together-ended, Belongs-found}
 
 none_of : (o : Option Process) → is_some o ≡ false → o ≡ None
 none_of None h = refl
@@ -89,6 +90,40 @@ without_any test (p ∷ later) =
 pub ended_is_empty : EndedIsEmpty
 ended_is_empty t g =
     count_none (λ p. same_group p.group g) (filter (λ p. not (same_group p.group g)) t.live) (without_any (λ p. same_group p.group g) t.live)
+
+pub found_has_pid : FoundHasPid
+found_has_pid t q p at = process-pid t.live q p at
+
+pub pid_is_given : PidIsGiven
+pid_is_given t q well there = elim (nat_lt q t.next_pid) as (λ b. nat_lt q t.next_pid ≡ b → q < t.next_pid) [
+  | true ↦ λ e. grind (arith, nat_tests)
+  | false ↦ λ e. absurd (both_ways (is_alive t q) (ap is_some (process-fresh 0 t.next_pid q t.live well.rising (not_below q t.next_pid e))) there)
+] refl
+  where
+    not_below : (a b : ℕ) → nat_lt a b ≡ false → b ≤ a
+    not_below a b e = grind (arith, nat_tests)
+
+pub none_where_none_counted : NoneWhereNoneCounted
+none_where_none_counted t g none q p at = uncounted t.live none at
+  where
+    more : (all one rest : ℕ) → all ≡ one + rest → one ≡ 1 → all ≡ 0 → ⊥
+    more all one rest sum is none = absurd (omega arith)
+
+    uncounted : (ps : List Process) → count_by (λ x. same_group x.group g) ps ≡ 0 → process_among ps q ≡ Some p → same_group p.group g ≡ false
+    uncounted [] h found = absurd (none-some p found)
+    uncounted (x ∷ later) h found =
+        elim (same_group x.group g) as (λ b. same_group x.group g ≡ b → same_group p.group g ≡ false) [
+          | true ↦ λ e.
+              absurd (more (count_by (λ y. same_group y.group g) (x ∷ later)) (cond (same_group x.group g) 1 0) (count_by (λ y. same_group y.group g) later)
+              (sum_by-cons (λ y. cond (same_group y.group g) 1 0) x later) (cond-true (same_group x.group g) 1 0 e) h)
+          | false ↦ λ e.
+              let rest : count_by (λ y. same_group y.group g) later ≡ 0 =
+              sym (sum_by-cons (λ y. cond (same_group y.group g) 1 0) x later ∙ ap (λ n. n + count_by (λ y. same_group y.group g) later) (cond-false (same_group x.group g) 1 0 e) ∙ zero-add (count_by (λ y. same_group y.group g) later)) ∙ h in
+              elim (x.pid == q) as (λ b. (x.pid == q) ≡ b → same_group p.group g ≡ false) [
+                | true ↦ λ f. ap (λ (y : Process). same_group y.group g) (sym (same_Some x p (sym (process-here x later q f) ∙ found))) ∙ e
+                | false ↦ λ f. uncounted later rest (sym (process-there x later q f) ∙ found)
+              ] refl
+        ] refl
 
 pub empty_once_first_ended : EmptyOnceFirstEnded
 empty_once_first_ended t g first well gone belong =

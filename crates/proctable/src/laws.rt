@@ -1,4 +1,4 @@
-ghost use Rattle.proctable.specs.TableLaws.{AddedLeaves, ExitedLeaves, EndedLeaves, EndedIsEmpty, LiveBelong, EmptyOnceFirstEnded, ChangesStayWellFormed, FirstIsWellFormed};
+ghost use Rattle.proctable.specs.TableLaws.{AddedLeaves, ExitedLeaves, EndedLeaves, EndedIsEmpty, FoundHasPid, PidIsGiven, NoneWhereNoneCounted, LiveBelong, EmptyOnceFirstEnded, ChangesStayWellFormed, FirstIsWellFormed};
 
 /// What each change leaves of a table; nothing runs.
 pub fn changes()
@@ -14,4 +14,7 @@ pub fn well_formed()
     ensures stays { ChangesStayWellFormed }
     ensures belong { LiveBelong }
     ensures empty { EmptyOnceFirstEnded }
+    ensures pid { FoundHasPid }
+    ensures given { PidIsGiven }
+    ensures uncounted { NoneWhereNoneCounted }
 {}
