@@ -19,7 +19,21 @@ module _ {A : Type 0} (refusal : Option KernelFault) (Does : A → KernelState �
     Writes-answers (Err Failed) new h = subst (λ (k : KernelState). P (Err Failed) k) (sym h) fails
     Writes-answers (Err fault) new h = subst (λ (k : KernelState). P (Err fault) k) (sym h.1) (kept fault refl h.0)
 
+  module _ (P : Result A KernelFault → KernelState → Type 0)
+      (does : (value : A) (new : KernelState) → refusal ≡ None → Does value new → P (Ok value) new) (kept : (fault : KernelFault) → refusal ≡ Some fault → P (Err fault) old) where
+    pub Decides-answers : (answer : Result A KernelFault) (new : KernelState) → Decides refusal Does old answer new → P answer new
+    Decides-answers (Ok value) new h = does value new h.0 h.1
+    Decides-answers (Err fault) new h = subst (λ (k : KernelState). P (Err fault) k) (sym h.1) (kept fault h.0)
+
   -- the same where memory is asked for, and of want of it
+  module _ (P : Result A KernelError → KernelState → Type 0)
+      (does : (value : A) (new : KernelState) → refusal ≡ None → Does value new → P (Ok value) new) (wants : P (Err Memory) old)
+      (kept : (fault : KernelFault) → refusal ≡ Some fault → P (Err (Fault fault)) old) where
+    pub Grows-answers : (answer : Result A KernelError) (new : KernelState) → Grows refusal Does old answer new → P answer new
+    Grows-answers (Ok value) new h = does value new h.0 h.1
+    Grows-answers (Err Memory) new h = subst (λ (k : KernelState). P (Err Memory) k) (sym h.1) wants
+    Grows-answers (Err (Fault fault)) new h = subst (λ (k : KernelState). P (Err (Fault fault)) k) (sym h.1) (kept fault h.0)
+
   module _ (P : Result A KernelError → KernelState → Type 0)
       (does : (value : A) (new : KernelState) → refusal ≡ None → Does value new → P (Ok value) new) (wants : P (Err Memory) old)
       (fails : P (Err (Fault Failed)) (failed old)) (kept : (fault : KernelFault) → is_failed fault ≡ false → refusal ≡ Some fault → P (Err (Fault fault)) old) where
@@ -33,13 +47,10 @@ module _ {A : Type 0} (refusal : Option KernelFault) (Does : A → KernelState �
 module _ {A : Type 0} (P : KernelState → Type 0) (refusal : Option KernelFault) (Does : A → KernelState → Type 0) (old : KernelState)
     (does : (value : A) (new : KernelState) → refusal ≡ None → Does value new → P new) (kept : P old) where
   pub Decides-keeps : (answer : Result A KernelFault) (new : KernelState) → Decides refusal Does old answer new → P new
-  Decides-keeps (Ok value) new h = does value new h.0 h.1
-  Decides-keeps (Err fault) new h = subst (λ (k : KernelState). P k) (sym h.1) kept
+  Decides-keeps = Decides-answers refusal Does old (λ _. P) does (λ fault against. kept)
 
   pub Grows-keeps : (answer : Result A KernelError) (new : KernelState) → Grows refusal Does old answer new → P new
-  Grows-keeps (Ok value) new h = does value new h.0 h.1
-  Grows-keeps (Err Memory) new h = subst (λ (k : KernelState). P k) (sym h.1) kept
-  Grows-keeps (Err (Fault fault)) new h = subst (λ (k : KernelState). P k) (sym h.1) kept
+  Grows-keeps = Grows-answers refusal Does old (λ _. P) does kept (λ fault against. kept)
 
   module _ (fails : P (failed old)) where
     pub Writes-keeps : (answer : Result A KernelFault) (new : KernelState) → Writes refusal Does old answer new → P new

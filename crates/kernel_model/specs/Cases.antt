@@ -4,11 +4,12 @@ use Rattle.std.specs.FinSet as set
 use Rattle.cpu_set.specs.Ids.{Ids}
 use Rattle.cpuset_tree.specs.declared.Group.{Group}
 use Rattle.cpuset_tree.specs.Groups.{has_group}
-use Rattle.cpuset_tree.specs.TreeChanges.{with_group, without_group, with_cpus, with_mems, with_online}
-use Rattle.cpuset_tree.specs.TreeAnswers.{Decides}
-use Rattle.proctable.specs.declared.Process.{Process}
-use Rattle.proctable.specs.Processes.{process_of, is_alive}
-use Rattle.proctable.specs.TableChanges.{with_process, exited, ended_in}
+use Rattle.cpuset_tree.specs.TreeState.{TreeState}
+use Rattle.cpuset_tree.specs.TreeChanges.{without_group, with_cpus, with_mems, with_online}
+use Rattle.cpuset_tree.specs.TreeAnswers.{Decides, AddsGroup}
+use Rattle.proctable.specs.TableState.{TableState}
+use Rattle.proctable.specs.TableChanges.{exited, ended_in}
+use Rattle.proctable.specs.TableAnswers.{AddsProcess, ForksOf}
 use Rattle.kernel_model.specs.declared.faults.KernelFault.{KernelFault}
 use Rattle.kernel_model.specs.declared.faults.KernelFault.TheVariants.{NoGroup, Failed}
 use Rattle.kernel_model.specs.declared.faults.KernelError.{KernelError}
@@ -51,11 +52,18 @@ module _ {A : Type 0} (refusal : Option KernelFault) (Does : A → KernelState �
   GrowingWrites (Err Memory) new = (refusal ≡ None) × (new ≡ old)
   GrowingWrites (Err (Fault fault)) new = Writes (Err fault) new
 
--- a group is made, which is in the tree for the first time and gets the next serial
-pub record MakesGroupOf (old : KernelState) (parent : Group) (name : List ℕ) (g : Group) (new : KernelState) : Type 0 where
-  pub serial : g.serial ≡ old.tree.next_serial
-  pub fresh : has_group old.tree g ≡ false
-  pub made : new ≡ record old { tree = with_group old.tree g parent name }
+-- a change of the tree alone, and of the table alone
+pub record InTree (Does : TreeState → Type 0) (old new : KernelState) : Type 0 where
+  pub does : Does new.tree
+  pub rest : new ≡ record old { tree = new.tree }
+
+pub record InTable (Does : TableState → Type 0) (old new : KernelState) : Type 0 where
+  pub does : Does new.table
+  pub rest : new ≡ record old { table = new.table }
+
+-- a group is made in the tree
+abbrev pub MakesGroupOf : KernelState → Group → List ℕ → Group → KernelState → Type 0
+MakesGroupOf old parent name g = InTree (AddsGroup old.tree parent name g) old
 
 abbrev pub MakesGroup : KernelState → Group → List ℕ → Result Group KernelError → KernelState → Type 0
 MakesGroup old parent name = GrowingWrites (make_refusal old parent name) (MakesGroupOf old parent name) old
@@ -71,26 +79,23 @@ WritesCpus old g cpus = Writes (write_refusal old g) (λ _ new. new ≡ record o
 abbrev pub WritesMems : KernelState → Group → Ids → Result (Unit {0}) KernelFault → KernelState → Type 0
 WritesMems old g mems = Writes (write_refusal old g) (λ _ new. new ≡ record old { tree = with_mems old.tree g mems }) old
 
--- a process comes, which no pid stood for before and which gets the next one
-pub record AddsProcess (old : KernelState) (g : Group) (first pid : ℕ) (new : KernelState) : Type 0 where
-  pub next : pid ≡ old.table.next_pid
-  pub fresh : is_alive old.table pid ≡ false
-  pub added : new ≡ record old { table = with_process old.table g first }
+-- a first process is made in the table: it belongs to itself
+abbrev pub SpawnsIn : KernelState → Group → ℕ → KernelState → Type 0
+SpawnsIn old g pid = InTable (AddsProcess old.table g pid pid) old
 
--- a first process is made in a group: it belongs to itself
 abbrev pub Spawns : KernelState → Group → Result ℕ KernelError → KernelState → Type 0
-Spawns old g = GrowingWrites (spawn_refusal old g) (λ pid new. AddsProcess old g pid pid new) old
+Spawns old g = GrowingWrites (spawn_refusal old g) (SpawnsIn old g) old
 
 -- all processes of a group end
 abbrev pub EndsGroup : KernelState → Group → Result (Unit {0}) KernelFault → KernelState → Type 0
 EndsGroup old g = Writes (end_refusal old g) (λ _ new. new ≡ record old { table = ended_in old.table g }) old
 
--- a new process is in its parent's group, and belongs to its parent's first process
-abbrev pub ForksOf : KernelState → ℕ → ℕ → KernelState → Type 0
-ForksOf old parent pid new = (p : Process) × (process_of old.table parent ≡ Some p) × AddsProcess old p.group p.first pid new
+-- a process forks in the table
+abbrev pub ForksIn : KernelState → ℕ → ℕ → KernelState → Type 0
+ForksIn old parent pid = InTable (ForksOf old.table parent pid) old
 
 abbrev pub Forks : KernelState → ℕ → Result ℕ KernelError → KernelState → Type 0
-Forks old parent = Grows (fork_refusal old parent) (ForksOf old parent) old
+Forks old parent = Grows (fork_refusal old parent) (ForksIn old parent) old
 
 -- a process ends, and all that belong to it if it is a first one
 abbrev pub Exits : KernelState → ℕ → Result (Unit {0}) KernelFault → KernelState → Type 0

@@ -1,85 +1,105 @@
 -- The laws of kernels, proved.
-use Rattle.std.proofs.Common.{◌≡◌, ◌≢◌, ℕ, ◌+◌, ◌≤◌, Bool, true, false, not, cond, List, [], ◌∷◌, refl, sym, ap, ◌∙◌, subst, arith, add-zero, eq-eqb, eqb-true}
-use Rattle.std.proofs.lemmas.Bool.{ne_eqb, both_ways}
-use Rattle.std.proofs.lemmas.Bool.Decides.{nat_tests}
-use Rattle.std.proofs.lemmas.Option.{none-some}
-use Rattle.std.specs.Prelude.{◌↔◌, Option, Some, None, Result, Ok, Err, OnErr, IfOk, is_some, if◌then◌else◌, nat_lt, ◌==◌}
+use Rattle.std.proofs.Common.{◌≡◌, ◌≢◌, ℕ, ◌+◌, ◌<◌, ◌≤◌, Bool, true, false, not, cond, ◌&&◌, ◌||◌, List, [], ◌∷◌, refl, sym, ap, ◌∙◌, subst, arith, add-zero, eq-eqb, eqb-true}
+use Rattle.std.proofs.lemmas.Bool.{both_ways, cond-true}
+use Rattle.std.proofs.lemmas.Option.{same_Some, none-some}
+use Rattle.std.specs.Prelude.{Option, Some, None, Result, Ok, Err, is_some, ◌==◌}
 use Rattle.std.specs.FinSet as set
 use Rattle.cpu_set.specs.Ids.{Ids}
+use Rattle.cpu_set.specs.Pointwise.{contains-insert, contains-remove, is_subset-contains, contains-is_subset}
 use Rattle.cpuset_tree.specs.declared.Group.{Group}
-use Rattle.cpuset_tree.specs.declared.TheConstants.{SERIAL_LIMIT}
 use Rattle.cpuset_tree.specs.TreeState.{TreeState}
-use Rattle.cpuset_tree.specs.Groups.{same_group, entry_of, has_group, has_children, child_of, is_root, requested_cpus, requested_mems}
+use Rattle.cpuset_tree.specs.Groups.{same_group, entry_of, has_group, is_root}
 use Rattle.cpuset_tree.specs.TreeChanges.{with_group, without_group, with_cpus, with_mems, with_online}
-use Rattle.cpuset_tree.specs.TreeLaws.{StandsAs, StandAlike, KeepsSerials}
+use Rattle.cpuset_tree.specs.TreeAnswers.{AddsGroup}
+use Rattle.cpuset_tree.specs.TreeWellFormed as tree_formed
+use Rattle.cpuset_tree.specs.TreeLaws.{StandsAs, StandAlike, KeepsSerials, GroupAdded}
+use Rattle.cpuset_tree.specs.GroupLemmas.{same_group_sym}
 use Rattle.cpuset_tree.specs.TreeLemmas as tree
 use Rattle.proctable.specs.declared.Process.{Process}
 use Rattle.proctable.specs.TableState.{TableState}
-use Rattle.proctable.specs.declared.TheConstants.{LAST_PID}
-use Rattle.proctable.specs.Processes.{process_of, is_alive, count_in}
-use Rattle.proctable.specs.TableChanges.{with_process, exited, ended_in}
-use Rattle.proctable.specs.TableAnswers as table_answers
-use Rattle.proctable.specs.TableLaws.{SomeEnd}
-use Rattle.proctable.specs.TableWellFormed.{IsWellFormed as TableIsWellFormed}
+use Rattle.proctable.specs.Processes.{process_of, count_in}
+use Rattle.proctable.specs.TableChanges.{ends_with, with_process, exited, ended_in}
+use Rattle.proctable.specs.TableAnswers.{AddsProcess, ForksOf}
+use Rattle.proctable.specs.TableLaws.{ProcessAdded, SomeEnd}
+use Rattle.proctable.specs.TableWellFormed as table_formed
 use Rattle.proctable.specs.TableLemmas as table
 use Rattle.kernel_model.specs.declared.faults.KernelFault.{KernelFault}
-use Rattle.kernel_model.specs.declared.faults.KernelFault.TheVariants.{NoGroup, Exists, HasChildren, HasProcesses, IsRoot, NoPids, NoProcess, NoSerials, Reserved, NoCpu, Failed}
+use Rattle.kernel_model.specs.declared.faults.KernelFault.TheVariants.{Failed}
 use Rattle.kernel_model.specs.declared.faults.KernelError.{KernelError}
+use Rattle.kernel_model.specs.declared.faults.KernelError.TheVariants.{Fault}
 use Rattle.kernel_model.specs.declared.call.Call.TheVariants.{MakeGroup, RemoveGroup, WriteCpus, WriteMems, Spawn, EndGroup, Root, FindGroup, RequestedCpus, EffectiveCpus, RequestedMems, EffectiveMems, Online, Nodes, FirstAlive, Fork, Exit, Offline, OnlineCpu}
 use Rattle.kernel_model.specs.KernelState.{KernelState, failed}
 use Rattle.kernel_model.specs.Refusals.{make_refusal, remove_refusal, write_refusal, spawn_refusal, end_refusal, fork_refusal, exit_refusal, offline_refusal, online_refusal}
-use Rattle.kernel_model.specs.Cases.{is_failed, rise, rise_or_memory, Writes, GrowingWrites, MakesGroup, MakesGroupOf, RemovesGroup, WritesCpus, WritesMems, Spawns, AddsProcess, EndsGroup, Forks, ForksOf, Exits, GoesOffline, ComesOnline}
+use Rattle.kernel_model.specs.Cases.{is_failed, rise, rise_or_memory, InTree, InTable, Writes, GrowingWrites, MakesGroup, MakesGroupOf, RemovesGroup, WritesCpus, WritesMems, Spawns, SpawnsIn, EndsGroup, Forks, ForksIn, Exits, GoesOffline, ComesOnline}
 use Rattle.kernel_model.specs.WellFormed.{IsWellFormed}
-use Rattle.kernel_model.specs.Laws.{CpusWriteLeaves, MemsWriteLeaves, MakeLeaves, RemoveLeaves, WritesLeaveGroups, WritesCount, CallsAreFree, EachCaseKeeps, KeepsGroups, KeepsPids, EventsKeepGroups, WritesKeepProcesses, WritesKeepTree, StepKeeps, StepsKeep, RunsKeep, FirstIsWellFormed}
-use Rattle.kernel_model.specs.CaseLemmas.{Writes-answers, GrowingWrites-answers, Decides-keeps, Grows-keeps, Writes-keeps, GrowingWrites-keeps}
+use Rattle.kernel_model.specs.Laws.{CpusWriteLeaves, MemsWriteLeaves, MakeLeaves, RemoveLeaves, WritesLeaveGroups, SpawnLeaves, EndLeaves, ForkLeaves, ForkAdds, ExitLeaves, CallsLeaveProcesses, WritesCount, EachCaseKeeps, KeepsMachine, KeepsGroups, KeepsPids, EventsKeepGroups, WritesKeepProcesses, WritesKeepTree, StepKeeps, StepsKeep, RunsKeep, FirstIsWellFormed}
+use Rattle.kernel_model.specs.CaseLemmas.{Writes-answers, GrowingWrites-answers, Decides-answers, Grows-answers, Decides-keeps, Grows-keeps, Writes-keeps, GrowingWrites-keeps}
+use Rattle.kernel_model.specs.RefusalLemmas.{calls_are_free}
 
--- a chain of refusals that gives none
-pub none_unless : {F : Type 0} (b : Bool) (x : F) (rest : Option F) → (if not b then Some x else rest) ≡ None → (b ≡ true) × (rest ≡ None)
-none_unless true x rest e = (refl, e)
-none_unless false x rest e = absurd (none-some x (sym e))
+-- a set within another, through one number more or less
+module _ (s t : Ids) (n : ℕ) where
+  within_less : set.is_subset s t ≡ true → set.contains s n ≡ false → set.is_subset s (set.remove t n) ≡ true
+  within_less within out = contains-is_subset s (set.remove t n) (λ q member.
+      contains-remove t n q ∙ kept (q == n) (λ e. ap (set.contains s) (sym (eqb-true q n e)) ∙ member) (is_subset-contains s t within q member))
+    where
+      kept : (b : Bool) → (b ≡ true → set.contains s n ≡ true) → {c : Bool} → c ≡ true → (not b && c) ≡ true
+      kept true there h = absurd (both_ways (set.contains s n) out (there refl))
+      kept false there h = h
 
-pub none_if : {F : Type 0} (b : Bool) (x : F) (rest : Option F) → (if b then Some x else rest) ≡ None → (b ≡ false) × (rest ≡ None)
-none_if true x rest e = absurd (none-some x (sym e))
-none_if false x rest e = (refl, e)
+  less_within : set.is_subset s t ≡ true → set.is_subset (set.remove s n) t ≡ true
+  less_within within = contains-is_subset (set.remove s n) t (λ q member.
+      is_subset-contains s t within q (left (q == n) (set.contains s q) (sym (contains-remove s n q) ∙ member)))
+    where
+      left : (b c : Bool) → (not b && c) ≡ true → c ≡ true
+      left true c h = absurd (both_ways false refl h)
+      left false c h = h
 
--- where nothing stands against a call
-pub make_parent : (k : KernelState) (parent : Group) (name : List ℕ) → make_refusal k parent name ≡ None → has_group k.tree parent ≡ true
-make_parent k parent name e =
-    (none_unless (has_group k.tree parent) NoGroup
-    (if is_some (child_of k.tree parent name) then Some Exists else if k.tree.next_serial == SERIAL_LIMIT then Some NoSerials else None) e).0
+  within_more : set.is_subset s t ≡ true → set.is_subset s (set.insert t n) ≡ true
+  within_more within = contains-is_subset s (set.insert t n) (λ q member. contains-insert t n q ∙ more (q == n) (is_subset-contains s t within q member))
+    where
+      more : (b : Bool) → {c : Bool} → c ≡ true → (b || c) ≡ true
+      more true h = refl
+      more false h = h
 
-pub remove_parts : (k : KernelState) (g : Group) → remove_refusal k g ≡ None
-    → (has_group k.tree g ≡ true) × (is_root k.tree g ≡ false) × (has_children k.tree g ≡ false) × (nat_lt 0 (count_in k.table g) ≡ false)
-remove_parts k g e =
-    let there = none_unless (has_group k.tree g) NoGroup (if is_root k.tree g then Some IsRoot else if has_children k.tree g then Some HasChildren else if nat_lt 0 (count_in k.table g) then Some HasProcesses else None) e in
-    let child = none_if (is_root k.tree g) IsRoot (if has_children k.tree g then Some HasChildren else if nat_lt 0 (count_in k.table g) then Some HasProcesses else None) there.1 in
-    let childless = none_if (has_children k.tree g) HasChildren (if nat_lt 0 (count_in k.table g) then Some HasProcesses else None) child.1 in
-    let empty = none_if (nat_lt 0 (count_in k.table g)) HasProcesses None childless.1 in
-    (there.0, child.0, childless.0, empty.0)
+  more_within : set.is_subset s t ≡ true → set.contains t n ≡ true → set.is_subset (set.insert s n) t ≡ true
+  more_within within there = contains-is_subset (set.insert s n) t (λ q member. among q (q == n) refl (sym (contains-insert s n q) ∙ member))
+    where
+      among : (q : ℕ) (b : Bool) → (q == n) ≡ b → (b || set.contains s q) ≡ true → set.contains t q ≡ true
+      among q true e h = ap (set.contains t) (eqb-true q n e) ∙ there
+      among q false e h = is_subset-contains s t within q h
 
 -- what stays where the state does, or where a failure is counted
 module _ (old : KernelState) where
+  same_machine : KeepsMachine old old
+  same_machine = record { nodes = refl; present = refl; reserved = refl }
+
   same_serials : KeepsSerials old.tree old.tree
   same_serials = record { rise = omega arith; same = λ g e _. tree.stands_itself old.tree g e }
 
+  same_pids : KeepsPids old old
+  same_pids = record { rise = omega arith; same = λ q p _ at. at }
+
   keeps_itself : IsWellFormed old → StepKeeps old old
-  keeps_itself w = record {
-    well_formed = w;
-    machine = record { nodes = refl; present = refl; reserved = refl };
-    pids = record { rise = omega arith; same = λ q p _ at. at };
-    serials = same_serials;
-  }
+  keeps_itself w = record { well_formed = w; machine = same_machine; pids = same_pids; serials = same_serials }
 
   keeps_failed : IsWellFormed old → StepKeeps old (failed old)
   keeps_failed w = record {
-    well_formed = record { tree = w.tree; table = w.table };
+    well_formed = record {
+      tree = w.tree;
+      table = w.table;
+      placed = w.placed;
+      some_reserved = w.some_reserved;
+      reserved_online = w.reserved_online;
+      online_present = w.online_present;
+    };
     machine = record { nodes = refl; present = refl; reserved = refl };
     pids = record { rise = omega arith; same = λ q p _ at. at };
     serials = same_serials;
   }
 
-  same_after_end : (new : TableState) (ends : Process → Bool) → SomeEnd old.table new ends → (q : ℕ) (p : Process) → process_of new q ≡ Some p → process_of old.table q ≡ Some p
-  same_after_end new ends some q p at = from (process_of old.table q) refl
+  -- those that are left were there
+  left_after_end : (new : TableState) (ends : Process → Bool) → SomeEnd old.table new ends → (q : ℕ) (p : Process) → process_of new q ≡ Some p → process_of old.table q ≡ Some p
+  left_after_end new ends some q p at = from (process_of old.table q) refl
     where
       from : (o : Option Process) → process_of old.table q ≡ o → process_of old.table q ≡ Some p
       from None is = absurd (none-some p (sym (some.none q is) ∙ at))
@@ -88,139 +108,171 @@ module _ (old : KernelState) where
         | false ↦ λ e. is ∙ sym (some.stay q x is e) ∙ at
       ] refl
 
-  -- one process more
-  grown : (new : KernelState) (g : Group) (first pid : ℕ) → AddsProcess old g first pid new → table_answers.AddsProcess old.table g first pid (with_process old.table g first)
-  grown new g first pid adds = record { next = adds.next; fresh = adds.fresh; added = refl }
-
-  grown_pids : (g : Group) (first pid : ℕ) → table_answers.AddsProcess old.table g first pid (with_process old.table g first)
-      → KeepsPids old (record old { table = with_process old.table g first })
-  grown_pids g first pid adds = record {
-    rise = omega arith;
-    same = λ q p lt at. sym ((table.added_leaves old.table (with_process old.table g first) g first pid adds).others q (λ e.
-        let next : pid ≡ old.table.next_pid = adds.next in absurd (omega arith))) ∙ at;
-  }
-
   module _ (w : IsWellFormed old) where
-    pub MakesGroup-keeps : (parent : Group) (name : List ℕ) (r : Result Group KernelError) (new : KernelState) → MakesGroup old parent name r new → StepKeeps old new
-    MakesGroup-keeps parent name =
-        GrowingWrites-keeps (StepKeeps old) (make_refusal old parent name) (MakesGroupOf old parent name) old
-        (λ g new none does. subst (λ (k : KernelState). StepKeeps old k) (sym does.made) (record {
-          well_formed = record {
-            tree = (tree.stays_well_formed old.tree w.tree).added (with_group old.tree g parent name) parent name g (make_parent old parent name none)
-                (record { serial = does.serial; fresh = does.fresh; added = refl });
-            table = w.table;
-          };
-          machine = record { nodes = refl; present = refl; reserved = refl };
-          pids = record { rise = omega arith; same = λ q p _ at. at };
-          serials = (tree.serials_given_once old.tree).added (with_group old.tree g parent name) parent name g (record { serial = does.serial; fresh = does.fresh; added = refl });
-        }))
-        (keeps_itself w) (keeps_failed w)
+    -- another tree, in which the processes' groups are
+    keeps_with_tree : (t : TreeState) → tree_formed.IsWellFormed t
+        → ((q : ℕ) (p : Process) → process_of old.table q ≡ Some p → has_group old.tree p.group ≡ true → has_group t p.group ≡ true) → t.online ≡ old.tree.online → t.nodes ≡ old.tree.nodes → KeepsSerials old.tree t → StepKeeps old (record old { tree = t })
+    keeps_with_tree t well there online nodes serials = record {
+      well_formed = record {
+        tree = well;
+        table = w.table;
+        placed = λ q p at. there q p at (w.placed q p at);
+        some_reserved = w.some_reserved;
+        reserved_online = ap (set.is_subset old.reserved) online ∙ w.reserved_online;
+        online_present = ap (λ (s : Ids). set.is_subset s old.present) online ∙ w.online_present;
+      };
+      machine = record { nodes = nodes; present = refl; reserved = refl };
+      pids = record { rise = omega arith; same = λ q p _ at. at };
+      serials = serials;
+    }
 
-    pub RemovesGroup-keeps : (g : Group) (r : Result (Unit {0}) KernelFault) (new : KernelState) → RemovesGroup old g r new → StepKeeps old new
-    RemovesGroup-keeps g =
-        Writes-keeps (StepKeeps old) (remove_refusal old g) (λ _ new. new ≡ record old { tree = without_group old.tree g }) old
-        (λ _ new none does.
-        let parts = remove_parts old g none in
-        subst (λ (k : KernelState). StepKeeps old k) (sym does) (record {
-          well_formed = record { tree = (tree.stays_well_formed old.tree w.tree).removed g parts.1 parts.2; table = w.table };
-          machine = record { nodes = refl; present = refl; reserved = refl };
-          pids = record { rise = omega arith; same = λ q p _ at. at };
-          serials = (tree.serials_given_once old.tree).removed g;
-        }))
-        (keeps_itself w) (keeps_failed w)
+    -- other processes, in groups that are there
+    keeps_with_table : (t : TableState) → table_formed.IsWellFormed t → ((q : ℕ) (p : Process) → process_of t q ≡ Some p → has_group old.tree p.group ≡ true)
+        → KeepsPids old (record old { table = t }) → StepKeeps old (record old { table = t })
+    keeps_with_table t well placed pids = record {
+      well_formed = record {
+        tree = w.tree;
+        table = well;
+        placed = placed;
+        some_reserved = w.some_reserved;
+        reserved_online = w.reserved_online;
+        online_present = w.online_present;
+      };
+      machine = record { nodes = refl; present = refl; reserved = refl };
+      pids = pids;
+      serials = same_serials;
+    }
 
-    pub WritesCpus-keeps : (g : Group) (cpus : Ids) (r : Result (Unit {0}) KernelFault) (new : KernelState) → WritesCpus old g cpus r new → StepKeeps old new
-    WritesCpus-keeps g cpus =
-        Writes-keeps (StepKeeps old) (write_refusal old g) (λ _ new. new ≡ record old { tree = with_cpus old.tree g cpus }) old
-        (λ _ new none does. subst (λ (k : KernelState). StepKeeps old k) (sym does) (record {
-          well_formed = record { tree = (tree.stays_well_formed old.tree w.tree).cpus g cpus; table = w.table };
-          machine = record { nodes = refl; present = refl; reserved = refl };
-          pids = record { rise = omega arith; same = λ q p _ at. at };
-          serials = (tree.serials_given_once old.tree).cpus g cpus;
-        }))
-        (keeps_itself w) (keeps_failed w)
-
-    pub WritesMems-keeps : (g : Group) (mems : Ids) (r : Result (Unit {0}) KernelFault) (new : KernelState) → WritesMems old g mems r new → StepKeeps old new
-    WritesMems-keeps g mems =
-        Writes-keeps (StepKeeps old) (write_refusal old g) (λ _ new. new ≡ record old { tree = with_mems old.tree g mems }) old
-        (λ _ new none does. subst (λ (k : KernelState). StepKeeps old k) (sym does) (record {
-          well_formed = record { tree = (tree.stays_well_formed old.tree w.tree).mems g mems; table = w.table };
-          machine = record { nodes = refl; present = refl; reserved = refl };
-          pids = record { rise = omega arith; same = λ q p _ at. at };
-          serials = (tree.serials_given_once old.tree).mems g mems;
-        }))
-        (keeps_itself w) (keeps_failed w)
-
-    pub Spawns-keeps : (g : Group) (r : Result ℕ KernelError) (new : KernelState) → Spawns old g r new → StepKeeps old new
-    Spawns-keeps g =
-        GrowingWrites-keeps (StepKeeps old) (spawn_refusal old g) (λ pid new. AddsProcess old g pid pid new) old
-        (λ pid new none does. subst (λ (k : KernelState). StepKeeps old k) (sym does.added) (record {
-          well_formed = record {
-            tree = w.tree;
-            table = (table.stays_well_formed old.table w.table).spawned (with_process old.table g pid) g pid (grown new g pid pid does);
-          };
-          machine = record { nodes = refl; present = refl; reserved = refl };
-          pids = grown_pids g pid pid (grown new g pid pid does);
-          serials = same_serials;
-        }))
-        (keeps_itself w) (keeps_failed w)
-
-    pub EndsGroup-keeps : (g : Group) (r : Result (Unit {0}) KernelFault) (new : KernelState) → EndsGroup old g r new → StepKeeps old new
-    EndsGroup-keeps g =
-        Writes-keeps (StepKeeps old) (end_refusal old g) (λ _ new. new ≡ record old { table = ended_in old.table g }) old
-        (λ _ new none does. subst (λ (k : KernelState). StepKeeps old k) (sym does) (record {
-          well_formed = record { tree = w.tree; table = (table.stays_well_formed old.table w.table).ended g };
-          machine = record { nodes = refl; present = refl; reserved = refl };
-          pids = record { rise = omega arith; same = λ q p _. same_after_end (ended_in old.table g) _ (table.ended_leaves old.table g w.table) q p };
-          serials = same_serials;
-        }))
-        (keeps_itself w) (keeps_failed w)
-
-    pub Forks-keeps : (parent : ℕ) (r : Result ℕ KernelError) (new : KernelState) → Forks old parent r new → StepKeeps old new
-    Forks-keeps parent =
-        Grows-keeps (StepKeeps old) (fork_refusal old parent) (ForksOf old parent) old
-        (λ pid new none does.
-        let p : Process = does.0 in
-        subst (λ (k : KernelState). StepKeeps old k) (sym does.2.added) (record {
-          well_formed = record {
-            tree = w.tree;
-            table = (table.stays_well_formed old.table w.table).forked (with_process old.table p.group p.first) parent pid (p, does.1, grown new p.group p.first pid does.2);
-          };
-          machine = record { nodes = refl; present = refl; reserved = refl };
-          pids = grown_pids p.group p.first pid (grown new p.group p.first pid does.2);
-          serials = same_serials;
-        }))
-        (keeps_itself w)
-
-    pub Exits-keeps : (pid : ℕ) (r : Result (Unit {0}) KernelFault) (new : KernelState) → Exits old pid r new → StepKeeps old new
-    Exits-keeps pid =
-        Decides-keeps (StepKeeps old) (exit_refusal old pid) (λ _ new. new ≡ record old { table = exited old.table pid }) old
-        (λ _ new none does. subst (λ (k : KernelState). StepKeeps old k) (sym does) (record {
-          well_formed = record { tree = w.tree; table = (table.stays_well_formed old.table w.table).exited pid };
-          machine = record { nodes = refl; present = refl; reserved = refl };
-          pids = record { rise = omega arith; same = λ q p _. same_after_end (exited old.table pid) _ (table.exited_leaves old.table pid w.table) q p };
-          serials = same_serials;
-        }))
-        (keeps_itself w)
-
-    online_keeps : (online : Ids) → StepKeeps old (record old { tree = with_online old.tree online })
-    online_keeps online = record {
-      well_formed = record { tree = (tree.stays_well_formed old.tree w.tree).online online; table = w.table };
+    -- other CPUs online
+    keeps_with_online : (online : Ids) → set.is_subset old.reserved online ≡ true → set.is_subset online old.present ≡ true
+        → StepKeeps old (record old { tree = with_online old.tree online })
+    keeps_with_online online above within = record {
+      well_formed = record {
+        tree = (tree.stays_well_formed old.tree w.tree).online online;
+        table = w.table;
+        placed = w.placed;
+        some_reserved = w.some_reserved;
+        reserved_online = above;
+        online_present = within;
+      };
       machine = record { nodes = refl; present = refl; reserved = refl };
       pids = record { rise = omega arith; same = λ q p _ at. at };
       serials = (tree.serials_given_once old.tree).online online;
     }
 
+    -- one process more
+    keeps_with_process : (t : TableState) (g : Group) (first pid : ℕ) → AddsProcess old.table g first pid t → table_formed.IsWellFormed t → has_group old.tree g ≡ true
+        → StepKeeps old (record old { table = t })
+    keeps_with_process t g first pid adds well there =
+        let added : ProcessAdded old.table t g first pid = table.added_leaves old.table t g first pid adds in
+        keeps_with_table t well
+        (λ q p at. elim (q == pid) as (λ b. (q == pid) ≡ b → has_group old.tree p.group ≡ true) [
+          | true ↦ λ e.
+              let one : record { pid = pid; group = g; first = first } ≡ p = same_Some (record { pid = pid; group = g; first = first }) p (sym added.there ∙ ap (process_of t) (sym (eqb-true q pid e)) ∙ at) in
+              ap (λ (x : Process). has_group old.tree x.group) (sym one) ∙ there
+          | false ↦ λ e. w.placed q p (sym (added.others q (differs q pid e)) ∙ at)
+        ] refl)
+        (record {
+          rise = (let next : t.next_pid ≡ old.table.next_pid + 1 = ap (λ (s : TableState). s.next_pid) adds.added in omega arith);
+          same = λ q p lt at. sym (added.others q (λ e. let next : pid ≡ old.table.next_pid = adds.next in absurd (omega arith))) ∙ at;
+        })
+      where
+        differs : (a b : ℕ) → (a == b) ≡ false → a ≢ b
+        differs a b e is = both_ways (a == b) e (eq-eqb a b is)
+
+    -- some processes less
+    keeps_with_fewer : (t : TableState) (ends : Process → Bool) → SomeEnd old.table t ends → table_formed.IsWellFormed t → t.next_pid ≡ old.table.next_pid
+        → StepKeeps old (record old { table = t })
+    keeps_with_fewer t ends some well next =
+        keeps_with_table t well (λ q p at. w.placed q p (left_after_end t ends some q p at))
+        (record { rise = omega arith; same = λ q p _. left_after_end t ends some q p })
+
+    pub MakesGroup-keeps : (parent : Group) (name : List ℕ) (r : Result Group KernelError) (new : KernelState) → MakesGroup old parent name r new → StepKeeps old new
+    MakesGroup-keeps parent name =
+        GrowingWrites-keeps (StepKeeps old) (make_refusal old parent name) (MakesGroupOf old parent name) old
+        (λ g new none does. subst (λ (k : KernelState). StepKeeps old k) (sym does.rest) (
+        let added : GroupAdded old.tree new.tree parent name g = tree.added_leaves old.tree new.tree parent name g does.does in
+        keeps_with_tree new.tree
+        ((tree.stays_well_formed old.tree w.tree).added new.tree parent name g (((calls_are_free old).make parent name).0 none).0 does.does)
+        (λ q p at there. ap is_some (added.others p.group (added.differs p.group there)) ∙ there)
+        (ap (λ (t : TreeState). t.online) does.does.added)
+        (ap (λ (t : TreeState). t.nodes) does.does.added)
+        ((tree.serials_given_once old.tree).added new.tree parent name g does.does)))
+        (keeps_itself w) (keeps_failed w)
+
+    pub RemovesGroup-keeps : (g : Group) (r : Result (Unit {0}) KernelFault) (new : KernelState) → RemovesGroup old g r new → StepKeeps old new
+    RemovesGroup-keeps g =
+        Writes-keeps (StepKeeps old) (remove_refusal old g) (λ _ new. new ≡ record old { tree = without_group old.tree g }) old
+        (λ _ new none does. subst (λ (k : KernelState). StepKeeps old k) (sym does) (
+        let free = ((calls_are_free old).remove g).0 none in
+        keeps_with_tree (without_group old.tree g)
+        ((tree.stays_well_formed old.tree w.tree).removed g free.1 free.2)
+        (λ q p at there.
+        ap is_some ((tree.removed_leaves old.tree g).others p.group (same_group_sym g p.group ∙ table.none_where_none_counted old.table g free.3 q p at)) ∙ there)
+        refl refl ((tree.serials_given_once old.tree).removed g)))
+        (keeps_itself w) (keeps_failed w)
+
+    pub WritesCpus-keeps : (g : Group) (cpus : Ids) (r : Result (Unit {0}) KernelFault) (new : KernelState) → WritesCpus old g cpus r new → StepKeeps old new
+    WritesCpus-keeps g cpus =
+        Writes-keeps (StepKeeps old) (write_refusal old g) (λ _ new. new ≡ record old { tree = with_cpus old.tree g cpus }) old
+        (λ _ new none does. subst (λ (k : KernelState). StepKeeps old k) (sym does)
+        (keeps_with_tree (with_cpus old.tree g cpus) ((tree.stays_well_formed old.tree w.tree).cpus g cpus)
+        (λ q p at there. (tree.writes_request.0 old.tree g cpus).there p.group ∙ there) refl refl ((tree.serials_given_once old.tree).cpus g cpus)))
+        (keeps_itself w) (keeps_failed w)
+
+    pub WritesMems-keeps : (g : Group) (mems : Ids) (r : Result (Unit {0}) KernelFault) (new : KernelState) → WritesMems old g mems r new → StepKeeps old new
+    WritesMems-keeps g mems =
+        Writes-keeps (StepKeeps old) (write_refusal old g) (λ _ new. new ≡ record old { tree = with_mems old.tree g mems }) old
+        (λ _ new none does. subst (λ (k : KernelState). StepKeeps old k) (sym does)
+        (keeps_with_tree (with_mems old.tree g mems) ((tree.stays_well_formed old.tree w.tree).mems g mems)
+        (λ q p at there. (tree.writes_request.1 old.tree g mems).there p.group ∙ there) refl refl ((tree.serials_given_once old.tree).mems g mems)))
+        (keeps_itself w) (keeps_failed w)
+
+    pub Spawns-keeps : (g : Group) (r : Result ℕ KernelError) (new : KernelState) → Spawns old g r new → StepKeeps old new
+    Spawns-keeps g =
+        GrowingWrites-keeps (StepKeeps old) (spawn_refusal old g) (SpawnsIn old g) old
+        (λ pid new none does. subst (λ (k : KernelState). StepKeeps old k) (sym does.rest)
+        (keeps_with_process new.table g pid pid does.does ((table.stays_well_formed old.table w.table).spawned new.table g pid does.does)
+        (((calls_are_free old).spawn g).0 none).0))
+        (keeps_itself w) (keeps_failed w)
+
+    pub EndsGroup-keeps : (g : Group) (r : Result (Unit {0}) KernelFault) (new : KernelState) → EndsGroup old g r new → StepKeeps old new
+    EndsGroup-keeps g =
+        Writes-keeps (StepKeeps old) (end_refusal old g) (λ _ new. new ≡ record old { table = ended_in old.table g }) old
+        (λ _ new none does. subst (λ (k : KernelState). StepKeeps old k) (sym does)
+        (keeps_with_fewer (ended_in old.table g) (λ p. same_group p.group g) (table.ended_leaves old.table g w.table) ((table.stays_well_formed old.table w.table).ended g) refl))
+        (keeps_itself w) (keeps_failed w)
+
+    pub Forks-keeps : (parent : ℕ) (r : Result ℕ KernelError) (new : KernelState) → Forks old parent r new → StepKeeps old new
+    Forks-keeps parent =
+        Grows-keeps (StepKeeps old) (fork_refusal old parent) (ForksIn old parent) old
+        (λ pid new none does. subst (λ (k : KernelState). StepKeeps old k) (sym does.rest) (
+        let p : Process = does.does.0 in
+        keeps_with_process new.table p.group p.first pid does.does.2 ((table.stays_well_formed old.table w.table).forked new.table parent pid does.does)
+        (w.placed parent p does.does.1)))
+        (keeps_itself w)
+
+    pub Exits-keeps : (pid : ℕ) (r : Result (Unit {0}) KernelFault) (new : KernelState) → Exits old pid r new → StepKeeps old new
+    Exits-keeps pid =
+        Decides-keeps (StepKeeps old) (exit_refusal old pid) (λ _ new. new ≡ record old { table = exited old.table pid }) old
+        (λ _ new none does. subst (λ (k : KernelState). StepKeeps old k) (sym does)
+        (keeps_with_fewer (exited old.table pid) (ends_with pid) (table.exited_leaves old.table pid w.table) ((table.stays_well_formed old.table w.table).exited pid) refl))
+        (keeps_itself w)
+
     pub GoesOffline-keeps : (cpu : ℕ) (r : Result (Unit {0}) KernelFault) (new : KernelState) → GoesOffline old cpu r new → StepKeeps old new
     GoesOffline-keeps cpu =
         Decides-keeps (StepKeeps old) (offline_refusal old cpu) (λ _ new. new ≡ record old { tree = with_online old.tree (set.remove old.tree.online cpu) }) old
-        (λ _ new none does. subst (λ (k : KernelState). StepKeeps old k) (sym does) (online_keeps (set.remove old.tree.online cpu)))
+        (λ _ new none does. subst (λ (k : KernelState). StepKeeps old k) (sym does) (keeps_with_online (set.remove old.tree.online cpu)
+        (within_less old.reserved old.tree.online cpu w.reserved_online (((calls_are_free old).offline cpu).0 none).1)
+        (less_within old.tree.online old.present cpu w.online_present)))
         (keeps_itself w)
 
     pub ComesOnline-keeps : (cpu : ℕ) (r : Result (Unit {0}) KernelFault) (new : KernelState) → ComesOnline old cpu r new → StepKeeps old new
     ComesOnline-keeps cpu =
         Decides-keeps (StepKeeps old) (online_refusal old cpu) (λ _ new. new ≡ record old { tree = with_online old.tree (set.insert old.tree.online cpu) }) old
-        (λ _ new none does. subst (λ (k : KernelState). StepKeeps old k) (sym does) (online_keeps (set.insert old.tree.online cpu)))
+        (λ _ new none does. subst (λ (k : KernelState). StepKeeps old k) (sym does) (keeps_with_online (set.insert old.tree.online cpu)
+        (within_more old.reserved old.tree.online cpu w.reserved_online)
+        (more_within old.tree.online old.present cpu w.online_present (((calls_are_free old).online cpu).0 none))))
         (keeps_itself w)
 
     same_state : (new : KernelState) → new ≡ old → StepKeeps old new
@@ -285,8 +337,8 @@ runs_keep old new (call ∷ calls) (r ∷ replies) w (mid, step, rest) =
 
 pub events_keep_groups : EventsKeepGroups
 events_keep_groups = record {
-  fork = λ old new parent. λ r. Grows-keeps (λ k. KeepsGroups old k × (k.tree.online ≡ old.tree.online)) (fork_refusal old parent) (ForksOf old parent) old
-      (λ pid k none does. subst (λ (s : KernelState). KeepsGroups old s × (s.tree.online ≡ old.tree.online)) (sym does.2.added) (record { groups = refl; next_serial = refl; failures = refl }, refl)) (stays old, refl) r new;
+  fork = λ old new parent. λ r. Grows-keeps (λ k. KeepsGroups old k × (k.tree.online ≡ old.tree.online)) (fork_refusal old parent) (ForksIn old parent) old
+      (λ pid k none does. subst (λ (s : KernelState). KeepsGroups old s × (s.tree.online ≡ old.tree.online)) (sym does.rest) (record { groups = refl; next_serial = refl; failures = refl }, refl)) (stays old, refl) r new;
   exit = λ old new pid r. Decides-keeps (λ k. KeepsGroups old k × (k.tree.online ≡ old.tree.online)) (exit_refusal old pid) (λ _ s. s ≡ record old { table = exited old.table pid }) old
       (λ _ k none does. subst (λ (s : KernelState). KeepsGroups old s × (s.tree.online ≡ old.tree.online)) (sym does) (record { groups = refl; next_serial = refl; failures = refl }, refl)) (stays old, refl) r new;
   offline = λ old new cpu r. Decides-keeps (λ k. KeepsGroups old k × (k.table ≡ old.table)) (offline_refusal old cpu) (λ _ s. s ≡ record old { tree = with_online old.tree (set.remove old.tree.online cpu) }) old
@@ -304,7 +356,7 @@ Same old new = (new.table ≡ old.table) × (new.tree.online ≡ old.tree.online
 pub writes_keep_processes : WritesKeepProcesses
 writes_keep_processes = record {
   make = λ old new parent name r. GrowingWrites-keeps (Same old) (make_refusal old parent name) (MakesGroupOf old parent name) old
-      (λ g k none does. subst (λ (s : KernelState). Same old s) (sym does.made) (refl, refl)) (refl, refl) (refl, refl) r new;
+      (λ g k none does. subst (λ (s : KernelState). Same old s) (sym does.rest) (refl, ap (λ (t : TreeState). t.online) does.does.added)) (refl, refl) (refl, refl) r new;
   remove = λ old new g r. Writes-keeps (Same old) (remove_refusal old g) (λ _ s. s ≡ record old { tree = without_group old.tree g }) old
       (λ _ k none does. subst (λ (s : KernelState). Same old s) (sym does) (refl, refl)) (refl, refl) (refl, refl) r new;
   cpus = λ old new g cpus r. Writes-keeps (Same old) (write_refusal old g) (λ _ s. s ≡ record old { tree = with_cpus old.tree g cpus }) old
@@ -315,16 +367,20 @@ writes_keep_processes = record {
 
 pub writes_keep_tree : WritesKeepTree
 writes_keep_tree = record {
-  spawn = λ old new g r. GrowingWrites-keeps (λ s. s.tree ≡ old.tree) (spawn_refusal old g) (λ pid s. AddsProcess old g pid pid s) old
-      (λ pid k none does. subst (λ (s : KernelState). s.tree ≡ old.tree) (sym does.added) refl) refl refl r new;
+  spawn = λ old new g r. GrowingWrites-keeps (λ s. s.tree ≡ old.tree) (spawn_refusal old g) (SpawnsIn old g) old
+      (λ pid k none does. subst (λ (s : KernelState). s.tree ≡ old.tree) (sym does.rest) refl) refl refl r new;
   end = λ old new g r. Writes-keeps (λ s. s.tree ≡ old.tree) (end_refusal old g) (λ _ s. s ≡ record old { table = ended_in old.table g }) old
       (λ _ k none does. subst (λ (s : KernelState). s.tree ≡ old.tree) (sym does) refl) refl refl r new;
 }
 
 pub first_is_well_formed : FirstIsWellFormed
-first_is_well_formed present reserved online nodes first_pid k first = record {
+first_is_well_formed present reserved online nodes first_pid k some above within first = record {
   tree = tree.first_is_well_formed online nodes 0 k.tree first.first_tree;
-  table = subst (λ (t : TableState). TableIsWellFormed t) (sym first.first_table) (table.first_is_well_formed first_pid);
+  table = subst (λ (t : TableState). table_formed.IsWellFormed t) (sym first.first_table) (table.first_is_well_formed first_pid);
+  placed = λ q p at. absurd (none-some p (ap (λ (t : TableState). process_of t q) (sym first.first_table) ∙ at));
+  some_reserved = λ e. some (sym first.some_reserved ∙ e);
+  reserved_online = ap (λ (s : Ids). set.is_subset s k.tree.online) first.some_reserved ∙ ap (set.is_subset reserved) (ap (λ (t : TreeState). t.online) first.first_tree.is) ∙ above;
+  online_present = ap (λ (s : Ids). set.is_subset s k.present) (ap (λ (t : TreeState). t.online) first.first_tree.is) ∙ ap (set.is_subset online) first.all_present ∙ within;
 }
 
 pub each_case_keeps : EachCaseKeeps
@@ -354,17 +410,12 @@ itself_alike s = record {
   next_serial = refl;
 }
 
-write_parts : (k : KernelState) (g : Group) → write_refusal k g ≡ None → (has_group k.tree g ≡ true) × (is_root k.tree g ≡ false)
-write_parts k g e =
-    let there = none_unless (has_group k.tree g) NoGroup (if is_root k.tree g then Some IsRoot else None) e in
-    (there.0, (none_if (is_root k.tree g) IsRoot None there.1).0)
-
 pub writes_leave_groups : WritesLeaveGroups
 writes_leave_groups = record {
   make = λ old new parent name r. GrowingWrites-answers (make_refusal old parent name) (MakesGroupOf old parent name) old (λ r k. MakeLeaves old parent name r k)
-      (λ g k none does. subst (λ (s : KernelState). MakeLeaves old parent name (Ok g) s) (sym does.made) (
-      let added = tree.added_leaves old.tree (with_group old.tree g parent name) parent name g (record { serial = does.serial; fresh = does.fresh; added = refl }) in
-      record { made = added; refused = tt; cpus = added.cpus; mems = added.mems }))
+      (λ g k none does.
+      let added : GroupAdded old.tree k.tree parent name g = tree.added_leaves old.tree k.tree parent name g does.does in
+      record { made = added; refused = tt; cpus = added.cpus; mems = added.mems })
       (record { made = tt; refused = refl; cpus = λ p. refl; mems = λ p. refl })
       (record { made = tt; refused = refl; cpus = λ p. refl; mems = λ p. refl })
       (λ fault other against. record { made = tt; refused = refl; cpus = λ p. refl; mems = λ p. refl }) r new;
@@ -377,7 +428,7 @@ writes_leave_groups = record {
       (λ v k none does. subst (λ (s : KernelState). CpusWriteLeaves old g cpus (Ok v) s) (sym does) (
       let written = tree.writes_request.0 old.tree g cpus in
       record {
-        own = written.own (write_parts old g none).0;
+        own = written.own (((calls_are_free old).write g).0 none).0;
         refused = tt;
         others = written.others;
         apart = written.apart;
@@ -390,7 +441,7 @@ writes_leave_groups = record {
       (λ v k none does. subst (λ (s : KernelState). MemsWriteLeaves old g mems (Ok v) s) (sym does) (
       let written = tree.writes_request.1 old.tree g mems in
       record {
-        own = written.own (write_parts old g none).0;
+        own = written.own (((calls_are_free old).write g).0 none).0;
         refused = tt;
         others = written.others;
         apart = written.apart;
@@ -399,6 +450,36 @@ writes_leave_groups = record {
       }))
       (record { own = tt; refused = refl; others = λ p _. refl; apart = λ p _. refl; cpus = λ p. refl; places = itself_alike old.tree })
       (λ fault other against. record { own = tt; refused = refl; others = λ p _. refl; apart = λ p _. refl; cpus = λ p. refl; places = itself_alike old.tree }) r new;
+}
+
+-- what a call leaves of the processes
+pub calls_leave_processes : CallsLeaveProcesses
+calls_leave_processes = record {
+  spawn = λ old new g r. GrowingWrites-answers (spawn_refusal old g) (SpawnsIn old g) old (λ r k. SpawnLeaves old g r k)
+      (λ pid k none does. record { made = table.added_leaves old.table k.table g pid pid does.does; refused = tt })
+      (record { made = tt; refused = refl })
+      (record { made = tt; refused = refl })
+      (λ fault other against. record { made = tt; refused = refl }) r new;
+  end = λ old new g r w. Writes-answers (end_refusal old g) (λ _ s. s ≡ record old { table = ended_in old.table g }) old (λ r k. EndLeaves old g r k)
+      (λ v k none does. subst (λ (s : KernelState). EndLeaves old g (Ok v) s) (sym does)
+      (record { ended = table.ended_leaves old.table g w.table; empty = table.ended_is_empty old.table g; refused = tt }))
+      (record { ended = tt; empty = tt; refused = refl })
+      (λ fault other against. record { ended = tt; empty = tt; refused = refl }) r new;
+  fork = λ old new parent r. Grows-answers (fork_refusal old parent) (ForksIn old parent) old (λ r k. ForkLeaves old parent r k)
+      (λ pid k none does. record {
+        made = record {
+          process = does.does.0;
+          there = does.does.1;
+          added = table.added_leaves old.table k.table does.does.0.group does.does.0.first pid does.does.2;
+        };
+        refused = tt;
+      })
+      (record { made = tt; refused = refl })
+      (λ fault against. record { made = tt; refused = refl }) r new;
+  exit = λ old new pid r w. Decides-answers (exit_refusal old pid) (λ _ s. s ≡ record old { table = exited old.table pid }) old (λ r k. ExitLeaves old pid r k)
+      (λ v k none does. subst (λ (s : KernelState). ExitLeaves old pid (Ok v) s) (sym does)
+      (record { ended = table.exited_leaves old.table pid w.table; refused = tt }))
+      (λ fault against. record { ended = tt; refused = refl }) r new;
 }
 
 -- the count of failures
@@ -415,89 +496,13 @@ module _ {A : Type 0} (refusal : Option KernelFault) (Does : A → KernelState �
   GrowingWrites-count = GrowingWrites-answers refusal Does old (λ r k. k.failures ≡ old.failures + rise_or_memory r)
       (λ value new _ d. let same : new.failures ≡ old.failures = does value new d in omega arith) (omega arith) refl (λ fault other _. not_risen fault other)
 
-same_count : (old new k : KernelState) → k.failures ≡ old.failures → new ≡ k → new.failures ≡ old.failures
-same_count old new k same is = ap (λ (s : KernelState). s.failures) is ∙ same
-
 pub writes_count : WritesCount
 writes_count = record {
   make = λ old new parent name r. GrowingWrites-count (make_refusal old parent name) (MakesGroupOf old parent name) old
-      (λ g k does. ap (λ (s : KernelState). s.failures) does.made) r new;
+      (λ g k does. ap (λ (s : KernelState). s.failures) does.rest) r new;
   remove = λ old new g r. Writes-count (remove_refusal old g) (λ _ s. s ≡ record old { tree = without_group old.tree g }) old (λ _ k is. ap (λ (s : KernelState). s.failures) is) r new;
   cpus = λ old new g cpus r. Writes-count (write_refusal old g) (λ _ s. s ≡ record old { tree = with_cpus old.tree g cpus }) old (λ _ k is. ap (λ (s : KernelState). s.failures) is) r new;
   mems = λ old new g mems r. Writes-count (write_refusal old g) (λ _ s. s ≡ record old { tree = with_mems old.tree g mems }) old (λ _ k is. ap (λ (s : KernelState). s.failures) is) r new;
-  spawn = λ old new g r. GrowingWrites-count (spawn_refusal old g) (λ pid s. AddsProcess old g pid pid s) old (λ pid k does. ap (λ (s : KernelState). s.failures) does.added) r new;
+  spawn = λ old new g r. GrowingWrites-count (spawn_refusal old g) (SpawnsIn old g) old (λ pid k does. ap (λ (s : KernelState). s.failures) does.rest) r new;
   end = λ old new g r. Writes-count (end_refusal old g) (λ _ s. s ≡ record old { table = ended_in old.table g }) old (λ _ k is. ap (λ (s : KernelState). s.failures) is) r new;
-}
-
--- and back: a chain of refusals gives none where no test of it holds
-free_unless : {F : Type 0} (b : Bool) (x : F) (rest : Option F) → b ≡ true → rest ≡ None → (if not b then Some x else rest) ≡ None
-free_unless true x rest e h = h
-free_unless false x rest e h = absurd (both_ways false refl e)
-
-free_if : {F : Type 0} (b : Bool) (x : F) (rest : Option F) → b ≡ false → rest ≡ None → (if b then Some x else rest) ≡ None
-free_if true x rest e h = absurd (both_ways true e refl)
-free_if false x rest e h = h
-
-not_some : {A : Type 0} (o : Option A) → is_some o ≡ false → o ≡ None
-not_some None h = refl
-not_some (Some x) h = absurd (both_ways true h refl)
-
-none_left : (next : ℕ) → nat_lt LAST_PID next ≡ false → next ≤ LAST_PID
-none_left next h = grind (arith, nat_tests)
-
-some_left : (next : ℕ) → next ≤ LAST_PID → nat_lt LAST_PID next ≡ false
-some_left next h = grind (arith, nat_tests)
-
-no_more : (count : ℕ) → nat_lt 0 count ≡ false → count ≡ 0
-no_more count h = grind (arith, nat_tests)
-
-nobody : (count : ℕ) → count ≡ 0 → nat_lt 0 count ≡ false
-nobody count h = grind (arith, nat_tests)
-
-pub calls_are_free : CallsAreFree
-calls_are_free k = record {
-  make = λ parent name. (
-    (λ e.
-        let there = none_unless (has_group k.tree parent) NoGroup (if is_some (child_of k.tree parent name) then Some Exists else if k.tree.next_serial == SERIAL_LIMIT then Some NoSerials else None) e in
-        let alone = none_if (is_some (child_of k.tree parent name)) Exists (if k.tree.next_serial == SERIAL_LIMIT then Some NoSerials else None) there.1 in
-        let room = none_if (k.tree.next_serial == SERIAL_LIMIT) NoSerials None alone.1 in
-        (there.0, not_some (child_of k.tree parent name) alone.0, (λ is. both_ways (k.tree.next_serial == SERIAL_LIMIT) room.0 (eq-eqb k.tree.next_serial SERIAL_LIMIT is)))),
-    (λ h. free_unless (has_group k.tree parent) NoGroup (if is_some (child_of k.tree parent name) then Some Exists else if k.tree.next_serial == SERIAL_LIMIT then Some NoSerials else None) h.0
-        (free_if (is_some (child_of k.tree parent name)) Exists (if k.tree.next_serial == SERIAL_LIMIT then Some NoSerials else None) (ap is_some h.1)
-        (free_if (k.tree.next_serial == SERIAL_LIMIT) NoSerials None (ne_eqb k.tree.next_serial SERIAL_LIMIT h.2) refl))),
-  );
-  remove = λ g. (
-    (λ e. let parts = remove_parts k g e in (parts.0, parts.1, parts.2, no_more (count_in k.table g) parts.3)),
-    (λ h. free_unless (has_group k.tree g) NoGroup (if is_root k.tree g then Some IsRoot else if has_children k.tree g then Some HasChildren else if nat_lt 0 (count_in k.table g) then Some HasProcesses else None) h.0
-        (free_if (is_root k.tree g) IsRoot (if has_children k.tree g then Some HasChildren else if nat_lt 0 (count_in k.table g) then Some HasProcesses else None) h.1
-        (free_if (has_children k.tree g) HasChildren (if nat_lt 0 (count_in k.table g) then Some HasProcesses else None) h.2
-        (free_if (nat_lt 0 (count_in k.table g)) HasProcesses None (nobody (count_in k.table g) h.3) refl)))),
-  );
-  write = λ g. (
-    (λ e. write_parts k g e),
-    (λ h. free_unless (has_group k.tree g) NoGroup (if is_root k.tree g then Some IsRoot else None) h.0 (free_if (is_root k.tree g) IsRoot None h.1 refl)),
-  );
-  spawn = λ g. (
-    (λ e.
-        let there = none_unless (has_group k.tree g) NoGroup (if nat_lt LAST_PID k.table.next_pid then Some NoPids else None) e in
-        (there.0, none_left k.table.next_pid (none_if (nat_lt LAST_PID k.table.next_pid) NoPids None there.1).0)),
-    (λ h. free_unless (has_group k.tree g) NoGroup (if nat_lt LAST_PID k.table.next_pid then Some NoPids else None) h.0
-        (free_if (nat_lt LAST_PID k.table.next_pid) NoPids None (some_left k.table.next_pid h.1) refl)),
-  );
-  end = λ g. ((λ e. (none_unless (has_group k.tree g) NoGroup None e).0), (λ h. free_unless (has_group k.tree g) NoGroup None h refl));
-  fork = λ parent. (
-    (λ e.
-        let alive = none_unless (is_alive k.table parent) NoProcess (if nat_lt LAST_PID k.table.next_pid then Some NoPids else None) e in
-        (alive.0, none_left k.table.next_pid (none_if (nat_lt LAST_PID k.table.next_pid) NoPids None alive.1).0)),
-    (λ h. free_unless (is_alive k.table parent) NoProcess (if nat_lt LAST_PID k.table.next_pid then Some NoPids else None) h.0
-        (free_if (nat_lt LAST_PID k.table.next_pid) NoPids None (some_left k.table.next_pid h.1) refl)),
-  );
-  exit = λ pid. ((λ e. (none_unless (is_alive k.table pid) NoProcess None e).0), (λ h. free_unless (is_alive k.table pid) NoProcess None h refl));
-  offline = λ cpu. (
-    (λ e.
-        let here = none_unless (set.contains k.present cpu) NoCpu (if set.contains k.reserved cpu then Some Reserved else None) e in
-        (here.0, (none_if (set.contains k.reserved cpu) Reserved None here.1).0)),
-    (λ h. free_unless (set.contains k.present cpu) NoCpu (if set.contains k.reserved cpu then Some Reserved else None) h.0 (free_if (set.contains k.reserved cpu) Reserved None h.1 refl)),
-  );
-  online = λ cpu. ((λ e. (none_unless (set.contains k.present cpu) NoCpu None e).0), (λ h. free_unless (set.contains k.present cpu) NoCpu None h refl));
 }

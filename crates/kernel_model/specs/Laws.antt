@@ -1,5 +1,5 @@
 -- What each case leaves of a kernel, for those that stand on the trait alone.
-use Rattle.std.specs.Prelude.{◌≡◌, ◌≢◌, ◌↔◌, ℕ, ◌+◌, ◌<◌, ◌≤◌, true, false, List, Some, None, Result, IfOk, OnErr}
+use Rattle.std.specs.Prelude.{◌≡◌, ◌≢◌, ◌↔◌, ℕ, ◌+◌, ◌<◌, ◌≤◌, true, false, List, Some, None, is_some, Result, IfOk, OnErr}
 use Rattle.std.specs.FinSet as set
 use Rattle.cpu_set.specs.Ids.{Ids}
 use Rattle.cpuset_tree.specs.declared.Group.{Group}
@@ -9,7 +9,10 @@ use Rattle.cpuset_tree.specs.TreeLaws.{StandAlike, KeepsSerials, GroupAdded}
 use Rattle.proctable.specs.declared.Process.{Process}
 use Rattle.proctable.specs.declared.TheConstants.{LAST_PID}
 use Rattle.proctable.specs.Processes.{process_of, is_alive, count_in}
+use Rattle.proctable.specs.TableChanges.{ends_with}
+use Rattle.proctable.specs.TableLaws.{ProcessAdded, SomeEnd}
 use Rattle.kernel_model.specs.declared.faults.KernelFault.{KernelFault}
+use Rattle.kernel_model.specs.declared.faults.KernelFault.TheVariants.{NoGroup, Exists, HasChildren, HasProcesses, IsRoot, NoPids, NoProcess, NoSerials, Reserved, NoCpu}
 use Rattle.kernel_model.specs.declared.faults.KernelError.{KernelError}
 use Rattle.kernel_model.specs.declared.call.Call.{Call}
 use Rattle.kernel_model.specs.declared.call.Reply.{Reply}
@@ -97,6 +100,38 @@ pub record WritesLeaveGroups : Type 0 where
   pub cpus : (old new : KernelState) (g : Group) (cpus : Ids) (r : Result (Unit {0}) KernelFault) → WritesCpus old g cpus r new → CpusWriteLeaves old g cpus r new
   pub mems : (old new : KernelState) (g : Group) (mems : Ids) (r : Result (Unit {0}) KernelFault) → WritesMems old g mems r new → MemsWriteLeaves old g mems r new
 
+-- a new process is the only one that differs
+pub record SpawnLeaves (old : KernelState) (g : Group) (r : Result ℕ KernelError) (new : KernelState) : Type 0 where
+  pub made : IfOk r (λ pid. ProcessAdded old.table new.table g pid pid)
+  pub refused : OnErr r (new.table ≡ old.table)
+
+-- and a forked one too, which is in its parent's group and belongs to its parent's first process
+pub record ForkAdds (old new : KernelState) (parent pid : ℕ) : Type 0 where
+  pub process : Process
+  pub there : process_of old.table parent ≡ Some process
+  pub added : ProcessAdded old.table new.table process.group process.first pid
+
+pub record ForkLeaves (old : KernelState) (parent : ℕ) (r : Result ℕ KernelError) (new : KernelState) : Type 0 where
+  pub made : IfOk r (ForkAdds old new parent)
+  pub refused : OnErr r (new.table ≡ old.table)
+
+-- the processes of a group are the only ones that end with it, and then it has none
+pub record EndLeaves (old : KernelState) (g : Group) (r : Result (Unit {0}) KernelFault) (new : KernelState) : Type 0 where
+  pub ended : IfOk r (λ _. SomeEnd old.table new.table (λ p. same_group p.group g))
+  pub empty : IfOk r (λ _. count_in new.table g ≡ 0)
+  pub refused : OnErr r (new.table ≡ old.table)
+
+-- the process and those that belong to it are the only ones that end with it
+pub record ExitLeaves (old : KernelState) (pid : ℕ) (r : Result (Unit {0}) KernelFault) (new : KernelState) : Type 0 where
+  pub ended : IfOk r (λ _. SomeEnd old.table new.table (ends_with pid))
+  pub refused : OnErr r (new.table ≡ old.table)
+
+pub record CallsLeaveProcesses : Type 0 where
+  pub spawn : (old new : KernelState) (g : Group) (r : Result ℕ KernelError) → Spawns old g r new → SpawnLeaves old g r new
+  pub end : (old new : KernelState) (g : Group) (r : Result (Unit {0}) KernelFault) → IsWellFormed old → EndsGroup old g r new → EndLeaves old g r new
+  pub fork : (old new : KernelState) (parent : ℕ) (r : Result ℕ KernelError) → Forks old parent r new → ForkLeaves old parent r new
+  pub exit : (old new : KernelState) (pid : ℕ) (r : Result (Unit {0}) KernelFault) → IsWellFormed old → Exits old pid r new → ExitLeaves old pid r new
+
 -- a write that fails is counted, and no other
 pub record WritesCount : Type 0 where
   pub make : (old new : KernelState) (parent : Group) (name : List ℕ) (r : Result Group KernelError) → MakesGroup old parent name r new → new.failures ≡ old.failures + rise_or_memory r
@@ -122,6 +157,66 @@ pub record NothingAgainst (k : KernelState) : Type 0 where
 
 abbrev pub CallsAreFree : Type 0
 CallsAreFree = (k : KernelState) → NothingAgainst k
+
+-- what stands against a call that is refused by this; no call is refused by anything else
+abbrev pub MakeCause : KernelState → Group → List ℕ → KernelFault → Type 0
+MakeCause k parent name NoGroup = has_group k.tree parent ≡ false
+MakeCause k parent name Exists = is_some (child_of k.tree parent name) ≡ true
+MakeCause k parent name NoSerials = k.tree.next_serial ≡ SERIAL_LIMIT
+MakeCause k parent name fault = ⊥
+
+abbrev pub RemoveCause : KernelState → Group → KernelFault → Type 0
+RemoveCause k g NoGroup = has_group k.tree g ≡ false
+RemoveCause k g IsRoot = is_root k.tree g ≡ true
+RemoveCause k g HasChildren = has_children k.tree g ≡ true
+RemoveCause k g HasProcesses = 0 < count_in k.table g
+RemoveCause k g fault = ⊥
+
+abbrev pub WriteCause : KernelState → Group → KernelFault → Type 0
+WriteCause k g NoGroup = has_group k.tree g ≡ false
+WriteCause k g IsRoot = is_root k.tree g ≡ true
+WriteCause k g fault = ⊥
+
+abbrev pub SpawnCause : KernelState → Group → KernelFault → Type 0
+SpawnCause k g NoGroup = has_group k.tree g ≡ false
+SpawnCause k g NoPids = LAST_PID < k.table.next_pid
+SpawnCause k g fault = ⊥
+
+abbrev pub EndCause : KernelState → Group → KernelFault → Type 0
+EndCause k g NoGroup = has_group k.tree g ≡ false
+EndCause k g fault = ⊥
+
+abbrev pub ForkCause : KernelState → ℕ → KernelFault → Type 0
+ForkCause k parent NoProcess = is_alive k.table parent ≡ false
+ForkCause k parent NoPids = LAST_PID < k.table.next_pid
+ForkCause k parent fault = ⊥
+
+abbrev pub ExitCause : KernelState → ℕ → KernelFault → Type 0
+ExitCause k pid NoProcess = is_alive k.table pid ≡ false
+ExitCause k pid fault = ⊥
+
+abbrev pub OfflineCause : KernelState → ℕ → KernelFault → Type 0
+OfflineCause k cpu NoCpu = set.contains k.present cpu ≡ false
+OfflineCause k cpu Reserved = set.contains k.reserved cpu ≡ true
+OfflineCause k cpu fault = ⊥
+
+abbrev pub OnlineCause : KernelState → ℕ → KernelFault → Type 0
+OnlineCause k cpu NoCpu = set.contains k.present cpu ≡ false
+OnlineCause k cpu fault = ⊥
+
+pub record HasCauses (k : KernelState) : Type 0 where
+  pub make : (parent : Group) (name : List ℕ) (fault : KernelFault) → make_refusal k parent name ≡ Some fault → MakeCause k parent name fault
+  pub remove : (g : Group) (fault : KernelFault) → remove_refusal k g ≡ Some fault → RemoveCause k g fault
+  pub write : (g : Group) (fault : KernelFault) → write_refusal k g ≡ Some fault → WriteCause k g fault
+  pub spawn : (g : Group) (fault : KernelFault) → spawn_refusal k g ≡ Some fault → SpawnCause k g fault
+  pub end : (g : Group) (fault : KernelFault) → end_refusal k g ≡ Some fault → EndCause k g fault
+  pub fork : (parent : ℕ) (fault : KernelFault) → fork_refusal k parent ≡ Some fault → ForkCause k parent fault
+  pub exit : (pid : ℕ) (fault : KernelFault) → exit_refusal k pid ≡ Some fault → ExitCause k pid fault
+  pub offline : (cpu : ℕ) (fault : KernelFault) → offline_refusal k cpu ≡ Some fault → OfflineCause k cpu fault
+  pub online : (cpu : ℕ) (fault : KernelFault) → online_refusal k cpu ≡ Some fault → OnlineCause k cpu fault
+
+abbrev pub RefusalsHaveCauses : Type 0
+RefusalsHaveCauses = (k : KernelState) → HasCauses k
 
 -- each call leaves a kernel, and the machine's part of it, and gives no pid and no serial twice
 pub record StepKeeps (old new : KernelState) : Type 0 where
@@ -155,4 +250,5 @@ RunsKeep = (old new : KernelState) (calls : List Call) (replies : List (Result R
 
 abbrev pub FirstIsWellFormed : Type 0
 FirstIsWellFormed =
-    (present reserved online nodes : Ids) (first_pid : ℕ) (k : KernelState) → IsFirstKernel present reserved online nodes first_pid k → IsWellFormed k
+    (present reserved online nodes : Ids) (first_pid : ℕ) (k : KernelState) → reserved ≢ set.empty → set.is_subset reserved online ≡ true
+    → set.is_subset online present ≡ true → IsFirstKernel present reserved online nodes first_pid k → IsWellFormed k

@@ -22,4 +22,5 @@ pub mod Runs
 pub mod WellFormed
 pub mod Laws
 pub mod CaseLemmas
+pub mod RefusalLemmas
 pub mod KernelLemmas

@@ -1,13 +1,19 @@
-ghost use Rattle.kernel_model.specs.Laws.{EventsKeepGroups, WritesKeepProcesses, WritesKeepTree, WritesLeaveGroups, WritesCount, CallsAreFree, EachCaseKeeps, StepsKeep, RunsKeep, FirstIsWellFormed};
+ghost use Rattle.kernel_model.specs.Laws.{EventsKeepGroups, WritesKeepProcesses, WritesKeepTree, WritesLeaveGroups, CallsLeaveProcesses, WritesCount, CallsAreFree, RefusalsHaveCauses, EachCaseKeeps, StepsKeep, RunsKeep, FirstIsWellFormed};
 
-/// What events and writes leave of groups and processes, whatever they answer; nothing runs.
+/// What each call leaves of groups and processes, whatever it answers; nothing runs.
 pub fn cases()
     ensures events { EventsKeepGroups }
     ensures writes { WritesKeepProcesses }
-    ensures processes { WritesKeepTree }
+    ensures tree { WritesKeepTree }
     ensures groups { WritesLeaveGroups }
+    ensures processes { CallsLeaveProcesses }
     ensures count { WritesCount }
+{}
+
+/// When nothing stands against a call, and what does where it is refused; nothing runs.
+pub fn refusals()
     ensures free { CallsAreFree }
+    ensures causes { RefusalsHaveCauses }
 {}
 
 /// What each call and each list of calls keeps; nothing runs.

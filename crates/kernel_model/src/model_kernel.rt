@@ -9,6 +9,7 @@ use cpu_set::{CPU_LIMIT, IdSet};
 use cpuset_tree::{Group, Tree};
 use proctable::ProcTable;
 use std::alloc::{AllocError, Global};
+use std::marker::Model;
 
 /// A kernel in memory, of which no write fails.
 #[derive(Drop)]
@@ -17,6 +18,32 @@ pub struct ModelKernel {
     table: ProcTable,
     present: IdSet,
     reserved: IdSet,
+}
+
+impl Model for ModelKernel {
+    ghost use Rattle.kernel_model.specs.KernelState.{KernelState, kernel_code};
+
+    ghost Value = { KernelState };
+
+    ghost coded = { kernel_code };
+
+    ghost use Rattle.kernel_model.specs.WellFormed.{IsWellFormed};
+
+    ghost view = { λ k. record {
+      tree = k.tree;
+      table = k.table;
+      present = k.present;
+      reserved = k.reserved;
+      failures = 0;
+    } };
+
+    ghost invariant = { λ k. IsWellFormed (record {
+      tree = k.tree;
+      table = k.table;
+      present = k.present;
+      reserved = k.reserved;
+      failures = 0;
+    }) };
 }
 
 impl ModelKernel {
@@ -36,7 +63,7 @@ impl ModelKernel {
         requires online { set.is_subset online present ≡ true }
         requires low { 2 ≤ first_pid }
         requires high { first_pid ≤ LAST_PID }
-        ensures { IfOk result (λ k. IsFirstKernel present reserved online nodes first_pid (⟦<ModelKernel as Kernel>⟧.state k)) }
+        ensures { IfOk result (IsFirstKernel present reserved online nodes first_pid) }
     {
         Ok(ModelKernel {
             tree: Tree::new(alloc, online, nodes, 0)?,
@@ -59,13 +86,7 @@ fn present_cpu(present: &IdSet, cpu: u32) -> Option<u16>
 }
 
 impl Kernel for ModelKernel {
-    ghost state = { λ k. record {
-      tree = k.tree;
-      table = k.table;
-      present = k.present;
-      reserved = k.reserved;
-      failures = 0;
-    } };
+    ghost state = { λ k. k };
 
     fn make_group(&mut self, parent: Group, name: &str) -> Result<Group, KernelError> {
         Ok(self.tree.make(parent, name)?)
@@ -103,7 +124,6 @@ impl Kernel for ModelKernel {
     }
 
     fn root(&self) -> Group {
-        self.table.well_formed();
         self.tree.root()
     }
 
