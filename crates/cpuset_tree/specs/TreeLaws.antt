@@ -33,9 +33,10 @@ pub record IsRootEntry (s : TreeState) (g : Group) : Type 0 where
 abbrev pub RootIsThere : Type 0
 RootIsThere = (s : TreeState) (g : Group) → IsWellFormed s → root_of s ≡ Some g → IsRootEntry s g
 
--- a parent is there, and a group that is nobody's parent has no children
+-- a parent is there and was made before its children, and a group that is nobody's parent has no children
 abbrev pub ParentIsThere : Type 0
-ParentIsThere = (s : TreeState) (g p : Group) (e : GroupEntry) → IsWellFormed s → entry_of s g ≡ Some e → e.parent ≡ Some p → has_group s p ≡ true
+ParentIsThere =
+    (s : TreeState) (g p : Group) (e : GroupEntry) → IsWellFormed s → entry_of s g ≡ Some e → e.parent ≡ Some p → (has_group s p ≡ true) × (p.serial < g.serial)
 
 abbrev pub NoParentNoChildren : Type 0
 NoParentNoChildren =
@@ -140,6 +141,8 @@ WritesRequest = ((s : TreeState) (g : Group) (cpus : Ids) → CpusRequested s g 
 
 -- a new group requests nothing, and all others stay
 pub record GroupAdded (s new : TreeState) (parent : Group) (name : List ℕ) (g : Group) : Type 0 where
+  pub serial : g.serial ≡ s.next_serial
+  pub fresh : has_group s g ≡ false
   pub there : entry_of new g ≡ Some (new_entry g (Some parent) name)
   pub others : (p : Group) → same_group g p ≡ false → entry_of new p ≡ entry_of s p
   pub differs : (p : Group) → has_group s p ≡ true → same_group g p ≡ false

@@ -169,6 +169,8 @@ read_added read none s g parent name nothing fresh p =
 
 pub added_leaves : AddedLeaves
 added_leaves s new parent name g adds = subst (λ (n : TreeState). GroupAdded s n parent name g) (sym adds.added) (record {
+  serial = adds.serial;
+  fresh = adds.fresh;
   there = entry_of-with_group s g parent name;
   others = entry_of-with_group_other s g parent name;
   differs = λ p there. differs_from s g p adds.fresh there;
@@ -411,8 +413,26 @@ parent_among next (h ∷ older) (below, up, rest) g p e at of =
       | false ↦ λ is. ap is_some (entry_among-there h older p is) ∙ there
     ] refl
 
+-- and it is older
+parent_older : (next : ℕ) (groups : List GroupEntry) → IsFalling next groups → (g p : Group) (e : GroupEntry) → entry_among groups g ≡ Some e → e.parent ≡ Some p
+    → p.serial < g.serial
+parent_older next [] _ g p e at of = absurd (none-some e at)
+parent_older next (h ∷ older) (below, up, rest) g p e at of =
+    elim (same_group h.group g) as (λ t. same_group h.group g ≡ t → p.serial < g.serial) [
+      | true ↦ λ is.
+          let one : h ≡ e = same_Some h e (sym (entry_among-here h older g is) ∙ at) in
+          let lower : p.serial < h.group.serial =
+          serial_below h.group.serial older rest p (subst (λ (o : Option Group). ParentIsAmong o older) (ap (λ (x : GroupEntry). x.parent) one ∙ of) up) in
+          let same : h.group.serial ≡ g.serial = same_group-serial h.group g is in
+          omega arith
+      | false ↦ λ is. parent_older h.group.serial older rest g p e (sym (entry_among-there h older g is) ∙ at) of
+    ] refl
+
 pub parent_is_there : ParentIsThere
-parent_is_there s g p e well at of = parent_among s.next_serial s.groups well.falling g p e at of
+parent_is_there s g p e well at of = (
+  parent_among s.next_serial s.groups well.falling g p e at of,
+  parent_older s.next_serial s.groups well.falling g p e at of,
+)
 
 -- a child among the groups
 record FoundChild (groups : List GroupEntry) (g : Group) (next : ℕ) : Type 0 where
