@@ -60,7 +60,7 @@ pub row_offers_fit : (row : RowView) → row_fits row ≡ true → offers_fit ro
 unfolding row_fits
 row_offers_fit row fit = and_right _ _ (and_right _ _ fit)
 
-demand_small : (row : RowView) → row_fits row ≡ true → row.demand ≤ MAX_DEMAND
+pub demand_small : (row : RowView) → row_fits row ≡ true → row.demand ≤ MAX_DEMAND
 unfolding row_fits
 demand_small row fit = leb-true _ _ (and_left _ _ (and_right _ _ fit))
 

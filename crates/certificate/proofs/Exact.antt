@@ -12,6 +12,8 @@ use Rattle.faults.specs.First.{when, first_below}
 use Rattle.faults.proofs.FirstBelow.{first_below-none}
 use Rattle.cpu_set.specs.Ids.{Ids, IsDisjoint}
 use Rattle.cpu_set.specs.Members.{InRange}
+use Rattle.cpu_set.specs.Least.{least_that}
+use Rattle.cpu_set.specs.LeastLaws.{least-none, least-none_says}
 use Rattle.certificate.specs.RowView.{RowView}
 use Rattle.certificate.specs.PricesView.{PricesView}
 use Rattle.certificate.specs.Weight.{weight}
@@ -22,13 +24,12 @@ use Rattle.certificate.specs.IsBound.{IsValueOf}
 use Rattle.certificate.specs.IsLeast.{IsLeast}
 use Rattle.certificate.specs.IsProved.{IsProved}
 use Rattle.certificate.specs.Limits.{is_within_limits}
-use Rattle.certificate.specs.PlanFault.{least_cpu, is_not_allowed, row_fault, at_both, rows_fault, is_held, twice_fault, apart_fault, is_too_high, value_fault, values_fault, is_tight, plan_fault}
+use Rattle.certificate.specs.PlanFault.{is_not_allowed, row_fault, at_both, rows_fault, is_held, twice_fault, apart_fault, is_too_high, value_fault, values_fault, is_tight, plan_fault}
 use Rattle.certificate.specs.declared.price_lists.Price.{Price}
 use Rattle.certificate.specs.declared.check_faults.CheckFault.{CheckFault}
 use Rattle.certificate.specs.declared.check_faults.CheckFault.TheVariants.{BadProblem, WrongCount, NotAllowed, HeldTwice, ValueTooHigh, Gap}
 use Rattle.certificate.proofs.Tests.{not_true, not_both, both}
 use Rattle.certificate.proofs.LimitFacts.{limit_facts}
-use Rattle.certificate.proofs.LeastCpu.{least_none, least_none_says}
 use Rattle.certificate.proofs.Duality.{no_plan_below_bound}
 
 -- ---- no fault, in parts
@@ -101,17 +102,17 @@ pub row_fault-says : (k : ℕ) (row : RowView) (s : Ids) → InRange s → row_f
 unfolding row_fault
 row_fault-says k row s in_range none =
     let first = none_of_both (when (not (nat_eq (set.len s) row.demand)) (WrongCount k)) _ none in
-    let second = none_of_both (option_map (NotAllowed k) (least_cpu (is_not_allowed row s))) None first.1 in
+    let second = none_of_both (option_map (NotAllowed k) (least_that (is_not_allowed row s))) None first.1 in
     record {
       in_range = in_range;
       size = eqb-true _ _ (passed (nat_eq (set.len s) row.demand) (WrongCount k) first.0);
-      allowed = λ c member. no_weight (set.contains s c) (is_some (weight row c)) (least_none_says (is_not_allowed row s) (unmapped (NotAllowed k) _ second.0) c (in_range c member)) member;
+      allowed = λ c member. no_weight (set.contains s c) (is_some (weight row c)) (least-none_says (is_not_allowed row s) (unmapped (NotAllowed k) _ second.0) c (in_range c member)) member;
     }
 
 row_fault-none : (k : ℕ) (row : RowView) (s : Ids) → Meets row s → row_fault k row s ≡ None
 unfolding row_fault
 row_fault-none k row s meets =
-    rw (eq-eqb (set.len s) row.demand meets.size, least_none (is_not_allowed row s) (λ c is_cpu. has_weight (set.contains s c) (is_some (weight row c)) (meets.allowed c)))
+    rw (eq-eqb (set.len s) row.demand meets.size, least-none (is_not_allowed row s) (λ c is_cpu. has_weight (set.contains s c) (is_some (weight row c)) (meets.allowed c)))
     refl
 
 pub rows_fault-says : (rows : List RowView) (sets : List Ids) → length sets ≡ length rows → All InRange sets → rows_fault rows sets ≡ None → AllZip Meets rows sets
@@ -136,7 +137,7 @@ pub apart_below :
 apart_below sets n few in_range none i j d lt below c one other =
     let in_sets : j < length sets = omega arith in
     let never : (set.contains (get_or sets j set.empty) c && is_held (take j sets) c) ≡ false =
-    least_none_says (λ cpu. set.contains (get_or sets j set.empty) cpu && is_held (take j sets) cpu) (unmapped HeldTwice _ (none j below)) c (in_range j d in_sets c other) in
+    least-none_says (λ cpu. set.contains (get_or sets j set.empty) cpu && is_held (take j sets) cpu) (unmapped HeldTwice _ (none j below)) c (in_range j d in_sets c other) in
     let has : set.contains (get_or sets j set.empty) c ≡ true = ap (λ s. set.contains s c) (get_or_default sets j set.empty d in_sets) ∙ other in
     let held : is_held (take j sets) c ≡ true =
     list_any_at (λ s. set.contains s c) (take j sets) i d (rw length-take (omega arith)) (ap (λ s. set.contains s c) (get_or-take j sets i d lt) ∙ one) in
@@ -151,7 +152,7 @@ apart_fault-none : (sets : List Ids) → AllPairs IsDisjoint sets → apart_faul
 unfolding apart_fault
 apart_fault-none sets apart =
     first_below-none (length sets) (twice_fault sets)
-    (λ k lt. ap (option_map HeldTwice) (least_none _ (λ c is_cpu. not_both _ _ (λ here held. meets_none k lt c here held))))
+    (λ k lt. ap (option_map HeldTwice) (least-none _ (λ c is_cpu. not_both _ _ (λ here held. meets_none k lt c here held))))
   where
     meets_none : (k : ℕ) → k < length sets → (c : ℕ) → set.contains (get_or sets k set.empty) c ≡ true → is_held (take k sets) c ≡ true → ⊥
     meets_none k lt c here held =
@@ -165,7 +166,7 @@ apart_fault-none sets apart =
 
 pub value_fault-says : (prices : List Price) (k : ℕ) (row : RowView) (value : ℕ) → value_fault prices k row value ≡ None → IsValueOf prices row value
 value_fault-says prices k row value none = λ c w is_cpu w_is.
-    ltb-false _ _ (rw w_is at (least_none_says (is_too_high prices row value) (unmapped (ValueTooHigh k) _ none) c is_cpu))
+    ltb-false _ _ (rw w_is at (least-none_says (is_too_high prices row value) (unmapped (ValueTooHigh k) _ none) c is_cpu))
 
 low : (a : Option ℕ) (p value : ℕ) → ((w : ℕ) → a ≡ Some w → value ≤ w + p) → option_map_or (λ w. nat_lt (w + p) value) a false ≡ false
 low None p value below = refl
@@ -173,7 +174,7 @@ low (Some w) p value below = le-ltb (w + p) value (below w refl)
 
 value_fault-none : (prices : List Price) (k : ℕ) (row : RowView) (value : ℕ) → IsValueOf prices row value → value_fault prices k row value ≡ None
 value_fault-none prices k row value is_value =
-    ap (option_map (ValueTooHigh k)) (least_none (is_too_high prices row value) (λ c is_cpu. low (weight row c) (price prices c) value (λ w e. is_value c w is_cpu e)))
+    ap (option_map (ValueTooHigh k)) (least-none (is_too_high prices row value) (λ c is_cpu. low (weight row c) (price prices c) value (λ w e. is_value c w is_cpu e)))
 
 pub values_fault-says : (rows : List RowView) (values : List ℕ) (prices : List Price) → length values ≡ length rows → values_fault rows values prices ≡ None → AllZip (IsValueOf prices) rows values
 unfolding values_fault

@@ -1,17 +1,17 @@
 -- The faults of rows and their sets, place by place.
-use Rattle.std.proofs.Common.{◌≡◌, ℕ, ◌<◌, not, ◌&&◌, Option, MatchOption, IfSome, option_map, is_some, List, length, take, get_or, refl, ap, ◌∙◌, slice_index_or}
+use Rattle.std.proofs.Common.{◌≡◌, ℕ, ◌<◌, not, ◌&&◌, Option, option_map, is_some, List, length, take, get_or, refl, ap, ◌∙◌, slice_index_or}
 use Rattle.std.specs.FinSet as set
 use Rattle.std.proofs.lemmas.Option.{slice_get_read}
 use Rattle.std.proofs.lemmas.List.{get_or_default}
-use Rattle.cpu_set.specs.Ids.{Ids, NoneFrom, IsFirstFrom}
-use Rattle.cpu_set.specs.Members.{IsCpu}
+use Rattle.cpu_set.specs.Ids.{Ids}
+use Rattle.cpu_set.specs.Least.{least_that}
+use Rattle.cpu_set.specs.LeastLaws.{IsFirstOf, least-first}
 use Rattle.cpu_set.specs.Pointwise.{contains-intersection, contains-difference}
 use Rattle.certificate.specs.RowView.{RowView}
 use Rattle.certificate.specs.Weight.{weight}
-use Rattle.certificate.specs.PlanFault.{least_cpu, is_not_allowed, at_both, is_held, twice_fault}
+use Rattle.certificate.specs.PlanFault.{is_not_allowed, at_both, is_held, twice_fault}
 use Rattle.certificate.specs.declared.check_faults.CheckFault.{CheckFault}
 use Rattle.certificate.specs.declared.check_faults.CheckFault.TheVariants.{HeldTwice}
-use Rattle.certificate.proofs.LeastCpu.{least_is}
 
 -- what is said of the two elements at a place
 pub at_both_read :
@@ -24,20 +24,18 @@ at_both_read f xs ys k x y in_xs in_ys x_is y_is =
 pub not_allowed_is :
     (row : RowView) (s allowed : Ids) (first : Option ℕ)
     → ((c : ℕ) → set.contains allowed c ≡ is_some (weight row c))
-    → MatchOption first (NoneFrom (set.difference s allowed) 0) (λ n. IsFirstFrom (set.difference s allowed) 0 n)
-    → IfSome first (λ n. IsCpu n) → least_cpu (is_not_allowed row s) ≡ first
-not_allowed_is row s allowed first same here in_range =
-    least_is (is_not_allowed row s) (set.difference s allowed) first
-    (λ c is_cpu. contains-difference s allowed c ∙ ap (λ b. set.contains s c && not b) (same c)) here in_range
+    → IsFirstOf (set.difference s allowed) first → least_that (is_not_allowed row s) ≡ first
+not_allowed_is row s allowed first same is =
+    least-first (set.difference s allowed) (is_not_allowed row s) first
+    (λ c is_cpu. contains-difference s allowed c ∙ ap (λ b. set.contains s c && not b) (same c)) is
 
 -- the least CPU of a set that an earlier one has, by what meets the earlier ones
 pub twice_is :
     (sets : List Ids) (k : ℕ) (own held : Ids) (first : Option ℕ) → k < length sets → own ≡ get_or sets k own
     → ((c : ℕ) → set.contains held c ≡ is_held (take k sets) c)
-    → MatchOption first (NoneFrom (set.intersection own held) 0) (λ n. IsFirstFrom (set.intersection own held) 0 n)
-    → IfSome first (λ n. IsCpu n) → twice_fault sets k ≡ option_map HeldTwice first
-twice_is sets k own held first lt is same here in_range =
-    ap (option_map HeldTwice) (least_is _ (set.intersection own held) first (λ c is_cpu. each c) here in_range)
+    → IsFirstOf (set.intersection own held) first → twice_fault sets k ≡ option_map HeldTwice first
+twice_is sets k own held first lt is same is_first =
+    ap (option_map HeldTwice) (least-first (set.intersection own held) _ first (λ c is_cpu. each c) is_first)
   where
     own_is : own ≡ slice_index_or sets k set.empty
     own_is = is ∙ get_or_default sets k own set.empty lt

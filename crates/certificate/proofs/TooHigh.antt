@@ -1,133 +1,131 @@
 -- Where a value is above weight and price.
-use Rattle.std.proofs.Common.{◌≡◌, ◌≢◌, subst, MatchOption, IfSome, ℕ, ◌+◌, ◌<◌, ◌≤◌, Bool, true, false, cond, ◌&&◌, ◌||◌, Option, Some, option_map, List, [], ◌∷◌, refl, sym, ap, ◌∙◌, inl, inr, arith, nat_lt, nat_eq}
+use Rattle.std.proofs.Common.{◌≡◌, ℕ, ◌+◌, ◌-◌, ◌<◌, ◌≤◌, Bool, true, false, not, cond, ◌&&◌, ◌||◌, Option, Some, None, option_map, unwrap_or, List, [], ◌∷◌, take, drop, refl, sym, ap, ◌∙◌, arith, nat_le, nat_lt, take-append-drop}
 use Rattle.std.specs.Prelude.{find}
 use Rattle.std.specs.List.{list_any, list_all}
 use Rattle.std.specs.Option.{option_map_or}
 use Rattle.std.specs.FinSet as set
-use Rattle.std.proofs.lemmas.Bool.{eq-eqb, ne_eqb, cases_eq}
-use Rattle.cpu_set.specs.Ids.{Ids, NoneFrom, IsFirstFrom}
-use Rattle.cpu_set.specs.Members.{IsCpu}
-use Rattle.cpu_set.specs.Pointwise.{contains-insert}
+use Rattle.std.proofs.lemmas.Bool.{leb-true}
+use Rattle.std.proofs.lemmas.Bool.Decides.{nat_tests}
+use Rattle.std.proofs.lemmas.List.Folds.{list_any-append}
+use Rattle.cpu_set.specs.Ids.{Ids}
+use Rattle.cpu_set.specs.SetLaws.{none_of_empty}
 use Rattle.certificate.specs.RowView.{RowView}
-use Rattle.certificate.specs.Weight.{weight_in}
 use Rattle.certificate.specs.Price.{price}
-use Rattle.certificate.specs.Limits.{is_disjoint, are_apart, row_fits}
-use Rattle.certificate.specs.IsOfferTooHigh.{is_offer_too_high}
+use Rattle.certificate.specs.Limits.{is_disjoint, are_apart, row_fits, prices_fit}
+use Rattle.certificate.specs.IsOfferTooHigh.{is_offer_too_high, is_dear}
 use Rattle.certificate.specs.PlanFault.{is_too_high}
 use Rattle.certificate.specs.declared.rows.Offer.{Offer}
 use Rattle.certificate.specs.declared.price_lists.Price.{Price}
 use Rattle.certificate.proofs.Tests.{is_false, and_left, and_right, not_true}
 use Rattle.certificate.proofs.ApartTest.{is_in_one, is_disjoint-says}
-use Rattle.certificate.proofs.Walks.{IsAt, IsWalkAt, walk_on}
 use Rattle.certificate.proofs.CostSums.{offers_apart, row_offers_fit}
+use Rattle.certificate.proofs.PriceSums.{prices_apart}
 
-not_in_others :
-    (o : Offer) (offers : List Offer) (c : ℕ) → list_all (λ (p : Offer). is_disjoint o.cpus p.cpus) offers ≡ true → set.contains o.cpus c ≡ true
-    → is_in_one (λ (p : Offer). p.cpus) offers c ≡ false
-not_in_others o [] c clear has = refl
-not_in_others o (p ∷ offers) c clear has =
-    let here : set.contains p.cpus c ≡ false = is_false _ (λ both. is_disjoint-says o.cpus p.cpus (and_left _ _ clear) c has both) in
-    rw here (not_in_others o offers c (and_right _ _ clear) has)
+-- ---- things whose sets are apart
 
-none_above :
-    (prices : List Price) (value : ℕ) (offers : List Offer) (c : ℕ) → is_in_one (λ (p : Offer). p.cpus) offers c ≡ false
-    → list_any (λ o. is_offer_too_high prices value o c) offers ≡ false
-none_above prices value [] c none = refl
-none_above prices value (o ∷ offers) c none =
-    by_cases (set.contains o.cpus c) _ none (none_above prices value offers c)
-  where
-    by_cases :
-        (a b : Bool) → (a || is_in_one (λ (p : Offer). p.cpus) offers c) ≡ false
-        → (is_in_one (λ (p : Offer). p.cpus) offers c ≡ false → list_any (λ o. is_offer_too_high prices value o c) offers ≡ false)
-        → ((a && b) || list_any (λ o. is_offer_too_high prices value o c) offers) ≡ false
-    by_cases true b none rest = absurd (not_true _ none refl)
-    by_cases false b none rest = rest none
+module _ {A : Type 0} (set_of : A → Ids) (passes : A → Bool) (c : ℕ) where
+  not_in_others : (x : A) (xs : List A) → list_all (λ y. is_disjoint (set_of x) (set_of y)) xs ≡ true → set.contains (set_of x) c ≡ true → is_in_one set_of xs c ≡ false
+  not_in_others x [] clear has = refl
+  not_in_others x (y ∷ xs) clear has =
+      let here : set.contains (set_of y) c ≡ false = is_false _ (λ both. is_disjoint-says (set_of x) (set_of y) (and_left _ _ clear) c has both) in
+      rw here (not_in_others x xs (and_right _ _ clear) has)
 
-too_high_in :
-    (prices : List Price) (value : ℕ) (offers : List Offer) (c : ℕ) → are_apart (λ (p : Offer). p.cpus) offers ≡ true
-    → list_any (λ o. is_offer_too_high prices value o c) offers
-    ≡ option_map_or (λ w. nat_lt (w + price prices c) value) (weight_in offers c) false
-too_high_in prices value [] c apart = refl
-too_high_in prices value (o ∷ offers) c apart =
-    by_cases (set.contains o.cpus c) refl (too_high_in prices value offers c (and_right _ _ apart))
-  where
-    last : (b : Bool) → (b || false) ≡ b
-    last true = refl
-    last false = refl
+  -- one of them has the number and passes
+  abbrev pub one_passes : List A → Bool
+  one_passes xs = list_any (λ x. set.contains (set_of x) c && passes x) xs
 
-    by_cases :
-        (a : Bool) → set.contains o.cpus c ≡ a
-        → list_any (λ o. is_offer_too_high prices value o c) offers ≡ option_map_or (λ w. nat_lt (w + price prices c) value) (weight_in offers c) false
-        → ((a && nat_lt (o.weight + price prices c) value) || list_any (λ o. is_offer_too_high prices value o c) offers)
-        ≡ option_map_or (λ w. nat_lt (w + price prices c) value) (option_map (λ (p : Offer). p.weight) (cond a (Some o) (find (λ (p : Offer). set.contains p.cpus c) offers))) false
-    by_cases true has rest =
-        rw (none_above prices value offers c (not_in_others o offers c (and_left _ _ apart) has)) (last _)
-    by_cases false has rest = rest
+  none_passes : (xs : List A) → is_in_one set_of xs c ≡ false → one_passes xs ≡ false
+  none_passes [] none = refl
+  none_passes (x ∷ xs) none = by_cases (set.contains (set_of x) c) _ none (none_passes xs)
+    where
+      by_cases : (a b : Bool) → (a || is_in_one set_of xs c) ≡ false → (is_in_one set_of xs c ≡ false → one_passes xs ≡ false) → ((a && b) || one_passes xs) ≡ false
+      by_cases true b none rest = absurd (not_true _ none refl)
+      by_cases false b none rest = rest none
+
+  last : (b : Bool) → (b || false) ≡ b
+  last true = refl
+  last false = refl
+
+  -- where they are apart, it is the first that has the number
+  pub one_passes_first : (xs : List A) → are_apart set_of xs ≡ true → one_passes xs ≡ option_map_or passes (find (λ x. set.contains (set_of x) c) xs) false
+  one_passes_first [] apart = refl
+  one_passes_first (x ∷ xs) apart = by_cases (set.contains (set_of x) c) refl (one_passes_first xs (and_right _ _ apart))
+    where
+      by_cases :
+          (a : Bool) → set.contains (set_of x) c ≡ a → one_passes xs ≡ option_map_or passes (find (λ y. set.contains (set_of y) c) xs) false
+          → ((a && passes x) || one_passes xs) ≡ option_map_or passes (cond a (Some x) (find (λ y. set.contains (set_of y) c) xs)) false
+      by_cases true has rest = rw (none_passes xs (not_in_others x xs (and_left _ _ apart) has)) (last (passes x))
+      by_cases false has rest = rest
+
+-- ---- offers
+
+by_weight :
+    (p value : ℕ) (found : Option Offer)
+    → option_map_or (λ (o : Offer). nat_lt (o.weight + p) value) found false ≡ option_map_or (λ w. nat_lt (w + p) value) (option_map (λ (o : Offer). o.weight) found) false
+by_weight p value None = refl
+by_weight p value (Some o) = refl
 
 -- where no CPU is in two offers, one offer is below the value where the CPU's weight is
 pub too_high_is :
     (prices : List Price) (row : RowView) (value c : ℕ) → row_fits row ≡ true
     → list_any (λ o. is_offer_too_high prices value o c) row.offers ≡ is_too_high prices row value c
-too_high_is prices row value c fit = too_high_in prices value row.offers c (offers_apart row.offers (row_offers_fit row fit))
+too_high_is prices row value c fit =
+    one_passes_first (λ (o : Offer). o.cpus) (λ o. nat_lt (o.weight + price prices c) value) c row.offers (offers_apart row.offers (row_offers_fit row fit))
+    ∙ by_weight (price prices c) value (find (λ (o : Offer). set.contains o.cpus c) row.offers)
 
-module _ (prices : List Price) (value : ℕ) (offer : Offer) (old : Ids) where
-  -- what is marked so far: the CPU was, or it is one of the offer's where the value is too high
-  abbrev pub IsMarked : Ids → ℕ → Type 0
-  IsMarked found c = set.contains found c ≡ (set.contains old c || is_offer_too_high prices value offer c)
+-- no offer is too high that is not below the value with its weight alone
+pub never_too_high : (prices : List Price) (value : ℕ) (o : Offer) (s : Ids) (c : ℕ) → value ≤ o.weight → s ≡ set.empty → set.contains s c ≡ is_offer_too_high prices value o c
+never_too_high prices value o s c le empty = none_of_empty s empty c ∙ none_below (set.contains o.cpus c) o.weight (price prices c) le
+  where
+    none_below : (b : Bool) (w p : ℕ) → value ≤ w → false ≡ (b && nat_lt (w + p) value)
+    none_below b w p le = grind (arith, nat_tests)
 
-  abbrev pub IsAsBefore : Ids → ℕ → Type 0
-  IsAsBefore found c = set.contains found c ≡ set.contains old c
+pub less_than_the_rest : (w p value : ℕ) (b : Bool) → w < value → (b && nat_lt p (value - w)) ≡ (b && nat_lt (w + p) value)
+less_than_the_rest w p value b lt = grind (arith, nat_tests)
 
-  none_more : (a b lt : Bool) → a ≡ false → b ≡ (b || (a && lt))
-  none_more a true lt none = refl
-  none_more a false lt none = rw none refl
+-- ---- prices
 
-  -- a CPU that the offer has not stays as it was
-  pub skipped : (found : Ids) (c : ℕ) → set.contains offer.cpus c ≡ false → IsAsBefore found c → IsMarked found c
-  skipped found c not_there as_before = as_before ∙ none_more (set.contains offer.cpus c) (set.contains old c) _ not_there
+not_under_zero : (amount : ℕ) → 0 < amount → nat_le amount 0 ≡ false
+not_under_zero amount some = is_false _ (λ e. let le : amount ≤ 0 = leb-true amount 0 e in omega arith)
 
-  just_marked : (a b lt : Bool) → a ≡ true → ((lt && true) || b) ≡ (b || (a && lt))
-  just_marked a true true here = refl
-  just_marked a true false here = refl
-  just_marked a false true here = rw here refl
-  just_marked a false false here = rw here refl
+dear_is : (prices : List Price) (amount c : ℕ) → 0 < amount → prices_fit prices ≡ true → list_any (λ p. is_dear amount p c) prices ≡ nat_le amount (price prices c)
+dear_is prices amount c some fit =
+    one_passes_first (λ (p : Price). p.cpus) (λ p. nat_le amount p.amount) c prices (prices_apart prices fit)
+    ∙ by_price (find (λ (p : Price). set.contains p.cpus c) prices)
+  where
+    by_price : (found : Option Price) → option_map_or (λ (p : Price). nat_le amount p.amount) found false ≡ nat_le amount (unwrap_or (option_map (λ (p : Price). p.amount) found) 0)
+    by_price None = sym (not_under_zero amount some)
+    by_price (Some p) = refl
 
-  other : (lt b : Bool) (e : Bool) → e ≡ false → ((lt && e) || b) ≡ b
-  other true b e none = rw none refl
-  other false b e none = refl
+not_dear : (amount p : ℕ) → not (nat_le amount p) ≡ nat_lt p amount
+not_dear amount p = grind (arith, nat_tests)
 
-  module _ (found new : Ids) (n : ℕ) (new_is : (c : ℕ) → set.contains new c ≡ ((nat_lt (offer.weight + price prices n) value && nat_eq c n) || set.contains found c)) where
-    elsewhere : (c : ℕ) → c ≢ n → set.contains new c ≡ set.contains found c
-    elsewhere c differs = new_is c ∙ other _ _ _ (ne_eqb c n differs)
+-- what the dear prices leave of a set are the CPUs whose price is below the amount
+pub cheaper_is :
+    (prices : List Price) (amount c : ℕ) (b : Bool) → 0 < amount → prices_fit prices ≡ true
+    → (b && not (list_any (λ p. is_dear amount p c) prices)) ≡ (b && nat_lt (price prices c) amount)
+cheaper_is prices amount c b some fit = ap (λ a. b && not a) (dear_is prices amount c some fit) ∙ ap (λ a. b && a) (not_dear amount (price prices c))
 
-    at_member : set.contains offer.cpus n ≡ true → IsAsBefore found n → IsMarked new n
-    at_member here as_before =
-        new_is n ∙ ap (λ e. (nat_lt (offer.weight + price prices n) value && e) || set.contains found n) (eq-eqb n n refl)
-        ∙ ap (λ b. (nat_lt (offer.weight + price prices n) value && true) || b) as_before
-        ∙ just_marked (set.contains offer.cpus n) (set.contains old n) _ here
+-- where nothing is left the other prices leave nothing either
+pub nothing_left :
+    (test : Price → Bool) (prices : List Price) (k : ℕ) (b : Bool) → (b && not (list_any test (take k prices))) ≡ false
+    → (b && not (list_any test prices)) ≡ false
+nothing_left test prices k b none =
+    ap (λ xs. b && not (list_any test xs)) (sym (take-append-drop k prices))
+    ∙ ap (λ a. b && not a) (list_any-append test (take k prices) (drop k prices))
+    ∙ by_cases b (list_any test (take k prices)) _ none
+  where
+    by_cases : (b a d : Bool) → (b && not a) ≡ false → (b && not (a || d)) ≡ false
+    by_cases true true d none = refl
+    by_cases true false d none = absurd (not_true true none refl)
+    by_cases false a d none = refl
 
-    marked_before : IsAt offer.cpus n (IsMarked found) (IsAsBefore found) → (c : ℕ) → c < n + 1 → IsMarked new c
-    marked_before at c lt =
-        elim (cases_eq c n) [
-          | inl same ↦ subst (λ k. IsMarked new k) (sym same) (at_member at.member (at.from n (omega arith)))
-          | inr differs ↦ elsewhere c differs ∙ at.before c (omega arith)
-        ]
+-- one price more takes its CPUs where it is dear
+pub left_more : (a b d : Bool) → ((a && not b) && not d) ≡ (a && not (b || d))
+left_more true true d = refl
+left_more true false d = refl
+left_more false b d = refl
 
-    as_before_from : IsAt offer.cpus n (IsMarked found) (IsAsBefore found) → (c : ℕ) → n + 1 ≤ c → IsAsBefore new c
-    as_before_from at c le = elsewhere c (omega arith) ∙ at.from c (omega arith)
-
-    -- the walk goes on to the next member
-    pub marked_more :
-        (next : Option ℕ) → IsAt offer.cpus n (IsMarked found) (IsAsBefore found)
-        → MatchOption next (NoneFrom offer.cpus (n + 1)) (λ m. IsFirstFrom offer.cpus (n + 1) m) → IfSome next (λ m. IsCpu m)
-        → IsWalkAt offer.cpus next (IsMarked new) (IsAsBefore new)
-    marked_more next at first in_range =
-        walk_on offer.cpus (n + 1) next (IsMarked new) (IsAsBefore new) first in_range (marked_before at) (as_before_from at)
-        (skipped new)
-
--- one more CPU is marked, or none
-pub insert_is : (found new : Ids) (n c : ℕ) (lt : Bool) → lt ≡ true → new ≡ set.insert found n → set.contains new c ≡ ((lt && nat_eq c n) || set.contains found c)
-insert_is found new n c lt above is = rw (is, contains-insert found n c, above) refl
-
-pub same_is : (found new : Ids) (n c : ℕ) (lt : Bool) → lt ≡ false → new ≡ found → set.contains new c ≡ ((lt && nat_eq c n) || set.contains found c)
-same_is found new n c lt below is = rw (is, below) refl
+pub all_kept : (b : Bool) → b ≡ (b && true)
+all_kept true = refl
+all_kept false = refl

@@ -1,5 +1,5 @@
 -- Laws over the definitions alone.
-use Rattle.std.specs.Prelude.{◌≡◌, ℕ, ◌≤◌, Some, None, List, All}
+use Rattle.std.specs.Prelude.{◌≡◌, ℕ, ◌≤◌, None, List, All}
 use Rattle.cpu_set.specs.Ids.{Ids}
 use Rattle.cpu_set.specs.Members.{InRange}
 use Rattle.certificate.specs.RowView.{RowView}
@@ -11,8 +11,6 @@ use Rattle.certificate.specs.IsBound.{IsBound}
 use Rattle.certificate.specs.IsShortage.{IsShortage, HasNoPlan}
 use Rattle.certificate.specs.IsProved.{IsProved}
 use Rattle.certificate.specs.PlanFault.{plan_fault}
-use Rattle.certificate.specs.IsCause.{IsCause}
-use Rattle.certificate.specs.declared.check_faults.CheckFault.{CheckFault}
 use Rattle.certificate.specs.declared.price_lists.Price.{Price}
 
 -- no plan costs less than a bound, whatever the rows, values and prices
@@ -41,9 +39,3 @@ abbrev pub FaultlessIsProved : Type 0
 FaultlessIsProved =
     (rows : List RowView) (sets : List Ids) (prices : PricesView) → All InRange sets → plan_fault rows sets prices ≡ None
     → IsProved rows sets prices (cost rows sets)
-
--- each fault of sets of CPUs is the one that the refusal's words say
-abbrev pub EachFaultHasItsCause : Type 0
-EachFaultHasItsCause =
-    (rows : List RowView) (sets : List Ids) (prices : PricesView) (fault : CheckFault) → All InRange sets
-    → plan_fault rows sets prices ≡ Some fault → IsCause rows sets prices fault

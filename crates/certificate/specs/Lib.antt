@@ -10,9 +10,10 @@ pub mod IsBound
 pub mod IsShortage
 pub mod IsDealt
 pub mod Limits
-pub mod IsPriceTable
 pub mod IsOfferTooHigh
 pub mod IsProved
+pub mod IsShown
 pub mod PlanFault
+pub mod ShortageFault
 pub mod IsCause
 pub mod Laws

@@ -1,5 +1,5 @@
 -- What is checked at all: problems, plans and prices within these limits.
-use Rattle.std.specs.Prelude.{ℕ, Bool, true, ◌&&◌, ◌==◌, nat_le, List, [], ◌∷◌, length}
+use Rattle.std.specs.Prelude.{ℕ, Bool, true, ◌&&◌, ◌==◌, nat_le, nat_lt, List, [], ◌∷◌, length}
 use Rattle.std.specs.List.{list_all}
 use Rattle.std.specs.FinSet as set
 use Rattle.cpu_set.specs.Ids.{Ids}
@@ -34,8 +34,25 @@ prices_fit prices = list_all (λ p. nat_le p.amount MAX_AMOUNT) prices && are_ap
 abbrev pub values_fit : List ℕ → Bool
 values_fit values = list_all (λ v. nat_le v MAX_AMOUNT) values
 
--- not too many rows, one set and one value for each, and each within its limits
+-- not too many rows, and each within its limits
+unfoldable pub rows_fit : List RowView → Bool
+rows_fit rows = nat_le (length rows) MAX_ROWS && list_all row_fits rows
+
+-- all is within its limits, and there is one set and one value for each row
 unfoldable pub is_within_limits : List RowView → List Ids → PricesView → Bool
 is_within_limits rows sets prices =
-    nat_le (length rows) MAX_ROWS && (length sets == length rows && (length prices.values == length rows
-    && (list_all row_fits rows && (values_fit prices.values && prices_fit prices.of_cpu))))
+    rows_fit rows && (length sets == length rows && (length prices.values == length rows
+    && (values_fit prices.values && prices_fit prices.of_cpu)))
+
+-- each number is below all later ones
+abbrev pub is_rising : List ℕ → Bool
+is_rising [] = true
+is_rising (k ∷ ks) = list_all (nat_lt k) ks && is_rising ks
+
+-- numbers of some rows, each once, in rising order
+abbrev pub are_row_numbers : List RowView → List ℕ → Bool
+are_row_numbers rows members = is_rising members && list_all (λ k. nat_lt k (length rows)) members
+
+-- the rows are within their limits, and the members are numbers of some of them
+unfoldable pub is_shortage_within_limits : List RowView → List ℕ → Bool
+is_shortage_within_limits rows members = rows_fit rows && are_row_numbers rows members

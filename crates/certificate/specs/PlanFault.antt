@@ -1,11 +1,11 @@
 -- What is wrong with a plan and its prices: the checks in their order.
-use Rattle.std.specs.Prelude.{ℕ, ◌+◌, Bool, false, not, ◌&&◌, ◌==◌, nat_lt, List, [], ◌∷◌, length, take, slice_get, slice_index_or, Option, option_map, option_and_then, is_some, find}
+use Rattle.std.specs.Prelude.{ℕ, ◌+◌, Bool, false, not, ◌&&◌, ◌==◌, nat_lt, List, [], ◌∷◌, length, take, slice_get, slice_index_or, Option, option_map, option_and_then, is_some}
 use Rattle.std.specs.List.{list_any}
 use Rattle.std.specs.Option.{option_zip, option_map_or}
 use Rattle.std.specs.FinSet as set
 use Rattle.faults.specs.First.{when, first_of, first_below}
 use Rattle.cpu_set.specs.Ids.{Ids}
-use Rattle.cpu_set.specs.Members.{cpus}
+use Rattle.cpu_set.specs.Least.{least_that}
 use Rattle.certificate.specs.RowView.{RowView}
 use Rattle.certificate.specs.PricesView.{PricesView}
 use Rattle.certificate.specs.Weight.{weight}
@@ -17,10 +17,6 @@ use Rattle.certificate.specs.declared.price_lists.Price.{Price}
 use Rattle.certificate.specs.declared.check_faults.CheckFault.{CheckFault}
 use Rattle.certificate.specs.declared.check_faults.CheckFault.TheVariants.{BadProblem, WrongCount, NotAllowed, HeldTwice, ValueTooHigh, Gap}
 
--- the least CPU that passes the test
-abbrev pub least_cpu : (ℕ → Bool) → Option ℕ
-least_cpu test = find test cpus
-
 -- the set has the CPU, and the row has no weight for it
 abbrev pub is_not_allowed : RowView → Ids → ℕ → Bool
 is_not_allowed row s cpu = set.contains s cpu && not (is_some (weight row cpu))
@@ -29,7 +25,7 @@ is_not_allowed row s cpu = set.contains s cpu && not (is_some (weight row cpu))
 unfoldable pub row_fault : ℕ → RowView → Ids → Option CheckFault
 row_fault k row s = first_of (
     when (not (set.len s == row.demand)) (WrongCount k)
-    ∷ option_map (NotAllowed k) (least_cpu (is_not_allowed row s))
+    ∷ option_map (NotAllowed k) (least_that (is_not_allowed row s))
     ∷ [])
 
 -- what f says of the two elements at a place
@@ -47,7 +43,7 @@ is_held sets cpu = list_any (λ s. set.contains s cpu) sets
 -- set k has a CPU of an earlier set
 abbrev pub twice_fault : List Ids → ℕ → Option CheckFault
 twice_fault sets k =
-    option_map HeldTwice (least_cpu (λ cpu. set.contains (slice_index_or sets k set.empty) cpu && is_held (take k sets) cpu))
+    option_map HeldTwice (least_that (λ cpu. set.contains (slice_index_or sets k set.empty) cpu && is_held (take k sets) cpu))
 
 -- the first set that has a CPU of an earlier one
 unfoldable pub apart_fault : List Ids → Option CheckFault
@@ -59,7 +55,7 @@ is_too_high prices row value cpu = option_map_or (λ w. nat_lt (w + price prices
 
 -- row k and its value: the least CPU at which it is too high
 abbrev pub value_fault : List Price → ℕ → RowView → ℕ → Option CheckFault
-value_fault prices k row value = option_map (ValueTooHigh k) (least_cpu (is_too_high prices row value))
+value_fault prices k row value = option_map (ValueTooHigh k) (least_that (is_too_high prices row value))
 
 -- the first row whose value is too high
 unfoldable pub values_fault : List RowView → List ℕ → List Price → Option CheckFault

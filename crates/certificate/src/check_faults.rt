@@ -1,10 +1,10 @@
-/// Why a certificate is refused: the first cause that stands, in the order of this list.
+/// Why a plan or a shortage is refused: the first cause that stands, in the order of this list.
 #[derive(Clone, Copy, Debug, PartialEq, Eq)]
 pub enum CheckFault {
     /// E70: more rows than [`MAX_ROWS`](crate::MAX_ROWS), a demand not 1 to
     /// [`MAX_DEMAND`](crate::MAX_DEMAND), a weight above [`MAX_WEIGHT`](crate::MAX_WEIGHT), a value or an
-    /// amount above [`MAX_AMOUNT`](crate::MAX_AMOUNT), a CPU in two offers of a row or in two prices, or
-    /// not one set and one value for each row.
+    /// amount above [`MAX_AMOUNT`](crate::MAX_AMOUNT), a CPU in two offers of a row or in two prices,
+    /// not one set and one value for each row, or members that are not row numbers in rising order.
     BadProblem,
     /// E71: the row's set has not as many CPUs as the row asks for.
     WrongCount { row: usize },
@@ -17,4 +17,6 @@ pub enum CheckFault {
     ValueTooHigh { row: usize, cpu: u16 },
     /// E75: the bound that values and prices give is not the plan's cost.
     Gap,
+    /// E76: the members ask together for no more CPUs than the union of their offers has.
+    NoShortage,
 }

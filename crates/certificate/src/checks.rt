@@ -1,15 +1,15 @@
 //! The check of a plan by its values and prices.
-ghost use Rattle.std.specs.Prelude.{◌≡◌, ℕ, All, IfOk, OnOk};
+ghost use Rattle.std.specs.Prelude.{◌≡◌, ℕ, All, IfOk, IfErr, OnOk};
 ghost use Rattle.std.specs.Result.{result_err};
 ghost use Rattle.cpu_set.specs.Members.{InRange};
 ghost use Rattle.certificate.specs.Cost.{cost};
 ghost use Rattle.certificate.specs.IsLeast.{IsLeast};
 ghost use Rattle.certificate.specs.IsProved.{IsProved};
+ghost use Rattle.certificate.specs.IsCause.{IsCause};
 ghost use Rattle.certificate.specs.PlanFault.{plan_fault};
 
-use crate::costs::{plan_cost, worth};
+use crate::costs::{plan_cost, price_sum, worth};
 use crate::limit_checks::is_within_limits;
-use crate::price_table::PriceTable;
 use crate::row_checks::{check_apart, check_rows};
 use crate::value_checks::check_values;
 use crate::{CheckFault, Plan, Prices, Problem, Row};
@@ -17,9 +17,9 @@ use cpu_set::IdSet;
 
 /// Checks that a plan is of least cost, by values and prices: the plan's cost, or the first cause why not.
 ///
-/// The causes come in the order of [`CheckFault`]. Takes no memory. Each set is passed whole, or once
-/// from end to end, so the work is linear in the offers, prices and rows together, times the CPUs of
-/// a set.
+/// The causes come in the order of [`CheckFault`], the last of which is none of a plan. Takes no memory.
+/// Each set is passed whole, most of them once: only an offer whose weight is below its row's value
+/// meets the prices, one after another, until none of its CPUs is left to be priced.
 pub fn check_plan(problem: &Problem, plan: &Plan, prices: &Prices) -> Result<u64, CheckFault>
     // A yes: within the limits, a plan of this cost, and values and prices give the same number as a bound.
     ensures proved { IfOk result (λ total. IsProved problem.now plan.now prices.now total) }
@@ -33,6 +33,10 @@ pub fn check_plan(problem: &Problem, plan: &Plan, prices: &Prices) -> Result<u64
 
     // A no: the first fault in the order of the checks.
     ensures fault { plan_fault problem.now plan.now prices.now ≡ result_err result }
+
+    // And its cause stands: the least such CPU of the first such row, and all that is checked before
+    // it is in order.
+    ensures cause { IfErr result (λ fault. IsCause problem.now plan.now prices.now fault) }
 {
     checked_cost(problem.rows.as_slice(), plan.sets.as_slice(), prices)
 }
@@ -43,6 +47,7 @@ fn checked_cost(rows: &[Row], sets: &[IdSet], prices: &Prices) -> Result<u64, Ch
     ensures fault { plan_fault rows.now sets.now prices.now ≡ result_err result }
     ensures cost { IfOk result (λ total. total ≡ cost rows.now sets.now) }
     ensures in_range { OnOk result (All InRange sets.now) }
+    ensures cause { IfErr result (λ fault. IsCause rows.now sets.now prices.now fault) }
 {
     if !is_within_limits(rows, sets, prices) {
         return Err(CheckFault::BadProblem);
@@ -50,10 +55,10 @@ fn checked_cost(rows: &[Row], sets: &[IdSet], prices: &Prices) -> Result<u64, Ch
     check_rows(rows, sets)?;
     check_apart(sets)?;
     let values = prices.values.as_slice();
-    let by_cpu = PriceTable::new(prices.of_cpu.as_slice());
-    check_values(rows, values, &by_cpu)?;
+    let of_cpu = prices.of_cpu.as_slice();
+    check_values(rows, values, of_cpu)?;
     let total = plan_cost(rows, sets);
-    if worth(rows, values) != total + by_cpu.total() {
+    if worth(rows, values) != total + price_sum(of_cpu) {
         return Err(CheckFault::Gap);
     }
     Ok(total)

@@ -5,9 +5,10 @@ ghost use Rattle.cpu_set.specs.Members.{members};
 ghost use Rattle.certificate.specs.Weight.{weight_in};
 ghost use Rattle.certificate.specs.Cost.{row_cost, cost};
 ghost use Rattle.certificate.specs.IsBound.{worth};
-ghost use Rattle.certificate.specs.Limits.{offers_fit, row_fits, values_fit};
+ghost use Rattle.certificate.specs.Price.{all_prices};
+ghost use Rattle.certificate.specs.Limits.{offers_fit, row_fits, values_fit, prices_fit};
 
-use crate::{MAX_AMOUNT, MAX_DEMAND, MAX_ROWS, MAX_WEIGHT, Offer, Row};
+use crate::{MAX_AMOUNT, MAX_DEMAND, MAX_ROWS, MAX_WEIGHT, Offer, Price, Row};
 use cpu_set::{CPU_LIMIT, IdSet};
 
 /// What a plan costs.
@@ -44,6 +45,19 @@ fn offers_cost(offers: &[Offer], held: &IdSet) -> u64
         cost += u64::from(offer.weight) * u64::from(held.meet(&offer.cpus).count());
     }
     cost
+}
+
+/// The prices of all CPUs, summed price by price: no CPU has two.
+pub(crate) fn price_sum(prices: &[Price]) -> u64
+    requires { IsTrue (prices_fit prices.now) }
+    ensures sum { result ≡ all_prices prices.now }
+    ensures small { result ≤ CPU_LIMIT * MAX_AMOUNT }
+{
+    let mut sum = 0;
+    for price in prices {
+        sum += price.amount * u64::from(price.cpus.count());
+    }
+    sum
 }
 
 /// Demand times value, summed over the rows.

@@ -1,5 +1,8 @@
 //! Laws over the definitions alone: nothing here runs.
-ghost use Rattle.certificate.specs.Laws.{NoPlanBelowBound, ProvedIsLeast, ShortageLeavesNoPlan, ProvedHasNoFault, FaultlessIsProved, EachFaultHasItsCause};
+ghost use Rattle.std.specs.Prelude.{◌≡◌};
+ghost use Rattle.certificate.specs.Laws.{NoPlanBelowBound, ProvedIsLeast, ShortageLeavesNoPlan, ProvedHasNoFault, FaultlessIsProved};
+
+use crate::{MAX_AMOUNT, MAX_DEMAND, MAX_ROWS, MAX_WEIGHT};
 
 /// Weak duality: no plan costs less than a bound, for any rows, values and prices. Hence a plan whose
 /// cost is such a bound is least.
@@ -20,8 +23,10 @@ pub fn what_is_proved_has_no_fault()
     ensures proved { FaultlessIsProved }
 {}
 
-/// What a fault of [`check_plan`](crate::check_plan) says of sets of CPUs: its cause stands, with the
-/// least such CPU of the first such row, and all that is checked before it is in order.
-pub fn each_fault_has_its_cause()
-    ensures { EachFaultHasItsCause }
+/// The limits: 256 rows, 1,024 CPUs that a row asks for, weights below 2^25, values and prices up to 2^40.
+pub fn the_limits()
+    ensures rows { MAX_ROWS ≡ 256 }
+    ensures demand { MAX_DEMAND ≡ 1_024 }
+    ensures weight { MAX_WEIGHT ≡ 33_554_431 }
+    ensures amount { MAX_AMOUNT ≡ 1_099_511_627_776 }
 {}

@@ -1,33 +1,35 @@
 //! Plans of CPUs that prove themselves: a problem, a plan, the prices that show that no plan costs less,
-//! and the check of all three.
+//! and the check of all three; and shortages, where no plan exists.
 //!
 //! Nothing here knows how a plan was found. Whoever wrote a certificate, a yes of [`check_plan`] means
 //! that the plan is one of the least cost: the prices give a lower bound on the cost of every plan, and
-//! the plan's own cost is that bound.
+//! the plan's own cost is that bound. A yes of [`check_shortage`] means that no plan exists: the rows that it
+//! names ask together for more CPUs than the union of their offers has.
 #![tactic(auto)]
 
 mod check_faults;
 mod checks;
 mod costs;
+mod has_cpus;
 mod laws;
 mod limit_checks;
 mod limits;
 mod plans;
 mod price_lists;
-mod price_table;
 mod problems;
 mod row_checks;
 mod rows;
+mod shortages;
 mod value_checks;
 
 pub use check_faults::CheckFault;
 pub use checks::check_plan;
 pub use laws::{
-    a_shortage_leaves_no_plan, each_fault_has_its_cause, no_plan_is_below_a_bound,
-    what_is_proved_has_no_fault,
+    a_shortage_leaves_no_plan, no_plan_is_below_a_bound, the_limits, what_is_proved_has_no_fault,
 };
 pub use limits::{MAX_AMOUNT, MAX_DEMAND, MAX_ROWS, MAX_WEIGHT};
 pub use plans::Plan;
 pub use price_lists::{Price, Prices};
 pub use problems::Problem;
 pub use rows::{Offer, Row};
+pub use shortages::check_shortage;

@@ -1,8 +1,9 @@
-//! The test that a problem, a plan and its prices can be checked at all.
-ghost use Rattle.std.specs.Prelude.{◌≡◌, nat_le};
+//! The test that a problem, a plan and its prices, or the members of a shortage, can be checked at all.
+ghost use Rattle.std.specs.Prelude.{◌≡◌, nat_le, nat_lt, length};
 ghost use Rattle.std.specs.List.{list_all};
-ghost use Rattle.certificate.specs.Limits.{are_apart, offers_fit, row_fits, prices_fit, values_fit, is_within_limits};
+ghost use Rattle.certificate.specs.Limits.{are_apart, offers_fit, row_fits, rows_fit, prices_fit, values_fit, is_within_limits, is_rising, are_row_numbers, is_shortage_within_limits};
 
+use crate::has_cpus::HasCpus;
 use crate::{MAX_AMOUNT, MAX_DEMAND, MAX_ROWS, MAX_WEIGHT, Offer, Price, Prices, Row};
 use cpu_set::IdSet;
 
@@ -13,25 +14,42 @@ pub(crate) fn is_within_limits(rows: &[Row], sets: &[IdSet], prices: &Prices) ->
     ensures { result ≡ is_within_limits rows.now sets.now prices.now }
 {
     let values = prices.values.as_slice();
-    if rows.len() > MAX_ROWS {
-        return false;
-    }
-    if sets.len() != rows.len() {
-        return false;
-    }
-    if values.len() != rows.len() {
-        return false;
-    }
-    if !rows_fit(rows) {
-        return false;
-    }
-    if !values_fit(values) {
-        return false;
-    }
-    prices_fit(prices.of_cpu.as_slice())
+    rows_fit(rows)
+        && sets.len() == rows.len()
+        && values.len() == rows.len()
+        && values_fit(values)
+        && prices_fit(prices.of_cpu.as_slice())
 }
 
+/// Whether a shortage can be checked at all: no row is past its limit, and the members are numbers of
+/// rows in rising order.
+#[tactic(auto, unfolding(crate::specs::Limits::is_shortage_within_limits))]
+pub(crate) fn is_shortage_within_limits(rows: &[Row], members: &[usize]) -> bool
+    ensures { result ≡ is_shortage_within_limits rows.now members.now }
+{
+    rows_fit(rows) && is_rising(members) && are_below(members, rows.len())
+}
+
+fn is_rising(members: &[usize]) -> bool
+    ensures { result ≡ is_rising members.now }
+{
+    members.is_sorted_by(|k, next| *k < *next)
+}
+
+fn are_below(members: &[usize], count: usize) -> bool
+    ensures { result ≡ list_all (λ k. nat_lt k count) members.now }
+{
+    members.iter().all(|k| *k < count)
+}
+
+#[tactic(auto, unfolding(crate::specs::Limits::rows_fit))]
 fn rows_fit(rows: &[Row]) -> bool
+    ensures { result ≡ rows_fit rows.now }
+{
+    rows.len() <= MAX_ROWS && each_row_fits(rows)
+}
+
+fn each_row_fits(rows: &[Row]) -> bool
     ensures { result ≡ list_all row_fits rows.now }
 {
     rows.iter().all(|row| row_fits(row))
@@ -41,42 +59,20 @@ fn rows_fit(rows: &[Row]) -> bool
 fn row_fits(row: &Row) -> bool
     ensures { result ≡ row_fits row.now }
 {
-    if row.demand < 1 {
-        return false;
-    }
-    if row.demand > MAX_DEMAND {
-        return false;
-    }
-    offers_fit(row.offers.as_slice())
+    1 <= row.demand && row.demand <= MAX_DEMAND && offers_fit(row.offers.as_slice())
 }
 
 #[tactic(auto, unfolding(crate::specs::Limits::offers_fit))]
 fn offers_fit(offers: &[Offer]) -> bool
     ensures { result ≡ offers_fit offers.now }
 {
-    if !weights_fit(offers) {
-        return false;
-    }
-    are_offers_apart(offers)
+    weights_fit(offers) && are_apart(offers)
 }
 
 fn weights_fit(offers: &[Offer]) -> bool
     ensures { result ≡ list_all (λ o. nat_le o.weight MAX_WEIGHT) offers.now }
 {
     offers.iter().all(|offer| offer.weight <= MAX_WEIGHT)
-}
-
-fn are_offers_apart(offers: &[Offer]) -> bool
-    ensures { result ≡ are_apart (λ o. o.cpus) offers.now }
-{
-    let mut seen = IdSet::empty();
-    for offer in offers {
-        if !seen.is_disjoint(&offer.cpus) {
-            return false;
-        }
-        seen = seen.union(&offer.cpus);
-    }
-    true
 }
 
 fn values_fit(values: &[u64]) -> bool
@@ -89,10 +85,7 @@ fn values_fit(values: &[u64]) -> bool
 fn prices_fit(prices: &[Price]) -> bool
     ensures { result ≡ prices_fit prices.now }
 {
-    if !amounts_fit(prices) {
-        return false;
-    }
-    are_prices_apart(prices)
+    amounts_fit(prices) && are_apart(prices)
 }
 
 fn amounts_fit(prices: &[Price]) -> bool
@@ -101,15 +94,16 @@ fn amounts_fit(prices: &[Price]) -> bool
     prices.iter().all(|price| price.amount <= MAX_AMOUNT)
 }
 
-fn are_prices_apart(prices: &[Price]) -> bool
-    ensures { result ≡ are_apart (λ p. p.cpus) prices.now }
+/// Whether no CPU is in two of them.
+fn are_apart<T: HasCpus>(items: &[T]) -> bool
+    ensures { result ≡ are_apart T.set_of items.now }
 {
     let mut seen = IdSet::empty();
-    for price in prices {
-        if !seen.is_disjoint(&price.cpus) {
+    for item in items {
+        if !seen.is_disjoint(item.cpus()) {
             return false;
         }
-        seen = seen.union(&price.cpus);
+        seen = seen.union(item.cpus());
     }
     true
 }

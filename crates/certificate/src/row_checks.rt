@@ -1,10 +1,12 @@
 //! The checks of a plan's sets: each row by itself, and no CPU in two rows.
-ghost use Rattle.std.specs.Prelude.{◌≡◌, ℕ, length, is_some, All, OnOk};
+ghost use Rattle.std.specs.Prelude.{◌≡◌, ℕ, length, is_some, All, OnOk, IfErr};
 ghost use Rattle.std.specs.Result.{result_err};
 ghost use Rattle.std.specs.FinSet as set;
 ghost use Rattle.cpu_set.specs.Members.{InRange};
+ghost use Rattle.cpu_set.specs.Least.{least_that};
 ghost use Rattle.certificate.specs.Weight.{weight_in};
-ghost use Rattle.certificate.specs.PlanFault.{least_cpu, is_not_allowed, row_fault, rows_fault, apart_fault};
+ghost use Rattle.certificate.specs.IsCause.{IsRowsCause};
+ghost use Rattle.certificate.specs.PlanFault.{is_not_allowed, row_fault, rows_fault, apart_fault};
 
 use crate::{CheckFault, Offer, Row};
 use cpu_set::IdSet;
@@ -14,6 +16,7 @@ pub(crate) fn check_rows(rows: &[Row], sets: &[IdSet]) -> Result<(), CheckFault>
     requires { length sets.now ≡ length rows.now }
     ensures fault { rows_fault rows.now sets.now ≡ result_err result }
     ensures in_range { OnOk result (All InRange sets.now) }
+    ensures cause { IfErr result (λ fault. IsRowsCause rows.now sets.now fault) }
 {
     for (k, row) in rows.iter().enumerate() {
         check_row(k, row, &sets[k])?;
@@ -38,13 +41,13 @@ fn check_row(k: usize, row: &Row, held: &IdSet) -> Result<(), CheckFault>
 
 /// The least CPU of the set that no offer of the row has.
 fn first_not_allowed(row: &Row, held: &IdSet) -> Option<u16>
-    ensures { result ≡ least_cpu (is_not_allowed row.now held.now) }
+    ensures { result ≡ least_that (is_not_allowed row.now held.now) }
 {
     held.minus(&allowed_cpus(row.offers.as_slice())).first()
 }
 
 /// The CPUs that are in one of the offers.
-fn allowed_cpus(offers: &[Offer]) -> IdSet
+pub(crate) fn allowed_cpus(offers: &[Offer]) -> IdSet
     ensures { (cpu : ℕ) → set.contains result cpu ≡ is_some (weight_in offers.now cpu) }
 {
     let mut allowed = IdSet::empty();

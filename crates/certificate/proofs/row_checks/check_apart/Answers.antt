@@ -16,7 +16,7 @@ returns-in-Some c =
     first_below-at _ _ (twice_fault c.args.sets.now) (HeldTwice c.in-Some.cpu) c.loop-own-test.true c.loop-own.invariant.none
     (twice_is c.args.sets.now c.loop-own.own-index c.own-item.result c.loop-own.held (Some c.in-Some.cpu)
     c.loop-own-test.true c.own-item.is c.loop-own.invariant.same
-    (rw (← c.meet.ensures) c.in-Some.ensures.first) c.in-Some.ensures.in_range)
+    (rw (← c.meet.ensures) c.in-Some.ensures.first, c.in-Some.ensures.in_range))
 
 pub loop-own-preserved : goal.loop-own-preserved
 loop-own-preserved c = rw c.union-held.ensures (record {
@@ -24,7 +24,7 @@ loop-own-preserved c = rw c.union-held.ensures (record {
   none = below_more _ _ c.loop-own.invariant.none
       (twice_is c.args.sets.now c.loop-own.own-index c.own-item.result c.loop-own.held c.first.result
       c.loop-own-test.true c.own-item.is c.loop-own.invariant.same
-      (rw (← c.meet.ensures) c.first.ensures.first) c.first.ensures.in_range
+      (rw (← c.meet.ensures) c.first.ensures.first, c.first.ensures.in_range)
       ∙ ap (option_map HeldTwice) c.in_default.is);
 })
 

@@ -1,0 +1,48 @@
+-- Numbers that rise.
+use Rattle.std.proofs.Common.{◌≡◌, ℕ, zero, suc, ◌+◌, ◌<◌, ◌≤◌, Bool, true, false, List, [], ◌∷◌, length, get_or, refl, sym, subst, arith, All, nat_lt}
+use Rattle.std.specs.List.{AllPairs, IsAllAdjacentAnswer}
+use Rattle.std.specs.List.Sorted.{IsStrictlyIncreasing}
+use Rattle.std.proofs.Math.Numerals.{add-one}
+use Rattle.std.proofs.lemmas.Bool.{ltb-true, lt-ltb}
+use Rattle.std.proofs.lemmas.List.Kept.{AllPairs-from_increasing, AllPairs-cons}
+use Rattle.std.proofs.lemmas.List.Sums.{AllPass-from_list_all, list_all-from_AllPass}
+use Rattle.certificate.specs.Limits.{is_rising}
+use Rattle.certificate.proofs.Tests.{is_false, not_true, both, and_left, and_right}
+
+rising_pairs : (ks : List ℕ) → is_rising ks ≡ true → AllPairs (λ x y. x < y) ks
+rising_pairs [] e = λ i j d lt below. absurd (omega arith)
+rising_pairs (k ∷ ks) e =
+    AllPairs-cons (λ x y. x < y) k ks (λ i d lt. ltb-true _ _ (AllPass-from_list_all (nat_lt k) ks (and_left _ _ e) i d lt))
+    (rising_pairs ks (and_right _ _ e))
+
+pairs_rising : (ks : List ℕ) → AllPairs (λ x y. x < y) ks → is_rising ks ≡ true
+pairs_rising [] pairs = refl
+pairs_rising (k ∷ ks) pairs =
+    both _ _ (list_all-from_AllPass (nat_lt k) ks (λ i d lt. lt-ltb _ _ (pairs 0 (suc i) d (omega arith) (omega arith))))
+    (pairs_rising ks (λ i j d lt below. pairs (suc i) (suc j) d (omega arith) (omega arith)))
+
+pub is_rising-says : (ks : List ℕ) → is_rising ks ≡ true → IsStrictlyIncreasing ks
+is_rising-says ks e = λ k lt. rising_pairs ks e k (k + 1) 0 (omega arith) lt
+
+pub is_rising-true : (ks : List ℕ) → IsStrictlyIncreasing ks → is_rising ks ≡ true
+is_rising-true ks rising = pairs_rising ks (AllPairs-from_increasing ks rising)
+
+-- what a walk of neighbours answers
+pub is_rising-answer : (ks : List ℕ) (r : Bool) → IsAllAdjacentAnswer (λ x y b. b ≡ nat_lt x y) ks r → r ≡ is_rising ks
+is_rising-answer ks true all = sym (is_rising-true ks (λ k lt. ltb-true _ _ (sym (all k 0 lt))))
+is_rising-answer ks false one =
+    sym (is_false _ (λ e. not_true _ (sym (one.2 0)) (lt-ltb _ _ (is_rising-says ks e one.0 one.1))))
+
+at_least : (ks : List ℕ) → IsStrictlyIncreasing ks → (i : ℕ) → i < length ks → i ≤ get_or ks i 0
+at_least ks rising zero lt = omega arith
+at_least ks rising (suc i) lt =
+    let next : get_or ks i 0 < get_or ks (suc i) 0 = subst (λ j. get_or ks i 0 < get_or ks j 0) (add-one i) (rising i (omega arith)) in
+    omega (arith, at_least ks rising i (omega arith))
+
+-- there are no more of them than numbers below their limit
+pub few_numbers : (ks : List ℕ) (n : ℕ) → IsStrictlyIncreasing ks → All (λ k. k < n) ks → length ks ≤ n
+few_numbers ks n rising below = by_length (length ks) (omega arith)
+  where
+    by_length : (m : ℕ) → m ≤ length ks → m ≤ n
+    by_length zero le = omega arith
+    by_length (suc m) le = omega (arith, at_least ks rising m (omega arith), below m 0 (omega arith))
