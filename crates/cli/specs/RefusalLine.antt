@@ -6,7 +6,7 @@ use Rattle.cpu_list.specs.declared.list_error.ListErrorKind.TheVariants.{BadItem
 use Rattle.slit.specs.declared.fault.SlitFault.{SlitFault}
 use Rattle.slit.specs.declared.fault.SlitFault.TheVariants.{TooShort, BadSignature, BadCount, BadLength, BadSum, ReservedValue, BadDiagonal}
 use Rattle.certificate.specs.declared.check_faults.CheckFault.{CheckFault}
-use Rattle.certificate.specs.declared.check_faults.CheckFault.TheVariants.{BadProblem, WrongCount, NotAllowed, HeldTwice, ValueTooHigh, Gap}
+use Rattle.certificate.specs.declared.check_faults.CheckFault.TheVariants.{BadProblem, WrongCount, NotAllowed, HeldTwice, ValueTooHigh, Gap, NoShortage}
 use Rattle.cli.specs.declared.refusal.Arguments.{Arguments}
 use Rattle.cli.specs.declared.refusal.Arguments.TheVariants as arguments
 use Rattle.cli.specs.declared.refusal.Refusal.{Refusal}
@@ -46,6 +46,7 @@ check_title_of (NotAllowed row cpu) = codes "E72 NotAllowed"
 check_title_of (HeldTwice cpu) = codes "E73 HeldTwice"
 check_title_of (ValueTooHigh row cpu) = codes "E74 ValueTooHigh"
 check_title_of Gap = codes "E75 Gap"
+check_title_of NoShortage = codes "E76 NoShortage"
 
 -- where the check found it: the row, the CPU, or the row and then the CPU
 abbrev pub check_arguments_of : CheckFault → List ℕ
@@ -55,6 +56,7 @@ check_arguments_of (NotAllowed row cpu) = row ∷ cpu ∷ []
 check_arguments_of (HeldTwice cpu) = cpu ∷ []
 check_arguments_of (ValueTooHigh row cpu) = row ∷ cpu ∷ []
 check_arguments_of Gap = []
+check_arguments_of NoShortage = []
 
 -- the number and the name of a refusal
 abbrev pub title_of : Refusal → List ℕ

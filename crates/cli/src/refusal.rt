@@ -161,6 +161,7 @@ fn check_title(fault: CheckFault) -> &'static str
         CheckFault::HeldTwice { .. } => "E73 HeldTwice",
         CheckFault::ValueTooHigh { .. } => "E74 ValueTooHigh",
         CheckFault::Gap => "E75 Gap",
+        CheckFault::NoShortage => "E76 NoShortage",
     }
 }
 
@@ -173,7 +174,7 @@ fn check_arguments(fault: CheckFault) -> Arguments
             Arguments::Two(row as u64, u64::from(cpu))
         }
         CheckFault::HeldTwice { cpu } => Arguments::One(u64::from(cpu)),
-        CheckFault::BadProblem | CheckFault::Gap => Arguments::None,
+        CheckFault::BadProblem | CheckFault::Gap | CheckFault::NoShortage => Arguments::None,
     }
 }
 

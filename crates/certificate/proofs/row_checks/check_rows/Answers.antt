@@ -3,7 +3,7 @@ use Rattle.std.proofs.lemmas.Result.{err_from_is_err_and}
 use Rattle.std.proofs.lemmas.List.{take_all}
 use Rattle.std.proofs.lemmas.List.Elements.{All-more}
 use Rattle.cpu_set.specs.Members.{InRange}
-use Rattle.faults.proofs.FirstBelow.{first_below-at, first_below-none}
+use Rattle.faults.specs.FirstLaws.{first_below-at, first_below-none}
 use Rattle.certificate.specs.PlanFault.{at_both, row_fault, rows_fault}
 use Rattle.certificate.proofs.RowFaults.{at_both_read}
 use Rattle.certificate.proofs.Causes.{rows_cause}

@@ -1,6 +1,6 @@
 use Rattle.std.proofs.Common.{◌≡◌, None, option_map, ap, ◌∙◌, sym, arith, get_or, below_more}
 use Rattle.std.proofs.lemmas.List.{get_or_default}
-use Rattle.faults.proofs.FirstBelow.{first_below-at, first_below-none}
+use Rattle.faults.specs.FirstLaws.{first_below-at, first_below-none}
 use Rattle.certificate.specs.PlanFault.{at_both, value_fault, values_fault}
 use Rattle.certificate.specs.declared.check_faults.CheckFault.TheVariants.{ValueTooHigh}
 use Rattle.certificate.proofs.RowFaults.{at_both_read}
