@@ -1,0 +1,96 @@
+-- What is kept of a set on the way to a target.
+use Rattle.std.proofs.Common.{◌≡◌, ℕ, Bool, true, false, ◌&&◌, ◌||◌, refl, sym, ap, ◌∙◌, eq-eqb}
+use Rattle.std.proofs.lemmas.Bool.{ne_eqb, cond-true, cond-false, false≢true}
+use Rattle.std.specs.Ordering.{nat_cmp}
+use Rattle.std.specs.FinSet as set
+use Rattle.cpu_set.specs.Ids.{Ids}
+use Rattle.cpu_set.specs.Pointwise.{same_members, contains-union, contains-intersection}
+use Rattle.cpuset_tree.specs.Effective.{is_empty}
+use Rattle.apply_plan.specs.Kept.{within, kept}
+
+pub is_empty-empty : (s : Ids) → s ≡ set.empty → is_empty s ≡ true
+is_empty-empty s e = ap is_empty e ∙ eq-eqb _ _ (set.len-empty nat_cmp)
+
+pub is_empty-some : (s : Ids) → (s ≡ set.empty → ⊥) → is_empty s ≡ false
+is_empty-some s ne = ne_eqb _ _ (λ e. ne (set.empty_of_len s e))
+
+module _ (reserved target cpus : Ids) where
+  pub kept_nothing : is_empty (within reserved target cpus) ≡ true → kept reserved target cpus ≡ reserved
+  kept_nothing e = cond-true (is_empty (within reserved target cpus)) reserved (within reserved target cpus) e
+
+  pub kept_some : is_empty (within reserved target cpus) ≡ false → kept reserved target cpus ≡ within reserved target cpus
+  kept_some e = cond-false (is_empty (within reserved target cpus)) reserved (within reserved target cpus) e
+
+  -- it is not empty, where the reserved CPUs are not
+  pub kept_is_some : is_empty reserved ≡ false → is_empty (kept reserved target cpus) ≡ false
+  kept_is_some r = split (is_empty (within reserved target cpus)) refl where
+    split : (b : Bool) → is_empty (within reserved target cpus) ≡ b → is_empty (kept reserved target cpus) ≡ false
+    split true e = ap is_empty (kept_nothing e) ∙ r
+    split false e = ap is_empty (kept_some e) ∙ e
+
+  -- a CPU of it that is not reserved was there before, and is in the target
+  pub kept_within : (cpu : ℕ) → set.contains (kept reserved target cpus) cpu ≡ true → set.contains reserved cpu ≡ false
+      → (set.contains cpus cpu ≡ true) × (set.contains target cpu ≡ true)
+  kept_within cpu member r = split (is_empty (within reserved target cpus)) refl where
+    parts : (c t u : Bool) → u ≡ false → (c && (t || u)) ≡ true → (c ≡ true) × (t ≡ true)
+    parts true true u e m = (refl, refl)
+    parts true false u e m = (refl, absurd (false≢true (sym e ∙ m)))
+    parts false t u e m = absurd (false≢true m)
+    split : (b : Bool) → is_empty (within reserved target cpus) ≡ b → (set.contains cpus cpu ≡ true) × (set.contains target cpu ≡ true)
+    split true e = absurd (false≢true (sym r ∙ sym (ap (λ s. set.contains s cpu) (kept_nothing e)) ∙ member))
+    split false e =
+        parts _ _ _ r (ap (λ b. set.contains cpus cpu && b) (sym (contains-union target reserved cpu))
+            ∙ sym (contains-intersection cpus (set.union target reserved) cpu)
+            ∙ sym (ap (λ s. set.contains s cpu) (kept_some e)) ∙ member)
+
+module _ (reserved target : Ids) where
+  bools_again : (c t r : Bool) → ((c && (t || r)) && (t || r)) ≡ (c && (t || r))
+  bools_again true true r = refl
+  bools_again true false true = refl
+  bools_again true false false = refl
+  bools_again false t r = refl
+
+  bools_target : (t r : Bool) → (t && (t || r)) ≡ t
+  bools_target true r = refl
+  bools_target false r = refl
+
+  bools_reserved : (t r : Bool) → (r && (t || r)) ≡ r
+  bools_reserved true true = refl
+  bools_reserved false true = refl
+  bools_reserved t false = refl
+
+  in_within : (cpus : Ids) (q : ℕ) → set.contains (within reserved target cpus) q ≡ (set.contains cpus q && (set.contains target q || set.contains reserved q))
+  in_within cpus q =
+      contains-intersection cpus (set.union target reserved) q ∙ ap (λ b. set.contains cpus q && b) (contains-union target reserved q)
+
+  within_again : (cpus : Ids) → within reserved target (within reserved target cpus) ≡ within reserved target cpus
+  within_again cpus =
+      same_members _ _ (λ q. in_within (within reserved target cpus) q
+          ∙ ap (λ b. b && (set.contains target q || set.contains reserved q)) (in_within cpus q)
+          ∙ bools_again (set.contains cpus q) (set.contains target q) (set.contains reserved q)
+          ∙ sym (in_within cpus q))
+
+  within_target : within reserved target target ≡ target
+  within_target = same_members _ _ (λ q. in_within target q ∙ bools_target (set.contains target q) (set.contains reserved q))
+
+  within_reserved : within reserved target reserved ≡ reserved
+  within_reserved = same_members _ _ (λ q. in_within reserved q ∙ bools_reserved (set.contains target q) (set.contains reserved q))
+
+  -- of what is the whole of its part, all is kept
+  kept_whole : (cpus : Ids) → within reserved target cpus ≡ cpus → is_empty cpus ≡ false → kept reserved target cpus ≡ cpus
+  kept_whole cpus whole some = kept_some reserved target cpus (ap is_empty whole ∙ some) ∙ whole
+
+  -- the target is kept
+  pub kept_target : is_empty target ≡ false → kept reserved target target ≡ target
+  kept_target some = kept_whole target within_target some
+
+  -- what was kept is kept
+  pub kept_again : is_empty reserved ≡ false → (cpus : Ids) → kept reserved target (kept reserved target cpus) ≡ kept reserved target cpus
+  kept_again some cpus = split (is_empty (within reserved target cpus)) refl where
+    split : (b : Bool) → is_empty (within reserved target cpus) ≡ b → kept reserved target (kept reserved target cpus) ≡ kept reserved target cpus
+    split true e =
+        ap (kept reserved target) (kept_nothing reserved target cpus e) ∙ kept_whole reserved within_reserved some ∙ sym (kept_nothing reserved target cpus e)
+    split false e =
+        ap (kept reserved target) (kept_some reserved target cpus e)
+        ∙ kept_whole (within reserved target cpus) (within_again cpus) e
+        ∙ sym (kept_some reserved target cpus e)

@@ -1,0 +1,5 @@
+pub mod Holders
+pub mod Kept
+pub mod Targets
+pub mod DueWrite
+pub mod Wants

@@ -1,0 +1,13 @@
+//! The hand-over from one plan to the next, write by write, so that no CPU is ever requested for two containers that
+//! are to have it alone.
+//!
+//! A [`Handover`] keeps an [`Entry`] for each container with the CPUs that it is to have, and [`Handover::step`] makes
+//! the one write that is due: containers first let go of what is not theirs any more, then take what is.
+#![tactic(auto)]
+
+mod entry;
+mod handover;
+mod scan;
+
+pub use entry::Entry;
+pub use handover::{Handover, Progress};

@@ -1,0 +1,87 @@
+//! The entries looked through for the write that is due.
+ghost use Rattle.std.specs.Prelude.{◌≡◌, true};
+ghost use Rattle.cpuset_tree.specs.Groups.{requested_cpus, has_group};
+ghost use Rattle.apply_plan.specs.Kept.{kept};
+ghost use Rattle.apply_plan.specs.Targets.{ArePlaced};
+ghost use Rattle.apply_plan.specs.DueWrite.{due_write};
+ghost use Rattle.apply_plan.specs.Wants.{Wants};
+
+use crate::Entry;
+use cpu_set::IdSet;
+use kernel_model::{Group, Kernel};
+
+/// A write of the CPUs that a group requests.
+#[derive(Clone, Copy, Debug, PartialEq, Eq)]
+pub struct Write {
+    pub group: Group,
+    pub cpus: IdSet,
+}
+
+/// What a container that requests these CPUs keeps on the way to its target: those that are in the target or reserved,
+/// and the reserved ones where there are none.
+fn kept_of(reserved: &IdSet, target: &IdSet, cpus: &IdSet) -> IdSet
+    ensures { result ≡ kept reserved.now target.now cpus.now }
+{
+    let within = cpus.meet(&target.union(reserved));
+    if within.is_empty() { *reserved } else { within }
+}
+
+/// What a group of the tree requests.
+fn requested<K: Kernel>(kernel: &K, group: Group) -> IdSet
+    requires { has_group (K.state kernel.now).tree group ≡ true }
+    ensures { result ≡ requested_cpus (K.state kernel.now).tree group }
+{
+    match kernel.requested_cpus(group) {
+        Ok(cpus) => cpus,
+        Err(_) => unreachable!(),
+    }
+}
+
+/// What one entry waits for.
+enum Want {
+    Release(Write),
+    Move(Write),
+    Nothing,
+}
+
+/// What an entry waits for: to let go of what it is not to have, else to take its target.
+fn wanted<K: Kernel>(kernel: &K, reserved: &IdSet, entry: &Entry) -> Want
+    requires { has_group (K.state kernel.now).tree entry.now.group ≡ true }
+    ensures { Wants (K.state kernel.now) reserved.now entry.now result }
+{
+    if !kernel.first_alive(entry.pid) {
+        return Want::Nothing;
+    }
+    let held = requested(kernel, entry.group);
+    let kept = kept_of(reserved, &entry.target, &held);
+    if kept != held {
+        Want::Release(Write {
+            group: entry.group,
+            cpus: kept,
+        })
+    } else if held != entry.target {
+        Want::Move(Write {
+            group: entry.group,
+            cpus: entry.target,
+        })
+    } else {
+        Want::Nothing
+    }
+}
+
+/// The write that is due: of the first live container that holds what it is to let go, else of the first that does not
+/// hold its target.
+pub fn due<K: Kernel>(kernel: &K, reserved: &IdSet, entries: &[Entry]) -> Option<Write>
+    requires { ArePlaced (K.state kernel.now) entries.now }
+    ensures { result ≡ due_write (K.state kernel.now) reserved.now entries.now }
+{
+    let mut first_move = None;
+    for entry in entries {
+        match wanted(kernel, reserved, entry) {
+            Want::Release(write) => return Some(write),
+            Want::Move(write) => first_move = first_move.or(Some(write)),
+            Want::Nothing => {}
+        }
+    }
+    first_move
+}
