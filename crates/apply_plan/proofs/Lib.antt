@@ -3,3 +3,8 @@ pub mod ListLemmas
 pub mod KernelFacts
 pub mod WriteLemmas
 pub mod StepLemmas
+pub mod DueLemmas
+pub mod HandoverLemmas
+pub mod EventLemmas
+pub mod RunLemmas
+pub mod EffectLemmas

@@ -8,7 +8,7 @@ use Rattle.cpu_set.specs.Ids.{Ids, is_same}
 use Rattle.cpu_set.specs.Pointwise.{is_same_decides}
 use Rattle.cpuset_tree.specs.Groups.{same_group, requested_cpus}
 use Rattle.cpuset_tree.specs.Effective.{is_empty}
-use Rattle.cpuset_tree.proofs.GroupLemmas.{same_group_sym}
+use Rattle.cpuset_tree.specs.GroupLemmas.{same_group_sym}
 use Rattle.proctable.specs.Processes.{is_alive}
 use Rattle.kernel_model.specs.KernelState.{KernelState}
 use Rattle.apply_plan.specs.declared.entry.Entry.{Entry}
@@ -61,7 +61,7 @@ module _ (old new : KernelState) (reserved : Ids) (entries : List Entry) (e : En
   }
 
 -- how many writes an entry waits for, by whether it lives and what it holds
-abbrev waits : Ids → Bool → Ids → Entry → ℕ
+abbrev pub waits : Ids → Bool → Ids → Entry → ℕ
 waits reserved live h a =
     cond (live && not (is_same (kept reserved a.target h) h)) (cond (is_same (kept reserved a.target h) a.target) 1 2) (cond (live && not (is_same h a.target)) 1 0)
 
@@ -72,7 +72,7 @@ waits_alike old new reserved a table same =
 is_same_itself : (s : Ids) → is_same s s ≡ true
 is_same_itself s = (is_same_decides s s).1 refl
 
-waits_at_most : (reserved : Ids) (live : Bool) (h : Ids) (a : Entry) → waits reserved live h a ≤ 2
+pub waits_at_most : (reserved : Ids) (live : Bool) (h : Ids) (a : Entry) → waits reserved live h a ≤ 2
 waits_at_most reserved live h a = bound (live && not (is_same (kept reserved a.target h) h)) (is_same (kept reserved a.target h) a.target) (live && not (is_same h a.target)) where
   bound : (r k m : Bool) → cond r (cond k 1 2) (cond m 1 0) ≤ 2
   bound true true m = omega arith
@@ -167,20 +167,33 @@ module _ (old new : KernelState) (h : Targets) (valid : IsHandover h) (e : Entry
 -- whatever a hand-over began with, each entry holds that, what it keeps of it, or its target
 module _ (first old new : KernelState) (h : Targets) (valid : IsHandover h) (e : Entry) (cpus : Ids) (w : IsWrite old new e.group cpus)
     (test : Entry → Bool) (found : find test h.entries ≡ Some e) where
-  Between1 : Entry → Type 0
-  Between1 a = IsBetween h.reserved first old a
+  -- what is written is one of the three
+  abbrev pub WritesBetween : Entry → Type 0
+  WritesBetween a = (cpus ≡ held first a) ⊎ ((cpus ≡ kept h.reserved a.target (held first a)) ⊎ (cpus ≡ a.target))
 
-  pub stays_between : (IsBetween h.reserved first old e → (cpus ≡ held first e) ⊎ (cpus ≡ kept h.reserved e.target (held first e)) ⊎ (cpus ≡ e.target))
+  as_written : (a : Entry) → held new a ≡ cpus → WritesBetween a → IsBetween h.reserved first new a
+  as_written a s (inl x) = inl (s ∙ x)
+  as_written a s (inr (inl x)) = inr (inl (s ∙ x))
+  as_written a s (inr (inr x)) = inr (inr (s ∙ x))
+
+  as_before : (a : Entry) → held new a ≡ held old a → IsBetween h.reserved first old a → IsBetween h.reserved first new a
+  as_before a s (inl x) = inl (s ∙ x)
+  as_before a s (inr (inl x)) = inr (inl (s ∙ x))
+  as_before a s (inr (inr x)) = inr (inr (s ∙ x))
+
+  pub stays_between : ((a : Entry) → a ≡ e → IsBetween h.reserved first old a → WritesBetween a)
       → AllByRecursion (IsBetween h.reserved first old) h.entries → AllByRecursion (IsBetween h.reserved first new) h.entries
-  stays_between written all =
+  stays_between writes all =
       all_map2 (Left old new e cpus) (IsBetween h.reserved first old) (IsBetween h.reserved first new) one h.entries
           (all_left old new e cpus w test h.entries valid.groups found) all where
-    carried : (a : Entry) → held new a ≡ held old a → IsBetween h.reserved first old a → IsBetween h.reserved first new a
-    carried a s (inl x) = inl (s ∙ x)
-    carried a s (inr (inl x)) = inr (inl (s ∙ x))
-    carried a s (inr (inr x)) = inr (inr (s ∙ x))
     one : (a : Entry) → Left old new e cpus a → IsBetween h.reserved first old a → IsBetween h.reserved first new a
-    one a (inl p) b = here a p (subst (λ x. IsBetween h.reserved first old x) p.0 b) where
-      here : (a : Entry) → (a ≡ e) × (held new a ≡ cpus) → IsBetween h.reserved first old e → IsBetween h.reserved first new a
-      here a p b = ?
-    one a (inr p) b = carried a p b
+    one a (inl p) b = as_written a p.1 (writes a p.0 b)
+    one a (inr p) b = as_before a p b
+
+-- what is kept of what an entry holds is one of the three
+module _ (first old : KernelState) (h : Targets) (valid : IsHandover h) (e : Entry) where
+  pub keeps_between : is_empty e.target ≡ false → IsBetween h.reserved first old e
+      → (kept_of old h.reserved e ≡ held first e) ⊎ ((kept_of old h.reserved e ≡ kept h.reserved e.target (held first e)) ⊎ (kept_of old h.reserved e ≡ e.target))
+  keeps_between some (inl x) = inr (inl (ap (kept h.reserved e.target) x))
+  keeps_between some (inr (inl x)) = inr (inl (ap (kept h.reserved e.target) x ∙ kept_again h.reserved e.target valid.reserve (held first e)))
+  keeps_between some (inr (inr x)) = inr (inr (ap (kept h.reserved e.target) x ∙ kept_target h.reserved e.target some))

@@ -11,7 +11,7 @@ use Rattle.cpu_set.specs.Pointwise.{same_subsets, is_same_decides}
 use Rattle.cpuset_tree.specs.declared.Group.{Group}
 use Rattle.cpuset_tree.specs.Groups.{same_group, requested_cpus}
 use Rattle.cpuset_tree.specs.Effective.{is_empty}
-use Rattle.cpuset_tree.proofs.GroupLemmas.{same_group_itself, same_group_sym, same_group-equal}
+use Rattle.cpuset_tree.specs.GroupLemmas.{same_group_itself, same_group_sym, same_group-equal}
 use Rattle.proctable.specs.Processes.{is_alive}
 use Rattle.kernel_model.specs.KernelState.{KernelState}
 use Rattle.apply_plan.specs.declared.entry.Entry.{Entry}

@@ -55,6 +55,16 @@ abbrev pub written : KernelState → Option Write → KernelState
 written k None = k
 written k (Some w) = record k { tree = with_cpus k.tree w.group w.cpus }
 
+-- a write succeeds, or it fails, which is counted, and nothing else changes
+abbrev pub IsMade : Write → KernelState → Result (Unit {0}) KernelFault → KernelState → Type 0
+IsMade w old (Ok _) new = new ≡ written old (Some w)
+IsMade w old (Err fault) new = (fault ≡ Failed) × (new ≡ failed old)
+
+-- the same of the write that is due, if one is
+abbrev pub IsDueMade : Ids → List Entry → KernelState → Result (Unit {0}) KernelFault → KernelState → Type 0
+IsDueMade reserved entries old (Ok _) new = new ≡ written old (due_write old reserved entries)
+IsDueMade reserved entries old (Err fault) new = (fault ≡ Failed) × (new ≡ failed old) × (is_some (due_write old reserved entries) ≡ true)
+
 -- whether anything is due yet
 abbrev pub progress_of : Option Write → Progress
 progress_of None = Done
@@ -89,6 +99,7 @@ IsBetween reserved first k e =
 abbrev pub Between : Targets → KernelState → KernelState → Type 0
 Between h first k = AllByRecursion (IsBetween h.reserved first k) h.entries
 
--- a write less is to come where one was due
-abbrev pub Lowers : Targets → KernelState → KernelState → Type 0
-Lowers h old new = writes_to_come h old ≡ writes_to_come h new + cond (is_some (due h old)) 1 0
+-- where a write was due and succeeded, one less is to come; where it failed, as many as before
+abbrev pub Lowers : Targets → KernelState → Result Progress KernelFault → KernelState → Type 0
+Lowers h old (Ok answer) new = writes_to_come h old ≡ writes_to_come h new + cond (is_some (due h old)) 1 0
+Lowers h old (Err fault) new = writes_to_come h old ≡ writes_to_come h new

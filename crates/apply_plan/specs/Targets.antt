@@ -57,10 +57,10 @@ pub record IsHandover (h : Targets) : Type 0 where
   pub some : AllByRecursion (λ e. is_empty e.target ≡ false) h.entries
   pub reserve : is_empty h.reserved ≡ false
 
--- the entry's group is in the tree, and is not the root
-pub record IsPlaced (k : KernelState) (e : Entry) : Type 0 where
-  pub there : has_group k.tree e.group ≡ true
-  pub below : is_root k.tree e.group ≡ false
+-- the group is in the tree, and is not the root
+pub record IsPlaced (k : KernelState) (g : Group) : Type 0 where
+  pub there : has_group k.tree g ≡ true
+  pub below : is_root k.tree g ≡ false
 
 abbrev pub ArePlaced : KernelState → List Entry → Type 0
-ArePlaced k entries = AllByRecursion (IsPlaced k) entries
+ArePlaced k entries = AllByRecursion (λ e. IsPlaced k e.group) entries

@@ -1,9 +1,13 @@
-ghost use Rattle.std.specs.Prelude.{◌≡◌};
-ghost use Rattle.apply_plan.specs.Targets.{Targets, IsHandover, ArePlaced};
-ghost use Rattle.apply_plan.specs.DueWrite.{Steps};
+ghost use Rattle.std.specs.Prelude.{◌≡◌, ◌+◌, ◌*◌, ◌≤◌, length};
+ghost use Rattle.kernel_model.specs.KernelState.{KernelState};
+ghost use Rattle.kernel_model.specs.Cases.{rise};
+ghost use Rattle.apply_plan.specs.Holders.{IsSafe};
+ghost use Rattle.apply_plan.specs.Targets.{Targets, holders_of, IsHandover, ArePlaced};
+ghost use Rattle.apply_plan.specs.Leaves.{KeepsRest};
+ghost use Rattle.apply_plan.specs.DueWrite.{Steps, HaveTargets, writes_to_come, Lowers, Between};
 
 use crate::Entry;
-use crate::scan::due;
+use crate::scan::{due, make_due};
 use cpu_set::IdSet;
 use kernel_model::{Kernel, KernelFault};
 use std::marker::Model;
@@ -11,7 +15,9 @@ use std::marker::Model;
 /// Whether a hand-over has writes to come.
 #[derive(Clone, Copy, Debug, PartialEq, Eq)]
 pub enum Progress {
+    /// A write is due.
     More,
+    /// Nothing is due: each live container has its target.
     Done,
 }
 
@@ -35,6 +41,9 @@ impl Model for Handover {
 }
 
 impl Handover {
+    /// A hand-over that is to bring each entry's container to its target.
+    ///
+    /// Takes no memory: the entries are kept as they come.
     pub fn new(entries: Vec<Entry>, reserved: IdSet) -> Handover
         requires { IsHandover (record { entries = entries.items; reserved = reserved }) }
         ensures { result ≡ record { entries = entries.items; reserved = reserved } }
@@ -42,20 +51,55 @@ impl Handover {
         Handover { entries, reserved }
     }
 
+    /// The containers with their targets, in the order in which they are looked through.
+    pub fn entries(&self) -> &[Entry]
+        ensures entries { result.now ≡ self.now.entries }
+        ensures valid { IsHandover self.now }
+    {
+        self.entries.as_slice()
+    }
+
     /// Makes the write that is due, or none.
-    fn advance<K: Kernel>(&mut self, kernel: &mut K) -> Result<Progress, KernelFault>
+    fn advance<K: Kernel>(&self, kernel: &mut K) -> Result<Progress, KernelFault>
+        requires { ArePlaced (K.state kernel.old) self.now.entries }
+        ensures step { Steps self.now (K.state kernel.old) result (K.state kernel.new) }
+        ensures placed { ArePlaced (K.state kernel.new) self.now.entries }
+        ensures valid { IsHandover self.now }
+    {
+        let entries = self.entries();
+        make_due(kernel, &self.reserved, entries)?;
+        Ok(match due(&*kernel, &self.reserved, entries) {
+            Some(_) => Progress::More,
+            None => Progress::Done,
+        })
+    }
+
+    /// Makes the write that is due and no other, or none where none is due, and tells whether more are to come.
+    ///
+    /// Entries whose first process has ended are passed over. Takes no memory.
+    ///
+    /// # Errors
+    /// `Failed` where the write failed: it is counted, and nothing else changed; the hand-over may go on.
+    pub fn step<K: Kernel>(&mut self, kernel: &mut K) -> Result<Progress, KernelFault>
         requires { ArePlaced (K.state kernel.old) self.old.entries }
         ensures same { self.new ≡ self.old }
+        // The write that is due before it, and whether one is due after it; or a failure, where one was due.
         ensures step { Steps self.old (K.state kernel.old) result (K.state kernel.new) }
+        // What was safe stays so.
+        ensures safe { IsSafe (K.state kernel.old) self.old.reserved (holders_of self.old.entries)
+            → IsSafe (K.state kernel.new) self.old.reserved (holders_of self.old.entries) }
+        // At the end each live container has its target.
+        ensures done { result ≡ Ok Progress.Done → HaveTargets (K.state kernel.new) self.old.entries }
+        // At most two writes for each entry are to come, each that succeeds is one less, and one that fails none.
+        ensures few { writes_to_come self.old (K.state kernel.old) ≤ 2 * length self.old.entries }
+        ensures lowers { Lowers self.old (K.state kernel.old) result (K.state kernel.new) }
+        // Each container requests what it did at first, or what it keeps of that, or its target.
+        ensures between { (first : KernelState) → Between self.old first (K.state kernel.old) → Between self.old first (K.state kernel.new) }
+        // A failure is counted, and nothing else in the kernel changes.
+        ensures counted { (K.state kernel.new).failures ≡ (K.state kernel.old).failures + rise result }
+        ensures rest { KeepsRest self.old (K.state kernel.old) (K.state kernel.new) }
+        ensures placed { ArePlaced (K.state kernel.new) self.old.entries }
     {
-        let entries = self.entries.as_slice();
-        let Some(write) = due(&*kernel, &self.reserved, entries) else {
-            return Ok(Progress::Done);
-        };
-        kernel.write_cpus(write.group, write.cpus)?;
-        match due(&*kernel, &self.reserved, entries) {
-            Some(_) => Ok(Progress::More),
-            None => Ok(Progress::Done),
-        }
+        self.advance(kernel)
     }
 }

@@ -7,6 +7,7 @@
 
 mod entry;
 mod handover;
+pub mod laws;
 mod scan;
 
 pub use entry::Entry;

@@ -3,12 +3,12 @@ ghost use Rattle.std.specs.Prelude.{◌≡◌, true};
 ghost use Rattle.cpuset_tree.specs.Groups.{requested_cpus, has_group};
 ghost use Rattle.apply_plan.specs.Kept.{kept};
 ghost use Rattle.apply_plan.specs.Targets.{ArePlaced};
-ghost use Rattle.apply_plan.specs.DueWrite.{due_write};
+ghost use Rattle.apply_plan.specs.DueWrite.{due_write, IsDueMade};
 ghost use Rattle.apply_plan.specs.Wants.{Wants};
 
 use crate::Entry;
 use cpu_set::IdSet;
-use kernel_model::{Group, Kernel};
+use kernel_model::{Group, Kernel, KernelFault};
 
 /// A write of the CPUs that a group requests.
 #[derive(Clone, Copy, Debug, PartialEq, Eq)]
@@ -84,4 +84,20 @@ pub fn due<K: Kernel>(kernel: &K, reserved: &IdSet, entries: &[Entry]) -> Option
         }
     }
     first_move
+}
+
+/// Makes the write that is due, where one is.
+pub fn make_due<K: Kernel>(
+    kernel: &mut K,
+    reserved: &IdSet,
+    entries: &[Entry],
+) -> Result<(), KernelFault>
+    requires { ArePlaced (K.state kernel.old) entries.now }
+    ensures made { IsDueMade reserved.now entries.now (K.state kernel.old) result (K.state kernel.new) }
+    ensures placed { ArePlaced (K.state kernel.new) entries.now }
+{
+    match due(&*kernel, reserved, entries) {
+        Some(write) => kernel.write_cpus(write.group, write.cpus),
+        None => Ok(()),
+    }
 }

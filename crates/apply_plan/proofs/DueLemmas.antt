@@ -1,0 +1,37 @@
+-- Which write is due, case by case.
+use Rattle.std.proofs.Common.{◌≡◌, Bool, true, false, List, refl, sym, ap, ◌∙◌, subst}
+use Rattle.std.proofs.lemmas.Option.{none-some}
+use Rattle.std.specs.Prelude.{find, Option, Some, None}
+use Rattle.cpu_set.specs.Ids.{Ids}
+use Rattle.cpuset_tree.specs.declared.Group.{Group}
+use Rattle.kernel_model.specs.KernelState.{KernelState}
+use Rattle.apply_plan.specs.declared.entry.Entry.{Entry}
+use Rattle.apply_plan.specs.declared.scan.Write.{Write}
+use Rattle.apply_plan.specs.Targets.{Targets, IsPlaced, ArePlaced}
+use Rattle.apply_plan.specs.DueWrite.{must_release, must_move, release_of, move_of, first_write, due_write}
+use Rattle.apply_plan.proofs.ListLemmas.{find_among}
+
+-- an entry lets go, or none must and one takes its target, or nothing is due
+pub data Due (k : KernelState) (reserved : Ids) (entries : List Entry) : Option Write → Type 0 where
+  Releases : (e : Entry) → find (must_release k reserved) entries ≡ Some e → Due k reserved entries (Some (release_of k reserved e))
+  Moves : (e : Entry) → find (must_release k reserved) entries ≡ None → find (must_move k) entries ≡ Some e → Due k reserved entries (Some (move_of e))
+  Rests : find (must_release k reserved) entries ≡ None → find (must_move k) entries ≡ None → Due k reserved entries None
+
+pub due_is : (k : KernelState) (reserved : Ids) (entries : List Entry) → Due k reserved entries (due_write k reserved entries)
+due_is k reserved entries = by (find (must_release k reserved) entries) (find (must_move k) entries) refl refl where
+  by : (r m : Option Entry) → find (must_release k reserved) entries ≡ r → find (must_move k) entries ≡ m → Due k reserved entries (first_write k reserved r m)
+  by (Some e) m r_is m_is = Releases e r_is
+  by None (Some e) r_is m_is = Moves e r_is m_is
+  by None None r_is m_is = Rests r_is m_is
+
+-- the group of a write that is due is placed
+pub due_is_placed : (k : KernelState) (reserved : Ids) (entries : List Entry) (w : Write) → ArePlaced k entries → due_write k reserved entries ≡ Some w → IsPlaced k w.group
+due_is_placed k reserved entries w placed e = by (due_write k reserved entries) e (due_is k reserved entries) where
+  here : (x : Entry) (v : Write) → v.group ≡ x.group → v ≡ w → IsPlaced k x.group → IsPlaced k w.group
+  here x v g is p = subst (IsPlaced k) (sym g ∙ ap (λ z. z.group) is) p
+  some : (v : Write) → Some v ≡ Some w → v ≡ w
+  some v e = cc
+  by : (d : Option Write) → d ≡ Some w → Due k reserved entries d → IsPlaced k w.group
+  by d is (Releases x found) = here x (release_of k reserved x) refl (some (release_of k reserved x) is) (find_among (must_release k reserved) (λ a. IsPlaced k a.group) entries x placed found)
+  by d is (Moves x none found) = here x (move_of x) refl (some (move_of x) is) (find_among (must_move k) (λ a. IsPlaced k a.group) entries x placed found)
+  by d is (Rests r m) = absurd (none-some w is)

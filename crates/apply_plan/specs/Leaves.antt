@@ -1,0 +1,20 @@
+-- What a step leaves of the kernel beside the sets of its entries.
+use Rattle.std.specs.Prelude.{◌≡◌, ℕ, false}
+use Rattle.std.specs.List.{AllByRecursion}
+use Rattle.cpuset_tree.specs.declared.Group.{Group}
+use Rattle.cpuset_tree.specs.Groups.{same_group, requested_cpus, requested_mems}
+use Rattle.cpuset_tree.specs.TreeLaws.{StandAlike}
+use Rattle.kernel_model.specs.KernelState.{KernelState}
+use Rattle.apply_plan.specs.Targets.{Targets}
+
+-- the processes, the CPUs, the nodes, where each group stands and which memory nodes it requests stay, and so do the CPUs
+-- that a group requests which is none of the entries'
+pub record KeepsRest (h : Targets) (old new : KernelState) : Type 0 where
+  pub table : new.table ≡ old.table
+  pub present : new.present ≡ old.present
+  pub reserved : new.reserved ≡ old.reserved
+  pub online : new.tree.online ≡ old.tree.online
+  pub nodes : new.tree.nodes ≡ old.tree.nodes
+  pub alike : StandAlike old.tree new.tree
+  pub mems : (g : Group) → requested_mems new.tree g ≡ requested_mems old.tree g
+  pub others : (g : Group) → AllByRecursion (λ e. same_group e.group g ≡ false) h.entries → requested_cpus new.tree g ≡ requested_cpus old.tree g

@@ -1,0 +1,20 @@
+//! Laws over the definitions alone: nothing here runs.
+ghost use Rattle.apply_plan.specs.Runs.{StaysSafe, StaysBetween, EndsWithin};
+ghost use Rattle.apply_plan.specs.Effects.{TargetsTakeEffect, SafeInEffect};
+
+/// Whatever happens while a hand-over is open, event by event: its steps, failing ones too, forks and ends of processes,
+/// CPUs that go and come, and writes of other groups.
+///
+/// What was safe stays safe after each single event; each container requests what it did at first, or what it keeps of
+/// that, or its target; and each write that succeeds is one less to come.
+pub fn runs()
+    ensures safe { StaysSafe }
+    ensures between { StaysBetween }
+    ensures ends { EndsWithin }
+{}
+
+/// What requested sets are worth: targets take effect as they are, and what is safe as it is requested is safe in effect.
+pub fn effects()
+    ensures targets { TargetsTakeEffect }
+    ensures safe { SafeInEffect }
+{}
