@@ -1,13 +1,12 @@
 -- Which write is due, case by case.
-use Rattle.std.proofs.Common.{◌≡◌, Bool, true, false, List, refl, sym, ap, ◌∙◌, subst}
+use Rattle.std.proofs.Common.{◌≡◌, List, refl, sym, ap, ◌∙◌, subst}
 use Rattle.std.proofs.lemmas.Option.{none-some}
 use Rattle.std.specs.Prelude.{find, Option, Some, None}
 use Rattle.cpu_set.specs.Ids.{Ids}
-use Rattle.cpuset_tree.specs.declared.Group.{Group}
 use Rattle.kernel_model.specs.KernelState.{KernelState}
 use Rattle.apply_plan.specs.declared.entry.Entry.{Entry}
 use Rattle.apply_plan.specs.declared.scan.Write.{Write}
-use Rattle.apply_plan.specs.Targets.{Targets, IsPlaced, ArePlaced}
+use Rattle.apply_plan.specs.Targets.{IsPlaced, ArePlaced}
 use Rattle.apply_plan.specs.DueWrite.{must_release, must_move, release_of, move_of, first_write, due_write}
 use Rattle.apply_plan.proofs.ListLemmas.{find_among}
 
@@ -29,8 +28,10 @@ pub due_is_placed : (k : KernelState) (reserved : Ids) (entries : List Entry) (w
 due_is_placed k reserved entries w placed e = by (due_write k reserved entries) e (due_is k reserved entries) where
   here : (x : Entry) (v : Write) → v.group ≡ x.group → v ≡ w → IsPlaced k x.group → IsPlaced k w.group
   here x v g is p = subst (IsPlaced k) (sym g ∙ ap (λ z. z.group) is) p
+
   some : (v : Write) → Some v ≡ Some w → v ≡ w
   some v e = cc
+
   by : (d : Option Write) → d ≡ Some w → Due k reserved entries d → IsPlaced k w.group
   by d is (Releases x found) = here x (release_of k reserved x) refl (some (release_of k reserved x) is) (find_among (must_release k reserved) (λ a. IsPlaced k a.group) entries x placed found)
   by d is (Moves x none found) = here x (move_of x) refl (some (move_of x) is) (find_among (must_move k) (λ a. IsPlaced k a.group) entries x placed found)

@@ -1,5 +1,5 @@
 -- What the sets that containers request are worth.
-use Rattle.std.proofs.Common.{◌≡◌, ℕ, Bool, true, false, ◌&&◌, List, [], ◌∷◌, refl, sym, ap, ◌∙◌, subst}
+use Rattle.std.proofs.Common.{◌≡◌, ℕ, Bool, true, false, ◌&&◌, refl, sym, ap, ◌∙◌}
 use Rattle.std.proofs.lemmas.Bool.{false≢true, cond-false}
 use Rattle.std.specs.List.{AllByRecursion}
 use Rattle.std.specs.FinSet as set
@@ -13,7 +13,7 @@ use Rattle.proctable.specs.Processes.{is_alive}
 use Rattle.kernel_model.specs.KernelState.{KernelState}
 use Rattle.kernel_model.specs.WellFormed.{IsWellFormed}
 use Rattle.apply_plan.specs.declared.entry.Entry.{Entry}
-use Rattle.apply_plan.specs.Holders.{Holder, AreApart, HasSome, IsSafe}
+use Rattle.apply_plan.specs.Holders.{Holder, AreApart, HasSome}
 use Rattle.apply_plan.specs.DueWrite.{HasTarget}
 use Rattle.apply_plan.specs.Effects.{HasFreeParent, CanTakeEffect, HasOnline, TargetsTakeEffect, SafeInEffect}
 use Rattle.apply_plan.proofs.KeptLemmas.{is_empty-empty}
@@ -51,18 +51,18 @@ module _ (k : KernelState) (w : IsWellFormed k) where
   is_requested a p o live cpu member =
       first (set.contains (requested_cpus k.tree a.group) cpu) (set.contains k.tree.online cpu)
       (sym (contains-intersection (requested_cpus k.tree a.group) k.tree.online cpu) ∙ ap (λ s. set.contains s cpu) (sym (in_effect a p o live)) ∙ member) where
-    first : (x y : Bool) → (x && y) ≡ true → x ≡ true
-    first true y h = refl
-    first false y h = h
+        first : (x y : Bool) → (x && y) ≡ true → x ≡ true
+        first true y h = refl
+        first false y h = h
 
 pub safe_in_effect : SafeInEffect
 safe_in_effect k reserved holders w parents online safe = record {
   apart = pairs_map (λ a. HasFreeParent k a.group × HasOnline k a) (AreApart k reserved (requested_cpus k.tree)) (AreApart k reserved (effective_cpus k.tree))
       (λ a b pa pb apart la lb pinned cpu ina inb.
-          apart la lb pinned cpu (is_requested k w a pa.0 pa.1 la cpu ina) (is_requested k w b pb.0 pb.1 lb cpu inb))
+      apart la lb pinned cpu (is_requested k w a pa.0 pa.1 la cpu ina) (is_requested k w b pb.0 pb.1 lb cpu inb))
       holders both safe.apart;
   some = all_map (λ a. HasFreeParent k a.group × HasOnline k a) (HasSome k (effective_cpus k.tree))
-      (λ a p live. ap is_empty (in_effect k w a p.0 p.1 live) ∙ p.1 live) holders both
+      (λ a p live. ap is_empty (in_effect k w a p.0 p.1 live) ∙ p.1 live) holders both;
 } where
   both : AllByRecursion (λ a. HasFreeParent k a.group × HasOnline k a) holders
   both = all_map2 (λ a. HasFreeParent k a.group) (HasOnline k) (λ a. HasFreeParent k a.group × HasOnline k a) (λ a p o. (p, o)) holders parents online

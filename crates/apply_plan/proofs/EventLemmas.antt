@@ -1,11 +1,9 @@
 -- What a call of somebody else leaves of the entries of a hand-over.
-use Rattle.std.proofs.Common.{◌≡◌, ℕ, ◌+◌, ◌<◌, ◌≤◌, Bool, true, false, List, refl, sym, ap, ◌∙◌, arith}
-use Rattle.std.proofs.lemmas.Option.{none-some}
+use Rattle.std.proofs.Common.{◌≡◌, ℕ, ◌<◌, ◌≤◌, true, false, List, refl, ap, ◌∙◌, arith}
 use Rattle.std.proofs.lemmas.Bool.{false≢true}
 use Rattle.std.specs.Prelude.{Option, Some, None, is_some, Result, Ok, Err}
 use Rattle.std.specs.List.{AllByRecursion}
 use Rattle.cpuset_tree.specs.declared.Group.{Group}
-use Rattle.cpuset_tree.specs.TreeState.{TreeState}
 use Rattle.cpuset_tree.specs.Groups.{same_group, entry_among, entry_of, is_root_entry}
 use Rattle.cpuset_tree.specs.GroupLemmas.{same_group_sym}
 use Rattle.proctable.specs.declared.Process.{Process}
@@ -15,8 +13,6 @@ use Rattle.kernel_model.specs.declared.Call.{Call}
 use Rattle.kernel_model.specs.declared.Call.TheVariants.{MakeGroup, RemoveGroup, WriteCpus, WriteMems, Spawn, EndGroup, Root, FindGroup, RequestedCpus, EffectiveCpus, RequestedMems, EffectiveMems, Online, Nodes, FirstAlive, Fork, Exit, Offline, OnlineCpu}
 use Rattle.kernel_model.specs.declared.Reply.{Reply}
 use Rattle.kernel_model.specs.KernelState.{KernelState}
-use Rattle.kernel_model.specs.Cases.{MakesGroup}
-use Rattle.kernel_model.specs.WellFormed.{IsWellFormed}
 use Rattle.kernel_model.specs.Laws.{MakeLeaves}
 use Rattle.kernel_model.specs.Runs.{Step}
 use Rattle.kernel_model.specs.KernelLemmas.{steps_keep, writes_leave_groups, writes_keep_tree, events_keep_groups}
@@ -101,5 +97,5 @@ module _ (h : Targets) (old new : KernelState) (open_before : IsOpen h old) (cal
     well_formed = (steps_keep old new call r open_before.well_formed s).well_formed;
     placed = all_map2 (IsCalm old new) (λ e. IsPlaced old e.group) (λ e. IsPlaced new e.group)
         (λ e c p. record { there = ap is_some c.group ∙ p.there; below = ap is_root_entry c.group ∙ p.below }) h.entries calm open_before.placed;
-    given = all_map (IsCalm old new) (λ e. e.pid < new.table.next_pid) (λ e c. c.given) h.entries calm
+    given = all_map (IsCalm old new) (λ e. e.pid < new.table.next_pid) (λ e c. c.given) h.entries calm;
   }

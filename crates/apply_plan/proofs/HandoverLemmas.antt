@@ -1,10 +1,8 @@
 -- What a step of a hand-over leaves, whatever it answers.
-use Rattle.std.proofs.Common.{◌≡◌, ℕ, ◌+◌, ◌*◌, ◌≤◌, Bool, true, false, List, length, refl, sym, ap, ◌∙◌, subst, arith, inl, inr}
+use Rattle.std.proofs.Common.{◌≡◌, ◌+◌, ◌*◌, ◌≤◌, Bool, false, length, refl, sym, ap, ◌∙◌, subst, arith, inr}
 use Rattle.std.proofs.lemmas.Option.{none-some}
 use Rattle.std.specs.Prelude.{◌⊎◌, cond, find, Option, Some, None, is_some, Result, Ok, Err}
-use Rattle.std.specs.List.{AllByRecursion}
 use Rattle.cpu_set.specs.Ids.{Ids}
-use Rattle.cpuset_tree.specs.declared.Group.{Group}
 use Rattle.cpuset_tree.specs.Groups.{same_group}
 use Rattle.cpuset_tree.specs.Effective.{is_empty}
 use Rattle.cpuset_tree.specs.TreeState.{TreeState}
@@ -12,17 +10,16 @@ use Rattle.cpuset_tree.specs.TreeLaws.{StandAlike}
 use Rattle.cpuset_tree.specs.TreeLemmas.{writes_request, stands_itself}
 use Rattle.proctable.specs.Processes.{is_alive}
 use Rattle.kernel_model.specs.declared.faults.KernelFault.{KernelFault}
-use Rattle.kernel_model.specs.declared.faults.KernelFault.TheVariants.{Failed}
-use Rattle.kernel_model.specs.KernelState.{KernelState, failed}
+use Rattle.kernel_model.specs.KernelState.{KernelState}
 use Rattle.kernel_model.specs.Cases.{rise}
 use Rattle.apply_plan.specs.declared.entry.Entry.{Entry}
 use Rattle.apply_plan.specs.declared.scan.Write.{Write}
 use Rattle.apply_plan.specs.declared.handover.Progress.{Progress}
-use Rattle.apply_plan.specs.declared.handover.Progress.TheVariants.{More, Done}
+use Rattle.apply_plan.specs.declared.handover.Progress.TheVariants.{Done}
 use Rattle.apply_plan.specs.Holders.{IsSafe}
 use Rattle.apply_plan.specs.Kept.{kept}
 use Rattle.apply_plan.specs.Targets.{Targets, holders_of, IsHandover, IsPlaced, ArePlaced}
-use Rattle.apply_plan.specs.DueWrite.{held, kept_of, must_release, must_move, release_of, move_of, due, due_write, written, progress_of, Steps, writes_of, writes_to_come, HasTarget, HaveTargets, IsBetween, Between, Lowers}
+use Rattle.apply_plan.specs.DueWrite.{held, kept_of, must_release, must_move, release_of, move_of, due, written, progress_of, Steps, writes_of, writes_to_come, HasTarget, HaveTargets, IsBetween, Between, Lowers}
 use Rattle.apply_plan.specs.Leaves.{KeepsRest}
 use Rattle.apply_plan.proofs.ListLemmas.{all_map, find_none, find_among, sum_bounded}
 use Rattle.apply_plan.proofs.KernelFacts.{with_request, is_write, stands}
@@ -56,8 +53,8 @@ module _ (h : Targets) (valid : IsHandover h) (old : KernelState) (placed : AreP
       stays_between first old (with_request old e.group (kept_of old h.reserved e)) h valid e (kept_of old h.reserved e)
       (is_write old e.group (kept_of old h.reserved e) (there (must_release old h.reserved) e found).there) (must_release old h.reserved) found
       (λ a is b. subst (λ x. (kept_of old h.reserved e ≡ held first x) ⊎ ((kept_of old h.reserved e ≡ kept h.reserved x.target (held first x)) ⊎ (kept_of old h.reserved e ≡ x.target)))
-          (sym is) (keeps_between first old h valid e (find_among (must_release old h.reserved) (λ a. is_empty a.target ≡ false) h.entries e valid.some found)
-              (subst (IsBetween h.reserved first old) is b)))
+      (sym is) (keeps_between first old h valid e (find_among (must_release old h.reserved) (λ a. is_empty a.target ≡ false) h.entries e valid.some found)
+      (subst (IsBetween h.reserved first old) is b)))
       between
   written_between first d (Moves e none found) between =
       stays_between first old (with_request old e.group e.target) h valid e e.target
@@ -73,7 +70,14 @@ module _ (h : Targets) (valid : IsHandover h) (old : KernelState) (placed : AreP
 -- a tree stands like itself
 alike_itself : (s : TreeState) → StandAlike s s
 alike_itself s = record {
-  before = stands_itself s; after = stands_itself s; there = λ p. refl; rootness = λ p. refl; child = λ p n. refl; children = λ p. refl; root = refl; next_serial = refl
+  before = stands_itself s;
+  after = stands_itself s;
+  there = λ p. refl;
+  rootness = λ p. refl;
+  child = λ p n. refl;
+  children = λ p. refl;
+  root = refl;
+  next_serial = refl;
 }
 
 module _ (h : Targets) (valid : IsHandover h) (old : KernelState) (placed : ArePlaced old h.entries) where
@@ -86,14 +90,21 @@ module _ (h : Targets) (valid : IsHandover h) (old : KernelState) (placed : AreP
     nodes = refl;
     alike = stands old e.group cpus;
     mems = (writes_request.0 old.tree e.group cpus).mems;
-    others = λ g apart. (writes_request.0 old.tree e.group cpus).others g (find_among test (λ a. same_group a.group g ≡ false) h.entries e apart found)
+    others = λ g apart. (writes_request.0 old.tree e.group cpus).others g (find_among test (λ a. same_group a.group g ≡ false) h.entries e apart found);
   }
 
   written_keeps : (d : Option Write) → Due old h.reserved h.entries d → KeepsRest h old (written old d)
   written_keeps d (Releases e found) = write_keeps e (kept_of old h.reserved e) (must_release old h.reserved) found
   written_keeps d (Moves e none found) = write_keeps e e.target (must_move old) found
   written_keeps d (Rests r m) = record {
-    table = refl; present = refl; reserved = refl; online = refl; nodes = refl; alike = alike_itself old.tree; mems = λ g. refl; others = λ g o. refl
+    table = refl;
+    present = refl;
+    reserved = refl;
+    online = refl;
+    nodes = refl;
+    alike = alike_itself old.tree;
+    mems = λ g. refl;
+    others = λ g o. refl;
   }
 
 pub at_most_two : (h : Targets) (k : KernelState) → writes_to_come h k ≤ 2 * length h.entries
@@ -133,5 +144,12 @@ module _ (h : Targets) (valid : IsHandover h) (old new : KernelState) (placed : 
   pub step_keeps : (r : Result Progress KernelFault) → Steps h old r new → KeepsRest h old new
   step_keeps (Ok answer) s = subst (KeepsRest h old) (sym s.0) (written_keeps h valid old placed (due h old) due_now)
   step_keeps (Err fault) s = subst (KeepsRest h old) (sym s.1) (record {
-    table = refl; present = refl; reserved = refl; online = refl; nodes = refl; alike = alike_itself old.tree; mems = λ g. refl; others = λ g o. refl
+    table = refl;
+    present = refl;
+    reserved = refl;
+    online = refl;
+    nodes = refl;
+    alike = alike_itself old.tree;
+    mems = λ g. refl;
+    others = λ g o. refl;
   })

@@ -36,12 +36,13 @@ module _ (reserved target cpus : Ids) where
     parts true true u e m = (refl, refl)
     parts true false u e m = (refl, absurd (false≢true (sym e ∙ m)))
     parts false t u e m = absurd (false≢true m)
+
     split : (b : Bool) → is_empty (within reserved target cpus) ≡ b → (set.contains cpus cpu ≡ true) × (set.contains target cpu ≡ true)
     split true e = absurd (false≢true (sym r ∙ sym (ap (λ s. set.contains s cpu) (kept_nothing e)) ∙ member))
     split false e =
         parts _ _ _ r (ap (λ b. set.contains cpus cpu && b) (sym (contains-union target reserved cpu))
-            ∙ sym (contains-intersection cpus (set.union target reserved) cpu)
-            ∙ sym (ap (λ s. set.contains s cpu) (kept_some e)) ∙ member)
+        ∙ sym (contains-intersection cpus (set.union target reserved) cpu)
+        ∙ sym (ap (λ s. set.contains s cpu) (kept_some e)) ∙ member)
 
 module _ (reserved target : Ids) where
   bools_again : (c t r : Bool) → ((c && (t || r)) && (t || r)) ≡ (c && (t || r))
@@ -66,9 +67,9 @@ module _ (reserved target : Ids) where
   within_again : (cpus : Ids) → within reserved target (within reserved target cpus) ≡ within reserved target cpus
   within_again cpus =
       same_members _ _ (λ q. in_within (within reserved target cpus) q
-          ∙ ap (λ b. b && (set.contains target q || set.contains reserved q)) (in_within cpus q)
-          ∙ bools_again (set.contains cpus q) (set.contains target q) (set.contains reserved q)
-          ∙ sym (in_within cpus q))
+      ∙ ap (λ b. b && (set.contains target q || set.contains reserved q)) (in_within cpus q)
+      ∙ bools_again (set.contains cpus q) (set.contains target q) (set.contains reserved q)
+      ∙ sym (in_within cpus q))
 
   within_target : within reserved target target ≡ target
   within_target = same_members _ _ (λ q. in_within target q ∙ bools_target (set.contains target q) (set.contains reserved q))

@@ -3,7 +3,7 @@ use Rattle.std.proofs.Common.{◌≡◌, ℕ, ◌+◌, ◌*◌, ◌≤◌, Bool,
 use Rattle.std.proofs.lemmas.Bool.{false≢true}
 use Rattle.std.proofs.lemmas.Option.{none-some}
 use Rattle.std.proofs.lemmas.List.Sums.{sum_by-cons}
-use Rattle.std.specs.Prelude.{cond, find, map, Option, Some, None}
+use Rattle.std.specs.Prelude.{cond, find, map, Some, None}
 use Rattle.std.specs.List.{AllByRecursion, sum_by}
 use Rattle.apply_plan.specs.Holders.{Pairwise}
 
@@ -74,11 +74,15 @@ module _ {X : Type 0} where
       found_alone [] y h e = tt
       found_alone (x ∷ xs) y h e =
           split x
-          (λ t. ( (λ _. here x y xs t e)
-                , all_map (λ a. same x a ≡ false) (λ a. same y a ≡ true → a ≡ y)
-                    (λ a f d. absurd (false≢true (sym f ∙ ap (λ z. same z a) (here x y xs t e) ∙ d))) xs h.0))
-          (λ t. ( (λ d. absurd (false≢true (sym (find_among (λ a. same x a ≡ false) xs y h.0 (sym (later x xs t) ∙ e)) ∙ swap x y ∙ d)))
-                , found_alone xs y h.1 (sym (later x xs t) ∙ e)))
+          (λ t. (
+            (λ _. here x y xs t e),
+            all_map (λ a. same x a ≡ false) (λ a. same y a ≡ true → a ≡ y)
+                (λ a f d. absurd (false≢true (sym f ∙ ap (λ z. same z a) (here x y xs t e) ∙ d))) xs h.0,
+          ))
+          (λ t. (
+            (λ d. absurd (false≢true (sym (find_among (λ a. same x a ≡ false) xs y h.0 (sym (later x xs t) ∙ e)) ∙ swap x y ∙ d))),
+            found_alone xs y h.1 (sym (later x xs t) ∙ e),
+          ))
 
       -- a sum in which the summand of what is found is one less
       pub sum_lowered : (f g : X → ℕ) (xs : List X) (y : X) → Pairwise (λ a b. same a b ≡ false) xs → find test xs ≡ Some y → f y ≡ g y + 1
@@ -86,15 +90,15 @@ module _ {X : Type 0} where
       sum_lowered f g [] y h e less others = absurd (none-some y e)
       sum_lowered f g (x ∷ xs) y h e less others = split x
           (λ t.
-            let at : x ≡ y = here x y xs t e in
-            let first : f x ≡ g x + 1 = ap f at ∙ less ∙ ap (λ z. g z + 1) (sym at) in
-            let rest : sum_by f xs ≡ sum_by g xs = sum_same f g xs (all_map (λ a. same x a ≡ false) (λ a. f a ≡ g a) (λ a d. others a (ap (λ z. same z a) (sym at) ∙ d)) xs h.0) in
-            omega (arith, sum_by-cons f x xs, sum_by-cons g x xs))
+          let at : x ≡ y = here x y xs t e in
+          let first : f x ≡ g x + 1 = ap f at ∙ less ∙ ap (λ z. g z + 1) (sym at) in
+          let rest : sum_by f xs ≡ sum_by g xs = sum_same f g xs (all_map (λ a. same x a ≡ false) (λ a. f a ≡ g a) (λ a d. others a (ap (λ z. same z a) (sym at) ∙ d)) xs h.0) in
+          omega (arith, sum_by-cons f x xs, sum_by-cons g x xs))
           (λ t.
-            let on = sym (later x xs t) ∙ e in
-            let first : f x ≡ g x = others x (swap y x ∙ find_among (λ a. same x a ≡ false) xs y h.0 on) in
-            let rest : sum_by f xs ≡ sum_by g xs + 1 = sum_lowered f g xs y h.1 on less others in
-            omega (arith, sum_by-cons f x xs, sum_by-cons g x xs))
+          let on = sym (later x xs t) ∙ e in
+          let first : f x ≡ g x = others x (swap y x ∙ find_among (λ a. same x a ≡ false) xs y h.0 on) in
+          let rest : sum_by f xs ≡ sum_by g xs + 1 = sum_lowered f g xs y h.1 on less others in
+          omega (arith, sum_by-cons f x xs, sum_by-cons g x xs))
 
 -- facts on what the elements are mapped to
 module _ {X Y : Type 0} (f : X → Y) where

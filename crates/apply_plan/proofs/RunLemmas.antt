@@ -1,21 +1,20 @@
 -- What whole runs of a hand-over leave, whatever happens between its steps.
-use Rattle.std.proofs.Common.{◌≡◌, ℕ, ◌+◌, ◌<◌, ◌≤◌, Bool, true, false, not, ◌&&◌, ◌||◌, List, [], ◌∷◌, refl, sym, ap, ◌∙◌, subst, arith, inl, inr}
+use Rattle.std.proofs.Common.{◌≡◌, ◌+◌, ◌<◌, ◌≤◌, Bool, true, false, List, [], ◌∷◌, refl, sym, ap, ◌∙◌, subst, arith, inl, inr}
 use Rattle.std.proofs.lemmas.Bool.{false≢true}
 use Rattle.std.specs.Prelude.{cond, Option, Some, None, is_some, Result, Ok, Err}
 use Rattle.std.specs.List.{AllByRecursion}
 use Rattle.std.specs.FinSet as set
-use Rattle.cpu_set.specs.Ids.{Ids, is_same}
+use Rattle.cpu_set.specs.Ids.{Ids}
 use Rattle.cpuset_tree.specs.Groups.{cpus_in, requested_cpus}
 use Rattle.cpuset_tree.specs.Effective.{is_empty}
 use Rattle.proctable.specs.Processes.{is_alive}
 use Rattle.kernel_model.specs.declared.KernelFault.{KernelFault}
-use Rattle.kernel_model.specs.declared.Call.{Call}
-use Rattle.kernel_model.specs.KernelState.{KernelState, failed}
+use Rattle.kernel_model.specs.KernelState.{KernelState}
 use Rattle.kernel_model.specs.WellFormed.{IsWellFormed}
 use Rattle.apply_plan.specs.declared.entry.Entry.{Entry}
 use Rattle.apply_plan.specs.declared.handover.Progress.{Progress}
-use Rattle.apply_plan.specs.Holders.{Pairwise, AreApart, HasSome, IsSafe}
-use Rattle.apply_plan.specs.Targets.{Targets, holder_of, holders_of, ArePlaced}
+use Rattle.apply_plan.specs.Holders.{AreApart, HasSome, IsSafe}
+use Rattle.apply_plan.specs.Targets.{Targets, holder_of, holders_of}
 use Rattle.apply_plan.specs.DueWrite.{held, due, Steps, written, writes_of, writes_to_come, IsBetween, Between}
 use Rattle.apply_plan.specs.Runs.{Event, Stepped, Called, Happens, AllHappen, IsOpen, StaysSafe, StaysBetween, EndsWithin, writes_in, writes_of_event, last_of}
 use Rattle.apply_plan.proofs.ListLemmas.{all_map, all_map2, all_of, all_of_map, of_all_map, pairs_map, pairs_of_map, of_pairs_map, sum_le}
@@ -34,17 +33,17 @@ module _ (h : Targets) (old new : KernelState) (all : AllByRecursion (IsCalm old
   calm_apart : (a b : Entry) → IsCalm old new a → IsCalm old new b → ApartAs old h.reserved a b → ApartAs new h.reserved a b
   calm_apart a b ca cb apart =
       λ la lb pinned cpu ina inb.
-          apart (ca.dies la) (cb.dies lb) pinned cpu (ap (λ s. set.contains s cpu) (sym (same_held a ca)) ∙ ina) (ap (λ s. set.contains s cpu) (sym (same_held b cb)) ∙ inb)
+      apart (ca.dies la) (cb.dies lb) pinned cpu (ap (λ s. set.contains s cpu) (sym (same_held a ca)) ∙ ina) (ap (λ s. set.contains s cpu) (sym (same_held b cb)) ∙ inb)
 
   pub calm_safe : IsSafe old h.reserved (holders_of h.entries) → IsSafe new h.reserved (holders_of h.entries)
   calm_safe safe = record {
     apart = pairs_of_map holder_of (AreApart new h.reserved (requested_cpus new.tree)) h.entries
         (pairs_map (IsCalm old new) (ApartAs old h.reserved) (ApartAs new h.reserved) calm_apart h.entries all
-            (of_pairs_map holder_of (AreApart old h.reserved (requested_cpus old.tree)) h.entries safe.apart));
+        (of_pairs_map holder_of (AreApart old h.reserved (requested_cpus old.tree)) h.entries safe.apart));
     some = all_of_map holder_of (HasSome new (requested_cpus new.tree)) h.entries
         (all_map2 (IsCalm old new) (λ a. HasSome old (requested_cpus old.tree) (holder_of a)) (λ a. HasSome new (requested_cpus new.tree) (holder_of a))
-            (λ a c some live. ap is_empty (same_held a c) ∙ some (c.dies live)) h.entries all
-            (of_all_map holder_of (HasSome old (requested_cpus old.tree)) h.entries safe.some))
+        (λ a c some live. ap is_empty (same_held a c) ∙ some (c.dies live)) h.entries all
+        (of_all_map holder_of (HasSome old (requested_cpus old.tree)) h.entries safe.some));
   }
 
   fewer : (reserved : Ids) (l m : Bool) (held : Ids) (e : Entry) → (l ≡ true → m ≡ true) → waits reserved l held e ≤ waits reserved m held e
@@ -77,7 +76,7 @@ module _ (h : Targets) (old new : KernelState) (before : IsOpen h old) where
         handover = before.handover;
         well_formed = step_well_formed r s;
         placed = placed_alike old new h.entries keeps.alike before.placed;
-        given = all_map (λ e. e.pid < old.table.next_pid) (λ e. e.pid < new.table.next_pid) (λ e g. subst (λ t. e.pid < t.next_pid) (sym keeps.table) g) h.entries before.given
+        given = all_map (λ e. e.pid < old.table.next_pid) (λ e. e.pid < new.table.next_pid) (λ e g. subst (λ t. e.pid < t.next_pid) (sym keeps.table) g) h.entries before.given;
       }
 
   pub event_stays_open : (x : Event) → Happens h old x new → IsOpen h new
@@ -133,5 +132,5 @@ ends_within h k [] before happen = omega arith
 ends_within h k (x ∷ later) before happen =
     let first : writes_of_event h k x.0 + writes_to_come h x.1 ≤ writes_to_come h k = event_lowers h k x.1 before x.0 happen.0 in
     let rest : writes_in h x.1 later + writes_to_come h (last_of x.1 later) ≤ writes_to_come h x.1 =
-        ends_within h x.1 later (event_stays_open h k x.1 before x.0 happen.0) happen.1 in
+    ends_within h x.1 later (event_stays_open h k x.1 before x.0 happen.0) happen.1 in
     omega (arith, first, rest)

@@ -1,26 +1,21 @@
 -- What one write of a hand-over leaves: of the sets that entries hold, of safety, and of the writes to come.
-use Rattle.std.proofs.Common.{◌≡◌, ℕ, ◌+◌, ◌*◌, ◌≤◌, Bool, true, false, not, ◌&&◌, ◌||◌, List, [], ◌∷◌, length, refl, sym, ap, ◌∙◌, subst, arith, inl, inr}
+use Rattle.std.proofs.Common.{◌≡◌, ℕ, Bool, true, false, not, ◌&&◌, ◌||◌, List, refl, sym, ap, ◌∙◌, inl, inr}
 use Rattle.std.proofs.lemmas.Bool.{false≢true}
-use Rattle.std.proofs.lemmas.Option.{none-some}
-use Rattle.std.proofs.lemmas.List.Sums.{sum_by-cons}
-use Rattle.std.specs.Prelude.{◌⊎◌, cond, find, map, Option, Some, None}
-use Rattle.std.specs.List.{AllByRecursion, sum_by}
+use Rattle.std.specs.Prelude.{◌⊎◌, find, Some}
+use Rattle.std.specs.List.{AllByRecursion}
 use Rattle.std.specs.FinSet as set
 use Rattle.cpu_set.specs.Ids.{Ids, is_same}
-use Rattle.cpu_set.specs.Pointwise.{same_subsets, is_same_decides}
+use Rattle.cpu_set.specs.Pointwise.{same_subsets}
 use Rattle.cpuset_tree.specs.declared.Group.{Group}
 use Rattle.cpuset_tree.specs.Groups.{same_group, requested_cpus}
-use Rattle.cpuset_tree.specs.Effective.{is_empty}
-use Rattle.cpuset_tree.specs.GroupLemmas.{same_group_itself, same_group_sym, same_group-equal}
+use Rattle.cpuset_tree.specs.GroupLemmas.{same_group_itself, same_group_sym}
 use Rattle.proctable.specs.Processes.{is_alive}
 use Rattle.kernel_model.specs.KernelState.{KernelState}
 use Rattle.apply_plan.specs.declared.entry.Entry.{Entry}
-use Rattle.apply_plan.specs.Holders.{Pairwise, AreApart, HasSome, IsSafe}
-use Rattle.apply_plan.specs.Kept.{kept}
-use Rattle.apply_plan.specs.Targets.{Targets, holder_of, holders_of, HaveOtherGroups, AreTargetsApart, IsHandover}
-use Rattle.apply_plan.specs.DueWrite.{held, kept_of, must_release, must_move, writes_of, HasTarget, IsBetween}
-use Rattle.apply_plan.proofs.KeptLemmas.{kept_is_some, kept_within, kept_target, kept_again}
-use Rattle.apply_plan.proofs.ListLemmas.{all_map, all_map2, all_of, pairs_map, pairs_both, find_passes, find_among, find_none, found_alone, sum_lowered, sum_le}
+use Rattle.apply_plan.specs.Holders.{Pairwise, AreApart}
+use Rattle.apply_plan.specs.Targets.{holder_of, HaveOtherGroups, AreTargetsApart}
+use Rattle.apply_plan.specs.DueWrite.{held, kept_of, must_release, must_move}
+use Rattle.apply_plan.proofs.ListLemmas.{all_map, found_alone}
 
 -- the kernel after a group was written: it requests these, every other group what it did, and the same processes live
 pub record IsWrite (old new : KernelState) (g : Group) (cpus : Ids) : Type 0 where
@@ -73,7 +68,7 @@ module _ (old new : KernelState) (e : Entry) (cpus : Ids) (w : IsWrite old new e
   pub all_left : (test : Entry → Bool) (entries : List Entry) → Pairwise HaveOtherGroups entries → find test entries ≡ Some e → AllByRecursion (Left old new e cpus) entries
   all_left test entries groups found =
       all_map (λ a. same_group e.group a.group ≡ true → a ≡ e) (Left old new e cpus) left entries
-          (found_alone test (λ a b. same_group a.group b.group) (λ a b. same_group_sym a.group b.group) entries e groups found)
+      (found_alone test (λ a b. same_group a.group b.group) (λ a b. same_group_sym a.group b.group) entries e groups found)
 
   live : (a : Entry) → is_alive new.table a.pid ≡ true → is_alive old.table a.pid ≡ true
   live a l = ap (λ t. is_alive t a.pid) (sym w.table) ∙ l
@@ -92,9 +87,9 @@ module _ (old new : KernelState) (e : Entry) (cpus : Ids) (w : IsWrite old new e
         absurd (false≢true (sym other ∙ ap (λ x. same_group x.group b.group) (p.0 ∙ sym q.0) ∙ same_group_itself b.group))
     stays_apart a b (inl p) (inr q) other ma mb ab ba apart =
         λ la lb pinned cpu ina inb.
-            mb a p.0 ab (live a la) (live b lb) pinned cpu (ap (λ s. set.contains s cpu) (sym p.1) ∙ ina) (ap (λ s. set.contains s cpu) (sym q) ∙ inb)
+        mb a p.0 ab (live a la) (live b lb) pinned cpu (ap (λ s. set.contains s cpu) (sym p.1) ∙ ina) (ap (λ s. set.contains s cpu) (sym q) ∙ inb)
     stays_apart a b (inr p) (inl q) other ma mb ab ba apart =
         λ la lb pinned cpu ina inb.
-            ma b q.0 ba (live b lb) (live a la) (or_swap a.pinned b.pinned pinned) cpu (ap (λ s. set.contains s cpu) (sym q.1) ∙ inb) (ap (λ s. set.contains s cpu) (sym p) ∙ ina)
+        ma b q.0 ba (live b lb) (live a la) (or_swap a.pinned b.pinned pinned) cpu (ap (λ s. set.contains s cpu) (sym q.1) ∙ inb) (ap (λ s. set.contains s cpu) (sym p) ∙ ina)
     stays_apart a b (inr p) (inr q) other ma mb ab ba apart =
         λ la lb pinned cpu ina inb. apart (live a la) (live b lb) pinned cpu (ap (λ s. set.contains s cpu) (sym p) ∙ ina) (ap (λ s. set.contains s cpu) (sym q) ∙ inb)

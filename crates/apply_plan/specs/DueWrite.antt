@@ -1,5 +1,5 @@
 -- The write that is due in a hand-over: said of one state of the kernel.
-use Rattle.std.specs.Prelude.{◌≡◌, ◌⊎◌, ℕ, ◌+◌, Bool, true, not, ◌&&◌, cond, List, find, Option, Some, None, is_some, is_none, Result, Ok, Err}
+use Rattle.std.specs.Prelude.{◌≡◌, ◌⊎◌, ℕ, ◌+◌, Bool, true, not, ◌&&◌, cond, List, find, Option, Some, None, is_some, Result, Ok, Err}
 use Rattle.std.specs.List.{AllByRecursion, sum_by}
 use Rattle.cpu_set.specs.Ids.{Ids, is_same}
 use Rattle.cpuset_tree.specs.Groups.{requested_cpus}

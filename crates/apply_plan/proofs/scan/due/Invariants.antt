@@ -9,5 +9,5 @@ abbrev pub invariant-loop-entry : goal.invariant-loop-entry
 invariant-loop-entry g l = record {
   releases : find (must_release (g.K.Kernel.state l.kernel) l.reserved) (drop l.entry-index l.entries) ≡ find (must_release (g.K.Kernel.state l.kernel) l.reserved) l.entries;
   moves : option_or l.first_move (option_map move_of (find (must_move (g.K.Kernel.state l.kernel)) (drop l.entry-index l.entries)))
-      ≡ option_map move_of (find (must_move (g.K.Kernel.state l.kernel)) l.entries)
+      ≡ option_map move_of (find (must_move (g.K.Kernel.state l.kernel)) l.entries);
 }

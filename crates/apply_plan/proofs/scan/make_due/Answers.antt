@@ -11,5 +11,5 @@ returns-in-Some g c =
     let made = is_made old new c.in-Some.write c.write_cpus.result (due_is_placed old c.args.reserved.now c.args.entries.now c.in-Some.write c.requires due) c.write_cpus.ensures in
     record {
       made = due_is_made c.args.reserved.now c.args.entries.now old new c.in-Some.write c.write_cpus.result due made;
-      placed = made_is_placed old new c.in-Some.write c.write_cpus.result made c.args.entries.now c.requires
+      placed = made_is_placed old new c.in-Some.write c.write_cpus.result made c.args.entries.now c.requires;
     }

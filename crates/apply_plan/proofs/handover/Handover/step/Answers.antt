@@ -18,5 +18,5 @@ returns g c =
       between = λ first. step_between h a.valid old new c.requires first c.advance.result a.step;
       counted = step_counts h a.valid old new c.requires c.advance.result a.step;
       rest = step_keeps h a.valid old new c.requires c.advance.result a.step;
-      placed = a.placed
+      placed = a.placed;
     }
