@@ -1,6 +1,6 @@
 use Rattle.std.proofs.Common.{◌≡◌, ℕ, List, None, arith}
 use Rattle.std.proofs.lemmas.Grind.{common_steps}
-use Rattle.faults.proofs.FirstBelow.{first_below-none}
+use Rattle.faults.specs.FirstLaws.{first_below-none}
 use Rattle.slit.specs.AreDistances.{AreDistances, IsEntry}
 use Rattle.slit.specs.EntriesFault.{entry_fault, row_fault, entries_fault}
 use Rattle.slit.specs.Header.{HasHeader}

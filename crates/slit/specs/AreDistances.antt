@@ -1,12 +1,12 @@
 use Rattle.std.specs.Prelude.{◌≡◌, ℕ, ◌<◌, ◌≤◌, ◌*◌, length}
-use Rattle.slit.specs.declared.TheConstants.{MAX_LOCALITIES, LOCAL, UNREACHABLE}
+use Rattle.slit.specs.declared.TheConstants.{MAX_LOCALITIES}
 use Rattle.slit.specs.Table.{Table, distance}
 
 -- The standard allows this entry in row i and column j: no reserved value, and 10 on the diagonal.
 pub record IsEntry (i j entry : ℕ) : Type 0 where
-  pub not_reserved : LOCAL ≤ entry
-  pub at_most : entry ≤ UNREACHABLE
-  pub diagonal : i ≡ j → entry ≡ LOCAL
+  pub not_reserved : 10 ≤ entry
+  pub at_most : entry ≤ 255
+  pub diagonal : i ≡ j → entry ≡ 10
 
 -- each of the entries in row i is allowed
 abbrev pub IsRow : Table → ℕ → Type 0

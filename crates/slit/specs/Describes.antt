@@ -1,5 +1,4 @@
 use Rattle.std.specs.Prelude.{◌≡◌, ℕ, ◌*◌, List, take, drop}
-use Rattle.slit.specs.declared.header.TheConstants.{ENTRIES_AT}
 use Rattle.slit.specs.Table.{Table}
 use Rattle.slit.specs.AreDistances.{AreDistances}
 use Rattle.slit.specs.Header.{HasHeader, count_of}
@@ -8,7 +7,7 @@ use Rattle.slit.specs.Header.{HasHeader, count_of}
 unfoldable pub table_of : List ℕ → Table
 table_of bytes = record {
   localities = count_of bytes;
-  entries = take (count_of bytes * count_of bytes) (drop ENTRIES_AT bytes);
+  entries = take (count_of bytes * count_of bytes) (drop 44 bytes);
 }
 
 -- The bytes are the table of these distances.

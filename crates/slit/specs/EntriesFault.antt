@@ -1,6 +1,5 @@
 use Rattle.std.specs.Prelude.{ℕ, ◌==◌, ◌&&◌, nat_lt, [], ◌∷◌, Option}
 use Rattle.faults.specs.First.{when, first_of, first_below}
-use Rattle.slit.specs.declared.TheConstants.{LOCAL}
 use Rattle.slit.specs.declared.fault.SlitFault.{SlitFault}
 use Rattle.slit.specs.declared.fault.SlitFault.TheVariants.{ReservedValue, BadDiagonal}
 use Rattle.slit.specs.Table.{Table, distance}
@@ -8,8 +7,8 @@ use Rattle.slit.specs.Table.{Table, distance}
 -- the fault of the entry in row i and column j
 abbrev pub entry_fault : ℕ → ℕ → ℕ → Option SlitFault
 entry_fault i j entry = first_of (
-    when (nat_lt entry LOCAL) (ReservedValue i j)
-    ∷ when (i == j && nat_lt LOCAL entry) (BadDiagonal i)
+    when (nat_lt entry 10) (ReservedValue i j)
+    ∷ when (i == j && nat_lt 10 entry) (BadDiagonal i)
     ∷ [])
 
 -- the first fault in row i

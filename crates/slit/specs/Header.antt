@@ -2,7 +2,6 @@ use Rattle.std.specs.Prelude.{◌≡◌, ℕ, ◌+◌, ◌*◌, ◌≤◌, ◌%�
 use Rattle.std.specs.Int.{from_le_bytes, w32, w64}
 use Rattle.std.specs.List.{starts_with}
 use Rattle.slit.specs.declared.TheConstants.{MAX_LOCALITIES}
-use Rattle.slit.specs.declared.header.TheConstants.{ENTRIES_AT}
 
 -- the length of the table, in bytes 4 to 7
 unfoldable pub size_of : List ℕ → ℕ
@@ -18,6 +17,6 @@ pub record HasHeader (bytes : List ℕ) (n : ℕ) : Type 0 where
   pub count : count_of bytes ≡ n
   pub at_least_one : 1 ≤ n
   pub at_most : n ≤ MAX_LOCALITIES
-  pub size : size_of bytes ≡ ENTRIES_AT + n * n
-  pub enough : ENTRIES_AT + n * n ≤ length bytes
-  pub sum : sum (take (ENTRIES_AT + n * n) bytes) % 256 ≡ 0
+  pub size : size_of bytes ≡ 44 + n * n
+  pub enough : 44 + n * n ≤ length bytes
+  pub sum : sum (take (44 + n * n) bytes) % 256 ≡ 0

@@ -13,10 +13,12 @@
 mod entries;
 mod fault;
 mod header;
-mod table;
+mod laws;
+mod slit;
 
 pub use fault::SlitFault;
-pub use table::Slit;
+pub use laws::the_limits;
+pub use slit::Slit;
 
 /// The most localities that a table may have.
 pub const MAX_LOCALITIES: usize = 64;

@@ -1,6 +1,6 @@
 use Rattle.std.proofs.Common.{arith}
 use Rattle.std.proofs.lemmas.Result.{err_from_is_err_and}
-use Rattle.faults.proofs.FirstBelow.{first_below-none, first_below-at}
+use Rattle.faults.specs.FirstLaws.{first_below-none, first_below-at}
 use Rattle.slit.specs.Table.{distance, table}
 use Rattle.slit.specs.EntriesFault.{entry_fault, row_fault}
 use Rattle.slit.proofs.entries.check_row.Goals as goal

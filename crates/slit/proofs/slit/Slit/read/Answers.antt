@@ -1,5 +1,5 @@
 use Rattle.slit.proofs.NoFault.{header_fault-none, entries_fault-none}
-use Rattle.slit.proofs.table.Slit.read.Goals as goal
+use Rattle.slit.proofs.slit.Slit.read.Goals as goal
 
 pub returns-in_err-count-clause-only : goal.returns-in_err-count-clause-only
 returns-in_err-count-clause-only c = λ t d.

@@ -59,6 +59,14 @@ impl Slit {
         self.count
     }
 
+    /// The distances by rows: those from locality 0 to each locality, then those from locality 1, and so on.
+    pub fn distances(&self) -> &[u8]
+        ensures distances { result.now ≡ self.now.entries }
+        ensures sound { AreDistances self.now }
+    {
+        &self.distances
+    }
+
     /// The distance from locality `i` to locality `j`: the byte in row `i` and column `j`.
     pub fn distance(&self, i: usize, j: usize) -> u8
         requires i_is_locality { i < self.now.localities }
