@@ -5,7 +5,5 @@ pub mod ValueFault
 pub mod SectionOf
 pub mod IsRunnable
 pub mod ConfigOf
-pub mod Answers
 pub mod PathOf
 pub mod FoundView
-pub mod ErrorOfJson

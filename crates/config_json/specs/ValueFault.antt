@@ -1,5 +1,6 @@
 -- What is wrong with a JSON value as a config: the table of checks in their order, of which the first that fails decides.
-use Rattle.std.specs.Prelude.{Option, [], ◌∷◌, is_some, not, option_and_then, codes}
+use Rattle.std.specs.Prelude.{Bool, true, Option, [], ◌∷◌, is_some, not, option_and_then, codes, if◌then◌else◌}
+use Rattle.std.specs.Option.{option_map_or}
 use Rattle.faults.specs.First.{first_of, when}
 use Rattle.serde_json.specs.Data.{Data}
 use Rattle.serde_json.specs.Find.{as_object, as_str}
@@ -8,7 +9,8 @@ use Rattle.config_json.specs.declared.fault.ConfigFault.TheVariants.{NotObject}
 use Rattle.config_json.specs.declared.field.Field.TheVariants.{OciVersion, Root, RootPath, Linux, Resources, Cpu, Quota, Period, Cpus, Mems}
 use Rattle.config_json.specs.Members.{version_of, root_of, root_path_of, linux_of, resources_of, cpu_of, cpu_member}
 use Rattle.config_json.specs.Checks.{signed_of, unsigned_of, missing_fault, kind_fault}
-use Rattle.config_json.specs.VersionFault.{version_fault_of}
+use Rattle.semver.specs.Parse.{version_parts}
+use Rattle.config_json.specs.VersionFault.{version_fault_of, is_plain}
 
 -- the version of the specification is not there, or is no text
 abbrev pub version_kind_fault : Data → Option ConfigFault
@@ -39,10 +41,6 @@ cpu_fault d = first_of (
     ∷ kind_fault Mems as_str (cpu_member (codes "mems") d)
     ∷ [])
 
--- what may be wrong before the text of the version is read; nothing until then asks for memory
-abbrev pub early_fault : Data → Option ConfigFault
-early_fault d = first_of (when (not (is_some (as_object d))) NotObject ∷ version_kind_fault d ∷ [])
-
 -- the first fault of a value
 abbrev pub value_fault : Data → Option ConfigFault
 value_fault d = first_of (
@@ -51,3 +49,13 @@ value_fault d = first_of (
     ∷ root_fault d
     ∷ cpu_fault d
     ∷ [])
+
+-- the version of the specification is absent, or no text, or one that is read without memory
+abbrev pub has_plain_version : Data → Bool
+has_plain_version d = option_map_or (λ text. is_plain (version_parts text)) (option_and_then as_str (version_of d)) true
+
+-- what is known to be wrong before memory is asked for: all of it, but for what may come behind a version that wants memory
+abbrev pub early_fault : Data → Option ConfigFault
+early_fault d =
+    if has_plain_version d then value_fault d
+    else first_of (when (not (is_some (as_object d))) NotObject ∷ version_kind_fault d ∷ [])

@@ -1,18 +1,19 @@
-ghost use Rattle.std.specs.Prelude.{◌≡◌, ◌<◌, ◌≤◌, length, None, Some, IsErrOf, is_some};
+ghost use Rattle.std.specs.Prelude.{◌≡◌, Some, is_some};
 ghost use Rattle.std.specs.Result.{result_err};
 ghost use Rattle.std.specs.List.{list_all};
 ghost use Rattle.serde_json.specs.Find.{as_str};
 ghost use Rattle.serde_json.specs.View.{view, items_view};
-ghost use Rattle.config_json.specs.ConfigOf.{answer_to, config_of};
+ghost use Rattle.faults.specs.Answers.{Gives, ChecksFirst};
+ghost use Rattle.config_json.specs.ConfigOf.{answer_to, config_of, bytes_fault};
 ghost use Rattle.config_json.specs.IsRunnable.{are_words, is_runnable};
 ghost use Rattle.config_json.specs.ValueFault.{early_fault, root_fault};
-ghost use Rattle.config_json.specs.Answers.{Gives};
 
 use crate::cpu_section::{CpuSection, Found};
-use crate::fault::{ConfigError, ConfigFault};
+use crate::fault::ConfigFault;
 use crate::field::Field;
 use crate::lookup::{check_object, required, text};
 use crate::version::check_version;
+use faults::OrMemory;
 use json_text::{inner, member, parse};
 use serde_json::Value;
 use std::alloc::Global;
@@ -38,28 +39,30 @@ impl Config {
     /// `root.path`; `linux`, `linux.resources`, `linux.resources.cpu`, and its `quota`, `period`, `cpus`
     /// and `mems`. A member that is null counts as absent, of one that stands twice the last counts,
     /// and all others are ignored. A quota is a whole number of 64 bits with a sign, a period one
-    /// without, written with neither fraction nor exponent. [`ConfigError::Memory`] is answered where a
-    /// growth was refused.
+    /// without, written with neither fraction nor exponent.
+    ///
+    /// Before memory is asked for, it is known whether there are too many bytes or none, and whether they
+    /// are UTF-8. Once the JSON value is there, only a version with pre-release or build metadata and the
+    /// texts of a value without fault want memory.
     #[tactic(auto, unfolding(crate::specs::ConfigOf::config_of))]
-    pub fn read(alloc: Global, bytes: &[u8]) -> Result<Config, ConfigError>
+    pub fn read(alloc: Global, bytes: &[u8]) -> Result<Config, OrMemory<ConfigFault>>
         ensures value { Gives result (config_of bytes.now) }
-        ensures memory { IsErrOf result ConfigError.Memory
-            → (0 < length bytes.now) × (length bytes.now ≤ MAX_BYTES) }
+        ensures memory { ChecksFirst result (bytes_fault bytes.now) }
     {
         if bytes.len() > MAX_BYTES {
-            return Err(ConfigError::Fault(ConfigFault::TooLong));
+            return Err(OrMemory::Fault(ConfigFault::TooLong));
         }
-        Config::of(alloc, &parse(alloc, bytes)?)
+        Config::of(alloc, &parse(alloc, bytes, ConfigFault::NotJson)?)
     }
 
-    /// What a JSON value says. Memory is asked for by some versions, and by the texts of a value without fault.
+    /// What a JSON value says.
     #[tactic(auto, unfolding(crate::specs::ValueFault::oci_version_fault))]
-    fn of(alloc: Global, value: &Value) -> Result<Config, ConfigError>
+    fn of(alloc: Global, value: &Value) -> Result<Config, OrMemory<ConfigFault>>
         ensures value { Gives result (answer_to (Some (view value.now))) }
-        ensures memory { IsErrOf result ConfigError.Memory → early_fault (view value.now) ≡ None }
+        ensures memory { ChecksFirst result (early_fault (view value.now)) }
     {
         if !value.is_object() {
-            return Err(ConfigError::Fault(ConfigFault::NotObject));
+            return Err(OrMemory::Fault(ConfigFault::NotObject));
         }
         check_version(alloc, value)?;
         check_root(value)?;

@@ -9,10 +9,12 @@ mod config;
 mod cpu_section;
 mod fault;
 mod field;
+mod laws;
 mod lookup;
 mod version;
 
 pub use config::{Config, MAX_BYTES};
 pub use cpu_section::CpuSection;
-pub use fault::{ConfigError, ConfigFault};
+pub use fault::ConfigFault;
 pub use field::Field;
+pub use laws::the_limits;

@@ -1,13 +1,14 @@
-ghost use Rattle.std.specs.Prelude.{◌≡◌, None, IfOk, IsErrOf};
+ghost use Rattle.std.specs.Prelude.{◌≡◌, false, IfOk, IsErr, IsErrOf};
 ghost use Rattle.serde_json.specs.View.{view};
 ghost use Rattle.semver.specs.Parse.{version_parts};
-ghost use Rattle.config_json.specs.VersionFault.{is_major_one, IsPlain};
-ghost use Rattle.config_json.specs.ValueFault.{oci_version_fault, version_kind_fault};
-ghost use Rattle.config_json.specs.Answers.{Meets};
+ghost use Rattle.faults.specs.Answers.{Reports, ChecksFirst};
+ghost use Rattle.config_json.specs.VersionFault.{is_major_one, is_plain};
+ghost use Rattle.config_json.specs.ValueFault.{oci_version_fault, version_kind_fault, has_plain_version};
 
-use crate::fault::{ConfigError, ConfigFault};
+use crate::fault::ConfigFault;
 use crate::field::Field;
 use crate::lookup::{required, text};
+use faults::OrMemory;
 use json_text::member;
 use semver::Version;
 use serde_json::Value;
@@ -17,7 +18,7 @@ use std::alloc::{AllocError, Global};
 /// build metadata wants no memory.
 fn is_major_one(alloc: Global, text: &str) -> Result<bool, AllocError>
     ensures ok { IfOk result (λ answer. answer ≡ is_major_one (version_parts text.now)) }
-    ensures plain { IsPlain (version_parts text.now) result }
+    ensures plain { IsErr result → is_plain (version_parts text.now) ≡ false }
 {
     match Version::parse(alloc, text) {
         Ok(version) => Ok(version.major == 1),
@@ -28,13 +29,14 @@ fn is_major_one(alloc: Global, text: &str) -> Result<bool, AllocError>
 
 /// Checks `ociVersion`.
 #[tactic(auto, unfolding(crate::specs::ValueFault::oci_version_fault))]
-pub fn check_version(alloc: Global, config: &Value) -> Result<(), ConfigError>
-    ensures fault { Meets result (oci_version_fault (view config.now)) }
-    ensures memory { IsErrOf result ConfigError.Memory → version_kind_fault (view config.now) ≡ None }
+pub fn check_version(alloc: Global, config: &Value) -> Result<(), OrMemory<ConfigFault>>
+    ensures fault { Reports result (oci_version_fault (view config.now)) }
+    ensures memory { ChecksFirst result (version_kind_fault (view config.now)) }
+    ensures plain { IsErrOf result OrMemory.Memory → has_plain_version (view config.now) ≡ false }
 {
     let version = required(member(config, "ociVersion"), Field::OciVersion)?;
     if !is_major_one(alloc, text(version, Field::OciVersion)?)? {
-        return Err(ConfigError::Fault(ConfigFault::BadVersion));
+        return Err(OrMemory::Fault(ConfigFault::BadVersion));
     }
     Ok(())
 }

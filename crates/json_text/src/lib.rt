@@ -7,4 +7,4 @@ mod lookup;
 mod parsing;
 
 pub use lookup::{inner, member};
-pub use parsing::{JsonError, parse};
+pub use parsing::parse;

@@ -1,31 +1,30 @@
-ghost use Rattle.std.specs.Prelude.{◌≡◌, ◌<◌, length, Some, None, IfOk, OnOk, IsErrOf};
+ghost use Rattle.std.specs.Prelude.{◌≡◌, Some, IfOk};
 ghost use Rattle.serde_json.specs.View.{view};
-ghost use Rattle.json_text.specs.JsonOf.{json_of};
+ghost use Rattle.faults.specs.Answers.{Reports, ChecksFirst};
+ghost use Rattle.json_text.specs.JsonOf.{json_of, json_fault, text_fault};
 
+use faults::OrMemory;
 use serde_json::Value;
 use std::alloc::Global;
+use std::str;
 
-/// Why a text gave no value.
-#[derive(Clone, Copy, Debug, PartialEq, Eq)]
-pub enum JsonError {
-    /// A growth was refused.
-    Memory,
-    /// The bytes are not UTF-8, or not JSON, or nest deeper than `serde_json` reads.
-    NotJson,
-}
-
-/// The JSON value that the bytes are.
+/// The JSON value that the bytes are, or this fault where they are none: they are not UTF-8, or not JSON,
+/// or nest deeper than `serde_json` reads.
+///
+/// No bytes, and bytes that are not UTF-8, are told before memory is asked for.
 #[tactic(auto, using(crate::proofs::TextTests::utf8_tests, crate::proofs::TextTests::no_bytes), unfolding(crate::specs::JsonOf::json_of))]
-pub fn parse(alloc: Global, bytes: &[u8]) -> Result<Value, JsonError>
+pub fn parse<F: Drop>(alloc: Global, bytes: &[u8], not_json: F) -> Result<Value, OrMemory<F>>
     ensures value { IfOk result (λ v. json_of bytes.now ≡ Some (view v)) }
-    ensures not_json { IsErrOf result JsonError.NotJson → json_of bytes.now ≡ None }
-    ensures memory { IsErrOf result JsonError.Memory → 0 < length bytes.now }
-    ensures some { OnOk result (0 < length bytes.now) }
+    ensures fault { Reports result (json_fault not_json bytes.now) }
+    ensures memory { ChecksFirst result (text_fault not_json bytes.now) }
 {
-    match Value::from_slice(alloc, bytes) {
+    let Ok(text) = str::from_utf8(bytes) else {
+        return Err(OrMemory::Fault(not_json));
+    };
+    match Value::from_str(alloc, text) {
         Ok(value) => Ok(value),
-        Err(e) if e.is_memory() => Err(JsonError::Memory),
-        Err(_) => Err(JsonError::NotJson),
+        Err(e) if e.is_memory() => Err(OrMemory::Memory),
+        Err(_) => Err(OrMemory::Fault(not_json)),
     }
 }
 

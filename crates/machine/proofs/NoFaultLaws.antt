@@ -1,17 +1,17 @@
 -- A JSON value that has its members and says a sound machine has no fault.
 use Rattle.std.proofs.Common.{◌≡◌, ℕ, suc, ◌<◌, ◌≤◌, Bool, true, false, ◌&&◌, List, [], ◌∷◌, length, get_or, map, take, Option, Some, None, refl, sym, ap, ◌∙◌, nat_lt, arith}
-use Rattle.std.specs.Prelude.{◌||◌, ◌==◌, AllPairs, is_some, unwrap_or}
+use Rattle.std.specs.Prelude.{◌||◌, ◌==◌, AllPairs, is_some, unwrap_or, option_map}
 use Rattle.std.specs.List.{list_all, flat_map}
 use Rattle.std.proofs.lemmas.Bool.{false≢true, false_from_ne_true}
 use Rattle.std.proofs.lemmas.Bool.Decides.{nat_tests}
 use Rattle.std.proofs.lemmas.Grind.{common_steps}
 use Rattle.std.proofs.lemmas.List.{get_or-map, get_or-take, length-map, length-take, take-map}
 use Rattle.std.specs.FinSet as set
-use Rattle.faults.proofs.FirstBelow.{first_below-none}
-use Rattle.faults.specs.First.{when}
+use Rattle.faults.specs.FirstLaws.{first_below-none}
 use Rattle.serde_json.specs.Data.{Data, null}
 use Rattle.serde_json.specs.Find.{as_array}
 use Rattle.cpu_set.specs.Ids.{Ids, IsDisjoint}
+use Rattle.cpu_set.specs.LeastLaws.{least-none}
 use Rattle.cpu_set.specs.Pointwise.{is_same_decides}
 use Rattle.slit.specs.AreDistances.{IsEntry}
 use Rattle.slit.specs.Table.{Table}
@@ -50,7 +50,7 @@ not_both false b f = refl
 twice_fault-apart : (earlier cpus : Ids) → IsDisjoint cpus earlier → twice_fault earlier cpus ≡ None
 unfolding twice_fault
 twice_fault-apart earlier cpus apart =
-    first_below-none _ _ (λ c lt. ap (λ b. when b (CpuTwice c)) (not_both _ _ (apart c)))
+    ap (option_map CpuTwice) (least-none _ (λ c is_cpu. not_both _ _ (apart c)))
 
 -- some sets as the nodes of a machine
 only_nodes : List Ids → Layout

@@ -6,7 +6,7 @@ use Rattle.std.proofs.lemmas.List.{take_more, take_all, map-append}
 use Rattle.std.proofs.lemmas.List.Quantifiers.{all_pairs_push}
 use Rattle.std.proofs.lemmas.List.Sums.{fold_push}
 use Rattle.std.specs.FinSet as set
-use Rattle.faults.proofs.FirstBelow.{first_below-none, first_below-at}
+use Rattle.faults.specs.FirstLaws.{first_below-none, first_below-at}
 use Rattle.serde_json.specs.Data.{Data, null}
 use Rattle.cpu_set.specs.Ids.{Ids, IsDisjoint}
 use Rattle.machine.specs.declared.fault.MachineFault.{MachineFault}

@@ -2,6 +2,7 @@
 use Rattle.std.proofs.Common.{◌≡◌, ℕ, zero, suc, ◌+◌, ◌*◌, ◌<◌, ◌≤◌, inl, inr, true, List, [], ◌∷◌, ◌++◌, length, get_or, map, take, Option, Some, None, Result, Ok, Err, refl, sym, ap, ◌∙◌, append_assoc, length-append, arith}
 use Rattle.std.specs.List.{list_all, flat_map}
 use Rattle.std.specs.Prelude.{◌==◌, IfOk}
+use Rattle.std.proofs.lemmas.Nat.{mul-le}
 use Rattle.std.proofs.Math.Nat.{suc-mul}
 use Rattle.std.proofs.Math.Seq.{take-suc}
 use Rattle.std.proofs.lemmas.Bool.{cases_lt, cases_Bool, false≢true}
@@ -10,14 +11,13 @@ use Rattle.std.proofs.lemmas.List.{take_more, take_all, map-append, length-map, 
 use Rattle.std.proofs.lemmas.List.Concat.{get_or-flat_map}
 use Rattle.std.proofs.lemmas.List.Folds.{list_all_at}
 use Rattle.std.proofs.lemmas.Grind.{common_steps}
-use Rattle.faults.proofs.FirstBelow.{first_below-none, first_below-at}
+use Rattle.faults.specs.FirstLaws.{first_below-none, first_below-at}
 use Rattle.serde_json.specs.Data.{Data, null}
 use Rattle.slit.specs.AreDistances.{IsEntry}
 use Rattle.slit.specs.Table.{distance, table}
 use Rattle.machine.specs.declared.fault.MachineFault.{MachineFault}
-use Rattle.machine.specs.declared.fault.MachineError.{MachineError}
-use Rattle.machine.specs.declared.fault.MachineError.TheVariants.{Memory, Fault}
-use Rattle.machine.specs.Answers.{IsErrorOf}
+use Rattle.machine.specs.declared.TheConstants.{NODE_LIMIT}
+use Rattle.machine.specs.declared.table.TheConstants.{ENTRY_LIMIT}
 use Rattle.machine.specs.Distances.{number_of, entry_of, row_entries, AreEntries, IsRowAllowed, AreRowsAllowed}
 use Rattle.machine.specs.DistancesFault.{entry_fault, row_fault, rows_fault}
 use Rattle.machine.specs.Members.{items_of}
@@ -161,6 +161,23 @@ entry_at ds n i j each lt in_row =
     ∙ get_or-flat_map row_entries ds i j null 0 lt there
     ∙ get_or-map entry_of (items_of (get_or ds i null)) j null 0 long
 
+within_limit : (i n : ℕ) → i < n → n ≤ NODE_LIMIT → i * n + n ≤ ENTRY_LIMIT
+within_limit i n lt few =
+    let all : suc i * n ≤ NODE_LIMIT * NODE_LIMIT = mul-le (suc i) n NODE_LIMIT NODE_LIMIT (omega arith) few in
+    omega (arith, suc-mul i n, all)
+
+-- there is room for the entries of row i behind those of the rows before it
+pub AreRowsRead-room :
+    (ds : List Data) (n i : ℕ) (entries : List ℕ) → AreRowsRead ds i entries → length ds ≡ n
+    → list_all (λ row. length (items_of row) == n) ds ≡ true → i < length ds → n ≤ NODE_LIMIT
+    → length entries + length (items_of (get_or ds i null)) ≤ ENTRY_LIMIT
+AreRowsRead-room ds n i entries rows count all lt few =
+    let each = columns ds n all in
+    let before : length entries ≡ i * n = ap length rows.read ∙ rows_before ds n i each (omega arith) in
+    let more : length (items_of (get_or ds i null)) ≡ n = each i lt in
+    let in_rows : i < n = omega arith in
+    rw (before, more) (within_limit i n in_rows few)
+
 -- n allowed rows of n entries are the distances between n nodes
 pub AreEntries-rows :
     (ds : List Data) (n : ℕ) → length ds ≡ n → list_all (λ row. length (items_of row) == n) ds ≡ true
@@ -176,13 +193,6 @@ AreEntries-rows ds n rows all allowed =
           let long : j < length (items_of (get_or ds i null)) = omega (arith, each i lt) in
           rw (entry_at ds n i j each lt is_column) (allowed i lt j long);
     }
-
--- a fault that decides a row decides the rows
-pub IsErrorOf-weaker :
-    (e : MachineError) (a b : Option MachineFault) → ((f : MachineFault) → a ≡ Some f → b ≡ Some f)
-    → IsErrorOf e a → IsErrorOf e b
-IsErrorOf-weaker Memory a b gives is = tt
-IsErrorOf-weaker (Fault f) a b gives is = gives f is
 
 -- what follows from two facts of an answered value
 pub IfOk-both :

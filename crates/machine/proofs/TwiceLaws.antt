@@ -1,30 +1,19 @@
 -- The least CPU that two sets share.
-use Rattle.std.proofs.Common.{◌≡◌, ℕ, ◌&&◌, Some, None, sym, ap, ◌∙◌, arith}
+use Rattle.std.proofs.Common.{◌≡◌, ℕ, ◌&&◌, Option, Some, None, ap}
+use Rattle.std.specs.Prelude.{option_map}
 use Rattle.std.specs.FinSet as set
-use Rattle.faults.proofs.FirstBelow.{first_below-none, first_below-at}
-use Rattle.faults.specs.First.{when}
-use Rattle.cpu_set.specs.Ids.{Ids, IsDisjoint, NoneFrom, IsFirstFrom}
-use Rattle.cpu_set.specs.Members.{IsCpu}
-use Rattle.cpu_set.specs.Pointwise.{contains-intersection}
+use Rattle.cpu_set.specs.Ids.{Ids, IsDisjoint, NoneFrom}
+use Rattle.cpu_set.specs.LeastLaws.{IsFirstOf, least-both}
 use Rattle.cpu_set.specs.SetLaws.{empty_of_none, meet_empty-IsDisjoint}
-use Rattle.cpu_set.specs.declared.TheConstants.{CPU_LIMIT}
 use Rattle.machine.specs.declared.fault.MachineFault.TheVariants.{CpuTwice}
 use Rattle.machine.specs.NodesFault.{twice_fault}
 
+-- it is the first of what they share
 pub twice_fault-first :
-    (earlier cpus : Ids) (n : ℕ) → IsCpu n → IsFirstFrom (set.intersection cpus earlier) 0 n
-    → twice_fault earlier cpus ≡ Some (CpuTwice n)
+    (earlier cpus : Ids) (first : Option ℕ) → IsFirstOf (set.intersection cpus earlier) first
+    → twice_fault earlier cpus ≡ option_map CpuTwice first
 unfolding twice_fault
-twice_fault-first earlier cpus n in_range first =
-    first_below-at CPU_LIMIT n (λ cpu. when (set.contains cpus cpu && set.contains earlier cpu) (CpuTwice cpu)) _ in_range
-    (λ k lt. ap (λ b. when b (CpuTwice k)) (sym (contains-intersection cpus earlier k) ∙ first.least k (omega arith) lt))
-    (ap (λ b. when b (CpuTwice n)) (sym (contains-intersection cpus earlier n) ∙ first.member))
-
-pub twice_fault-none : (earlier cpus : Ids) → NoneFrom (set.intersection cpus earlier) 0 → twice_fault earlier cpus ≡ None
-unfolding twice_fault
-twice_fault-none earlier cpus none =
-    first_below-none CPU_LIMIT _
-    (λ k lt. ap (λ b. when b (CpuTwice k)) (sym (contains-intersection cpus earlier k) ∙ none k (omega arith)))
+twice_fault-first earlier cpus first is = ap (option_map CpuTwice) (least-both cpus earlier first is)
 
 pub apart_of_none : (earlier cpus : Ids) → NoneFrom (set.intersection cpus earlier) 0 → IsDisjoint earlier cpus
 apart_of_none earlier cpus none = λ n in_earlier in_cpus.

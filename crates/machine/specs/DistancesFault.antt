@@ -4,7 +4,6 @@ use Rattle.faults.specs.First.{when, first_of, first_below}
 use Rattle.serde_json.specs.Data.{Data, null}
 use Rattle.serde_json.specs.Find.{as_array}
 use Rattle.slit.specs.Table.{Table}
-use Rattle.slit.specs.declared.TheConstants.{LOCAL, UNREACHABLE}
 use Rattle.machine.specs.declared.fault.MachineFault.{MachineFault}
 use Rattle.machine.specs.declared.fault.MachineFault.TheVariants.{BadField, BothDistances, NoDistances, WrongSize, BadDistance}
 use Rattle.machine.specs.declared.field.Field.TheVariants.{Distances}
@@ -15,7 +14,7 @@ use Rattle.machine.specs.Members.{items_of}
 -- the entry in row i and column j is no whole number, or not a distance that may stand there
 abbrev pub entry_fault : ℕ → ℕ → Option ℕ → Option MachineFault
 entry_fault i j None = Some (BadField Distances)
-entry_fault i j (Some d) = when (not (cond (i == j) (d == LOCAL) (nat_le LOCAL d && nat_le d UNREACHABLE))) (BadDistance i j)
+entry_fault i j (Some d) = when (not (cond (i == j) (d == 10) (nat_le 10 d && nat_le d 255))) (BadDistance i j)
 
 -- the first fault in row i
 unfoldable pub row_fault : ℕ → List Data → Option MachineFault

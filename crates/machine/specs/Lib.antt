@@ -8,11 +8,9 @@ pub mod Members
 pub mod Listed
 pub mod KindFaults
 pub mod NodesFault
-pub mod Answers
 pub mod Distances
 pub mod DistancesFault
 pub mod BootFaults
 pub mod MachineOf
-pub mod JsonFault
 pub mod HasMembers
 pub mod SoundIsRead

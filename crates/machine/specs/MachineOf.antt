@@ -1,7 +1,7 @@
 -- The machine that a text describes, with or without a SLIT beside it, or the first thing that is wrong with it.
 use Rattle.std.specs.Prelude.{ℕ, not, cond, nat_lt, List, [], ◌∷◌, length, map, Option, Some, None, is_some, Result, Ok, Err}
 use Rattle.std.specs.FinSet as set
-use Rattle.faults.specs.First.{when, first_of}
+use Rattle.faults.specs.First.{when, first_of, unless}
 use Rattle.serde_json.specs.Data.{Data}
 use Rattle.serde_json.specs.Find.{as_object}
 use Rattle.slit.specs.Table.{Table}
@@ -12,7 +12,7 @@ use Rattle.machine.specs.declared.field.Field.TheVariants.{Nodes}
 use Rattle.machine.specs.BootFaults.{reserved_fault, offline_fault}
 use Rattle.machine.specs.Distances.{distances_in}
 use Rattle.machine.specs.DistancesFault.{distances_fault}
-use Rattle.json_text.specs.JsonOf.{json_of}
+use Rattle.json_text.specs.JsonOf as json
 use Rattle.machine.specs.KindFaults.{array_fault}
 use Rattle.machine.specs.Layout.{Layout}
 use Rattle.machine.specs.Listed.{listed, listed_in}
@@ -40,11 +40,6 @@ value_fault slit d = first_of (
     ∷ offline_fault (offline_member d) (present (said_by slit d)) (listed_in (reserved_member d))
     ∷ [])
 
--- the fault where there is one, else the value
-abbrev pub unless : {A E : Type 0} → Option E → A → Result A E
-unless None x = Ok x
-unless (Some e) x = Err e
-
 -- what a text says that may be no JSON
 abbrev pub answer_to : Option Table → Option Data → Result Layout MachineFault
 answer_to slit None = Err NotJson
@@ -52,4 +47,8 @@ answer_to slit (Some d) = unless (value_fault slit d) (said_by slit d)
 
 -- the machine that a text describes
 unfoldable pub machine_of : Option Table → List ℕ → Result Layout MachineFault
-machine_of slit text = cond (nat_lt MAX_BYTES (length text)) (Err NotJson) (answer_to slit (json_of text))
+machine_of slit text = cond (nat_lt MAX_BYTES (length text)) (Err NotJson) (answer_to slit (json.json_of text))
+
+-- what shows in a text before it is read as JSON: there are too many bytes or none, or they are not UTF-8
+abbrev pub text_fault : List ℕ → Option MachineFault
+text_fault text = first_of (when (nat_lt MAX_BYTES (length text)) NotJson ∷ json.text_fault NotJson text ∷ [])

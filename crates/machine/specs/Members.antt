@@ -1,25 +1,27 @@
 -- The members of a machine file.
-use Rattle.std.specs.Prelude.{List, [], ◌∷◌, Option, codes}
+use Rattle.std.specs.Prelude.{List, [], ◌∷◌, Option}
 use Rattle.std.specs.Option.{option_map_or}
 use Rattle.json_text.specs.Members.{member_of}
 use Rattle.serde_json.specs.Data.{Data, Items, no_items, item}
 use Rattle.serde_json.specs.Find.{as_array}
+use Rattle.machine.specs.FieldName.{name_of}
+use Rattle.machine.specs.declared.field.Field.TheVariants.{Nodes, Distances, Reserved, Offline}
 
 -- the lists of the nodes' CPUs, node 0 first
 abbrev pub nodes_member : Data → Option Data
-nodes_member d = member_of (codes "nodes") d
+nodes_member d = member_of (name_of Nodes) d
 
 -- the rows of distances
 abbrev pub distances_member : Data → Option Data
-distances_member d = member_of (codes "distances") d
+distances_member d = member_of (name_of Distances) d
 
 -- the list of the reserved CPUs
 abbrev pub reserved_member : Data → Option Data
-reserved_member d = member_of (codes "reserved") d
+reserved_member d = member_of (name_of Reserved) d
 
 -- the list of the CPUs that are offline at boot
 abbrev pub offline_member : Data → Option Data
-offline_member d = member_of (codes "offline") d
+offline_member d = member_of (name_of Offline) d
 
 -- the items of an array
 abbrev pub item_list : Items → List Data

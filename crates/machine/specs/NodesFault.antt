@@ -1,9 +1,9 @@
-use Rattle.std.specs.Prelude.{◌||◌, ◌&&◌, ◌==◌, nat_lt, List, [], ◌∷◌, length, take, map, slice_index_or, Option}
+use Rattle.std.specs.Prelude.{◌||◌, ◌&&◌, ◌==◌, nat_lt, List, [], ◌∷◌, length, take, map, slice_index_or, Option, option_map}
 use Rattle.faults.specs.First.{when, first_of, first_below}
 use Rattle.std.specs.FinSet as set
 use Rattle.serde_json.specs.Data.{Data, null}
 use Rattle.cpu_set.specs.Ids.{Ids}
-use Rattle.cpu_set.specs.declared.TheConstants.{CPU_LIMIT}
+use Rattle.cpu_set.specs.Least.{least_that}
 use Rattle.machine.specs.declared.TheConstants.{NODE_LIMIT}
 use Rattle.machine.specs.declared.fault.MachineFault.{MachineFault}
 use Rattle.machine.specs.declared.fault.MachineFault.TheVariants.{NodeCount, CpuTwice}
@@ -14,7 +14,7 @@ use Rattle.machine.specs.KindFaults.{list_fault}
 
 -- the least CPU of a node that the earlier nodes have too
 unfoldable pub twice_fault : Ids → Ids → Option MachineFault
-twice_fault earlier cpus = first_below CPU_LIMIT (λ cpu. when (set.contains cpus cpu && set.contains earlier cpu) (CpuTwice cpu))
+twice_fault earlier cpus = option_map CpuTwice (least_that (λ cpu. set.contains cpus cpu && set.contains earlier cpu))
 
 -- a node is no list of CPUs, or has one of the earlier nodes' CPUs
 unfoldable pub node_fault : Ids → Data → Option MachineFault

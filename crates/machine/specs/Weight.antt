@@ -1,7 +1,6 @@
 use Rattle.std.specs.Prelude.{◌≡◌, ◌≢◌, ℕ, zero, suc, ◌<◌, ◌≤◌, true, cond, min}
 use Rattle.std.specs.FinSet as set
 use Rattle.cpu_set.specs.Ids.{Ids}
-use Rattle.slit.specs.declared.TheConstants.{UNREACHABLE}
 use Rattle.machine.specs.Layout.{Layout, node_count, distance}
 use Rattle.machine.specs.Nodes.{IsOfNode, node_of}
 
@@ -21,7 +20,7 @@ IsWeight m homes cpu w = (i : ℕ) × IsOfNode m cpu i × IsLeast m homes i w
 
 -- the least distance from node i to a home below n, and the greatest distance where there is none
 unfoldable pub least_below : Layout → Ids → ℕ → ℕ → ℕ
-least_below m homes i zero = UNREACHABLE
+least_below m homes i zero = 255
 least_below m homes i (suc n) = cond (set.contains homes n) (min (least_below m homes i n) (distance m i n)) (least_below m homes i n)
 
 -- the same weight, computed

@@ -1,6 +1,5 @@
 use crate::field::Field;
-use json_text::JsonError;
-use std::alloc::AllocError;
+use faults::Fault;
 
 /// Why a text describes no machine; [`Machine::read`](crate::Machine::read) has the order in which the
 /// causes are looked for.
@@ -28,47 +27,4 @@ pub enum MachineFault {
     BadOffline,
 }
 
-/// Why a machine was not read.
-#[derive(Clone, Copy, Debug, PartialEq, Eq)]
-pub enum MachineError {
-    /// A growth was refused.
-    Memory,
-    /// The text is at fault.
-    Fault(MachineFault),
-}
-
-impl From<MachineFault> for MachineError {
-    ghost use Rattle.std.specs.Prelude.{◌≡◌};
-    ghost use Rattle.machine.specs.declared.fault.MachineError.TheVariants.{Fault};
-
-    ghost from_gives = { λ fault e. e ≡ Fault fault };
-
-    fn from(fault: MachineFault) -> MachineError {
-        MachineError::Fault(fault)
-    }
-}
-
-impl From<AllocError> for MachineError {
-    ghost use Rattle.std.specs.Prelude.{◌≡◌};
-    ghost use Rattle.machine.specs.declared.fault.MachineError.TheVariants.{Memory};
-
-    ghost from_gives = { λ _ e. e ≡ Memory };
-
-    fn from(_e: AllocError) -> MachineError {
-        MachineError::Memory
-    }
-}
-
-impl From<JsonError> for MachineError {
-    ghost use Rattle.std.specs.Prelude.{◌≡◌};
-    ghost use Rattle.machine.specs.JsonFault.{json_fault};
-
-    ghost from_gives = { λ json e. e ≡ json_fault json };
-
-    fn from(e: JsonError) -> MachineError {
-        match e {
-            JsonError::Memory => MachineError::Memory,
-            JsonError::NotJson => MachineError::Fault(MachineFault::NotJson),
-        }
-    }
-}
+impl Fault for MachineFault {}

@@ -8,15 +8,17 @@
 mod boot;
 mod fault;
 mod field;
+mod laws;
 mod lookup;
+mod machine;
 mod node_sets;
 mod table;
-mod topology;
 
-pub use fault::{MachineError, MachineFault};
+pub use fault::MachineFault;
 pub use field::Field;
+pub use laws::{sound_machines_are_read, the_limits};
+pub use machine::Machine;
 pub use slit::{LOCAL, UNREACHABLE};
-pub use topology::{Machine, sound_machines_are_read};
 
 /// The most nodes that a machine may have.
 pub const NODE_LIMIT: usize = 64;

@@ -3,6 +3,7 @@ ghost use Rattle.std.specs.Prelude.{◌≡◌, IfOk, map};
 ghost use Rattle.std.specs.Result.{result_err};
 ghost use Rattle.serde_json.specs.View.{view};
 ghost use Rattle.json_text.specs.Members.{member_of, seen};
+ghost use Rattle.machine.specs.FieldName.{name_of};
 ghost use Rattle.machine.specs.Members.{items_in};
 ghost use Rattle.machine.specs.Listed.{listed};
 ghost use Rattle.machine.specs.KindFaults.{array_fault, list_fault};
@@ -10,7 +11,15 @@ ghost use Rattle.machine.specs.KindFaults.{array_fault, list_fault};
 use crate::fault::MachineFault;
 use crate::field::Field;
 use cpu_set::{CPU_LIMIT, IdSet};
+use json_text::member;
 use serde_json::Value;
+
+/// The member of this name.
+pub(crate) fn find(value: &Value, field: Field) -> Option<&Value>
+    ensures { seen result ≡ member_of (name_of field) (view value.now) }
+{
+    member(value, field.name())
+}
 
 /// The items of a member that has to be an array.
 #[tactic(auto, using(crate::proofs::ItemLaws::item_lists))]

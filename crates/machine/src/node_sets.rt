@@ -1,5 +1,5 @@
 //! The CPUs of each node, as the member `nodes` has them.
-ghost use Rattle.std.specs.Prelude.{◌≡◌, ◌≤◌, IfOk, OnOk, AllPairs, length, map, fold};
+ghost use Rattle.std.specs.Prelude.{◌≡◌, ◌≤◌, IfOk, OnOk, AllPairs, length, map, take, fold};
 ghost use Rattle.std.specs.Result.{result_err};
 ghost use Rattle.std.specs.FinSet as set;
 ghost use Rattle.serde_json.specs.View.{view};
@@ -7,46 +7,45 @@ ghost use Rattle.cpu_set.specs.Ids.{IsDisjoint};
 ghost use Rattle.machine.specs.Present.{union_of};
 ghost use Rattle.machine.specs.Listed.{listed};
 ghost use Rattle.machine.specs.NodesFault.{twice_fault, node_fault, first_node_fault, nodes_fault};
-ghost use Rattle.machine.specs.Answers.{Meets};
 
 use crate::NODE_LIMIT;
-use crate::fault::{MachineError, MachineFault};
+use crate::fault::MachineFault;
 use crate::field::Field;
 use crate::lookup::list;
 use cpu_set::IdSet;
 use serde_json::Value;
-use std::alloc::Global;
 
-/// The CPUs of each of the nodes, in their order.
+/// The CPUs of each of the nodes in their order, and behind them empty sets.
 #[tactic(auto, using(crate::proofs::ItemLaws::item_counts), unfolding(crate::specs::NodesFault::nodes_fault))]
-pub(crate) fn read_nodes(alloc: Global, items: &[Value]) -> Result<Vec<IdSet>, MachineError>
-    ensures fault { Meets result (nodes_fault (map view items.now)) }
-    ensures sets { IfOk result (λ v. v.items ≡ map listed (map view items.now)) }
-    ensures some { IfOk result (λ v. 1 ≤ length v.items) }
-    ensures few { IfOk result (λ v. length v.items ≤ NODE_LIMIT) }
-    ensures apart { IfOk result (λ v. AllPairs IsDisjoint v.items) }
+pub(crate) fn read_nodes(items: &[Value]) -> Result<[IdSet; NODE_LIMIT], MachineFault>
+    ensures fault { nodes_fault (map view items.now) ≡ result_err result }
+    ensures sets { IfOk result (λ sets. take (length items.now) sets ≡ map listed (map view items.now)) }
+    ensures room { IfOk result (λ sets. length sets ≡ NODE_LIMIT) }
+    ensures some { OnOk result (1 ≤ length items.now) }
+    ensures few { OnOk result (length items.now ≤ NODE_LIMIT) }
+    ensures apart { IfOk result (λ sets. AllPairs IsDisjoint (take (length items.now) sets)) }
 {
     if items.is_empty() || items.len() > NODE_LIMIT {
-        return Err(MachineError::Fault(MachineFault::NodeCount));
+        return Err(MachineFault::NodeCount);
     }
-    read_sets(alloc, items)
+    read_sets(items)
 }
 
-fn read_sets(alloc: Global, items: &[Value]) -> Result<Vec<IdSet>, MachineError>
-    ensures fault { Meets result (first_node_fault (map view items.now)) }
-    ensures sets { IfOk result (λ v. v.items ≡ map listed (map view items.now)) }
-    ensures apart { IfOk result (λ v. AllPairs IsDisjoint v.items) }
+fn read_sets(items: &[Value]) -> Result<[IdSet; NODE_LIMIT], MachineFault>
+    requires { length items.now ≤ NODE_LIMIT }
+    ensures fault { first_node_fault (map view items.now) ≡ result_err result }
+    ensures sets { IfOk result (λ sets. take (length items.now) sets ≡ map listed (map view items.now)) }
+    ensures room { IfOk result (λ sets. length sets ≡ NODE_LIMIT) }
+    ensures apart { IfOk result (λ sets. AllPairs IsDisjoint (take (length items.now) sets)) }
 {
-    let mut nodes = Vec::new(alloc);
+    let mut sets = [IdSet::empty(); NODE_LIMIT];
     let mut earlier = IdSet::empty();
-    for item in items {
+    for (i, item) in items.iter().enumerate() {
         let cpus = read_node(item, &earlier)?;
-        if nodes.push(cpus).is_err() {
-            return Err(MachineError::Memory);
-        }
+        sets[i] = cpus;
         earlier = earlier.union(&cpus);
     }
-    Ok(nodes)
+    Ok(sets)
 }
 
 /// The CPUs of one node, none of which an earlier one has.

@@ -1,5 +1,5 @@
 //! The distances between the nodes, as the member `distances` or a SLIT has them.
-ghost use Rattle.std.specs.Prelude.{◌≡◌, ℕ, ◌<◌, ◌≤◌, ◌++◌, ◌==◌, true, Some, None, IfOk, OnOk, length, map, is_some, option_map};
+ghost use Rattle.std.specs.Prelude.{◌≡◌, ℕ, ◌<◌, ◌≤◌, ◌+◌, ◌++◌, ◌==◌, true, Some, None, IfOk, OnOk, length, map, is_some, option_map};
 ghost use Rattle.std.specs.Result.{result_err};
 ghost use Rattle.std.specs.List.{list_all, flat_map};
 ghost use Rattle.serde_json.specs.Find.{as_array};
@@ -9,71 +9,65 @@ ghost use Rattle.json_text.specs.Members.{seen};
 ghost use Rattle.machine.specs.Members.{items_of};
 ghost use Rattle.machine.specs.Distances.{number_of, entry_of, row_entries, distances_in, AreEntries, IsRowAllowed, AreRowsAllowed};
 ghost use Rattle.machine.specs.DistancesFault.{entry_fault, row_fault, rows_fault, shape_fault, distances_fault};
-ghost use Rattle.machine.specs.Answers.{Meets};
 
-use crate::fault::{MachineError, MachineFault};
+use crate::fault::MachineFault;
 use crate::field::Field;
 use crate::lookup::array;
-use crate::{LOCAL, UNREACHABLE};
+use crate::{LOCAL, NODE_LIMIT, UNREACHABLE};
+use arrayvec::ArrayVec;
 use serde_json::Value;
 use slit::Slit;
-use std::alloc::{AllocError, Global};
+
+/// As many entries as there may be.
+const ENTRY_LIMIT: usize = NODE_LIMIT * NODE_LIMIT;
 
 /// The distances between so many nodes by rows, from one of the two places where they may stand.
 #[tactic(auto, unfolding(crate::specs::DistancesFault::distances_fault))]
 pub(crate) fn read_distances(
-    alloc: Global,
     found: Option<&Value>,
     slit: Option<&Slit>,
     count: usize,
-) -> Result<Vec<u8>, MachineError>
-    ensures fault { Meets result (distances_fault (option_map (λ s. s.now) slit.entry) (seen found.entry) count) }
+) -> Result<ArrayVec<u8, ENTRY_LIMIT>, MachineFault>
+    requires { count ≤ NODE_LIMIT }
+    ensures fault { distances_fault (option_map (λ s. s.now) slit.entry) (seen found.entry) count ≡ result_err result }
     ensures entries { IfOk result (λ v. v.items ≡ distances_in (option_map (λ s. s.now) slit.entry) (seen found.entry)) }
     ensures are { IfOk result (λ v. AreEntries count v.items) }
 {
     match (found, slit) {
-        (Some(_), Some(_)) => Err(MachineError::Fault(MachineFault::BothDistances)),
-        (None, None) => Err(MachineError::Fault(MachineFault::NoDistances)),
-        (None, Some(slit)) => from_slit(alloc, slit, count),
-        (Some(rows), None) => from_rows(alloc, rows, count),
+        (Some(_), Some(_)) => Err(MachineFault::BothDistances),
+        (None, None) => Err(MachineFault::NoDistances),
+        (None, Some(slit)) => from_slit(slit, count),
+        (Some(rows), None) => from_rows(rows, count),
     }
 }
 
 /// The distances of a SLIT, which has to be of so many localities.
 #[tactic(auto, unfolding(crate::specs::DistancesFault::distances_fault))]
-fn from_slit(alloc: Global, slit: &Slit, count: usize) -> Result<Vec<u8>, MachineError>
-    ensures fault { Meets result (distances_fault (Some slit.now) None count) }
+fn from_slit(slit: &Slit, count: usize) -> Result<ArrayVec<u8, ENTRY_LIMIT>, MachineFault>
+    requires { count ≤ NODE_LIMIT }
+    ensures fault { distances_fault (Some slit.now) None count ≡ result_err result }
     ensures entries { IfOk result (λ v. v.items ≡ slit.now.entries) }
     ensures are { IfOk result (λ v. AreEntries count v.items) }
 {
     if slit.localities() != count {
-        return Err(MachineError::Fault(MachineFault::WrongSize));
+        return Err(MachineFault::WrongSize);
     }
-    Ok(copied(alloc, slit)?)
-}
-
-/// A copy of the distances by rows.
-fn copied(alloc: Global, slit: &Slit) -> Result<Vec<u8>, AllocError>
-    ensures { IfOk result (λ v. v.items ≡ slit.now.entries) }
-{
-    let count = slit.localities();
-    let mut entries = Vec::new(alloc);
-    for place in 0..count * count {
-        entries.push(slit.distance(place / count, place % count))?;
-    }
+    let mut entries = ArrayVec::new();
+    entries.try_extend_from_slice(slit.distances()).unwrap();
     Ok(entries)
 }
 
 /// The distances of the member: rows of as many entries as there are nodes.
 #[tactic(auto, unfolding(crate::specs::DistancesFault::distances_fault))]
-fn from_rows(alloc: Global, rows: &Value, count: usize) -> Result<Vec<u8>, MachineError>
-    ensures fault { Meets result (distances_fault None (Some (view rows.now)) count) }
+fn from_rows(rows: &Value, count: usize) -> Result<ArrayVec<u8, ENTRY_LIMIT>, MachineFault>
+    requires { count ≤ NODE_LIMIT }
+    ensures fault { distances_fault None (Some (view rows.now)) count ≡ result_err result }
     ensures entries { IfOk result (λ v. v.items ≡ distances_in None (Some (view rows.now))) }
     ensures are { IfOk result (λ v. AreEntries count v.items) }
 {
     let rows = array(Some(rows), Field::Distances)?;
     check_shape(rows, count)?;
-    read_rows(alloc, rows)
+    read_rows(rows, count)
 }
 
 /// Checks that there are so many rows, and so many entries in each.
@@ -118,13 +112,16 @@ fn cells(row: &Value) -> &[Value]
     }
 }
 
-/// The entries of the rows, one row after the other.
-fn read_rows(alloc: Global, rows: &[Value]) -> Result<Vec<u8>, MachineError>
-    ensures fault { Meets result (rows_fault (map view rows.now)) }
+/// The entries of so many rows of as many entries, one row after the other.
+fn read_rows(rows: &[Value], count: usize) -> Result<ArrayVec<u8, ENTRY_LIMIT>, MachineFault>
+    requires few { count ≤ NODE_LIMIT }
+    requires rows { length rows.now ≡ count }
+    requires columns { list_all (λ row. length (items_of row) == count) (map view rows.now) ≡ true }
+    ensures fault { rows_fault (map view rows.now) ≡ result_err result }
     ensures entries { IfOk result (λ v. v.items ≡ flat_map row_entries (map view rows.now)) }
     ensures allowed { OnOk result (AreRowsAllowed (map view rows.now)) }
 {
-    let mut entries = Vec::new(alloc);
+    let mut entries = ArrayVec::new();
     for (i, row) in rows.iter().enumerate() {
         read_row(&mut entries, cells(row), i)?;
     }
@@ -132,16 +129,19 @@ fn read_rows(alloc: Global, rows: &[Value]) -> Result<Vec<u8>, MachineError>
 }
 
 /// Adds the entries of a row.
-fn read_row(entries: &mut Vec<u8>, cells: &[Value], i: usize) -> Result<(), MachineError>
-    ensures fault { Meets result (row_fault i (map view cells.now)) }
+fn read_row(
+    entries: &mut ArrayVec<u8, ENTRY_LIMIT>,
+    cells: &[Value],
+    i: usize,
+) -> Result<(), MachineFault>
+    requires { length entries.old.items + length cells.now ≤ ENTRY_LIMIT }
+    ensures fault { row_fault i (map view cells.now) ≡ result_err result }
     ensures added { OnOk result (entries.new.items ≡ entries.old.items ++ map entry_of (map view cells.now)) }
     ensures allowed { OnOk result (IsRowAllowed i (map view cells.now)) }
 {
     for (j, cell) in cells.iter().enumerate() {
         let entry = read_entry(cell, i, j)?;
-        if entries.push(entry).is_err() {
-            return Err(MachineError::Memory);
-        }
+        entries.push(entry);
     }
     Ok(())
 }

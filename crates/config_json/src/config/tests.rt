@@ -1,6 +1,7 @@
 use super::Config;
-use crate::fault::{ConfigError, ConfigFault};
+use crate::fault::ConfigFault;
 use crate::field::Field;
+use faults::OrMemory;
 use std::alloc::{AllocError, Global};
 use std::process::Abort;
 use std::test::Fail;
@@ -9,8 +10,8 @@ use std::test::Fail;
 fn fault_of(rt: &impl Abort, alloc: Global, bytes: &[u8]) -> Option<ConfigFault> {
     match Config::read(alloc, bytes) {
         Ok(_) => None,
-        Err(ConfigError::Fault(fault)) => Some(fault),
-        Err(ConfigError::Memory) => panic!(rt; "memory ran out"),
+        Err(OrMemory::Fault(fault)) => Some(fault),
+        Err(OrMemory::Memory) => panic!(rt; "memory ran out"),
     }
 }
 

@@ -1,9 +1,18 @@
-use Rattle.std.proofs.Common.{ap, ◌∙◌}
+use Rattle.std.proofs.Common.{◌≡◌, ap, ◌∙◌, length, map}
+use Rattle.std.proofs.lemmas.List.{length-map}
 use Rattle.std.proofs.lemmas.Result.{err_from_is_err_and}
+use Rattle.serde_json.specs.View.{view}
 use Rattle.machine.specs.Members.{items_of}
 use Rattle.machine.proofs.ItemLaws.{item_view, item_within, item_last}
-use Rattle.machine.proofs.RowSteps.{AreRowsRead-more, AreRowsRead-fault, AreRowsRead-all, IsErrorOf-weaker}
+use Rattle.machine.proofs.RowSteps.{AreRowsRead-more, AreRowsRead-fault, AreRowsRead-all, AreRowsRead-room}
 use Rattle.machine.proofs.table.read_rows.Goals as goal
+
+pub read_row-requires : goal.read_row-requires
+read_row-requires c =
+    let is = item_view c.args.rows.now c.loop-i.i c.index-rows-i.result c.loop-i-test.true c.index-rows-i.is in
+    let len = c.cells.ensures.len ∙ ap (λ d. length (items_of d)) is in
+    let rows : length (map view c.args.rows.now) ≡ c.args.count = length-map c.args.rows.now view ∙ c.requires.rows in
+    rw len (AreRowsRead-room _ _ _ _ c.loop-i.invariant rows c.requires.columns (item_within _ _ c.loop-i-test.true) c.requires.few)
 
 pub loop-i-preserved : goal.loop-i-preserved
 loop-i-preserved c =
@@ -18,9 +27,7 @@ returns-in_err-read_row-clause-fault c =
     let is = item_view c.args.rows.now c.loop-i.i c.index-rows-i.result c.loop-i-test.true c.index-rows-i.is in
     let cells = c.cells.ensures.cells ∙ ap items_of is in
     rw (p.1, p.2)
-    (IsErrorOf-weaker _ _ _
-    (λ f at. AreRowsRead-fault _ _ _ f c.loop-i.invariant (item_within _ _ c.loop-i-test.true) (rw (← cells) at))
-    c.in_err-read_row.ensures.fault)
+    (AreRowsRead-fault _ _ _ _ c.loop-i.invariant (item_within _ _ c.loop-i-test.true) (rw (← cells) c.in_err-read_row.ensures.fault))
 
 pub returns-clause-fault : goal.returns-clause-fault
 returns-clause-fault c =

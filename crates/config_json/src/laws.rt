@@ -1,0 +1,9 @@
+//! What holds of the definitions alone.
+ghost use Rattle.std.specs.Prelude.{◌≡◌};
+
+use crate::MAX_BYTES;
+
+/// A config has at most 1,048,576 bytes.
+pub fn the_limits()
+    ensures bytes { MAX_BYTES ≡ 1_048_576 }
+{}

@@ -1,6 +1,0 @@
-use Rattle.machine.proofs.SubsetLaws.{is_subset-trans}
-use Rattle.machine.proofs.topology.Machine.reserved.Goals as goal
-
-pub returns-clause-present : goal.returns-clause-present
-returns-clause-present c =
-    rw (← c.self.view_is) (is_subset-trans _ _ _ c.self.invariant.reserved_online c.self.invariant.online_present)

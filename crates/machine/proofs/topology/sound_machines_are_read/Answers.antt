@@ -1,5 +1,0 @@
-use Rattle.machine.proofs.NoFaultLaws.{sound_is_read}
-use Rattle.machine.proofs.topology.sound_machines_are_read.Goals as goal
-
-pub returns : goal.returns
-returns c = sound_is_read

@@ -1,0 +1,230 @@
+ghost use Rattle.std.specs.Prelude.{◌≡◌, ◌≢◌, ℕ, ◌<◌, ◌≤◌, ◌↔◌, true, nat_lt, position, option_map, IfOk};
+ghost use Rattle.serde_json.specs.View.{view};
+ghost use Rattle.std.specs.FinSet as set;
+ghost use Rattle.machine.specs.Layout.{Layout, node_count, distance};
+ghost use Rattle.machine.specs.Present.{present, IsPresent};
+ghost use Rattle.machine.specs.Nodes.{nodes_of, node_of, IsOfNode};
+ghost use Rattle.machine.specs.Weight.{weight, IsWeight, AreHomes};
+ghost use Rattle.faults.specs.Answers.{Reports, Gives, ChecksFirst};
+
+use crate::boot::{read_offline, read_reserved};
+use crate::fault::MachineFault;
+use crate::field::Field;
+use crate::lookup::{array, find};
+use crate::node_sets::{read_nodes, union_of};
+use crate::table::read_distances;
+use crate::{MAX_BYTES, UNREACHABLE};
+use cpu_set::IdSet;
+use faults::OrMemory;
+use json_text::parse;
+use serde_json::Value;
+use slit::Slit;
+use std::alloc::Global;
+use std::marker::Model;
+
+/// The nodes of a machine with their CPUs and distances, its reserved CPUs, and those online at boot.
+///
+/// There are 1 to [`NODE_LIMIT`](crate::NODE_LIMIT) nodes. No CPU is in two of them, and a node may have
+/// none. The reserved CPUs are one or more of those that are online at boot.
+#[derive(Debug, Drop)]
+pub struct Machine {
+    nodes: Vec<IdSet>,
+    distances: Vec<u8>,
+    reserved: IdSet,
+    online: IdSet,
+}
+
+impl Model for Machine {
+    ghost use Rattle.machine.specs.Layout.{Layout, layout_code};
+    ghost use Rattle.machine.specs.IsSound.{IsSound};
+
+    ghost Value = { Layout };
+
+    ghost coded = { layout_code };
+
+    ghost view = { λ m. record {
+      nodes = m.nodes.items;
+      distances = m.distances.items;
+      reserved = m.reserved;
+      online = m.online;
+    } };
+
+    ghost invariant = { λ m. IsSound (record {
+      nodes = m.nodes.items;
+      distances = m.distances.items;
+      reserved = m.reserved;
+      online = m.online;
+    }) };
+}
+
+impl Machine {
+    ghost use Rattle.machine.specs.IsSound.{IsSound};
+    ghost use Rattle.machine.specs.MachineOf.{said_by, value_fault, machine_of, text_fault};
+
+    /// Reads a machine file: a JSON object with the members `nodes`, `distances`, `reserved` and `offline`.
+    ///
+    /// `nodes` has a list of CPUs as text for each node, node 0 first; an empty text is a node without
+    /// CPUs. `distances` has a row of whole numbers for each node; it is absent where a SLIT is given.
+    /// `reserved` is a list as text, and so is `offline`, which may be absent. A member that is null
+    /// counts as absent, of one that stands twice the last counts, and all others are ignored.
+    ///
+    /// # Errors
+    ///
+    /// The first fault in this order. [`MachineFault::NotJson`]; of `nodes` `BadField` and `NodeCount`,
+    /// and node by node `BadField` and `CpuTwice`; `BothDistances` and `NoDistances`; of a SLIT
+    /// `WrongSize`; of `distances` `BadField` where it or a row is no array, `WrongSize`, and entry by
+    /// entry in rows `BadField` and `BadDistance`; of `reserved` `BadField` and `BadReserved`; of
+    /// `offline` `BadField` and `BadOffline`.
+    ///
+    /// Before memory is asked for, it is known whether there are too many bytes or none, and whether they
+    /// are UTF-8. Once the JSON value is there, no memory is asked for where it has a fault.
+    #[tactic(auto, unfolding(crate::specs::MachineOf::machine_of))]
+    pub fn read(
+        alloc: Global,
+        json: &[u8],
+        slit: Option<&Slit>,
+    ) -> Result<Machine, OrMemory<MachineFault>>
+        ensures machine { Gives result (machine_of (option_map (λ s. s.now) slit.entry) json.now) }
+        ensures sound { IfOk result IsSound }
+        ensures memory { ChecksFirst result (text_fault json.now) }
+    {
+        if json.len() > MAX_BYTES {
+            return Err(OrMemory::Fault(MachineFault::NotJson));
+        }
+        let value = parse(alloc, json, MachineFault::NotJson)?;
+        Machine::describe(alloc, &value, slit)
+    }
+
+    /// The machine that a JSON value describes.
+    fn describe(
+        alloc: Global,
+        value: &Value,
+        slit: Option<&Slit>,
+    ) -> Result<Machine, OrMemory<MachineFault>>
+        ensures fault { Reports result (value_fault (option_map (λ s. s.now) slit.entry) (view value.now)) }
+        ensures memory { ChecksFirst result (value_fault (option_map (λ s. s.now) slit.entry) (view value.now)) }
+        ensures said { IfOk result (λ m. m ≡ said_by (option_map (λ s. s.now) slit.entry) (view value.now)) }
+        ensures sound { IfOk result IsSound }
+    {
+        if !value.is_object() {
+            return Err(OrMemory::Fault(MachineFault::NotJson));
+        }
+        let items = array(find(value, Field::Nodes), Field::Nodes)?;
+        let sets = read_nodes(items)?;
+        let nodes = &sets[..items.len()];
+        let distances = read_distances(find(value, Field::Distances), slit, items.len())?;
+        let present = union_of(nodes);
+        let reserved = read_reserved(find(value, Field::Reserved), &present)?;
+        let offline = read_offline(find(value, Field::Offline), &present, &reserved)?;
+        Ok(Machine {
+            nodes: Vec::from_slice(alloc, nodes)?,
+            distances: Vec::from_slice(alloc, distances.as_slice())?,
+            reserved,
+            online: present.minus(&offline),
+        })
+    }
+
+    /// The CPUs of all nodes.
+    pub fn present(&self) -> IdSet
+        ensures union { result ≡ present self.now }
+        ensures each { (cpu : ℕ) → (set.contains result cpu ≡ true) ↔ ((i : ℕ) × IsOfNode self.now cpu i) }
+    {
+        self.union()
+    }
+
+    fn union(&self) -> IdSet
+        ensures { result ≡ present self.now }
+    {
+        union_of(&self.nodes)
+    }
+
+    fn count(&self) -> usize
+        ensures count { result ≡ node_count self.now }
+        ensures sound { IsSound self.now }
+    {
+        self.nodes.len()
+    }
+
+    /// The CPUs that are never pinned and can't go offline: at least one, all of them online at boot.
+    pub fn reserved(&self) -> IdSet
+        ensures reserved { result ≡ self.now.reserved }
+        ensures some { result ≢ set.empty }
+        ensures online { set.is_subset result self.now.online ≡ true }
+        ensures present { set.is_subset result (present self.now) ≡ true }
+    {
+        self.reserved
+    }
+
+    /// The present CPUs that are online when the machine boots.
+    pub fn boot_online(&self) -> IdSet
+        ensures online { result ≡ self.now.online }
+        ensures present { set.is_subset result (present self.now) ≡ true }
+    {
+        self.online
+    }
+
+    /// The numbers of the nodes: 0, 1 and so on.
+    #[tactic(auto, unfolding(crate::specs::Nodes::numbers_below))]
+    pub fn nodes(&self) -> IdSet
+        ensures nodes { result ≡ nodes_of self.now }
+        ensures each { (n : ℕ) → set.contains result n ≡ nat_lt n (node_count self.now) }
+        ensures sound { IsSound self.now }
+    {
+        let mut nodes = IdSet::empty();
+        for node in 0..self.count() {
+            nodes.insert(node as u16);
+        }
+        nodes
+    }
+
+    /// The node that has the CPU.
+    pub fn node_of(&self, cpu: u16) -> usize
+        requires { IsPresent self.now cpu }
+        ensures is { result ≡ node_of self.now cpu }
+        ensures node { IsOfNode self.now cpu result }
+        ensures only { (i : ℕ) → IsOfNode self.now cpu i → i ≡ result }
+    {
+        self.first_with(cpu).unwrap()
+    }
+
+    /// The first node that has the CPU.
+    fn first_with(&self, cpu: u16) -> Option<usize>
+        ensures place { result ≡ position (λ cpus. set.contains cpus cpu) self.now.nodes }
+        ensures sound { IsSound self.now }
+    {
+        self.nodes.iter().position(|cpus| cpus.contains(cpu))
+    }
+
+    /// The distance from node `i` to node `j`, [`LOCAL`](crate::LOCAL) to [`UNREACHABLE`].
+    pub fn distance(&self, i: usize, j: usize) -> u8
+        requires i_is_node { i < node_count self.now }
+        requires j_is_node { j < node_count self.now }
+        ensures is { result ≡ distance self.now i j }
+        ensures sound { IsSound self.now }
+    {
+        let count = self.nodes.len();
+        self.distances[i * count + j]
+    }
+
+    /// The weight of the CPU for a container with these home nodes: the least of the distances from the
+    /// CPU's node to a home, [`UNREACHABLE`] where there is no way to any of them.
+    #[tactic(auto, unfolding(crate::specs::Weight::least_below))]
+    pub fn weight(&self, homes: &IdSet, cpu: u16) -> u8
+        requires present { IsPresent self.now cpu }
+        requires homes { AreHomes self.now homes.now }
+        ensures is { result ≡ weight self.now homes.now cpu }
+        ensures least { IsWeight self.now homes.now cpu result }
+    {
+        let node = self.node_of(cpu);
+        let mut least = UNREACHABLE;
+        for home in 0..self.count() {
+            if homes.contains(home as u16) {
+                least = least.min(self.distance(node, home));
+            }
+        }
+        least
+    }
+}
+
+#[cfg(test)]
+mod tests;
