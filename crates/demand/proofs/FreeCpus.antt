@@ -9,7 +9,6 @@ use Rattle.cpu_set.specs.Pointwise.{contains-intersection, contains-difference}
 use Rattle.machine.specs.Layout.{Layout}
 use Rattle.machine.specs.Present.{present, IsPresent}
 use Rattle.demand.specs.Named.{has_none}
-use Rattle.slit.specs.declared.TheConstants.{UNREACHABLE}
 use Rattle.cpu_set.specs.declared.TheConstants.{CPU_LIMIT}
 use Rattle.machine.specs.Weight.{weight}
 use Rattle.cpu_set.specs.Those.{contains-those}
@@ -83,19 +82,19 @@ those-out p n m s next is fails = let e : m ≡ suc n = omega arith in rw (e, is
 -- the code's test of a CPU is the definition's
 pub given_is_allowed :
     (m : Layout) (cpus homes free : Ids) (c : ℕ) (answer : Bool) → ((n : ℕ) → set.contains free n ≡ is_free m cpus n)
-    → answer ≡ (set.contains free c && nat_lt (weight m homes c) UNREACHABLE) → is_allowed m cpus homes c ≡ answer
+    → answer ≡ (set.contains free c && nat_lt (weight m homes c) 255) → is_allowed m cpus homes c ≡ answer
 given_is_allowed m cpus homes free c answer each is =
-    sym (is ∙ ap (λ b. b && nat_lt (weight m homes c) UNREACHABLE) (each c))
+    sym (is ∙ ap (λ b. b && nat_lt (weight m homes c) 255) (each c))
 
 -- what holds of an allowed CPU
 pub record IsGiven (m : Layout) (homes : Ids) (c : ℕ) : Type 0 where
   pub present : IsPresent m c
   pub unreserved : set.contains m.reserved c ≡ false
-  pub in_reach : weight m homes c < UNREACHABLE
+  pub in_reach : weight m homes c < 255
 
 given : (m : Layout) (cpus homes : Ids) (c : ℕ) → is_allowed m cpus homes c ≡ true → IsGiven m homes c
 given m cpus homes c is =
-    let parts : (is_free m cpus c ≡ true) × (nat_lt (weight m homes c) UNREACHABLE ≡ true) = both_true _ _ is in
+    let parts : (is_free m cpus c ≡ true) × (nat_lt (weight m homes c) 255 ≡ true) = both_true _ _ is in
     record {
       present = free_is_present m cpus c parts.0;
       unreserved = free_is_unreserved m cpus c parts.0;

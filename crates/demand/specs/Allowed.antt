@@ -4,7 +4,6 @@ use Rattle.std.specs.FinSet as set
 use Rattle.cpu_set.specs.Ids.{Ids}
 use Rattle.cpu_set.specs.Those.{those}
 use Rattle.cpu_set.specs.declared.TheConstants.{CPU_LIMIT}
-use Rattle.slit.specs.declared.TheConstants.{UNREACHABLE}
 use Rattle.config_json.specs.SectionOf.{Section}
 use Rattle.machine.specs.Layout.{Layout}
 use Rattle.machine.specs.Present.{present}
@@ -19,7 +18,7 @@ is_free m cpus c =
 
 -- one with a way to a home
 abbrev pub is_allowed : Layout → Ids → Ids → ℕ → Bool
-is_allowed m cpus homes c = is_free m cpus c && nat_lt (weight m homes c) UNREACHABLE
+is_allowed m cpus homes c = is_free m cpus c && nat_lt (weight m homes c) 255
 
 -- these CPUs
 unfoldable pub allowed_by : Layout → Ids → Ids → Ids

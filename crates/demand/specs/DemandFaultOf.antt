@@ -1,8 +1,9 @@
 -- What is wrong with a CPU section on a machine: the checks in their order, of which the first that fails decides.
 use Rattle.std.specs.Prelude.{ℕ, ℤ, ◌*◌, Bool, not, ◌&&◌, ◌||◌, nat_lt, List, [], ◌∷◌, Option, Some, None, is_some, option_map}
 use Rattle.std.specs.FinSet as set
-use Rattle.faults.specs.First.{when, first_of, first_below}
+use Rattle.faults.specs.First.{when, first_of}
 use Rattle.cpu_set.specs.Ids.{Ids}
+use Rattle.cpu_set.specs.Least.{least_that}
 use Rattle.cpu_set.specs.declared.TheConstants.{CPU_LIMIT}
 use Rattle.cpu_list.specs.declared.list_error.ListError.{ListError}
 use Rattle.cpu_list.specs.FirstFault.{first_fault}
@@ -22,22 +23,22 @@ abbrev pub list_fault : ℕ → Option (List ℕ) → Option ListError
 list_fault limit None = None
 list_fault limit (Some text) = first_fault limit text
 
--- the least number below a limit that is in a set and not in another
-abbrev pub least_other : ℕ → Ids → Ids → Option ℕ
-least_other limit s known = first_below limit (λ n. when (set.contains s n && not (set.contains known n)) n)
+-- the least number that is in a set and not in another
+abbrev pub least_other : Ids → Ids → Option ℕ
+least_other s known = least_that (λ n. set.contains s n && not (set.contains known n))
 
 -- `cpus` is a list of present CPUs
 unfoldable pub cpus_fault : Layout → Option (List ℕ) → Option DemandFault
 cpus_fault m cpus = first_of (
     option_map BadCpus (list_fault CPU_LIMIT cpus)
-    ∷ option_map NoSuchCpu (least_other CPU_LIMIT (named cpus) (present m))
+    ∷ option_map NoSuchCpu (least_other (named cpus) (present m))
     ∷ [])
 
 -- `mems` is a list of the machine's nodes
 unfoldable pub mems_fault : Layout → Option (List ℕ) → Option DemandFault
 mems_fault m mems = first_of (
     option_map BadMems (list_fault NODE_LIMIT mems)
-    ∷ option_map NoSuchNode (least_other NODE_LIMIT (named mems) (nodes_of m))
+    ∷ option_map NoSuchNode (least_other (named mems) (nodes_of m))
     ∷ [])
 
 -- a limit is above what the number of CPUs that there can be may run in a period

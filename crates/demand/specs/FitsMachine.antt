@@ -3,7 +3,6 @@ use Rattle.std.specs.Prelude.{◌≡◌, ◌≢◌, ℕ, ◌<◌, ◌≤◌, tru
 use Rattle.std.specs.FinSet as set
 use Rattle.cpu_set.specs.Ids.{Ids, IsDisjoint}
 use Rattle.cpu_set.specs.declared.TheConstants.{CPU_LIMIT}
-use Rattle.slit.specs.declared.TheConstants.{UNREACHABLE}
 use Rattle.machine.specs.Layout.{Layout}
 use Rattle.machine.specs.Present.{IsPresent}
 use Rattle.machine.specs.Weight.{weight, AreHomes}
@@ -22,4 +21,4 @@ pub record FitsMachine (m : Layout) (d : Demand) : Type 0 where
   pub homes : AreHomes m d.homes
   pub unreserved : IsDisjoint d.allowed m.reserved
   pub present : (c : ℕ) → set.contains d.allowed c ≡ true → IsPresent m c
-  pub in_reach : (c : ℕ) → set.contains d.allowed c ≡ true → weight m d.homes c < UNREACHABLE
+  pub in_reach : (c : ℕ) → set.contains d.allowed c ≡ true → weight m d.homes c < 255

@@ -1,7 +1,6 @@
 -- What `quota` and `period` mean where they are absent or out of the ordinary.
 use Rattle.std.specs.Prelude.{ℕ, zero, suc, ℤ, pos, negsuc, ◌≤◌, Option, Some, None}
 use Rattle.cpu_set.specs.declared.TheConstants.{CPU_LIMIT}
-use Rattle.demand.specs.declared.quota.TheConstants.{DEFAULT_PERIOD}
 use Rattle.demand.specs.AsksFor.{AsksFor}
 
 -- an absent, zero or negative quota is no limit
@@ -11,10 +10,10 @@ limit_of (Some (pos zero)) = None
 limit_of (Some (pos (suc n))) = Some (suc n)
 limit_of (Some (negsuc n)) = None
 
--- an absent or zero period is the kernel's default
+-- an absent or zero period is the kernel's default, 100 milliseconds
 abbrev pub period_of : Option ℕ → ℕ
-period_of None = DEFAULT_PERIOD
-period_of (Some zero) = DEFAULT_PERIOD
+period_of None = 100_000
+period_of (Some zero) = 100_000
 period_of (Some (suc n)) = suc n
 
 -- a limit asks for a count of CPUs, within the number that there can be; no limit for none

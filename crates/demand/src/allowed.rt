@@ -23,7 +23,7 @@ fn free(machine: &Machine, named: &IdSet) -> IdSet
 fn is_given(machine: &Machine, free: &IdSet, homes: &IdSet, cpu: u16) -> bool
     requires present { (c : ℕ) → set.contains free.now c ≡ true → IsPresent machine.now c }
     requires homes { AreHomes machine.now homes.now }
-    ensures { result ≡ (set.contains free.now cpu && nat_lt (weight machine.now homes.now cpu) UNREACHABLE) }
+    ensures { result ≡ (set.contains free.now cpu && nat_lt (weight machine.now homes.now cpu) 255) }
 {
     free.contains(cpu) && machine.weight(homes, cpu) < UNREACHABLE
 }

@@ -1,6 +1,5 @@
 pub mod BootLaws
 pub mod ItemLaws
-pub mod ListLaws
 pub mod NoFaultLaws
 pub mod NodeLaws
 pub mod NodeSteps

@@ -6,6 +6,7 @@ pub mod IsSound
 pub mod FieldName
 pub mod Members
 pub mod Listed
+pub mod ListLaws
 pub mod KindFaults
 pub mod NodesFault
 pub mod Distances
