@@ -1,6 +1,6 @@
 -- Which CPUs are present, and in which node.
-use Rattle.std.specs.Prelude.{◌||◌, ◌==◌}
-use Rattle.std.proofs.Common.{◌≡◌, ℕ, zero, suc, ◌<◌, Bool, true, false, inl, inr, nat_lt, List, [], ◌∷◌, length, get_or, Some, refl, sym, ap, ◌∙◌, arith}
+use Rattle.std.specs.Prelude.{◌||◌, ◌&&◌, nat_le}
+use Rattle.std.proofs.Common.{◌≡◌, ℕ, ◌-◌, ◌<◌, ◌≤◌, Bool, true, false, inl, inr, nat_lt, List, [], ◌∷◌, length, get_or, Some, refl, sym, ap, ◌∙◌, arith}
 use Rattle.std.specs.Prelude.{AllPairs, fold, position, IsSome}
 use Rattle.std.specs.List.{list_any, position_or_len}
 use Rattle.std.proofs.lemmas.Bool.{cases_lt, false≢true}
@@ -12,9 +12,10 @@ use Rattle.std.proofs.lemmas.List.Quantifiers.{position-Some}
 use Rattle.std.proofs.lemmas.List.Sums.{fails_before_first}
 use Rattle.std.specs.FinSet as set
 use Rattle.cpu_set.specs.Ids.{Ids, IsDisjoint}
-use Rattle.cpu_set.specs.Pointwise.{contains-empty, contains-insert, contains-union}
-use Rattle.machine.specs.Layout.{Layout, cpus_of}
-use Rattle.machine.specs.Nodes.{numbers_below, IsOfNode}
+use Rattle.cpu_set.specs.Pointwise.{same_members, contains-empty, contains-union}
+use Rattle.cpu_set.specs.Those.{contains-those}
+use Rattle.machine.specs.Layout.{Layout, node_count, cpus_of}
+use Rattle.machine.specs.Nodes.{nodes_of, IsOfNode}
 use Rattle.machine.specs.Present.{union_of, present, IsPresent}
 
 or_false : (a : Bool) → (a || false) ≡ a
@@ -70,14 +71,25 @@ IsOfNode-at m c i at =
     let found = position-Some (λ s. set.contains s c) m.nodes i set.empty at in
     record { is_node = found.0; has_cpu = found.1 }
 
-below_step : (n q : ℕ) (b : Bool) → b ≡ nat_lt q n → ((q == n) || b) ≡ nat_lt q (suc n)
-below_step n q b e = grind (arith, nat_tests)
+and_true : (b : Bool) → (b && true) ≡ b
+and_true true = refl
+and_true false = refl
 
--- a number is among those below n where it is below n
-pub contains-numbers_below : (n q : ℕ) → set.contains (numbers_below n) q ≡ nat_lt q n
-unfolding numbers_below
-contains-numbers_below zero q = contains-empty q ∙ grind (arith, nat_tests)
-contains-numbers_below (suc n) q = contains-insert (numbers_below n) n q ∙ below_step n q _ (contains-numbers_below n q)
+-- a number is a node's where it is below the count of the nodes
+pub contains-nodes_of : (m : Layout) (n : ℕ) → set.contains (nodes_of m) n ≡ nat_lt n (node_count m)
+contains-nodes_of m n = contains-those (λ _. true) (node_count m) n ∙ and_true _
+
+up_to_last : (n count last : ℕ) (b : Bool) → 1 ≤ count → last ≡ count - 1 → b ≡ false → (b || (nat_le 0 n && nat_le n last)) ≡ nat_lt n count
+up_to_last n count last b some is none = grind (arith, nat_tests)
+
+-- the numbers from 0 up to the last node's are those of the nodes
+pub nodes_of-range :
+    (m : Layout) (none all : Ids) (last : ℕ) → 1 ≤ node_count m → last ≡ node_count m - 1 → none ≡ set.empty
+    → ((n : ℕ) → set.contains all n ≡ (set.contains none n || (nat_le 0 n && nat_le n last))) → all ≡ nodes_of m
+nodes_of-range m none all last some is empty each =
+    same_members all (nodes_of m) (λ n. each n
+    ∙ up_to_last n (node_count m) last _ some is (ap (λ s. set.contains s n) empty ∙ contains-empty n)
+    ∙ sym (contains-nodes_of m n))
 
 union_of-has : (sets : List Ids) (n k : ℕ) → k < length sets → set.contains (get_or sets k set.empty) n ≡ true → set.contains (union_of sets) n ≡ true
 union_of-has sets n k lt has =

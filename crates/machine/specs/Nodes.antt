@@ -1,16 +1,12 @@
-use Rattle.std.specs.Prelude.{◌≡◌, ℕ, zero, suc, ◌<◌, true, position, unwrap_or}
+use Rattle.std.specs.Prelude.{◌≡◌, ℕ, ◌<◌, true, position, unwrap_or}
 use Rattle.std.specs.FinSet as set
 use Rattle.cpu_set.specs.Ids.{Ids}
+use Rattle.cpu_set.specs.Those.{those}
 use Rattle.machine.specs.Layout.{Layout, node_count, cpus_of}
 
--- the numbers below n
-unfoldable pub numbers_below : ℕ → Ids
-numbers_below zero = set.empty
-numbers_below (suc n) = set.insert (numbers_below n) n
-
--- the numbers of the nodes
+-- the numbers of the nodes: those below their count
 abbrev pub nodes_of : Layout → Ids
-nodes_of m = numbers_below (node_count m)
+nodes_of m = those (λ _. true) (node_count m)
 
 -- Node i has the CPU.
 pub record IsOfNode (m : Layout) (cpu i : ℕ) : Type 0 where

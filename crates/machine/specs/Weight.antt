@@ -1,6 +1,7 @@
-use Rattle.std.specs.Prelude.{◌≡◌, ◌≢◌, ℕ, zero, suc, ◌<◌, ◌≤◌, true, cond, min}
+use Rattle.std.specs.Prelude.{◌≡◌, ◌≢◌, ℕ, ◌<◌, ◌≤◌, true, min, map, fold}
 use Rattle.std.specs.FinSet as set
 use Rattle.cpu_set.specs.Ids.{Ids}
+use Rattle.cpu_set.specs.Members.{members}
 use Rattle.machine.specs.Layout.{Layout, node_count, distance}
 use Rattle.machine.specs.Nodes.{IsOfNode, node_of}
 
@@ -18,11 +19,6 @@ pub record IsLeast (m : Layout) (homes : Ids) (i w : ℕ) : Type 0 where
 abbrev pub IsWeight : Layout → Ids → ℕ → ℕ → Type 0
 IsWeight m homes cpu w = (i : ℕ) × IsOfNode m cpu i × IsLeast m homes i w
 
--- the least distance from node i to a home below n, and the greatest distance where there is none
-unfoldable pub least_below : Layout → Ids → ℕ → ℕ → ℕ
-least_below m homes i zero = 255
-least_below m homes i (suc n) = cond (set.contains homes n) (min (least_below m homes i n) (distance m i n)) (least_below m homes i n)
-
--- the same weight, computed
-abbrev pub weight : Layout → Ids → ℕ → ℕ
-weight m homes cpu = least_below m homes (node_of m cpu) (node_count m)
+-- the same weight, computed: the least of the distances from the CPU's node to the homes
+unfoldable pub weight : Layout → Ids → ℕ → ℕ
+weight m homes cpu = fold min 255 (map (distance m (node_of m cpu)) (members homes))

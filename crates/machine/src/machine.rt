@@ -164,16 +164,14 @@ impl Machine {
     }
 
     /// The numbers of the nodes: 0, 1 and so on.
-    #[tactic(auto, unfolding(crate::specs::Nodes::numbers_below))]
     pub fn nodes(&self) -> IdSet
         ensures nodes { result ≡ nodes_of self.now }
         ensures each { (n : ℕ) → set.contains result n ≡ nat_lt n (node_count self.now) }
         ensures sound { IsSound self.now }
     {
+        let last = self.count() - 1;
         let mut nodes = IdSet::empty();
-        for node in 0..self.count() {
-            nodes.insert(node as u16);
-        }
+        nodes.insert_range(0, last as u16);
         nodes
     }
 
@@ -208,7 +206,7 @@ impl Machine {
 
     /// The weight of the CPU for a container with these home nodes: the least of the distances from the
     /// CPU's node to a home, [`UNREACHABLE`] where there is no way to any of them.
-    #[tactic(auto, unfolding(crate::specs::Weight::least_below))]
+    #[tactic(auto, unfolding(crate::proofs::WeightLaws::least_below))]
     pub fn weight(&self, homes: &IdSet, cpu: u16) -> u8
         requires present { IsPresent self.now cpu }
         requires homes { AreHomes self.now homes.now }

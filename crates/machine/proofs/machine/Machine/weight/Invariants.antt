@@ -1,5 +1,5 @@
 use Rattle.std.proofs.Common.{◌≡◌}
-use Rattle.machine.specs.Weight.{least_below}
+use Rattle.machine.proofs.WeightLaws.{least_below}
 use Rattle.machine.proofs.machine.Machine.weight.Given as goal
 
 -- the least distance to a home so far
