@@ -1,5 +1,5 @@
 -- The CPUs of classes, dealt to rows.
-use Rattle.std.specs.Prelude.{◌≡◌, ℕ, ◌<◌, ◌≤◌, true, List, All, AllPairs, length, slice_index_or}
+use Rattle.std.specs.Prelude.{◌≡◌, ℕ, ◌+◌, ◌<◌, ◌≤◌, true, false, ◌||◌, Option, Some, None, List, All, Any, AllPairs, length, slice_index_or}
 use Rattle.std.specs.FinSet as set
 use Rattle.cpu_set.specs.Ids.{Ids, IsDisjoint}
 use Rattle.cpu_set.specs.Members.{InRange}
@@ -7,7 +7,7 @@ use Rattle.certificate.specs.RowView.{RowView}
 use Rattle.certificate.specs.IsDealt.{Holds, IsDealt}
 use Rattle.certificate.specs.PlanFault.{is_held}
 use Rattle.twins.specs.IsGrouping.{class_at, IsGrouping}
-use Rattle.twins.specs.Holdings.{cell}
+use Rattle.twins.specs.Holdings.{cell, share_of}
 use Rattle.twins.specs.declared.holders.Share.{Share}
 
 -- each row has as many CPUs of each class as it holds and no others, no CPU is in two rows,
@@ -24,3 +24,24 @@ abbrev pub DealOfTwinsIsDealt : Type 0
 DealOfTwinsIsDealt =
     (rows : List RowView) (classes : List Ids) (holdings : List (List Share)) (sets : List Ids)
     → IsGrouping rows classes → IsDeal classes holdings sets → IsDealt rows sets
+
+-- a number of CPUs are taken out of a set, the lowest first
+pub record IsTaken (old new taken : Ids) (count : ℕ) : Type 0 where
+  pub both : (cpu : ℕ) → set.contains old cpu ≡ (set.contains taken cpu || set.contains new cpu)
+  pub once : (cpu : ℕ) → set.contains taken cpu ≡ true → set.contains new cpu ≡ false
+  pub below : (a b : ℕ) → set.contains taken a ≡ true → set.contains new b ≡ true → a < b
+  pub as_many : set.len taken ≡ count
+  pub left : set.len new + count ≡ set.len old
+
+-- the least row at or above `from` that has a share, or none
+abbrev pub IsNextRow : List Share → ℕ → Option ℕ → Type 0
+IsNextRow shares from None = All (λ s. s.row < from) shares
+IsNextRow shares from (Some row) = (from ≤ row) × Any (λ s. s.row ≡ row) shares × All (λ s. from ≤ s.row → row ≤ s.row) shares
+
+-- the CPUs of one class are dealt to the holders of shares, in the rows' order, and nothing else changes
+pub record IsClassDeal (class : Ids) (shares : List Share) (old new : List Ids) : Type 0 where
+  pub long : length new ≡ length old
+  pub others : (k cpu : ℕ) → set.contains class cpu ≡ false → set.contains (slice_index_or new k set.empty) cpu ≡ set.contains (slice_index_or old k set.empty) cpu
+  pub counts : (k : ℕ) → k < length new → set.len (set.intersection (slice_index_or new k set.empty) class) ≡ share_of k shares
+  pub once : (j k cpu : ℕ) → set.contains class cpu ≡ true → Holds new j cpu → Holds new k cpu → j ≡ k
+  pub rising : (a b k : ℕ) → a < b → set.contains class a ≡ true → set.contains class b ≡ true → Holds new k b → (j : ℕ) × (j ≤ k) × Holds new j a

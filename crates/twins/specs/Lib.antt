@@ -3,3 +3,4 @@ pub mod IsGrouping
 pub mod ClassWeight
 pub mod Holdings
 pub mod IsDeal
+pub mod IsPart

@@ -5,8 +5,15 @@
 //! and [`deal`] the rows' sets.
 #![tactic(auto)]
 
+mod alike;
 mod classes;
+mod dealing;
+mod grouping;
 mod holders;
+mod laws;
 
 pub use classes::Classes;
+pub use dealing::deal;
+pub use grouping::group;
 pub use holders::{Holders, Share};
+pub use laws::{deals_of_twins_are_dealt, members_weigh_the_same};

@@ -1,0 +1,9 @@
+pub mod Weights
+pub mod Sets
+pub mod Times
+pub mod Splitting
+pub mod Grouped
+pub mod Shares
+pub mod Deals
+pub mod Rounds
+pub mod TwinLaws

@@ -1,0 +1,181 @@
+-- One set, split by the weights of a row.
+use Rattle.std.proofs.Common.{◌≡◌, ℕ, ◌+◌, ◌<◌, ◌≤◌, ◌==◌, Bool, true, false, cond, not, ◌&&◌, List, [], ◌∷◌, ◌++◌, length, take, get_or, refl, sym, ap, subst, ◌∙◌, arith}
+use Rattle.std.specs.FinSet as set
+use Rattle.std.specs.List.{All}
+use Rattle.std.proofs.lemmas.Bool.{true≢false, false≢true, eqb-true}
+use Rattle.std.proofs.lemmas.List.{length-take, take-take, get_or-take}
+use Rattle.std.proofs.lemmas.List.Elements.{All-more, All-take, All-push}
+use Rattle.cpu_set.specs.Ids.{Ids, NoneFrom}
+use Rattle.cpu_set.specs.Pointwise.{contains-intersection, contains-difference}
+use Rattle.certificate.proofs.Tests.{and_left, and_right, both}
+use Rattle.certificate.specs.RowView.{RowView}
+use Rattle.certificate.specs.Weight.{weight}
+use Rattle.certificate.specs.IsDealt.{AreTwins}
+use Rattle.certificate.specs.IsShortage.{is_offered}
+use Rattle.twins.specs.IsPart.{is_same_weight, IsPart, IsSplit, IsPutTo, times_in}
+use Rattle.twins.proofs.Weights.{same_says, same_itself}
+use Rattle.twins.proofs.Sets.{some_of_member, only_one, len_split}
+use Rattle.twins.proofs.Times.{times_put}
+
+-- twins to some rows are twins to fewer
+pub twins_before : (rows : List RowView) (k n a b : ℕ) → k ≤ n → AreTwins (take n rows) a b → AreTwins (take k rows) a b
+twins_before rows k n a b le twins =
+    let few : All (λ (row : RowView). weight row a ≡ weight row b) (take k (take n rows)) = All-take (λ (row : RowView). weight row a ≡ weight row b) k (take n rows) twins in
+    rw (take-take k n rows le) at few
+
+twins_more :
+    (rows : List RowView) (k a b : ℕ) (row : RowView) → k < length rows → row ≡ get_or rows k row
+    → AreTwins (take k rows) a b → weight row a ≡ weight row b → AreTwins (take (k + 1) rows) a b
+twins_more rows k a b row lt is twins same =
+    All-more (λ (r : RowView). weight r a ≡ weight r b) rows k row lt twins (subst (λ (r : RowView). weight r a ≡ weight r b) is same)
+
+twins_at :
+    (rows : List RowView) (k a b : ℕ) (row : RowView) → k < length rows → row ≡ get_or rows k row
+    → AreTwins (take (k + 1) rows) a b → weight row a ≡ weight row b
+twins_at rows k a b row lt is twins =
+    let here : weight (get_or (take (k + 1) rows) k row) a ≡ weight (get_or (take (k + 1) rows) k row) b =
+    twins k row (rw (length-take (k + 1) rows) (omega arith)) in
+    let same : get_or (take (k + 1) rows) k row ≡ row = get_or-take (k + 1) rows k row (omega arith) ∙ sym is in
+    subst (λ (r : RowView). weight r a ≡ weight r b) same here
+
+-- what is left of a set while it is split, and what was split off
+pub record Splitting (rows : List RowView) (k : ℕ) (part rest : Ids) (parts_old alone_old parts_new alone_new : List Ids) : Type 0 where
+  pub within : (c : ℕ) → set.contains rest c ≡ true → set.contains part c ≡ true
+  pub whole : (a b : ℕ) → set.contains rest a ≡ true → AreTwins (take k rows) a b → is_offered rows b ≡ true → set.contains rest b ≡ true
+  pub parts : All (IsPart rows k) parts_new
+  pub lone : All (IsPart rows (length rows)) alone_new
+  pub same : (c : ℕ) → times_in parts_new c + times_in alone_new c + cond (set.contains rest c) 1 0
+      ≡ times_in parts_old c + times_in alone_old c + cond (set.contains part c) 1 0
+
+-- at first all of the set is left
+pub splitting_start :
+    (rows : List RowView) (k : ℕ) (part : Ids) (parts alone : List Ids) → IsPart rows k part → All (IsPart rows (k + 1)) parts → All (IsPart rows (length rows)) alone
+    → Splitting rows (k + 1) part part parts alone parts alone
+splitting_start rows k part parts alone is_part all lone = record {
+  within = λ c here. here;
+  whole = λ a b here twins offered. is_part.whole a b here (twins_before rows k (k + 1) a b (omega arith) twins) offered;
+  parts = all;
+  lone = lone;
+  same = λ c. refl;
+}
+
+-- and at the end nothing
+pub splitting_end :
+    (rows : List RowView) (k : ℕ) (part rest : Ids) (parts_old alone_old parts_new alone_new : List Ids)
+    → Splitting rows k part rest parts_old alone_old parts_new alone_new → NoneFrom rest 0 → IsSplit rows k part parts_old alone_old parts_new alone_new
+splitting_end rows k part rest parts_old alone_old parts_new alone_new splitting none = record {
+  parts = splitting.parts;
+  lone = splitting.lone;
+  same = λ c. omega (arith, splitting.same c, nothing (set.contains rest c) (none c (omega arith)));
+}
+  where
+    nothing : (b : Bool) → b ≡ false → cond {A = ℕ} b 1 0 ≡ 0
+    nothing b e = ap (λ t. cond {A = ℕ} t 1 0) e
+
+-- the members of the rest that weigh as much as one of them
+abbrev pub IsAlike : RowView → ℕ → Ids → Ids → Type 0
+IsAlike row cpu rest piece = (q : ℕ) → set.contains piece q ≡ (set.contains rest q && is_same_weight (weight row cpu) (weight row q))
+
+in_piece : (row : RowView) (cpu : ℕ) (rest piece : Ids) → IsAlike row cpu rest piece → (q : ℕ) → set.contains piece q ≡ true
+    → (set.contains rest q ≡ true) × (weight row cpu ≡ weight row q)
+in_piece row cpu rest piece alike q has =
+    let e = sym (alike q) ∙ has in
+    (and_left _ _ e, same_says _ _ (and_right _ _ e))
+
+to_piece : (row : RowView) (cpu : ℕ) (rest piece : Ids) → IsAlike row cpu rest piece → (q : ℕ) → set.contains rest q ≡ true → weight row cpu ≡ weight row q
+    → set.contains piece q ≡ true
+to_piece row cpu rest piece alike q has same =
+    alike q ∙ both _ _ has (subst (λ w. is_same_weight (weight row cpu) w ≡ true) same (same_itself (weight row cpu)))
+
+-- the piece is a part that the row does not tell apart
+pub piece_is_part :
+    (rows : List RowView) (k cpu : ℕ) (row : RowView) (part rest piece : Ids) (parts_old alone_old parts_new alone_new : List Ids)
+    → k < length rows → row ≡ get_or rows k row → IsPart rows k part → Splitting rows (k + 1) part rest parts_old alone_old parts_new alone_new
+    → set.contains rest cpu ≡ true → IsAlike row cpu rest piece → IsPart rows (k + 1) piece
+piece_is_part rows k cpu row part rest piece parts_old alone_old parts_new alone_new lt is is_part splitting has alike = record {
+  in_range = λ n here. is_part.in_range n (splitting.within n (in_piece row cpu rest piece alike n here).0);
+  some = some_of_member piece cpu (to_piece row cpu rest piece alike cpu has refl);
+  alike = λ a b in_a in_b.
+      let pa = in_piece row cpu rest piece alike a in_a in
+      let pb = in_piece row cpu rest piece alike b in_b in
+      twins_more rows k a b row lt is (is_part.alike a b (splitting.within a pa.0) (splitting.within b pb.0)) (sym pa.1 ∙ pb.1);
+  whole = λ a b in_a twins offered.
+      let pa = in_piece row cpu rest piece alike a in_a in
+      to_piece row cpu rest piece alike b (splitting.whole a b pa.0 twins offered) (pa.1 ∙ twins_at rows k a b row lt is twins);
+}
+
+-- one CPU by itself is alike to all rows
+pub lone_is_part : (rows : List RowView) (k : ℕ) (s : Ids) → k ≤ length rows → IsPart rows k s → set.len s ≡ 1 → IsPart rows (length rows) s
+lone_is_part rows k s le part one = record {
+  in_range = part.in_range;
+  some = part.some;
+  alike = λ a b in_a in_b. subst (λ q. AreTwins (take (length rows) rows) a q) (only_one s a b one in_a in_b) (λ j d lt. refl);
+  whole = λ a b in_a twins offered. part.whole a b in_a (twins_before rows k (length rows) a b le twins) offered;
+}
+
+put_parts :
+    (rows : List RowView) (k : ℕ) (piece : Ids) (parts : List Ids) (b : Bool) → All (IsPart rows k) parts → IsPart rows k piece
+    → All (IsPart rows k) (cond b parts (parts ++ piece ∷ []))
+put_parts rows k piece parts true all is_part = all
+put_parts rows k piece parts false all is_part = All-push (IsPart rows k) parts piece all is_part
+
+put_lone :
+    (rows : List RowView) (k : ℕ) (piece : Ids) (alone : List Ids) (b : Bool) → (set.len piece == 1) ≡ b → k ≤ length rows
+    → All (IsPart rows (length rows)) alone → IsPart rows k piece → All (IsPart rows (length rows)) (cond b (alone ++ piece ∷ []) alone)
+put_lone rows k piece alone true one le all is_part = All-push (IsPart rows (length rows)) alone piece all (lone_is_part rows k piece le is_part (eqb-true _ _ one))
+put_lone rows k piece alone false one le all is_part = all
+
+one_of_both : (p r s : Bool) → (p ≡ true → r ≡ true) → s ≡ (r && not p) → cond r 1 0 ≡ cond p 1 0 + cond s 1 0
+one_of_both true true s within e = rw e (omega arith)
+one_of_both true false s within e = absurd (false≢true (within refl))
+one_of_both false true s within e = rw e (omega arith)
+one_of_both false false s within e = rw e (omega arith)
+
+-- a piece that has some of the rest leaves less of it
+pub less_left :
+    (rows : List RowView) (k cpu : ℕ) (row : RowView) (part rest piece rest_new : Ids) (parts_old alone_old parts_new alone_new : List Ids)
+    → IsPart rows k part → Splitting rows (k + 1) part rest parts_old alone_old parts_new alone_new
+    → set.contains rest cpu ≡ true → IsAlike row cpu rest piece → rest_new ≡ set.difference rest piece → set.len rest_new < set.len rest
+less_left rows k cpu row part rest piece rest_new parts_old alone_old parts_new alone_new is_part splitting has alike left =
+    let some : 0 < set.len (set.intersection rest piece) =
+    some_of_member (set.intersection rest piece) cpu (contains-intersection rest piece cpu ∙ both _ _ has (to_piece row cpu rest piece alike cpu has refl)) in
+    rw left (omega (arith, some, len_split rest piece (λ n here. is_part.in_range n (splitting.within n here))))
+
+-- one piece more is split off
+pub splitting_more :
+    (rows : List RowView) (k cpu : ℕ) (row : RowView) (part rest piece rest_new : Ids) (parts_old alone_old parts alone parts_new alone_new : List Ids)
+    → k < length rows → row ≡ get_or rows k row → IsPart rows k part → Splitting rows (k + 1) part rest parts_old alone_old parts alone
+    → set.contains rest cpu ≡ true → IsAlike row cpu rest piece → IsPutTo piece parts alone parts_new alone_new → rest_new ≡ set.difference rest piece
+    → Splitting rows (k + 1) part rest_new parts_old alone_old parts_new alone_new
+splitting_more rows k cpu row part rest piece rest_new parts_old alone_old parts alone parts_new alone_new lt is is_part splitting has alike put left =
+    let piece_part : IsPart rows (k + 1) piece =
+    piece_is_part rows k cpu row part rest piece parts_old alone_old parts alone lt is is_part splitting has alike in
+    let minus : (c : ℕ) → set.contains rest_new c ≡ (set.contains rest c && not (set.contains piece c)) =
+    λ c. ap (λ s. set.contains s c) left ∙ contains-difference rest piece c in
+    record {
+      within = λ c here. splitting.within c (and_left _ _ (sym (minus c) ∙ here));
+      whole = λ a b here twins offered.
+          let in_rest : set.contains rest a ≡ true = and_left _ _ (sym (minus a) ∙ here) in
+          let not_in : set.contains piece a ≡ false = not_says _ (and_right _ _ (sym (minus a) ∙ here)) in
+          minus b ∙ both _ _ (splitting.whole a b in_rest twins offered)
+          (not_is _ (λ in_piece_b.
+          true≢false (sym (to_piece row cpu rest piece alike a in_rest
+          ((in_piece row cpu rest piece alike b in_piece_b).1 ∙ sym (twins_at rows k a b row lt is twins))) ∙ not_in)));
+      parts = rw put.parts (put_parts rows (k + 1) piece parts (set.len piece == 1) splitting.parts piece_part);
+      lone = rw put.lone (put_lone rows (k + 1) piece alone (set.len piece == 1) refl (omega arith) splitting.lone piece_part);
+      same = λ c.
+          omega (
+            arith,
+            splitting.same c,
+            times_put piece parts alone parts_new alone_new put c,
+            one_of_both (set.contains piece c) (set.contains rest c) (set.contains rest_new c) (λ here. (in_piece row cpu rest piece alike c here).0) (minus c),
+          );
+    }
+  where
+    not_says : (b : Bool) → not b ≡ true → b ≡ false
+    not_says true e = absurd (false≢true e)
+    not_says false e = refl
+
+    not_is : (b : Bool) → (b ≡ true → ⊥) → not b ≡ true
+    not_is true never = absurd (never refl)
+    not_is false never = refl

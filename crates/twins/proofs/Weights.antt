@@ -1,0 +1,85 @@
+-- CPUs of one weight, offer by offer.
+use Rattle.std.proofs.Common.{◌≡◌, ℕ, ◌+◌, ◌<◌, Bool, true, false, cond, not, ◌&&◌, ◌||◌, ◌==◌, Option, Some, None, option_map, is_some, List, [], ◌∷◌, length, take, get_or, refl, sym, ap, ◌∙◌}
+use Rattle.std.specs.Option.{option_or}
+use Rattle.std.specs.FinSet as set
+use Rattle.std.proofs.lemmas.Bool.{eqb-true, eq-eqb, ne_eqb, true≢false, false≢true}
+use Rattle.std.proofs.lemmas.List.{take_more}
+use Rattle.std.proofs.lemmas.List.Folds.{find-append}
+use Rattle.certificate.specs.Weight.{weight_in}
+use Rattle.certificate.specs.Limits.{offers_fit}
+use Rattle.certificate.specs.declared.rows.Offer.{Offer}
+use Rattle.certificate.proofs.ApartTest.{apart_at}
+use Rattle.certificate.proofs.CostSums.{offers_apart}
+use Rattle.certificate.proofs.Offers.{is_some-find}
+use Rattle.twins.specs.IsPart.{is_same_weight}
+
+-- the test says what its name does
+pub same_says : (v w : Option ℕ) → is_same_weight v w ≡ true → v ≡ w
+same_says None None e = refl
+same_says (Some v) (Some w) e = ap Some (eqb-true v w e)
+same_says (Some v) None e = absurd (false≢true e)
+same_says None (Some w) e = absurd (false≢true e)
+
+eqb_itself : (n : ℕ) → (n == n) ≡ true
+eqb_itself n = eq-eqb n n refl
+
+pub same_itself : (v : Option ℕ) → is_same_weight v v ≡ true
+same_itself None = refl
+same_itself (Some v) = eqb_itself v
+
+pub same_none : (v : Option ℕ) → is_same_weight None v ≡ not (is_some v)
+same_none None = refl
+same_none (Some v) = refl
+
+or_false : (b : Bool) → b ≡ (b || false)
+or_false true = refl
+or_false false = refl
+
+one_same :
+    (w : ℕ) (o : Offer) (b : Bool) (before : Option Offer) → (b ≡ true → is_some before ≡ false)
+    → is_same_weight (Some w) (option_map (λ (p : Offer). p.weight) (option_or before (cond b (Some o) None)))
+    ≡ (is_same_weight (Some w) (option_map (λ (p : Offer). p.weight) before) || (b && (w == o.weight)))
+one_same w o true None apart = refl
+one_same w o true (Some p) apart = absurd (true≢false (apart refl))
+one_same w o false None apart = refl
+one_same w o false (Some p) apart = or_false (w == p.weight)
+
+-- one offer more
+pub same_more :
+    (w : ℕ) (offers : List Offer) (k : ℕ) (o : Offer) (c : ℕ) → k < length offers → o ≡ get_or offers k o → offers_fit offers ≡ true
+    → is_same_weight (Some w) (weight_in (take (k + 1) offers) c)
+    ≡ (is_same_weight (Some w) (weight_in (take k offers) c) || (set.contains o.cpus c && (w == o.weight)))
+same_more w offers k o c lt is fit =
+    rw (take_more offers k o lt, ← is, find-append (λ (p : Offer). set.contains p.cpus c) (take k offers) (o ∷ []))
+    (one_same w o (set.contains o.cpus c) _ (λ has.
+    is_some-find (λ (p : Offer). set.contains p.cpus c) (take k offers) ∙ apart_at (λ (p : Offer). p.cpus) offers k o lt is (offers_apart offers fit) c has))
+
+with_match : (v w : ℕ) (a b c : Bool) → w ≡ v → a ≡ c → (a || b) ≡ (c || (b && (v == w)))
+with_match v w a true c e same = rw (same, e, eqb_itself) refl
+with_match v w a false c e same = rw same refl
+
+-- an offer of the weight adds its CPUs
+pub same_with :
+    (w : ℕ) (offers : List Offer) (k : ℕ) (o : Offer) (found : Bool) (c : ℕ) → k < length offers → o ≡ get_or offers k o → offers_fit offers ≡ true
+    → o.weight ≡ w → found ≡ is_same_weight (Some w) (weight_in (take k offers) c)
+    → (found || set.contains o.cpus c) ≡ is_same_weight (Some w) (weight_in (take (k + 1) offers) c)
+same_with w offers k o found c lt is fit weighs same =
+    with_match w o.weight found (set.contains o.cpus c) _ weighs same ∙ sym (same_more w offers k o c lt is fit)
+
+eqb_differ : (v w : ℕ) → (w ≡ v → ⊥) → (v == w) ≡ false
+eqb_differ v w differ = ne_eqb v w (λ e. differ (sym e))
+
+without_match : (v w : ℕ) (b c : Bool) → (w ≡ v → ⊥) → c ≡ (c || (b && (v == w)))
+without_match v w b c differ = rw (eqb_differ v w differ) (keep b c)
+  where
+    keep : (b c : Bool) → c ≡ (c || (b && false))
+    keep true c = or_false c
+    keep false c = or_false c
+
+-- an offer of another weight adds none
+pub same_without :
+    (w : ℕ) (offers : List Offer) (k : ℕ) (o : Offer) (found : Bool) (c : ℕ) → k < length offers → o ≡ get_or offers k o → offers_fit offers ≡ true
+    → (o.weight ≡ w → ⊥) → found ≡ is_same_weight (Some w) (weight_in (take k offers) c)
+    → found ≡ is_same_weight (Some w) (weight_in (take (k + 1) offers) c)
+same_without w offers k o found c lt is fit differ same =
+    same ∙ without_match w o.weight (set.contains o.cpus c) _ differ ∙ sym (same_more w offers k o c lt is fit)

@@ -1,0 +1,48 @@
+-- Sets of CPUs on the way to classes of twins: CPUs that the first rows do not tell apart.
+use Rattle.std.specs.Prelude.{◌≡◌, ℕ, ◌+◌, ◌<◌, ◌==◌, Bool, true, false, cond, if◌then◌else◌, Option, Some, None, List, [], ◌∷◌, ◌++◌, All, take, length, sum_by}
+use Rattle.std.specs.FinSet as set
+use Rattle.cpu_set.specs.Ids.{Ids}
+use Rattle.cpu_set.specs.Members.{InRange}
+use Rattle.certificate.specs.RowView.{RowView}
+use Rattle.certificate.specs.IsDealt.{AreTwins}
+use Rattle.certificate.specs.IsShortage.{is_offered}
+
+-- both are the same weight, or both are none
+abbrev pub is_same_weight : Option ℕ → Option ℕ → Bool
+is_same_weight None None = true
+is_same_weight (Some v) (Some w) = v == w
+is_same_weight (Some v) None = false
+is_same_weight None (Some w) = false
+
+-- some CPUs that are twins to the first k rows, with all their twins that have a weight at all
+pub record IsPart (rows : List RowView) (k : ℕ) (s : Ids) : Type 0 where
+  pub in_range : InRange s
+  pub some : 0 < set.len s
+  pub alike : (a b : ℕ) → set.contains s a ≡ true → set.contains s b ≡ true → AreTwins (take k rows) a b
+  pub whole : (a b : ℕ) → set.contains s a ≡ true → AreTwins (take k rows) a b → is_offered rows b ≡ true → set.contains s b ≡ true
+
+-- how many of the sets have the CPU
+abbrev pub times_in : List Ids → ℕ → ℕ
+times_in sets cpu = sum_by (λ s. cond (set.contains s cpu) 1 0) sets
+
+-- before any row: the CPUs with a weight are in one set, where there are any
+pub record IsUnsplit (rows : List RowView) (sets : List Ids) : Type 0 where
+  pub parts : All (IsPart rows 0) sets
+  pub once : (cpu : ℕ) → times_in sets cpu ≡ cond (is_offered rows cpu) 1 0
+
+-- sets that the first k rows do not tell apart, some of them alone by all rows, have the CPUs of other sets, each as often
+pub record ArePieces (rows : List RowView) (k : ℕ) (sets alone parts_new alone_new : List Ids) : Type 0 where
+  pub parts : All (IsPart rows k) parts_new
+  pub lone : All (IsPart rows (length rows)) alone_new
+  pub same : (cpu : ℕ) → times_in parts_new cpu + times_in alone_new cpu ≡ times_in sets cpu + times_in alone cpu
+
+-- the same, with one set split and its pieces added to either list
+pub record IsSplit (rows : List RowView) (k : ℕ) (part : Ids) (parts_old alone_old parts_new alone_new : List Ids) : Type 0 where
+  pub parts : All (IsPart rows k) parts_new
+  pub lone : All (IsPart rows (length rows)) alone_new
+  pub same : (cpu : ℕ) → times_in parts_new cpu + times_in alone_new cpu ≡ times_in parts_old cpu + times_in alone_old cpu + cond (set.contains part cpu) 1 0
+
+-- the set is added to the second list if it has one CPU, else to the first
+pub record IsPutTo (piece : Ids) (parts_old alone_old parts_new alone_new : List Ids) : Type 0 where
+  pub parts : parts_new ≡ (if set.len piece == 1 then parts_old else parts_old ++ piece ∷ [])
+  pub lone : alone_new ≡ (if set.len piece == 1 then alone_old ++ piece ∷ [] else alone_old)

@@ -1,0 +1,55 @@
+//! The CPUs that are alike to one row.
+ghost use Rattle.std.specs.Prelude.{◌≡◌, ℕ, ◌&&◌, Some, IsTrue, is_some};
+ghost use Rattle.std.specs.FinSet as set;
+ghost use Rattle.certificate.specs.Weight.{weight_in};
+ghost use Rattle.certificate.specs.Limits.{offers_fit};
+ghost use Rattle.twins.specs.IsPart.{is_same_weight};
+
+use certificate::Offer;
+use cpu_set::IdSet;
+
+/// Those of some CPUs that have the weight of one of them, or that have none as it has none.
+pub(crate) fn alike(offers: &[Offer], cpu: u16, among: &IdSet) -> IdSet
+    requires { IsTrue (offers_fit offers.now) }
+    ensures { (q : ℕ) → set.contains result q
+        ≡ (set.contains among.now q && is_same_weight (weight_in offers.now cpu) (weight_in offers.now q)) }
+{
+    match weight_of(offers, cpu) {
+        Some(weight) => among.meet(&cpus_of_weight(offers, weight)),
+        None => among.minus(&cpus_of(offers)),
+    }
+}
+
+fn weight_of(offers: &[Offer], cpu: u16) -> Option<u32>
+    ensures { result ≡ weight_in offers.now cpu }
+{
+    offers
+        .iter()
+        .find(|offer| offer.cpus.contains(cpu))
+        .map(|offer| offer.weight)
+}
+
+/// The CPUs of this weight: those of each offer that has it.
+fn cpus_of_weight(offers: &[Offer], weight: u32) -> IdSet
+    requires { IsTrue (offers_fit offers.now) }
+    ensures { (q : ℕ) → set.contains result q ≡ is_same_weight (Some weight) (weight_in offers.now q) }
+{
+    let mut found = IdSet::empty();
+    for offer in offers {
+        if offer.weight == weight {
+            found = found.union(&offer.cpus);
+        }
+    }
+    found
+}
+
+/// The CPUs that are in one of the offers.
+pub(crate) fn cpus_of(offers: &[Offer]) -> IdSet
+    ensures { (q : ℕ) → set.contains result q ≡ is_some (weight_in offers.now q) }
+{
+    let mut found = IdSet::empty();
+    for offer in offers {
+        found = found.union(&offer.cpus);
+    }
+    found
+}

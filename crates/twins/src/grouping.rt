@@ -1,0 +1,122 @@
+//! Classes of twins, by splitting sets of CPUs row by row.
+ghost use Rattle.std.specs.Prelude.{◌≡◌, ℕ, ◌<◌, ◌+◌, IsTrue, IfOk, OnOk, All, length};
+ghost use Rattle.std.specs.List.{list_all};
+ghost use Rattle.std.specs.FinSet as set;
+ghost use Rattle.certificate.specs.Limits.{row_fits};
+ghost use Rattle.certificate.specs.IsShortage.{is_offered};
+ghost use Rattle.twins.specs.IsGrouping.{IsGrouping};
+ghost use Rattle.twins.specs.IsPart.{IsPart, IsUnsplit, ArePieces, IsSplit, IsPutTo};
+
+use crate::Classes;
+use crate::alike::{alike, cpus_of};
+use certificate::{Problem, Row};
+use cpu_set::IdSet;
+use std::alloc::{AllocError, Global};
+
+/// The CPUs with a weight in some row, in classes of twins. A CPU with none is in no class.
+///
+/// Each row splits the sets that are left of the rows before it; one CPU by itself needs no more looks.
+pub fn group(alloc: Global, problem: &Problem) -> Result<Classes, AllocError>
+    requires { IsTrue (list_all row_fits problem.now) }
+    ensures { IfOk result (λ classes. IsGrouping problem.now classes) }
+{
+    let sets = grouped(alloc, problem.rows.as_slice())?;
+    Ok(Classes { sets })
+}
+
+fn grouped(alloc: Global, rows: &[Row]) -> Result<Vec<IdSet>, AllocError>
+    requires { IsTrue (list_all row_fits rows.now) }
+    ensures { IfOk result (λ sets. IsGrouping rows.now sets.items) }
+{
+    let mut alone = Vec::new(alloc);
+    let mut parts = unsplit(alloc, rows)?;
+    for k in 0..rows.len() {
+        parts = split_all(alloc, rows, k, parts.as_slice(), &mut alone)?;
+    }
+    for part in &parts {
+        alone.push(*part)?;
+    }
+    Ok(alone)
+}
+
+/// All CPUs with a weight, as one set where there are any.
+fn unsplit(alloc: Global, rows: &[Row]) -> Result<Vec<IdSet>, AllocError>
+    ensures { IfOk result (λ parts. IsUnsplit rows.now parts.items) }
+{
+    let mut parts = Vec::new(alloc);
+    let all = offered_cpus(rows);
+    if all.count() == 0 {
+        return Ok(parts);
+    }
+    parts.push(all)?;
+    Ok(parts)
+}
+
+/// The CPUs with a weight in some row.
+fn offered_cpus(rows: &[Row]) -> IdSet
+    ensures { (cpu : ℕ) → set.contains result cpu ≡ is_offered rows.now cpu }
+{
+    let mut offered = IdSet::empty();
+    for row in rows {
+        offered = offered.union(&cpus_of(row.offers.as_slice()));
+    }
+    offered
+}
+
+/// Sets that agree on the rows before row `k`, split so that they agree on it too.
+fn split_all(
+    alloc: Global,
+    rows: &[Row],
+    k: usize,
+    sets: &[IdSet],
+    alone: &mut Vec<IdSet>,
+) -> Result<Vec<IdSet>, AllocError>
+    requires fit { IsTrue (list_all row_fits rows.now) }
+    requires there { k < length rows.now }
+    requires sets { All (IsPart rows.now k) sets.now }
+    requires alone { All (IsPart rows.now (length rows.now)) alone.old.items }
+    ensures { IfOk result (λ parts. ArePieces rows.now (k + 1) sets.now alone.old.items parts.items alone.new.items) }
+{
+    let mut parts = Vec::new(alloc);
+    for part in sets {
+        split(rows, k, part, &mut parts, alone)?;
+    }
+    Ok(parts)
+}
+
+/// One set, split by the weights that its CPUs have in row `k`.
+fn split(
+    rows: &[Row],
+    k: usize,
+    part: &IdSet,
+    parts: &mut Vec<IdSet>,
+    alone: &mut Vec<IdSet>,
+) -> Result<(), AllocError>
+    requires fit { IsTrue (list_all row_fits rows.now) }
+    requires there { k < length rows.now }
+    requires part { IsPart rows.now k part.now }
+    requires parts { All (IsPart rows.now (k + 1)) parts.old.items }
+    requires alone { All (IsPart rows.now (length rows.now)) alone.old.items }
+    ensures { OnOk result (IsSplit rows.now (k + 1) part.now parts.old.items alone.old.items parts.new.items alone.new.items) }
+{
+    let row = &rows[k];
+    let mut rest = *part;
+    while let Some(cpu) = rest.first() {
+        let piece = alike(row.offers.as_slice(), cpu, &rest);
+        put(piece, parts, alone)?;
+        rest = rest.minus(&piece);
+    }
+    Ok(())
+}
+
+/// Adds a set to those that may be split, or to those of one CPU.
+fn put(piece: IdSet, parts: &mut Vec<IdSet>, alone: &mut Vec<IdSet>) -> Result<(), AllocError>
+    ensures { OnOk result (IsPutTo piece parts.old.items alone.old.items parts.new.items alone.new.items) }
+{
+    if piece.count() == 1 {
+        alone.push(piece)?;
+    } else {
+        parts.push(piece)?;
+    }
+    Ok(())
+}
