@@ -13,7 +13,7 @@ use Rattle.kernel_model.specs.declared.faults.KernelFault.TheVariants.{NoGroup, 
 use Rattle.kernel_model.specs.KernelState.{KernelState, failed}
 use Rattle.kernel_model.specs.Refusals.{write_refusal}
 use Rattle.kernel_model.specs.Cases.{WritesCpus}
-use Rattle.kernel_model.specs.KernelLemmas.{calls_are_free}
+use Rattle.kernel_model.specs.RefusalLemmas.{calls_are_free}
 use Rattle.apply_plan.specs.declared.entry.Entry.{Entry}
 use Rattle.apply_plan.specs.declared.scan.Write.{Write}
 use Rattle.apply_plan.specs.Targets.{IsPlaced, ArePlaced}

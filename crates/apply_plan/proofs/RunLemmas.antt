@@ -9,7 +9,7 @@ use Rattle.cpuset_tree.specs.Groups.{cpus_in, requested_cpus}
 use Rattle.cpuset_tree.specs.Effective.{is_empty}
 use Rattle.proctable.specs.Processes.{is_alive}
 use Rattle.kernel_model.specs.declared.KernelFault.{KernelFault}
-use Rattle.kernel_model.specs.KernelState.{KernelState}
+use Rattle.kernel_model.specs.KernelState.{KernelState, failed}
 use Rattle.kernel_model.specs.WellFormed.{IsWellFormed}
 use Rattle.apply_plan.specs.declared.entry.Entry.{Entry}
 use Rattle.apply_plan.specs.declared.handover.Progress.{Progress}
@@ -24,7 +24,11 @@ use Rattle.apply_plan.proofs.EventLemmas.{IsCalm, calm, still_open}
 use Rattle.apply_plan.proofs.HandoverLemmas.{step_safe, step_lowers, step_between, step_keeps}
 use Rattle.apply_plan.proofs.KernelFacts.{placed_alike}
 use Rattle.apply_plan.specs.declared.scan.Write.{Write}
-use Rattle.cpuset_tree.specs.TreeLemmas.{stays_well_formed}
+use Rattle.cpuset_tree.specs.declared.Group.{Group}
+use Rattle.kernel_model.specs.declared.KernelFault.TheVariants.{Failed}
+use Rattle.kernel_model.specs.KernelLemmas.{each_case_keeps}
+use Rattle.kernel_model.specs.RefusalLemmas.{calls_are_free}
+use Rattle.apply_plan.proofs.DueLemmas.{due_is_placed}
 
 module _ (h : Targets) (old new : KernelState) (all : AllByRecursion (IsCalm old new) h.entries) where
   same_held : (e : Entry) → IsCalm old new e → held new e ≡ held old e
@@ -61,13 +65,24 @@ module _ (h : Targets) (old new : KernelState) (all : AllByRecursion (IsCalm old
 
 -- a step leaves a hand-over open
 module _ (h : Targets) (old new : KernelState) (before : IsOpen h old) where
-  written_well_formed : (d : Option Write) → IsWellFormed (written old d)
-  written_well_formed None = before.well_formed
-  written_well_formed (Some w) = record { tree = (stays_well_formed old.tree before.well_formed.tree).cpus w.group w.cpus; table = before.well_formed.table }
+  made_well_formed : (w : Write) → due h old ≡ Some w → IsWellFormed (written old (Some w))
+  made_well_formed w is =
+      let placed = due_is_placed old h.reserved h.entries w before.placed is in
+      ((each_case_keeps old (written old (Some w)) before.well_formed).cpus w.group w.cpus (Ok tt) (((calls_are_free old).write w.group).1 (placed.there, placed.below), refl)).well_formed
+
+  written_well_formed : (d : Option Write) → due h old ≡ d → IsWellFormed (written old d)
+  written_well_formed None is = before.well_formed
+  written_well_formed (Some w) is = made_well_formed w is
+
+  any_group : Group
+  any_group = record { key = 0; serial = 0 }
+
+  failed_well_formed : IsWellFormed (failed old)
+  failed_well_formed = ((each_case_keeps old (failed old) before.well_formed).cpus any_group set.empty (Err Failed) refl).well_formed
 
   step_well_formed : (r : Result Progress KernelFault) → Steps h old r new → IsWellFormed new
-  step_well_formed (Ok answer) s = subst IsWellFormed (sym s.0) (written_well_formed (due h old))
-  step_well_formed (Err fault) s = subst IsWellFormed (sym s.1) (record { tree = before.well_formed.tree; table = before.well_formed.table })
+  step_well_formed (Ok answer) s = subst IsWellFormed (sym s.0) (written_well_formed (due h old) refl)
+  step_well_formed (Err fault) s = subst IsWellFormed (sym s.1) failed_well_formed
 
   step_stays_open : (r : Result Progress KernelFault) → Steps h old r new → IsOpen h new
   step_stays_open r s =
