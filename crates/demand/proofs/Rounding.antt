@@ -1,13 +1,17 @@
 -- Rounding a quota up to whole CPUs.
-use Rattle.std.proofs.Common.{◌≡◌, ℕ, zero, suc, ◌+◌, ◌*◌, ◌<◌, arith}
+use Rattle.std.proofs.Common.{◌≡◌, ℕ, zero, suc, ◌+◌, ◌-◌, ◌*◌, ◌/◌, ◌%◌, ◌<◌, ◌≤◌, min, arith}
+use Rattle.std.proofs.Math.Nat.{suc-mul}
+use Rattle.std.proofs.lemmas.Grind.{div_ceil_times}
 use Rattle.demand.specs.AsksFor.{AsksFor}
 
--- a whole number of CPUs
-pub asks_whole : (quota period whole : ℕ) → 0 < quota → 0 < period → quota ≡ whole * period → AsksFor quota period whole
-asks_whole quota period zero some long is = absurd (omega arith)
-asks_whole quota period (suc whole) some long is = record { enough = grind arith; no_more = grind arith }
+asks : (quota period count : ℕ) → 0 < quota → quota ≤ count * period → count * period < quota + period → AsksFor quota period count
+asks quota period zero some enough less = absurd (omega arith)
+asks quota period (suc count) some enough less =
+    let one_less : suc count - 1 ≡ count = omega arith in
+    record { enough = enough; no_more = rw one_less (omega (arith, suc-mul count period)) }
 
--- one more than the whole ones
-pub asks_more :
-    (quota period whole rest : ℕ) → 0 < period → rest < period → 0 < rest → quota ≡ whole * period + rest → AsksFor quota period (whole + 1)
-asks_more quota period whole rest long less more is = record { enough = grind arith; no_more = grind arith }
+pub asks_ceil :
+    (quota period count : ℕ) → 0 < quota → 0 < period → count ≡ quota / period + min 1 (quota % period) → AsksFor quota period count
+asks_ceil quota period count some long is =
+    let bounds = div_ceil_times quota period long in
+    asks quota period count some (rw is bounds.0) (rw is bounds.1)

@@ -1,10 +1,10 @@
-ghost use Rattle.std.specs.Prelude.{◌≡◌, ℕ, ◌&&◌, nat_lt, true};
+ghost use Rattle.std.specs.Prelude.{◌≡◌, ℕ, nat_lt};
 ghost use Rattle.std.specs.FinSet as set;
 ghost use Rattle.machine.specs.Present.{IsPresent};
 ghost use Rattle.machine.specs.Weight.{weight, AreHomes};
 ghost use Rattle.demand.specs.Allowed.{is_free, allowed_by};
 
-use cpu_set::{CPU_LIMIT, IdSet};
+use cpu_set::IdSet;
 use machine::{Machine, UNREACHABLE};
 
 /// The CPUs that are not reserved, of those that are named, or of all where none is.
@@ -19,13 +19,13 @@ fn free(machine: &Machine, named: &IdSet) -> IdSet
     unreserved.meet(named)
 }
 
-/// Whether a container may get a CPU: a free one with a way to a home.
-fn is_given(machine: &Machine, free: &IdSet, homes: &IdSet, cpu: u16) -> bool
-    requires present { (c : ℕ) → set.contains free.now c ≡ true → IsPresent machine.now c }
+/// Whether a CPU has a way to a home.
+fn is_in_reach(machine: &Machine, homes: &IdSet, cpu: u16) -> bool
+    requires present { IsPresent machine.now cpu }
     requires homes { AreHomes machine.now homes.now }
-    ensures { result ≡ (set.contains free.now cpu && nat_lt (weight machine.now homes.now cpu) 255) }
+    ensures { result ≡ nat_lt (weight machine.now homes.now cpu) 255 }
 {
-    free.contains(cpu) && machine.weight(homes, cpu) < UNREACHABLE
+    machine.weight(homes, cpu) < UNREACHABLE
 }
 
 /// The CPUs that a container may get, given those that it names and its home nodes.
@@ -36,10 +36,12 @@ pub fn allowed(machine: &Machine, named: &IdSet, homes: &IdSet) -> IdSet
 {
     let free = free(machine, named);
     let mut allowed = IdSet::empty();
-    for cpu in 0..CPU_LIMIT {
-        if is_given(machine, &free, homes, cpu) {
+    let mut next = free.first();
+    while let Some(cpu) = next {
+        if is_in_reach(machine, homes, cpu) {
             allowed.insert(cpu);
         }
+        next = free.next_after(cpu);
     }
     allowed
 }

@@ -34,22 +34,9 @@ fn period_of(period: Option<u64>) -> u64
     }
 }
 
-/// How many CPUs a quota asks for: the time that it gives in whole periods, rounded up.
-#[tactic(auto, using(crate::proofs::Rounding::asks_whole, crate::proofs::Rounding::asks_more))]
-fn rounded_up(quota: u64, period: u64) -> u64
-    requires quota { 0 < quota }
-    requires signed { quota < 2 ^ 63 }
-    requires period { 0 < period }
-    ensures { AsksFor quota period result }
-{
-    let whole = quota / period;
-    if quota % period == 0 {
-        return whole;
-    }
-    whole + 1
-}
-
-/// How many CPUs a quota asks for, unless it asks for more than there can be.
+/// How many CPUs a quota asks for, unless it asks for more than there can be: the time that it gives in
+/// whole periods, rounded up.
+#[tactic(auto, using(crate::proofs::Rounding::asks_ceil))]
 fn cpus_asked(quota: u64, period: u64) -> Option<u32>
     requires quota { 0 < quota }
     requires signed { quota < 2 ^ 63 }
@@ -59,7 +46,7 @@ fn cpus_asked(quota: u64, period: u64) -> Option<u32>
     ensures fits { IfSome result (λ n. quota ≤ CPU_LIMIT * period) }
     ensures none { IfNone result (CPU_LIMIT * period < quota) }
 {
-    let count = rounded_up(quota, period);
+    let count = quota.div_ceil(period);
     if count > CPU_LIMIT as u64 {
         None
     } else {
