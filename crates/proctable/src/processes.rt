@@ -1,10 +1,10 @@
-ghost use Rattle.std.specs.Prelude.{◌≡◌, ◌≤◌, IfOk, OnErr};
+ghost use Rattle.std.specs.Prelude.{◌≡◌, ◌≢◌, ◌≤◌, IfOk, IfErr, OnErr, slice_index_or};
 ghost use Rattle.cpuset_tree.specs.TreeAnswers.{Decides};
 ghost use Rattle.proctable.specs.Processes.{process_of, is_alive, group_of, count_in};
 ghost use Rattle.proctable.specs.TableChanges.{first_table, exited, ended_in};
 ghost use Rattle.proctable.specs.TableAnswers.{exit_refusal, AddsProcess, Spawns, Forks};
 ghost use Rattle.proctable.specs.TableWellFormed.{IsWellFormed};
-ghost use Rattle.proctable.specs.Kept.{BelongsNext};
+ghost use Rattle.proctable.specs.Kept.{BelongsNext, IsAt, nobody};
 
 use crate::{LAST_PID, ProcError, ProcFault};
 use cpuset_tree::Group;
@@ -66,15 +66,21 @@ impl ProcTable {
         let _ = &self.live;
     }
 
+    /// The place of a pid among those of the live processes, which rise, or where it would stand.
+    fn search(&self, pid: u32) -> Result<usize, usize>
+        ensures found { IfOk result (IsAt self.now.live pid) }
+        ensures absent { IfErr result (λ _. process_of self.now pid ≡ None) }
+    {
+        self.live.binary_search_by_key(&pid, |process| process.pid)
+    }
+
     fn process(&self, pid: u32) -> Option<Process>
         ensures { result ≡ process_of self.now pid }
     {
-        for process in &self.live {
-            if process.pid == pid {
-                return Some(*process);
-            }
+        match self.search(pid) {
+            Ok(place) => Some(self.live[place]),
+            Err(_) => None,
         }
-        None
     }
 
     /// Whether a process of this pid is alive.
@@ -146,18 +152,32 @@ impl ProcTable {
     pub fn exit(&mut self, pid: u32) -> Result<(), ProcFault>
         ensures { Decides (exit_refusal self.old pid) (λ _ new. new ≡ exited self.old pid) self.old result self.new }
     {
-        if !self.alive(pid) {
+        let Ok(place) = self.search(pid) else {
             return Err(ProcFault::NoProcess);
+        };
+        if self.live[place].first == pid {
+            self.end_with(pid);
+        } else {
+            self.end_at(place, pid);
         }
-        self.end(pid);
         Ok(())
     }
 
-    fn end(&mut self, pid: u32)
+    /// Ends a process and all that belong to it.
+    fn end_with(&mut self, pid: u32)
         ensures { self.new ≡ exited self.old pid }
     {
         self.live
             .retain(|process| !(process.pid == pid || process.first == pid));
+    }
+
+    /// Ends a process at its place, to which no other belongs, since it is no first one.
+    fn end_at(&mut self, place: usize, pid: u32)
+        requires at { IsAt self.old.live pid place }
+        requires other { (slice_index_or self.old.live place nobody).first ≢ pid }
+        ensures { self.new ≡ exited self.old pid }
+    {
+        self.live.remove(place);
     }
 
     /// Ends all processes of a group.

@@ -5,7 +5,7 @@ use Rattle.proctable.specs.TableState.{TableState}
 use Rattle.proctable.specs.TableChanges.{ends_with, exited}
 use Rattle.proctable.specs.Kept.{IsSound}
 use Rattle.proctable.specs.ProcessLemmas.{RisesBelow-filter, AllBelong-filter, together-exited}
-use Rattle.proctable.proofs.processes.ProcTable.end.Goals as goal
+use Rattle.proctable.proofs.processes.ProcTable.end_with.Goals as goal
 
 pub invariant_of-self : goal.invariant_of-self
 invariant_of-self c =
