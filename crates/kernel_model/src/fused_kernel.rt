@@ -1,4 +1,4 @@
-ghost use Rattle.std.specs.Prelude.{◌≡◌};
+ghost use Rattle.std.specs.Prelude.{◌≡◌, true, false, IfErr, OnOk};
 ghost use Rattle.kernel_model.specs.declared.faults.KernelFault.TheVariants.{Failed};
 ghost use Rattle.kernel_model.specs.declared.faults.KernelError.TheVariants.{Fault};
 ghost use Rattle.kernel_model.specs.Fuse.{burnt, is_due, fused, FailsWhenDue};
@@ -57,6 +57,19 @@ impl<K: Kernel> FusedKernel<K> {
             fuse: Fuse::Waiting(n),
         }
     }
+
+    /// Counts a write, or fails where it is the one that fails.
+    fn burn(&mut self) -> Result<(), KernelFault>
+        ensures fuse { self.new.fuse ≡ burnt self.old.fuse }
+        ensures inner { self.new.inner ≡ self.old.inner }
+        ensures ok { OnOk result (is_due self.old.fuse ≡ false) }
+        ensures err { IfErr result (λ fault. (fault ≡ Failed) × (is_due self.old.fuse ≡ true)) }
+    {
+        if self.fuse.burn() {
+            return Err(KernelFault::Failed);
+        }
+        Ok(())
+    }
 }
 
 impl<K: Kernel> Kernel for FusedKernel<K> {
@@ -67,9 +80,7 @@ impl<K: Kernel> Kernel for FusedKernel<K> {
         ensures fuse { self.new.fuse ≡ burnt self.old.fuse }
         ensures inner { FailsWhenDue (Fault Failed) self.old.fuse (K.state self.old.inner) (MakesGroup (K.state self.old.inner) parent name.now) result (K.state self.new.inner) }
     {
-        if self.fuse.burn() {
-            return Err(KernelError::Fault(KernelFault::Failed));
-        }
+        self.burn()?;
         self.inner.make_group(parent, name)
     }
 
@@ -78,9 +89,7 @@ impl<K: Kernel> Kernel for FusedKernel<K> {
         ensures fuse { self.new.fuse ≡ burnt self.old.fuse }
         ensures inner { FailsWhenDue Failed self.old.fuse (K.state self.old.inner) (RemovesGroup (K.state self.old.inner) group) result (K.state self.new.inner) }
     {
-        if self.fuse.burn() {
-            return Err(KernelFault::Failed);
-        }
+        self.burn()?;
         self.inner.remove_group(group)
     }
 
@@ -89,9 +98,7 @@ impl<K: Kernel> Kernel for FusedKernel<K> {
         ensures fuse { self.new.fuse ≡ burnt self.old.fuse }
         ensures inner { FailsWhenDue Failed self.old.fuse (K.state self.old.inner) (WritesCpus (K.state self.old.inner) group cpus) result (K.state self.new.inner) }
     {
-        if self.fuse.burn() {
-            return Err(KernelFault::Failed);
-        }
+        self.burn()?;
         self.inner.write_cpus(group, cpus)
     }
 
@@ -100,9 +107,7 @@ impl<K: Kernel> Kernel for FusedKernel<K> {
         ensures fuse { self.new.fuse ≡ burnt self.old.fuse }
         ensures inner { FailsWhenDue Failed self.old.fuse (K.state self.old.inner) (WritesMems (K.state self.old.inner) group mems) result (K.state self.new.inner) }
     {
-        if self.fuse.burn() {
-            return Err(KernelFault::Failed);
-        }
+        self.burn()?;
         self.inner.write_mems(group, mems)
     }
 
@@ -111,9 +116,7 @@ impl<K: Kernel> Kernel for FusedKernel<K> {
         ensures fuse { self.new.fuse ≡ burnt self.old.fuse }
         ensures inner { FailsWhenDue (Fault Failed) self.old.fuse (K.state self.old.inner) (Spawns (K.state self.old.inner) group) result (K.state self.new.inner) }
     {
-        if self.fuse.burn() {
-            return Err(KernelError::Fault(KernelFault::Failed));
-        }
+        self.burn()?;
         self.inner.spawn(group)
     }
 
@@ -122,9 +125,7 @@ impl<K: Kernel> Kernel for FusedKernel<K> {
         ensures fuse { self.new.fuse ≡ burnt self.old.fuse }
         ensures inner { FailsWhenDue Failed self.old.fuse (K.state self.old.inner) (EndsGroup (K.state self.old.inner) group) result (K.state self.new.inner) }
     {
-        if self.fuse.burn() {
-            return Err(KernelFault::Failed);
-        }
+        self.burn()?;
         self.inner.end_group(group)
     }
 

@@ -1,3 +1,4 @@
+ghost use Rattle.kernel_model.specs.Fuse.{TheNthAloneFails};
 ghost use Rattle.kernel_model.specs.Laws.{EventsKeepGroups, WritesKeepProcesses, WritesKeepTree, WritesLeaveGroups, CallsLeaveProcesses, WritesCount, CallsAreFree, RefusalsHaveCauses, EachCaseKeeps, StepsKeep, RunsKeep, FirstIsWellFormed};
 
 /// What each call leaves of groups and processes, whatever it answers; nothing runs.
@@ -22,4 +23,9 @@ pub fn runs()
     ensures case { EachCaseKeeps }
     ensures step { StepsKeep }
     ensures run { RunsKeep }
+{}
+
+/// Which write of a fused kernel fails, by how many were made before it; nothing runs.
+pub fn fuse()
+    ensures { TheNthAloneFails }
 {}
