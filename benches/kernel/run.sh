@@ -8,4 +8,4 @@ timed '100,000 writes of a leaf of 256' "$tools" leaf-writes 100000
 timed 'the same with all effective sets worked out anew' "$tools" plain-leaf-writes 100000
 timed '100,000 changes of the online CPUs' "$tools" online-changes 100000
 timed 'the same by the plain recursion' "$tools" plain-online-changes 100000
-timed '1,000,000 forks and exits' "$tools" forks 1000000
+timed '1,000,000 forks and exits with 10,000 children alive' "$tools" forks 1000000
