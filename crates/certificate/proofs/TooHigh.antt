@@ -1,12 +1,11 @@
 -- Where a value is above weight and price.
-use Rattle.std.proofs.Common.{◌≡◌, ℕ, ◌+◌, ◌-◌, ◌<◌, ◌≤◌, Bool, true, false, not, cond, ◌&&◌, ◌||◌, Option, Some, None, option_map, unwrap_or, List, [], ◌∷◌, take, drop, refl, sym, ap, ◌∙◌, arith, nat_le, nat_lt, take-append-drop}
+use Rattle.std.proofs.Common.{◌≡◌, ℕ, ◌+◌, ◌-◌, ◌<◌, ◌≤◌, Bool, true, false, not, cond, ◌&&◌, ◌||◌, Option, Some, None, option_map, unwrap_or, List, [], ◌∷◌, refl, sym, ap, ◌∙◌, arith, nat_le, nat_lt}
 use Rattle.std.specs.Prelude.{find}
 use Rattle.std.specs.List.{list_any, list_all}
 use Rattle.std.specs.Option.{option_map_or}
 use Rattle.std.specs.FinSet as set
 use Rattle.std.proofs.lemmas.Bool.{leb-true}
 use Rattle.std.proofs.lemmas.Bool.Decides.{nat_tests}
-use Rattle.std.proofs.lemmas.List.Folds.{list_any-append}
 use Rattle.cpu_set.specs.Ids.{Ids}
 use Rattle.cpu_set.specs.SetLaws.{none_of_empty}
 use Rattle.certificate.specs.RowView.{RowView}
@@ -105,20 +104,6 @@ pub cheaper_is :
     (prices : List Price) (amount c : ℕ) (b : Bool) → 0 < amount → prices_fit prices ≡ true
     → (b && not (list_any (λ p. is_dear amount p c) prices)) ≡ (b && nat_lt (price prices c) amount)
 cheaper_is prices amount c b some fit = ap (λ a. b && not a) (dear_is prices amount c some fit) ∙ ap (λ a. b && a) (not_dear amount (price prices c))
-
--- where nothing is left the other prices leave nothing either
-pub nothing_left :
-    (test : Price → Bool) (prices : List Price) (k : ℕ) (b : Bool) → (b && not (list_any test (take k prices))) ≡ false
-    → (b && not (list_any test prices)) ≡ false
-nothing_left test prices k b none =
-    ap (λ xs. b && not (list_any test xs)) (sym (take-append-drop k prices))
-    ∙ ap (λ a. b && not a) (list_any-append test (take k prices) (drop k prices))
-    ∙ by_cases b (list_any test (take k prices)) _ none
-  where
-    by_cases : (b a d : Bool) → (b && not a) ≡ false → (b && not (a || d)) ≡ false
-    by_cases true true d none = refl
-    by_cases true false d none = absurd (not_true true none refl)
-    by_cases false a d none = refl
 
 -- one price more takes its CPUs where it is dear
 pub left_more : (a b d : Bool) → ((a && not b) && not d) ≡ (a && not (b || d))

@@ -18,8 +18,8 @@ use cpu_set::IdSet;
 /// Checks that a plan is of least cost, by values and prices: the plan's cost, or the first cause why not.
 ///
 /// The causes come in the order of [`CheckFault`], the last of which is none of a plan. Takes no memory.
-/// Each set is passed whole, most of them once: only an offer whose weight is below its row's value
-/// meets the prices, one after another, until none of its CPUs is left to be priced.
+/// Each set is passed whole, and most of them once: only an offer whose weight is below its row's value
+/// meets the prices, one after another.
 pub fn check_plan(problem: &Problem, plan: &Plan, prices: &Prices) -> Result<u64, CheckFault>
     // A yes: within the limits, a plan of this cost, and values and prices give the same number as a bound.
     ensures proved { IfOk result (λ total. IsProved problem.now plan.now prices.now total) }

@@ -1,7 +1,8 @@
 //! What a plan costs, and what its rows are worth.
 ghost use Rattle.std.specs.Prelude.{◌≡◌, ◌≤◌, ◌*◌, IsTrue, length, sum_by, unwrap_or};
 ghost use Rattle.std.specs.List.{list_all};
-ghost use Rattle.cpu_set.specs.Members.{members};
+ghost use Rattle.std.specs.FinSet as set;
+ghost use Rattle.cpu_set.specs.Members.{InRange, members};
 ghost use Rattle.certificate.specs.Weight.{weight_in};
 ghost use Rattle.certificate.specs.Cost.{row_cost, cost};
 ghost use Rattle.certificate.specs.IsBound.{worth};
@@ -42,9 +43,21 @@ fn offers_cost(offers: &[Offer], held: &IdSet) -> u64
 {
     let mut cost = 0;
     for offer in offers {
-        cost += u64::from(offer.weight) * u64::from(held.meet(&offer.cpus).count());
+        cost += u64::from(offer.weight) * u64::from(shared_count(held, &offer.cpus));
     }
     cost
+}
+
+/// How many CPUs both sets have; most have none.
+fn shared_count(held: &IdSet, cpus: &IdSet) -> u32
+    ensures is_len { result ≡ set.len (set.intersection held.now cpus.now) }
+    ensures in_range { InRange (set.intersection held.now cpus.now) }
+{
+    let shared = held.meet(cpus);
+    if shared.is_empty() {
+        return 0;
+    }
+    shared.count()
 }
 
 /// The prices of all CPUs, summed price by price: no CPU has two.

@@ -62,8 +62,7 @@ fn too_high_of(offer: &Offer, value: u64, prices: &[Price]) -> IdSet
     cheaper(offer.cpus, value - weight, prices)
 }
 
-/// Those of the CPUs whose price is below the amount: the prices that are not take theirs away, until
-/// none is left.
+/// Those of the CPUs whose price is below the amount: what the prices that are not leave of them.
 fn cheaper(cpus: IdSet, amount: u64, prices: &[Price]) -> IdSet
     requires some { 0 < amount }
     requires fit { IsTrue (prices_fit prices.now) }
@@ -71,9 +70,6 @@ fn cheaper(cpus: IdSet, amount: u64, prices: &[Price]) -> IdSet
 {
     let mut left = cpus;
     for price in prices {
-        if left.is_empty() {
-            return left;
-        }
         left = without_dear(&left, amount, price);
     }
     left

@@ -13,9 +13,9 @@ after :
     (c : After-from-in-loop-offer)
     → c.loop-offer.cost + c.from.result * c.from-in-loop-offer.result ≡ cost_so_far c.args.offers.now (c.loop-offer.offer-index + 1) c.args.held.now
 after c =
-    rw (c.loop-offer.invariant, c.from.ensures, c.from-in-loop-offer.ensures, c.count.ensures.is_len, c.meet.ensures)
+    rw (c.loop-offer.invariant, c.from.ensures, c.from-in-loop-offer.ensures, c.shared_count.ensures.is_len)
     (sym (cost_more c.args.offers.now c.loop-offer.offer-index c.offer-item.result c.args.held.now c.loop-offer-test.true c.offer-item.is c.requires
-    (rw c.meet.ensures at c.count.ensures.in_range)))
+    c.shared_count.ensures.in_range))
 
 pub overflow_add-cost : goal.overflow_add-cost
 overflow_add-cost c =

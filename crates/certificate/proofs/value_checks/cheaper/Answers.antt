@@ -1,24 +1,15 @@
-use Rattle.std.proofs.Common.{◌≡◌, false, ◌&&◌, not, ◌||◌, sym, ap, ◌∙◌, take, arith}
+use Rattle.std.proofs.Common.{◌&&◌, not, ◌||◌, sym, ap, ◌∙◌, take, arith}
 use Rattle.std.specs.List.{list_any}
 use Rattle.std.specs.FinSet as set
 use Rattle.std.proofs.lemmas.List.Folds.{list_any_more}
 use Rattle.std.proofs.lemmas.List.{take_all}
-use Rattle.cpu_set.specs.SetLaws.{none_of_empty}
 use Rattle.certificate.specs.IsOfferTooHigh.{is_dear}
 use Rattle.certificate.specs.declared.price_lists.Price.{Price}
-use Rattle.certificate.proofs.TooHigh.{cheaper_is, nothing_left, left_more, all_kept}
+use Rattle.certificate.proofs.TooHigh.{cheaper_is, left_more, all_kept}
 use Rattle.certificate.proofs.value_checks.cheaper.Goals as goal
 
 pub loop-price-init : goal.loop-price-init
 loop-price-init c = λ q. all_kept (set.contains c.args.cpus q)
-
-pub returns-then-is_empty : goal.returns-then-is_empty
-returns-then-is_empty c = λ q.
-    let none : set.contains c.loop-price.left q ≡ false = none_of_empty c.loop-price.left (c.is_empty.ensures.0 c.if-is_empty.true) q in
-    none
-    ∙ sym (nothing_left (λ (p : Price). is_dear c.args.amount p q) c.args.prices.now c.loop-price.price-index (set.contains c.args.cpus q)
-    (sym (c.loop-price.invariant q) ∙ none))
-    ∙ cheaper_is c.args.prices.now c.args.amount q (set.contains c.args.cpus q) c.requires.some c.requires.fit
 
 pub loop-price-preserved : goal.loop-price-preserved
 loop-price-preserved c = λ q.
