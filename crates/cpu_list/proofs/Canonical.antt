@@ -9,7 +9,7 @@ use Rattle.cpu_set.specs.declared.TheConstants.{CPU_LIMIT}
 use Rattle.cpu_list.specs.CanonicalList.{ranges_text, list_text, AreRuns, in_ranges, IsCanonical}
 use Rattle.cpu_list.specs.CanonicalLaws.{TextIsCanonical, OneCanonicalText}
 use Rattle.cpu_list.specs.RangesFrom.{ranges_from}
-use Rattle.cpu_list.proofs.Ranges.{ranges_among, AreRuns-ranges_among, in_ranges-among}
+use Rattle.cpu_list.proofs.RangesAmong.{ranges_among, AreRuns-ranges_among, in_ranges-among}
 use Rattle.cpu_list.proofs.RangeText.{text_after-nil}
 use Rattle.cpu_list.proofs.SetRanges.{ranges_from-is, list_text-is}
 

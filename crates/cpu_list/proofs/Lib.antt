@@ -2,14 +2,13 @@ pub mod Below
 pub mod Canonical
 pub mod Digits
 pub mod FirstFaults
-pub mod Inserting
 pub mod ItemFaults
 pub mod Pieces
 pub mod PlainText
 pub mod Printed
 pub mod RangeReads
 pub mod RangeText
-pub mod Ranges
+pub mod RangesAmong
 pub mod ReadSteps
 pub mod RoundTrip
 pub mod Sending

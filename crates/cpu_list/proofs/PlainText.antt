@@ -12,7 +12,7 @@ use Rattle.cpu_set.specs.declared.TheConstants.{CPU_LIMIT}
 use Rattle.cpu_list.specs.CanonicalList.{range_text, list_text, AreRuns, in_ranges}
 use Rattle.cpu_list.specs.CanonicalLaws.{is_list_byte, TextIsPlain, TextLacks, TextIsEmpty}
 use Rattle.cpu_list.specs.RangesFrom.{ranges_from, text_after}
-use Rattle.cpu_list.proofs.Ranges.{ranges_among, AreRuns-ranges_among, in_ranges-among, ranges_none_among}
+use Rattle.cpu_list.proofs.RangesAmong.{ranges_among, AreRuns-ranges_among, in_ranges-among, ranges_none_among}
 use Rattle.cpu_list.proofs.RangeText.{range_text-apart}
 use Rattle.cpu_list.proofs.RoundTrip.{AreBelow, AreBelow-from_runs}
 use Rattle.cpu_list.proofs.SetRanges.{ranges_from-is, list_text-is}

@@ -1,13 +1,15 @@
 -- The ranges of a set, one after another, from the first member to the last.
-use Rattle.std.proofs.Common.{◌≡◌, ℕ, ◌+◌, ◌-◌, ◌<◌, ◌≤◌, true, List, [], ◌∷◌, ◌++◌, filter, MatchOption, IfSome, Option, Some, None, refl, sym, ap, ◌∙◌, append_assoc, arith}
+use Rattle.std.proofs.Common.{not, ◌&&◌, Bool, false, nat_lt, length, unwrap_or, inl, inr, ◌≡◌, ℕ, ◌+◌, ◌-◌, ◌<◌, ◌≤◌, true, List, [], ◌∷◌, ◌++◌, filter, MatchOption, IfSome, Option, Some, None, refl, sym, ap, ◌∙◌, append_assoc, arith}
+use Rattle.std.proofs.lemmas.Bool.{cases_eq}
+use Rattle.std.proofs.lemmas.Bool.Decides.{nat_tests}
 use Rattle.std.specs.FinSet as set
 use Rattle.std.specs.List.{range_with_len}
 use Rattle.cpu_set.specs.Ids.{Ids, NoneFrom, IsFirstFrom}
-use Rattle.cpu_set.specs.Members.{IsCpu, cpus, members}
+use Rattle.cpu_set.specs.Members.{IsCpu, IsComplement, cpus, members}
 use Rattle.cpu_set.specs.declared.TheConstants.{CPU_LIMIT}
 use Rattle.cpu_list.specs.CanonicalList.{ranges_of, range_text, ranges_text, list_text}
 use Rattle.cpu_list.specs.RangesFrom.{ranges_from, ranges_left, text_after, IsRangeOf}
-use Rattle.cpu_list.proofs.Ranges.{ranges_among, ranges_skip, ranges_none_among, ranges_more}
+use Rattle.cpu_list.proofs.RangesAmong.{ranges_among, ranges_skip, ranges_none_among, ranges_more}
 use Rattle.cpu_list.proofs.RangeText.{text_after-nil}
 
 pub cpus_are : (n : ℕ) → n ≡ CPU_LIMIT → cpus ≡ range_with_len 0 n
@@ -70,3 +72,65 @@ text_next s separator first last next range h below =
     let past : last + 1 ≤ CPU_LIMIT = omega (arith, range.in_range) in
     text_range s separator first last range
     ∙ ap (λ rs. (separator ++ range_text (first, last)) ++ text_after (44 ∷ []) rs) (from_next s (last + 1) next past h below)
+
+-- the ranges from the first member on are all of them
+pub ranges_first : (s : Ids) (next : Option ℕ) → MatchOption next (NoneFrom s 0) (IsFirstFrom s 0) → IfSome next IsCpu → ranges_left s next ≡ ranges_of (members s)
+ranges_first s next h below = sym (members_ranges s CPU_LIMIT refl ∙ from_next s 0 next (omega arith) h below)
+
+within : (n : ℕ) (b : Bool) → n < CPU_LIMIT → (nat_lt n CPU_LIMIT && not b) ≡ false → b ≡ true
+within n b lt e = grind (arith, nat_tests)
+
+not_within : (n : ℕ) (b : Bool) → (nat_lt n CPU_LIMIT && not b) ≡ true → b ≡ false
+not_within n b e = grind (arith, nat_tests)
+
+member_before : (s absent : Ids) (first n : ℕ) → IsComplement s absent → set.contains s first ≡ true → IsCpu n → first ≤ n
+    → (first + 1 ≤ n → set.contains absent n ≡ false) → set.contains s n ≡ true
+member_before s absent first n lacks member is_cpu le gone =
+    elim (cases_eq first n) [
+      | inl e ↦ ap (set.contains s) (sym e) ∙ member
+      | inr ne ↦ within n _ is_cpu (sym (lacks n) ∙ gone (omega arith))
+    ]
+
+-- a range goes up to the first number that the set lacks
+pub range_found :
+    (s absent : Ids) (first last : ℕ) (gap : Option ℕ) → IsComplement s absent → IsCpu first → set.contains s first ≡ true
+    → MatchOption gap (NoneFrom absent (first + 1)) (IsFirstFrom absent (first + 1)) → IfSome gap IsCpu → last ≡ unwrap_or gap CPU_LIMIT
+    → IsRangeOf s first (last - 1)
+range_found s absent first last None lacks is_cpu member none below e = record {
+  rising = omega arith;
+  in_range = omega arith;
+  whole = λ n le upto. member_before s absent first n lacks member (omega arith) le (λ more. none n more);
+  longest = λ more. absurd (omega arith);
+}
+range_found s absent first last (Some gap) lacks is_cpu member is below e =
+    let above : first + 1 ≤ gap = is.above in
+    let at : last - 1 + 1 ≡ gap = omega arith in
+    record {
+      rising = omega arith;
+      in_range = omega arith;
+      whole = λ n le upto. member_before s absent first n lacks member (omega arith) le (λ more. is.least n more (omega arith));
+      longest = λ more. ap (set.contains s) at ∙ not_within gap _ (sym (lacks gap) ∙ is.member);
+    }
+
+-- one range, and those that are left
+pub ranges_next :
+    (s : Ids) (first last : ℕ) (next : Option ℕ) → IsRangeOf s first last
+    → MatchOption next (NoneFrom s (last + 1)) (IsFirstFrom s (last + 1)) → IfSome next IsCpu
+    → ranges_left s (Some first) ≡ (first, last) ∷ ranges_left s next
+ranges_next s first last next range h below =
+    let past : last + 1 ≤ CPU_LIMIT = omega (arith, range.in_range) in
+    from_range s first last range ∙ ap (λ rs. (first, last) ∷ rs) (from_next s (last + 1) next past h below)
+
+-- one range fewer is left
+pub one_fewer : (left rest : List (ℕ × ℕ)) (r : ℕ × ℕ) → left ≡ r ∷ rest → length rest < length left
+one_fewer left rest r e = rw e (omega arith)
+
+-- the text of a set is that of all its ranges
+pub text_whole : (s : Ids) → list_text s ≡ text_after [] (ranges_of (members s))
+unfolding list_text
+text_whole s = sym (text_after-nil (ranges_of (members s)))
+
+pub text_left : (left rest : List (ℕ × ℕ)) (r : ℕ × ℕ) (separator : List ℕ) → left ≡ r ∷ rest
+    → text_after separator left ≡ (separator ++ range_text r) ++ text_after (44 ∷ []) rest
+text_left left rest r separator e =
+    ap (text_after separator) e ∙ sym (append_assoc separator (range_text r) (text_after (44 ∷ []) rest))

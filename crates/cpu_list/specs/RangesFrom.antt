@@ -1,9 +1,9 @@
 -- What is left of a set's text while it is printed range by range.
-use Rattle.std.specs.Prelude.{◌≡◌, ℕ, ◌+◌, ◌-◌, ◌≤◌, true, false, List, [], ◌∷◌, ◌++◌, filter, Option, Some, None}
+use Rattle.std.specs.Prelude.{◌≡◌, ℕ, ◌+◌, ◌-◌, ◌≤◌, true, false, List, [], ◌∷◌, ◌++◌, filter, Option, Some, None, IfSome}
 use Rattle.std.specs.FinSet as set
 use Rattle.std.specs.List.{range_with_len}
 use Rattle.cpu_set.specs.Ids.{Ids}
-use Rattle.cpu_set.specs.Members.{IsCpu}
+use Rattle.cpu_set.specs.Members.{IsCpu, IsComplement}
 use Rattle.cpu_set.specs.declared.TheConstants.{CPU_LIMIT}
 use Rattle.cpu_list.specs.ListText.{comma}
 use Rattle.cpu_list.specs.CanonicalList.{range_text, ranges_of}
@@ -28,3 +28,9 @@ pub record IsRangeOf (s : Ids) (first last : ℕ) : Type 0 where
   pub in_range : IsCpu last
   pub whole : (n : ℕ) → first ≤ n → n ≤ last → set.contains s n ≡ true
   pub longest : IsCpu (last + 1) → set.contains s (last + 1) ≡ false
+
+-- the next range begins at a member, and the numbers that the set lacks are known
+pub record AreLeft (s absent : Ids) (next : Option ℕ) : Type 0 where
+  pub lacks : IsComplement s absent
+  pub in_range : IfSome next IsCpu
+  pub member : IfSome next (λ n. set.contains s n ≡ true)

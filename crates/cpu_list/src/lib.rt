@@ -6,7 +6,7 @@ mod laws;
 mod list_error;
 mod output;
 mod printing;
-mod range;
+mod ranges;
 mod reading;
 mod writing;
 

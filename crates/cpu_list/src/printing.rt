@@ -2,7 +2,7 @@
 ghost use Rattle.std.specs.Prelude.{◌≡◌, ◌++◌, IfOk, OnOk, decimal, string_bytes};
 ghost use Rattle.cpu_list.specs.CanonicalList.{range_text, list_text};
 
-use crate::range::range_end;
+use crate::ranges::Ranges;
 use cpu_set::IdSet;
 use std::alloc::{AllocError, Global};
 
@@ -34,13 +34,10 @@ pub fn print(alloc: Global, set: &IdSet) -> Result<String, AllocError>
 {
     let mut text = String::new(alloc);
     let mut separator = "";
-    let mut next = set.first();
-    while let Some(first) = next {
-        let last = range_end(set, first);
+    for (first, last) in Ranges::of(set) {
         text.push_str(separator)?;
         push_range(&mut text, first, last)?;
         separator = ",";
-        next = set.next_after(last);
     }
     Ok(text)
 }

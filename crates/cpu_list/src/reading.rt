@@ -1,23 +1,12 @@
 //! A set of numbers from a text.
 ghost use Rattle.std.specs.Prelude.{◌≡◌, ℕ, ◌<◌, ◌≤◌, ◌||◌, Some, None, OnOk, IfErr, MatchResult};
 ghost use Rattle.std.specs.FinSet as finset;
-ghost use Rattle.cpu_set.specs.Members.{IsCpu};
-ghost use Rattle.cpu_list.specs.ListText.{item_of, range_names, piece_names, IsList, IsSetOf};
+ghost use Rattle.cpu_list.specs.ListText.{item_of, piece_names, IsList, IsSetOf};
 ghost use Rattle.cpu_list.specs.FirstFault.{item_fault, first_fault, IsFirstFault};
 
 use crate::item::{first_piece, indent, item_of, read_range};
 use crate::list_error::{ListError, ListErrorKind};
 use cpu_set::{CPU_LIMIT, IdSet};
-
-fn insert_range(set: &mut IdSet, first: u16, last: u16)
-    requires rising { first ≤ last }
-    requires in_range { IsCpu last }
-    ensures { (n : ℕ) → finset.contains set.new n ≡ (finset.contains set.old n || range_names (Some (first, last)) n) }
-{
-    for n in first..last + 1 {
-        set.insert(n);
-    }
-}
 
 /// Adds what one piece of a list names.
 fn add_piece(set: &mut IdSet, piece: &[u8], limit: u16) -> Result<(), ListErrorKind>
@@ -40,7 +29,7 @@ fn add_piece(set: &mut IdSet, piece: &[u8], limit: u16) -> Result<(), ListErrorK
     if last < first {
         return Err(ListErrorKind::Descending);
     }
-    insert_range(set, first, last);
+    set.insert_range(first, last);
     Ok(())
 }
 

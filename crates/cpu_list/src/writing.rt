@@ -4,7 +4,7 @@ ghost use Rattle.cpu_list.specs.CanonicalList.{range_text, list_text};
 ghost use Rattle.cpu_list.specs.Output.{Writes};
 
 use crate::output::put;
-use crate::range::range_end;
+use crate::ranges::Ranges;
 use cpu_set::IdSet;
 use std::io;
 use std::io::Write;
@@ -43,12 +43,9 @@ pub fn write_list<W: Write>(set: &IdSet, w: &mut W) -> io::Result<()>
     ensures { Writes (W.contents w.old) (W.contents w.new) result (list_text set.now) }
 {
     let mut separator: &[u8] = b"";
-    let mut next = set.first();
-    while let Some(first) = next {
-        let last = range_end(set, first);
+    for (first, last) in Ranges::of(set) {
         put_item(separator, first, last, w)?;
         separator = b",";
-        next = set.next_after(last);
     }
     Ok(())
 }

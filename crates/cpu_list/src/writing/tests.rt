@@ -9,13 +9,25 @@ use std::test::Fail;
 #[derive(Clone, Copy)]
 enum End {
     Fails,
+    IsInterrupted,
     TakesNone,
 }
 
-// Takes a byte of each write, and after some writes has one fault; a write behind that would be taken.
+impl End {
+    fn kind(self) -> ErrorKind {
+        match self {
+            End::Fails => ErrorKind::BrokenPipe,
+            End::IsInterrupted => ErrorKind::Interrupted,
+            End::TakesNone => ErrorKind::WriteZero,
+        }
+    }
+}
+
+// Takes at most `width` bytes of each write, and after some writes has one fault; a write behind that would be taken.
 #[derive(Drop)]
 struct Narrow<'a> {
     taken: &'a mut Vec<u8>,
+    width: usize,
     writes: usize,
     end: End,
 }
@@ -25,13 +37,14 @@ impl Write for Narrow<'_> {
         if self.writes == 0 || buf.is_empty() {
             self.writes = usize::MAX;
             return match self.end {
-                End::Fails => Err(io::Error::from(ErrorKind::BrokenPipe)),
                 End::TakesNone => Ok(0),
+                end => Err(io::Error::from(end.kind())),
             };
         }
         self.writes -= 1;
-        self.taken.push(buf[0])?;
-        Ok(1)
+        let count = self.width.min(buf.len());
+        self.taken.extend_from_slice(&buf[..count])?;
+        Ok(count)
     }
 
     fn flush(&mut self) -> io::Result<()> {
@@ -73,19 +86,44 @@ fn spells_sets(rt: HostRuntime) -> Result<(), Fail> {
     Ok(())
 }
 
-// A writer that stops after each possible number of bytes has these bytes, and the fault is answered.
+// A writer that stops after each possible number of writes has what these took, and the first fault is answered.
 #[test]
 fn stops_with_the_writer(rt: HostRuntime) -> Result<(), Fail> {
     let want = b"0-2,5,7-8".as_slice();
+    for end in [End::Fails, End::IsInterrupted, End::TakesNone] {
+        for width in [1, 2, 4, 9] {
+            for writes in 0..want.len() + 1 {
+                let mut taken = Vec::new(rt.alloc());
+                let mut w = Narrow {
+                    taken: &mut taken,
+                    width,
+                    writes,
+                    end,
+                };
+                let outcome = put(want, &mut w);
+                let front = want.len().min(writes * width);
+                if front == want.len() {
+                    assert!(rt; outcome.is_ok());
+                } else {
+                    assert_eq!(rt; outcome.err().map(|e| e.kind()), Some(end.kind()));
+                }
+                assert_eq!(rt; taken.as_slice(), &want[..front]);
+            }
+        }
+    }
+    Ok(())
+}
+
+#[test]
+fn stops_in_mid_list(rt: HostRuntime) -> Result<(), Fail> {
+    let want = b"0-2,5,7-8".as_slice();
     let set = set_of(&[0, 1, 2, 5, 7, 8]);
-    for writes in 0..want.len() + 1 {
-        for (end, kind) in [
-            (End::Fails, ErrorKind::BrokenPipe),
-            (End::TakesNone, ErrorKind::WriteZero),
-        ] {
+    for end in [End::Fails, End::IsInterrupted, End::TakesNone] {
+        for writes in 0..want.len() + 1 {
             let mut taken = Vec::new(rt.alloc());
             let mut w = Narrow {
                 taken: &mut taken,
+                width: 1,
                 writes,
                 end,
             };
@@ -93,7 +131,7 @@ fn stops_with_the_writer(rt: HostRuntime) -> Result<(), Fail> {
             if writes == want.len() {
                 assert!(rt; outcome.is_ok());
             } else {
-                assert_eq!(rt; outcome.err().map(|e| e.kind()), Some(kind));
+                assert_eq!(rt; outcome.err().map(|e| e.kind()), Some(end.kind()));
             }
             assert_eq!(rt; taken.as_slice(), &want[..writes]);
         }

@@ -1,29 +1,24 @@
-use Rattle.std.proofs.Common.{[], ◌∷◌, refl}
+use Rattle.std.proofs.Common.{[], ◌∷◌, refl, sym, ap, ◌∙◌}
 use lib.Utf8.{encode}
+use Rattle.cpu_list.specs.RangesFrom.{text_after}
 use Rattle.cpu_list.proofs.Printed.{printed_more}
-use Rattle.cpu_list.proofs.SetRanges.{member_next, text_first, text_next}
+use Rattle.cpu_list.proofs.SetRanges.{text_whole, text_left}
 use Rattle.cpu_list.proofs.printing.print.Goals as goal
 
-pub loop-next-init : goal.loop-next-init
-loop-next-init c = (
+pub loop-first-init : goal.loop-first-init
+loop-first-init c = (
+  tt,
+  tt,
   ([], (refl, refl)),
-  record {
-    so_far = rw c.new-text.ensures.bytes (text_first _ _ c.first-next.ensures.first c.first-next.ensures.in_range);
-    in_range = c.first-next.ensures.in_range;
-    member = member_next _ _ _ c.first-next.ensures.first;
-  },
+  rw (c.new-text.ensures.bytes, c.into_iter-first-iterator.ensures.into_iter_gives, c.of-first-items.ensures) (text_whole _),
 )
 
-pub loop-next-preserved : goal.loop-next-preserved
+pub loop-first-preserved : goal.loop-first-preserved
 unfolding encode
-loop-next-preserved c = (
+loop-first-preserved c = (
+  tt,
+  tt,
   (44 ∷ [], (refl, refl)),
-  record {
-    so_far =
-        printed_more _ _ _ _ _ _ _ _ (rw c.in-Some.is at c.loop-next.invariant.1.so_far)
-        (text_next _ _ _ _ _ c.range_end-last.ensures c.next_after-next.ensures.first c.next_after-next.ensures.in_range)
-        c.in_ok-push_str.ensures.bytes c.in_ok-push_range.ensures;
-    in_range = c.next_after-next.ensures.in_range;
-    member = member_next _ _ _ c.next_after-next.ensures.first;
-  },
+  printed_more _ _ _ _ _ _ _ _ c.loop-first.invariant.3 (text_left _ _ _ _ c.in-Some.ensures.steps)
+      c.in_ok-push_str.ensures.bytes c.in_ok-push_range.ensures,
 )
