@@ -13,6 +13,7 @@ pub mod TooHigh
 pub mod Duality
 pub mod Hall
 pub mod LimitFacts
+pub mod LimitWords
 pub mod Exact
 pub mod Causes
 pub mod Shown

@@ -10,6 +10,7 @@ pub mod IsBound
 pub mod IsShortage
 pub mod IsDealt
 pub mod Limits
+pub mod AreWithin
 pub mod IsOfferTooHigh
 pub mod IsProved
 pub mod IsShown

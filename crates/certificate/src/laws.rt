@@ -1,5 +1,6 @@
 //! Laws over the definitions alone: nothing here runs.
 ghost use Rattle.std.specs.Prelude.{◌≡◌};
+ghost use Rattle.certificate.specs.AreWithin.{RowsFitMeans, LimitsMean};
 ghost use Rattle.certificate.specs.Laws.{NoPlanBelowBound, ProvedIsLeast, ShortageLeavesNoPlan, ProvedHasNoFault, FaultlessIsProved};
 
 use crate::{MAX_AMOUNT, MAX_DEMAND, MAX_ROWS, MAX_WEIGHT};
@@ -21,6 +22,12 @@ pub fn a_shortage_leaves_no_plan()
 pub fn what_is_proved_has_no_fault()
     ensures none { ProvedHasNoFault }
     ensures proved { FaultlessIsProved }
+{}
+
+/// What the limits' tests mean, in words that name no list of tests.
+pub fn what_is_within_the_limits()
+    ensures rows { RowsFitMeans }
+    ensures all { LimitsMean }
 {}
 
 /// The limits: 256 rows, 1,024 CPUs that a row asks for, weights below 2^25, values and prices up to 2^40.
