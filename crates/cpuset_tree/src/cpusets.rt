@@ -13,6 +13,7 @@ use crate::{Group, SERIAL_LIMIT, TreeError, TreeFault};
 use cpu_set::IdSet;
 use slab::Slab;
 use std::alloc::{AllocError, Global};
+use std::collections::VecDeque;
 use std::marker::Model;
 
 /// The groups of a kernel, each with the CPUs and memory nodes that it requests and those that it has in effect.
@@ -24,7 +25,7 @@ pub struct Tree {
     alloc: Global,
     groups: Slab<Cgroup>,
     // The keys of the groups, the newest first.
-    order: Vec<usize>,
+    order: VecDeque<usize>,
     root: Group,
     online: IdSet,
     nodes: IdSet,
@@ -66,10 +67,10 @@ impl Tree {
         ensures { IfOk result (IsFirstTree online nodes first_serial) }
     {
         let mut groups = Slab::new(alloc);
-        let mut order = Vec::new(alloc);
+        let mut order = VecDeque::new(alloc);
         groups.reserve(1)?;
         let key = groups.vacant_key();
-        order.push(key)?;
+        order.push_front(key)?;
         let root = Group {
             key,
             serial: first_serial,
@@ -137,8 +138,8 @@ impl Tree {
     fn child(&self, parent: Group, name: &str) -> Option<Group>
         ensures { result ≡ child_of self.now parent name.now }
     {
-        for key in &self.order {
-            if let Some(kept) = self.groups.get(*key) {
+        for place in 0..self.order.len() {
+            if let Some(kept) = self.groups.get(self.order[place]) {
                 if kept.is_child_of(parent) && kept.name.as_str() == name {
                     return Some(kept.group);
                 }
@@ -150,8 +151,8 @@ impl Tree {
     fn has_children(&self, group: Group) -> bool
         ensures { result ≡ has_children self.now group }
     {
-        for key in &self.order {
-            if let Some(kept) = self.groups.get(*key) {
+        for place in 0..self.order.len() {
+            if let Some(kept) = self.groups.get(self.order[place]) {
                 if kept.is_child_of(group) {
                     return true;
                 }
@@ -200,7 +201,7 @@ impl Tree {
             key: self.groups.vacant_key(),
             serial: self.next_serial,
         };
-        self.order.insert(0, group.key)?;
+        self.order.push_front(group.key)?;
         self.groups.insert_reserved(Cgroup {
             group,
             parent: Some(parent),

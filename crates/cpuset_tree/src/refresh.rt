@@ -9,6 +9,7 @@ use crate::SERIAL_LIMIT;
 use crate::groups::{Cgroup, Group, granted_of};
 use cpu_set::IdSet;
 use slab::Slab;
+use std::collections::VecDeque;
 
 fn kept_cpus(groups: &Slab<Cgroup>, group: Group) -> IdSet
     ensures { result ≡ cpus_kept (get groups.now group.key) }
@@ -63,9 +64,9 @@ fn refresh_group(groups: &mut Slab<Cgroup>, key: usize, by: u64, online: &IdSet,
 }
 
 /// Brings all groups up to date, the oldest first.
-pub fn refresh(groups: &mut Slab<Cgroup>, order: &[usize], online: &IdSet, nodes: &IdSet)
-    requires { IsOrder groups.old order.now }
-    ensures kept { AllKept groups.new online.now nodes.now order.now }
+pub fn refresh(groups: &mut Slab<Cgroup>, order: &VecDeque<usize>, online: &IdSet, nodes: &IdSet)
+    requires { IsOrder groups.old order.now.items }
+    ensures kept { AllKept groups.new online.now nodes.now order.now.items }
     ensures same { OnlyKeptDiffers groups.old groups.new }
 {
     for place in (0..order.len()).rev() {
@@ -98,13 +99,13 @@ fn pass_group(groups: &mut Slab<Cgroup>, key: usize, by: u64, online: &IdSet, no
 }
 
 /// The place of a key that is there.
-fn place_of(order: &[usize], key: usize) -> usize
-    requires { list_any (λ k. k == key) order.now ≡ true }
-    ensures within { result < length order.now }
-    ensures here { drop result order.now ≡ key ∷ behind key order.now }
+fn place_of(order: &VecDeque<usize>, key: usize) -> usize
+    requires { list_any (λ k. k == key) order.now.items ≡ true }
+    ensures within { result < length order.now.items }
+    ensures here { drop result order.now.items ≡ key ∷ behind key order.now.items }
 {
-    for (place, other) in order.iter().enumerate() {
-        if *other == key {
+    for place in 0..order.len() {
+        if order[place] == key {
             return place;
         }
     }
@@ -114,16 +115,16 @@ fn place_of(order: &[usize], key: usize) -> usize
 /// Brings a group and what is below it up to date, the oldest first; the groups behind its key are.
 pub fn refresh_from(
     groups: &mut Slab<Cgroup>,
-    order: &[usize],
+    order: &VecDeque<usize>,
     group: Group,
     online: &IdSet,
     nodes: &IdSet,
 )
-    requires in_order { IsOrder groups.old order.now }
-    requires there { list_any (λ k. k == group.key) order.now ≡ true }
-    requires kept { AllKept groups.old online.now nodes.now (behind group.key order.now) }
+    requires in_order { IsOrder groups.old order.now.items }
+    requires there { list_any (λ k. k == group.key) order.now.items ≡ true }
+    requires kept { AllKept groups.old online.now nodes.now (behind group.key order.now.items) }
     requires granted { AllGrantedBut groups.old online.now nodes.now group.key }
-    ensures kept { AllKept groups.new online.now nodes.now order.now }
+    ensures kept { AllKept groups.new online.now nodes.now order.now.items }
     ensures same { OnlyKeptDiffers groups.old groups.new }
 {
     refresh_group(groups, group.key, group.serial, online, nodes);

@@ -6,4 +6,4 @@ use Rattle.cpuset_tree.proofs.refresh.place_of.Given as goal
 
 abbrev pub invariant-loop-place : goal.invariant-loop-place
 invariant-loop-place l =
-    (list_any (λ k. k == l.key) (drop l.place l.order) ≡ true) × (behind l.key (drop l.place l.order) ≡ behind l.key l.order)
+    (list_any (λ k. k == l.key) (drop l.place l.order.items) ≡ true) × (behind l.key (drop l.place l.order.items) ≡ behind l.key l.order.items)

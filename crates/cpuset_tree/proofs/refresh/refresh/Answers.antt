@@ -1,5 +1,5 @@
 use Rattle.std.proofs.Common.{◌≡◌, ℕ, ◌+◌, ◌-◌, ◌<◌, List, ◌∷◌, drop, length, get_or, sym, subst, ◌∙◌, arith}
-use Rattle.std.proofs.lemmas.List.{drop_more}
+use Rattle.std.proofs.lemmas.List.{drop_more, get_or_default}
 use Rattle.slab.specs.Slab.{Slab}
 use Rattle.cpu_set.specs.Ids.{Ids}
 use Rattle.cpuset_tree.specs.declared.groups.Cgroup.{Cgroup}
@@ -24,8 +24,13 @@ pub loop-place-preserved : goal.loop-place-preserved
 loop-place-preserved c =
     let old = c.loop-place.groups in
     let new = c.refresh_group.new.groups in
-    let differs : OnlyKeptDiffers old new = OnlyKeptDiffers-refreshed SERIAL_LIMIT old new c.args.online.now c.args.nodes.now (get_or c.args.order.now (c.loop-place.place - 1) 0) c.refresh_group.ensures in (
-      IsOrder-same old new (SamePlaces-from_kept old new differs) c.args.order.now c.loop-place.invariant.0,
-      refreshed_step old new c.args.online.now c.args.nodes.now c.args.order.now c.loop-place.place (c.loop-place.place - 1) (omega arith) (omega arith) c.loop-place.invariant.0 c.loop-place.invariant.1 c.refresh_group.ensures,
+    let keys = c.args.order.now.items in
+    let place = c.loop-place.place - 1 in
+    let here : c.index.result.now ≡ get_or keys place 0 = c.index.ensures ∙ get_or_default keys place c.index.result.now 0 (omega arith) in
+    let change : ChangesAt old new (get_or keys place 0) (refreshed SERIAL_LIMIT old c.args.online.now c.args.nodes.now) =
+    subst (λ (k : ℕ). ChangesAt old new k (refreshed SERIAL_LIMIT old c.args.online.now c.args.nodes.now)) here c.refresh_group.ensures in
+    let differs : OnlyKeptDiffers old new = OnlyKeptDiffers-refreshed SERIAL_LIMIT old new c.args.online.now c.args.nodes.now (get_or keys place 0) change in (
+      IsOrder-same old new (SamePlaces-from_kept old new differs) keys c.loop-place.invariant.0,
+      refreshed_step old new c.args.online.now c.args.nodes.now keys c.loop-place.place place (omega arith) (omega arith) c.loop-place.invariant.0 c.loop-place.invariant.1 change,
       (λ key. differs key ∙ c.loop-place.invariant.2 key),
     )

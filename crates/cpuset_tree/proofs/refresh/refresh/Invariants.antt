@@ -4,4 +4,4 @@ use Rattle.cpuset_tree.proofs.refresh.refresh.Given as goal
 
 abbrev pub invariant-loop-place : goal.invariant-loop-place
 invariant-loop-place l =
-    IsOrder l.groups l.order × AllKept l.groups l.online l.nodes (drop l.place l.order) × OnlyKeptDiffers l.fn.groups l.groups
+    IsOrder l.groups l.order.items × AllKept l.groups l.online l.nodes (drop l.place l.order.items) × OnlyKeptDiffers l.fn.groups l.groups

@@ -1,13 +1,23 @@
-use Rattle.std.proofs.Common.{◌-◌, arith}
+use Rattle.std.proofs.Common.{◌≡◌, ℕ, ◌-◌, get_or, subst, ◌∙◌, arith}
+use Rattle.std.proofs.lemmas.List.{get_or_default}
+use Rattle.cpuset_tree.specs.Kept.{ChangesAt, passed}
 use Rattle.cpuset_tree.proofs.RefreshLemmas.{IsRefreshing-first, IsRefreshing-more}
 use Rattle.cpuset_tree.proofs.refresh.refresh_from.Goals as goal
 
 pub loop-place-init : goal.loop-place-init
 loop-place-init c =
-    IsRefreshing-first c.args.groups.now c.args.online.now c.args.nodes.now c.args.group.serial c.args.group.key c.args.order.now c.refresh_group.new.groups c.place_of-count.result
+    IsRefreshing-first c.args.groups.now c.args.online.now c.args.nodes.now c.args.group.serial c.args.group.key c.args.order.now.items c.refresh_group.new.groups c.place_of-count.result
     c.requires.in_order c.place_of-count.ensures.here c.requires.kept c.refresh_group.ensures
 
 pub loop-place-preserved : goal.loop-place-preserved
 loop-place-preserved c =
-    IsRefreshing-more c.args.groups.now c.args.online.now c.args.nodes.now c.args.group.serial c.args.group.key c.args.order.now c.loop-place.groups c.pass_group.new.groups c.loop-place.place (c.loop-place.place - 1)
-    (omega arith) (omega arith) c.requires.granted c.pass_group.ensures c.loop-place.invariant
+    let old = c.loop-place.groups in
+    let new = c.pass_group.new.groups in
+    let keys = c.args.order.now.items in
+    let place = c.loop-place.place - 1 in
+    let by = c.args.group.serial in
+    let here : c.index.result.now ≡ get_or keys place 0 = c.index.ensures ∙ get_or_default keys place c.index.result.now 0 (omega arith) in
+    let change : ChangesAt old new (get_or keys place 0) (passed by old c.args.online.now c.args.nodes.now) =
+    subst (λ (k : ℕ). ChangesAt old new k (passed by old c.args.online.now c.args.nodes.now)) here c.pass_group.ensures in
+    IsRefreshing-more c.args.groups.now c.args.online.now c.args.nodes.now by c.args.group.key keys old new c.loop-place.place place
+    (omega arith) (omega arith) c.requires.granted change c.loop-place.invariant

@@ -21,11 +21,11 @@ invariant_of-self c =
     subst (λ (s : Slab Cgroup). IsSound s i.order.items i.online i.nodes i.root i.next_serial) (sym c.in_err-reserve.ensures.rest_kept)
     (IsSound-room i.groups c.reserve.new.self.capacity i.order.items i.online i.nodes i.root i.next_serial c.self.invariant)
 
-pub invariant_of-self-in_err-insert : goal.invariant_of-self-in_err-insert
-invariant_of-self-in_err-insert c =
+pub invariant_of-self-in_err-push_front : goal.invariant_of-self-in_err-push_front
+invariant_of-self-in_err-push_front c =
     let i = c.self.inside in
-    subst (λ (s : Slab Cgroup). IsSound s c.insert.new.self.items i.online i.nodes i.root i.next_serial) (sym c.in_ok-reserve.ensures.rest_kept)
-    (subst (λ (l : List ℕ). IsSound (record i.groups { capacity = c.reserve.new.self.capacity }) l i.online i.nodes i.root i.next_serial) (sym c.in_err-insert.ensures.items)
+    subst (λ (s : Slab Cgroup). IsSound s c.push_front.new.self.items i.online i.nodes i.root i.next_serial) (sym c.in_ok-reserve.ensures.rest_kept)
+    (subst (λ (l : List ℕ). IsSound (record i.groups { capacity = c.reserve.new.self.capacity }) l i.online i.nodes i.root i.next_serial) (sym c.in_err-push_front.ensures.items)
     (IsSound-room i.groups c.reserve.new.self.capacity i.order.items i.online i.nodes i.root i.next_serial c.self.invariant))
 
 pub invariant_of-self-2 : goal.invariant_of-self-2
@@ -38,7 +38,7 @@ invariant_of-self-2 c =
     let kept : c.reserve.new.self ≡ roomy = c.in_ok-reserve.ensures.rest_kept in
     let updates : Updates c.reserve.new.self c.insert_reserved.new.self key (Some n) =
     subst (λ (k : ℕ). Updates c.reserve.new.self c.insert_reserved.new.self k (Some n)) (c.insert_reserved.ensures.key ∙ sym c.vacant_key.ensures.value) c.insert_reserved.ensures.updates in
-    subst (λ (l : List ℕ). IsSound c.insert_reserved.new.self l i.online i.nodes i.root (i.next_serial + 1)) (sym c.in_ok-insert.ensures.items)
+    subst (λ (l : List ℕ). IsSound c.insert_reserved.new.self l i.online i.nodes i.root (i.next_serial + 1)) (sym c.in_ok-push_front.ensures.items)
     (IsSound-added roomy c.insert_reserved.new.self i.order.items i.online i.nodes i.root i.next_serial key n
     (IsSound-room i.groups c.reserve.new.self.capacity i.order.items i.online i.nodes i.root i.next_serial c.self.invariant)
     (subst (λ (s : Slab Cgroup). Updates s c.insert_reserved.new.self key (Some n)) kept updates)
@@ -64,12 +64,12 @@ returns-clause-ok c =
     (subst (λ (k : ℕ). Updates c.reserve.new.self c.insert_reserved.new.self k (Some n)) (c.insert_reserved.ensures.key ∙ sym c.vacant_key.ensures.value) c.insert_reserved.ensures.updates) in
     let entry : entry_of_kept n ≡ new_entry g (Some c.args.parent) (string_bytes c.args.name) =
     (λ j. record { group = g; parent = Some c.args.parent; name = string_bytes c.args.name; cpus = c.empty.ensures j; mems = c.empty-2.ensures j }) in
-    let groups : listed c.insert_reserved.new.self c.insert.new.self.items ≡ new_entry g (Some c.args.parent) (string_bytes c.args.name) ∷ listed i.groups i.order.items =
-    ap (listed c.insert_reserved.new.self) c.in_ok-insert.ensures.items
+    let groups : listed c.insert_reserved.new.self c.push_front.new.self.items ≡ new_entry g (Some c.args.parent) (string_bytes c.args.name) ∷ listed i.groups i.order.items =
+    ap (listed c.insert_reserved.new.self) c.in_ok-push_front.ensures.items
     ∙ listed-added roomy c.insert_reserved.new.self i.order.items i.online i.nodes i.root i.next_serial key n sound updates vacant _ entry in
     let old : TreeState = record { groups = listed i.groups i.order.items; online = i.online; nodes = i.nodes; next_serial = i.next_serial } in
     let is : old ≡ c.args.self.now = c.self.view_is in
-    subst (λ (s : TreeState). AddsGroup s c.args.parent (string_bytes c.args.name) g (record { groups = listed c.insert_reserved.new.self c.insert.new.self.items; online = i.online; nodes = i.nodes; next_serial = i.next_serial + 1 })) is
+    subst (λ (s : TreeState). AddsGroup s c.args.parent (string_bytes c.args.name) g (record { groups = listed c.insert_reserved.new.self c.push_front.new.self.items; online = i.online; nodes = i.nodes; next_serial = i.next_serial + 1 })) is
     (record {
       serial = refl;
       fresh = ap is_some (not_found i.groups i.next_serial i.order.items c.self.invariant.in_order g (λ m at. absurd (none-some m (sym vacant ∙ at))));

@@ -56,7 +56,7 @@ invariant_of-result c =
     let key = c.vacant_key-key.result in
     let root : Group = record { key = key; serial = c.args.first_serial } in
     let n : Cgroup = record { group = root; parent = None; name = c.new.result; cpus = c.empty.result; mems = c.empty-2.result; effective_cpus = c.args.online; effective_mems = c.args.nodes; touched_by = SERIAL_LIMIT } in
-    let items : c.push.new.self.items ≡ key ∷ [] = c.in_ok-push.ensures.items ∙ ap (λ (l : List ℕ). l ++ key ∷ []) c.new-order.ensures.items in
+    let items : c.push_front.new.self.items ≡ key ∷ [] = c.in_ok-push_front.ensures.items ∙ ap (λ (l : List ℕ). key ∷ l) c.new-order.ensures.items in
     subst (λ (l : List ℕ). IsSound c.insert_reserved.new.self l c.args.online c.args.nodes root (c.args.first_serial + 1)) (sym items)
     (first_sound c.reserve.new.self c.insert_reserved.new.self c.args.online c.args.nodes root n
     (subst (λ (k : ℕ). Updates c.reserve.new.self c.insert_reserved.new.self k (Some n)) (c.insert_reserved.ensures.key ∙ sym c.vacant_key-key.ensures.value) c.insert_reserved.ensures.updates)
@@ -68,7 +68,7 @@ returns c =
     let key = c.vacant_key-key.result in
     let root : Group = record { key = key; serial = c.args.first_serial } in
     let n : Cgroup = record { group = root; parent = None; name = c.new.result; cpus = c.empty.result; mems = c.empty-2.result; effective_cpus = c.args.online; effective_mems = c.args.nodes; touched_by = SERIAL_LIMIT } in
-    let items : c.push.new.self.items ≡ key ∷ [] = c.in_ok-push.ensures.items ∙ ap (λ (l : List ℕ). l ++ key ∷ []) c.new-order.ensures.items in
+    let items : c.push_front.new.self.items ≡ key ∷ [] = c.in_ok-push_front.ensures.items ∙ ap (λ (l : List ℕ). key ∷ l) c.new-order.ensures.items in
     let changed : get c.insert_reserved.new.self key ≡ Some n =
     ap (λ (k : ℕ). get c.insert_reserved.new.self k) (c.vacant_key-key.ensures.value ∙ sym c.insert_reserved.ensures.key) ∙ c.insert_reserved.ensures.updates.changed in
     let entry : entry_of_kept n ≡ new_entry root None [] =

@@ -1,11 +1,10 @@
-use Rattle.std.proofs.Common.{ℕ, List, sym, ap, ◌∙◌, refl, subst}
+use Rattle.std.proofs.Common.{ap, ◌∙◌, refl}
 use Rattle.cpuset_tree.specs.TreeState.{TreeState}
 use Rattle.cpuset_tree.specs.Groups.{has_group}
 use Rattle.cpuset_tree.specs.TreeChanges.{with_cpus}
-use Rattle.cpuset_tree.specs.Kept.{AllKept, IsOrder, behind, with_cpus_kept}
+use Rattle.cpuset_tree.specs.Kept.{with_cpus_kept}
 use Rattle.cpuset_tree.proofs.NodeLemmas.{KeptThere, kept_there}
-use Rattle.std.specs.Prelude.{is_some, ◌==◌}
-use Rattle.std.specs.List.{list_any}
+use Rattle.std.specs.Prelude.{is_some}
 use Rattle.cpuset_tree.proofs.RefreshLemmas.{AllGrantedBut-written}
 use Rattle.cpuset_tree.proofs.WriteLemmas.{written_order, written_kept, written_sound, listed-cpus}
 use Rattle.cpuset_tree.proofs.cpusets.Tree.request_cpus.Goals as goal
@@ -13,14 +12,12 @@ use Rattle.cpuset_tree.proofs.cpusets.Tree.request_cpus.Goals as goal
 pub refresh_from-requires-clause-in_order : goal.refresh_from-requires-clause-in_order
 refresh_from-requires-clause-in_order c =
     let i = c.self.inside in
-    subst (λ (l : List ℕ). IsOrder c.put_cpus.new.groups l) (sym c.deref.ensures.value)
-    (written_order i.groups c.put_cpus.new.groups i.order.items i.online i.nodes i.root i.next_serial c.args.group c.self.invariant (with_cpus_kept c.args.cpus) c.put_cpus.ensures (λ n. refl))
+    written_order i.groups c.put_cpus.new.groups i.order.items i.online i.nodes i.root i.next_serial c.args.group c.self.invariant (with_cpus_kept c.args.cpus) c.put_cpus.ensures (λ n. refl)
 
 pub refresh_from-requires-clause-kept : goal.refresh_from-requires-clause-kept
 refresh_from-requires-clause-kept c =
     let i = c.self.inside in
-    subst (λ (l : List ℕ). AllKept c.put_cpus.new.groups i.online i.nodes (behind c.args.group.key l)) (sym c.deref.ensures.value)
-    (written_kept i.groups c.put_cpus.new.groups i.order.items i.online i.nodes i.root i.next_serial c.args.group c.self.invariant (with_cpus_kept c.args.cpus) c.put_cpus.ensures (λ n. refl))
+    written_kept i.groups c.put_cpus.new.groups i.order.items i.online i.nodes i.root i.next_serial c.args.group c.self.invariant (with_cpus_kept c.args.cpus) c.put_cpus.ensures (λ n. refl)
 
 pub refresh_from-requires-clause-there : goal.refresh_from-requires-clause-there
 refresh_from-requires-clause-there c =
@@ -28,7 +25,7 @@ refresh_from-requires-clause-there c =
     let there : KeptThere i.groups i.order.items c.args.group =
     kept_there i.groups i.order.items i.online i.nodes i.root i.next_serial c.args.group c.self.invariant
     (ap (λ (s : TreeState). has_group s c.args.group) c.self.view_is ∙ c.requires) in
-    ap (list_any (λ k. k == c.args.group.key)) c.deref.ensures.value ∙ c.self.invariant.complete c.args.group.key (ap is_some there.at)
+    c.self.invariant.complete c.args.group.key (ap is_some there.at)
 
 pub refresh_from-requires-clause-granted : goal.refresh_from-requires-clause-granted
 refresh_from-requires-clause-granted c =
@@ -40,7 +37,7 @@ invariant_of-self c =
     let i = c.self.inside in
     written_sound i.groups c.put_cpus.new.groups i.order.items i.online i.nodes i.root i.next_serial c.args.group c.self.invariant (with_cpus_kept c.args.cpus) c.put_cpus.ensures (λ n. refl)
     c.refresh_from.new.groups c.refresh_from.ensures.same
-    (subst (λ (l : List ℕ). AllKept c.refresh_from.new.groups i.online i.nodes l) c.deref.ensures.value c.refresh_from.ensures.kept)
+    c.refresh_from.ensures.kept
 
 pub returns : goal.returns
 returns c =

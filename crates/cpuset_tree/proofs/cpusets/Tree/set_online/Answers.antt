@@ -1,5 +1,3 @@
-use Rattle.std.proofs.Common.{ℕ, List, subst}
-use Rattle.cpuset_tree.specs.Kept.{AllKept}
 use Rattle.cpuset_tree.proofs.PlaceLemmas.{SamePlaces-from_kept}
 use Rattle.cpuset_tree.proofs.SoundLemmas.{IsSound-same}
 use Rattle.cpuset_tree.proofs.cpusets.Tree.set_online.Goals as goal
@@ -9,4 +7,4 @@ invariant_of-self c =
     let i = c.self.inside in
     IsSound-same i.groups c.refresh.new.groups i.order.items i.online i.nodes c.args.online i.nodes i.root i.next_serial c.self.invariant
     (SamePlaces-from_kept i.groups c.refresh.new.groups c.refresh.ensures.same)
-    (subst (λ (l : List ℕ). AllKept c.refresh.new.groups c.args.online i.nodes l) c.deref.ensures.value c.refresh.ensures.kept)
+    c.refresh.ensures.kept
