@@ -4,6 +4,7 @@ pub mod Digits
 pub mod FirstFaults
 pub mod ItemFaults
 pub mod Pieces
+pub mod PlainItems
 pub mod PlainText
 pub mod Printed
 pub mod RangeReads

@@ -22,12 +22,12 @@ number_of-decimal n fits =
 no_hyphen : (n : ℕ) → n < 2 ^ 64 → All (λ b. is_hyphen b ≡ false) (decimal n)
 no_hyphen n fits = none_pass is_ascii_digit is_hyphen digit-is_hyphen (decimal n) (digits_alone n fits)
 
-position-none : (p : ℕ → Bool) (xs : List ℕ) → All (λ b. p b ≡ false) xs → position p xs ≡ None
+pub position-none : (p : ℕ → Bool) (xs : List ℕ) → All (λ b. p b ≡ false) xs → position p xs ≡ None
 position-none p xs none =
     let at : position_or_len p xs ≡ length xs = position_or_len_is p xs (length xs) 0 (omega arith) (λ k lt. none k 0 lt) (λ lt. absurd (omega arith)) in
     cond-false _ _ _ (le-ltb (position_or_len p xs) (length xs) (omega arith))
 
-position-between : (p : ℕ → Bool) (xs : List ℕ) (y : ℕ) (ys : List ℕ) → All (λ b. p b ≡ false) xs → p y ≡ true → position p (xs ++ y ∷ ys) ≡ Some (length xs)
+pub position-between : (p : ℕ → Bool) (xs : List ℕ) (y : ℕ) (ys : List ℕ) → All (λ b. p b ≡ false) xs → p y ≡ true → position p (xs ++ y ∷ ys) ≡ Some (length xs)
 position-between p xs y ys none here =
     let long = length-append xs (y ∷ ys) in
     let at : position_or_len p (xs ++ y ∷ ys) ≡ length xs =
@@ -43,7 +43,7 @@ range_of-number n fits =
     ap (range_round (decimal n)) (position-none is_hyphen (decimal n) (no_hyphen n fits))
     ∙ ap (λ o. option_zip o o) (number_of-decimal n fits)
 
-two_numbers : (a b : List ℕ) → option_zip (number_of (take (length a) (a ++ 45 ∷ b))) (number_of (drop (length a + 1) (a ++ 45 ∷ b))) ≡ option_zip (number_of a) (number_of b)
+pub two_numbers : (a b : List ℕ) → option_zip (number_of (take (length a) (a ++ 45 ∷ b))) (number_of (drop (length a + 1) (a ++ 45 ∷ b))) ≡ option_zip (number_of a) (number_of b)
 two_numbers a b =
     let whole : (a ++ 45 ∷ []) ++ b ≡ a ++ 45 ∷ b = append_assoc a (45 ∷ []) b in
     let left : take (length a) (a ++ 45 ∷ b) ≡ a = take_at a (45 ∷ b) (length a) refl in

@@ -3,4 +3,5 @@ pub mod CanonicalList
 pub mod FirstFault
 pub mod ListText
 pub mod Output
+pub mod Plain
 pub mod RangesFrom

@@ -1,6 +1,7 @@
 //! One item of a list: a number, or a range of two with a hyphen between.
-ghost use Rattle.std.specs.Prelude.{◌≡◌, ◌≤◌, ◌<◌, min, length, option_map, position};
+ghost use Rattle.std.specs.Prelude.{◌≡◌, ◌≤◌, ◌<◌, true, min, length, option_map, position, slice_index_or, IsTrue, IsFalse, IfSome};
 ghost use Rattle.cpu_list.specs.ListText.{is_blank, is_comma, is_hyphen, indent, trim_end, item_of, number_of, range_of};
+ghost use Rattle.cpu_list.specs.Plain.{IsFront, IsPlain};
 ghost use Rattle.std.specs.List.{before_first};
 
 /// A space, a tab or a line feed.
@@ -69,6 +70,55 @@ fn read_number(digits: &[u8], limit: u16) -> Option<u16>
         number = u32::from(limit).min(number * 10 + u32::from(*digit - b'0'));
     }
     Some(number as u16)
+}
+
+// The number that the digits at the front write, or the limit where it isn't below that, and how many digits there are.
+fn front_number(text: &[u8], limit: u16) -> (u16, usize)
+    ensures { IsFront text.now limit result.0 result.1 }
+{
+    let mut number = 0;
+    let mut count = 0;
+    while count < text.len() && text[count].is_ascii_digit() {
+        number = u32::from(limit).min(number * 10 + u32::from(text[count] - b'0'));
+        count += 1;
+    }
+    (number as u16, count)
+}
+
+/// The first and the last number of a list's first item, and its length, where it has no blank and is right under the
+/// limit. It is read in one go; of most lists this is each item.
+pub(crate) fn read_plain(text: &[u8], limit: u16) -> Option<(u16, u16, usize)>
+    ensures plain { IfSome result (λ r. IsPlain text.now r.0 r.1 r.2) }
+    ensures right { IfSome result (λ r. (r.0 ≤ r.1) × (r.1 < limit)) }
+{
+    let (first, count) = front_number(text, limit);
+    if count == 0 || first >= limit {
+        return None;
+    }
+    if ends_at(text, count) {
+        return Some((first, first, count));
+    }
+    if text[count] != b'-' {
+        return None;
+    }
+    let after = &text[count + 1..];
+    let (last, more) = front_number(after, limit);
+    if more == 0 || last >= limit {
+        return None;
+    }
+    if last < first || !ends_at(after, more) {
+        return None;
+    }
+    Some((first, last, count + 1 + more))
+}
+
+// Whether a list's item ends at this place.
+fn ends_at(text: &[u8], at: usize) -> bool
+    requires { at ≤ length text.now }
+    ensures comma { IsTrue result → at < length text.now → is_comma (slice_index_or text.now at 0) ≡ true }
+    ensures whole { IsFalse result → at < length text.now }
+{
+    at == text.len() || text[at] == b','
 }
 
 fn hyphen_in(item: &[u8]) -> Option<usize>

@@ -1,10 +1,11 @@
 //! A set of numbers from a text.
-ghost use Rattle.std.specs.Prelude.{◌≡◌, ℕ, ◌<◌, ◌≤◌, ◌||◌, Some, None, OnOk, IfErr, MatchResult};
+ghost use Rattle.std.specs.Prelude.{◌≡◌, ℕ, ◌<◌, ◌≤◌, ◌||◌, Some, None, OnOk, IfOk, IfErr, MatchResult, length};
 ghost use Rattle.std.specs.FinSet as finset;
-ghost use Rattle.cpu_list.specs.ListText.{item_of, piece_names, IsList, IsSetOf};
+ghost use Rattle.std.specs.List.{before_first};
+ghost use Rattle.cpu_list.specs.ListText.{is_comma, item_of, piece_names, IsList, IsSetOf};
 ghost use Rattle.cpu_list.specs.FirstFault.{item_fault, first_fault, IsFirstFault};
 
-use crate::item::{first_piece, indent, item_of, read_range};
+use crate::item::{first_piece, indent, item_of, read_plain, read_range};
 use crate::list_error::{ListError, ListErrorKind};
 use cpu_set::{CPU_LIMIT, IdSet};
 
@@ -33,6 +34,23 @@ fn add_piece(set: &mut IdSet, piece: &[u8], limit: u16) -> Result<(), ListErrorK
     Ok(())
 }
 
+/// Adds what the first item of a list names, and answers how long it is, with the blanks round it.
+fn add_first(set: &mut IdSet, text: &[u8], limit: u16) -> Result<usize, ListErrorKind>
+    requires { limit ≤ CPU_LIMIT }
+    ensures long { IfOk result (λ long. long ≡ length (before_first is_comma text.now)) }
+    ensures right { IfOk result (λ _. item_fault limit (item_of (before_first is_comma text.now)) ≡ None) }
+    ensures added { OnOk result ((n : ℕ) → finset.contains set.new n ≡ (finset.contains set.old n || piece_names n (before_first is_comma text.now))) }
+    ensures faulty { IfErr result (λ kind. item_fault limit (item_of (before_first is_comma text.now)) ≡ Some kind) }
+{
+    if let Some((low, high, long)) = read_plain(text, limit) {
+        set.insert_range(low, high);
+        return Ok(long);
+    }
+    let piece = first_piece(text);
+    add_piece(set, piece, limit)?;
+    Ok(piece.len())
+}
+
 /// Reads a list of numbers below the limit, as `0-2,7`: cpuset(7), List Format.
 ///
 /// Blanks (space, tab, line feed) may stand round an item, items may be empty, repeat, overlap and
@@ -49,14 +67,13 @@ pub fn read(text: &[u8], limit: u16) -> Result<IdSet, ListError>
     let mut set = IdSet::empty();
     let mut at = 0;
     while at <= text.len() {
-        let piece = first_piece(&text[at..]);
-        if let Err(kind) = add_piece(&mut set, piece, limit) {
-            return Err(ListError {
-                at: at + indent(piece),
-                kind,
-            });
+        match add_first(&mut set, &text[at..], limit) {
+            Ok(long) => at += long + 1,
+            Err(kind) => {
+                let at = at + indent(first_piece(&text[at..]));
+                return Err(ListError { at, kind });
+            }
         }
-        at += piece.len() + 1;
     }
     Ok(set)
 }

@@ -1,7 +1,8 @@
 use Rattle.std.proofs.Common.{◌∙◌, ap}
 use Rattle.std.specs.List.{before_first}
 use Rattle.std.proofs.lemmas.List.{take_rest}
-use Rattle.cpu_list.specs.ListText.{is_comma}
+use Rattle.cpu_list.specs.ListText.{is_comma, item_of}
+use Rattle.cpu_list.specs.FirstFault.{item_fault}
 use Rattle.cpu_list.proofs.FirstFaults.{first_decides}
 use Rattle.cpu_list.proofs.ReadSteps.{IsRead-none, IsRead-more, IsRead-fault, IsRead-all}
 use Rattle.cpu_list.proofs.reading.read.Goals as goal
@@ -11,14 +12,15 @@ loop-at-init c = IsRead-none _ _ _ c.empty-set.ensures
 
 pub returns-in-Err : goal.returns-in-Err
 returns-in-Err c =
-    let first = c.first_piece-piece.ensures ∙ ap (before_first is_comma) (take_rest c.args.text.now c.loop-at.at) in
-    let fault = IsRead-fault _ _ _ _ _ _ _ c.loop-at.invariant c.loop-at-test.true first c.in-Err.ensures.faulty c.indent.ensures.value in
+    let first = c.first_piece.ensures ∙ ap (before_first is_comma) (take_rest c.args.text.now c.loop-at.at) in
+    let faulty = ap (λ piece. item_fault c.args.limit (item_of piece)) c.first_piece.ensures ∙ c.in-Err.ensures.faulty in
+    let fault = IsRead-fault _ _ _ _ _ _ _ c.loop-at.invariant c.loop-at-test.true first faulty c.indent.ensures.value in
     (fault, (first_decides c.args.limit c.args.text.now _).0 fault)
 
 pub loop-at-preserved : goal.loop-at-preserved
 loop-at-preserved c =
-    let first = c.first_piece-piece.ensures ∙ ap (before_first is_comma) (take_rest c.args.text.now c.loop-at.at) in
-    IsRead-more _ _ _ _ _ _ c.loop-at.invariant c.loop-at-test.true first c.in_default.ensures.right c.in_default.ensures.added
+    let first = ap (before_first is_comma) (take_rest c.args.text.now c.loop-at.at) in
+    rw c.in-Ok.ensures.long (IsRead-more _ _ _ _ _ _ c.loop-at.invariant c.loop-at-test.true first c.in-Ok.ensures.right c.in-Ok.ensures.added)
 
 pub returns : goal.returns
 returns c = IsRead-all _ _ _ _ c.loop-at.invariant c.loop-at-test.false
