@@ -1,9 +1,8 @@
 -- An item of digits, or of two numbers with a hyphen between, as it stands at the front of a list.
-use Rattle.std.proofs.Common.{◌≡◌, ℕ, ◌+◌, ◌-◌, ◌*◌, ◌<◌, ◌≤◌, Bool, true, false, ◌||◌, min, List, [], ◌∷◌, ◌++◌, length, take, drop, get_or, Option, Some, None, refl, sym, ap, ◌∙◌, arith, append_assoc, take-append-drop, length-drop, nat_lt, nat_le}
+use Rattle.std.proofs.Common.{◌≡◌, ℕ, ◌+◌, ◌-◌, ◌*◌, ◌<◌, ◌≤◌, true, false, min, List, [], ◌∷◌, ◌++◌, length, take, drop, get_or, Some, None, refl, sym, ap, ◌∙◌, arith, append_assoc, take-append-drop, length-drop}
 use Rattle.std.specs.Char.{is_ascii_digit}
-use Rattle.std.specs.List.{All, list_all, before_first, position_or_len}
+use Rattle.std.specs.List.{All, list_all, before_first}
 use Rattle.std.specs.Option.{option_zip}
-use Rattle.std.specs.Prelude.{position}
 use Rattle.std.specs.Str.Parse.{digits_value}
 use Rattle.std.proofs.lemmas.Bool.{and_from, or_left, cond-true, lt-ltb}
 use Rattle.std.proofs.lemmas.Bool.Decides.{nat_tests}
@@ -15,7 +14,6 @@ use Rattle.cpu_list.specs.ListText.{is_comma, is_hyphen, is_blank, item_of, numb
 use Rattle.cpu_list.specs.FirstFault.{item_fault, range_fault}
 use Rattle.cpu_list.specs.Plain.{IsFront, IsPlain}
 use Rattle.cpu_list.proofs.Digits.{IsCapped, capped_more}
-use Rattle.cpu_list.proofs.Pieces.{range_of-nil}
 use Rattle.cpu_list.proofs.RangeReads.{position-none, position-between, two_numbers, item_of-whole}
 use Rattle.cpu_list.proofs.TextBytes.{all_pass_weaker, none_pass, digit-is_hyphen, is_range_byte, range_byte-is_blank, range_byte-is_comma}
 

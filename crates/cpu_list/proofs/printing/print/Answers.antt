@@ -1,6 +1,5 @@
-use Rattle.std.proofs.Common.{[], ◌∷◌, refl, sym, ap, ◌∙◌}
+use Rattle.std.proofs.Common.{[], ◌∷◌, refl}
 use lib.Utf8.{encode}
-use Rattle.cpu_list.specs.RangesFrom.{text_after}
 use Rattle.cpu_list.proofs.Printed.{printed_more}
 use Rattle.cpu_list.proofs.SetRanges.{text_whole, text_left}
 use Rattle.cpu_list.proofs.printing.print.Goals as goal

@@ -1,4 +1,3 @@
-use Rattle.std.proofs.Common.{◌∙◌}
 use Rattle.std.proofs.lemmas.Result.{err_from_is_err_and}
 use Rattle.cpu_list.proofs.Sending.{HasSent-none, HasSent-then, HasSent-fails}
 use Rattle.cpu_list.proofs.SetRanges.{text_whole, text_left}

@@ -1,4 +1,4 @@
-use Rattle.std.proofs.Common.{◌-◌, Some, arith, ◌∙◌, sym, ap}
+use Rattle.std.proofs.Common.{◌∙◌, sym, ap}
 use Rattle.cpu_list.specs.RangesFrom.{ranges_left}
 use Rattle.cpu_list.proofs.SetRanges.{range_found, ranges_next, one_fewer}
 use Rattle.cpu_list.proofs.ranges.RangesIterator.next.Goals as goal
