@@ -7,3 +7,7 @@ pub mod Shares
 pub mod Deals
 pub mod Rounds
 pub mod TwinLaws
+pub mod ByClass
+pub mod ClassPrices
+pub mod Paying
+pub mod Closing

@@ -45,7 +45,8 @@ members_weigh rows classes grouping k g cpu holds =
         absurd (true≢false (sym holds ∙ none cpu (grouping.in_range g set.empty (there classes g cpu holds) cpu holds)))
     by_first (Some n) e least = twins_weigh rows n cpu k (grouping.alike g n cpu least.passes holds)
 
-held_at : (classes : List Ids) (cpu : ℕ) → is_held classes cpu ≡ true → (g : ℕ) × Holds classes g cpu
+-- a CPU that is in one of the classes is in the class of some place
+pub held_at : (classes : List Ids) (cpu : ℕ) → is_held classes cpu ≡ true → (g : ℕ) × Holds classes g cpu
 held_at [] cpu held = absurd (false≢true held)
 held_at (s ∷ classes) cpu held = by_cases (set.contains s cpu) refl held (held_at classes cpu)
   where

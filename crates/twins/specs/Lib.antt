@@ -4,3 +4,5 @@ pub mod ClassWeight
 pub mod Holdings
 pub mod IsDeal
 pub mod IsPart
+pub mod IsPriced
+pub mod IsClosed

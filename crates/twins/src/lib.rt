@@ -11,9 +11,13 @@ mod dealing;
 mod grouping;
 mod holders;
 mod laws;
+mod pricing;
 
 pub use classes::Classes;
 pub use dealing::deal;
 pub use grouping::group;
 pub use holders::{Holders, Share};
-pub use laws::{deals_of_twins_are_dealt, members_weigh_the_same};
+pub use laws::{
+    classes_prove_plans, closed_rows_are_short, deals_of_twins_are_dealt, members_weigh_the_same,
+};
+pub use pricing::prices_of;
