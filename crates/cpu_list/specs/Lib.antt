@@ -5,3 +5,4 @@ pub mod ListText
 pub mod Output
 pub mod Plain
 pub mod RangesFrom
+pub mod Sending

@@ -1,5 +1,5 @@
 use Rattle.std.proofs.lemmas.List.{take_rest}
-use Rattle.cpu_list.proofs.Sending.{HasSent-more}
+use Rattle.cpu_list.specs.Sending.{HasSent-more}
 use Rattle.cpu_list.proofs.output.put.Goals as goal
 
 pub loop-rest-preserved : goal.loop-rest-preserved

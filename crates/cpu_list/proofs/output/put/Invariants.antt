@@ -1,5 +1,5 @@
 use Rattle.std.proofs.Common.{length}
-use Rattle.cpu_list.proofs.Sending.{HasSent}
+use Rattle.cpu_list.specs.Sending.{HasSent}
 use Rattle.cpu_list.proofs.output.put.Given as goal
 
 abbrev pub invariant-loop-rest : goal.invariant-loop-rest
