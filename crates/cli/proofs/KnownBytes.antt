@@ -1,9 +1,34 @@
 -- Bytes that a reader gave, one piece after another.
-use Rattle.std.proofs.Common.{ℕ, ◌+◌, ◌≤◌, List, ◌++◌, length, take, Option, arith, length-append, length-take}
+use Rattle.std.proofs.Common.{◌≡◌, ℕ, ◌+◌, ◌≤◌, List, ◌++◌, length, take, Option, Some, None, arith, length-append, length-take, ◌∙◌, ap}
 use Rattle.std.proofs.KnownBytes.{Consumes-trans}
-use Rattle.std.specs.Io.KnownBytes.{Consumes}
-use Rattle.cli.specs.ConsumesUpTo.{ConsumesUpTo}
+use Rattle.std.specs.Io.KnownBytes.{Consumes, Keeps}
+use Rattle.cli.specs.StoppedReads.{ConsumesUpTo, IsReadFaultOf, IsSystemFault, PassesBound, StopsWith}
+use Rattle.cli.specs.declared.read_error.ReadError.{ReadError}
+use Rattle.cli.specs.declared.read_error.ReadError.TheVariants.{Memory, Fault}
+use Rattle.cli.specs.declared.read_fault.ReadFault.TheVariants.{NoSuchFile, Directory, Forbidden, Failed, TooManyBytes, TooManyReads}
+use Rattle.cli.specs.declared.reading.TheConstants.{MOST_BYTES}
 
 -- what was given before, and one piece more
 pub ConsumesUpTo-more : (most : ℕ) (a b c : Option (List ℕ)) (bs cs : List ℕ) (n : ℕ) → length bs + n ≤ most → Consumes a b bs → Consumes b c (take n cs) → ConsumesUpTo most a c
 ConsumesUpTo-more most a b c bs cs n within p q = (bs ++ take n cs, omega (arith, length-append bs (take n cs), length-take n cs), Consumes-trans a b c bs (take n cs) p q)
+
+-- the piece that passes the bound
+pub PassesBound-more : (a b c : Option (List ℕ)) (bs cs : List ℕ) (n : ℕ) → n ≤ length cs → length bs + n ≡ MOST_BYTES + 1 → Consumes a b bs → Consumes b c (take n cs) → PassesBound a c
+PassesBound-more a b c bs cs n room past p q = (bs ++ take n cs, omega (arith, past, length-append bs (take n cs), length-take n cs), Consumes-trans a b c bs (take n cs) p q)
+
+-- what was given before, and then nothing
+pub Consumes-kept : (a b c : Option (List ℕ)) (bs : List ℕ) → Consumes a b bs → Keeps b c → Consumes a c bs
+Consumes-kept None b c bs p k = p
+Consumes-kept (Some xs) None c bs p k = absurd p
+Consumes-kept (Some xs) (Some ys) None bs p k = absurd k
+Consumes-kept (Some xs) (Some ys) (Some zs) bs p k = rw k p
+
+-- at a fault that the system told no bound was passed
+pub StopsWith-told : (a c : Option (List ℕ)) (e : ReadError) → IsSystemFault e → ConsumesUpTo MOST_BYTES a c → StopsWith a c e
+StopsWith-told a c Memory told within = within
+StopsWith-told a c (Fault NoSuchFile) told within = within
+StopsWith-told a c (Fault Directory) told within = within
+StopsWith-told a c (Fault Forbidden) told within = within
+StopsWith-told a c (Fault Failed) told within = within
+StopsWith-told a c (Fault TooManyBytes) told within = absurd told
+StopsWith-told a c (Fault TooManyReads) told within = within

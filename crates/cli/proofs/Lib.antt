@@ -3,3 +3,4 @@ pub mod Leaves
 pub mod Parts
 pub mod PlainWords
 pub mod Rows
+pub mod Taking

@@ -5,6 +5,7 @@ use Rattle.certificate_text.specs.declared.checking.Verdict.{Verdict}
 use Rattle.certificate_text.specs.declared.checking.Verdict.TheVariants.{Plan}
 use Rattle.certificate_text.specs.declared.checking.VerdictError.TheVariants as error
 use Rattle.cli.specs.Answer.{WritesAnswer}
+use Rattle.cli.specs.StoppedReads.{IsReadFaultOf}
 use Rattle.cli.specs.declared.reading.TheConstants.{MOST_BYTES}
 use Rattle.cli.specs.declared.refusal.Refusal.{Refusal}
 use Rattle.cli.specs.declared.refusal.Refusal.TheVariants as refusal
@@ -18,13 +19,13 @@ IsProvedVerdict bytes verdict = (length bytes ≤ MOST_BYTES) × IsVerdict bytes
 abbrev pub IsRefusalOf : List ℕ → Refusal → Type 0
 IsRefusalOf bytes (refusal.BadText line) = (length bytes ≤ MOST_BYTES) × IsVerdictError bytes (error.BadText line)
 IsRefusalOf bytes (refusal.Check fault) = (length bytes ≤ MOST_BYTES) × IsVerdictError bytes (error.Fault fault)
-IsRefusalOf bytes refusal.ReadFault = ⊤
+IsRefusalOf bytes (refusal.ReadFault fault) = IsReadFaultOf bytes fault
 IsRefusalOf bytes refusal.Memory = ⊤
 IsRefusalOf bytes _ = ⊥
 
 -- a refusal that says nothing of the bytes
 abbrev pub IsWant : Refusal → Type 0
-IsWant refusal.ReadFault = ⊤
+IsWant (refusal.ReadFault fault) = ⊤
 IsWant refusal.Memory = ⊤
 IsWant _ = ⊥
 

@@ -33,10 +33,10 @@ list_command = command (codes "list") (required (codes "text") ∷ [])
 abbrev pub slit_command : Shape
 slit_command = command (codes "slit") (required (codes "file") ∷ [])
 
--- numarun and its subcommands, of which one has to be given
+-- numarun, which has a version, and its subcommands, of which one has to be given
 abbrev pub numarun : App
 numarun = record {
-  top = record (new_app (codes "numarun")).top { no_binary_name = true; subcommand_required = true; is_leaf = false };
+  top = record (new_app (codes "numarun")).top { no_binary_name = true; has_version = true; subcommand_required = true; is_leaf = false };
   subs = check_command ∷ list_command ∷ slit_command ∷ [];
 }
 

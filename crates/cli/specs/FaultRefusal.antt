@@ -11,7 +11,7 @@ use Rattle.slit.specs.declared.fault.SlitFault.{SlitFault}
 
 abbrev pub read_refusal : ReadError → Refusal
 read_refusal read.Memory = Memory
-read_refusal read.Fault = ReadFault
+read_refusal (read.Fault fault) = ReadFault fault
 
 abbrev pub slit_refusal : OrMemory SlitFault → Refusal
 slit_refusal either.Memory = Memory

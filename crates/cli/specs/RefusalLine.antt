@@ -65,7 +65,7 @@ title_of (refusal.List error) = list_title_of error.kind
 title_of (refusal.Slit fault) = slit_title_of fault
 title_of (refusal.Check fault) = check_title_of fault
 title_of (refusal.BadText line) = codes "E77 BadText"
-title_of refusal.ReadFault = codes "E113 ReadFault"
+title_of (refusal.ReadFault fault) = codes "E113 ReadFault"
 
 -- the numbers behind the name
 abbrev pub arguments_of : Refusal → List ℕ
@@ -74,16 +74,24 @@ arguments_of (refusal.List error) = error.at ∷ []
 arguments_of (refusal.Slit fault) = slit_arguments_of fault
 arguments_of (refusal.Check fault) = check_arguments_of fault
 arguments_of (refusal.BadText line) = line ∷ []
-arguments_of refusal.ReadFault = []
+arguments_of (refusal.ReadFault fault) = []
 
 abbrev pub numbers_of : Arguments → List ℕ
 numbers_of arguments.None = []
 numbers_of (arguments.One first) = first ∷ []
 numbers_of (arguments.Two first second) = first ∷ second ∷ []
 
+-- a number behind a space
+abbrev pub argument_text : ℕ → List ℕ
+argument_text n = codes " " ++ decimal n
+
+-- the arguments, each behind a space
+abbrev pub arguments_text : List ℕ → List ℕ
+arguments_text numbers = flat_map argument_text numbers
+
 -- the line of a title and its arguments
 abbrev pub line_of : List ℕ → List ℕ → List ℕ
-line_of title numbers = codes "refused " ++ (title ++ (flat_map (λ n. 32 ∷ decimal n) numbers ++ codes "\n"))
+line_of title numbers = (codes "refused " ++ title) ++ (arguments_text numbers ++ codes "\n")
 
 abbrev pub refusal_line : Refusal → List ℕ
 refusal_line why = line_of (title_of why) (arguments_of why)

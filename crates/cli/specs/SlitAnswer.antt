@@ -5,6 +5,7 @@ use Rattle.slit.specs.Describes.{Describes}
 use Rattle.slit.specs.SlitFaultOf.{slit_fault}
 use Rattle.slit.specs.Table.{Table, distance}
 use Rattle.cli.specs.Answer.{WritesAnswer}
+use Rattle.cli.specs.StoppedReads.{IsReadFaultOf}
 use Rattle.cli.specs.declared.reading.TheConstants.{MOST_BYTES}
 use Rattle.cli.specs.declared.refusal.Refusal.{Refusal}
 use Rattle.cli.specs.declared.refusal.Refusal.TheVariants as refusal
@@ -26,7 +27,7 @@ table_text t = (codes "localities " ++ (decimal t.localities ++ codes "\n")) ++ 
 abbrev pub IsTableOrRefusal : List ℕ → Result Table Refusal → Type 0
 IsTableOrRefusal bytes (Ok t) = (length bytes ≤ MOST_BYTES) × Describes bytes t
 IsTableOrRefusal bytes (Err (refusal.Slit fault)) = (length bytes ≤ MOST_BYTES) × (slit_fault bytes ≡ Some fault)
-IsTableOrRefusal bytes (Err refusal.ReadFault) = ⊤
+IsTableOrRefusal bytes (Err (refusal.ReadFault fault)) = IsReadFaultOf bytes fault
 IsTableOrRefusal bytes (Err refusal.Memory) = ⊤
 IsTableOrRefusal bytes (Err _) = ⊥
 

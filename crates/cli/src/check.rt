@@ -1,13 +1,15 @@
 //! `numarun check`.
 ghost use Rattle.std.specs.Prelude.{IfSome};
-ghost use Rattle.cli.specs.CheckAnswer.{CheckAnswers, IsAnswerTo};
+ghost use Rattle.cli.specs.CheckAnswer.{CheckAnswers, IsAnswerTo, verdict_line};
 
+use crate::answer::{Printed, tell};
 use crate::output::put_number_line;
 use crate::reading::read_all;
 use crate::refusal::Refusal;
 use crate::write_fault::WriteFault;
 use certificate_text::{Verdict, check_text};
 use std::alloc::Global;
+use std::io;
 use std::io::{Read, Write};
 
 /// Checks the certificate that the reader has left, and writes what the check finds as one line:
@@ -22,23 +24,25 @@ pub fn do_check<R: Read, W: Write>(
 ) -> Result<u8, WriteFault>
     ensures { CheckAnswers (R.remaining reader.old) (W.contents w.old) (W.contents w.new) result }
 {
-    match judge(alloc, reader) {
-        Ok(Verdict::Plan(total)) => {
-            put_number_line(b"plan total ", total, w)?;
-            Ok(0)
-        }
-        Err(refusal) => {
-            refusal.write(w)?;
-            Ok(1)
-        }
-    }
+    tell(&judge(alloc, reader), w)
 }
 
-fn judge<R: Read>(alloc: Global, reader: &mut R) -> Result<Verdict, Refusal>
+/// What the check finds in all that the reader has left.
+pub fn judge<R: Read>(alloc: Global, reader: &mut R) -> Result<Verdict, Refusal>
     ensures { IfSome (R.remaining reader.old) (λ bytes. IsAnswerTo bytes result) }
 {
     let bytes = read_all(alloc, reader)?;
     Ok(check_text(alloc, bytes.as_slice())?)
+}
+
+impl Printed for Verdict {
+    ghost text = { verdict_line };
+
+    fn print<W: Write>(&self, w: &mut W) -> io::Result<()> {
+        match self {
+            Verdict::Plan(total) => put_number_line(b"plan total ", *total, w),
+        }
+    }
 }
 
 #[cfg(test)]

@@ -6,15 +6,43 @@ ghost use Rattle.cli.specs.CommandLine.{IsLeaf, check_command, list_command, num
 use clap::{Arg, ArgMatches, Command, Error};
 use std::alloc::{AllocError, Global};
 
+const VERSION: &str = "0.1.0";
+
+const HELP: &str =
+    "Exit status: 0; 1 if an input is refused or can't be read, if memory is short, or if the answer\n\
+    can't be written; 2 if the words are no command line.\n\n\
+    Formats and refusals: docs/formats.md.\n\n\
+    Example: numarun check examples/two-containers.certificate";
+
+const CHECK_HELP: &str =
+    "Prints `plan total N` if the certificate proves its plan to be of least cost, else why it is refused.\n\n\
+    Exit status: 0 if it proves its plan; 1 if it is refused or can't be read, if memory is short, or if\n\
+    the answer can't be written; 2 if the words are no command line.\n\n\
+    Format: docs/formats.md, \"Certificates, version 1\".\n\n\
+    Example: numarun check examples/two-containers.certificate";
+
+const LIST_HELP: &str =
+    "Exit status: 0 if the text is a list; 1 if it is refused, or if the answer can't be written; 2 if the\n\
+    words are no command line.\n\n\
+    Format: docs/formats.md, \"Lists\".\n\n\
+    Example: numarun list 3,1-2 prints 1-3";
+
+const SLIT_HELP: &str =
+    "Exit status: 0 if the bytes are a table; 1 if they are refused or can't be read, if memory is short,\n\
+    or if the answer can't be written; 2 if the words are no command line.\n\n\
+    Format: docs/formats.md, \"Distance tables\".\n\n\
+    Example: numarun slit /sys/firmware/acpi/tables/SLIT";
+
 fn check<'a>(alloc: Global) -> Result<Command<'a>, AllocError>
     ensures { IfOk result (IsLeaf check_command) }
 {
     let file = Arg::new(alloc, "file")
         .value_name("FILE")
-        .help("The certificate, in place of standard input");
+        .help("The certificate; none, or -, is standard input");
     Command::new(alloc, "check")
         .about("Check a certificate, as without any command")
         .override_usage("numarun check [FILE]")
+        .after_help(CHECK_HELP)
         .arg(file)
 }
 
@@ -28,6 +56,7 @@ fn list<'a>(alloc: Global) -> Result<Command<'a>, AllocError>
     Command::new(alloc, "list")
         .about("Print a list of CPUs in its shortest form")
         .override_usage("numarun list TEXT")
+        .after_help(LIST_HELP)
         .arg(text)
 }
 
@@ -36,11 +65,12 @@ fn slit<'a>(alloc: Global) -> Result<Command<'a>, AllocError>
 {
     let file = Arg::new(alloc, "file")
         .value_name("FILE")
-        .help("The table's bytes, as in /sys/firmware/acpi/tables/SLIT")
+        .help("The table's bytes; - is standard input")
         .required(true);
     Command::new(alloc, "slit")
         .about("Print the distances of a firmware's table (ACPI SLIT)")
         .override_usage("numarun slit FILE")
+        .after_help(SLIT_HELP)
         .arg(file)
 }
 
@@ -49,7 +79,9 @@ fn command_line<'a>(alloc: Global) -> Result<Command<'a>, AllocError>
 {
     Command::new(alloc, "numarun")
         .about("CPU pinning for containers, with plans that anyone can check")
+        .version(VERSION)
         .override_usage("numarun [COMMAND]")
+        .after_help(HELP)
         .no_binary_name(true)
         .subcommand_required(true)
         .subcommand(check(alloc)?)?

@@ -5,6 +5,7 @@ ghost use Rattle.slit.specs.Table.{distance};
 ghost use Rattle.cli.specs.SlitAnswer.{IsTableOrRefusal, SlitAnswers, entry_text, row_text, table_text};
 ghost use Rattle.cpu_list.specs.Output.{Writes};
 
+use crate::answer::{Printed, tell};
 use crate::output::{put_all, put_number_line};
 use crate::reading::read_all;
 use crate::refusal::Refusal;
@@ -28,30 +29,24 @@ pub fn do_slit<R: Read, W: Write>(
 ) -> Result<u8, WriteFault>
     ensures { SlitAnswers (R.remaining reader.old) (W.contents w.old) (W.contents w.new) result }
 {
-    match read_table(alloc, reader) {
-        Ok(table) => {
-            write_table(&table, w)?;
-            Ok(0)
-        }
-        Err(refusal) => {
-            refusal.write(w)?;
-            Ok(1)
-        }
-    }
+    tell(&read_table(alloc, reader), w)
 }
 
-fn read_table<R: Read>(alloc: Global, reader: &mut R) -> Result<Slit, Refusal>
+/// The table in all that the reader has left.
+pub fn read_table<R: Read>(alloc: Global, reader: &mut R) -> Result<Slit, Refusal>
     ensures { IfSome (R.remaining reader.old) (λ bytes. IsTableOrRefusal bytes result) }
 {
     let bytes = read_all(alloc, reader)?;
     Ok(Slit::read(alloc, bytes.as_slice())?)
 }
 
-fn write_table<W: Write>(table: &Slit, w: &mut W) -> io::Result<()>
-    ensures { Writes (W.contents w.old) (W.contents w.new) result (table_text table.now) }
-{
-    put_number_line(b"localities ", table.localities() as u64, w)?;
-    write_rows(table, w)
+impl Printed for Slit {
+    ghost text = { table_text };
+
+    fn print<W: Write>(&self, w: &mut W) -> io::Result<()> {
+        put_number_line(b"localities ", self.localities() as u64, w)?;
+        write_rows(self, w)
+    }
 }
 
 fn write_rows<W: Write>(table: &Slit, w: &mut W) -> io::Result<()>

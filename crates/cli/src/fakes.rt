@@ -1,4 +1,5 @@
-//! Readers and writers that give or take pieces, and fail.
+//! Readers and writers that give or take pieces, and fail, and a shelf of files.
+use crate::opens::Opens;
 use std::alloc::Global;
 use std::io;
 use std::io::{ErrorKind, Read, Write};
@@ -74,8 +75,8 @@ pub enum Fault {
 #[derive(Drop)]
 pub struct Paper {
     pub text: Vec<u8>,
+    pub calls: u32,
     most: usize,
-    calls: u32,
     faulty: u32,
     fault: Fault,
 }
@@ -84,8 +85,8 @@ impl Paper {
     pub fn new(alloc: Global) -> Paper {
         Paper {
             text: Vec::new(alloc),
-            most: usize::MAX,
             calls: 0,
+            most: usize::MAX,
             faulty: 0,
             fault: Fault::Fails,
         }
@@ -115,5 +116,24 @@ impl Write for Paper {
 
     fn flush(&mut self) -> io::Result<()> {
         Ok(())
+    }
+}
+
+/// Files by their names.
+#[derive(Clone, Copy)]
+pub struct Shelf<'a> {
+    pub files: &'a [(&'a str, &'a [u8])],
+}
+
+impl<'a> Opens for Shelf<'a> {
+    type File = Tape<'a>;
+
+    fn open(&self, name: &str) -> io::Result<Tape<'a>> {
+        for (known, bytes) in self.files {
+            if *known == name {
+                return Ok(Tape::new(bytes, 100));
+            }
+        }
+        Err(io::Error::from(ErrorKind::NotFound))
     }
 }

@@ -2,26 +2,42 @@
 //! byte that it writes.
 #![tactic(auto)]
 
+mod answer;
+mod arguments;
 mod check;
 mod command_line;
+mod console;
 mod distances;
 #[cfg(test)]
 mod fakes;
+mod limits;
 mod list;
+mod note;
+mod opens;
 mod output;
+mod page;
 mod parse_fault;
+mod program;
 mod read_error;
+mod read_fault;
 mod reading;
 mod refusal;
 mod spellings;
 mod words;
 mod write_fault;
 
+pub use arguments::start;
 pub use check::do_check;
+pub use console::Console;
 pub use distances::do_slit;
+pub use limits::the_limits;
 pub use list::do_list;
+pub use opens::{Disk, Opens};
+pub use page::Page;
 pub use parse_fault::ParseFault;
+pub use program::run;
 pub use read_error::ReadError;
+pub use read_fault::ReadFault;
 pub use reading::{MOST_BYTES, MOST_READS, read_all};
 pub use refusal::Refusal;
 pub use spellings::{check_spellings, list_spellings, slit_spellings};

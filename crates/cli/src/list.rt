@@ -1,7 +1,7 @@
 //! `numarun list`.
 ghost use Rattle.cli.specs.ListAnswer.{IsSetOrRefusal, ListAnswers, set_line};
-ghost use Rattle.cpu_list.specs.Output.{Writes};
 
+use crate::answer::{Printed, tell};
 use crate::refusal::Refusal;
 use crate::write_fault::WriteFault;
 use cpu_list::{put, read, write_list};
@@ -17,29 +17,23 @@ use std::io::Write;
 pub fn do_list<W: Write>(text: &[u8], w: &mut W) -> Result<u8, WriteFault>
     ensures { ListAnswers text.now (W.contents w.old) (W.contents w.new) result }
 {
-    match set_of(text) {
-        Ok(set) => {
-            write_set(&set, w)?;
-            Ok(0)
-        }
-        Err(refusal) => {
-            refusal.write(w)?;
-            Ok(1)
-        }
-    }
+    tell(&set_of(text), w)
 }
 
-fn set_of(text: &[u8]) -> Result<IdSet, Refusal>
+/// The set that the text names.
+pub fn set_of(text: &[u8]) -> Result<IdSet, Refusal>
     ensures { IsSetOrRefusal text.now result }
 {
     Ok(read(text, CPU_LIMIT)?)
 }
 
-fn write_set<W: Write>(set: &IdSet, w: &mut W) -> io::Result<()>
-    ensures { Writes (W.contents w.old) (W.contents w.new) result (set_line set.now) }
-{
-    write_list(set, w)?;
-    put(b"\n", w)
+impl Printed for IdSet {
+    ghost text = { set_line };
+
+    fn print<W: Write>(&self, w: &mut W) -> io::Result<()> {
+        write_list(self, w)?;
+        put(b"\n", w)
+    }
 }
 
 #[cfg(test)]

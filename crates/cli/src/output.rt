@@ -1,6 +1,8 @@
 //! Output in several parts.
 ghost use Rattle.std.specs.Prelude.{◌++◌, codes, decimal};
+ghost use Rattle.cli.specs.ErrorLine.{error_line};
 ghost use Rattle.cli.specs.Parts.{bytes_of};
+ghost use Rattle.cli.specs.RefusalLine.{argument_text};
 ghost use Rattle.cpu_list.specs.Output.{Writes};
 
 use cpu_list::put;
@@ -25,4 +27,29 @@ pub fn put_number_line<W: Write>(label: &[u8], number: u64, w: &mut W) -> io::Re
     let mut digits = Buffer::new();
     let number = digits.format(number).as_bytes();
     put_all(&[label, number, b"\n".as_slice()], w)
+}
+
+/// Writes a number behind a space.
+pub fn put_argument<W: Write>(number: u64, w: &mut W) -> io::Result<()>
+    ensures { Writes (W.contents w.old) (W.contents w.new) result (argument_text number) }
+{
+    let mut digits = Buffer::new();
+    let number = digits.format(number).as_bytes();
+    put_all(&[b" ".as_slice(), number], w)
+}
+
+/// Writes the line of an error: what it is of, and what is wrong.
+pub fn put_error_line<'a, W: Write>(of: &'a [u8], wrong: &'a [u8], w: &mut W) -> io::Result<()>
+    ensures { Writes (W.contents w.old) (W.contents w.new) result (error_line of.now wrong.now) }
+{
+    put_all(
+        &[
+            b"error: ".as_slice(),
+            of,
+            b": ".as_slice(),
+            wrong,
+            b"\n".as_slice(),
+        ],
+        w,
+    )
 }

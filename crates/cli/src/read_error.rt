@@ -1,7 +1,10 @@
 ghost use Rattle.std.specs.Prelude.{◌≡◌};
+ghost use Rattle.cli.specs.StoppedReads.{IsSystemFault};
 ghost use Rattle.cli.specs.declared.read_error.ReadError.TheVariants.{Memory};
 
+use crate::read_fault::ReadFault;
 use std::alloc::AllocError;
+use std::io;
 use thiserror::Error;
 
 /// Why the bytes of a reader are not there.
@@ -12,7 +15,7 @@ pub enum ReadError {
     Memory,
     /// A read failed, or the reader gave too much or took too long over it.
     #[error("the input can't be read")]
-    Fault,
+    Fault(ReadFault),
 }
 
 impl From<AllocError> for ReadError {
@@ -20,5 +23,13 @@ impl From<AllocError> for ReadError {
 
     fn from(_error: AllocError) -> ReadError {
         ReadError::Memory
+    }
+}
+
+impl From<io::Error> for ReadError {
+    ghost from_gives = { λ _ error. IsSystemFault error };
+
+    fn from(error: io::Error) -> ReadError {
+        ReadError::Fault(ReadFault::from(error))
     }
 }

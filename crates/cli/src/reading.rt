@@ -1,8 +1,9 @@
-ghost use Rattle.std.specs.Prelude.{◌≡◌, ◌+◌, ◌≤◌, IfOk, IfSome, OnErr, OnOk, vec_len};
+ghost use Rattle.std.specs.Prelude.{◌≡◌, ◌≤◌, IfErr, IfOk, IfSome, OnOk, vec_len};
 ghost use Rattle.std.specs.Io.KnownBytes.{IsAtEnd};
-ghost use Rattle.cli.specs.ConsumesUpTo.{ConsumesUpTo};
+ghost use Rattle.cli.specs.StoppedReads.{StopsWith};
 
 use crate::read_error::ReadError;
+use crate::read_fault::ReadFault;
 use std::alloc::Global;
 use std::io::Read;
 
@@ -19,30 +20,28 @@ const PIECE: usize = 65_536;
 ///
 /// # Errors
 /// `Fault` where a read fails, where [`MOST_READS`] reads haven't come to the end, or where there are more
-/// than [`MOST_BYTES`] bytes; `Memory` where there is none for them. The reader then gave what was read so far.
+/// than [`MOST_BYTES`] bytes; `Memory` where there is none for them. The reader then gave what was read so far,
+/// at most [`MOST_BYTES`] bytes, and one more where there are too many.
 pub fn read_all<R: Read>(alloc: Global, reader: &mut R) -> Result<Vec<u8>, ReadError>
     ensures bytes { IfOk result (λ bytes. IfSome (R.remaining reader.old) (λ all. bytes.items ≡ all)) }
     ensures end { OnOk result (IsAtEnd (R.remaining reader.new)) }
     ensures size { IfOk result (λ bytes. vec_len bytes ≤ MOST_BYTES) }
-    // At most one byte is read past the bound.
-    ensures err { OnErr result (ConsumesUpTo (MOST_BYTES + 1) (R.remaining reader.old) (R.remaining reader.new)) }
+    ensures err { IfErr result (StopsWith (R.remaining reader.old) (R.remaining reader.new)) }
 {
     let mut bytes = Vec::new(alloc);
     let mut buffer = [0u8; PIECE];
     for _ in 0..MOST_READS {
         let room = buffer.len().min(MOST_BYTES + 1 - bytes.len());
-        let Ok(count) = reader.read(&mut buffer[..room]) else {
-            return Err(ReadError::Fault);
-        };
+        let count = reader.read(&mut buffer[..room])?;
         if count == 0 {
             return Ok(bytes);
         }
         if count > MOST_BYTES - bytes.len() {
-            return Err(ReadError::Fault);
+            return Err(ReadError::Fault(ReadFault::TooManyBytes));
         }
         bytes.extend_from_slice(&buffer[..count])?;
     }
-    Err(ReadError::Fault)
+    Err(ReadError::Fault(ReadFault::TooManyReads))
 }
 
 #[cfg(test)]

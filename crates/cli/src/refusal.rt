@@ -1,16 +1,17 @@
 ghost use Rattle.std.specs.Prelude.{◌≡◌};
 ghost use Rattle.cli.specs.FaultRefusal.{read_refusal, slit_refusal, verdict_refusal};
 ghost use Rattle.cli.specs.declared.refusal.Refusal.TheVariants.{List};
-ghost use Rattle.cli.specs.RefusalLine.{arguments_of, check_arguments_of, check_title_of, list_title_of, numbers_of, slit_arguments_of, slit_title_of, refusal_line, title_of};
+ghost use Rattle.cli.specs.RefusalLine.{arguments_of, arguments_text, check_arguments_of, check_title_of, list_title_of, numbers_of, slit_arguments_of, slit_title_of, refusal_line, title_of};
 ghost use Rattle.cpu_list.specs.Output.{Writes};
 
-use crate::output::put_all;
+use crate::answer::Printed;
+use crate::output::{put_all, put_argument};
 use crate::read_error::ReadError;
+use crate::read_fault::ReadFault;
 use certificate::CheckFault;
 use certificate_text::VerdictError;
-use cpu_list::{ListError, ListErrorKind};
+use cpu_list::{ListError, ListErrorKind, put};
 use faults::OrMemory;
-use itoa::Buffer;
 use slit::SlitFault;
 use std::io;
 use std::io::Write;
@@ -29,7 +30,7 @@ pub enum Refusal {
     /// E77: the line of this number, counted from 1, can't follow those before it.
     BadText { line: u64 },
     /// E113: the input can't be opened or read, or passes a bound.
-    ReadFault,
+    ReadFault(ReadFault),
 }
 
 /// What a refusal's line names behind its title.
@@ -51,7 +52,7 @@ impl Refusal {
             Refusal::Slit(fault) => slit_title(fault),
             Refusal::Check(fault) => check_title(fault),
             Refusal::BadText { .. } => "E77 BadText",
-            Refusal::ReadFault => "E113 ReadFault",
+            Refusal::ReadFault(_) => "E113 ReadFault",
         }
     }
 
@@ -63,7 +64,7 @@ impl Refusal {
             Refusal::Slit(fault) => slit_arguments(fault),
             Refusal::Check(fault) => check_arguments(fault),
             Refusal::BadText { line } => Arguments::One(line),
-            Refusal::Memory | Refusal::ReadFault => Arguments::None,
+            Refusal::Memory | Refusal::ReadFault(_) => Arguments::None,
         }
     }
 
@@ -74,40 +75,31 @@ impl Refusal {
     pub fn write<W: Write>(self, w: &mut W) -> io::Result<()>
         ensures { Writes (W.contents w.old) (W.contents w.new) result (refusal_line self) }
     {
-        let title = self.title().as_bytes();
-        match self.arguments() {
-            Arguments::None => put_all(&[b"refused ".as_slice(), title, b"\n".as_slice()], w),
-            Arguments::One(argument) => {
-                let mut digits = Buffer::new();
-                let first = digits.format(argument).as_bytes();
-                put_all(
-                    &[
-                        b"refused ".as_slice(),
-                        title,
-                        b" ".as_slice(),
-                        first,
-                        b"\n".as_slice(),
-                    ],
-                    w,
-                )
-            }
-            Arguments::Two(argument, other) => {
-                let mut digits = Buffer::new();
-                let mut more_digits = Buffer::new();
-                let first = digits.format(argument).as_bytes();
-                let second = more_digits.format(other).as_bytes();
-                put_all(
-                    &[
-                        b"refused ".as_slice(),
-                        title,
-                        b" ".as_slice(),
-                        first,
-                        b" ".as_slice(),
-                        second,
-                        b"\n".as_slice(),
-                    ],
-                    w,
-                )
+        put_all(&[b"refused ".as_slice(), self.title().as_bytes()], w)?;
+        self.arguments().write(w)?;
+        put(b"\n", w)
+    }
+}
+
+impl Printed for Refusal {
+    ghost text = { refusal_line };
+
+    fn print<W: Write>(&self, w: &mut W) -> io::Result<()> {
+        self.write(w)
+    }
+}
+
+impl Arguments {
+    /// Writes each argument behind a space.
+    fn write<W: Write>(self, w: &mut W) -> io::Result<()>
+        ensures { Writes (W.contents w.old) (W.contents w.new) result (arguments_text (numbers_of self)) }
+    {
+        match self {
+            Arguments::None => Ok(()),
+            Arguments::One(argument) => put_argument(argument, w),
+            Arguments::Two(first, second) => {
+                put_argument(first, w)?;
+                put_argument(second, w)
             }
         }
     }
@@ -184,7 +176,7 @@ impl From<ReadError> for Refusal {
     fn from(error: ReadError) -> Refusal {
         match error {
             ReadError::Memory => Refusal::Memory,
-            ReadError::Fault => Refusal::ReadFault,
+            ReadError::Fault(fault) => Refusal::ReadFault(fault),
         }
     }
 }

@@ -16,7 +16,9 @@ fn failing_reads(rt: HostRuntime) {
     for fails in 1..5u32 {
         let mut tape = Tape::new(b"abcdef", 2);
         tape.fails = fails;
-        assert!(rt; matches!(read_all(rt.alloc(), &mut tape), Err(ReadError::Fault)));
+        assert!(rt;
+            read_all(rt.alloc(), &mut tape).err() == Some(ReadError::Fault(ReadFault::Failed))
+        );
         assert_eq!(rt; tape.calls, fails);
     }
 }
@@ -24,7 +26,9 @@ fn failing_reads(rt: HostRuntime) {
 #[test]
 fn bound_on_reads(rt: HostRuntime) -> Result<(), Fail> {
     let mut endless = Flood::new(usize::MAX, 1);
-    assert!(rt; matches!(read_all(rt.alloc(), &mut endless), Err(ReadError::Fault)));
+    assert!(rt;
+        read_all(rt.alloc(), &mut endless).err() == Some(ReadError::Fault(ReadFault::TooManyReads))
+    );
     assert_eq!(rt; endless.calls, 1_000_000);
     let bytes = read_all(rt.alloc(), &mut Flood::new(999_999, 1))?;
     assert_eq!(rt; bytes.len(), 999_999);
@@ -36,7 +40,9 @@ fn bound_on_bytes(rt: HostRuntime) -> Result<(), Fail> {
     let bytes = read_all(rt.alloc(), &mut Flood::new(67_108_864, usize::MAX))?;
     assert_eq!(rt; bytes.len(), 67_108_864);
     let mut flood = Flood::new(usize::MAX, usize::MAX);
-    assert!(rt; matches!(read_all(rt.alloc(), &mut flood), Err(ReadError::Fault)));
+    assert!(rt;
+        read_all(rt.alloc(), &mut flood).err() == Some(ReadError::Fault(ReadFault::TooManyBytes))
+    );
     assert_eq!(rt; flood.left, usize::MAX - 67_108_865);
     Ok(())
 }

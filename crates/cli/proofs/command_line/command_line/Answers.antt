@@ -7,7 +7,7 @@ use Rattle.cli.proofs.command_line.command_line.Goals as goal
 
 -- numarun before its subcommands
 abbrev bare : App
-bare = record { top = record (new_app (codes "numarun")).top { no_binary_name = true; subcommand_required = true }; subs = [] }
+bare = record { top = record (new_app (codes "numarun")).top { no_binary_name = true; has_version = true; subcommand_required = true }; subs = [] }
 
 pub returns : goal.returns
 returns c =

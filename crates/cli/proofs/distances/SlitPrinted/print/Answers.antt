@@ -1,7 +1,7 @@
 -- The number of localities, and then the rows.
 use Rattle.std.proofs.lemmas.Result.{err_from_is_err_and}
-use Rattle.cpu_list.proofs.Sending.{SendsFront-more, Writes-then}
-use Rattle.cli.proofs.distances.write_table.Goals as goal
+use Rattle.cpu_list.specs.Sending.{SendsFront-more, Writes-then}
+use Rattle.cli.proofs.distances.SlitPrinted.print.Goals as goal
 
 pub returns-in_err-put_number_line : goal.returns-in_err-put_number_line
 returns-in_err-put_number_line g c =

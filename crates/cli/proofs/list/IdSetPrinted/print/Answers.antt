@@ -1,7 +1,7 @@
 -- The set's text, and then the line feed.
 use Rattle.std.proofs.lemmas.Result.{err_from_is_err_and}
-use Rattle.cpu_list.proofs.Sending.{SendsFront-more, Writes-then}
-use Rattle.cli.proofs.list.write_set.Goals as goal
+use Rattle.cpu_list.specs.Sending.{SendsFront-more, Writes-then}
+use Rattle.cli.proofs.list.IdSetPrinted.print.Goals as goal
 
 pub returns-in_err-write_list : goal.returns-in_err-write_list
 returns-in_err-write_list g c =

@@ -1,0 +1,35 @@
+-- What standard error says beside an answer.
+use Rattle.std.specs.Prelude.{List, [], ℕ, Option, Some, None, Result, Ok, Err, bytes_eq, codes, if◌then◌else◌}
+use Rattle.clap.specs.Words.{Text}
+use Rattle.cli.specs.ErrorLine.{error_line}
+use Rattle.cli.specs.ReadFaults.{reason_of}
+use Rattle.cli.specs.declared.note.Note.{Note}
+use Rattle.cli.specs.declared.read_fault.ReadFault.{ReadFault}
+use Rattle.cli.specs.declared.refusal.Refusal.{Refusal}
+use Rattle.cli.specs.declared.refusal.Refusal.TheVariants as refusal
+
+-- of an answer that can't be written
+abbrev pub unwritten_line : List ℕ
+unwritten_line = codes "error: the answer can't be written\n"
+
+-- which input it is; `-` names standard input
+abbrev pub shown : Text → List ℕ
+shown name = if bytes_eq name (codes "-") then codes "standard input" else name
+
+-- of an input that can't be read: which it is, and why
+abbrev pub unread_line : Text → ReadFault → List ℕ
+unread_line name fault = error_line (shown name) (reason_of fault)
+
+abbrev pub note_text : Option Note → List ℕ
+note_text None = []
+note_text (Some note) = unread_line note.name.now note.fault
+
+-- of a refusal of the input of this name
+abbrev pub note_of : Text → Refusal → List ℕ
+note_of name (refusal.ReadFault fault) = unread_line name fault
+note_of name _ = []
+
+-- of an answer to it
+abbrev pub note_on : {T : Type 0} → Text → Result T Refusal → List ℕ
+note_on name (Ok found) = []
+note_on name (Err why) = note_of name why

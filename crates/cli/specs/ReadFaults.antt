@@ -1,0 +1,19 @@
+-- Why an input can't be read.
+use Rattle.std.specs.Prelude.{ℕ, List, codes, ⊤}
+use Rattle.cli.specs.declared.read_fault.ReadFault.{ReadFault}
+use Rattle.cli.specs.declared.read_fault.ReadFault.TheVariants.{NoSuchFile, Directory, Forbidden, Failed, TooManyBytes, TooManyReads}
+
+-- the reason in words
+abbrev pub reason_of : ReadFault → List ℕ
+reason_of NoSuchFile = codes "no such file"
+reason_of Directory = codes "is a directory"
+reason_of Forbidden = codes "permission denied"
+reason_of Failed = codes "can't be read"
+reason_of TooManyBytes = codes "has more than 67108864 bytes"
+reason_of TooManyReads = codes "took more than 1000000 reads"
+
+-- the system told it, and no bound was passed
+abbrev pub IsTold : ReadFault → Type 0
+IsTold TooManyBytes = ⊥
+IsTold TooManyReads = ⊥
+IsTold _ = ⊤

@@ -1,0 +1,53 @@
+ghost use Rattle.std.specs.Prelude.{◌≡◌, option_map};
+ghost use Rattle.cli.specs.Notes.{note_of, note_text, shown};
+ghost use Rattle.cli.specs.declared.note.Note.{Note};
+
+use crate::answer::Printed;
+use crate::output::put_error_line;
+use crate::read_fault::ReadFault;
+use crate::refusal::Refusal;
+use std::io;
+use std::io::Write;
+
+/// What standard error says of an input that can't be read: which it is, and why.
+#[derive(Clone, Copy)]
+pub struct Note<'a> {
+    pub name: &'a str,
+    pub fault: ReadFault,
+}
+
+impl<'a> Note<'a> {
+    /// The note beside a refusal of the input of this name, where there is one.
+    pub fn beside(refusal: Refusal, name: &'a str) -> Option<Note<'a>>
+        ensures { note_text result ≡ note_of name.now refusal }
+    {
+        match refusal {
+            Refusal::ReadFault(fault) => Some(Note { name, fault }),
+            _ => None,
+        }
+    }
+}
+
+impl Printed for Option<Note<'_>> {
+    ghost text = { note_text };
+
+    fn print<W: Write>(&self, w: &mut W) -> io::Result<()> {
+        match self {
+            Some(note) => {
+                put_error_line(
+                    shown(note.name).as_bytes(),
+                    note.fault.reason().as_bytes(),
+                    w,
+                )
+            }
+            None => Ok(()),
+        }
+    }
+}
+
+/// The input's name; `-` is standard input.
+fn shown(name: &str) -> &str
+    ensures { result.now ≡ shown name.now }
+{
+    if name == "-" { "standard input" } else { name }
+}
