@@ -1,6 +1,7 @@
 #!/usr/bin/env bash
-# Runs the built program with each of its allocations refused in turn. Every answer has to be the line
-# of E1 with its status, or the whole answer; and where nothing was refused, the whole answer.
+# Runs the built program with each of its allocations refused in turn. What it does then has to be the line of E1 with its
+# status, or the whole answer; at least one refusal has to be seen as E1; and with nothing refused it is the whole answer.
+# The status is 1 while the words are collected, 2 while they are parsed, and 1 from then on.
 set -u
 top=$(cd "$(dirname "$0")/.." && pwd)
 work=$(mktemp -d)
@@ -8,41 +9,59 @@ trap 'rm -rf "$work"' EXIT
 
 command -v gcc >/dev/null || { apt-get -qq update && apt-get -qq install -y gcc libc6-dev; } >/dev/null || exit 1
 gcc -O2 -shared -fPIC -o "$work/refuse.so" "$top/tests/refuse.c" || exit 1
-(cd "$top/crates/numarun" && rt run <stdin >"$work/log" 2>&1) || { cat "$work/log"; exit 1; }
-program=$top/crates/numarun/out/numarun
+program=${PROGRAM:-}
+if [ -z "$program" ]; then
+    (cd "$top/crates/numarun" && rt run <stdin >"$work/log" 2>&1) || { cat "$work/log"; exit 1; }
+    program=$top/crates/numarun/out/numarun
+fi
 
-# each_growth NAME STATUS ANSWER INPUT WORD..: what the program answers to these words and this standard input
+wrong() {
+    echo "growth: $1: status $2, answer '$(cat "$work/output")', error '$(cat "$work/error")'"
+    exit 1
+}
+
+# each_growth NAME STATUS STATUSES INPUT WORD..: the status of the whole answer to these words and this standard input, and
+# the statuses of E1 in the order of the refused allocations
 each_growth() {
-    local name=$1 status=$2 answer=$3 input=$4 number=0 found got
+    local name=$1 status=$2 expected=$3 input=$4 number=0 statuses="" got
     shift 4
+    "$program" "$@" <"$input" >"$work/whole" 2>"$work/whole-error"
+    got=$?
+    [ $got -eq "$status" ] || { cp "$work/whole" "$work/output"; cp "$work/whole-error" "$work/error"; wrong "$name" $got; }
     while :; do
         number=$((number + 1))
-        found=$(REFUSE=$number LD_PRELOAD="$work/refuse.so" "$program" "$@" <"$input" 3>"$work/refused" 2>"$work/error")
+        REFUSE=$number LD_PRELOAD="$work/refuse.so" "$program" "$@" <"$input" 3>"$work/refused" >"$work/output" 2>"$work/error"
         got=$?
-        if [ "$found" = "$answer" ] && [ $got -eq "$status" ]; then
+        if cmp -s "$work/output" "$work/whole" && cmp -s "$work/error" "$work/whole-error" && [ $got -eq "$status" ]; then
             [ -s "$work/refused" ] || break
-        elif [ ! -s "$work/refused" ] || [ "$found" != "refused E1 Memory" ] || { [ $got -ne 1 ] && [ $got -ne 2 ]; }; then
-            echo "growth: $name, allocation $number refused: status $got, answer '$found'"
-            exit 1
+        elif [ -s "$work/refused" ] && [ "$(cat "$work/output")" = "refused E1 Memory" ] && [ ! -s "$work/error" ]; then
+            statuses=$statuses$got
+        else
+            wrong "$name, allocation $number" $got
         fi
     done
-    echo "growth: $name: $((number - 1)) allocations, each refused in turn"
+    [[ $statuses =~ ^$expected$ ]] || { echo "growth: $name: the statuses of E1 are '$statuses', not $expected"; exit 1; }
+    echo "growth: $name: $((number - 1)) allocations, each refused in turn, ${#statuses} of them seen"
 }
 
 example=$top/crates/numarun/stdin
 sed 's/^price 1 1$/price 0 1/' "$example" >"$work/dear"
 sed '$d' "$example" >"$work/short"
-each_growth "no words" 0 "plan total 23" "$example"
-each_growth "check" 0 "plan total 23" "$example" check
-each_growth "check FILE" 0 "plan total 23" /dev/null check "$example"
-each_growth "a refused certificate" 1 "refused E74 ValueTooHigh 0 1" "$work/dear" check
-each_growth "a text that ends early" 1 "refused E77 BadText 8" "$work/short" check
-each_growth "no such file" 1 "refused E113 ReadFault" /dev/null check "$work/none"
-each_growth "list" 0 "1-3" /dev/null list "3,1-2"
-each_growth "a text that is no list" 1 "refused E12 Descending 0" /dev/null list 5-3
 printf 'SLIT\x30\0\0\0\x01\x53' >"$work/table"
 head -c 26 /dev/zero >>"$work/table"
 printf '\x02\0\0\0\0\0\0\0\x0a\x15\x15\x0a' >>"$work/table"
-each_growth "slit" 0 "localities 2
-10 21
-21 10" /dev/null slit "$work/table"
+each_growth "no words" 0 "1+" "$example"
+each_growth "check" 0 "1+2+1+" "$example" check
+each_growth "check FILE" 0 "1+2+1+" /dev/null check "$example"
+each_growth "a refused certificate" 1 "1+2+1+" "$work/dear" check
+each_growth "a text that ends early" 1 "1+2+1+" "$work/short" check
+each_growth "no such file" 1 "1+2+" /dev/null check "$work/none"
+each_growth "list" 0 "1+2+" /dev/null list "3,1-2"
+each_growth "a text that is no list" 1 "1+2+" /dev/null list 5-3
+each_growth "slit" 0 "1+2+1+" /dev/null slit "$work/table"
+each_growth "the help" 0 "1+2+" /dev/null --help
+each_growth "the help of a command" 0 "1+2+" /dev/null help check
+each_growth "the version" 0 "1+2+" /dev/null --version
+each_growth "an unknown command" 2 "1+2+" /dev/null foo
+each_growth "a missing argument" 2 "1+2+" /dev/null list
+each_growth "an unknown option" 2 "1+2+" /dev/null check -f
