@@ -159,6 +159,9 @@ fn first_causes(rt: HostRuntime) -> Result<(), Fail> {
     assert_eq!(rt; found, Err(CheckFault::HeldTwice { cpu: 2 }));
     let found = answer(alloc, &[one, one], &[&[1], &[2]], &[10, 12], &[(2, &[1])])?;
     assert_eq!(rt; found, Err(CheckFault::ValueTooHigh { row: 1, cpu: 2 }));
+    let wide: Asked = (1, &[(10, &[64, 1_023])]);
+    let found = answer(alloc, &[wide], &[&[64]], &[11], &[(1, &[64])])?;
+    assert_eq!(rt; found, Err(CheckFault::ValueTooHigh { row: 0, cpu: 1_023 }));
     Ok(())
 }
 
