@@ -32,7 +32,7 @@ use Rattle.kernel_model.specs.KernelState.{KernelState, failed}
 use Rattle.kernel_model.specs.Refusals.{make_refusal, remove_refusal, write_refusal, spawn_refusal, end_refusal, fork_refusal, exit_refusal, offline_refusal, online_refusal}
 use Rattle.kernel_model.specs.Cases.{is_failed, rise, rise_or_memory, InTree, InTable, Writes, GrowingWrites, MakesGroup, MakesGroupOf, RemovesGroup, WritesCpus, WritesMems, Spawns, SpawnsIn, EndsGroup, Forks, ForksIn, Exits, GoesOffline, ComesOnline}
 use Rattle.kernel_model.specs.WellFormed.{IsWellFormed}
-use Rattle.kernel_model.specs.Laws.{CpusWriteLeaves, MemsWriteLeaves, MakeLeaves, RemoveLeaves, WritesLeaveGroups, SpawnLeaves, EndLeaves, ForkLeaves, ForkAdds, ExitLeaves, CallsLeaveProcesses, WritesCount, EachCaseKeeps, KeepsMachine, KeepsGroups, KeepsPids, EventsKeepGroups, WritesKeepProcesses, WritesKeepTree, StepKeeps, StepsKeep, RunsKeep, FirstIsWellFormed}
+use Rattle.kernel_model.specs.Laws.{CpusWriteLeaves, MemsWriteLeaves, MakeLeaves, RemoveLeaves, WritesLeaveGroups, SpawnLeaves, EndLeaves, ForkLeaves, ForkAdds, ExitLeaves, CallsLeaveProcesses, WritesCount, EachCaseKeeps, KeepsMachine, KeepsGroups, KeepsPids, EventsKeepGroups, WritesKeepProcesses, WritesKeepTree, StepKeeps, StepsKeep, RunsKeep, EmptyWhereNoGroup, FirstIsWellFormed}
 use Rattle.kernel_model.specs.CaseLemmas.{Writes-answers, GrowingWrites-answers, Decides-answers, Grows-answers, Decides-keeps, Grows-keeps, Writes-keeps, GrowingWrites-keeps}
 use Rattle.kernel_model.specs.RefusalLemmas.{calls_are_free}
 
@@ -372,6 +372,13 @@ writes_keep_tree = record {
   end = λ old new g r. Writes-keeps (λ s. s.tree ≡ old.tree) (end_refusal old g) (λ _ s. s ≡ record old { table = ended_in old.table g }) old
       (λ _ k none does. subst (λ (s : KernelState). s.tree ≡ old.tree) (sym does) refl) refl refl r new;
 }
+
+pub empty_where_no_group : EmptyWhereNoGroup
+empty_where_no_group k g w none = table.none_counted_where_none k.table g w.table (λ q p at.
+    elim (same_group p.group g) as (λ b. same_group p.group g ≡ b → b ≡ false) [
+      | true ↦ λ e. absurd (both_ways (has_group k.tree g) none (ap (has_group k.tree) (sym ((tree.same_is_equal p.group g).0 e)) ∙ w.placed q p at))
+      | false ↦ λ _. refl
+    ] refl)
 
 pub first_is_well_formed : FirstIsWellFormed
 first_is_well_formed present reserved online nodes first_pid k some above within first = record {

@@ -248,6 +248,10 @@ StepsKeep = (old new : KernelState) (call : Call) (r : Result Reply KernelError)
 abbrev pub RunsKeep : Type 0
 RunsKeep = (old new : KernelState) (calls : List Call) (replies : List (Result Reply KernelError)) → IsWellFormed old → Run old calls replies new → StepKeeps old new
 
+-- a group that is not there has no process, and so a new one has none
+abbrev pub EmptyWhereNoGroup : Type 0
+EmptyWhereNoGroup = (k : KernelState) (g : Group) → IsWellFormed k → has_group k.tree g ≡ false → count_in k.table g ≡ 0
+
 abbrev pub FirstIsWellFormed : Type 0
 FirstIsWellFormed =
     (present reserved online nodes : Ids) (first_pid : ℕ) (k : KernelState) → reserved ≢ set.empty → set.is_subset reserved online ≡ true

@@ -1,5 +1,5 @@
 ghost use Rattle.kernel_model.specs.Fuse.{TheNthAloneFails};
-ghost use Rattle.kernel_model.specs.Laws.{EventsKeepGroups, WritesKeepProcesses, WritesKeepTree, WritesLeaveGroups, CallsLeaveProcesses, WritesCount, CallsAreFree, RefusalsHaveCauses, EachCaseKeeps, StepsKeep, RunsKeep, FirstIsWellFormed};
+ghost use Rattle.kernel_model.specs.Laws.{EventsKeepGroups, WritesKeepProcesses, WritesKeepTree, WritesLeaveGroups, CallsLeaveProcesses, WritesCount, CallsAreFree, RefusalsHaveCauses, EachCaseKeeps, StepsKeep, RunsKeep, EmptyWhereNoGroup, FirstIsWellFormed};
 
 /// What each call leaves of groups and processes, whatever it answers; nothing runs.
 pub fn cases()
@@ -20,6 +20,7 @@ pub fn refusals()
 /// What each call and each list of calls keeps; nothing runs.
 pub fn runs()
     ensures first { FirstIsWellFormed }
+    ensures empty { EmptyWhereNoGroup }
     ensures case { EachCaseKeeps }
     ensures step { StepsKeep }
     ensures run { RunsKeep }

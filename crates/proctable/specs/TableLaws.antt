@@ -45,6 +45,11 @@ PidIsGiven = (t : TableState) (q : ℕ) → IsWellFormed t → is_alive t q ≡ 
 abbrev pub NoneWhereNoneCounted : Type 0
 NoneWhereNoneCounted = (t : TableState) (g : Group) → count_in t g ≡ 0 → (q : ℕ) (p : Process) → process_of t q ≡ Some p → same_group p.group g ≡ false
 
+-- and a group that no process is in has none that is counted
+abbrev pub NoneCountedWhereNone : Type 0
+NoneCountedWhereNone =
+    (t : TableState) (g : Group) → IsWellFormed t → ((q : ℕ) (p : Process) → process_of t q ≡ Some p → same_group p.group g ≡ false) → count_in t g ≡ 0
+
 -- a live process belongs to a live first process of its group
 abbrev pub LiveBelong : Type 0
 LiveBelong = (t : TableState) (q : ℕ) (p : Process) → IsWellFormed t → process_of t q ≡ Some p → Belongs t.live p

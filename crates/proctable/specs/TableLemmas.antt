@@ -14,7 +14,7 @@ use Rattle.proctable.specs.Processes.{process_among, process_of, is_alive}
 use Rattle.proctable.specs.TableChanges.{ends_with}
 use Rattle.proctable.specs.TableAnswers.{AddsProcess}
 use Rattle.proctable.specs.TableWellFormed.{RisesBelow, Belongs, IsWellFormed}
-use Rattle.proctable.specs.TableLaws.{ProcessAdded, AddedLeaves, SomeEnd, ExitedLeaves, EndedLeaves, EndedIsEmpty, FoundHasPid, PidIsGiven, NoneWhereNoneCounted, LiveBelong, EmptyOnceFirstEnded, ChangesStayWellFormed, FirstIsWellFormed}
+use Rattle.proctable.specs.TableLaws.{ProcessAdded, AddedLeaves, SomeEnd, ExitedLeaves, EndedLeaves, EndedIsEmpty, FoundHasPid, PidIsGiven, NoneWhereNoneCounted, NoneCountedWhereNone, LiveBelong, EmptyOnceFirstEnded, ChangesStayWellFormed, FirstIsWellFormed}
 use Rattle.proctable.specs.ProcessLemmas.{process-here, process-there, process-pid, process-fresh, process-below, RisesBelow-push, process-push, process-push-old, process-push-new, AllBelong-push, RisesBelow-filter, process-filter-stays, process-filter-none, process-filter-ends, AllBelong-filter, together-exited, together-ended, Belongs-found}
 
 none_of : (o : Option Process) → is_some o ≡ false → o ≡ None
@@ -124,6 +124,10 @@ none_where_none_counted t g none q p at = uncounted t.live none at
                 | false ↦ λ f. uncounted later rest (sym (process-there x later q f) ∙ found)
               ] refl
         ] refl
+
+pub none_counted_where_none : NoneCountedWhereNone
+none_counted_where_none t g well none =
+    count_none (λ p. same_group p.group g) t.live (each_found (λ p. same_group p.group g ≡ false) 0 t.next_pid t.live well.rising none)
 
 pub empty_once_first_ended : EmptyOnceFirstEnded
 empty_once_first_ended t g first well gone belong =

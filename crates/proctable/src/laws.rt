@@ -1,4 +1,4 @@
-ghost use Rattle.proctable.specs.TableLaws.{AddedLeaves, ExitedLeaves, EndedLeaves, EndedIsEmpty, FoundHasPid, PidIsGiven, NoneWhereNoneCounted, LiveBelong, EmptyOnceFirstEnded, ChangesStayWellFormed, FirstIsWellFormed};
+ghost use Rattle.proctable.specs.TableLaws.{AddedLeaves, ExitedLeaves, EndedLeaves, EndedIsEmpty, FoundHasPid, PidIsGiven, NoneWhereNoneCounted, NoneCountedWhereNone, LiveBelong, EmptyOnceFirstEnded, ChangesStayWellFormed, FirstIsWellFormed};
 
 /// What each change leaves of a table; nothing runs.
 pub fn changes()
@@ -17,4 +17,5 @@ pub fn well_formed()
     ensures pid { FoundHasPid }
     ensures given { PidIsGiven }
     ensures uncounted { NoneWhereNoneCounted }
+    ensures none { NoneCountedWhereNone }
 {}

@@ -1,4 +1,4 @@
-use Rattle.proctable.specs.TableLemmas.{first_is_well_formed, stays_well_formed, live_belong, empty_once_first_ended, found_has_pid, pid_is_given, none_where_none_counted}
+use Rattle.proctable.specs.TableLemmas.{first_is_well_formed, stays_well_formed, live_belong, empty_once_first_ended, found_has_pid, pid_is_given, none_where_none_counted, none_counted_where_none}
 use Rattle.proctable.proofs.laws.well_formed.Goals as goal
 
 pub returns : goal.returns
@@ -10,4 +10,5 @@ returns c = record {
   pid = found_has_pid;
   given = pid_is_given;
   uncounted = none_where_none_counted;
+  none = none_counted_where_none;
 }
