@@ -12,6 +12,8 @@ mod grouping;
 mod holders;
 mod laws;
 mod pricing;
+#[cfg(test)]
+mod tests;
 
 pub use classes::Classes;
 pub use dealing::deal;
