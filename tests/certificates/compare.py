@@ -1,9 +1,12 @@
 """Compares what the program answers with what the second checker answers: `compare.py PROGRAM EXAMPLE`.
 
 The texts are every front of the example, the example with random edits, and random small certificates, most of
-them with values and prices that prove the plan. Where the program says yes, no plan at all costs less.
+them with values and prices that prove the plan, or with members that are a shortage. Where the program says yes to
+a plan, no plan at all costs less; where it says that CPUs are short, there is no plan at all. Each verdict has to be
+seen.
 """
 
+import itertools
 import random
 import subprocess
 import sys
@@ -14,7 +17,9 @@ from reference import check, least_cost, read
 PIECES = [b" ", b"  ", b"\n", b"\r", b"\0", b"\t", b"\xff", b"+", b"-", b",", b":", b"0", b"00", b"1", b"9" * 1000, b"1023",
           b"1024", b"1-3", b"2-1", b"4294967295", b"4294967296", b"18446744073709551615", b"18446744073709551616",
           b"1099511627776", b"1099511627777", b"33554431", b"33554432", b"..", b"x" * 65, b"row a 1 10:1\n",
-          b"hold a 1 10\n", b"price 0 5\n", b"price 3 2\n", b"total 23\n", b"end\n", b"short a\n"]
+          b"hold a 1 10\n", b"price 0 5\n", b"price 3 2\n", b"total 23\n", b"end\n", b"short a\n", b"short b\n"]
+
+VERDICTS = ["plan", "short", "E70", "E71", "E72", "E73", "E74", "E75", "E76", "E77"]
 
 
 def edited(text):
@@ -45,6 +50,20 @@ def proof(rows, cost, cpus):
     return [random.randint(0, 5) for _ in rows], {cpu: random.randint(0, 2) for cpu in cpus}
 
 
+def shortage(rows):
+    """Numbers of rows, most often of rows that together ask for more than they may have, if there are any."""
+    some = [ks for n in range(1, len(rows) + 1) for ks in itertools.combinations(range(len(rows)), n)]
+    short = [ks for ks in some if sum(rows[k][1] for k in ks) > len({c for k in ks for _, s in rows[k][2] for c in s})]
+    return random.choice(short if short and random.random() < 0.8 else some)
+
+
+def head(rows):
+    lines = ["numarun-certificate 1"]
+    for k, demand, offers in rows:
+        lines.append(" ".join([f"row r{k} {demand}"] + [f"{w}:{','.join(map(str, s))}" for w, s in offers]))
+    return lines
+
+
 def made():
     """A random small certificate."""
     cpus = range(1, random.randint(2, 6))
@@ -56,6 +75,8 @@ def made():
             offers.append((random.randint(0, 4), left[:count]))
             left = left[count:]
         rows.append((k, random.randint(1, 2), offers))
+    if rows and random.random() < 0.4:
+        return "\n".join(head(rows) + [f"short r{k}" for k in shortage(rows)] + ["end", ""]).encode()
     cost = least_cost(rows)
     sets = [random.sample(cpus, min(len(cpus), demand)) for _, demand, _ in rows]
     for _ in range(200):
@@ -68,9 +89,7 @@ def made():
     values, price = proof(rows, cost, cpus)
     if values and random.random() < 0.1:
         values[0] += 1
-    lines = ["numarun-certificate 1"]
-    for k, demand, offers in rows:
-        lines.append(" ".join([f"row r{k} {demand}"] + [f"{w}:{','.join(map(str, s))}" for w, s in offers]))
+    lines = head(rows)
     for k, s in enumerate(sets):
         lines.append(f"hold r{k} {','.join(map(str, s))} {values[k]}")
     lines += [f"price {amount} {cpu}" for cpu, amount in price.items() if amount]
@@ -87,15 +106,21 @@ def main(program, example):
     for text in texts:
         answer = subprocess.run([program, "check"], input=text, capture_output=True)
         expected = check(text)
-        status = 0 if expected.startswith("plan") else 1
+        name = expected.split()[1] if expected.startswith("refused") else expected.split()[0]
+        status = 0 if name in ("plan", "short") else 1
         if (answer.stdout, answer.stderr, answer.returncode) != (expected.encode() + b"\n", b"", status):
             sys.exit(f"compare: {text!r}: expected {expected!r}, found {answer}")
         if status == 0:
             rows = read(text)[0]
-            if all(len(s) < 9 for _, _, offers in rows for _, s in offers) and expected != f"plan total {least_cost(rows)}":
-                sys.exit(f"compare: {text!r}: a plan costs {least_cost(rows)}")
-        seen[expected.split()[1]] += 1
-    print("compare:", ", ".join(f"{name} {count}" for name, count in sorted(seen.items())))
+            if all(len(s) < 9 for _, _, offers in rows for _, s in offers):
+                least = least_cost(rows)
+                if expected != f"plan total {least}" and not (name == "short" and least is None):
+                    sys.exit(f"compare: {text!r}: expected {expected!r}, but the least plan costs {least}")
+        seen[name] += 1
+    print("compare:", ", ".join(f"{name} {seen[name]}" for name in VERDICTS))
+    missing = [name for name in VERDICTS if not seen[name]]
+    if missing:
+        sys.exit(f"compare: no text was answered with {', '.join(missing)}")
 
 
 main(*sys.argv[1:])

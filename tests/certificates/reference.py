@@ -44,15 +44,15 @@ def wanted(value, line):
 
 
 def read(text):
-    """Rows (id, demand, offers), holds (set, value), prices (amount, set) and the total."""
-    rows, holds, prices, total = [], [], [], None
+    """Rows (id, demand, offers), holds (set, value), prices (amount, set), the total, and the members of a shortage."""
+    rows, holds, prices, total, members = [], [], [], None, []
     lines = text.split(b"\n")
     section = "head"
     for at, line in enumerate(lines, 1):
         words = line.split(b" ")
         if section == "done":
             if at == len(lines) and line == b"":
-                return rows, holds, prices, total
+                return rows, holds, prices, total, members
             raise BadText(at)
         if at == len(lines):
             raise BadText(at)
@@ -83,7 +83,11 @@ def read(text):
         elif section in ("rows", "holds") and len(holds) == len(rows) and words[0] == b"total" and len(words) == 2:
             total = wanted(number(words[1], 64), at)
             section = "end"
-        elif section == "end" and line == b"end":
+        elif section in ("rows", "shorts") and words[0] == b"short" and len(words) == 2:
+            later = range(members[-1] + 1 if members else 0, len(rows))
+            members.append(wanted(next((k for k in later if rows[k][0] == words[1]), None), at))
+            section = "shorts"
+        elif section in ("end", "shorts") and line == b"end":
             section = "done"
         else:
             raise BadText(at)
@@ -97,7 +101,7 @@ def overlap(sets):
 def check(text):
     """The line that a check of the text answers."""
     try:
-        rows, holds, prices, total = read(text)
+        rows, holds, prices, total, members = read(text)
     except BadText as bad:
         return f"refused E77 BadText {bad.args[0]}"
     too_much = len(rows) > 256 or any(not 1 <= demand <= 1024 for _, demand, _ in rows)
@@ -106,6 +110,10 @@ def check(text):
     too_much |= any(overlap([s for _, s in offers]) for _, _, offers in rows) or overlap([s for _, s in prices])
     if too_much:
         return "refused E70 BadProblem"
+    if members:
+        asked = sum(rows[k][1] for k in members)
+        allowed = len(set().union(*(s for k in members for _, s in rows[k][2])))
+        return f"short demand {asked} cpus {allowed}" if asked > allowed else "refused E76 NoShortage"
     weights = [{cpu: weight for weight, s in offers for cpu in s} for _, _, offers in rows]
     for k, (_, demand, _) in enumerate(rows):
         if len(holds[k][0]) != demand:

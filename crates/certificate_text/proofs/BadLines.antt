@@ -1,27 +1,27 @@
 -- Which line of a text is the first bad one.
 use Rattle.std.proofs.Common.{◌≡◌, ◌⊎◌, Bool, true, false, ℕ, ◌+◌, ◌<◌, ◌≤◌, inl, inr, ◌++◌, List, [], ◌∷◌, length, Option, Some, None, Result, Ok, Err, IfOk, IfErr, refl, sym, ap, ◌∙◌, subst, arith, length-append}
-use Rattle.std.specs.Prelude.{option_and_then, ◌==◌}
+use Rattle.std.specs.Prelude.{option_and_then, IsSome, ◌==◌}
 use Rattle.std.specs.List.{AllZip}
 use Rattle.std.proofs.lemmas.List.{append_assoc}
 use Rattle.certificate_text.specs.declared.certificates.Certificate.{Certificate}
-use Rattle.certificate_text.specs.declared.certificates.Certificate.TheVariants.{Plan}
-use Rattle.std.proofs.lemmas.Option.{same_Some}
+use Rattle.std.proofs.lemmas.Option.{none-some}
 use Rattle.std.proofs.lemmas.Bool.{false≢true}
 use Rattle.std.proofs.lemmas.Bool.Decides.{nat_tests}
-use Rattle.certificate_text.specs.declared.draft.Stage.{Stage}
-use Rattle.certificate_text.specs.declared.draft.Stage.TheVariants.{Start, Body, Totalled, Ended}
 use Rattle.certificate_text.specs.Line.{LineView, Spells}
 use Rattle.certificate_text.specs.CertificateText.{AreLines, IsText}
 use Rattle.certificate_text.specs.FirstBadLine.{CanBegin, IsFirstBadLine}
-use Rattle.certificate_text.specs.TextError.{IsTextError, IsRead}
-use Rattle.certificate_text.specs.declared.reading.TextError.{TextError}
-use Rattle.certificate_text.specs.declared.reading.TextError.TheVariants.{Memory, BadText}
+use Rattle.certificate_text.specs.RowStart.{IsRowStart}
+use Rattle.certificate_text.specs.LineTaken.{AsksForRoom}
+use Rattle.certificate_text.specs.TextError.{IsKeptLine, AsksForMemory, IsTextError, IsRead}
+use Rattle.certificate_text.specs.declared.reading.BadText.{BadText}
+use Rattle.faults.specs.declared.or_memory.OrMemory.{OrMemory}
+use Rattle.faults.specs.declared.or_memory.OrMemory.TheVariants.{Memory, Fault}
 use Rattle.certificate_text.specs.Begun.{run, IsBegun}
-use Rattle.certificate_text.specs.Finished.{said_by, finished, finished_at}
+use Rattle.certificate_text.specs.Finished.{finished}
 use Rattle.certificate_text.specs.Parts.{parts}
 use Rattle.certificate_text.specs.DraftView.{DraftView, next, empty_draft}
 use Rattle.certificate_text.proofs.DraftLines.{ended_of}
-use Rattle.certificate_text.proofs.Grammar.{lines_begun, begun_once, begun_ended, one_certificate}
+use Rattle.certificate_text.proofs.Grammar.{lines_begun, begun_once, begun_ended, finished-ended, one_certificate}
 use Rattle.certificate_text.proofs.Completing.{begun_can}
 use Rattle.certificate_text.proofs.Runs.{run_after, begun_none, begun_more}
 use Rattle.certificate_text.proofs.SpelledOnce.{spelled_once}
@@ -126,31 +126,18 @@ bad_end text before last d n whole b number no_text = record {
 pub no_feed : (text : List ℕ) (before : List (List ℕ)) (last : List ℕ) → parts 10 text ≡ before ++ last ∷ [] → (last ≡ [] → ⊥) → (c : Certificate) → IsText text c → ⊥
 no_feed text before last whole some c t = some (last_of before t.0 last (sym whole ∙ t.1)).0
 
-unfinished_stage : (s : Stage) (d : DraftView) → finished_at s d ≡ None → s ≡ Ended → ⊥
-unfinished_stage s d h e = absurd (grind arith)
-
 pub too_early : (text : List ℕ) (before : List (List ℕ)) (last : List ℕ) (d : DraftView) → parts 10 text ≡ before ++ last ∷ [] → IsBegun before d
     → finished d ≡ None → (c : Certificate) → IsText text c → ⊥
 too_early text before last d whole b short c t =
     let same : before ≡ t.0 = (last_of before t.0 last (sym whole ∙ t.1)).1 in
     let its : IsBegun before (ended_of c) = subst (λ (k : List (List ℕ)). IsBegun k (ended_of c)) (sym same) (lines_begun t.0 c t.2) in
     let draft : d ≡ ended_of c = begun_once before d (ended_of c) b its in
-    unfinished_stage d.stage d short (ap (λ (x : DraftView). x.stage) draft ∙ ended_stage c)
-  where
-    ended_stage : (c : Certificate) → (ended_of c).stage ≡ Ended
-    ended_stage (Plan rows sets prices total) = refl
+    none-some c (sym short ∙ ap finished draft ∙ finished-ended c)
 
 pub read_whole : (text : List ℕ) (before : List (List ℕ)) (last : List ℕ) (d : DraftView) (c : Certificate) → parts 10 text ≡ before ++ last ∷ [] → last ≡ []
     → IsBegun before d → finished d ≡ Some c → IsText text c
 read_whole text before last d c whole none b done =
-    let p = finished_stage d.stage d c done in
-    (before, whole ∙ ap (λ x. before ++ x ∷ []) none, subst (λ (x : Certificate). AreLines before x) p.1 (begun_ended before d b p.0))
-  where
-    finished_stage : (s : Stage) (d : DraftView) (c : Certificate) → finished_at s d ≡ Some c → (s ≡ Ended) × (said_by d ≡ c)
-    finished_stage Start d c h = absurd (grind arith)
-    finished_stage Body d c h = absurd (grind arith)
-    finished_stage Totalled d c h = absurd (grind arith)
-    finished_stage Ended d c h = (refl, same_Some (said_by d) c h)
+    (before, whole ∙ ap (λ x. before ++ x ∷ []) none, begun_ended before d c b done)
 
 -- so far: the lines before the rest of the text make the draft, and the rest begins at the line of this number
 pub record IsReadTo (text rest : List ℕ) (d : DraftView) (n : ℕ) : Type 0 where
@@ -255,9 +242,31 @@ one_bad_line text m n p q = at (places p.before p.line p.after q.before q.line q
     refuted (inl none) = some none
     refuted (inr cannot) = cannot (passed (q.before ++ q.line ∷ []) more p.before e p.begun)
 
+some_of : {A : Type 0} (o : Option A) → IsSome o → (x : A) × (o ≡ Some x)
+some_of (Some x) h = (x, refl)
+some_of None h = absurd (false≢true h)
+
+-- memory ran out at a line
+pub read_asks : (text rest line after : List ℕ) (d : DraftView) (n : ℕ) → IsReadTo text rest d n → parts 10 rest ≡ line ∷ parts 10 after → AsksForRoom d line → AsksForMemory text
+read_asks text rest line after d n r cut a = record {
+  before = r.before;
+  line = line;
+  after = parts 10 after;
+  lines_are = r.whole ∙ ap (λ ls. r.before ++ ls) cut;
+  ended = never_empty (λ x. x == 10) after;
+  begun = begun_can r.before d r.begun;
+  asks = at a;
+}
+  where
+    at : AsksForRoom d line → IsRowStart line ⊎ IsKeptLine r.before line
+    at (inl row) = inl row
+    at (inr l) =
+        let e = some_of (next d l.0) l.3 in
+        inr (record { said = l.0; spelled = l.1; kept = l.2; begun = begun_can (r.before ++ line ∷ []) e.0 (begun_more r.before line d e.0 l.0 r.begun l.1 e.1) })
+
 -- where the text stands for a certificate, that one was read, unless memory ran out
-pub is_read : (text : List ℕ) (r : Result Certificate TextError) → IfOk r (λ c. IsText text c) → IfErr r (λ e. IsTextError text e)
+pub is_read : (text : List ℕ) (r : Result Certificate (OrMemory BadText)) → IfOk r (λ c. IsText text c) → IfErr r (λ e. IsTextError text e)
     → (c : Certificate) → IsText text c → IsRead r c
 is_read text (Ok d) ok bad c t = one_certificate text d c ok t
 is_read text (Err Memory) ok bad c t = refl
-is_read text (Err (BadText n)) ok bad c t = absurd (bad.no_text c t)
+is_read text (Err (Fault n)) ok bad c t = absurd (bad.no_text c t)

@@ -13,15 +13,16 @@ use Rattle.cpu_set.specs.Pointwise.{contains-empty, contains-insert}
 use Rattle.cpu_set.specs.declared.TheConstants.{CPU_LIMIT}
 use Rattle.cpu_list.specs.ListText.{IsList, names, item_of, number_of, range_of}
 use Rattle.certificate.specs.RowView.{RowView}
-use Rattle.certificate_text.specs.declared.draft.Stage.{Stage}
-use Rattle.certificate_text.specs.declared.draft.Stage.TheVariants.{Start, Body, Totalled, Ended}
+use Rattle.certificate_text.specs.declared.stage.Stage.{Stage}
+use Rattle.certificate_text.specs.declared.stage.Stage.TheVariants.{Start, Body, Totalled, Planned, Named, Shown}
 use Rattle.certificate_text.specs.IdWord.{is_id_letter, IsId}
 use Rattle.certificate_text.specs.ListWord.{IsListWord}
 use Rattle.certificate_text.specs.NumberWord.{IsNumber}
 use Rattle.certificate_text.specs.Line.{LineView, HeaderLine, HoldLine, TotalLine, EndLine, Spells, words}
 use Rattle.certificate_text.specs.Begun.{run, IsBegun}
+use Rattle.certificate_text.specs.declared.certificates.Certificate.{Certificate}
 use Rattle.certificate_text.specs.FirstBadLine.{CanBegin}
-use Rattle.certificate_text.specs.Finished.{said_by}
+use Rattle.certificate_text.specs.Finished.{plan_of, shortage_of, finished, finished_at}
 use Rattle.certificate_text.specs.DraftView.{DraftView, next, next_at, empty_draft}
 use Rattle.certificate_text.proofs.Ids.{IsId-All}
 use Rattle.certificate_text.proofs.DraftSteps.{IsRightAt, IsOrdered, ordered_hold, nothing_ordered}
@@ -90,9 +91,10 @@ pub record Completes (d : DraftView) : Type 0 where
   pub more : List (List ℕ)
   pub said : List LineView
   pub last : DraftView
+  pub whole : Certificate
   pub spelled : AllZip Spells more said
   pub run_is : run d said ≡ Some last
-  pub ended : last.stage ≡ Ended
+  pub ended : finished last ≡ Some whole
 
 -- with one line more before them
 completes_before : (d e : DraftView) (line : List ℕ) (l : LineView) → Spells line l → next d l ≡ Some e → Completes e → Completes d
@@ -100,20 +102,34 @@ completes_before d e line l s n c = record {
   more = line ∷ c.more;
   said = l ∷ c.said;
   last = c.last;
+  whole = c.whole;
   spelled = (s, c.spelled);
   run_is = run_after d e (l ∷ []) c.said (ap (λ (o : Option DraftView). option_and_then (λ x. run x []) o) n) ∙ c.run_is;
   ended = c.ended;
 }
 
-complete_ended : (d : DraftView) → d.stage ≡ Ended → Completes d
-complete_ended d h = record { more = []; said = []; last = d; spelled = tt; run_is = refl; ended = h }
+complete_ended : (d : DraftView) (c : Certificate) → finished d ≡ Some c → Completes d
+complete_ended d c h = record { more = []; said = []; last = d; whole = c; spelled = tt; run_is = refl; ended = h }
+
+complete_planned : (d : DraftView) → d.stage ≡ Planned → Completes d
+complete_planned d h = complete_ended d (plan_of d) (subst (λ (s : Stage). finished_at s d ≡ Some (plan_of d)) (sym h) refl)
+
+complete_shown : (d : DraftView) → d.stage ≡ Shown → Completes d
+complete_shown d h = complete_ended d (shortage_of d) (subst (λ (s : Stage). finished_at s d ≡ Some (shortage_of d)) (sym h) refl)
+
+complete_named : (d : DraftView) → d.stage ≡ Named → Completes d
+complete_named d h =
+    let e : DraftView = record d { stage = Shown } in
+    let taken : next_at Named d EndLine ≡ Some e = refl in
+    let n : next d EndLine ≡ Some e = subst (λ (s : Stage). next_at s d EndLine ≡ Some e) (sym h) taken in
+    completes_before d e (codes "end") EndLine refl n (complete_shown e refl)
 
 complete_totalled : (d : DraftView) → d.stage ≡ Totalled → Completes d
 complete_totalled d h =
-    let e : DraftView = record d { stage = Ended } in
+    let e : DraftView = record d { stage = Planned } in
     let taken : next_at Totalled d EndLine ≡ Some e = refl in
     let n : next d EndLine ≡ Some e = subst (λ (s : Stage). next_at s d EndLine ≡ Some e) (sym h) taken in
-    completes_before d e (codes "end") EndLine refl n (complete_ended e refl)
+    completes_before d e (codes "end") EndLine refl n (complete_planned e refl)
 
 complete_body : (k : ℕ) (d : DraftView) → d.stage ≡ Body → IsOrdered d.rows d.sets d.values d.prices → length d.rows ≡ length d.sets + k → Completes d
 complete_body zero d b o h =
@@ -141,12 +157,14 @@ complete_at Start d h r =
     let e : DraftView = record d { stage = Body } in
     let taken : next_at Start d HeaderLine ≡ Some e = refl in
     let n : next d HeaderLine ≡ Some e = subst (λ (s : Stage). next_at s d HeaderLine ≡ Some e) (sym h) taken in
-    let o = nothing_ordered d.rows d.sets d.values d.prices r in
-    let long : length d.rows ≡ length d.sets + 0 = rw (r.no_rows, r.no_sets) refl in
+    let o = nothing_ordered d.rows d.sets d.values d.prices r.0 in
+    let long : length d.rows ≡ length d.sets + 0 = rw (r.0.no_rows, r.0.no_sets) refl in
     completes_before d e (codes "numarun-certificate 1") HeaderLine refl n (complete_body 0 e refl o long)
-complete_at Body d h r = let within : length d.sets ≤ length d.rows = r.within in complete_body (length d.rows - length d.sets) d h r (omega arith)
+complete_at Body d h r = let within : length d.sets ≤ length d.rows = r.0.within in complete_body (length d.rows - length d.sets) d h r.0 (omega arith)
 complete_at Totalled d h r = complete_totalled d h
-complete_at Ended d h r = complete_ended d h
+complete_at Planned d h r = complete_planned d h
+complete_at Named d h r = complete_named d h
+complete_at Shown d h r = complete_shown d h
 
 -- some certificate begins with the lines that make a draft
 pub begun_can : (ls : List (List ℕ)) (d : DraftView) → IsBegun ls d → CanBegin ls
@@ -158,4 +176,4 @@ begun_can ls d b =
       spelled = zip_append Spells ls c.more b.said c.said b.spelled c.spelled;
       run_is = run_after empty_draft d b.said c.said b.run_is ∙ c.run_is;
     } in
-    (c.more, said_by c.last, begun_ended (ls ++ c.more) c.last whole c.ended)
+    (c.more, c.whole, begun_ended (ls ++ c.more) c.last c.whole whole c.ended)

@@ -1,28 +1,29 @@
 -- A certificate's lines, taken one after another, make the certificate.
-use Rattle.std.proofs.Common.{◌≡◌, ℕ, zero, suc, Bool, true, false, not, ◌&&◌, ◌++◌, List, [], ◌∷◌, map, length, Option, Some, None, cond, refl, sym, ap, ◌∙◌, subst, arith, length-append}
+use Rattle.std.proofs.Common.{◌≡◌, ℕ, zero, suc, ◌+◌, ◌<◌, ◌≤◌, Bool, true, false, not, ◌&&◌, ◌++◌, List, [], ◌∷◌, map, length, drop, get_or, Option, Some, None, cond, refl, sym, ap, ◌∙◌, subst, arith, length-append}
 use Rattle.std.specs.Prelude.{◌==◌, slice_get, option_and_then}
-use Rattle.std.specs.List.{AllPairs}
+use Rattle.std.specs.List.{All, AllPairs}
 use Rattle.std.specs.Str.{bytes_eq}
 use Rattle.std.proofs.lemmas.Bool.Decides.{nat_tests}
 use Rattle.std.proofs.lemmas.Slice.Eq.{bytes_eq-Decides}
 use Rattle.std.proofs.lemmas.List.{append-nil, append_assoc}
+use Rattle.std.proofs.lemmas.List.Kept.{AllPairs-from_increasing}
 use Rattle.cpu_set.specs.Ids.{Ids}
 use Rattle.certificate.specs.RowView.{RowView}
 use Rattle.certificate.specs.PricesView.{PricesView}
 use Rattle.certificate.specs.declared.price_lists.Price.{Price}
 use Rattle.certificate_text.specs.declared.certificates.Certificate.{Certificate}
-use Rattle.certificate_text.specs.declared.certificates.Certificate.TheVariants.{Plan}
-use Rattle.certificate_text.specs.declared.draft.Stage.{Stage}
-use Rattle.certificate_text.specs.declared.draft.Stage.TheVariants.{Body, Totalled, Ended}
-use Rattle.certificate_text.specs.Line.{LineView, RowLine, HoldLine, PriceLine, TotalLine, EndLine}
-use Rattle.certificate_text.specs.CertificateText.{hold_lines, lines_of, CanBeText}
+use Rattle.certificate_text.specs.declared.certificates.Certificate.TheVariants.{Plan, Short}
+use Rattle.certificate_text.specs.declared.stage.Stage.{Stage}
+use Rattle.certificate_text.specs.declared.stage.Stage.TheVariants.{Body, Totalled, Planned, Named, Shown}
+use Rattle.certificate_text.specs.Line.{LineView, RowLine, HoldLine, PriceLine, TotalLine, ShortLine, EndLine}
+use Rattle.certificate_text.specs.CertificateText.{hold_lines, id_at, short_lines, lines_of, CanBeText, HasShortText}
 use Rattle.certificate_text.specs.Begun.{run}
-use Rattle.certificate_text.specs.DraftView.{DraftView, has_id, is_id_of, is_held, next_in_body, next_at, next, empty_draft}
+use Rattle.certificate_text.specs.DraftView.{DraftView, has_id, is_id_of, is_held, number_in, number_of, with_member, next_in_body, next_at, next, empty_draft}
 use Rattle.certificate_text.proofs.RowIds.{IsNew, Differ, has_id_from_new, new_after}
 
 -- the draft in its body
 abbrev pub body : List RowView → List Ids → List ℕ → List Price → DraftView
-body rows sets values prices = record { stage = Body; rows = rows; sets = sets; values = values; prices = prices; total = 0 }
+body rows sets values prices = record { stage = Body; rows = rows; sets = sets; values = values; prices = prices; members = []; from = 0; total = 0 }
 
 and_of : (a b : Bool) → a ≡ true → b ≡ true → (a && b) ≡ true
 and_of true true p q = refl
@@ -32,6 +33,14 @@ and_of false b p q = p
 cond_at : {A : Type 0} (b : Bool) (x y : A) → b ≡ true → cond b x y ≡ x
 cond_at true x y h = refl
 cond_at false x y h = absurd (grind arith)
+
+cond_not : {A : Type 0} (b : Bool) (x y : A) → b ≡ false → cond b x y ≡ y
+cond_not false x y h = refl
+cond_not true x y h = absurd (grind arith)
+
+no_equal : (b : Bool) → (b ≡ true → ⊥) → b ≡ false
+no_equal false h = refl
+no_equal true h = absurd (h refl)
 
 not_of : (b : Bool) → b ≡ false → not b ≡ true
 not_of false h = refl
@@ -114,9 +123,9 @@ take_total d total b h =
     let taken : next_in_body d (TotalLine total) ≡ Some e = cond_at (is_held d) (Some e) None (same_length (length d.sets) (length d.rows) h) in
     subst (λ (stage : Stage). next_at stage d (TotalLine total) ≡ Some e) (sym b) taken
 
--- a draft to which nothing can be added
+-- the draft of a plan to which nothing can be added
 abbrev pub ended : List RowView → List Ids → PricesView → ℕ → DraftView
-ended rows sets prices total = record { stage = Ended; rows = rows; sets = sets; values = prices.values; prices = prices.of_cpu; total = total }
+ended rows sets prices total = record { stage = Planned; rows = rows; sets = sets; values = prices.values; prices = prices.of_cpu; members = []; from = 0; total = total }
 
 run_end : (rows : List RowView) (sets : List Ids) (prices : PricesView) (total : ℕ) → length sets ≡ length rows
     → run (body rows sets prices.values prices.of_cpu) (TotalLine total ∷ EndLine ∷ []) ≡ Some (ended rows sets prices total)
@@ -124,9 +133,93 @@ run_end rows sets prices total h =
     let d : DraftView = body rows sets prices.values prices.of_cpu in
     run_step d (record d { stage = Totalled; total = total }) (TotalLine total) (EndLine ∷ []) (take_total d total refl h)
 
+-- the draft of a shortage, and the same with its last line
+abbrev pub named : List RowView → List ℕ → ℕ → DraftView
+named rows members from = record { stage = Named; rows = rows; sets = []; values = []; prices = []; members = members; from = from; total = 0 }
+
+abbrev pub shown : List RowView → List ℕ → ℕ → DraftView
+shown rows members from = record { stage = Shown; rows = rows; sets = []; values = []; prices = []; members = members; from = from; total = 0 }
+
+-- the first row after members of which the first is at or after a row
+abbrev pub row_after : ℕ → List ℕ → ℕ
+row_after from [] = from
+row_after from (k ∷ ks) = row_after (k + 1) ks
+
+-- numbers of rows, each after the one before
+abbrev pub AreRising : List RowView → ℕ → List ℕ → Type 0
+AreRising rows from [] = Unit {0}
+AreRising rows from (k ∷ ks) = (from ≤ k) × (k < length rows) × AreRising rows (k + 1) ks
+
+pub rising_from : (rows : List RowView) (from : ℕ) (ks : List ℕ) → AllPairs (λ j k. j < k) ks → All (λ k. from ≤ k) ks → All (λ k. k < length rows) ks → AreRising rows from ks
+rising_from rows from [] up above below = tt
+rising_from rows from (k ∷ ks) up above below = (
+  above 0 0 (omega arith),
+  below 0 0 (omega arith),
+  rising_from rows (k + 1) ks (λ i j d lt long. up (suc i) (suc j) d (omega arith) (omega arith)) (λ j d lt. let a : k < get_or ks j d = up 0 (suc j) d (omega arith) (omega arith) in omega arith)
+      (λ j d lt. below (suc j) d (omega arith)),
+)
+
+differ_tail : (row : RowView) (rows : List RowView) → AllPairs Differ (row ∷ rows) → AllPairs Differ rows
+differ_tail row rows h = λ i j d lt long. h (suc i) (suc j) d (omega arith) (omega arith)
+
+-- the row is found by its id: seen from the first row, and from a row before it
+number_first : (rows : List RowView) (k at place : ℕ) → k < length rows → AllPairs Differ rows → place ≡ at + k → number_in (id_at rows k) at rows ≡ Some place
+number_first [] k at place lt apart e = absurd (omega arith)
+number_first (row ∷ rows) zero at place lt apart e =
+    let here : at ≡ place = omega arith in
+    cond_at (bytes_eq row.id row.id) (Some at) (number_in row.id (at + 1) rows) (bytes_eq_refl row.id) ∙ ap Some here
+number_first (row ∷ rows) (suc k) at place lt apart e =
+    let within : k < length rows = omega arith in
+    let far : bytes_eq (id_at rows k) row.id ≡ false = not_here row rows k within apart in
+    cond_not (bytes_eq (id_at rows k) row.id) (Some at) (number_in (id_at rows k) (at + 1) rows) far
+    ∙ number_first rows k (at + 1) place within (differ_tail row rows apart) (omega arith)
+  where
+    id_at-get : (rows : List RowView) (k : ℕ) (d : RowView) → k < length rows → id_at rows k ≡ (get_or rows k d).id
+    id_at-get [] k d lt = absurd (omega arith)
+    id_at-get (r ∷ rs) zero d lt = refl
+    id_at-get (r ∷ rs) (suc k) d lt = id_at-get rs k d (omega arith)
+
+    not_here : (row : RowView) (rows : List RowView) (k : ℕ) → k < length rows → AllPairs Differ (row ∷ rows) → bytes_eq (id_at rows k) row.id ≡ false
+    not_here row rows k lt apart =
+        let dec = bytes_eq-Decides (id_at rows k) row.id in
+        let other = apart 0 (suc k) row (omega arith) (omega arith) in
+        no_equal (bytes_eq (id_at rows k) row.id) (λ e. other (sym (dec.0 e) ∙ id_at-get rows k row lt))
+
+number_after : (rows : List RowView) (from k at start place : ℕ) → from ≤ k → k < length rows → AllPairs Differ rows → start ≡ at + from → place ≡ at + k
+    → number_in (id_at rows k) start (drop from rows) ≡ Some place
+number_after rows zero k at start place le lt apart s e = number_first rows k start place lt apart (omega arith)
+number_after [] (suc from) k at start place le lt apart s e = absurd (omega arith)
+number_after (row ∷ rows) (suc from) zero at start place le lt apart s e = absurd (omega arith)
+number_after (row ∷ rows) (suc from) (suc k) at start place le lt apart s e =
+    number_after rows from k (suc at) start place (omega arith) (omega arith) (differ_tail row rows apart) (omega arith) (omega arith)
+
+number_there : (d : DraftView) (k : ℕ) → d.from ≤ k → k < length d.rows → AllPairs Differ d.rows → number_of (id_at d.rows k) d ≡ Some k
+unfolding number_of
+number_there d k le lt apart = number_after d.rows d.from k 0 d.from k le lt apart (omega arith) (omega arith)
+
+pub take_short : (d : DraftView) (k : ℕ) → d.from ≤ k → k < length d.rows → AllPairs Differ d.rows
+    → with_member d (number_of (id_at d.rows k) d) ≡ Some (record d { stage = Named; members = d.members ++ k ∷ []; from = k + 1 })
+take_short d k le lt apart = ap (with_member d) (number_there d k le lt apart)
+
+run_shorts : (rows : List RowView) (done : List ℕ) (from : ℕ) (more : List ℕ) (ls : List LineView) → AreRising rows from more → AllPairs Differ rows
+    → run (named rows done from) (short_lines rows more ++ ls) ≡ run (named rows (done ++ more) (row_after from more)) ls
+run_shorts rows done from [] ls r apart = ap (λ ms. run (named rows ms from) ls) (sym (append-nil done))
+run_shorts rows done from (k ∷ more) ls r apart =
+    run_step (named rows done from) (named rows (done ++ k ∷ []) (k + 1)) (ShortLine (id_at rows k)) (short_lines rows more ++ ls) (take_short (named rows done from) k r.0 r.1 apart)
+    ∙ run_shorts rows (done ++ k ∷ []) (k + 1) more ls r.2 apart
+    ∙ ap (λ ms. run (named rows ms (row_after (k + 1) more)) ls) (append_assoc done (k ∷ []) more)
+
+run_shortage : (rows : List RowView) (members : List ℕ) → 0 < length members → AreRising rows 0 members → AllPairs Differ rows
+    → run (body rows [] [] []) (short_lines rows members ++ EndLine ∷ []) ≡ Some (shown rows members (row_after 0 members))
+run_shortage rows [] some r apart = absurd (omega arith)
+run_shortage rows (k ∷ more) some r apart =
+    run_step (body rows [] [] []) (named rows (k ∷ []) (k + 1)) (ShortLine (id_at rows k)) (short_lines rows more ++ EndLine ∷ []) (take_short (body rows [] [] []) k r.0 r.1 apart)
+    ∙ run_shorts rows (k ∷ []) (k + 1) more (EndLine ∷ []) r.2 apart
+
 -- the draft that the certificate's lines make
 abbrev pub ended_of : Certificate → DraftView
 ended_of (Plan rows sets prices total) = ended rows sets prices total
+ended_of (Short rows members) = shown rows members (row_after 0 members)
 
 pub run-lines_of : (c : Certificate) → CanBeText c → run empty_draft (lines_of c) ≡ Some (ended_of c)
 run-lines_of (Plan rows sets prices total) h =
@@ -137,3 +230,6 @@ run-lines_of (Plan rows sets prices total) h =
     ∙ run_holds rows [] rows [] sets [] prices.values last refl refl h.sets_len h.values_len
     ∙ run_prices rows sets prices.values [] prices.of_cpu end h.sets_len
     ∙ run_end rows sets prices total h.sets_len
+run-lines_of (Short rows members) h =
+    run_rows [] rows (short_lines rows members ++ EndLine ∷ []) h.apart
+    ∙ run_shortage rows members h.some (rising_from rows 0 members (AllPairs-from_increasing members h.rising) (λ k d lt. omega arith) h.there) h.apart

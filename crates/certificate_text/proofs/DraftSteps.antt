@@ -1,22 +1,24 @@
 -- What a draft holds is what its lines say.
-use Rattle.std.proofs.Common.{◌≡◌, ℕ, ◌<◌, ◌≤◌, ◌⊎◌, inl, inr, Bool, true, false, not, ◌&&◌, ◌++◌, List, [], ◌∷◌, map, length, Option, Some, None, refl, sym, ap, ◌∙◌, subst, arith, length-append}
+use Rattle.std.proofs.Common.{◌≡◌, ℕ, zero, suc, ◌+◌, ◌<◌, ◌≤◌, ◌⊎◌, inl, inr, Bool, true, false, not, ◌&&◌, ◌++◌, cond, List, [], ◌∷◌, map, length, drop, length-drop, Option, Some, None, refl, sym, ap, ◌∙◌, subst, arith, length-append}
 use Rattle.std.specs.Prelude.{◌==◌, slice_get}
 use Rattle.std.specs.List.{All, AllPairs}
 use Rattle.std.proofs.lemmas.Bool.{false≢true}
 use Rattle.std.proofs.lemmas.Bool.Decides.{nat_tests}
 use Rattle.std.proofs.lemmas.Slice.Eq.{bytes_eq-Decides}
-use Rattle.std.proofs.lemmas.Option.{cond_some, same_Some, slice_get_within}
+use Rattle.std.specs.Str.{bytes_eq}
+use Rattle.std.proofs.lemmas.List.Quantifiers.{all_pairs_push}
+use Rattle.std.proofs.lemmas.Option.{cond_some, same_Some, slice_get_within, none-some}
 use Rattle.std.proofs.lemmas.List.{map-append, append-nil, append_assoc}
 use Rattle.std.proofs.lemmas.List.Elements.{All-push}
 use Rattle.cpu_set.specs.Ids.{Ids}
 use Rattle.certificate.specs.RowView.{RowView}
 use Rattle.certificate.specs.declared.price_lists.Price.{Price}
-use Rattle.certificate_text.specs.declared.draft.Stage.{Stage}
-use Rattle.certificate_text.specs.declared.draft.Stage.TheVariants.{Start, Body, Totalled, Ended}
+use Rattle.certificate_text.specs.declared.stage.Stage.{Stage}
+use Rattle.certificate_text.specs.declared.stage.Stage.TheVariants.{Start, Body, Totalled, Planned, Named, Shown}
 use Rattle.certificate_text.specs.IdWord.{IsId}
-use Rattle.certificate_text.specs.Line.{LineView, HeaderLine, RowLine, HoldLine, PriceLine, TotalLine, EndLine, Spells}
-use Rattle.certificate_text.specs.CertificateText.{hold_lines}
-use Rattle.certificate_text.specs.DraftView.{DraftView, has_id, is_id_of, has_only_rows, is_held, next_in_body, next_at, next}
+use Rattle.certificate_text.specs.Line.{LineView, HeaderLine, RowLine, HoldLine, PriceLine, TotalLine, ShortLine, EndLine, Spells}
+use Rattle.certificate_text.specs.CertificateText.{hold_lines, id_at, short_lines}
+use Rattle.certificate_text.specs.DraftView.{DraftView, has_id, is_id_of, has_no_plan, is_held, number_in, number_of, with_member, next_in_body, next_at, next}
 use Rattle.certificate_text.proofs.RowIds.{IsNew, Differ, new_from_has_id, differ_more}
 
 -- the header and the lines of the body, as far as they have been read
@@ -27,7 +29,9 @@ abbrev pub lines_at : Stage → DraftView → List LineView
 lines_at Start d = []
 lines_at Body d = body_lines d.rows d.sets d.values d.prices
 lines_at Totalled d = body_lines d.rows d.sets d.values d.prices ++ TotalLine d.total ∷ []
-lines_at Ended d = body_lines d.rows d.sets d.values d.prices ++ (TotalLine d.total ∷ EndLine ∷ [])
+lines_at Planned d = body_lines d.rows d.sets d.values d.prices ++ (TotalLine d.total ∷ EndLine ∷ [])
+lines_at Named d = HeaderLine ∷ (map RowLine d.rows ++ short_lines d.rows d.members)
+lines_at Shown d = HeaderLine ∷ (map RowLine d.rows ++ (short_lines d.rows d.members ++ EndLine ∷ []))
 
 -- sets and values go together, for the first rows; prices come after all of them
 pub record IsOrdered (rows : List RowView) (sets : List Ids) (values : List ℕ) (prices : List Price) : Type 0 where
@@ -43,11 +47,26 @@ pub record IsNothing (rows : List RowView) (sets : List Ids) (values : List ℕ)
   pub no_values : values ≡ []
   pub no_prices : prices ≡ []
 
+-- no member has been named
+pub record IsUnnamed (members : List ℕ) (from : ℕ) : Type 0 where
+  pub no_members : members ≡ []
+  pub from_first : from ≡ 0
+
+-- members rise, and are rows before the one from which on the next is sought
+pub record IsNamed (rows : List RowView) (members : List ℕ) (from : ℕ) : Type 0 where
+  pub rising : AllPairs (λ j k. j < k) members
+  pub below : All (λ k. k < from) members
+  pub within : from ≤ length rows
+  pub apart : AllPairs Differ rows
+  pub some : 0 < length members
+
 abbrev pub IsRightAt : Stage → DraftView → Type 0
-IsRightAt Start d = IsNothing d.rows d.sets d.values d.prices
-IsRightAt Body d = IsOrdered d.rows d.sets d.values d.prices
+IsRightAt Start d = IsNothing d.rows d.sets d.values d.prices × IsUnnamed d.members d.from
+IsRightAt Body d = IsOrdered d.rows d.sets d.values d.prices × IsUnnamed d.members d.from
 IsRightAt Totalled d = IsOrdered d.rows d.sets d.values d.prices × (length d.sets ≡ length d.rows)
-IsRightAt Ended d = IsOrdered d.rows d.sets d.values d.prices × (length d.sets ≡ length d.rows)
+IsRightAt Planned d = IsOrdered d.rows d.sets d.values d.prices × (length d.sets ≡ length d.rows)
+IsRightAt Named d = IsNamed d.rows d.members d.from
+IsRightAt Shown d = IsNamed d.rows d.members d.from
 
 no_holds : (rows : List RowView) (values : List ℕ) → hold_lines rows [] values ≡ []
 no_holds [] values = refl
@@ -168,47 +187,141 @@ pub record Stepped (stage : Stage) (d : DraftView) (l : LineView) (now : Stage) 
   pub right : IsRightAt now e
   pub lines : lines_at now e ≡ lines_at stage d ++ l ∷ []
 
-body_step : (d : DraftView) (l : LineView) (line : List ℕ) (e : DraftView) → IsOrdered d.rows d.sets d.values d.prices → d.stage ≡ Body → Spells line l
+-- the number that was found is that of a row of this id
+number_is : (id : List ℕ) (n : ℕ) (rows : List RowView) (k : ℕ) → number_in id n rows ≡ Some k
+    → (i : ℕ) × (k ≡ n + i) × (i < length rows) × (id ≡ id_at rows i)
+number_is id n [] k h = absurd (none-some k h)
+number_is id n (row ∷ rows) k h = at (bytes_eq id row.id) refl h (λ g. number_is id (n + 1) rows k g) where
+  at : (b : Bool) → bytes_eq id row.id ≡ b → cond b (Some n) (number_in id (n + 1) rows) ≡ Some k
+      → (number_in id (n + 1) rows ≡ Some k → (i : ℕ) × (k ≡ n + 1 + i) × (i < length rows) × (id ≡ id_at rows i))
+      → (i : ℕ) × (k ≡ n + i) × (i < length (row ∷ rows)) × (id ≡ id_at (row ∷ rows) i)
+  at true e g more =
+      let dec = bytes_eq-Decides id row.id in
+      let same : n ≡ k = same_Some n k g in
+      (0, omega arith, omega arith, dec.0 e)
+  at false e g more =
+      let p = more g in
+      let place : k ≡ n + 1 + p.0 = p.1 in
+      let lt : p.0 < length rows = p.2 in
+      (suc p.0, omega arith, omega arith, p.3)
+
+id_at-drop : (rows : List RowView) (n i place : ℕ) → place ≡ n + i → id_at (drop n rows) i ≡ id_at rows place
+id_at-drop rows zero i place e = ap (id_at rows) (omega arith)
+id_at-drop [] (suc n) i zero e = absurd (omega arith)
+id_at-drop [] (suc n) zero (suc place) e = refl
+id_at-drop [] (suc n) (suc i) (suc place) e = refl
+id_at-drop (row ∷ rows) (suc n) i zero e = absurd (omega arith)
+id_at-drop (row ∷ rows) (suc n) i (suc place) e = id_at-drop rows n i place (omega arith)
+
+pub record IsNext (rows : List RowView) (from k : ℕ) (id : List ℕ) : Type 0 where
+  pub after : from ≤ k
+  pub within : k < length rows
+  pub id_is : id ≡ id_at rows k
+
+next_is : (d : DraftView) (id : List ℕ) (k : ℕ) → number_of id d ≡ Some k → IsNext d.rows d.from k id
+unfolding number_of
+next_is d id k h =
+    let p = number_is id d.from (drop d.from d.rows) k h in
+    let place : k ≡ d.from + p.0 = p.1 in
+    let lt : p.0 < length (drop d.from d.rows) = p.2 in
+    let below : k < length d.rows = omega (arith, place, lt, length-drop d.from d.rows) in
+    record { after = omega arith; within = below; id_is = p.3 ∙ id_at-drop d.rows d.from p.0 k place }
+
+named_more : (rows : List RowView) (members : List ℕ) (from k : ℕ) (id : List ℕ) → AllPairs (λ i j. i < j) members → All (λ j. j < from) members
+    → AllPairs Differ rows → IsNext rows from k id → IsNamed rows (members ++ k ∷ []) (k + 1)
+named_more rows members from k id rising below apart n =
+    let after : from ≤ k = n.after in
+    let within : k < length rows = n.within in
+    record {
+      rising = all_pairs_push (λ i j. i < j) members k rising (λ j d lt. let b = below j d lt in omega (arith, b));
+      below = All-push (λ j. j < k + 1) members k (λ j d lt. let b = below j d lt in omega (arith, b)) (omega arith);
+      within = omega arith;
+      apart = apart;
+      some = simp length-append (omega arith);
+    }
+
+shorts_more : (rows : List RowView) (members : List ℕ) (k : ℕ) (id : List ℕ) → id ≡ id_at rows k
+    → short_lines rows (members ++ k ∷ []) ≡ short_lines rows members ++ ShortLine id ∷ []
+shorts_more rows members k id e = map-append (λ j. ShortLine (id_at rows j)) members (k ∷ []) ∙ ap (λ x. short_lines rows members ++ ShortLine x ∷ []) (sym e)
+
+-- the first member
+first_line : (rows : List RowView) (sets : List Ids) (values : List ℕ) (prices : List Price) (members : List ℕ) (k : ℕ) (id : List ℕ) → sets ≡ [] → prices ≡ [] → members ≡ []
+    → id ≡ id_at rows k
+    → HeaderLine ∷ (map RowLine rows ++ short_lines rows (members ++ k ∷ [])) ≡ body_lines rows sets values prices ++ ShortLine id ∷ []
+first_line rows sets values prices members k id e f g h =
+    let none : hold_lines rows [] values ≡ [] = no_holds rows values in
+    let whole : map RowLine rows ++ short_lines rows (members ++ k ∷ []) ≡ (map RowLine rows ++ (hold_lines rows sets values ++ map PriceLine prices)) ++ ShortLine id ∷ [] =
+    rw (e, f, g, none, h) (ap (λ l. l ++ ShortLine (id_at rows k) ∷ []) (sym (append-nil (map RowLine rows)))) in
+    ap (λ ls. HeaderLine ∷ ls) whole
+
+cond_is : {A : Type 0} (b : Bool) (o : Option A) (e : A) → cond b o None ≡ Some e → (b ≡ true) × (o ≡ Some e)
+cond_is true o e h = (refl, h)
+cond_is false o e h = absurd (none-some e h)
+
+-- the draft with one member more
+pub record IsMember (d : DraftView) (id : List ℕ) (e : DraftView) : Type 0 where
+  pub k : ℕ
+  pub number_is : number_of id d ≡ Some k
+  pub draft_is : record d { stage = Named; members = d.members ++ k ∷ []; from = k + 1 } ≡ e
+
+member_is : (d : DraftView) (id : List ℕ) (e : DraftView) → with_member d (number_of id d) ≡ Some e → IsMember d id e
+member_is d id e h = at (number_of id d) refl h where
+  at : (o : Option ℕ) → number_of id d ≡ o → with_member d o ≡ Some e → IsMember d id e
+  at None n g = absurd (none-some e g)
+  at (Some k) n g = record { k = k; number_is = n; draft_is = same_Some (record d { stage = Named; members = d.members ++ k ∷ []; from = k + 1 }) e g }
+
+body_step : (d : DraftView) (l : LineView) (line : List ℕ) (e : DraftView) → IsOrdered d.rows d.sets d.values d.prices → IsUnnamed d.members d.from → d.stage ≡ Body → Spells line l
     → next_in_body d l ≡ Some e → Stepped Body d l e.stage e
-body_step d HeaderLine line e o b s h = absurd (grind arith)
-body_step d EndLine line e o b s h = absurd (grind arith)
-body_step d (RowLine row) line e o b s h =
+body_step d HeaderLine line e o u b s h = absurd (grind arith)
+body_step d EndLine line e o u b s h = absurd (grind arith)
+body_step d (ShortLine id) line e o u b s h =
+    let p = cond_is (has_no_plan d) (with_member d (number_of id d)) e h in
+    let none = and_true (length d.sets == 0) (length d.prices == 0) p.0 in
+    let m = member_is d id e p.1 in
+    let n = next_is d id m.k m.number_is in
+    let f : DraftView = record d { stage = Named; members = d.members ++ m.k ∷ []; from = m.k + 1 } in
+    let done : Stepped Body d (ShortLine id) Named f = record {
+      right = named_more d.rows d.members d.from m.k id (rw u.no_members (λ i j x lt long. absurd (omega arith))) (rw u.no_members (λ j x lt. absurd (omega arith))) o.apart n;
+      lines = first_line d.rows d.sets d.values d.prices d.members m.k id (no_length d.sets none.0) (no_length d.prices none.1) u.no_members n.id_is;
+    } in
+    subst (λ (g : DraftView). Stepped Body d (ShortLine id) g.stage g) m.draft_is done
+body_step d (RowLine row) line e o u b s h =
     let f : DraftView = record d { rows = d.rows ++ row ∷ [] } in
-    let p = cond_some (has_only_rows d && not (has_id row.id d.rows)) f e h in
-    let tests = and_true (has_only_rows d) (not (has_id row.id d.rows)) p.0 in
+    let p = cond_some (has_no_plan d && not (has_id row.id d.rows)) f e h in
+    let tests = and_true (has_no_plan d) (not (has_id row.id d.rows)) p.0 in
     let only = and_true (length d.sets == 0) (length d.prices == 0) tests.0 in
     let no_sets : d.sets ≡ [] = no_length d.sets only.0 in
     let no_prices : d.prices ≡ [] = no_length d.prices only.1 in
     let new = new_from_has_id row.id d.rows (not_is_true (has_id row.id d.rows) tests.1) in
     let done : Stepped Body d (RowLine row) Body f = record {
-      right = ordered_row d.rows d.sets d.values d.prices row o no_prices new s.2.id_is;
+      right = (ordered_row d.rows d.sets d.values d.prices row o no_prices new s.2.id_is, u);
       lines = rows_line d.rows d.sets d.values d.prices row no_sets no_prices;
     } in
     let at : Stepped Body d (RowLine row) f.stage f = subst (λ (stage : Stage). Stepped Body d (RowLine row) stage f) (sym b) done in
     subst (λ (g : DraftView). Stepped Body d (RowLine row) g.stage g) p.1 at
-body_step d (HoldLine id cpus value) line e o b s h =
+body_step d (HoldLine id cpus value) line e o u b s h =
     let f : DraftView = record d { sets = d.sets ++ cpus ∷ []; values = d.values ++ value ∷ [] } in
     let p = cond_some (is_id_of id (slice_get d.rows (length d.sets))) f e h in
     let at_row = is_id_of_true id (slice_get d.rows (length d.sets)) p.0 in
     let row : RowView = at_row.0 in
     let none = no_prices_yet d.rows d.sets d.values d.prices row o at_row.1 in
     let done : Stepped Body d (HoldLine id cpus value) Body f = record {
-      right = ordered_hold d.rows d.sets d.values d.prices row cpus value o at_row.1;
+      right = (ordered_hold d.rows d.sets d.values d.prices row cpus value o at_row.1, u);
       lines = rw at_row.2 (holds_line d.rows d.sets d.values d.prices row cpus value at_row.1 o.values_len none);
     } in
     let at : Stepped Body d (HoldLine id cpus value) f.stage f = subst (λ (stage : Stage). Stepped Body d (HoldLine id cpus value) stage f) (sym b) done in
     subst (λ (g : DraftView). Stepped Body d (HoldLine id cpus value) g.stage g) p.1 at
-body_step d (PriceLine price) line e o b s h =
+body_step d (PriceLine price) line e o u b s h =
     let f : DraftView = record d { prices = d.prices ++ price ∷ [] } in
     let p = cond_some (is_held d) f e h in
     let all = held d p.0 in
     let done : Stepped Body d (PriceLine price) Body f = record {
-      right = ordered_price d.rows d.sets d.values d.prices (d.prices ++ price ∷ []) o all;
+      right = (ordered_price d.rows d.sets d.values d.prices (d.prices ++ price ∷ []) o all, u);
       lines = prices_line d.rows d.sets d.values d.prices price;
     } in
     let at : Stepped Body d (PriceLine price) f.stage f = subst (λ (stage : Stage). Stepped Body d (PriceLine price) stage f) (sym b) done in
     subst (λ (g : DraftView). Stepped Body d (PriceLine price) g.stage g) p.1 at
-body_step d (TotalLine total) line e o b s h =
+body_step d (TotalLine total) line e o u b s h =
     let f : DraftView = record d { stage = Totalled; total = total } in
     let p = cond_some (is_held d) f e h in
     let all = held d p.0 in
@@ -234,18 +347,36 @@ step_at Start d HeaderLine line e b r s h =
     let f : DraftView = record d { stage = Body } in
     let same : f ≡ e = same_Some f e h in
     let done : Stepped Start d HeaderLine Body f =
-    record { right = nothing_ordered d.rows d.sets d.values d.prices r; lines = nothing_line d.rows d.sets d.values d.prices r } in
+    record { right = (nothing_ordered d.rows d.sets d.values d.prices r.0, r.1); lines = nothing_line d.rows d.sets d.values d.prices r.0 } in
     subst (λ (g : DraftView). Stepped Start d HeaderLine g.stage g) same done
-step_at Body d l line e b r s h = body_step d l line e r b s h
+step_at Body d l line e b r s h = body_step d l line e r.0 r.1 b s h
 step_at Totalled d EndLine line e b r s h =
-    let f : DraftView = record d { stage = Ended } in
+    let f : DraftView = record d { stage = Planned } in
     let same : f ≡ e = same_Some f e h in
     let body = body_lines d.rows d.sets d.values d.prices in
-    let done : Stepped Totalled d EndLine Ended f = record { right = r; lines = sym (append_assoc body (TotalLine d.total ∷ []) (EndLine ∷ [])) } in
+    let done : Stepped Totalled d EndLine Planned f = record { right = r; lines = sym (append_assoc body (TotalLine d.total ∷ []) (EndLine ∷ [])) } in
     subst (λ (g : DraftView). Stepped Totalled d EndLine g.stage g) same done
+step_at Named d (ShortLine id) line e b r s h =
+    let m = member_is d id e h in
+    let n = next_is d id m.k m.number_is in
+    let f : DraftView = record d { stage = Named; members = d.members ++ m.k ∷ []; from = m.k + 1 } in
+    let more = ap (λ l. map RowLine d.rows ++ l) (shorts_more d.rows d.members m.k id n.id_is) ∙ sym (append_assoc (map RowLine d.rows) (short_lines d.rows d.members) (ShortLine id ∷ [])) in
+    let done : Stepped Named d (ShortLine id) Named f = record {
+      right = named_more d.rows d.members d.from m.k id r.rising r.below r.apart n;
+      lines = ap (λ ls. HeaderLine ∷ ls) more;
+    } in
+    subst (λ (g : DraftView). Stepped Named d (ShortLine id) g.stage g) m.draft_is done
+step_at Named d EndLine line e b r s h =
+    let f : DraftView = record d { stage = Shown } in
+    let same : f ≡ e = same_Some f e h in
+    let more = sym (append_assoc (map RowLine d.rows) (short_lines d.rows d.members) (EndLine ∷ [])) in
+    let done : Stepped Named d EndLine Shown f = record { right = r; lines = ap (λ ls. HeaderLine ∷ ls) more } in
+    subst (λ (g : DraftView). Stepped Named d EndLine g.stage g) same done
 step_at Start d l line e b r s h = absurd (grind arith)
 step_at Totalled d l line e b r s h = absurd (grind arith)
-step_at Ended d l line e b r s h = absurd (grind arith)
+step_at Planned d l line e b r s h = absurd (grind arith)
+step_at Named d l line e b r s h = absurd (grind arith)
+step_at Shown d l line e b r s h = absurd (grind arith)
 
 pub step : (d : DraftView) (l : LineView) (line : List ℕ) (e : DraftView) → IsRightAt d.stage d → Spells line l → next d l ≡ Some e → Stepped d.stage d l e.stage e
 step d l line e r s h = step_at d.stage d l line e refl r s h

@@ -1,18 +1,19 @@
 -- What a draft that some lines make says of the certificates that begin with them.
-use Rattle.std.proofs.Common.{◌≡◌, ℕ, ◌++◌, List, [], ◌∷◌, map, Some, refl, sym, ap, ◌∙◌, subst}
-use Rattle.std.specs.List.{AllZip}
-use Rattle.std.proofs.lemmas.Option.{option_and_then_some, same_Some}
+use Rattle.std.proofs.Common.{◌≡◌, ℕ, ◌+◌, ◌<◌, ◌≤◌, ◌++◌, List, [], ◌∷◌, map, length, Some, refl, sym, ap, ◌∙◌, subst, arith}
+use Rattle.std.specs.List.{All, AllPairs, AllZip}
+use Rattle.std.specs.List.Sorted.{IsStrictlyIncreasing}
+use Rattle.std.proofs.lemmas.Option.{option_and_then_some, same_Some, none-some}
 use Rattle.std.proofs.lemmas.List.{append-nil, append_assoc, append_cancel_right}
 use Rattle.certificate_text.specs.declared.certificates.Certificate.{Certificate}
-use Rattle.certificate_text.specs.declared.certificates.Certificate.TheVariants.{Plan}
-use Rattle.certificate_text.specs.declared.draft.Stage.{Stage}
-use Rattle.certificate_text.specs.declared.draft.Stage.TheVariants.{Ended}
+use Rattle.certificate_text.specs.declared.certificates.Certificate.TheVariants.{Plan, Short}
+use Rattle.certificate_text.specs.declared.stage.Stage.{Stage}
+use Rattle.certificate_text.specs.declared.stage.Stage.TheVariants.{Start, Body, Totalled, Planned, Named, Shown}
 use Rattle.certificate_text.specs.Line.{LineView, HeaderLine, RowLine, PriceLine, TotalLine, EndLine, Spells}
 use Rattle.certificate_text.specs.CertificateText.{IsText, hold_lines, lines_of, AreLines}
 use Rattle.certificate_text.specs.Begun.{run, IsBegun}
-use Rattle.certificate_text.specs.Finished.{said_by}
+use Rattle.certificate_text.specs.Finished.{plan_of, shortage_of, finished, finished_at}
 use Rattle.certificate_text.specs.DraftView.{DraftView, next, empty_draft}
-use Rattle.certificate_text.proofs.DraftSteps.{IsRightAt, lines_at, step}
+use Rattle.certificate_text.proofs.DraftSteps.{IsRightAt, IsNamed, lines_at, step}
 use Rattle.certificate_text.proofs.DraftLines.{ended_of, run-lines_of}
 use Rattle.certificate_text.proofs.SpelledOnce.{spelled_once}
 use Rattle.certificate_text.proofs.Zips.{zip_once}
@@ -38,32 +39,49 @@ run_holds d before (l ∷ ls) [] e h s r = absurd s
 
 pub begun_holds : (ls : List (List ℕ)) (d : DraftView) (b : IsBegun ls d) → Holds d b.said
 begun_holds ls d b =
-    let start : Holds empty_draft [] = record { right = record { no_rows = refl; no_sets = refl; no_values = refl; no_prices = refl }; lines = refl } in
+    let start : Holds empty_draft [] = record { right = (record { no_rows = refl; no_sets = refl; no_values = refl; no_prices = refl }, record { no_members = refl; from_first = refl }); lines = refl } in
     run_holds empty_draft [] b.said ls d start b.spelled b.run_is
 
 regroup : {A : Type 0} (a h p x : List A) → (a ++ (h ++ p)) ++ x ≡ a ++ (h ++ (p ++ x))
 regroup a h p x = append_assoc a (h ++ p) x ∙ ap (λ l. a ++ l) (append_assoc h p x)
 
-lines_of_ended : (d : DraftView) → lines_at Ended d ≡ lines_of (said_by d)
-lines_of_ended d =
+lines_of_plan : (d : DraftView) → lines_at Planned d ≡ lines_of (plan_of d)
+lines_of_plan d =
     let whole = regroup (map RowLine d.rows) (hold_lines d.rows d.sets d.values) (map PriceLine d.prices) (TotalLine d.total ∷ EndLine ∷ []) in
     ap (λ ls. HeaderLine ∷ ls) whole
 
-ended_lines : (ls : List (List ℕ)) (d : DraftView) (said : List LineView) → IsRightAt Ended d → lines_at Ended d ≡ said → AllZip Spells ls said → AreLines ls (said_by d)
-ended_lines ls d said right lines spelled =
-    let same : said ≡ lines_of (said_by d) = sym lines ∙ lines_of_ended d in
-    record {
+-- the lines of an ended draft are those of its certificate
+ended_lines : (stage : Stage) (ls : List (List ℕ)) (d : DraftView) (said : List LineView) (c : Certificate) → IsRightAt stage d → lines_at stage d ≡ said
+    → AllZip Spells ls said → finished_at stage d ≡ Some c → AreLines ls c
+ended_lines Planned ls d said c right lines spelled f =
+    let same : said ≡ lines_of (plan_of d) = sym lines ∙ lines_of_plan d in
+    let done : AreLines ls (plan_of d) = record {
       can = record { sets_len = right.1; values_len = right.0.values_len ∙ right.1; apart = right.0.apart };
       spelled = subst (λ (k : List LineView). AllZip Spells ls k) same spelled;
-    }
+    } in
+    subst (λ (k : Certificate). AreLines ls k) (same_Some (plan_of d) c f) done
+ended_lines Shown ls d said c right lines spelled f =
+    let done : AreLines ls (shortage_of d) = record {
+      can = record { some = right.some; rising = increasing d.members right.rising; there = below d.members d.from (length d.rows) right.below right.within; apart = right.apart };
+      spelled = subst (λ (k : List LineView). AllZip Spells ls k) (sym lines) spelled;
+    } in
+    subst (λ (k : Certificate). AreLines ls k) (same_Some (shortage_of d) c f) done
+  where
+    increasing : (ks : List ℕ) → AllPairs (λ j k. j < k) ks → IsStrictlyIncreasing ks
+    increasing ks h k within = h k (k + 1) 0 (omega arith) within
+
+    below : (ks : List ℕ) (m n : ℕ) → All (λ k. k < m) ks → m ≤ n → All (λ k. k < n) ks
+    below ks m n h le = λ k d lt. let b = h k d lt in omega (arith, b, le)
+ended_lines Start ls d said c right lines spelled f = absurd (none-some c f)
+ended_lines Body ls d said c right lines spelled f = absurd (none-some c f)
+ended_lines Totalled ls d said c right lines spelled f = absurd (none-some c f)
+ended_lines Named ls d said c right lines spelled f = absurd (none-some c f)
 
 -- what lines make an ended draft are those of its certificate
-pub begun_ended : (ls : List (List ℕ)) (d : DraftView) → IsBegun ls d → d.stage ≡ Ended → AreLines ls (said_by d)
-begun_ended ls d b ended =
+pub begun_ended : (ls : List (List ℕ)) (d : DraftView) (c : Certificate) → IsBegun ls d → finished d ≡ Some c → AreLines ls c
+begun_ended ls d c b f =
     let h = begun_holds ls d b in
-    let right : IsRightAt Ended d = subst (λ (s : Stage). IsRightAt s d) ended h.right in
-    let lines : lines_at Ended d ≡ b.said = ap (λ (s : Stage). lines_at s d) (sym ended) ∙ h.lines in
-    ended_lines ls d b.said right lines b.spelled
+    ended_lines d.stage ls d b.said c h.right h.lines b.spelled f
 
 -- the lines of a certificate make its draft
 pub lines_begun : (ls : List (List ℕ)) (c : Certificate) → AreLines ls c → IsBegun ls (ended_of c)
@@ -75,13 +93,14 @@ begun_once ls d e a b =
     let same : a.said ≡ b.said = zip_once Spells spelled_once ls a.said b.said a.spelled b.spelled in
     same_Some d e (sym a.run_is ∙ ap (run empty_draft) same ∙ b.run_is)
 
-said_by_ended : (c : Certificate) → said_by (ended_of c) ≡ c
-said_by_ended (Plan rows sets prices total) = refl
+pub finished-ended : (c : Certificate) → finished (ended_of c) ≡ Some c
+finished-ended (Plan rows sets prices total) = refl
+finished-ended (Short rows members) = refl
 
 pub lines_once : (ls : List (List ℕ)) (c d : Certificate) → AreLines ls c → AreLines ls d → c ≡ d
 lines_once ls c d a b =
     let same = begun_once ls (ended_of c) (ended_of d) (lines_begun ls c a) (lines_begun ls d b) in
-    sym (said_by_ended c) ∙ ap said_by same ∙ said_by_ended d
+    same_Some c d (sym (finished-ended c) ∙ ap finished same ∙ finished-ended d)
 
 pub one_certificate : (text : List ℕ) (c d : Certificate) → IsText text c → IsText text d → c ≡ d
 one_certificate text c d p q =

@@ -4,6 +4,8 @@ pub mod Ids
 pub mod RowIds
 pub mod Zips
 pub mod Runs
+pub mod Taking
+pub mod DraftTakes
 pub mod DraftLines
 pub mod DraftSteps
 pub mod Refusing
@@ -11,4 +13,7 @@ pub mod SpelledOnce
 pub mod Grammar
 pub mod Completing
 pub mod BadLines
+pub mod Pieces
+pub mod Texts
+pub mod Rereading
 pub mod Verdicts

@@ -1,5 +1,5 @@
--- Which kinds of line begin with which word.
-use Rattle.std.proofs.Common.{◌≡◌, ℕ, List, [], ◌∷◌, None, true, false, refl, sym, ap, ◌∙◌, arith}
+-- Which lines are spelled by no words.
+use Rattle.std.proofs.Common.{◌≡◌, ℕ, List, [], ◌∷◌, true, false, refl, sym, ap, ◌∙◌, arith}
 use Rattle.std.specs.Str.{bytes_eq}
 use Rattle.std.proofs.lemmas.Bool.{false≢true}
 use Rattle.std.proofs.lemmas.Slice.Eq.{bytes_eq-Decides}
@@ -7,90 +7,114 @@ use Rattle.std.specs.Prelude.{codes}
 use Rattle.cpu_set.specs.Ids.{Ids}
 use Rattle.certificate.specs.RowView.{RowView}
 use Rattle.certificate.specs.declared.price_lists.Price.{Price}
-use Rattle.certificate_text.specs.DraftView.{DraftView, next_in_body}
-use Rattle.certificate_text.specs.Line.{LineView, HeaderLine, RowLine, HoldLine, PriceLine, TotalLine, EndLine, words, AreRowWords, AreHoldWords, ArePriceWords, AreTotalWords, Spells}
+use Rattle.certificate_text.specs.Line.{LineView, HeaderLine, RowLine, HoldLine, PriceLine, TotalLine, ShortLine, EndLine, words, AreRowWords, AreHoldWords, ArePriceWords, AreTotalWords, Spells}
+use Rattle.certificate_text.proofs.SpelledOnce.{first_byte, kind, begins}
 
--- what the draft makes of each line with this first word and these words after it
-pub record IsRefused (d : DraftView) (kind : List ℕ) (ws : List (List ℕ)) : Type 0 where
-  pub row : kind ≡ codes "row" → (row : RowView) → AreRowWords ws row → next_in_body d (RowLine row) ≡ None
-  pub hold : kind ≡ codes "hold" → (id : List ℕ) (cpus : Ids) (value : ℕ) → AreHoldWords ws id cpus value → next_in_body d (HoldLine id cpus value) ≡ None
-  pub price : kind ≡ codes "price" → (price : Price) → ArePriceWords ws price → next_in_body d (PriceLine price) ≡ None
-  pub total : kind ≡ codes "total" → (total : ℕ) → AreTotalWords ws total → next_in_body d (TotalLine total) ≡ None
-
-pub refused : (d : DraftView) (line kind : List ℕ) (ws : List (List ℕ)) → words line ≡ kind ∷ ws → IsRefused d kind ws
-    → (l : LineView) → Spells line l → next_in_body d l ≡ None
-refused d line kind ws e r HeaderLine s = refl
-refused d line kind ws e r EndLine s = refl
-refused d line kind ws e r (RowLine row) s =
-    let same : kind ∷ ws ≡ codes "row" ∷ s.0 = sym e ∙ s.1 in
-    let first : kind ≡ codes "row" = cc in
+-- a line whose first word is that of one kind is spelled by no line of that kind, and so by none
+pub no_row : (line : List ℕ) (ws : List (List ℕ)) → words line ≡ codes "row" ∷ ws → ((row : RowView) → AreRowWords ws row → ⊥) → (l : LineView) → Spells line l → ⊥
+unfolding first_byte kind
+no_row line ws e none (RowLine row) s =
+    let same : codes "row" ∷ ws ≡ codes "row" ∷ s.0 = sym e ∙ s.1 in
     let rest : s.0 ≡ ws = cc in
-    r.row first row (rw rest at s.2)
-refused d line kind ws e r (HoldLine id cpus value) s =
-    let same : kind ∷ ws ≡ codes "hold" ∷ s.0 = sym e ∙ s.1 in
-    let first : kind ≡ codes "hold" = cc in
+    none row (rw rest at s.2)
+no_row line ws e none l s =
+    let a = begins line l s in
+    let b = ap first_byte e in
+    absurd (omega (arith, a, b))
+
+pub no_hold : (line : List ℕ) (ws : List (List ℕ)) → words line ≡ codes "hold" ∷ ws
+    → ((id : List ℕ) (cpus : Ids) (value : ℕ) → AreHoldWords ws id cpus value → ⊥) → (l : LineView) → Spells line l → ⊥
+unfolding first_byte kind
+no_hold line ws e none (HoldLine id cpus value) s =
+    let same : codes "hold" ∷ ws ≡ codes "hold" ∷ s.0 = sym e ∙ s.1 in
     let rest : s.0 ≡ ws = cc in
-    r.hold first id cpus value (rw rest at s.2)
-refused d line kind ws e r (PriceLine price) s =
-    let same : kind ∷ ws ≡ codes "price" ∷ s.0 = sym e ∙ s.1 in
-    let first : kind ≡ codes "price" = cc in
+    none id cpus value (rw rest at s.2)
+no_hold line ws e none l s =
+    let a = begins line l s in
+    let b = ap first_byte e in
+    absurd (omega (arith, a, b))
+
+pub no_price : (line : List ℕ) (ws : List (List ℕ)) → words line ≡ codes "price" ∷ ws → ((price : Price) → ArePriceWords ws price → ⊥) → (l : LineView) → Spells line l → ⊥
+unfolding first_byte kind
+no_price line ws e none (PriceLine price) s =
+    let same : codes "price" ∷ ws ≡ codes "price" ∷ s.0 = sym e ∙ s.1 in
     let rest : s.0 ≡ ws = cc in
-    r.price first price (rw rest at s.2)
-refused d line kind ws e r (TotalLine total) s =
-    let same : kind ∷ ws ≡ codes "total" ∷ s.0 = sym e ∙ s.1 in
-    let first : kind ≡ codes "total" = cc in
+    none price (rw rest at s.2)
+no_price line ws e none l s =
+    let a = begins line l s in
+    let b = ap first_byte e in
+    absurd (omega (arith, a, b))
+
+pub no_total : (line : List ℕ) (ws : List (List ℕ)) → words line ≡ codes "total" ∷ ws → ((total : ℕ) → AreTotalWords ws total → ⊥) → (l : LineView) → Spells line l → ⊥
+unfolding first_byte kind
+no_total line ws e none (TotalLine total) s =
+    let same : codes "total" ∷ ws ≡ codes "total" ∷ s.0 = sym e ∙ s.1 in
     let rest : s.0 ≡ ws = cc in
-    r.total first total (rw rest at s.2)
+    none total (rw rest at s.2)
+no_total line ws e none l s =
+    let a = begins line l s in
+    let b = ap first_byte e in
+    absurd (omega (arith, a, b))
 
--- one word alone is no line of the body
-pub refused_alone : (d : DraftView) (line : List ℕ) → words line ≡ line ∷ [] → (l : LineView) → Spells line l → next_in_body d l ≡ None
-refused_alone d line e HeaderLine s = refl
-refused_alone d line e EndLine s = refl
-refused_alone d line e (RowLine row) s =
-    let same : line ∷ [] ≡ codes "row" ∷ s.0 = sym e ∙ s.1 in
-    let none : s.0 ≡ [] = cc in
+pub no_short : (line : List ℕ) (ws : List (List ℕ)) → words line ≡ codes "short" ∷ ws → ((id : List ℕ) → ws ≡ id ∷ [] → ⊥) → (l : LineView) → Spells line l → ⊥
+unfolding first_byte kind
+no_short line ws e none (ShortLine id) s =
+    let same : codes "short" ∷ ws ≡ codes "short" ∷ s.0 = sym e ∙ s.1 in
+    let rest : s.0 ≡ ws = cc in
+    none id (rw rest at s.2)
+no_short line ws e none l s =
+    let a = begins line l s in
+    let b = ap first_byte e in
+    absurd (omega (arith, a, b))
+
+-- the line is neither the header nor the last line
+pub record IsInside (line : List ℕ) : Type 0 where
+  pub no_header : line ≡ codes "numarun-certificate 1" → ⊥
+  pub no_end : line ≡ codes "end" → ⊥
+
+-- no word behind which others stand
+pub record IsOther (first : List ℕ) : Type 0 where
+  pub row : first ≡ codes "row" → ⊥
+  pub hold : first ≡ codes "hold" → ⊥
+  pub price : first ≡ codes "price" → ⊥
+  pub total : first ≡ codes "total" → ⊥
+  pub short : first ≡ codes "short" → ⊥
+
+first_is : (line first other : List ℕ) (ws vs : List (List ℕ)) → words line ≡ first ∷ ws → words line ≡ other ∷ vs → first ≡ other
+first_is line first other ws vs e f = let same : first ∷ ws ≡ other ∷ vs = sym e ∙ f in cc
+
+-- a line with another first word is spelled by none
+pub no_kind : (line first : List ℕ) (ws : List (List ℕ)) → IsInside line → words line ≡ first ∷ ws → IsOther first → (l : LineView) → Spells line l → ⊥
+no_kind line first ws i e o HeaderLine s = i.no_header s
+no_kind line first ws i e o EndLine s = i.no_end s
+no_kind line first ws i e o (RowLine row) s = o.row (first_is line first (codes "row") ws s.0 e s.1)
+no_kind line first ws i e o (HoldLine id cpus value) s = o.hold (first_is line first (codes "hold") ws s.0 e s.1)
+no_kind line first ws i e o (PriceLine price) s = o.price (first_is line first (codes "price") ws s.0 e s.1)
+no_kind line first ws i e o (TotalLine total) s = o.total (first_is line first (codes "total") ws s.0 e s.1)
+no_kind line first ws i e o (ShortLine id) s = o.short (first_is line first (codes "short") ws s.0 e s.1)
+
+none_behind : (line other : List ℕ) (vs : List (List ℕ)) → words line ≡ line ∷ [] → words line ≡ other ∷ vs → vs ≡ []
+none_behind line other vs e f = let same : line ∷ [] ≡ other ∷ vs = sym e ∙ f in cc
+
+-- and so is one word alone
+pub no_word : (line : List ℕ) → IsInside line → words line ≡ line ∷ [] → (l : LineView) → Spells line l → ⊥
+no_word line i e HeaderLine s = i.no_header s
+no_word line i e EndLine s = i.no_end s
+no_word line i e (RowLine row) s =
+    let none = none_behind line (codes "row") s.0 e s.1 in
     absurd (let words_are = s.2.words_are in cc)
-refused_alone d line e (HoldLine id cpus value) s =
-    let same : line ∷ [] ≡ codes "hold" ∷ s.0 = sym e ∙ s.1 in
-    let none : s.0 ≡ [] = cc in
+no_word line i e (HoldLine id cpus value) s =
+    let none = none_behind line (codes "hold") s.0 e s.1 in
     absurd (let words_are = s.2.words_are in cc)
-refused_alone d line e (PriceLine price) s =
-    let same : line ∷ [] ≡ codes "price" ∷ s.0 = sym e ∙ s.1 in
-    let none : s.0 ≡ [] = cc in
+no_word line i e (PriceLine price) s =
+    let none = none_behind line (codes "price") s.0 e s.1 in
     absurd (let words_are = s.2.words_are in cc)
-refused_alone d line e (TotalLine total) s =
-    let same : line ∷ [] ≡ codes "total" ∷ s.0 = sym e ∙ s.1 in
-    let none : s.0 ≡ [] = cc in
+no_word line i e (TotalLine total) s =
+    let none = none_behind line (codes "total") s.0 e s.1 in
     absurd (let words_are = s.2.words_are in cc)
-
--- the words that lines begin with differ in their first bytes
-head : List ℕ → ℕ
-head [] = 0
-head (b ∷ bs) = b
-
-pub row_not_hold : codes "row" ≡ codes "hold" → ⊥
-unfolding head
-row_not_hold e = let h = ap head e in absurd (omega (arith, h))
-
-pub row_not_price : codes "row" ≡ codes "price" → ⊥
-unfolding head
-row_not_price e = let h = ap head e in absurd (omega (arith, h))
-
-pub row_not_total : codes "row" ≡ codes "total" → ⊥
-unfolding head
-row_not_total e = let h = ap head e in absurd (omega (arith, h))
-
-pub hold_not_price : codes "hold" ≡ codes "price" → ⊥
-unfolding head
-hold_not_price e = let h = ap head e in absurd (omega (arith, h))
-
-pub hold_not_total : codes "hold" ≡ codes "total" → ⊥
-unfolding head
-hold_not_total e = let h = ap head e in absurd (omega (arith, h))
-
-pub price_not_total : codes "price" ≡ codes "total" → ⊥
-unfolding head
-price_not_total e = let h = ap head e in absurd (omega (arith, h))
+no_word line i e (ShortLine id) s =
+    let none = none_behind line (codes "short") s.0 e s.1 in
+    absurd (let words_are = s.2 in cc)
 
 pub same_word : (kind slice word : List ℕ) → true ≡ bytes_eq kind slice → slice ≡ word → kind ≡ word
 same_word kind slice word e same = let d = bytes_eq-Decides kind slice in d.0 (sym e) ∙ same

@@ -12,7 +12,7 @@ use Rattle.certificate.specs.declared.rows.Offer.{Offer}
 use Rattle.certificate.specs.declared.price_lists.Price.{Price}
 use Rattle.certificate_text.specs.NumberWord.{IsNumber}
 use Rattle.certificate_text.specs.ListWord.{IsListWord}
-use Rattle.certificate_text.specs.Line.{LineView, HeaderLine, RowLine, HoldLine, PriceLine, TotalLine, EndLine, words, IsOfferWord, AreRowWords, AreHoldWords, ArePriceWords, AreTotalWords, Spells}
+use Rattle.certificate_text.specs.Line.{LineView, HeaderLine, RowLine, HoldLine, PriceLine, TotalLine, ShortLine, EndLine, words, IsOfferWord, AreRowWords, AreHoldWords, ArePriceWords, AreTotalWords, Spells}
 
 pub number_once : {limit : ℕ} {word : List ℕ} {m n : ℕ} → limit ≤ 2 ^ 64 → IsNumber limit word m → IsNumber limit word n → m ≡ n
 number_once {limit} {word} {m} {n} low p q =
@@ -80,27 +80,29 @@ hold_once ws id jd s t m n a b =
     cc
 
 -- the first byte of the first word
-first_byte : List (List ℕ) → ℕ
+unfoldable pub first_byte : List (List ℕ) → ℕ
 first_byte [] = 0
 first_byte ([] ∷ ws) = 0
 first_byte ((b ∷ bs) ∷ ws) = b
 
 -- the byte with which the lines of one kind begin
-kind : LineView → ℕ
+unfoldable pub kind : LineView → ℕ
 kind HeaderLine = 110
 kind (RowLine row) = 114
 kind (HoldLine id cpus value) = 104
 kind (PriceLine price) = 112
 kind (TotalLine total) = 116
+kind (ShortLine id) = 115
 kind EndLine = 101
 
-begins : (line : List ℕ) (l : LineView) → Spells line l → first_byte (words line) ≡ kind l
+pub begins : (line : List ℕ) (l : LineView) → Spells line l → first_byte (words line) ≡ kind l
 unfolding first_byte kind
 begins line HeaderLine p = ap (λ x. first_byte (words x)) p
 begins line (RowLine row) p = ap first_byte p.1
 begins line (HoldLine id cpus value) p = ap first_byte p.1
 begins line (PriceLine price) p = ap first_byte p.1
 begins line (TotalLine total) p = ap first_byte p.1
+begins line (ShortLine id) p = ap first_byte p.1
 begins line EndLine p = ap (λ x. first_byte (words x)) p
 
 pub spelled_once : (line : List ℕ) (l m : LineView) → Spells line l → Spells line m → l ≡ m
@@ -123,6 +125,12 @@ spelled_once line (TotalLine m) (TotalLine n) p q =
     let same : codes "total" ∷ p.0 ≡ codes "total" ∷ q.0 = sym p.1 ∙ q.1 in
     let ws : p.0 ≡ q.0 = cc in
     ap TotalLine (total_once p.0 m n p.2 (rw (← ws) at q.2))
+spelled_once line (ShortLine id) (ShortLine jd) p q =
+    let same : codes "short" ∷ p.0 ≡ codes "short" ∷ q.0 = sym p.1 ∙ q.1 in
+    let ws : p.0 ≡ q.0 = cc in
+    let ids : id ∷ [] ≡ jd ∷ [] = sym p.2 ∙ ws ∙ q.2 in
+    let id_is : id ≡ jd = cc in
+    ap ShortLine id_is
 spelled_once line l m p q =
     let a = begins line l p in
     let b = begins line m q in

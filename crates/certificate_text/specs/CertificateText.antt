@@ -1,11 +1,13 @@
 -- The grammar of certificate texts: which text stands for which certificate.
-use Rattle.std.specs.Prelude.{◌≡◌, ◌≢◌, ℕ, List, [], ◌∷◌, ◌++◌, map, length}
+use Rattle.std.specs.Prelude.{◌≡◌, ◌≢◌, ℕ, ◌<◌, List, [], ◌∷◌, ◌++◌, map, length, slice_get, All}
 use Rattle.std.specs.List.{AllZip, AllPairs}
+use Rattle.std.specs.List.Sorted.{IsStrictlyIncreasing}
+use Rattle.std.specs.Option.{option_map_or}
 use Rattle.cpu_set.specs.Ids.{Ids}
 use Rattle.certificate.specs.RowView.{RowView}
 use Rattle.certificate_text.specs.declared.certificates.Certificate.{Certificate}
-use Rattle.certificate_text.specs.declared.certificates.Certificate.TheVariants.{Plan}
-use Rattle.certificate_text.specs.Line.{LineView, HeaderLine, RowLine, HoldLine, PriceLine, TotalLine, EndLine, Spells}
+use Rattle.certificate_text.specs.declared.certificates.Certificate.TheVariants.{Plan, Short}
+use Rattle.certificate_text.specs.Line.{LineView, HeaderLine, RowLine, HoldLine, PriceLine, TotalLine, ShortLine, EndLine, Spells}
 use Rattle.certificate_text.specs.Parts.{parts}
 
 -- a line for each row, with the row's set and value
@@ -15,20 +17,41 @@ hold_lines [] sets values = []
 hold_lines (row ∷ rows) [] values = []
 hold_lines (row ∷ rows) (s ∷ sets) [] = []
 
+-- the id of the row of this number
+abbrev pub id_at : List RowView → ℕ → List ℕ
+id_at rows k = option_map_or (λ row. row.id) (slice_get rows k) []
+
+-- a line for each member, with its row's id
+abbrev pub short_lines : List RowView → List ℕ → List LineView
+short_lines rows members = map (λ k. ShortLine (id_at rows k)) members
+
 -- the lines of a certificate, in their order
 abbrev pub lines_of : Certificate → List LineView
 lines_of (Plan rows sets prices total) =
     HeaderLine ∷ (map RowLine rows ++ (hold_lines rows sets prices.values ++ (map PriceLine prices.of_cpu ++ (TotalLine total ∷ EndLine ∷ []))))
+lines_of (Short rows members) = HeaderLine ∷ (map RowLine rows ++ (short_lines rows members ++ EndLine ∷ []))
 
--- what a text can say: a set and a value for each row, and no two rows of one id
-pub record HasText (rows : List RowView) (sets : List Ids) (values : List ℕ) : Type 0 where
+-- no two rows have one id
+abbrev pub HaveOwnIds : List RowView → Type 0
+HaveOwnIds rows = AllPairs (λ r s. r.id ≢ s.id) rows
+
+-- what a text can say of a plan: a set and a value for each row
+pub record HasPlanText (rows : List RowView) (sets : List Ids) (values : List ℕ) : Type 0 where
   pub sets_len : length sets ≡ length rows
   pub values_len : length values ≡ length rows
-  pub apart : AllPairs (λ r s. r.id ≢ s.id) rows
+  pub apart : HaveOwnIds rows
+
+-- what a text can say of a shortage: one row or more, each after the one before
+pub record HasShortText (rows : List RowView) (members : List ℕ) : Type 0 where
+  pub some : 0 < length members
+  pub rising : IsStrictlyIncreasing members
+  pub there : All (λ k. k < length rows) members
+  pub apart : HaveOwnIds rows
 
 -- the same of a certificate
 abbrev pub CanBeText : Certificate → Type 0
-CanBeText (Plan rows sets prices total) = HasText rows sets prices.values
+CanBeText (Plan rows sets prices total) = HasPlanText rows sets prices.values
+CanBeText (Short rows members) = HasShortText rows members
 
 -- these lines, as text, are those of the certificate
 pub record AreLines (ls : List (List ℕ)) (c : Certificate) : Type 0 where

@@ -1,21 +1,26 @@
 -- The certificate of a draft to which nothing can be added.
 use Rattle.std.specs.Prelude.{Option, Some, None}
 use Rattle.certificate_text.specs.declared.certificates.Certificate.{Certificate}
-use Rattle.certificate_text.specs.declared.certificates.Certificate.TheVariants.{Plan}
-use Rattle.certificate_text.specs.declared.draft.Stage.{Stage}
-use Rattle.certificate_text.specs.declared.draft.Stage.TheVariants.{Start, Body, Totalled, Ended}
+use Rattle.certificate_text.specs.declared.certificates.Certificate.TheVariants.{Plan, Short}
+use Rattle.certificate_text.specs.declared.stage.Stage.{Stage}
+use Rattle.certificate_text.specs.declared.stage.Stage.TheVariants.{Start, Body, Totalled, Planned, Named, Shown}
 use Rattle.certificate_text.specs.DraftView.{DraftView}
 
--- what the draft says
-abbrev pub said_by : DraftView → Certificate
-said_by d = Plan d.rows d.sets (record { values = d.values; of_cpu = d.prices }) d.total
+-- what a draft of a plan says, and one of a shortage
+abbrev pub plan_of : DraftView → Certificate
+plan_of d = Plan d.rows d.sets (record { values = d.values; of_cpu = d.prices }) d.total
+
+abbrev pub shortage_of : DraftView → Certificate
+shortage_of d = Short d.rows d.members
 
 -- the same, where the last line has been read
 abbrev pub finished_at : Stage → DraftView → Option Certificate
-finished_at Ended d = Some (said_by d)
+finished_at Planned d = Some (plan_of d)
+finished_at Shown d = Some (shortage_of d)
 finished_at Start d = None
 finished_at Body d = None
 finished_at Totalled d = None
+finished_at Named d = None
 
 -- the certificate, if all of it has been read
 abbrev pub finished : DraftView → Option Certificate

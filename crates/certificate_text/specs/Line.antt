@@ -17,6 +17,7 @@ pub data LineView : Type 0 where
   HoldLine : (id : List ℕ) (cpus : Ids) (value : ℕ) → LineView
   PriceLine : (price : Price) → LineView
   TotalLine : (total : ℕ) → LineView
+  ShortLine : (id : List ℕ) → LineView
   EndLine : LineView
 
 -- what stands between the spaces: two spaces in a row, or one at either end, leave an empty word
@@ -73,4 +74,5 @@ Spells line (RowLine row) = AreWordsAfter line (codes "row") (λ ws. AreRowWords
 Spells line (HoldLine id cpus value) = AreWordsAfter line (codes "hold") (λ ws. AreHoldWords ws id cpus value)
 Spells line (PriceLine price) = AreWordsAfter line (codes "price") (λ ws. ArePriceWords ws price)
 Spells line (TotalLine total) = AreWordsAfter line (codes "total") (λ ws. AreTotalWords ws total)
+Spells line (ShortLine id) = AreWordsAfter line (codes "short") (λ ws. ws ≡ id ∷ [])
 Spells line EndLine = line ≡ codes "end"

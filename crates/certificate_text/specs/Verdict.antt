@@ -1,66 +1,87 @@
 -- What the check of a text answers.
-use Rattle.std.specs.Prelude.{◌≡◌, ℕ, not, ◌==◌, List, [], ◌∷◌, Option, Some, Result, MatchResult}
+use Rattle.std.specs.Prelude.{◌≡◌, ◌≢◌, ◌⊎◌, ℕ, not, ◌==◌, List, [], ◌∷◌, Option, Some, Result, MatchResult}
 use Rattle.faults.specs.First.{when, first_of}
+use Rattle.faults.specs.declared.or_memory.OrMemory.{OrMemory}
+use Rattle.faults.specs.declared.or_memory.OrMemory.TheVariants.{Memory, Fault}
 use Rattle.cpu_set.specs.Ids.{Ids}
 use Rattle.certificate.specs.RowView.{RowView}
 use Rattle.certificate.specs.PricesView.{PricesView}
 use Rattle.certificate.specs.Cost.{cost}
+use Rattle.certificate.specs.IsCause.{IsCause, IsShortageCause}
 use Rattle.certificate.specs.IsLeast.{IsLeast}
 use Rattle.certificate.specs.IsProved.{IsProved}
+use Rattle.certificate.specs.IsShortage.{HasNoPlan}
+use Rattle.certificate.specs.IsShown.{IsShown}
 use Rattle.certificate.specs.PlanFault.{plan_fault}
-use Rattle.certificate_text.specs.CertificateText.{IsText}
-use Rattle.certificate_text.specs.FirstBadLine.{IsFirstBadLine}
-use Rattle.certificate_text.specs.declared.certificates.Certificate.{Certificate}
-use Rattle.certificate_text.specs.declared.certificates.Certificate.TheVariants.{Plan as PlanCertificate}
+use Rattle.certificate.specs.ShortageFault.{shortage_fault}
 use Rattle.certificate.specs.declared.check_faults.CheckFault.{CheckFault}
 use Rattle.certificate.specs.declared.check_faults.CheckFault.TheVariants.{Gap}
+use Rattle.certificate_text.specs.CertificateText.{IsText}
+use Rattle.certificate_text.specs.FirstBadLine.{IsFirstBadLine}
+use Rattle.certificate_text.specs.TextError.{AsksForMemory}
+use Rattle.certificate_text.specs.declared.certificates.Certificate.{Certificate}
+use Rattle.certificate_text.specs.declared.certificates.Certificate.TheVariants.{Plan as PlanCertificate, Short as ShortCertificate}
 use Rattle.certificate_text.specs.declared.checking.Verdict.{Verdict}
-use Rattle.certificate_text.specs.declared.checking.Verdict.TheVariants.{Plan}
-use Rattle.certificate_text.specs.declared.checking.VerdictError.{VerdictError}
-use Rattle.certificate_text.specs.declared.checking.VerdictError.TheVariants.{Memory, BadText, Fault}
+use Rattle.certificate_text.specs.declared.checking.Verdict.TheVariants.{Plan, Short}
+use Rattle.certificate_text.specs.declared.checking.VerdictFault.{VerdictFault}
+use Rattle.certificate_text.specs.declared.checking.VerdictFault.TheVariants.{BadText, Check}
 
--- the text stands for a plan that is proved to cost the total which is written in it
-pub record Proves (text : List ℕ) (total : ℕ) : Type 0 where
-  pub rows : List RowView
-  pub sets : List Ids
-  pub prices : PricesView
-  pub text_is : IsText text (PlanCertificate rows sets prices total)
-  pub proved : IsProved rows sets prices total
-
--- values and prices prove the certificate's plan to cost its total
+-- values and prices prove the certificate's plan to cost its total, or its members are short by these counts
 abbrev pub IsProvedCertificate : Certificate → Verdict → Type 0
 IsProvedCertificate (PlanCertificate rows sets prices total) (Plan proved) = IsProved rows sets prices total × (proved ≡ total)
+IsProvedCertificate (ShortCertificate rows members) (Short asked allowed) = IsShown rows members asked allowed
+IsProvedCertificate (PlanCertificate rows sets prices total) (Short asked allowed) = ⊥
+IsProvedCertificate (ShortCertificate rows members) (Plan proved) = ⊥
 
--- the verdict's total is proved by the text
+-- hence no plan of the rows costs less than the certificate's, which costs this, or the rows have no plan
+abbrev pub IsBest : Certificate → Verdict → Type 0
+IsBest (PlanCertificate rows sets prices total) (Plan proved) = IsLeast rows sets × (cost rows sets ≡ proved)
+IsBest (ShortCertificate rows members) (Short asked allowed) = HasNoPlan rows
+IsBest (PlanCertificate rows sets prices total) (Short asked allowed) = ⊥
+IsBest (ShortCertificate rows members) (Plan proved) = ⊥
+
+-- the text stands for a certificate of which this holds
+abbrev pub SaysThat : List ℕ → (Certificate → Type 0) → Type 0
+SaysThat text holds = (c : Certificate) × IsText text c × holds c
+
+-- the text proves the verdict
 abbrev pub IsVerdict : List ℕ → Verdict → Type 0
-IsVerdict text (Plan total) = Proves text total
+IsVerdict text verdict = SaysThat text (λ c. IsProvedCertificate c verdict)
 
--- the text stands for a plan of this cost, and no plan of its rows costs less
-pub record HasLeastPlan (text : List ℕ) (total : ℕ) : Type 0 where
-  pub rows : List RowView
-  pub sets : List Ids
-  pub prices : PricesView
-  pub text_is : IsText text (PlanCertificate rows sets prices total)
-  pub least : IsLeast rows sets
-  pub costs : cost rows sets ≡ total
-
--- the verdict's total is the cost of the text's plan, which is least
+-- hence the text's plan is least, and its cost is the verdict's total; or its rows have no plan
 abbrev pub SaysLeast : List ℕ → Verdict → Type 0
-SaysLeast text (Plan total) = HasLeastPlan text total
+SaysLeast text verdict = SaysThat text (λ c. IsBest c verdict)
 
--- the first fault of a certificate: one of the plan and its prices, or another total than its cost
+-- the first fault of a certificate: one of the plan and its prices, or another total than its cost; or one of the shortage
 abbrev pub certificate_fault : Certificate → Option CheckFault
 certificate_fault (PlanCertificate rows sets prices total) = first_of (
     plan_fault rows sets prices
     ∷ when (not (cost rows sets == total)) Gap
     ∷ [])
+certificate_fault (ShortCertificate rows members) = shortage_fault rows members
 
--- the text stands for no certificate, or for one that has this fault; want of memory says nothing
-abbrev pub IsVerdictError : List ℕ → VerdictError → Type 0
-IsVerdictError text Memory = Unit {0}
-IsVerdictError text (BadText line) = IsFirstBadLine text line
-IsVerdictError text (Fault fault) = (c : Certificate) × IsText text c × (certificate_fault c ≡ Some fault)
+-- the plan is proved, to cost another total than the certificate's
+pub record IsOtherTotal (rows : List RowView) (sets : List Ids) (prices : PricesView) (total : ℕ) : Type 0 where
+  pub proved : IsProved rows sets prices (cost rows sets)
+  pub other : cost rows sets ≢ total
+
+-- the cause of each refusal
+abbrev pub IsCertificateCause : Certificate → CheckFault → Type 0
+IsCertificateCause (PlanCertificate rows sets prices total) fault =
+    IsCause rows sets prices fault ⊎ ((fault ≡ Gap) × IsOtherTotal rows sets prices total)
+IsCertificateCause (ShortCertificate rows members) fault = IsShortageCause rows members fault
+
+-- a certificate's first fault, and that its cause stands
+pub record IsFaultOf (fault : CheckFault) (c : Certificate) : Type 0 where
+  pub first : certificate_fault c ≡ Some fault
+  pub cause : IsCertificateCause c fault
+
+-- the text stands for no certificate, or for one that has this fault, or memory ran out at one of its lines
+abbrev pub IsVerdictError : List ℕ → OrMemory VerdictFault → Type 0
+IsVerdictError text Memory = AsksForMemory text
+IsVerdictError text (Fault (BadText bad)) = IsFirstBadLine text bad.line
+IsVerdictError text (Fault (Check fault)) = SaysThat text (IsFaultOf fault)
 
 -- this was answered, unless memory ran out
-abbrev pub IsAnswered : Result Verdict VerdictError → Verdict → Type 0
+abbrev pub IsAnswered : Result Verdict (OrMemory VerdictFault) → Verdict → Type 0
 IsAnswered result verdict = MatchResult result (λ v. v ≡ verdict) (λ e. e ≡ Memory)

@@ -1,3 +1,4 @@
+use crate::Members;
 use certificate::{Plan, Prices, Problem};
 
 /// A problem together with what shows its answer.
@@ -10,4 +11,6 @@ pub enum Certificate {
         prices: Prices,
         total: u64,
     },
+    /// Rows that together ask for more CPUs than they may have, so that there is no plan.
+    Short { problem: Problem, members: Members },
 }

@@ -1,48 +1,55 @@
-ghost use Rattle.std.specs.Prelude.{◌≡◌, Some, None, OnOk, length, slice_get};
-ghost use Rattle.certificate_text.specs.Line.{HoldLine, PriceLine, RowLine, TotalLine};
-ghost use Rattle.certificate_text.specs.OnBad.{OnBad};
+ghost use Rattle.std.specs.Prelude.{◌≡◌, ◌+◌, ◌<◌, ◌^◌, length, slice_get, IfSome};
+ghost use Rattle.certificate_text.specs.Line.{HeaderLine, RowLine, HoldLine, PriceLine, TotalLine, ShortLine, EndLine};
+ghost use Rattle.certificate_text.specs.LineRead.{line_view};
+ghost use Rattle.certificate_text.specs.Takes.{Takes};
 
+use crate::line::Line;
 use crate::line_fault::LineFault;
-use crate::Certificate;
+use crate::line_words::Hold;
+use crate::stage::Stage;
+use crate::{Certificate, Members};
 use certificate::{Plan, Price, Prices, Problem, Row};
 use cpu_set::IdSet;
 use std::alloc::Global;
 use std::collections::BTreeSet;
-
-/// How far a text has been read.
-#[derive(Clone, Copy)]
-pub enum Stage {
-    /// Nothing yet.
-    Start,
-    /// The header, and some rows, sets and prices.
-    Body,
-    /// The total too.
-    Totalled,
-    /// The last line too.
-    Ended,
-}
+use std::marker::Model;
 
 /// What has been read of a certificate's text.
 #[derive(Drop)]
 pub struct Draft {
-    pub stage: Stage,
+    stage: Stage,
     rows: Vec<Row>,
     ids: BTreeSet<String>,
     sets: Vec<IdSet>,
     values: Vec<u64>,
     prices: Vec<Price>,
+    members: Vec<usize>,
+    /// The first row after the members.
+    from: usize,
     total: u64,
 }
 
+impl Model for Draft {
+    ghost use Rattle.certificate_text.specs.DraftView.{DraftView, draft_code};
+
+    ghost Value = { DraftView };
+
+    ghost coded = { draft_code };
+
+    ghost use Rattle.certificate_text.specs.DraftRead.{draft_view, IsKept};
+
+    ghost view = { draft_view };
+
+    ghost invariant = { IsKept };
+}
+
 impl Draft {
-    ghost use Rattle.certificate_text.specs.DraftView.{next_in_body, empty_draft, is_held, is_id_of};
-    ghost use Rattle.certificate_text.specs.DraftRead.{draft_view, KnowsIds};
+    ghost use Rattle.certificate_text.specs.DraftView.{empty_draft, has_no_plan, is_held, is_id_of, number_of, takes_members};
     ghost use Rattle.certificate_text.specs.Finished.{finished};
 
     /// A draft of which nothing has been read.
     pub fn new(alloc: Global) -> Draft
-        ensures empty { draft_view result ≡ empty_draft }
-        ensures ids { KnowsIds result }
+        ensures { result ≡ empty_draft }
     {
         Draft {
             stage: Stage::Start,
@@ -51,34 +58,68 @@ impl Draft {
             sets: Vec::new(alloc),
             values: Vec::new(alloc),
             prices: Vec::new(alloc),
+            members: Vec::new(alloc),
+            from: 0,
             total: 0,
         }
     }
 
-    /// Adds a row. Rows come before all sets and prices, and no two have one id.
-    pub fn add_row(&mut self, row: Row) -> Result<(), LineFault>
-        requires { KnowsIds self.old }
-        ensures ids { OnOk result (KnowsIds self.new) }
-        ensures ok { OnOk result (next_in_body (draft_view self.old) (RowLine row)
-            ≡ Some (draft_view self.new)) }
-        ensures bad { OnBad result (next_in_body (draft_view self.old) (RowLine row) ≡ None) }
+    /// Adds what the next line of the text says, if that line can follow the lines before it.
+    pub fn take(&mut self, line: Line<'_>) -> Result<(), LineFault>
+        ensures { Takes result self.old (line_view line.entry) self.new }
     {
-        if !self.sets.is_empty() {
+        match line {
+            Line::Header => self.begin(),
+            Line::Row(row) => self.add_row(row),
+            Line::Hold(hold) => self.add_hold(hold),
+            Line::Price(price) => self.add_price(price),
+            Line::Total(total) => self.add_total(total),
+            Line::Short(id) => self.add_member(id),
+            Line::End => self.end(),
+        }
+    }
+
+    fn begin(&mut self) -> Result<(), LineFault>
+        ensures { Takes result self.old HeaderLine self.new }
+    {
+        match self.stage {
+            Stage::Start => {
+                self.stage = Stage::Body;
+                Ok(())
+            }
+            _ => Err(LineFault::Bad),
+        }
+    }
+
+    fn has_no_plan(&self) -> bool
+        ensures { result ≡ has_no_plan self.now }
+    {
+        self.sets.is_empty() && self.prices.is_empty()
+    }
+
+    /// Rows come before all sets, prices and members, and no two have one id.
+    fn add_row(&mut self, row: Row) -> Result<(), LineFault>
+        ensures { Takes result self.old (RowLine row) self.new }
+    {
+        let Stage::Body = self.stage else {
+            return Err(LineFault::Bad);
+        };
+        if !self.has_no_plan() {
             return Err(LineFault::Bad);
         }
-        if !self.prices.is_empty() {
+        if self.ids.contains(row.id.as_str()) {
             return Err(LineFault::Bad);
         }
-        if !self.ids.insert(row.id.clone()?)? {
-            return Err(LineFault::Bad);
-        }
+        let id = row.id.clone()?;
+        self.rows.reserve(1)?;
+        self.ids.insert(id)?;
         self.rows.push(row)?;
         Ok(())
     }
 
     /// Whether the first row that has no set yet is of this id.
     fn awaits(&self, id: &[u8]) -> bool
-        ensures { result ≡ is_id_of id.now (slice_get self.now.rows.items (length self.now.sets.items)) }
+        ensures { result ≡ is_id_of id.now (slice_get self.now.rows (length self.now.sets)) }
     {
         match self.rows.get(self.sets.len()) {
             Some(row) => row.id.as_bytes() == id,
@@ -86,36 +127,36 @@ impl Draft {
         }
     }
 
-    /// Adds the set and the value of the first row that has none yet, which must be of this id.
-    pub fn add_hold(&mut self, id: &[u8], cpus: IdSet, value: u64) -> Result<(), LineFault>
-        requires { KnowsIds self.old }
-        ensures ids { OnOk result (KnowsIds self.new) }
-        ensures ok { OnOk result (next_in_body (draft_view self.old) (HoldLine id.now cpus value) ≡ Some (draft_view self.new)) }
-        ensures bad { OnBad result (next_in_body (draft_view self.old) (HoldLine id.now cpus value) ≡ None) }
+    /// A set and a value are those of the first row that has none yet, and of this id.
+    fn add_hold(&mut self, hold: Hold<'_>) -> Result<(), LineFault>
+        ensures { Takes result self.old (HoldLine hold.entry.id.now hold.entry.cpus hold.entry.value) self.new }
     {
-        if !self.awaits(id) {
+        let Stage::Body = self.stage else {
+            return Err(LineFault::Bad);
+        };
+        if !self.awaits(hold.id) {
             return Err(LineFault::Bad);
         }
-        self.sets.push(cpus)?;
-        self.values.push(value)?;
+        self.sets.reserve(1)?;
+        self.values.push(hold.value)?;
+        self.sets.push(hold.cpus)?;
         Ok(())
     }
 
     /// Whether each row has its set and value.
     fn is_held(&self) -> bool
-        ensures { result ≡ is_held (draft_view self.now) }
+        ensures { result ≡ is_held self.now }
     {
         self.sets.len() == self.rows.len()
     }
 
-    /// Adds a price, once each row has its set.
-    pub fn add_price(&mut self, price: Price) -> Result<(), LineFault>
-        requires { KnowsIds self.old }
-        ensures ids { OnOk result (KnowsIds self.new) }
-        ensures ok { OnOk result (next_in_body (draft_view self.old) (PriceLine price)
-            ≡ Some (draft_view self.new)) }
-        ensures bad { OnBad result (next_in_body (draft_view self.old) (PriceLine price) ≡ None) }
+    /// Prices come once each row has its set.
+    fn add_price(&mut self, price: Price) -> Result<(), LineFault>
+        ensures { Takes result self.old (PriceLine price) self.new }
     {
+        let Stage::Body = self.stage else {
+            return Err(LineFault::Bad);
+        };
         if !self.is_held() {
             return Err(LineFault::Bad);
         }
@@ -123,14 +164,13 @@ impl Draft {
         Ok(())
     }
 
-    /// Adds the total, once each row has its set.
-    pub fn add_total(&mut self, total: u64) -> Result<(), LineFault>
-        requires { KnowsIds self.old }
-        ensures ids { OnOk result (KnowsIds self.new) }
-        ensures ok { OnOk result (next_in_body (draft_view self.old) (TotalLine total)
-            ≡ Some (draft_view self.new)) }
-        ensures bad { OnBad result (next_in_body (draft_view self.old) (TotalLine total) ≡ None) }
+    /// The total comes once each row has its set.
+    fn add_total(&mut self, total: u64) -> Result<(), LineFault>
+        ensures { Takes result self.old (TotalLine total) self.new }
     {
+        let Stage::Body = self.stage else {
+            return Err(LineFault::Bad);
+        };
         if !self.is_held() {
             return Err(LineFault::Bad);
         }
@@ -139,25 +179,83 @@ impl Draft {
         Ok(())
     }
 
+    /// The number of the row with this id, among those after the members.
+    #[tactic(auto, unfolding(crate::specs::DraftView::number_of))]
+    fn number_of(&self, id: &[u8]) -> Option<usize>
+        ensures number { result ≡ number_of id.now self.now }
+        ensures within { IfSome result (λ k. (k < length self.now.rows) × (k + 1 < 2 ^ 64)) }
+    {
+        let mut number = self.from;
+        while number < self.rows.len() {
+            if self.rows[number].id.as_bytes() == id {
+                return Some(number);
+            }
+            number += 1;
+        }
+        None
+    }
+
+    /// Whether a member can follow.
+    fn takes_members(&self) -> bool
+        ensures { result ≡ takes_members self.now }
+    {
+        match self.stage {
+            Stage::Body => self.has_no_plan(),
+            Stage::Named => true,
+            _ => false,
+        }
+    }
+
+    /// Members come after the rows, in the rows' order.
+    fn add_member(&mut self, id: &[u8]) -> Result<(), LineFault>
+        ensures { Takes result self.old (ShortLine id.now) self.new }
+    {
+        if !self.takes_members() {
+            return Err(LineFault::Bad);
+        }
+        let Some(number) = self.number_of(id) else {
+            return Err(LineFault::Bad);
+        };
+        self.members.push(number)?;
+        self.stage = Stage::Named;
+        self.from = number + 1;
+        Ok(())
+    }
+
+    fn end(&mut self) -> Result<(), LineFault>
+        ensures { Takes result self.old EndLine self.new }
+    {
+        match self.stage {
+            Stage::Totalled => {
+                self.stage = Stage::Planned;
+                Ok(())
+            }
+            Stage::Named => {
+                self.stage = Stage::Shown;
+                Ok(())
+            }
+            _ => Err(LineFault::Bad),
+        }
+    }
+
     /// The certificate, if all of it has been read.
     pub fn finish(self) -> Option<Certificate>
-        ensures { result ≡ finished (draft_view self) }
+        ensures { result ≡ finished self }
     {
-        let Draft {
-            stage,
-            rows,
-            ids: _,
-            sets,
-            values,
-            prices: of_cpu,
-            total,
-        } = self;
-        match stage {
-            Stage::Ended => Some(Certificate::Plan {
-                problem: Problem { rows },
-                plan: Plan { sets },
-                prices: Prices { values, of_cpu },
-                total,
+        let problem = Problem { rows: self.rows };
+        match self.stage {
+            Stage::Planned => Some(Certificate::Plan {
+                problem,
+                plan: Plan { sets: self.sets },
+                prices: Prices {
+                    values: self.values,
+                    of_cpu: self.prices,
+                },
+                total: self.total,
+            }),
+            Stage::Shown => Some(Certificate::Short {
+                problem,
+                members: Members { rows: self.members },
             }),
             _ => None,
         }

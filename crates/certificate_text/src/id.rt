@@ -1,7 +1,8 @@
-ghost use Rattle.std.specs.Prelude.{◌≡◌, ◌↔◌, IsTrue, IfOk, string_bytes};
+ghost use Rattle.std.specs.Prelude.{◌≡◌, ◌↔◌, IsTrue, IfOk, IfErr, string_bytes};
 ghost use Rattle.std.specs.List.{list_all};
 ghost use Rattle.certificate_text.specs.IdWord.{is_id_letter, IsId};
 ghost use Rattle.certificate_text.specs.OnBad.{OnBad};
+ghost use Rattle.certificate_text.specs.declared.line_fault.LineFault.TheVariants.{Memory};
 
 use crate::line_fault::LineFault;
 use std::alloc::Global;
@@ -38,6 +39,7 @@ fn is_letter(byte: u8) -> bool
 pub fn read_id(alloc: Global, word: &[u8]) -> Result<String, LineFault>
     ensures ok { IfOk result (λ id. IsId word.now × (string_bytes id ≡ word.now)) }
     ensures bad { OnBad result (IsId word.now → ⊥) }
+    ensures memory { IfErr result (λ fault. fault ≡ Memory → IsId word.now) }
 {
     if !is_id(word) {
         return Err(LineFault::Bad);

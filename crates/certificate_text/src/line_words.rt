@@ -1,9 +1,11 @@
-ghost use Rattle.std.specs.Prelude.{◌≡◌, ℕ, List, MatchOption, IfOk};
+ghost use Rattle.std.specs.Prelude.{◌≡◌, ℕ, List, [], ◌∷◌, MatchOption, IfOk, IfErr};
 ghost use Rattle.cpu_set.specs.Ids.{Ids};
 ghost use Rattle.certificate.specs.RowView.{RowView};
 ghost use Rattle.certificate.specs.declared.price_lists.Price.{Price};
 ghost use Rattle.certificate_text.specs.Line.{words, AreRowWords, AreHoldWords, ArePriceWords, AreTotalWords};
+ghost use Rattle.certificate_text.specs.RowStart.{AreRowStart};
 ghost use Rattle.certificate_text.specs.OnBad.{OnBad};
+ghost use Rattle.certificate_text.specs.declared.line_fault.LineFault.TheVariants.{Memory};
 
 use crate::cut::cut;
 use crate::decimal::{read_u32, read_u64};
@@ -20,19 +22,21 @@ use std::alloc::Global;
 pub fn read_row(alloc: Global, text: &[u8]) -> Result<Row, LineFault>
     ensures ok { IfOk result (λ row. AreRowWords (words text.now) row) }
     ensures bad { OnBad result ((row : RowView) → AreRowWords (words text.now) row → ⊥) }
+    ensures memory { IfErr result (λ fault. fault ≡ Memory → AreRowStart (words text.now)) }
 {
     let Some((id, rest)) = cut(text, b' ') else {
         return Err(LineFault::Bad);
     };
-    let id = read_id(alloc, id)?;
     match cut(rest, b' ') {
         Some((demand, offers)) => {
             let demand = read_u32(demand).ok_or(LineFault::Bad)?;
+            let id = read_id(alloc, id)?;
             let offers = read_offers(alloc, offers)?;
             Ok(Row { id, demand, offers })
         }
         None => {
             let demand = read_u32(rest).ok_or(LineFault::Bad)?;
+            let id = read_id(alloc, id)?;
             let offers = Vec::new(alloc);
             Ok(Row { id, demand, offers })
         }
@@ -78,5 +82,16 @@ pub fn read_total(text: &[u8]) -> Option<u64>
     match cut(text, b' ') {
         Some(_) => None,
         None => read_u64(text),
+    }
+}
+
+/// ID.
+pub fn read_short(text: &[u8]) -> Option<&[u8]>
+    ensures { MatchOption result ((id : List ℕ) → words text.now ≡ id ∷ [] → ⊥)
+        (λ id. words text.now ≡ id.now ∷ []) }
+{
+    match cut(text, b' ') {
+        Some(_) => None,
+        None => Some(text),
     }
 }

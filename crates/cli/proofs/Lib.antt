@@ -4,3 +4,4 @@ pub mod Parts
 pub mod PlainWords
 pub mod Rows
 pub mod Taking
+pub mod CheckAnswers

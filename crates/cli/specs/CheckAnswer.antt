@@ -2,8 +2,9 @@
 use Rattle.std.specs.Prelude.{◌≡◌, ℕ, ◌≤◌, List, ◌++◌, length, Option, Result, ⊤, IfSome, MatchResult, codes, decimal}
 use Rattle.certificate_text.specs.Verdict.{IsVerdict, IsVerdictError, SaysLeast}
 use Rattle.certificate_text.specs.declared.checking.Verdict.{Verdict}
-use Rattle.certificate_text.specs.declared.checking.Verdict.TheVariants.{Plan}
-use Rattle.certificate_text.specs.declared.checking.VerdictError.TheVariants as error
+use Rattle.certificate_text.specs.declared.checking.Verdict.TheVariants.{Plan, Short}
+use Rattle.certificate_text.specs.declared.checking.VerdictFault.TheVariants as verdict
+use Rattle.faults.specs.declared.or_memory.OrMemory.TheVariants.{Fault}
 use Rattle.cli.specs.Answer.{WritesAnswer}
 use Rattle.cli.specs.StoppedReads.{IsReadFaultOf}
 use Rattle.cli.specs.declared.reading.TheConstants.{MOST_BYTES}
@@ -11,14 +12,14 @@ use Rattle.cli.specs.declared.refusal.Refusal.{Refusal}
 use Rattle.cli.specs.declared.refusal.Refusal.TheVariants as refusal
 use Rattle.cli.specs.declared.write_fault.WriteFault.{WriteFault}
 
--- the verdict that the certificate proves: the plan costs this, and no plan costs less
+-- the verdict that the certificate proves: the plan costs this, and no plan costs less, or there is none
 abbrev pub IsProvedVerdict : List ℕ → Verdict → Type 0
 IsProvedVerdict bytes verdict = (length bytes ≤ MOST_BYTES) × IsVerdict bytes verdict × SaysLeast bytes verdict
 
 -- why the bytes prove nothing; no one can know beforehand whether memory suffices or a read fails
 abbrev pub IsRefusalOf : List ℕ → Refusal → Type 0
-IsRefusalOf bytes (refusal.BadText line) = (length bytes ≤ MOST_BYTES) × IsVerdictError bytes (error.BadText line)
-IsRefusalOf bytes (refusal.Check fault) = (length bytes ≤ MOST_BYTES) × IsVerdictError bytes (error.Fault fault)
+IsRefusalOf bytes (refusal.BadText line) = (length bytes ≤ MOST_BYTES) × IsVerdictError bytes (Fault (verdict.BadText (record { line = line })))
+IsRefusalOf bytes (refusal.Check fault) = (length bytes ≤ MOST_BYTES) × IsVerdictError bytes (Fault (verdict.Check fault))
 IsRefusalOf bytes (refusal.ReadFault fault) = IsReadFaultOf bytes fault
 IsRefusalOf bytes refusal.Memory = ⊤
 IsRefusalOf bytes _ = ⊥
@@ -36,6 +37,7 @@ pub record IsAnswerTo (bytes : List ℕ) (answer : Result Verdict Refusal) : Typ
 
 abbrev pub verdict_line : Verdict → List ℕ
 verdict_line (Plan total) = codes "plan total " ++ (decimal total ++ codes "\n")
+verdict_line (Short asked allowed) = codes "short demand " ++ (decimal asked ++ (codes " cpus " ++ (decimal allowed ++ codes "\n")))
 
 -- the answer to all that the reader had was written
 pub record CheckAnswers (read out out' : Option (List ℕ)) (result : Result ℕ WriteFault) : Type 0 where

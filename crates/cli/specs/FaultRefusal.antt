@@ -1,6 +1,6 @@
 -- Which refusal stands for a fault of a layer below.
-use Rattle.certificate_text.specs.declared.checking.VerdictError.{VerdictError}
-use Rattle.certificate_text.specs.declared.checking.VerdictError.TheVariants as verdict
+use Rattle.certificate_text.specs.declared.checking.VerdictFault.{VerdictFault}
+use Rattle.certificate_text.specs.declared.checking.VerdictFault.TheVariants as verdict
 use Rattle.cli.specs.declared.read_error.ReadError.{ReadError}
 use Rattle.cli.specs.declared.read_error.ReadError.TheVariants as read
 use Rattle.cli.specs.declared.refusal.Refusal.{Refusal}
@@ -17,7 +17,7 @@ abbrev pub slit_refusal : OrMemory SlitFault → Refusal
 slit_refusal either.Memory = Memory
 slit_refusal (either.Fault fault) = Slit fault
 
-abbrev pub verdict_refusal : VerdictError → Refusal
-verdict_refusal verdict.Memory = Memory
-verdict_refusal (verdict.BadText line) = BadText line
-verdict_refusal (verdict.Fault fault) = Check fault
+abbrev pub verdict_refusal : OrMemory VerdictFault → Refusal
+verdict_refusal either.Memory = Memory
+verdict_refusal (either.Fault (verdict.BadText bad)) = BadText bad.line
+verdict_refusal (either.Fault (verdict.Check fault)) = Check fault

@@ -1,19 +1,22 @@
 //! `numarun check`.
 ghost use Rattle.std.specs.Prelude.{IfSome};
 ghost use Rattle.cli.specs.CheckAnswer.{CheckAnswers, IsAnswerTo, verdict_line};
+ghost use Rattle.cpu_list.specs.Output.{Writes};
+ghost use Rattle.certificate_text.specs.declared.checking.Verdict.TheVariants.{Short};
 
 use crate::answer::{Printed, tell};
-use crate::output::put_number_line;
+use crate::output::{put_all, put_number_line};
 use crate::reading::read_all;
 use crate::refusal::Refusal;
 use crate::write_fault::WriteFault;
 use certificate_text::{Verdict, check_text};
+use itoa::Buffer;
 use std::alloc::Global;
 use std::io;
 use std::io::{Read, Write};
 
 /// Checks the certificate that the reader has left, and writes what the check finds as one line:
-/// `plan total N`, or why the certificate is refused. The status is 0, or 1 for a refusal.
+/// `plan total N`, `short demand N cpus M`, or why the certificate is refused. The status is 0, or 1 for a refusal.
 ///
 /// # Errors
 /// Where the line can't be written; a front of it then went out.
@@ -41,8 +44,28 @@ impl Printed for Verdict {
     fn print<W: Write>(&self, w: &mut W) -> io::Result<()> {
         match self {
             Verdict::Plan(total) => put_number_line(b"plan total ", *total, w),
+            Verdict::Short(asked, allowed) => put_shortage(*asked, *allowed, w),
         }
     }
+}
+
+fn put_shortage<W: Write>(asked: u64, allowed: u32, w: &mut W) -> io::Result<()>
+    ensures { Writes (W.contents w.old) (W.contents w.new) result (verdict_line (Short asked allowed)) }
+{
+    let mut digits = Buffer::new();
+    let mut more_digits = Buffer::new();
+    let demand = digits.format(asked).as_bytes();
+    let cpus = more_digits.format(allowed).as_bytes();
+    put_all(
+        &[
+            b"short demand ".as_slice(),
+            demand,
+            b" cpus ".as_slice(),
+            cpus,
+            b"\n".as_slice(),
+        ],
+        w,
+    )
 }
 
 #[cfg(test)]

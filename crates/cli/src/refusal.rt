@@ -9,7 +9,7 @@ use crate::output::{put_all, put_argument};
 use crate::read_error::ReadError;
 use crate::read_fault::ReadFault;
 use certificate::CheckFault;
-use certificate_text::VerdictError;
+use certificate_text::VerdictFault;
 use cpu_list::{ListError, ListErrorKind, put};
 use faults::OrMemory;
 use slit::SlitFault;
@@ -200,14 +200,14 @@ impl From<ListError> for Refusal {
     }
 }
 
-impl From<VerdictError> for Refusal {
+impl From<OrMemory<VerdictFault>> for Refusal {
     ghost from_gives = { λ error refusal. refusal ≡ verdict_refusal error };
 
-    fn from(error: VerdictError) -> Refusal {
+    fn from(error: OrMemory<VerdictFault>) -> Refusal {
         match error {
-            VerdictError::Memory => Refusal::Memory,
-            VerdictError::BadText(line) => Refusal::BadText { line },
-            VerdictError::Fault(fault) => Refusal::Check(fault),
+            OrMemory::Memory => Refusal::Memory,
+            OrMemory::Fault(VerdictFault::BadText(bad)) => Refusal::BadText { line: bad.line },
+            OrMemory::Fault(VerdictFault::Check(fault)) => Refusal::Check(fault),
         }
     }
 }

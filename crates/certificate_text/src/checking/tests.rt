@@ -1,5 +1,7 @@
-use super::{Verdict, VerdictError, check_text};
+use super::{Verdict, VerdictFault, check_text};
+use crate::BadText;
 use certificate::CheckFault;
+use faults::OrMemory;
 use std::alloc::{AllocError, Global};
 use std::test::Fail;
 
@@ -31,7 +33,7 @@ fn accepts_a_proved_plan(rt: HostRuntime) -> Result<(), Fail> {
         text.as_bytes()
             .get(..cut)
             .map(|front| check_text(rt.alloc(), front)),
-        Some(Err(VerdictError::BadText(8)))
+        Some(Err(OrMemory::Fault(VerdictFault::BadText(BadText { line: 8 }))))
     );
     Ok(())
 }
@@ -80,7 +82,7 @@ fn names_the_first_fault(rt: HostRuntime) -> Result<(), Fail> {
         let text = certificate(rt.alloc(), row, &lines)?;
         assert_eq!(rt;
             check_text(rt.alloc(), text.as_bytes()),
-            Err(VerdictError::Fault(fault))
+            Err(OrMemory::Fault(VerdictFault::Check(fault)))
         );
     }
     Ok(())
@@ -93,7 +95,33 @@ fn prices_of_free_cpus_count(rt: HostRuntime) -> Result<(), Fail> {
         b"numarun-certificate 1\nrow a 1 10:1 20:2\nhold a 2 20\nprice 10 1\ntotal 20\nend\n";
     assert_eq!(rt;
         check_text(rt.alloc(), text),
-        Err(VerdictError::Fault(CheckFault::Gap))
+        Err(OrMemory::Fault(VerdictFault::Check(CheckFault::Gap)))
+    );
+    Ok(())
+}
+
+/// Three rows of which the first two may have two CPUs, and then these members.
+fn short(alloc: Global, members: &str) -> Result<String, AllocError> {
+    let mut text = String::from_str(
+        alloc,
+        "numarun-certificate 1\nrow a 2 10:1-2\nrow b 1 10:1-2\nrow c 1 10:4-5\n",
+    )?;
+    text.push_str(members)?;
+    text.push_str("end\n")?;
+    Ok(text)
+}
+
+#[test]
+fn accepts_a_shortage(rt: HostRuntime) -> Result<(), Fail> {
+    let text = short(rt.alloc(), "short a\nshort b\n")?;
+    assert_eq!(rt;
+        check_text(rt.alloc(), text.as_bytes()),
+        Ok(Verdict::Short(3, 2))
+    );
+    let text = short(rt.alloc(), "short a\nshort b\nshort c\n")?;
+    assert_eq!(rt;
+        check_text(rt.alloc(), text.as_bytes()),
+        Err(OrMemory::Fault(VerdictFault::Check(CheckFault::NoShortage)))
     );
     Ok(())
 }

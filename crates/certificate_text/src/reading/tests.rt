@@ -1,5 +1,6 @@
-use super::{TextError, read_text};
+use super::{BadText, read_text};
 use crate::Certificate;
+use faults::OrMemory;
 use std::alloc::{AllocError, Global};
 use std::test::Fail;
 
@@ -15,12 +16,15 @@ end
 
 #[test]
 fn reads_a_certificate(rt: HostRuntime) -> Result<(), Fail> {
-    let Certificate::Plan {
+    let Ok(Certificate::Plan {
         problem,
         plan,
         prices,
         total,
-    } = read_text(rt.alloc(), CERTIFICATE.as_bytes())?;
+    }) = read_text(rt.alloc(), CERTIFICATE.as_bytes())
+    else {
+        return Err(Fail::from("the text stands for another certificate"));
+    };
     assert_eq!(rt; problem.rows.len(), 2);
     let row = &problem.rows[1];
     assert_eq!(rt; row.id.as_str(), "b");
@@ -38,12 +42,61 @@ fn reads_a_certificate(rt: HostRuntime) -> Result<(), Fail> {
 }
 
 /// The number of the first bad line, or 0 where the text is a certificate's.
-fn bad_line(alloc: Global, text: &[u8]) -> Result<u64, TextError> {
+fn bad_line(alloc: Global, text: &[u8]) -> Result<u64, AllocError> {
     match read_text(alloc, text) {
         Ok(_) => Ok(0),
-        Err(TextError::BadText(line)) => Ok(line),
-        Err(TextError::Memory) => Err(TextError::Memory),
+        Err(OrMemory::Fault(BadText { line })) => Ok(line),
+        Err(OrMemory::Memory) => Err(AllocError),
     }
+}
+
+/// Three containers, of which two ask together for more than they may have.
+const SHORTAGE: &str = "numarun-certificate 1
+row a 2 10:1-2
+row b 1 10:1-2
+row c 1 10:4-5
+short a
+short b
+end
+";
+
+#[test]
+fn reads_a_shortage(rt: HostRuntime) -> Result<(), Fail> {
+    let Ok(Certificate::Short { problem, members }) = read_text(rt.alloc(), SHORTAGE.as_bytes())
+    else {
+        return Err(Fail::from("the text stands for another certificate"));
+    };
+    assert_eq!(rt; problem.rows.len(), 3);
+    assert_eq!(rt; members.rows.as_slice(), [0, 1].as_slice());
+    Ok(())
+}
+
+#[test]
+fn members_follow_the_rows(rt: HostRuntime) -> Result<(), Fail> {
+    let cases = [
+        ("short b", "short c", 0),
+        ("short a\nshort b", "short c", 0),
+        ("short a\nshort b", "short a\nshort b\nshort c", 0),
+        ("short a", "short b", 6),
+        ("short b", "short a", 6),
+        ("short b", "short d", 6),
+        ("short a", "short", 5),
+        ("short a", "short a b", 5),
+        ("short a", "short  a", 5),
+        ("short a\nshort b\n", "", 5),
+        ("end", "row d 1", 7),
+        ("end", "hold a 1 1", 7),
+        ("end", "price 1 1", 7),
+        ("end", "total 1", 7),
+        ("end\n", "end", 7),
+        ("end\n", "", 7),
+        ("short a", "hold a 1 1\nshort a", 6),
+    ];
+    for (from, to, bad) in cases {
+        let text = SHORTAGE.replace(rt.alloc(), from, to)?;
+        assert_eq!(rt; bad_line(rt.alloc(), text.as_bytes())?, bad, "{to}");
+    }
+    Ok(())
 }
 
 #[test]
@@ -100,7 +153,8 @@ fn names_the_first_bad_line(rt: HostRuntime) -> Result<(), Fail> {
         (4, "hold b 2 11", 4),
         (4, "hold a 2 18446744073709551616", 4),
         (4, "price 1 1", 4),
-        (4, "short a", 4),
+        (4, "short a", 5),
+        (5, "short b", 5),
         (5, "hold a 1 13", 5),
         (5, "total 23", 5),
         (6, "hold b 1 13", 6),

@@ -49,6 +49,28 @@ fn answers(rt: HostRuntime) -> Result<(), Fail> {
     Ok(())
 }
 
+/// Three containers, of which the first two ask together for more than they may have.
+const SHORTAGE: &str = "numarun-certificate 1\nrow a 2 10:1-2\nrow b 1 10:1-2\nrow c 1 10:4-5\n\
+    short a\nshort b\nend\n";
+
+#[test]
+fn answers_a_shortage(rt: HostRuntime) -> Result<(), Fail> {
+    let cases = [
+        ("end", "end", "short demand 3 cpus 2\n", 0),
+        ("end", "short c\nend", "refused E76 NoShortage\n", 1),
+        ("row c 1", "row c 0", "refused E70 BadProblem\n", 1),
+        ("short b", "short a", "refused E77 BadText 6\n", 1),
+    ];
+    for (from, to, line, status) in cases {
+        let text = SHORTAGE.replace(rt.alloc(), from, to)?;
+        let mut paper = Paper::new(rt.alloc());
+        let found = do_check(rt.alloc(), &mut Tape::new(text.as_bytes(), 7), &mut paper)?;
+        assert_eq!(rt; paper.text.as_slice(), line.as_bytes());
+        assert_eq!(rt; found, status);
+    }
+    Ok(())
+}
+
 #[test]
 fn failing_reads(rt: HostRuntime) -> Result<(), Fail> {
     for fails in 1..=16u32 {

@@ -1,8 +1,15 @@
-use Rattle.certificate_text.proofs.Verdicts.{answer_says_least, answer_is_complete}
+use Rattle.certificate_text.proofs.Verdicts.{answers_verdict}
 use Rattle.certificate_text.proofs.checking.check_text.Goals as goal
 
-pub returns-clause-least : goal.returns-clause-least
-returns-clause-least c = answer_says_least c.args.text.now c.read_and_check.result c.read_and_check.ensures.proved
+pub returns-in-Err-Fault-clause-complete : goal.returns-in-Err-Fault-clause-complete
+returns-in-Err-Fault-clause-complete c = λ v p. absurd ((rw c.in-Err-Fault.field-0-is at c.in-Err-Fault.ensures.error).no_text p.0 p.1)
+
+pub returns-in-Ok-check-clause-complete : goal.returns-in-Ok-check-clause-complete
+returns-in-Ok-check-clause-complete c = λ v p.
+    let is = answers_verdict c.args.text.now c.in-Ok.certificate c.check.result c.in-Ok.ensures.ok c.check.ensures.complete v p in
+    cc (is, c.in-Ok-check.is)
 
 pub returns-clause-complete : goal.returns-clause-complete
-returns-clause-complete c = answer_is_complete c.args.text.now c.read_and_check.result c.read_and_check.ensures.proved c.read_and_check.ensures.fault
+returns-clause-complete c = λ v p.
+    let is = answers_verdict c.args.text.now c.in-Ok.certificate c.check.result c.in-Ok.ensures.ok c.check.ensures.complete v p in
+    absurd (cc (is, c.in-Err.is))

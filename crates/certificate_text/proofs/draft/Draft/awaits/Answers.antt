@@ -9,18 +9,18 @@ use Rattle.certificate_text.proofs.draft.Draft.awaits.Goals as goal
 
 pub returns-in-Some : goal.returns-in-Some
 returns-in-Some c =
-    let rows = c.args.self.now.rows.items in
-    let place : c.len.result ≡ length c.args.self.now.sets.items = search rules in
+    let rows = c.self.inside.rows.items in
+    let place : c.len.result ≡ length c.self.inside.sets.items = search rules in
     let found : slice_get rows c.len.result ≡ Some c.in-Some.row.now =
     slice_get_read rows (length rows) c.len.result c.in-Some.row.now refl (rw c.deref.ensures.value at c.in-Some.ensures.lookup.3.0)
     (rw c.deref.ensures.value at (c.in-Some.ensures.lookup.3.1 c.in-Some.row.now)) in
     let id : c.as_bytes.result.now ≡ c.in-Some.row.now.id = c.as_bytes.ensures.value ∙ ap (λ (r : RowView). r.id) c.row.view_is in
-    c.eq.ensures ∙ ap (λ bs. bytes_eq bs c.args.id.now) id ∙ bytes_eq_sym c.in-Some.row.now.id c.args.id.now
-    ∙ sym (ap (is_id_of c.args.id.now) (rw place at found))
+    rw (← c.self.view_is) (c.eq.ensures ∙ ap (λ bs. bytes_eq bs c.args.id.now) id ∙ bytes_eq_sym c.in-Some.row.now.id c.args.id.now
+    ∙ sym (ap (is_id_of c.args.id.now) (rw place at found)))
 
 pub returns-in-None : goal.returns-in-None
 returns-in-None c =
-    let rows = c.args.self.now.rows.items in
-    let place : c.len.result ≡ length c.args.self.now.sets.items = search rules in
+    let rows = c.self.inside.rows.items in
+    let place : c.len.result ≡ length c.self.inside.sets.items = search rules in
     let past : slice_get rows c.len.result ≡ None = slice_get_past rows c.len.result (rw c.deref.ensures.value at c.in-None.ensures.lookup.3) in
-    sym (ap (is_id_of c.args.id.now) (rw place at past))
+    rw (← c.self.view_is) (sym (ap (is_id_of c.args.id.now) (rw place at past)))

@@ -1,0 +1,18 @@
+-- What becomes of a draft with a line of the text.
+use Rattle.std.specs.Prelude.{◌≡◌, ◌⊎◌, Some, None, ℕ, List, Result, Ok, Err, IsSome}
+use Rattle.certificate_text.specs.Line.{LineView, Spells}
+use Rattle.certificate_text.specs.DraftView.{DraftView, next}
+use Rattle.certificate_text.specs.RowStart.{IsRowStart}
+use Rattle.certificate_text.specs.Takes.{TakesRoom}
+use Rattle.certificate_text.specs.declared.line_fault.LineFault.{LineFault}
+use Rattle.certificate_text.specs.declared.line_fault.LineFault.TheVariants.{Memory, Bad}
+
+-- a line that begins as a row's, or one that takes room and can follow
+abbrev pub AsksForRoom : DraftView → List ℕ → Type 0
+AsksForRoom d line = IsRowStart line ⊎ ((l : LineView) × Spells line l × TakesRoom l × IsSome (next d l))
+
+-- the line can follow, and was taken; or it can't; or there was no room for it
+abbrev pub TakesLine : Result (Unit {0}) LineFault → DraftView → List ℕ → DraftView → Type 0
+TakesLine (Ok done) old line new = (l : LineView) × Spells line l × (next old l ≡ Some new)
+TakesLine (Err Bad) old line new = (l : LineView) → Spells line l → next old l ≡ None
+TakesLine (Err Memory) old line new = AsksForRoom old line

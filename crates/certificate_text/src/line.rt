@@ -1,0 +1,71 @@
+ghost use Rattle.std.specs.Prelude.{◌≡◌, IfOk, IfErr};
+ghost use Rattle.certificate_text.specs.Line.{LineView, Spells};
+ghost use Rattle.certificate_text.specs.LineRead.{line_view};
+ghost use Rattle.certificate_text.specs.RowStart.{IsRowStart};
+ghost use Rattle.certificate_text.specs.OnBad.{OnBad};
+ghost use Rattle.certificate_text.specs.declared.line_fault.LineFault.TheVariants.{Memory};
+
+use crate::cut::cut;
+use crate::line_fault::LineFault;
+use crate::line_words::{Hold, read_hold, read_price, read_row, read_short, read_total};
+use certificate::{Price, Row};
+use std::alloc::Global;
+
+/// What a line of a certificate says.
+#[derive(Drop)]
+pub enum Line<'a> {
+    Header,
+    Row(Row),
+    Hold(Hold<'a>),
+    Price(Price),
+    Total(u64),
+    /// The id of a row.
+    Short(&'a [u8]),
+    End,
+}
+
+/// Reads a line, which has no line feed in it.
+pub fn read_line(alloc: Global, line: &[u8]) -> Result<Line<'_>, LineFault>
+    ensures ok { IfOk result (λ l. Spells line.now (line_view l)) }
+    ensures bad { OnBad result ((l : LineView) → Spells line.now l → ⊥) }
+    // The words before the offers are looked at first.
+    ensures memory { IfErr result (λ fault. fault ≡ Memory → IsRowStart line.now) }
+{
+    if line == b"numarun-certificate 1".as_slice() {
+        return Ok(Line::Header);
+    }
+    if line == b"end".as_slice() {
+        return Ok(Line::End);
+    }
+    let Some((kind, text)) = cut(line, b' ') else {
+        return Err(LineFault::Bad);
+    };
+    if kind == b"row".as_slice() {
+        return Ok(Line::Row(read_row(alloc, text)?));
+    }
+    if kind == b"hold".as_slice() {
+        return match read_hold(text) {
+            Some(hold) => Ok(Line::Hold(hold)),
+            None => Err(LineFault::Bad),
+        };
+    }
+    if kind == b"price".as_slice() {
+        return match read_price(text) {
+            Some(price) => Ok(Line::Price(price)),
+            None => Err(LineFault::Bad),
+        };
+    }
+    if kind == b"total".as_slice() {
+        return match read_total(text) {
+            Some(total) => Ok(Line::Total(total)),
+            None => Err(LineFault::Bad),
+        };
+    }
+    if kind == b"short".as_slice() {
+        return match read_short(text) {
+            Some(id) => Ok(Line::Short(id)),
+            None => Err(LineFault::Bad),
+        };
+    }
+    Err(LineFault::Bad)
+}

@@ -1,0 +1,198 @@
+//! A certificate to a writer.
+ghost use Rattle.std.specs.Prelude.{◌≡◌, ◌<◌, ◌++◌, All, List, length};
+ghost use Rattle.std.specs.List.{flat_map};
+ghost use Rattle.cpu_list.specs.Output.{Writes};
+ghost use Rattle.certificate_text.specs.CertificateText.{CanBeText, IsText, hold_lines, id_at};
+ghost use Rattle.certificate_text.specs.declared.certificates.Certificate.TheVariants.{Plan, Short};
+ghost use Rattle.certificate_text.specs.Line.{HeaderLine, RowLine, HoldLine, PriceLine, TotalLine, ShortLine, EndLine};
+ghost use Rattle.certificate_text.specs.Written.{offer_text, line_text, text_of, CanWrite, IsHeld};
+
+use crate::Certificate;
+use crate::laws::written_texts_are_read;
+use crate::output::put_all;
+use certificate::{Offer, Price, Prices, Row};
+use cpu_list::{put, write_list};
+use cpu_set::IdSet;
+use itoa::Buffer;
+use std::io;
+use std::io::Write;
+
+fn put_offer<W: Write>(offer: &Offer, w: &mut W) -> io::Result<()>
+    ensures { Writes (W.contents w.old) (W.contents w.new) result (offer_text offer.now) }
+{
+    let mut digits = Buffer::new();
+    let weight = digits.format(offer.weight).as_bytes();
+    put_all(&[b" ".as_slice(), weight, b":".as_slice()], w)?;
+    write_list(&offer.cpus, w)
+}
+
+fn put_offers<W: Write>(offers: &[Offer], w: &mut W) -> io::Result<()>
+    ensures { Writes (W.contents w.old) (W.contents w.new) result (flat_map offer_text offers.now) }
+{
+    for offer in offers {
+        put_offer(offer, w)?;
+    }
+    Ok(())
+}
+
+fn put_row<W: Write>(row: &Row, w: &mut W) -> io::Result<()>
+    ensures { Writes (W.contents w.old) (W.contents w.new) result (line_text (RowLine row.now)) }
+{
+    let mut digits = Buffer::new();
+    let demand = digits.format(row.demand).as_bytes();
+    put_all(&[b"row ".as_slice(), row.id.as_bytes(), b" ".as_slice(), demand], w)?;
+    put_offers(row.offers.as_slice(), w)?;
+    put(b"\n", w)
+}
+
+fn put_rows<W: Write>(rows: &[Row], w: &mut W) -> io::Result<()>
+    ensures { Writes (W.contents w.old) (W.contents w.new) result (flat_map (λ row. line_text (RowLine row)) rows.now) }
+{
+    for row in rows {
+        put_row(row, w)?;
+    }
+    Ok(())
+}
+
+fn put_hold<W: Write>(id: &[u8], cpus: &IdSet, value: u64, w: &mut W) -> io::Result<()>
+    ensures { Writes (W.contents w.old) (W.contents w.new) result (line_text (HoldLine id.now cpus.now value)) }
+{
+    let mut digits = Buffer::new();
+    let value = digits.format(value).as_bytes();
+    put_all(&[b"hold ".as_slice(), id, b" ".as_slice()], w)?;
+    write_list(cpus, w)?;
+    put_all(&[b" ".as_slice(), value, b"\n".as_slice()], w)
+}
+
+fn put_holds<W: Write>(rows: &[Row], sets: &[IdSet], values: &[u64], w: &mut W) -> io::Result<()>
+    requires sets { length sets.now ≡ length rows.now }
+    requires values { length values.now ≡ length rows.now }
+    ensures { Writes (W.contents w.old) (W.contents w.new) result (flat_map line_text (hold_lines rows.now sets.now values.now)) }
+{
+    for (k, row) in rows.iter().enumerate() {
+        put_hold(row.id.as_bytes(), &sets[k], values[k], w)?;
+    }
+    Ok(())
+}
+
+fn put_price<W: Write>(price: &Price, w: &mut W) -> io::Result<()>
+    ensures { Writes (W.contents w.old) (W.contents w.new) result (line_text (PriceLine price.now)) }
+{
+    let mut digits = Buffer::new();
+    let amount = digits.format(price.amount).as_bytes();
+    put_all(&[b"price ".as_slice(), amount, b" ".as_slice()], w)?;
+    write_list(&price.cpus, w)?;
+    put(b"\n", w)
+}
+
+fn put_prices<W: Write>(prices: &[Price], w: &mut W) -> io::Result<()>
+    ensures { Writes (W.contents w.old) (W.contents w.new) result (flat_map (λ price. line_text (PriceLine price)) prices.now) }
+{
+    for price in prices {
+        put_price(price, w)?;
+    }
+    Ok(())
+}
+
+fn put_member<W: Write>(row: &Row, w: &mut W) -> io::Result<()>
+    ensures { Writes (W.contents w.old) (W.contents w.new) result (line_text (ShortLine row.now.id)) }
+{
+    put_all(
+        &[b"short ".as_slice(), row.id.as_bytes(), b"\n".as_slice()],
+        w,
+    )
+}
+
+fn put_members<W: Write>(rows: &[Row], members: &[usize], w: &mut W) -> io::Result<()>
+    requires { All (λ k. k < length rows.now) members.now }
+    ensures { Writes (W.contents w.old) (W.contents w.new) result
+        (flat_map (λ k. line_text (ShortLine (id_at rows.now k))) members.now) }
+{
+    for k in members {
+        put_member(&rows[*k], w)?;
+    }
+    Ok(())
+}
+
+/// The total and the last line.
+fn put_total<W: Write>(total: u64, w: &mut W) -> io::Result<()>
+    ensures { Writes (W.contents w.old) (W.contents w.new) result (line_text (TotalLine total) ++ line_text EndLine) }
+{
+    let mut digits = Buffer::new();
+    let total = digits.format(total).as_bytes();
+    put_all(&[b"total ".as_slice(), total, b"\nend\n".as_slice()], w)
+}
+
+/// The first line, and the rows.
+fn put_head<W: Write>(rows: &[Row], w: &mut W) -> io::Result<()>
+    ensures { Writes (W.contents w.old) (W.contents w.new) result
+        (line_text HeaderLine ++ flat_map (λ row. line_text (RowLine row)) rows.now) }
+{
+    put(b"numarun-certificate 1\n", w)?;
+    put_rows(rows, w)
+}
+
+fn write_plan<W: Write>(
+    rows: &[Row],
+    sets: &[IdSet],
+    prices: &Prices,
+    total: u64,
+    w: &mut W,
+) -> io::Result<()>
+    requires sets { length sets.now ≡ length rows.now }
+    requires values { length prices.now.values ≡ length rows.now }
+    ensures { Writes (W.contents w.old) (W.contents w.new) result (text_of (Plan rows.now sets.now prices.now total)) }
+{
+    put_head(rows, w)?;
+    put_holds(rows, sets, prices.values.as_slice(), w)?;
+    put_prices(prices.of_cpu.as_slice(), w)?;
+    put_total(total, w)
+}
+
+fn write_shortage<W: Write>(rows: &[Row], members: &[usize], w: &mut W) -> io::Result<()>
+    requires { All (λ k. k < length rows.now) members.now }
+    ensures { Writes (W.contents w.old) (W.contents w.new) result (text_of (Short rows.now members.now)) }
+{
+    put_head(rows, w)?;
+    put_members(rows, members, w)?;
+    put(b"end\n", w)
+}
+
+fn write_either<W: Write>(certificate: &Certificate, w: &mut W) -> io::Result<()>
+    requires { CanBeText certificate.now }
+    ensures { Writes (W.contents w.old) (W.contents w.new) result (text_of certificate.now) }
+{
+    match certificate {
+        Certificate::Plan {
+            problem,
+            plan,
+            prices,
+            total,
+        } => write_plan(
+            problem.rows.as_slice(),
+            plan.sets.as_slice(),
+            prices,
+            *total,
+            w,
+        ),
+        Certificate::Short { problem, members } => {
+            write_shortage(problem.rows.as_slice(), members.rows.as_slice(), w)
+        }
+    }
+}
+
+/// Writes the certificate as a text, which [`read_text`](crate::read_text) reads again. It takes no memory.
+///
+/// # Errors
+/// As [`put`]: where it fails, a front of the text went out.
+pub fn write_text<W: Write>(certificate: &Certificate, w: &mut W) -> io::Result<()>
+    // Ids are valid and no two rows have one; no set is empty; a plan has a set and a value for each row; a shortage
+    // has members, which are rows, each after the one before.
+    requires { CanWrite certificate.now }
+    ensures written { Writes (W.contents w.old) (W.contents w.new) result (text_of certificate.now) }
+    // The text stands for this certificate, where its numbers and sets are such as their types hold.
+    ensures stands { IsHeld certificate.now → IsText (text_of certificate.now) certificate.now }
+{
+    written_texts_are_read();
+    write_either(certificate, w)
+}
