@@ -3,7 +3,7 @@ use Rattle.std.specs.Prelude.{◌≡◌, ℕ, ◌≤◌, List, ◌++◌, length,
 use Rattle.certificate_text.specs.Verdict.{IsVerdict, IsVerdictError, SaysLeast}
 use Rattle.certificate_text.specs.declared.checking.Verdict.{Verdict}
 use Rattle.certificate_text.specs.declared.checking.Verdict.TheVariants.{Plan, Short}
-use Rattle.certificate_text.specs.declared.checking.VerdictFault.TheVariants as verdict
+use Rattle.certificate_text.specs.declared.checking.VerdictFault.TheVariants as wrong
 use Rattle.faults.specs.declared.or_memory.OrMemory.TheVariants.{Fault}
 use Rattle.cli.specs.Answer.{WritesAnswer}
 use Rattle.cli.specs.StoppedReads.{IsReadFaultOf}
@@ -18,8 +18,8 @@ IsProvedVerdict bytes verdict = (length bytes ≤ MOST_BYTES) × IsVerdict bytes
 
 -- why the bytes prove nothing; no one can know beforehand whether memory suffices or a read fails
 abbrev pub IsRefusalOf : List ℕ → Refusal → Type 0
-IsRefusalOf bytes (refusal.BadText line) = (length bytes ≤ MOST_BYTES) × IsVerdictError bytes (Fault (verdict.BadText (record { line = line })))
-IsRefusalOf bytes (refusal.Check fault) = (length bytes ≤ MOST_BYTES) × IsVerdictError bytes (Fault (verdict.Check fault))
+IsRefusalOf bytes (refusal.BadText line) = (length bytes ≤ MOST_BYTES) × IsVerdictError bytes (Fault (wrong.BadText (record { line = line })))
+IsRefusalOf bytes (refusal.Check fault) = (length bytes ≤ MOST_BYTES) × IsVerdictError bytes (Fault (wrong.Check fault))
 IsRefusalOf bytes (refusal.ReadFault fault) = IsReadFaultOf bytes fault
 IsRefusalOf bytes refusal.Memory = ⊤
 IsRefusalOf bytes _ = ⊥
