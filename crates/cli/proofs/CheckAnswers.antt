@@ -29,3 +29,18 @@ refusal_right None items text e all same small wrong complete = tt
 refusal_right (Some bytes) items text e all same small wrong complete =
     subst (λ (b : List ℕ). IsAnswerTo b (Err (verdict_refusal e))) all
     (subst (λ (b : List ℕ). IsAnswerTo b (Err (verdict_refusal e))) same (refused text e small wrong complete))
+
+-- the same, where the size is known of all that was there
+pub named_verdict_right : (read : Option (List ℕ)) (items text : List ℕ) (size : ℕ) (v : Verdict) → IfSome read (λ all. (size ≤ MOST_BYTES) × (items ≡ all)) → text ≡ items → length text ≡ size
+    → IsVerdict text v → SaysLeast text v → ((w : Verdict) → IsVerdict text w → v ≡ w) → IfSome read (λ bytes. IsAnswerTo bytes (Ok v))
+named_verdict_right None items text size v all same long proved least complete = tt
+named_verdict_right (Some bytes) items text size v all same long proved least complete =
+    let fits : size ≤ MOST_BYTES = all.0 in
+    verdict_right (Some bytes) items text v all.1 same (rw long fits) proved least complete
+
+pub named_refusal_right : (read : Option (List ℕ)) (items text : List ℕ) (size : ℕ) (e : OrMemory VerdictFault) → IfSome read (λ all. (size ≤ MOST_BYTES) × (items ≡ all)) → text ≡ items → length text ≡ size
+    → IsVerdictError text e → ((w : Verdict) → IsVerdict text w → e ≡ Memory) → IfSome read (λ bytes. IsAnswerTo bytes (Err (verdict_refusal e)))
+named_refusal_right None items text size e all same long wrong complete = tt
+named_refusal_right (Some bytes) items text size e all same long wrong complete =
+    let fits : size ≤ MOST_BYTES = all.0 in
+    refusal_right (Some bytes) items text e all.1 same (rw long fits) wrong complete
