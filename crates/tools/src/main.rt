@@ -7,6 +7,7 @@
 
 mod ask;
 mod files;
+mod hand_over;
 mod kernel;
 mod lists;
 
@@ -45,6 +46,7 @@ fn at_once(alloc: Global, name: &str, count: u32) -> Option<u64> {
         "online-changes" => kernel::online_changes(alloc, count),
         "plain-leaf-writes" => kernel::plain_leaf_writes(alloc, count),
         "plain-online-changes" => kernel::plain_online_changes(alloc, count),
+        "hand-overs" => hand_over::hand_overs(alloc, count),
         "forks" => kernel::forks(alloc, count),
         _ => None,
     }

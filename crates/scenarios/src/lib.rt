@@ -1,0 +1,8 @@
+//! Tests that run several crates together, and the conditions that they see to.
+#![tactic(auto)]
+
+mod conditions;
+#[cfg(test)]
+mod hand_over;
+
+pub use conditions::{finish, handover, step};
