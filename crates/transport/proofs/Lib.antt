@@ -1,0 +1,17 @@
+pub mod Cells
+pub mod LeastSlack
+pub mod LineLemmas
+pub mod Looking
+pub mod Noting
+pub mod Numbers
+pub mod Pushing
+pub mod QueueLemmas
+pub mod Rising
+pub mod Running
+pub mod Sharing
+pub mod Starting
+pub mod Steps
+pub mod Sums
+pub mod Taking
+pub mod Ways
+pub mod Settling

@@ -1,0 +1,14 @@
+pub mod Answers
+pub mod Duals
+pub mod Lines
+pub mod Looks
+pub mod Numbers
+pub mod Pushed
+pub mod Pushes
+pub mod Queues
+pub mod Searches
+pub mod Settled
+pub mod Shares
+pub mod States
+pub mod Totals
+pub mod Weights
