@@ -12,5 +12,8 @@ pub enum Certificate {
         total: u64,
     },
     /// Rows that together ask for more CPUs than they may have, so that there is no plan.
-    Short { problem: Problem, members: Members },
+    Short {
+        problem: Problem,
+        members: Members,
+    },
 }

@@ -40,7 +40,15 @@ fn put_row<W: Write>(row: &Row, w: &mut W) -> io::Result<()>
 {
     let mut digits = Buffer::new();
     let demand = digits.format(row.demand).as_bytes();
-    put_all(&[b"row ".as_slice(), row.id.as_bytes(), b" ".as_slice(), demand], w)?;
+    put_all(
+        &[
+            b"row ".as_slice(),
+            row.id.as_bytes(),
+            b" ".as_slice(),
+            demand,
+        ],
+        w,
+    )?;
     put_offers(row.offers.as_slice(), w)?;
     put(b"\n", w)
 }

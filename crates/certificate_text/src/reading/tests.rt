@@ -16,12 +16,14 @@ end
 
 #[test]
 fn reads_a_certificate(rt: HostRuntime) -> Result<(), Fail> {
-    let Ok(Certificate::Plan {
-        problem,
-        plan,
-        prices,
-        total,
-    }) = read_text(rt.alloc(), CERTIFICATE.as_bytes())
+    let Ok(
+        Certificate::Plan {
+            problem,
+            plan,
+            prices,
+            total,
+        },
+    ) = read_text(rt.alloc(), CERTIFICATE.as_bytes())
     else {
         return Err(Fail::from("the text stands for another certificate"));
     };
