@@ -39,58 +39,66 @@ fn a_group_lives_and_goes(rt: HostRuntime) -> Result<(), Fail> {
 }
 
 #[test]
-fn cpus_go_and_come(rt: HostRuntime) -> Result<(), Fail> {
+fn cpus_that_stay(rt: HostRuntime) -> Result<(), Fail> {
     let mut kernel = two_nodes(rt.alloc())?.ok_or("no machine")?;
-    let g = kernel.make_group(kernel.root(), "g")?;
-    kernel.write_cpus(g, range(3, 3))?;
     assert_eq!(rt; kernel.offline(0), Err(KernelFault::Reserved));
     assert_eq!(rt; kernel.offline(9), Err(KernelFault::NoCpu));
     assert_eq!(rt; kernel.offline(70_000), Err(KernelFault::NoCpu));
     assert_eq!(rt; kernel.online_cpu(4), Ok(()));
     assert_eq!(rt; kernel.online(), range(0, 7));
-    assert_eq!(rt; kernel.offline(3), Ok(()));
-    assert_eq!(rt;
-        (kernel.requested_cpus(g)?, kernel.effective_cpus(g)?),
-        (range(3, 3), range(0, 2).union(&range(4, 7)))
-    );
-    assert_eq!(rt; kernel.online_cpu(3), Ok(()));
-    assert_eq!(rt; kernel.effective_cpus(g)?, range(3, 3));
-    assert_eq!(rt;
-        (kernel.nodes(), kernel.effective_mems(g)?),
-        (range(0, 1), range(0, 1))
-    );
+    assert_eq!(rt; kernel.nodes(), range(0, 1));
     Ok(())
 }
 
 #[test]
-fn one_write_fails(rt: HostRuntime) -> Result<(), Fail> {
-    let failed = KernelFault::Failed;
+fn a_cpu_goes_and_comes(rt: HostRuntime) -> Result<(), Fail> {
+    let mut kernel = two_nodes(rt.alloc())?.ok_or("no machine")?;
+    let g = kernel.make_group(kernel.root(), "g")?;
+    kernel.write_cpus(g, range(3, 3))?;
+    assert_eq!(rt; kernel.offline(3), Ok(()));
+    assert_eq!(rt; kernel.requested_cpus(g)?, range(3, 3));
+    assert_eq!(rt; kernel.effective_cpus(g)?, range(0, 2).union(&range(4, 7)));
+    assert_eq!(rt; kernel.online_cpu(3), Ok(()));
+    assert_eq!(rt; kernel.effective_cpus(g)?, range(3, 3));
+    assert_eq!(rt; kernel.effective_mems(g)?, range(0, 1));
+    Ok(())
+}
+
+#[test]
+fn the_first_write_fails(rt: HostRuntime) -> Result<(), Fail> {
     let mut first = FusedKernel::new(two_nodes(rt.alloc())?.ok_or("no machine")?, 1);
     assert_eq!(rt;
         first.make_group(first.root(), "g").err(),
-        Some(KernelError::Fault(failed))
+        Some(KernelError::Fault(KernelFault::Failed))
     );
     assert!(rt; first.make_group(first.root(), "g").is_ok());
+    Ok(())
+}
 
+#[test]
+fn the_second_write_fails(rt: HostRuntime) -> Result<(), Fail> {
     let mut second = FusedKernel::new(two_nodes(rt.alloc())?.ok_or("no machine")?, 2);
     let g = second.make_group(second.root(), "g")?;
-    assert_eq!(rt; second.write_cpus(g, range(1, 1)), Err(failed));
+    assert_eq!(rt; second.write_cpus(g, range(1, 1)), Err(KernelFault::Failed));
     assert_eq!(rt; second.requested_cpus(g)?, IdSet::empty());
     assert_eq!(rt; second.write_cpus(g, range(1, 1)), Ok(()));
     assert_eq!(rt; second.requested_cpus(g)?, range(1, 1));
+    Ok(())
+}
 
-    // A refused write is counted, an event and a read are not; with 0 none fails.
+#[test]
+fn refused_writes_count_and_events_do_not(rt: HostRuntime) -> Result<(), Fail> {
     let mut third = FusedKernel::new(two_nodes(rt.alloc())?.ok_or("no machine")?, 2);
     assert_eq!(rt; third.remove_group(third.root()), Err(KernelFault::IsRoot));
     assert_eq!(rt; third.offline(1), Ok(()));
-    assert_eq!(rt; third.end_group(third.root()), Err(failed));
+    assert_eq!(rt; third.end_group(third.root()), Err(KernelFault::Failed));
     let mut none = FusedKernel::new(two_nodes(rt.alloc())?.ok_or("no machine")?, 0);
     assert_eq!(rt; none.end_group(none.root()), Ok(()));
     Ok(())
 }
 
 #[test]
-fn a_list_of_calls_runs_over_both_kernels(rt: HostRuntime) -> Result<(), Fail> {
+fn a_list_of_calls(rt: HostRuntime) -> Result<(), Fail> {
     let alloc = rt.alloc();
     let root = Group { key: 0, serial: 0 };
     let g = Group { key: 1, serial: 1 };
@@ -111,7 +119,21 @@ fn a_list_of_calls_runs_over_both_kernels(rt: HostRuntime) -> Result<(), Fail> {
         Ok(Reply::Ids(range(2, 3))),
     ];
     assert_eq!(rt; replies.as_slice(), wanted.as_slice());
+    Ok(())
+}
 
+#[test]
+fn a_list_of_calls_of_which_one_fails(rt: HostRuntime) -> Result<(), Fail> {
+    let alloc = rt.alloc();
+    let root = Group { key: 0, serial: 0 };
+    let g = Group { key: 1, serial: 1 };
+    let calls = [
+        Call::Root,
+        Call::MakeGroup(root, String::from_str(alloc, "g")?),
+        Call::WriteCpus(g, range(2, 3)),
+        Call::Spawn(g),
+        Call::EffectiveCpus(g),
+    ];
     let mut fused = FusedKernel::new(two_nodes(alloc)?.ok_or("no machine")?, 2);
     let replies = make_calls(alloc, &mut fused, &calls)?;
     let failed = Err(KernelError::Fault(KernelFault::Failed));
