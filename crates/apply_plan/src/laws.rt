@@ -13,7 +13,10 @@ pub fn runs()
     ensures ends { EndsWithin }
 {}
 
-/// What requested sets are worth: targets take effect as they are, and what is safe as it is requested is safe in effect.
+/// What requested sets are worth, for groups whose parent is a child of the root that requests nothing.
+///
+/// Targets that are online take effect as they are; and what is safe as it is requested is safe in effect, while each
+/// live container requests a CPU that is online.
 pub fn effects()
     ensures targets { TargetsTakeEffect }
     ensures safe { SafeInEffect }

@@ -19,11 +19,12 @@ use Rattle.certificate.specs.Weight.{weight_in}
 use Rattle.certificate.specs.Limits.{are_apart, offers_fit, row_fits, values_fit}
 use Rattle.certificate.specs.declared.rows.Offer.{Offer}
 use Rattle.certificate.specs.declared.limits.TheConstants.{MAX_DEMAND, MAX_WEIGHT, MAX_AMOUNT}
-use Rattle.certificate.proofs.Tests.{and_left, and_right, both, not_true}
-use Rattle.certificate.proofs.Sums.{sum_by_none, sum_by_same, sum_by_plus, sum_by-filter, sum_by-constant}
-use Rattle.certificate.proofs.Cpus.{sum_by-cpus-le, len-times, length-cpus}
-use Rattle.certificate.proofs.ApartTest.{apart_at}
-use Rattle.certificate.proofs.Offers.{is_some-find}
+use Rattle.certificate.specs.Tests.{and_left, and_right, both, not_true}
+use Rattle.certificate.specs.Sums.{sum_by_none, sum_by_same, sum_by_plus, sum_by-filter, sum_by-constant}
+use Rattle.certificate.specs.Cpus.{sum_by-cpus-le, len-times, length-cpus}
+use Rattle.certificate.specs.ApartTest.{apart_at}
+use Rattle.certificate.specs.Offers.{is_some-find}
+use Rattle.certificate.specs.OfferLaws.{passes_at, offers_apart}
 
 module _ {A B : Type 0} (f : A × B → ℕ) where
   sum_zip_suc :
@@ -43,22 +44,10 @@ module _ {A B : Type 0} (f : A × B → ℕ) where
       → sum_by f (zip (take (k + 1) xs) (take (k + 1) ys)) ≡ sum_by f (zip (take k xs) (take k ys)) + f (x, y)
   sum_zip_more xs ys k x y in_xs in_ys x_is y_is = rw add-one (sum_zip_suc xs ys k x y in_xs in_ys x_is y_is)
 
--- an element of a list of which all pass
-pub passes_at : {A : Type 0} (p : A → Bool) (xs : List A) (k : ℕ) (x : A) → list_all p xs ≡ true → k < length xs → x ≡ get_or xs k x → p x ≡ true
-passes_at p xs k x all lt is = ap p is ∙ AllPass-from_list_all p xs all k x lt
-
 pub list_all-take : {A : Type 0} (p : A → Bool) (k : ℕ) (xs : List A) → list_all p xs ≡ true → list_all p (take k xs) ≡ true
 list_all-take p zero xs all = refl
 list_all-take p (suc k) [] all = refl
 list_all-take p (suc k) (x ∷ xs) all = both _ _ (and_left _ _ all) (list_all-take p k xs (and_right _ _ all))
-
-pub offers_apart : (offers : List Offer) → offers_fit offers ≡ true → are_apart (λ (o : Offer). o.cpus) offers ≡ true
-unfolding offers_fit
-offers_apart offers fit = and_right _ _ fit
-
-pub row_offers_fit : (row : RowView) → row_fits row ≡ true → offers_fit row.offers ≡ true
-unfolding row_fits
-row_offers_fit row fit = and_right _ _ (and_right _ _ fit)
 
 pub demand_small : (row : RowView) → row_fits row ≡ true → row.demand ≤ MAX_DEMAND
 unfolding row_fits

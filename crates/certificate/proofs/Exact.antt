@@ -28,7 +28,7 @@ use Rattle.certificate.specs.PlanFault.{is_not_allowed, row_fault, at_both, rows
 use Rattle.certificate.specs.declared.price_lists.Price.{Price}
 use Rattle.certificate.specs.declared.check_faults.CheckFault.{CheckFault}
 use Rattle.certificate.specs.declared.check_faults.CheckFault.TheVariants.{BadProblem, WrongCount, NotAllowed, HeldTwice, ValueTooHigh, Gap}
-use Rattle.certificate.proofs.Tests.{not_true, not_both, both}
+use Rattle.certificate.specs.Tests.{not_true, not_both, both}
 use Rattle.certificate.proofs.LimitFacts.{limit_facts}
 use Rattle.certificate.proofs.Duality.{no_plan_below_bound}
 

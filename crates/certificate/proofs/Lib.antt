@@ -1,10 +1,4 @@
-pub mod Tests
-pub mod Sums
 pub mod Rising
-pub mod Cpus
-pub mod Apart
-pub mod ApartTest
-pub mod Offers
 pub mod RowFaults
 pub mod CostSums
 pub mod PriceSums

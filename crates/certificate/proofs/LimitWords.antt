@@ -12,8 +12,8 @@ use Rattle.certificate.specs.AreWithin.{IsRowWithin, AreRowsWithin, AreWithin, R
 use Rattle.certificate.specs.declared.rows.Offer.{Offer}
 use Rattle.certificate.specs.declared.price_lists.Price.{Price}
 use Rattle.certificate.specs.declared.limits.TheConstants.{MAX_WEIGHT, MAX_AMOUNT}
-use Rattle.certificate.proofs.Tests.{and_left, and_right, both}
-use Rattle.certificate.proofs.ApartTest.{is_disjoint-says, is_disjoint-true}
+use Rattle.certificate.specs.Tests.{and_left, and_right, both}
+use Rattle.certificate.specs.ApartTest.{is_disjoint-says, is_disjoint-true}
 
 module _ {A : Type 0} (set_of : A → Ids) where
   abbrev pub AreApart : List A → Type 0

@@ -15,7 +15,8 @@ use Rattle.certificate.specs.Weight.{weight}
 use Rattle.certificate.specs.IsShortage.{chosen, asked, is_offered, offered}
 use Rattle.certificate.specs.Limits.{row_fits}
 use Rattle.certificate.specs.declared.limits.TheConstants.{MAX_DEMAND}
-use Rattle.certificate.proofs.CostSums.{passes_at, demand_small}
+use Rattle.certificate.proofs.CostSums.{demand_small}
+use Rattle.certificate.specs.OfferLaws.{passes_at}
 
 module _ (rows : List RowView) (members : List ℕ) (i : ℕ) (row : RowView) where
   -- the row is that of the member at this place

@@ -13,12 +13,13 @@ use Rattle.certificate.specs.Price.{price, all_prices}
 use Rattle.certificate.specs.Limits.{are_apart, prices_fit}
 use Rattle.certificate.specs.declared.price_lists.Price.{Price}
 use Rattle.certificate.specs.declared.limits.TheConstants.{MAX_AMOUNT}
-use Rattle.certificate.proofs.Tests.{and_left, and_right, not_true}
-use Rattle.certificate.proofs.Sums.{sum_by_none, sum_by_same, sum_by_plus, sum_by-constant}
-use Rattle.certificate.proofs.Cpus.{sum_by-cpus-le, len-times, length-cpus}
-use Rattle.certificate.proofs.ApartTest.{apart_at}
-use Rattle.certificate.proofs.Offers.{is_some-find}
-use Rattle.certificate.proofs.CostSums.{list_all-take, passes_at}
+use Rattle.certificate.specs.Tests.{and_left, and_right, not_true}
+use Rattle.certificate.specs.Sums.{sum_by_none, sum_by_same, sum_by_plus, sum_by-constant}
+use Rattle.certificate.specs.Cpus.{sum_by-cpus-le, len-times, length-cpus}
+use Rattle.certificate.specs.ApartTest.{apart_at}
+use Rattle.certificate.specs.Offers.{is_some-find}
+use Rattle.certificate.proofs.CostSums.{list_all-take}
+use Rattle.certificate.specs.OfferLaws.{passes_at}
 
 pub prices_apart : (prices : List Price) → prices_fit prices ≡ true → are_apart (λ (p : Price). p.cpus) prices ≡ true
 unfolding prices_fit

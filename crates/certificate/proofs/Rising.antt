@@ -7,7 +7,7 @@ use Rattle.std.proofs.lemmas.Bool.{ltb-true, lt-ltb}
 use Rattle.std.proofs.lemmas.List.Kept.{AllPairs-from_increasing, AllPairs-cons}
 use Rattle.std.proofs.lemmas.List.Sums.{AllPass-from_list_all, list_all-from_AllPass}
 use Rattle.certificate.specs.Limits.{is_rising}
-use Rattle.certificate.proofs.Tests.{is_false, not_true, both, and_left, and_right}
+use Rattle.certificate.specs.Tests.{is_false, not_true, both, and_left, and_right}
 
 rising_pairs : (ks : List ℕ) → is_rising ks ≡ true → AllPairs (λ x y. x < y) ks
 rising_pairs [] e = λ i j d lt below. absurd (omega arith)

@@ -15,9 +15,9 @@ use Rattle.certificate.specs.IsOfferTooHigh.{is_offer_too_high, is_dear}
 use Rattle.certificate.specs.PlanFault.{is_too_high}
 use Rattle.certificate.specs.declared.rows.Offer.{Offer}
 use Rattle.certificate.specs.declared.price_lists.Price.{Price}
-use Rattle.certificate.proofs.Tests.{is_false, and_left, and_right, not_true}
-use Rattle.certificate.proofs.ApartTest.{is_in_one, is_disjoint-says}
-use Rattle.certificate.proofs.CostSums.{offers_apart, row_offers_fit}
+use Rattle.certificate.specs.Tests.{is_false, and_left, and_right, not_true}
+use Rattle.certificate.specs.ApartTest.{is_in_one, is_disjoint-says}
+use Rattle.certificate.specs.OfferLaws.{offers_apart, row_offers_fit}
 use Rattle.certificate.proofs.PriceSums.{prices_apart}
 
 -- ---- things whose sets are apart

@@ -18,3 +18,10 @@ pub mod PlanFault
 pub mod ShortageFault
 pub mod IsCause
 pub mod Laws
+pub mod Tests
+pub mod Sums
+pub mod Cpus
+pub mod Apart
+pub mod ApartTest
+pub mod Offers
+pub mod OfferLaws

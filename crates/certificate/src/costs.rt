@@ -12,8 +12,9 @@ ghost use Rattle.certificate.specs.Limits.{offers_fit, row_fits, values_fit, pri
 use crate::{MAX_AMOUNT, MAX_DEMAND, MAX_ROWS, MAX_WEIGHT, Offer, Price, Row};
 use cpu_set::{CPU_LIMIT, IdSet};
 
-/// What a plan costs.
-pub(crate) fn plan_cost(rows: &[Row], sets: &[IdSet]) -> u64
+/// What a plan costs: the weights of the CPUs that its rows hold, summed. A CPU without a weight in its row
+/// counts nothing. Takes no memory.
+pub fn plan_cost(rows: &[Row], sets: &[IdSet]) -> u64
     requires few { length rows.now ≤ MAX_ROWS }
     requires fit { IsTrue (list_all row_fits rows.now) }
     requires same { length sets.now ≡ length rows.now }

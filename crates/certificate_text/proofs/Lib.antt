@@ -17,3 +17,4 @@ pub mod Pieces
 pub mod Texts
 pub mod Rereading
 pub mod Verdicts
+pub mod Writable

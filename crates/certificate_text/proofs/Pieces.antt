@@ -1,36 +1,14 @@
 -- An output in several parts.
-use Rattle.std.proofs.Common.{◌≡◌, ℕ, ◌<◌, List, [], ◌∷◌, ◌++◌, length, take, drop, get_or, suc, ◌+◌, map, Option, refl, sym, ap, subst, append-nil, ◌∙◌, arith, append_assoc, length-append, take-append-drop, drop-cons}
+use Rattle.std.proofs.Common.{◌≡◌, ℕ, ◌<◌, List, [], ◌∷◌, ◌++◌, length, take, get_or, ◌+◌, map, Option, refl, sym, ap, subst, append-nil, ◌∙◌}
 use Rattle.std.specs.List.{flat_map}
 use Rattle.std.proofs.KnownBytes.{Appends-trans}
 use Rattle.std.proofs.lemmas.Grind.{flat_map-append}
 use Rattle.std.proofs.lemmas.List.{take_more}
 use Rattle.std.specs.Io.KnownBytes.{Appends}
 use Rattle.cpu_list.specs.Output.{SendsFront}
+use Rattle.cpu_list.specs.Sending.{sends_part}
 
--- the parts before one, that one, and those after it
-flat_map-at : {A : Type 0} (f : A → List ℕ) (xs : List A) (i : ℕ) (d : A) → i < length xs
-    → flat_map f xs ≡ flat_map f (take i xs) ++ (f (get_or xs i d) ++ flat_map f (drop (suc i) xs))
-flat_map-at f xs i d below =
-    ap (flat_map f) (sym (take-append-drop i xs)) ∙ flat_map-append f (take i xs) (drop i xs)
-    ∙ ap (λ rest. flat_map f (take i xs) ++ flat_map f rest) (drop-cons xs i d below)
-
--- all of the parts before one went out, and a front of that one
-pub sends_part : {A : Type 0} (f : A → List ℕ) (old mid new : Option (List ℕ)) (xs : List A) (i : ℕ) (d : A) → i < length xs
-    → Appends old mid (flat_map f (take i xs)) → SendsFront mid new (f (get_or xs i d)) → SendsFront old new (flat_map f xs)
-sends_part f old mid new xs i d below before front =
-    let x = f (get_or xs i d) in
-    let later = flat_map f (drop (suc i) xs) in
-    record {
-      sent = flat_map f (take i xs) ++ front.sent;
-      unsent = front.unsent ++ later;
-      cut = flat_map-at f xs i d below ∙ ap (λ part. flat_map f (take i xs) ++ (part ++ later)) front.cut
-          ∙ ap (λ rest. flat_map f (take i xs) ++ rest) (append_assoc front.sent front.unsent later)
-          ∙ sym (append_assoc (flat_map f (take i xs)) front.sent (front.unsent ++ later));
-      is_short = let short : 0 < length front.unsent = front.is_short in omega (arith, length-append front.unsent later);
-      went_out = Appends-trans old mid new (flat_map f (take i xs)) front.sent before front.went_out;
-    }
-
--- the same of an element that was read
+-- all of the parts before one that was read went out, and a front of that one
 pub sends_item : {A : Type 0} (f : A → List ℕ) (old mid new : Option (List ℕ)) (xs : List A) (i : ℕ) (x : A) → i < length xs
     → Appends old mid (flat_map f (take i xs)) → x ≡ get_or xs i x → SendsFront mid new (f x) → SendsFront old new (flat_map f xs)
 sends_item f old mid new xs i x below before e front = sends_part f old mid new xs i x below before (subst (λ y. SendsFront mid new (f y)) e front)

@@ -17,5 +17,4 @@ pub mod Begun
 pub mod Finished
 pub mod Verdict
 pub mod OnBad
-pub mod Pieces
 pub mod Written

@@ -65,3 +65,7 @@ IsHeld (Short rows members) = All IsRowHeld rows
 -- what is written stands for the certificate
 abbrev pub WrittenReadsAgain : Type 0
 WrittenReadsAgain = (c : Certificate) → CanWrite c → IsHeld c → IsText (text_of c) c
+
+-- what a text stands for can be written
+abbrev pub ReadCanBeWritten : Type 0
+ReadCanBeWritten = (text : List ℕ) (c : Certificate) → IsText text c → CanWrite c

@@ -1,7 +1,9 @@
+ghost use Rattle.std.specs.Prelude.{◌≡◌};
 ghost use Rattle.certificate_text.specs.CertificateText.{OneCertificate};
 ghost use Rattle.certificate_text.specs.FirstBadLine.{OneBadLine};
-ghost use Rattle.certificate_text.specs.Written.{WrittenReadsAgain};
+ghost use Rattle.certificate_text.specs.Written.{ReadCanBeWritten, WrittenReadsAgain};
 
+use crate::ID_LIMIT;
 use cpu_list::{canonical_texts, plain_texts};
 
 /// No text stands for two certificates, and none has two first bad lines.
@@ -17,3 +19,13 @@ pub fn written_texts_are_read()
     canonical_texts();
     plain_texts();
 }
+
+/// What [`read_text`](crate::read_text) reads meets the condition of [`write_text`](crate::write_text).
+pub fn read_certificates_can_be_written()
+    ensures { ReadCanBeWritten }
+{}
+
+/// An id has at most 64 bytes.
+pub fn the_limits()
+    ensures id { ID_LIMIT ≡ 64 }
+{}

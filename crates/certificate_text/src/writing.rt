@@ -9,9 +9,8 @@ ghost use Rattle.certificate_text.specs.Written.{offer_text, line_text, text_of,
 
 use crate::Certificate;
 use crate::laws::written_texts_are_read;
-use crate::output::put_all;
 use certificate::{Offer, Price, Prices, Row};
-use cpu_list::{put, write_list};
+use cpu_list::{put, put_all, write_list};
 use cpu_set::IdSet;
 use itoa::Buffer;
 use std::io;
@@ -204,3 +203,6 @@ pub fn write_text<W: Write>(certificate: &Certificate, w: &mut W) -> io::Result<
     written_texts_are_read();
     write_either(certificate, w)
 }
+
+#[cfg(test)]
+mod tests;

@@ -1,6 +1,5 @@
 pub mod KnownBytes
 pub mod Leaves
-pub mod Parts
 pub mod PlainWords
 pub mod Rows
 pub mod Taking

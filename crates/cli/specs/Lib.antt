@@ -8,7 +8,6 @@ pub mod ListAnswer
 pub mod Mistakes
 pub mod Notes
 pub mod Pages
-pub mod Parts
 pub mod Program
 pub mod ReadFaults
 pub mod RefusalLine

@@ -5,11 +5,12 @@ ghost use Rattle.cpu_list.specs.Output.{Writes};
 ghost use Rattle.certificate_text.specs.declared.checking.Verdict.TheVariants.{Short};
 
 use crate::answer::{Printed, tell};
-use crate::output::{put_all, put_number_line};
+use crate::output::put_number_line;
 use crate::reading::read_all;
 use crate::refusal::Refusal;
 use crate::write_fault::WriteFault;
 use certificate_text::{Verdict, check_text};
+use cpu_list::put_all;
 use itoa::Buffer;
 use std::alloc::Global;
 use std::io;

@@ -10,26 +10,29 @@ const VERSION: &str = "0.1.0";
 
 const HELP: &str =
     "Exit status: 0; 1 if an input is refused or can't be read, if memory is short, or if the answer\n\
-    can't be written; 2 if the words are no command line.\n\n\
+    can't be written; 2 if the words are no command line, or if memory is short while they are parsed.\n\n\
     Formats and refusals: docs/formats.md.\n\n\
     Example: numarun check examples/two-containers.certificate";
 
 const CHECK_HELP: &str =
-    "Prints `plan total N` if the certificate proves its plan to be of least cost, else why it is refused.\n\n\
-    Exit status: 0 if it proves its plan; 1 if it is refused or can't be read, if memory is short, or if\n\
-    the answer can't be written; 2 if the words are no command line.\n\n\
+    "Prints `plan total N` if the certificate proves its plan to be of least cost, `short demand N cpus M`\n\
+    if it shows that there is none, else why it is refused.\n\n\
+    Exit status: 0 if it proves or shows that; 1 if it is refused or can't be read, if memory is short, or\n\
+    if the answer can't be written; 2 if the words are no command line, or if memory is short while they\n\
+    are parsed.\n\n\
     Format: docs/formats.md, \"Certificates, version 1\".\n\n\
     Example: numarun check examples/two-containers.certificate";
 
 const LIST_HELP: &str =
-    "Exit status: 0 if the text is a list; 1 if it is refused, or if the answer can't be written; 2 if the\n\
-    words are no command line.\n\n\
+    "Exit status: 0 if the text is a list; 1 if it is refused, if memory is short, or if the answer can't\n\
+    be written; 2 if the words are no command line, or if memory is short while they are parsed.\n\n\
     Format: docs/formats.md, \"Lists\".\n\n\
     Example: numarun list 3,1-2 prints 1-3";
 
 const SLIT_HELP: &str =
     "Exit status: 0 if the bytes are a table; 1 if they are refused or can't be read, if memory is short,\n\
-    or if the answer can't be written; 2 if the words are no command line.\n\n\
+    or if the answer can't be written; 2 if the words are no command line, or if memory is short while\n\
+    they are parsed.\n\n\
     Format: docs/formats.md, \"Distance tables\".\n\n\
     Example: numarun slit /sys/firmware/acpi/tables/SLIT";
 

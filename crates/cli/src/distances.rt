@@ -6,11 +6,11 @@ ghost use Rattle.cli.specs.SlitAnswer.{IsTableOrRefusal, SlitAnswers, entry_text
 ghost use Rattle.cpu_list.specs.Output.{Writes};
 
 use crate::answer::{Printed, tell};
-use crate::output::{put_all, put_number_line};
+use crate::output::put_number_line;
 use crate::reading::read_all;
 use crate::refusal::Refusal;
 use crate::write_fault::WriteFault;
-use cpu_list::put;
+use cpu_list::{put, put_all};
 use itoa::Buffer;
 use slit::Slit;
 use std::alloc::Global;

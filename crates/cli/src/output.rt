@@ -1,24 +1,13 @@
-//! Output in several parts.
+//! Lines of output, and numbers in them.
 ghost use Rattle.std.specs.Prelude.{◌++◌, codes, decimal};
 ghost use Rattle.cli.specs.ErrorLine.{error_line};
-ghost use Rattle.cli.specs.Parts.{bytes_of};
 ghost use Rattle.cli.specs.RefusalLine.{argument_text};
 ghost use Rattle.cpu_list.specs.Output.{Writes};
 
-use cpu_list::put;
+use cpu_list::put_all;
 use itoa::Buffer;
 use std::io;
 use std::io::Write;
-
-/// Writes the parts, one after another.
-pub fn put_all<W: Write>(parts: &[&[u8]], w: &mut W) -> io::Result<()>
-    ensures { Writes (W.contents w.old) (W.contents w.new) result (bytes_of parts.now) }
-{
-    for part in parts {
-        put(part, w)?;
-    }
-    Ok(())
-}
 
 /// Writes a line of a label and a number.
 pub fn put_number_line<W: Write>(label: &[u8], number: u64, w: &mut W) -> io::Result<()>

@@ -39,7 +39,8 @@ pub const MISUSED: u8 = 2;
 const UNWRITTEN: &str = "error: the answer can't be written\n";
 
 /// Does what the words of the command line ask for, over these files and standard streams, and tells the exit status:
-/// 0; 1 where an input is refused, memory is short or the answer can't be written; 2 where the words are no command line.
+/// 0; 1 where an input is refused, memory is short or the answer can't be written; 2 where the words are no command line,
+/// or memory is short while they are parsed or while the help or a mistake is put into words.
 pub fn run<F: Opens, R: Read, W: Write, E: Write>(
     alloc: Global,
     words: &[&str],

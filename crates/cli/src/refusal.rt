@@ -5,12 +5,12 @@ ghost use Rattle.cli.specs.RefusalLine.{arguments_of, arguments_text, check_argu
 ghost use Rattle.cpu_list.specs.Output.{Writes};
 
 use crate::answer::Printed;
-use crate::output::{put_all, put_argument};
+use crate::output::put_argument;
 use crate::read_error::ReadError;
 use crate::read_fault::ReadFault;
 use certificate::CheckFault;
 use certificate_text::VerdictFault;
-use cpu_list::{ListError, ListErrorKind, put};
+use cpu_list::{ListError, ListErrorKind, put, put_all};
 use faults::OrMemory;
 use slit::SlitFault;
 use std::io;

@@ -1,5 +1,5 @@
 -- What the bytes of a config say to pinning, or the first thing that is wrong with them.
-use Rattle.std.specs.Prelude.{ℕ, List, [], ◌∷◌, length, nat_lt, Option, Some, None, Result, Ok, Err, cond}
+use Rattle.std.specs.Prelude.{ℕ, List, [], ◌∷◌, length, nat_lt, Option, Some, None, Result, Err, cond}
 use Rattle.faults.specs.First.{when, first_of, unless}
 use Rattle.serde_json.specs.Data.{Data}
 use Rattle.config_json.specs.declared.config.TheConstants.{MAX_BYTES}

@@ -1,5 +1,5 @@
 -- Which versions of the specification are read: SemVer 2.0.0 text with major number 1.
-use Rattle.std.specs.Prelude.{ℕ, ◌==◌, ◌&&◌, Bool, false, length, List, Option, Some, None, Result, Ok, Err, not}
+use Rattle.std.specs.Prelude.{ℕ, ◌==◌, ◌&&◌, Bool, true, false, length, List, Option, Some, None, Result, Ok, Err, not}
 use Rattle.faults.specs.First.{when}
 use Rattle.semver.specs.Parse.{Parts, version_parts}
 use Rattle.config_json.specs.declared.fault.ConfigFault.{ConfigFault}
@@ -19,7 +19,7 @@ abbrev pub version_fault_of : Option (List ℕ) → Option ConfigFault
 version_fault_of None = None
 version_fault_of (Some text) = version_fault text
 
--- a version with neither pre-release nor build metadata, which is read without memory
+-- a text that is read without memory: no version, or one with neither pre-release nor build metadata
 abbrev pub is_plain : {E : Type 0} → Result Parts E → Bool
 is_plain (Ok p) = length p.3 == 0 && length p.4 == 0
-is_plain (Err e) = false
+is_plain (Err e) = true

@@ -1,8 +1,6 @@
 pub mod Below
 pub mod Canonical
 pub mod Digits
-pub mod FirstFaults
-pub mod ItemFaults
 pub mod Pieces
 pub mod PlainItems
 pub mod PlainText
@@ -12,6 +10,5 @@ pub mod RangeText
 pub mod RangesAmong
 pub mod ReadSteps
 pub mod RoundTrip
-pub mod Sending
 pub mod SetRanges
 pub mod TextBytes

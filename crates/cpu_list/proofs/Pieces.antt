@@ -6,7 +6,8 @@ use Rattle.std.proofs.lemmas.List.{take_all}
 use Rattle.std.proofs.lemmas.List.Folds.{length-prefix_len}
 use Rattle.std.proofs.lemmas.List.Splits.{slice_split_first, slice_split_none}
 use Rattle.std.proofs.lemmas.List.Sums.{fails_before_first, prefix_len-le-length}
-use Rattle.cpu_list.specs.ListText.{is_comma, pieces, item_of, range_of, number_of, range_names, piece_names}
+use Rattle.cpu_list.specs.ListText.{is_comma, pieces, item_of, range_of, range_names, piece_names}
+use Rattle.cpu_list.specs.ItemFaults.{range_of-nil}
 
 -- the pieces of a text from a place on; none past its end
 abbrev pub pieces_from : List ℕ → ℕ → List (List ℕ)
@@ -49,10 +50,6 @@ pieces_more text at low =
 
 pub pieces_all : (text : List ℕ) (at : ℕ) → length text < at → pieces_from text at ≡ []
 pieces_all text at past = cond-false _ _ _ (lt-leb _ _ past)
-
-pub range_of-nil : range_of [] ≡ None
-unfolding range_of number_of
-range_of-nil = refl
 
 pub or_false : (b : Bool) → b ≡ (b || false)
 or_false true = refl

@@ -9,7 +9,7 @@ use Rattle.cpu_list.specs.declared.list_error.ListErrorKind.{ListErrorKind}
 use Rattle.cpu_list.specs.ListText.{is_comma, indent, item_of, names, piece_names, IsList, IsSetOf}
 use Rattle.cpu_list.specs.FirstFault.{item_fault, faults_from, first_fault}
 use Rattle.faults.specs.First.{first_of}
-use Rattle.cpu_list.proofs.FirstFaults.{none_where_list}
+use Rattle.cpu_list.specs.FirstFaults.{none_where_list}
 use Rattle.cpu_list.proofs.Pieces.{pieces_from, pieces_none, pieces_more, pieces_all, first_fits, or_false}
 
 -- the pieces before this place are right, and the set has what they name

@@ -1,8 +1,11 @@
 pub mod CanonicalLaws
 pub mod CanonicalList
 pub mod FirstFault
+pub mod FirstFaults
+pub mod ItemFaults
 pub mod ListText
 pub mod Output
+pub mod Parts
 pub mod Plain
 pub mod RangesFrom
 pub mod Sending

@@ -1,5 +1,7 @@
 -- A writer in the midst of some bytes, and the parts of an output that is written piece by piece.
-use Rattle.std.proofs.Common.{◌≡◌, ℕ, List, [], ◌++◌, take, drop, sym, ap, subst, ◌∙◌, arith, append-nil, append_assoc, length-append, take-append-drop, Option, Result, Ok, Err}
+use Rattle.std.proofs.Common.{◌≡◌, ℕ, suc, ◌<◌, List, [], ◌++◌, length, take, drop, get_or, sym, ap, subst, ◌∙◌, arith, append-nil, append_assoc, length-append, take-append-drop, drop-cons, Option, Result, Ok, Err}
+use Rattle.std.specs.List.{flat_map}
+use Rattle.std.proofs.lemmas.Grind.{flat_map-append}
 use Rattle.std.specs.Io.KnownBytes.{Appends}
 use Rattle.std.proofs.KnownBytes.{Appends-nil, Appends-trans}
 use Rattle.cpu_list.specs.Output.{SendsFront, Writes}
@@ -60,3 +62,26 @@ pub HasSent-fails : (old mid new : Option (List ℕ)) (bytes rest part left : Li
 HasSent-fails old mid new bytes rest part left h e f =
     subst (SendsFront old new) (sym (h.cut ∙ ap (λ r. h.sent ++ r) e))
     (SendsFront-then old mid new h.sent (part ++ left) h.went_out (SendsFront-more mid new part left f))
+
+-- the parts before one, that one, and those after it
+flat_map-at : {A : Type 0} (f : A → List ℕ) (xs : List A) (i : ℕ) (d : A) → i < length xs
+    → flat_map f xs ≡ flat_map f (take i xs) ++ (f (get_or xs i d) ++ flat_map f (drop (suc i) xs))
+flat_map-at f xs i d below =
+    ap (flat_map f) (sym (take-append-drop i xs)) ∙ flat_map-append f (take i xs) (drop i xs)
+    ∙ ap (λ rest. flat_map f (take i xs) ++ flat_map f rest) (drop-cons xs i d below)
+
+-- all of the parts before one went out, and a front of that one
+pub sends_part : {A : Type 0} (f : A → List ℕ) (old mid new : Option (List ℕ)) (xs : List A) (i : ℕ) (d : A) → i < length xs
+    → Appends old mid (flat_map f (take i xs)) → SendsFront mid new (f (get_or xs i d)) → SendsFront old new (flat_map f xs)
+sends_part f old mid new xs i d below before front =
+    let x = f (get_or xs i d) in
+    let later = flat_map f (drop (suc i) xs) in
+    record {
+      sent = flat_map f (take i xs) ++ front.sent;
+      unsent = front.unsent ++ later;
+      cut = flat_map-at f xs i d below ∙ ap (λ part. flat_map f (take i xs) ++ (part ++ later)) front.cut
+          ∙ ap (λ rest. flat_map f (take i xs) ++ rest) (append_assoc front.sent front.unsent later)
+          ∙ sym (append_assoc (flat_map f (take i xs)) front.sent (front.unsent ++ later));
+      is_short = let short : 0 < length front.unsent = front.is_short in omega (arith, length-append front.unsent later);
+      went_out = Appends-trans old mid new (flat_map f (take i xs)) front.sent before front.went_out;
+    }

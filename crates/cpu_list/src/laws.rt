@@ -16,7 +16,7 @@ pub fn lists_stay_below()
 {}
 
 /// The printed text of a set of CPU numbers is canonical, and a set has no other canonical text.
-/// Under each limit above the members that text is a list of this set and of no other, so that
+/// Under each limit up to 2^64 above the members that text is a list of this set and of no other, so that
 /// reading gives the printed set back.
 pub fn canonical_texts()
     ensures canonical { TextIsCanonical }

@@ -12,7 +12,7 @@ mod writing;
 
 pub use laws::{canonical_texts, first_faults, lists_stay_below, plain_texts};
 pub use list_error::{ListError, ListErrorKind};
-pub use output::put;
+pub use output::{put, put_all};
 pub use printing::print;
 pub use reading::read;
 pub use writing::write_list;

@@ -312,6 +312,20 @@ IsFilled-more old words first last k bits lt fits each is =
     below : (q : ℕ) → q < (k + 1) * 64 → (q / 64 ≡ k → ⊥) → q < k * 64
     below q less ne = omega arith
 
+within_word :
+    (first last k i : ℕ) → first / 64 ≡ k → last / 64 ≡ k → i < 64
+    → (nat_le (first % 64) i && nat_le i (last % 64)) ≡ (nat_le first (k * 64 + i) && nat_le (k * 64 + i) last)
+within_word first last k i low high lt = grind (arith, nat_tests)
+
+-- a range that is within a word
+pub IsFilled-one :
+    (words : List ℕ) (first last bits : ℕ) → AreWords words → first / 64 ≡ last / 64 → first / 64 < WORDS → bits < 2 ^ 64
+    → ((i : ℕ) → i < 64 → (bit_at bits i == 1) ≡ (nat_le (first % 64) i && nat_le i (last % 64)))
+    → IsFilled words (set words (first / 64) (bit_or (get_or words (first / 64) 0) bits)) first last (first / 64 + 1)
+IsFilled-one words first last bits are same lt fits each =
+    IsFilled-more words words first last (first / 64) bits lt fits (λ i less. each i less ∙ within_word first last (first / 64) i refl (sym same) less)
+    (IsFilled-none words first last are)
+
 filled_all : (a : Bool) (first last q n : ℕ) → (q ≤ last → q < n) → (a || ((nat_le first q && nat_le q last) && nat_lt q n)) ≡ (a || (nat_le first q && nat_le q last))
 filled_all a first last q n f = grind (arith, nat_tests)
 

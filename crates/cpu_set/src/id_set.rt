@@ -5,7 +5,7 @@ ghost use Rattle.cpu_set.specs.Members.{IsCpu, InRange, IsComplement, members};
 ghost use Rattle.cpu_set.specs.Words.{AreWords, set_of_words};
 
 use crate::CPU_LIMIT;
-use crate::word::{bits_of_range, first_bit};
+use crate::word::{bits_between, bits_of_range, first_bit};
 use std::fmt;
 use std::marker::Model;
 use std::simd::prelude::*;
@@ -73,6 +73,19 @@ impl IdSet {
 
     /// Adds the numbers from `first` up to `last`.
     pub fn insert_range(&mut self, first: u16, last: u16)
+        requires { IsCpu last }
+        ensures { (n : ℕ) → set.contains self.new n ≡ (set.contains self.old n || (nat_le first n && nat_le n last)) }
+    {
+        let at = first as usize / WORD_BITS;
+        if at == last as usize / WORD_BITS {
+            self.words[at] = self.words[at] | bits_between(first % 64, last % 64);
+        } else {
+            self.insert_in_words(first, last);
+        }
+    }
+
+    // Adds the numbers from `first` up to `last`, word by word.
+    fn insert_in_words(&mut self, first: u16, last: u16)
         requires { IsCpu last }
         ensures { (n : ℕ) → set.contains self.new n ≡ (set.contains self.old n || (nat_le first n && nat_le n last)) }
     {

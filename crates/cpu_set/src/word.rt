@@ -24,8 +24,8 @@ pub fn bits_of_range(start: u16, first: u16, last: u16) -> u64
     bits_between(first.saturating_sub(start), (last - start).min(63))
 }
 
-// The word with the bits from the first up to the last.
-fn bits_between(first: u16, last: u16) -> u64
+/// The word with the bits from the first up to the last.
+pub fn bits_between(first: u16, last: u16) -> u64
     requires { (first < 64) × (last < 64) }
     ensures { (i : ℕ) → i < 64 → (bit_at result i == 1) ≡ (nat_le first i && nat_le i last) }
 {

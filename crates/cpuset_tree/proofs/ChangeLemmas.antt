@@ -8,39 +8,17 @@ use Rattle.slab.specs.Slab.{Slab, get}
 use Rattle.cpu_set.specs.Ids.{Ids}
 use Rattle.cpuset_tree.specs.declared.groups.Group.{Group}
 use Rattle.cpuset_tree.specs.declared.groups.Cgroup.{Cgroup}
+use Rattle.cpuset_tree.specs.declared.groups.Resource.{Resource}
 use Rattle.cpuset_tree.specs.TreeState.{GroupEntry}
 use Rattle.cpuset_tree.specs.Groups.{same_group, is_parent, has_child_among, entry_among, root_among}
-use Rattle.cpuset_tree.specs.Kept.{entry_of_kept, listed, HasParentAmong, IsInOrder, KeepsEffective, AllKept, ChangesAt, behind}
-use Rattle.cpuset_tree.specs.GroupLemmas.{same_group-key, same_group-equal, same_group_sym, other_key, entry_among-here, entry_among-there, entry_among-without, effective-without, standing_alike}
-use Rattle.cpuset_tree.proofs.KeptLemmas.{listed_at, key_is_absent, listed-others, AllKept-others}
+use Rattle.cpuset_tree.specs.Kept.{entry_of_kept, listed, HasParentAmong, IsInOrder, share_of, requested_of, KeepsEffective, AllKept, ChangesAt}
+use Rattle.cpuset_tree.specs.GroupLemmas.{same_group-key, same_group_sym, other_key, entry_among-here, entry_among-there, entry_among-without, effective-without, standing_alike}
+use Rattle.cpuset_tree.proofs.KeptLemmas.{listed_at, listed-others}
 
 -- a bound on the serials may be raised
 pub IsInOrder-below : (s : Slab Cgroup) (next more : ℕ) (keys : List ℕ) → next ≤ more → IsInOrder s next keys → IsInOrder s more keys
 IsInOrder-below s next more [] le _ = tt
 IsInOrder-below s next more (k ∷ older) le (m, at, knows, below, parent, rest) = (m, at, knows, omega arith, parent, rest)
-
--- the keys behind one are not it
-pub behind_absent : (s : Slab Cgroup) (next : ℕ) (keys : List ℕ) → IsInOrder s next keys → (key : ℕ) → list_any (λ k. k == key) (behind key keys) ≡ false
-behind_absent s next [] _ key = refl
-behind_absent s next (k ∷ older) (m, at, knows, below, parent, rest) key =
-    elim (k == key) as (λ t. (k == key) ≡ t → list_any (λ k. k == key) (behind key (k ∷ older)) ≡ false) [
-      | true ↦ λ e. rw e (key_is_absent s m.group.serial older rest key m (ap (get s) (sym (eqb-true k key e)) ∙ at) (omega arith))
-      | false ↦ λ e. rw e (behind_absent s m.group.serial older rest key)
-    ] refl
-
-pub AllKept-behind : (s : Slab Cgroup) (online nodes : Ids) (key : ℕ) (keys : List ℕ) → AllKept s online nodes keys → AllKept s online nodes (behind key keys)
-AllKept-behind s online nodes key [] _ = tt
-AllKept-behind s online nodes key (k ∷ older) kept =
-    elim (k == key) as (λ t. (k == key) ≡ t → AllKept s online nodes (behind key (k ∷ older))) [
-      | true ↦ λ e. rw e kept.1
-      | false ↦ λ e. rw e (AllKept-behind s online nodes key older kept.1)
-    ] refl
-
--- where one group was changed, the older ones keep what they have in effect
-pub AllKept-older : (old new : Slab Cgroup) (online nodes : Ids) (next key : ℕ) (f : Cgroup → Cgroup) (keys : List ℕ) → IsInOrder old next keys
-    → ChangesAt old new key f → AllKept old online nodes keys → AllKept new online nodes (behind key keys)
-AllKept-older old new online nodes next key f keys order change kept =
-    AllKept-others old new online nodes key change.others (behind key keys) (behind_absent old next keys order key) (AllKept-behind old online nodes key keys kept)
 
 -- what a write of one group leaves of the list
 module _ (old new : Slab Cgroup) (g : Group) (f : Cgroup → Cgroup) (r : GroupEntry → GroupEntry)
@@ -181,33 +159,30 @@ module _ (old new : Slab Cgroup) (g : Group) (n : Cgroup) (at_g : get old g.key 
             (m, kept_at k e ∙ at, knows, below, parent-removed m.parent m.group.serial older rest parts.0 parent, IsInOrder-removed m.group.serial older rest parts.1)
       ] refl
 
-  kept-removed : (online nodes : Ids) (next : ℕ) (older : List ℕ) (m : Cgroup) → IsInOrder old next older → is_parent m.parent g ≡ false
-      → has_child_among (listed old older) g ≡ false → KeepsEffective online nodes (listed old older) m → KeepsEffective online nodes (listed new (kept_keys older)) m
-  kept-removed online nodes next older m rest none childless kept =
-      subst (λ (l : List GroupEntry). KeepsEffective online nodes l m) (sym (listed-removed next older rest))
-      (record {
-        cpus = kept.cpus ∙ standing_alike (λ e. e.cpus) online m.parent m.cpus _ _ (λ p of. sym (effective-without (λ e. e.cpus) online g (listed old older) childless p (other p of)));
-        mems = kept.mems ∙ standing_alike (λ e. e.mems) nodes m.parent m.mems _ _ (λ p of. sym (effective-without (λ e. e.mems) nodes g (listed old older) childless p (other p of)));
-      })
+  kept-removed : (r : Resource) (top : Ids) (next : ℕ) (older : List ℕ) (m : Cgroup) → IsInOrder old next older → is_parent m.parent g ≡ false
+      → has_child_among (listed old older) g ≡ false → KeepsEffective r top (listed old older) m → KeepsEffective r top (listed new (kept_keys older)) m
+  kept-removed r top next older m rest none childless kept =
+      subst (λ (l : List GroupEntry). KeepsEffective r top l m) (sym (listed-removed next older rest))
+      (kept ∙ standing_alike (requested_of r) top m.parent (share_of r m).requested _ _ (λ p of. sym (effective-without (requested_of r) top g (listed old older) childless p (other p of))))
     where
       other : (p : Group) → m.parent ≡ Some p → same_group g p ≡ false
       other p of = same_group_sym g p ∙ ap (λ (o : Option Group). is_parent o g) (sym of) ∙ none
 
-  pub AllKept-removed : (online nodes : Ids) (next : ℕ) (keys : List ℕ) → IsInOrder old next keys → has_child_among (listed old keys) g ≡ false
-      → AllKept old online nodes keys → AllKept new online nodes (kept_keys keys)
-  AllKept-removed online nodes next [] _ none kept = tt
-  AllKept-removed online nodes next (k ∷ older) (m, at, knows, below, parent, rest) none kept =
+  pub AllKept-removed : (r : Resource) (top : Ids) (next : ℕ) (keys : List ℕ) → IsInOrder old next keys → has_child_among (listed old keys) g ≡ false
+      → AllKept r old top keys → AllKept r new top (kept_keys keys)
+  AllKept-removed r top next [] _ none kept = tt
+  AllKept-removed r top next (k ∷ older) (m, at, knows, below, parent, rest) none kept =
       let parts : (is_parent m.parent g ≡ false) × (has_child_among (listed old older) g ≡ false) = parts_of k older m at none in
-      elim (k == g.key) as (λ t. (k == g.key) ≡ t → AllKept new online nodes (kept_keys (k ∷ older))) [
+      elim (k == g.key) as (λ t. (k == g.key) ≡ t → AllKept r new top (kept_keys (k ∷ older))) [
         | true ↦ λ e.
-            subst (λ (l : List ℕ). AllKept new online nodes l) (sym (drops_key k older e)) (AllKept-removed online nodes m.group.serial older rest parts.1 kept.1)
+            subst (λ (l : List ℕ). AllKept r new top l) (sym (drops_key k older e)) (AllKept-removed r top m.group.serial older rest parts.1 kept.1)
         | false ↦ λ e.
-            subst (λ (l : List ℕ). AllKept new online nodes l) (sym (keeps_key k older e)) (
+            subst (λ (l : List ℕ). AllKept r new top l) (sym (keeps_key k older e)) (
               (λ x is.
                   let one : m ≡ x = same_Some m x (sym at ∙ sym (kept_at k e) ∙ is) in
-                  subst (λ (y : Cgroup). KeepsEffective online nodes (listed new (kept_keys older)) y) one
-                  (kept-removed online nodes m.group.serial older m rest parts.0 parts.1 (kept.0 m at))),
-              AllKept-removed online nodes m.group.serial older rest parts.1 kept.1,
+                  subst (λ (y : Cgroup). KeepsEffective r top (listed new (kept_keys older)) y) one
+                  (kept-removed r top m.group.serial older m rest parts.0 parts.1 (kept.0 m at))),
+              AllKept-removed r top m.group.serial older rest parts.1 kept.1,
             )
       ] refl
 

@@ -1,5 +1,6 @@
 pub mod KeptLemmas
 pub mod PlaceLemmas
+pub mod ShareLemmas
 pub mod ChangeLemmas
 pub mod RefreshLemmas
 pub mod SoundLemmas

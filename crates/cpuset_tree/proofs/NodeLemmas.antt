@@ -7,10 +7,11 @@ use Rattle.slab.specs.Slab.{Slab, get}
 use Rattle.cpu_set.specs.Ids.{Ids}
 use Rattle.cpuset_tree.specs.declared.groups.Group.{Group}
 use Rattle.cpuset_tree.specs.declared.groups.Cgroup.{Cgroup}
+use Rattle.cpuset_tree.specs.declared.groups.Resource.TheVariants.{Cpus, Mems}
 use Rattle.cpuset_tree.specs.TreeState.{TreeState}
 use Rattle.cpuset_tree.specs.Groups.{same_group, entry_among, is_root_entry}
-use Rattle.cpuset_tree.specs.Kept.{listed, IsSound, IsKeptOf, entry_of_kept, cpus_kept, mems_kept}
-use Rattle.cpuset_tree.proofs.KeptLemmas.{cpus_kept-effective, mems_kept-effective}
+use Rattle.cpuset_tree.specs.Kept.{listed, IsSound, IsKeptOf, entry_of_kept, effective_kept}
+use Rattle.cpuset_tree.proofs.KeptLemmas.{kept-effective}
 use Rattle.cpuset_tree.proofs.ChangeLemmas.{found, not_found}
 
 module _ (s : Slab Cgroup) (keys : List ℕ) (online nodes : Ids) (root : Group) (next : ℕ) (g : Group) where
@@ -22,8 +23,8 @@ module _ (s : Slab Cgroup) (keys : List ℕ) (online nodes : Ids) (root : Group)
       let is : entry_among (listed s keys) g ≡ Some (entry_of_kept n) = found s next keys sound.in_order g n at same (sound.complete g.key (ap is_some at)) in
       let there : is_some (entry_among (listed s keys) g) ≡ true = ap is_some is in (
         is,
-        ap cpus_kept (sym at) ∙ cpus_kept-effective s online nodes next keys sound.in_order sound.all_kept g there,
-        ap mems_kept (sym at) ∙ mems_kept-effective s online nodes next keys sound.in_order sound.all_kept g there,
+        ap (effective_kept Cpus) (sym at) ∙ kept-effective Cpus s online next keys sound.in_order (sound.all_kept Cpus) g there,
+        ap (effective_kept Mems) (sym at) ∙ kept-effective Mems s nodes next keys sound.in_order (sound.all_kept Mems) g there,
       )
 
   pub none_kept : IsSound s keys online nodes root next → ((n : Cgroup) → get s g.key ≡ Some n → same_group n.group g ≡ false) → IsKeptOf state g None

@@ -6,12 +6,13 @@ use Rattle.std.specs.Prelude.{Option, Some, None, is_some, is_none, option_map, 
 use Rattle.std.proofs.Common.{⊎_elim}
 use Rattle.std.specs.List.{list_any}
 use Rattle.slab.specs.Slab.{Slab, get}
-use Rattle.cpu_set.specs.Ids.{Ids}
 use Rattle.cpuset_tree.specs.declared.groups.Group.{Group}
 use Rattle.cpuset_tree.specs.declared.groups.Cgroup.{Cgroup}
+use Rattle.cpuset_tree.specs.declared.groups.Resource.{Resource}
+use Rattle.cpuset_tree.specs.declared.groups.Resource.TheVariants.{Cpus, Mems}
 use Rattle.cpuset_tree.specs.TreeState.{GroupEntry}
 use Rattle.cpuset_tree.specs.Groups.{same_group, entry_among, root_among}
-use Rattle.cpuset_tree.specs.Kept.{before, listed, HasParentAmong, IsInOrder, IsOrder, refreshed, ChangesAt, bare, OnlyKeptDiffers}
+use Rattle.cpuset_tree.specs.Kept.{before, listed, HasParentAmong, IsInOrder, IsOrder, ChangesAt, bare, OnlyKeptDiffers}
 
 -- a group and its parent
 abbrev pub place : Cgroup → Group × Option Group
@@ -31,12 +32,13 @@ is_some-option_map : {A B : Type 0} (f : A → B) (o : Option A) → is_some (op
 is_some-option_map f None = refl
 is_some-option_map f (Some x) = refl
 
-bare_place : (o : Option Cgroup) → option_map place o ≡ option_map place (option_map bare o)
-bare_place None = refl
-bare_place (Some n) = refl
+bare_place : (r : Resource) (o : Option Cgroup) → option_map place o ≡ option_map place (option_map (bare r) o)
+bare_place r None = refl
+bare_place Cpus (Some n) = refl
+bare_place Mems (Some n) = refl
 
-pub SamePlaces-from_kept : (old new : Slab Cgroup) → OnlyKeptDiffers old new → SamePlaces old new
-SamePlaces-from_kept old new same key = bare_place (get new key) ∙ ap (option_map place) (same key) ∙ sym (bare_place (get old key))
+pub SamePlaces-from_kept : (r : Resource) (old new : Slab Cgroup) → OnlyKeptDiffers r old new → SamePlaces old new
+SamePlaces-from_kept r old new same key = bare_place r (get new key) ∙ ap (option_map place) (same key) ∙ sym (bare_place r (get old key))
 
 -- a change at one key that f makes
 module _ (f : Cgroup → Cgroup) where
@@ -51,9 +53,6 @@ module _ (f : Cgroup → Cgroup) where
       (λ e. ap (λ (q : ℕ). option_map h (get new q)) e ∙ ap (option_map h) change.changed ∙ map_map h same (get old key) ∙ ap (λ (q : ℕ). option_map h (get old q)) (sym e))
       (λ ne. ap (option_map h) (change.others k ne))
       (cases_eq k key)
-
-pub OnlyKeptDiffers-refreshed : (by : ℕ) (old new : Slab Cgroup) (online nodes : Ids) (key : ℕ) → ChangesAt old new key (refreshed by old online nodes) → OnlyKeptDiffers old new
-OnlyKeptDiffers-refreshed by old new online nodes key change = same_from_change (refreshed by old online nodes) bare (λ n. refl) old new key change
 
 abbrev front : Option (Group × Option Group) → List (Group × Option Group) → List (Group × Option Group)
 front None l = l

@@ -4,15 +4,16 @@ use Rattle.std.proofs.lemmas.Bool.{or_left, or_right, both_ways}
 use Rattle.std.proofs.lemmas.Option.{same_Some, none-some}
 use Rattle.std.specs.Prelude.{Option, Some, None, is_some, is_none, ◌==◌}
 use Rattle.std.specs.List.{list_any}
-use Rattle.std.specs.FinSet as set
 use Rattle.slab.specs.Slab.{Slab, get, Updates}
 use Rattle.cpu_set.specs.Ids.{Ids}
 use Rattle.cpuset_tree.specs.declared.groups.Group.{Group}
 use Rattle.cpuset_tree.specs.declared.groups.Cgroup.{Cgroup}
+use Rattle.cpuset_tree.specs.declared.groups.Resource.{Resource}
+use Rattle.cpuset_tree.specs.declared.groups.Share.{Share}
 use Rattle.cpuset_tree.specs.TreeState.{GroupEntry}
 use Rattle.cpuset_tree.specs.Groups.{same_group, entry_among, root_among, has_child_among}
 use Rattle.cpuset_tree.specs.Effective.{granted, standing, effective}
-use Rattle.cpuset_tree.specs.Kept.{entry_of_kept, listed, HasParentAmong, IsInOrder, AllKept, KeepsEffective, IsSound}
+use Rattle.cpuset_tree.specs.Kept.{entry_of_kept, listed, HasParentAmong, IsInOrder, share_of, unrequested, requested_of, top_of, AllKept, KeepsEffective, IsSound}
 use Rattle.cpuset_tree.specs.GrantedLemmas.{granted-empty}
 use Rattle.cpuset_tree.proofs.KeptLemmas.{listed_at, vacant_is_absent, listed-others, AllKept-others}
 use Rattle.cpuset_tree.proofs.PlaceLemmas.{SamePlaces, IsInOrder-same, complete-same, root-same}
@@ -36,9 +37,9 @@ module _ (old new : Slab Cgroup) (keys : List ℕ) (online nodes : Ids) (root : 
   listed-added e is = listed_at new key keys n updates.changed ∙ ap (λ (x : GroupEntry). x ∷ listed new keys) is ∙ ap (λ (l : List GroupEntry). e ∷ l) same_older
 
   pub IsSound-added : (p : Group) → n.group.key ≡ key → n.group.serial ≡ next → n.parent ≡ Some p → is_some (entry_among (listed old keys) p) ≡ true
-      → n.cpus ≡ set.empty → n.mems ≡ set.empty → n.effective_cpus ≡ effective (λ e. e.cpus) online (listed old keys) p
-      → n.effective_mems ≡ effective (λ e. e.mems) nodes (listed old keys) p → IsSound new (key ∷ keys) online nodes root (next + 1)
-  IsSound-added p knows serial of there no_cpus no_mems cpus mems = record {
+      → ((r : Resource) → share_of r n ≡ unrequested (effective (requested_of r) (top_of r online nodes) (listed old keys) p))
+      → IsSound new (key ∷ keys) online nodes root (next + 1)
+  IsSound-added p knows serial of there shares = record {
     in_order = (
       n,
       updates.changed,
@@ -47,9 +48,9 @@ module _ (old new : Slab Cgroup) (keys : List ℕ) (online nodes : Ids) (root : 
       parent_is,
       subst (λ (m : ℕ). IsInOrder new m keys) (sym serial) (IsInOrder-others old new key updates.others next keys absent sound.in_order),
     );
-    all_kept = (
-      (λ m at. subst (λ (x : Cgroup). KeepsEffective online nodes (listed new keys) x) (same_Some n m (sym updates.changed ∙ at)) here),
-      AllKept-others old new online nodes key updates.others keys absent sound.all_kept,
+    all_kept = λ r. (
+      (λ m at. subst (λ (x : Cgroup). KeepsEffective r (top_of r online nodes) (listed new keys) x) (same_Some n m (sym updates.changed ∙ at)) (here r)),
+      AllKept-others r old new (top_of r online nodes) key updates.others keys absent (sound.all_kept r),
     );
     complete = λ k at. elim (key == k) as (λ t. (key == k) ≡ t → list_any (λ j. j == k) (key ∷ keys) ≡ true) [
       | true ↦ λ e. or_left (key == k) (list_any (λ j. j == k) keys) e
@@ -67,23 +68,21 @@ module _ (old new : Slab Cgroup) (keys : List ℕ) (online nodes : Ids) (root : 
       parent_is = subst (λ (o : Option Group). HasParentAmong new o keys) (sym of)
           (ap (λ (l : List GroupEntry). is_some (entry_among l p)) same_older ∙ there)
 
-      here : KeepsEffective online nodes (listed new keys) n
-      here = subst (λ (l : List GroupEntry). KeepsEffective online nodes l n) (sym same_older) (record {
-        cpus = cpus ∙ sym (granted-empty (effective (λ e. e.cpus) online (listed old keys) p))
-            ∙ ap (λ (s : Ids). granted s (effective (λ e. e.cpus) online (listed old keys) p)) (sym no_cpus)
-            ∙ ap (λ (o : Option Group). standing o n.cpus online (effective (λ e. e.cpus) online (listed old keys))) (sym of);
-        mems = mems ∙ sym (granted-empty (effective (λ e. e.mems) nodes (listed old keys) p))
-            ∙ ap (λ (s : Ids). granted s (effective (λ e. e.mems) nodes (listed old keys) p)) (sym no_mems)
-            ∙ ap (λ (o : Option Group). standing o n.mems nodes (effective (λ e. e.mems) nodes (listed old keys))) (sym of);
-      })
+      here : (r : Resource) → KeepsEffective r (top_of r online nodes) (listed new keys) n
+      here r =
+          let above : Ids = effective (requested_of r) (top_of r online nodes) (listed old keys) p in
+          subst (λ (l : List GroupEntry). KeepsEffective r (top_of r online nodes) l n) (sym same_older)
+          (ap (λ (x : Share). x.effective) (shares r) ∙ sym (granted-empty above)
+          ∙ ap (λ (x : Share). granted x.requested above) (sym (shares r))
+          ∙ ap (λ (o : Option Group). standing o (share_of r n).requested (top_of r online nodes) (effective (requested_of r) (top_of r online nodes) (listed old keys))) (sym of))
 
-      elder : (parent : Option Group) → parent ≡ Some p → root_among (record { group = n.group; parent = parent; name = (entry_of_kept n).name; cpus = n.cpus; mems = n.mems } ∷ listed new keys) ≡ root_among (listed new keys)
+      elder : (parent : Option Group) → parent ≡ Some p → root_among (record { group = n.group; parent = parent; name = (entry_of_kept n).name; cpus = n.cpus.requested; mems = n.mems.requested } ∷ listed new keys) ≡ root_among (listed new keys)
       elder None e = absurd (none-some p e)
       elder (Some q) e = refl
 
 -- places stay, and what is kept is right again
 pub IsSound-same : (old new : Slab Cgroup) (keys : List ℕ) (online nodes online' nodes' : Ids) (root : Group) (next : ℕ) → IsSound old keys online nodes root next
-    → SamePlaces old new → AllKept new online' nodes' keys → IsSound new keys online' nodes' root next
+    → SamePlaces old new → ((r : Resource) → AllKept r new (top_of r online' nodes') keys) → IsSound new keys online' nodes' root next
 IsSound-same old new keys online nodes online' nodes' root next sound same kept = record {
   in_order = IsInOrder-same old new same next keys sound.in_order;
   all_kept = kept;
@@ -97,7 +96,7 @@ pub IsSound-removed : (old new : Slab Cgroup) (g : Group) (n : Cgroup) (keys : L
     → Updates old new g.key None → IsSound new (filter (λ k. not (k == g.key)) keys) online nodes root next
 IsSound-removed old new g n keys online nodes root next sound at same child childless updates = record {
   in_order = IsInOrder-removed old new g n at same updates.others next keys sound.in_order childless;
-  all_kept = AllKept-removed old new g n at same updates.others online nodes next keys sound.in_order childless sound.all_kept;
+  all_kept = λ r. AllKept-removed old new g n at same updates.others r (top_of r online nodes) next keys sound.in_order childless (sound.all_kept r);
   complete = complete-removed old new g n at same updates.others keys updates.changed sound.complete;
   rooted = root-removed old new g n at same updates.others child next keys sound.in_order ∙ sound.rooted;
 }

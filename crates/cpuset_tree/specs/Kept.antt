@@ -1,19 +1,23 @@
 -- How a `Tree` keeps its groups, and what it keeps of them. No public clause cites this module.
-use Rattle.std.specs.Prelude.{◌≡◌, ◌≢◌, ℕ, ◌<◌, Bool, true, false, ◌==◌, if◌then◌else◌, List, [], ◌∷◌, Option, Some, None, is_some, option_map, string_bytes}
+use Rattle.std.specs.Prelude.{◌≡◌, ◌≢◌, ℕ, ◌<◌, Bool, true, false, ◌||◌, ◌==◌, nat_le, nat_lt, if◌then◌else◌, List, [], ◌∷◌, Option, Some, None, is_some, option_map, string_bytes}
 use Rattle.std.specs.List.{list_any}
 use Rattle.std.specs.FinSet as set
 use Rattle.slab.specs.Slab.{Slab, get}
 use Rattle.cpu_set.specs.Ids.{Ids}
 use Rattle.cpuset_tree.specs.declared.groups.Group.{Group}
 use Rattle.cpuset_tree.specs.declared.groups.Cgroup.{Cgroup}
+use Rattle.cpuset_tree.specs.declared.groups.Resource.{Resource}
+use Rattle.cpuset_tree.specs.declared.groups.Resource.TheVariants.{Cpus, Mems}
+use Rattle.cpuset_tree.specs.declared.groups.Share.{Share}
 use Rattle.cpuset_tree.specs.TreeState.{GroupEntry, TreeState}
+use Rattle.cpuset_tree.specs.TreeChanges.{requesting_cpus, requesting_mems, with_cpus, with_mems}
 use Rattle.cpuset_tree.specs.Groups.{entry_of, entry_among, root_among}
 use Rattle.cpuset_tree.specs.Effective.{standing, effective, effective_cpus, effective_mems}
 
 -- what a kept group is to the tree's callers
 abbrev pub entry_of_kept : Cgroup → GroupEntry
 entry_of_kept n =
-    record { group = n.group; parent = n.parent; name = string_bytes n.name; cpus = n.cpus; mems = n.mems }
+    record { group = n.group; parent = n.parent; name = string_bytes n.name; cpus = n.cpus.requested; mems = n.mems.requested }
 
 -- the older groups, with the one that is kept before them
 abbrev pub before : Option Cgroup → List GroupEntry → List GroupEntry
@@ -41,21 +45,38 @@ IsInOrder s next (key ∷ older) =
 abbrev pub IsOrder : Slab Cgroup → List ℕ → Type 0
 IsOrder s keys = (next : ℕ) × IsInOrder s next keys
 
+-- a group's share of a resource
+abbrev pub share_of : Resource → Cgroup → Share
+share_of Cpus n = n.cpus
+share_of Mems n = n.mems
+
+-- the share of a group that requests nothing
+abbrev pub unrequested : Ids → Share
+unrequested ids = record { requested = set.empty; effective = ids }
+
+-- what an entry requests of a resource
+abbrev pub requested_of : Resource → GroupEntry → Ids
+requested_of Cpus = λ e. e.cpus
+requested_of Mems = λ e. e.mems
+
+-- what the root has in effect of a resource
+abbrev pub top_of : Resource → Ids → Ids → Ids
+top_of Cpus online nodes = online
+top_of Mems online nodes = nodes
+
 -- what is kept of a group is what it has in effect
-pub record KeepsEffective (online nodes : Ids) (older : List GroupEntry) (n : Cgroup) : Type 0 where
-  pub cpus : n.effective_cpus ≡ standing n.parent n.cpus online (effective (λ e. e.cpus) online older)
-  pub mems : n.effective_mems ≡ standing n.parent n.mems nodes (effective (λ e. e.mems) nodes older)
+abbrev pub KeepsEffective : Resource → Ids → List GroupEntry → Cgroup → Type 0
+KeepsEffective r top older n = (share_of r n).effective ≡ standing n.parent (share_of r n).requested top (effective (requested_of r) top older)
 
 -- the same of each of these keys' groups
-abbrev pub AllKept : Slab Cgroup → Ids → Ids → List ℕ → Type 0
-AllKept s online nodes [] = Unit {0}
-AllKept s online nodes (key ∷ older) =
-    ((n : Cgroup) → get s key ≡ Some n → KeepsEffective online nodes (listed s older) n) × AllKept s online nodes older
+abbrev pub AllKept : Resource → Slab Cgroup → Ids → List ℕ → Type 0
+AllKept r s top [] = Unit {0}
+AllKept r s top (key ∷ older) = ((n : Cgroup) → get s key ≡ Some n → KeepsEffective r top (listed s older) n) × AllKept r s top older
 
 -- the slab's groups are those of these keys, in order, with their effective sets
 pub record IsSound (s : Slab Cgroup) (keys : List ℕ) (online nodes : Ids) (root : Group) (next : ℕ) : Type 0 where
   pub in_order : IsInOrder s next keys
-  pub all_kept : AllKept s online nodes keys
+  pub all_kept : (r : Resource) → AllKept r s (top_of r online nodes) keys
   pub complete : (key : ℕ) → is_some (get s key) ≡ true → list_any (λ k. k == key) keys ≡ true
   pub rooted : root_among (listed s keys) ≡ Some root
 
@@ -63,71 +84,72 @@ pub record IsSound (s : Slab Cgroup) (keys : List ℕ) (online nodes : Ids) (roo
 abbrev pub IsKeptOf : TreeState → Group → Option Cgroup → Type 0
 IsKeptOf s g None = entry_of s g ≡ None
 IsKeptOf s g (Some n) =
-    (entry_of s g ≡ Some (entry_of_kept n)) × (n.effective_cpus ≡ effective_cpus s g) × (n.effective_mems ≡ effective_mems s g)
+    (entry_of s g ≡ Some (entry_of_kept n)) × (n.cpus.effective ≡ effective_cpus s g) × (n.mems.effective ≡ effective_mems s g)
 
--- the CPUs that are kept as a group's effective ones, and none where there is no group
-abbrev pub cpus_kept : Option Cgroup → Ids
-cpus_kept None = set.empty
-cpus_kept (Some n) = n.effective_cpus
+-- what is kept of a resource as a group's effective set, and nothing where there is no group
+abbrev pub effective_kept : Resource → Option Cgroup → Ids
+effective_kept r None = set.empty
+effective_kept r (Some n) = (share_of r n).effective
 
--- the memory nodes that are kept as a group's effective ones, and none where there is no group
-abbrev pub mems_kept : Option Cgroup → Ids
-mems_kept None = set.empty
-mems_kept (Some n) = n.effective_mems
+-- what a group is to have in effect, if what is kept of its parent is right
+abbrev pub stands : Resource → Slab Cgroup → Ids → Cgroup → Ids
+stands r s top n = standing n.parent (share_of r n).requested top (λ p. effective_kept r (get s p.key))
 
--- the group with what it has in effect, if that is right of the others, for a write of the group of this serial
-abbrev pub refreshed : ℕ → Slab Cgroup → Ids → Ids → Cgroup → Cgroup
-refreshed by s online nodes n = record n {
-  effective_cpus = standing n.parent n.cpus online (λ p. cpus_kept (get s p.key));
-  effective_mems = standing n.parent n.mems nodes (λ p. mems_kept (get s p.key));
-  touched_by = by;
-}
+-- the group, requesting this of a resource
+abbrev pub with_requested : Resource → Ids → Cgroup → Cgroup
+with_requested Cpus ids n = record n { cpus = record n.cpus { requested = ids } }
+with_requested Mems ids n = record n { mems = record n.mems { requested = ids } }
 
--- whether there is a group that was brought up to date for a write of the group of this serial
-abbrev pub is_touched : ℕ → Option Cgroup → Bool
-is_touched by None = false
-is_touched by (Some n) = n.touched_by == by
+-- the group, with this in effect of a resource
+abbrev pub with_effective : Resource → Ids → Cgroup → Cgroup
+with_effective Cpus ids n = record n { cpus = record n.cpus { effective = ids } }
+with_effective Mems ids n = record n { mems = record n.mems { effective = ids } }
 
--- whether the parent was
-abbrev pub is_below_touched : ℕ → Slab Cgroup → Option Group → Bool
-is_below_touched by s None = false
-is_below_touched by s (Some parent) = is_touched by (get s parent.key)
+-- the entry, requesting this of a resource if it is this group's
+abbrev pub requesting : Resource → Group → Ids → GroupEntry → GroupEntry
+requesting Cpus g ids e = requesting_cpus g ids e
+requesting Mems g ids e = requesting_mems g ids e
 
--- the group, brought up to date where its parent was
-abbrev pub passed : ℕ → Slab Cgroup → Ids → Ids → Cgroup → Cgroup
-passed by s online nodes n = if is_below_touched by s n.parent then refreshed by s online nodes n else n
+-- the tree where a group requests this of a resource
+abbrev pub with_request : Resource → TreeState → Group → Ids → TreeState
+with_request Cpus s g ids = with_cpus s g ids
+with_request Mems s g ids = with_mems s g ids
+
+-- whether there is a group that is older than the one of this serial
+abbrev pub is_older : ℕ → Option Cgroup → Bool
+is_older written None = false
+is_older written (Some n) = nat_lt n.group.serial written
+
+-- whether a parent is no older than the group of this serial
+abbrev pub is_from : ℕ → Option Group → Bool
+is_from written None = false
+is_from written (Some parent) = nat_le written parent.serial
+
+-- whether a write of the group of this serial can change what a group has: it is that group, or its parent is no older
+abbrev pub may_change : ℕ → Cgroup → Bool
+may_change written n = is_from written n.parent || (n.group.serial == written)
+
+-- the group, brought up to date where such a write can change what it has
+abbrev pub passed : Resource → Slab Cgroup → Ids → ℕ → Cgroup → Cgroup
+passed r s top written n = if may_change written n then with_effective r (stands r s top n) n else n
 
 -- what is kept of a group is what it is granted of what is kept of its parent
-pub record IsGranted (s : Slab Cgroup) (online nodes : Ids) (n : Cgroup) : Type 0 where
-  pub cpus : n.effective_cpus ≡ standing n.parent n.cpus online (λ p. cpus_kept (get s p.key))
-  pub mems : n.effective_mems ≡ standing n.parent n.mems nodes (λ p. mems_kept (get s p.key))
+abbrev pub IsGranted : Resource → Slab Cgroup → Ids → Cgroup → Type 0
+IsGranted r s top n = (share_of r n).effective ≡ stands r s top n
 
--- the same of each group but that of one key
-abbrev pub AllGrantedBut : Slab Cgroup → Ids → Ids → ℕ → Type 0
-AllGrantedBut s online nodes written = (key : ℕ) (n : Cgroup) → key ≢ written → get s key ≡ Some n → IsGranted s online nodes n
-
--- the group, requesting these CPUs
-abbrev pub with_cpus_kept : Ids → Cgroup → Cgroup
-with_cpus_kept cpus n = record n { cpus = cpus }
-
--- the group, requesting these memory nodes
-abbrev pub with_mems_kept : Ids → Cgroup → Cgroup
-with_mems_kept mems n = record n { mems = mems }
+-- the same of each group that a write of the group of this serial can't change
+abbrev pub OthersGranted : Resource → Slab Cgroup → Ids → ℕ → Type 0
+OthersGranted r s top written = (key : ℕ) (n : Cgroup) → get s key ≡ Some n → may_change written n ≡ false → IsGranted r s top n
 
 -- a change of the group under one key, by f
 pub record ChangesAt (old new : Slab Cgroup) (key : ℕ) (f : Cgroup → Cgroup) : Type 0 where
   pub changed : get new key ≡ option_map f (get old key)
   pub others : (other : ℕ) → other ≢ key → get new other ≡ get old other
 
--- a kept group without what is kept as effective
-abbrev pub bare : Cgroup → Cgroup
-bare n = record n { effective_cpus = set.empty; effective_mems = set.empty; touched_by = 0 }
+-- a kept group without what is kept as effective of a resource
+abbrev pub bare : Resource → Cgroup → Cgroup
+bare r n = with_effective r set.empty n
 
--- the groups are the same, but for what is kept as effective
-abbrev pub OnlyKeptDiffers : Slab Cgroup → Slab Cgroup → Type 0
-OnlyKeptDiffers old new = (key : ℕ) → option_map bare (get new key) ≡ option_map bare (get old key)
-
--- the keys behind the first place of this one
-abbrev pub behind : ℕ → List ℕ → List ℕ
-behind key [] = []
-behind key (k ∷ older) = if k == key then older else behind key older
+-- the groups are the same, but for what is kept as effective of a resource
+abbrev pub OnlyKeptDiffers : Resource → Slab Cgroup → Slab Cgroup → Type 0
+OnlyKeptDiffers r old new = (key : ℕ) → option_map (bare r) (get new key) ≡ option_map (bare r) (get old key)

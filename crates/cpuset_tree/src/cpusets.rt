@@ -7,8 +7,8 @@ ghost use Rattle.cpuset_tree.specs.TreeAnswers.{Decides, Makes, AddsGroup, remov
 ghost use Rattle.cpuset_tree.specs.TreeWellFormed.{IsWellFormed};
 ghost use Rattle.cpuset_tree.specs.TreeLaws.{RunsUpThePath};
 
-use crate::groups::{Cgroup, put_cpus, put_mems};
-use crate::refresh::{refresh, refresh_from};
+use crate::groups::{Cgroup, Resource, Share, request_at};
+use crate::refresh::refresh;
 use crate::{Group, SERIAL_LIMIT, TreeError, TreeFault};
 use cpu_set::IdSet;
 use slab::Slab;
@@ -52,7 +52,7 @@ impl Model for Tree {
 }
 
 impl Tree {
-    ghost use Rattle.cpuset_tree.specs.Kept.{IsKeptOf};
+    ghost use Rattle.cpuset_tree.specs.Kept.{IsKeptOf, top_of, with_request};
 
     /// A tree of its root alone, which has the first serial and all of these CPUs and nodes in effect.
     ///
@@ -79,11 +79,8 @@ impl Tree {
             group: root,
             parent: None,
             name: String::new(alloc),
-            cpus: IdSet::empty(),
-            mems: IdSet::empty(),
-            effective_cpus: online,
-            effective_mems: nodes,
-            touched_by: SERIAL_LIMIT,
+            cpus: Share::unrequested(online),
+            mems: Share::unrequested(nodes),
         });
         Ok(Tree {
             alloc,
@@ -170,7 +167,7 @@ impl Tree {
         let Some(above) = self.node(parent) else {
             return Err(TreeError::Fault(TreeFault::NoGroup));
         };
-        let (cpus, mems) = (above.effective_cpus, above.effective_mems);
+        let (cpus, mems) = (above.cpus.effective, above.mems.effective);
         if self.child(parent, name).is_some() {
             return Err(TreeError::Fault(TreeFault::Exists));
         }
@@ -206,11 +203,8 @@ impl Tree {
             group,
             parent: Some(parent),
             name,
-            cpus: IdSet::empty(),
-            mems: IdSet::empty(),
-            effective_cpus: cpus,
-            effective_mems: mems,
-            touched_by: SERIAL_LIMIT,
+            cpus: Share::unrequested(cpus),
+            mems: Share::unrequested(mems),
         });
         self.next_serial += 1;
         Ok(group)
@@ -261,7 +255,7 @@ impl Tree {
         ensures { Decides (write_refusal self.old group) (λ _ new. new ≡ with_cpus self.old group cpus) self.old result self.new }
     {
         self.writable(group)?;
-        self.request_cpus(group, cpus);
+        self.request(group, Resource::Cpus, cpus);
         Ok(())
     }
 
@@ -272,7 +266,7 @@ impl Tree {
         ensures { Decides (write_refusal self.old group) (λ _ new. new ≡ with_mems self.old group mems) self.old result self.new }
     {
         self.writable(group)?;
-        self.request_mems(group, mems);
+        self.request(group, Resource::Mems, mems);
         Ok(())
     }
 
@@ -286,32 +280,24 @@ impl Tree {
         }
     }
 
-    fn request_cpus(&mut self, group: Group, cpus: IdSet)
-        requires { has_group self.old group ≡ true }
-        ensures { self.new ≡ with_cpus self.old group cpus }
+    /// What the root has in effect of a resource.
+    fn whole(&self, resource: Resource) -> IdSet
+        ensures { result ≡ top_of resource self.now.online self.now.nodes }
     {
-        put_cpus(&mut self.groups, group.key, cpus);
-        refresh_from(
-            &mut self.groups,
-            &self.order,
-            group,
-            &self.online,
-            &self.nodes,
-        );
+        match resource {
+            Resource::Cpus => self.online,
+            Resource::Mems => self.nodes,
+        }
     }
 
-    fn request_mems(&mut self, group: Group, mems: IdSet)
+    /// Writes what a group requests of a resource, and brings the groups up to date that this can change.
+    fn request(&mut self, group: Group, resource: Resource, ids: IdSet)
         requires { has_group self.old group ≡ true }
-        ensures { self.new ≡ with_mems self.old group mems }
+        ensures { self.new ≡ with_request resource self.old group ids }
     {
-        put_mems(&mut self.groups, group.key, mems);
-        refresh_from(
-            &mut self.groups,
-            &self.order,
-            group,
-            &self.online,
-            &self.nodes,
-        );
+        let top = self.whole(resource);
+        request_at(&mut self.groups, group.key, resource, ids);
+        refresh(&mut self.groups, &self.order, resource, &top, group.serial);
     }
 
     /// Says which CPUs are online from now on, and brings all groups up to date; what they request stays.
@@ -319,7 +305,14 @@ impl Tree {
         ensures { self.new ≡ with_online self.old online }
     {
         self.online = online;
-        refresh(&mut self.groups, &self.order, &self.online, &self.nodes);
+        let oldest = self.root.serial;
+        refresh(
+            &mut self.groups,
+            &self.order,
+            Resource::Cpus,
+            &self.online,
+            oldest,
+        );
     }
 
     /// The CPUs that a group requests.
@@ -328,7 +321,7 @@ impl Tree {
     pub fn cpus(&self, group: Group) -> Result<IdSet, TreeFault>
         ensures { result ≡ read_of self.now group (requested_cpus self.now group) }
     {
-        Ok(self.node(group).ok_or(TreeFault::NoGroup)?.cpus)
+        Ok(self.node(group).ok_or(TreeFault::NoGroup)?.cpus.requested)
     }
 
     /// The CPUs that a group has in effect.
@@ -337,7 +330,7 @@ impl Tree {
     pub fn effective_cpus(&self, group: Group) -> Result<IdSet, TreeFault>
         ensures { result ≡ read_of self.now group (effective_cpus self.now group) }
     {
-        Ok(self.node(group).ok_or(TreeFault::NoGroup)?.effective_cpus)
+        Ok(self.node(group).ok_or(TreeFault::NoGroup)?.cpus.effective)
     }
 
     /// The memory nodes that a group requests.
@@ -346,7 +339,7 @@ impl Tree {
     pub fn mems(&self, group: Group) -> Result<IdSet, TreeFault>
         ensures { result ≡ read_of self.now group (requested_mems self.now group) }
     {
-        Ok(self.node(group).ok_or(TreeFault::NoGroup)?.mems)
+        Ok(self.node(group).ok_or(TreeFault::NoGroup)?.mems.requested)
     }
 
     /// The memory nodes that a group has in effect.
@@ -355,7 +348,7 @@ impl Tree {
     pub fn effective_mems(&self, group: Group) -> Result<IdSet, TreeFault>
         ensures { result ≡ read_of self.now group (effective_mems self.now group) }
     {
-        Ok(self.node(group).ok_or(TreeFault::NoGroup)?.effective_mems)
+        Ok(self.node(group).ok_or(TreeFault::NoGroup)?.mems.effective)
     }
 
     /// The group's child of this name, if it has one.

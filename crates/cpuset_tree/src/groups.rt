@@ -1,7 +1,7 @@
 ghost use Rattle.std.specs.Prelude.{◌≡◌};
 ghost use Rattle.cpuset_tree.specs.Groups.{is_parent};
 ghost use Rattle.cpuset_tree.specs.Effective.{granted};
-ghost use Rattle.cpuset_tree.specs.Kept.{ChangesAt, with_cpus_kept, with_mems_kept};
+ghost use Rattle.cpuset_tree.specs.Kept.{ChangesAt, share_of, unrequested, with_requested, with_effective, may_change};
 
 use cpu_set::IdSet;
 use slab::Slab;
@@ -15,18 +15,42 @@ pub struct Group {
     pub serial: u64,
 }
 
+/// What a group has a share of.
+#[derive(Clone, Copy)]
+pub enum Resource {
+    /// The CPUs that are online.
+    Cpus,
+    /// The memory nodes.
+    Mems,
+}
+
+/// What a group requests of a resource, and what it has in effect.
+#[derive(Clone, Copy)]
+pub struct Share {
+    pub requested: IdSet,
+    pub effective: IdSet,
+}
+
+impl Share {
+    /// The share of a group that requests nothing.
+    pub fn unrequested(effective: IdSet) -> Share
+        ensures { result ≡ unrequested effective }
+    {
+        Share {
+            requested: IdSet::empty(),
+            effective,
+        }
+    }
+}
+
 /// What a tree keeps of one group.
 #[derive(Drop)]
 pub struct Cgroup {
     pub group: Group,
     pub parent: Option<Group>,
     pub name: String,
-    pub cpus: IdSet,
-    pub mems: IdSet,
-    pub effective_cpus: IdSet,
-    pub effective_mems: IdSet,
-    /// The serial of the last written group that this one is, or is below, and that it was brought up to date for.
-    pub touched_by: u64,
+    pub cpus: Share,
+    pub mems: Share,
 }
 
 impl Cgroup {
@@ -35,6 +59,48 @@ impl Cgroup {
         ensures { result ≡ is_parent self.now.parent parent }
     {
         self.parent == Some(parent)
+    }
+
+    /// The group's share of a resource.
+    pub fn share(&self, resource: Resource) -> &Share
+        ensures { result.now ≡ share_of resource self.now }
+    {
+        match resource {
+            Resource::Cpus => &self.cpus,
+            Resource::Mems => &self.mems,
+        }
+    }
+
+    /// Writes what the group requests of a resource.
+    pub fn request(&mut self, resource: Resource, ids: IdSet)
+        ensures { self.new ≡ with_requested resource ids self.old }
+    {
+        match resource {
+            Resource::Cpus => self.cpus.requested = ids,
+            Resource::Mems => self.mems.requested = ids,
+        }
+    }
+
+    /// Writes what the group has in effect of a resource.
+    pub fn give(&mut self, resource: Resource, ids: IdSet)
+        ensures { self.new ≡ with_effective resource ids self.old }
+    {
+        match resource {
+            Resource::Cpus => self.cpus.effective = ids,
+            Resource::Mems => self.mems.effective = ids,
+        }
+    }
+
+    /// Whether a write of the group of this serial can change what this group has in effect.
+    ///
+    /// That can be where it is that group, or its parent is no older, since what is below a group is newer.
+    pub fn may_change(&self, written: u64) -> bool
+        ensures { result ≡ may_change written self.now }
+    {
+        match self.parent {
+            Some(parent) if parent.serial >= written => true,
+            _ => self.group.serial == written,
+        }
     }
 }
 
@@ -46,20 +112,11 @@ pub fn granted_of(requested: &IdSet, above: &IdSet) -> IdSet
     if granted.is_empty() { *above } else { granted }
 }
 
-/// Writes the CPUs that the group under a key requests.
-pub fn put_cpus(groups: &mut Slab<Cgroup>, key: usize, cpus: IdSet)
-    ensures { ChangesAt groups.old groups.new key (with_cpus_kept cpus) }
+/// Writes what the group under a key requests of a resource.
+pub fn request_at(groups: &mut Slab<Cgroup>, key: usize, resource: Resource, ids: IdSet)
+    ensures { ChangesAt groups.old groups.new key (with_requested resource ids) }
 {
     if let Some(kept) = groups.get_mut(key) {
-        kept.cpus = cpus;
-    }
-}
-
-/// Writes the memory nodes that the group under a key requests.
-pub fn put_mems(groups: &mut Slab<Cgroup>, key: usize, mems: IdSet)
-    ensures { ChangesAt groups.old groups.new key (with_mems_kept mems) }
-{
-    if let Some(kept) = groups.get_mut(key) {
-        kept.mems = mems;
+        kept.request(resource, ids);
     }
 }

@@ -1,4 +1,7 @@
+ghost use Rattle.std.specs.Prelude.{◌≡◌};
 ghost use Rattle.cpuset_tree.specs.TreeLaws.{SameIsEqual, EntryIsOwn, RootIsThere, ParentIsThere, NoParentNoChildren, GrantsAll, GrantsWithin, TwoBelowRoot, SerialIsGiven, WritesLeavePlaces, SerialsGivenOnce, CpusWritten, MemsWritten, WritesRequest, AddedLeaves, RemovedLeaves, FoundIsChild, ChangesStayWellFormed, FirstIsWellFormed, WellFormedRunsUp};
+
+use crate::SERIAL_LIMIT;
 
 /// What each change leaves of a tree; nothing runs.
 pub fn changes()
@@ -30,4 +33,9 @@ pub fn words()
     ensures own { EntryIsOwn }
     ensures all { GrantsAll }
     ensures within { GrantsWithin }
+{}
+
+/// Each serial is below 2^64 - 1.
+pub fn the_limits()
+    ensures serials { SERIAL_LIMIT ≡ 18_446_744_073_709_551_615 }
 {}

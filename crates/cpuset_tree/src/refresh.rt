@@ -1,135 +1,95 @@
 //! What is kept of the groups as their effective sets, brought up to date.
-ghost use Rattle.std.specs.Prelude.{◌≡◌, ◌<◌, ◌==◌, ◌∷◌, true, length, drop};
-ghost use Rattle.std.specs.List.{list_any};
+ghost use Rattle.std.specs.Prelude.{◌≡◌, ◌≤◌, length, drop};
 ghost use Rattle.slab.specs.Slab.{get};
-ghost use Rattle.cpuset_tree.specs.Effective.{standing};
-ghost use Rattle.cpuset_tree.specs.Kept.{cpus_kept, mems_kept, refreshed, is_below_touched as below_touched, passed, AllGrantedBut, ChangesAt, OnlyKeptDiffers, AllKept, IsOrder, behind};
+ghost use Rattle.cpuset_tree.specs.Kept.{effective_kept, stands, passed, is_older as older, OthersGranted, ChangesAt, OnlyKeptDiffers, AllKept, IsOrder, IsInOrder};
 
-use crate::SERIAL_LIMIT;
-use crate::groups::{Cgroup, Group, granted_of};
+use crate::groups::{Cgroup, Group, Resource, granted_of};
 use cpu_set::IdSet;
 use slab::Slab;
 use std::collections::VecDeque;
 
-fn kept_cpus(groups: &Slab<Cgroup>, group: Group) -> IdSet
-    ensures { result ≡ cpus_kept (get groups.now group.key) }
+fn effective_of(groups: &Slab<Cgroup>, group: Group, resource: Resource) -> IdSet
+    ensures { result ≡ effective_kept resource (get groups.now group.key) }
 {
     match groups.get(group.key) {
         None => IdSet::empty(),
-        Some(kept) => kept.effective_cpus,
+        Some(kept) => kept.share(resource).effective,
     }
 }
 
-fn kept_mems(groups: &Slab<Cgroup>, group: Group) -> IdSet
-    ensures { result ≡ mems_kept (get groups.now group.key) }
-{
-    match groups.get(group.key) {
-        None => IdSet::empty(),
-        Some(kept) => kept.effective_mems,
-    }
-}
-
-fn standing_cpus(groups: &Slab<Cgroup>, kept: &Cgroup, online: &IdSet) -> IdSet
-    ensures { result ≡ standing kept.now.parent kept.now.cpus online.now (λ p. cpus_kept (get groups.now p.key)) }
+/// What a group is to have in effect, whose parent is up to date.
+fn standing_of(groups: &Slab<Cgroup>, kept: &Cgroup, resource: Resource, top: &IdSet) -> IdSet
+    ensures { result ≡ stands resource groups.now top.now kept.now }
 {
     match kept.parent {
-        None => *online,
-        Some(parent) => granted_of(&kept.cpus, &kept_cpus(groups, parent)),
+        None => *top,
+        Some(parent) => granted_of(
+            &kept.share(resource).requested,
+            &effective_of(groups, parent, resource),
+        ),
     }
 }
 
-fn standing_mems(groups: &Slab<Cgroup>, kept: &Cgroup, nodes: &IdSet) -> IdSet
-    ensures { result ≡ standing kept.now.parent kept.now.mems nodes.now (λ p. mems_kept (get groups.now p.key)) }
-{
-    match kept.parent {
-        None => *nodes,
-        Some(parent) => granted_of(&kept.mems, &kept_mems(groups, parent)),
-    }
-}
-
-/// Brings one group up to date, whose parent is, for a write of the group of this serial.
-fn refresh_group(groups: &mut Slab<Cgroup>, key: usize, by: u64, online: &IdSet, nodes: &IdSet)
-    ensures { ChangesAt groups.old groups.new key (refreshed by groups.old online.now nodes.now) }
+/// Brings one group up to date, whose parent is, where a write of the group of this serial can change it.
+fn pass_group(groups: &mut Slab<Cgroup>, key: usize, resource: Resource, top: &IdSet, written: u64)
+    ensures { ChangesAt groups.old groups.new key (passed resource groups.old top.now written) }
 {
     let Some(kept) = groups.get(key) else {
         return;
     };
-    let cpus = standing_cpus(groups, kept, online);
-    let mems = standing_mems(groups, kept, nodes);
+    if !kept.may_change(written) {
+        return;
+    }
+    let effective = standing_of(groups, kept, resource, top);
     if let Some(kept) = groups.get_mut(key) {
-        kept.effective_cpus = cpus;
-        kept.effective_mems = mems;
-        kept.touched_by = by;
+        kept.give(resource, effective);
     }
 }
 
-/// Brings all groups up to date, the oldest first.
-pub fn refresh(groups: &mut Slab<Cgroup>, order: &VecDeque<usize>, online: &IdSet, nodes: &IdSet)
-    requires { IsOrder groups.old order.now.items }
-    ensures kept { AllKept groups.new online.now nodes.now order.now.items }
-    ensures same { OnlyKeptDiffers groups.old groups.new }
+/// Whether there is a group under a key that is older than the one of this serial.
+fn is_older(groups: &Slab<Cgroup>, key: usize, written: u64) -> bool
+    ensures { result ≡ older written (get groups.now key) }
 {
-    for place in (0..order.len()).rev() {
-        refresh_group(groups, order[place], SERIAL_LIMIT, online, nodes);
-    }
-}
-
-fn is_below_touched(groups: &Slab<Cgroup>, parent: Option<Group>, by: u64) -> bool
-    ensures { result ≡ below_touched by groups.now parent }
-{
-    match parent {
+    match groups.get(key) {
         None => false,
-        Some(parent) => match groups.get(parent.key) {
-            None => false,
-            Some(above) => above.touched_by == by,
-        },
+        Some(kept) => kept.group.serial < written,
     }
 }
 
-/// Brings one group up to date where its parent was, for a write of the group of this serial.
-fn pass_group(groups: &mut Slab<Cgroup>, key: usize, by: u64, online: &IdSet, nodes: &IdSet)
-    ensures { ChangesAt groups.old groups.new key (passed by groups.old online.now nodes.now) }
+/// The place from which on the groups are older than the one of this serial, found by halving.
+fn place_of_older(groups: &Slab<Cgroup>, order: &VecDeque<usize>, written: u64) -> usize
+    requires { IsOrder groups.now order.now.items }
+    ensures within { result ≤ length order.now.items }
+    ensures older { IsInOrder groups.now written (drop result order.now.items) }
 {
-    let Some(kept) = groups.get(key) else {
-        return;
-    };
-    if is_below_touched(groups, kept.parent, by) {
-        refresh_group(groups, key, by, online, nodes);
-    }
-}
-
-/// The place of a key that is there.
-fn place_of(order: &VecDeque<usize>, key: usize) -> usize
-    requires { list_any (λ k. k == key) order.now.items ≡ true }
-    ensures within { result < length order.now.items }
-    ensures here { drop result order.now.items ≡ key ∷ behind key order.now.items }
-{
-    for place in 0..order.len() {
-        if order[place] == key {
-            return place;
+    let (mut low, mut high) = (0, order.len());
+    while low < high {
+        let middle = low + (high - low) / 2;
+        if is_older(groups, order[middle], written) {
+            high = middle;
+        } else {
+            low = middle + 1;
         }
     }
-    unreachable!()
+    high
 }
 
-/// Brings a group and what is below it up to date, the oldest first; the groups behind its key are.
-pub fn refresh_from(
+/// Brings the groups up to date that a write of the group of this serial can change, the oldest first; the root has
+/// all of `top` in effect.
+pub fn refresh(
     groups: &mut Slab<Cgroup>,
     order: &VecDeque<usize>,
-    group: Group,
-    online: &IdSet,
-    nodes: &IdSet,
+    resource: Resource,
+    top: &IdSet,
+    written: u64,
 )
     requires in_order { IsOrder groups.old order.now.items }
-    requires there { list_any (λ k. k == group.key) order.now.items ≡ true }
-    requires kept { AllKept groups.old online.now nodes.now (behind group.key order.now.items) }
-    requires granted { AllGrantedBut groups.old online.now nodes.now group.key }
-    ensures kept { AllKept groups.new online.now nodes.now order.now.items }
-    ensures same { OnlyKeptDiffers groups.old groups.new }
+    requires granted { OthersGranted resource groups.old top.now written }
+    ensures kept { AllKept resource groups.new top.now order.now.items }
+    ensures same { OnlyKeptDiffers resource groups.old groups.new }
 {
-    refresh_group(groups, group.key, group.serial, online, nodes);
-    let count = place_of(order, group.key);
-    for place in (0..count).rev() {
-        pass_group(groups, order[place], group.serial, online, nodes);
+    let older = place_of_older(groups, order, written);
+    for place in (0..older).rev() {
+        pass_group(groups, order[place], resource, top, written);
     }
 }

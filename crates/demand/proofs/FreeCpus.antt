@@ -3,17 +3,16 @@ use Rattle.std.proofs.Common.{◌≡◌, ℕ, suc, ◌+◌, ◌<◌, Bool, true,
 use Rattle.std.proofs.lemmas.Bool.{false≢true}
 use Rattle.std.proofs.lemmas.Bool.Decides.{nat_tests}
 use Rattle.std.specs.FinSet as set
-use Rattle.cpu_set.specs.Ids.{Ids}
+use Rattle.cpu_set.specs.Ids.{Ids, is_same}
 use Rattle.cpu_set.specs.Those.{those}
 use Rattle.cpu_set.specs.Pointwise.{contains-intersection, contains-difference}
 use Rattle.machine.specs.Layout.{Layout}
 use Rattle.machine.specs.Present.{present, IsPresent}
-use Rattle.demand.specs.Named.{has_none}
 use Rattle.cpu_set.specs.declared.TheConstants.{CPU_LIMIT}
 use Rattle.machine.specs.Weight.{weight}
 use Rattle.cpu_set.specs.Those.{contains-those}
 use Rattle.demand.specs.Allowed.{is_free, is_allowed, allowed_by}
-use Rattle.demand.proofs.HomeNodes.{has_none-empty, has_none-some}
+use Rattle.demand.proofs.HomeNodes.{is_same-empty, is_same-some}
 
 among_all : (p r h n : Bool) → h ≡ true → (p && not r) ≡ (p && (h || n) && not r)
 among_all true r true n is = refl
@@ -33,7 +32,7 @@ pub free_of_all :
     (m : Layout) (cpus : Ids) → cpus ≡ set.empty → (c : ℕ) → set.contains (set.difference (present m) m.reserved) c ≡ is_free m cpus c
 free_of_all m cpus none c =
     contains-difference (present m) m.reserved c
-    ∙ among_all (set.contains (present m) c) (set.contains m.reserved c) (has_none cpus) (set.contains cpus c) (has_none-empty cpus none)
+    ∙ among_all (set.contains (present m) c) (set.contains m.reserved c) (is_same cpus set.empty) (set.contains cpus c) (is_same-empty cpus none)
 
 -- where one is
 pub free_of_named :
@@ -42,7 +41,7 @@ pub free_of_named :
 free_of_named m cpus some c =
     contains-intersection (set.difference (present m) m.reserved) cpus c
     ∙ ap (λ b. b && set.contains cpus c) (contains-difference (present m) m.reserved c)
-    ∙ among_named (set.contains (present m) c) (set.contains m.reserved c) (has_none cpus) (set.contains cpus c) (has_none-some cpus some)
+    ∙ among_named (set.contains (present m) c) (set.contains m.reserved c) (is_same cpus set.empty) (set.contains cpus c) (is_same-some cpus some)
 
 pub ruleset free_cpus = (free_of_all, free_of_named)
 

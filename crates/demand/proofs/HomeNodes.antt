@@ -1,27 +1,24 @@
 -- Home nodes are nodes of the machine, and there is one.
-use Rattle.std.proofs.Common.{◌≡◌, ◌≢◌, ℕ, ◌<◌, ◌≤◌, ◌==◌, true, false, nat_lt, sym, ap, ◌∙◌, arith}
+use Rattle.std.proofs.Common.{◌≡◌, ◌≢◌, ℕ, ◌<◌, ◌≤◌, Bool, true, false, nat_lt, refl, sym, ap, ◌∙◌, arith}
 use Rattle.std.proofs.lemmas.Bool.{false≢true}
 use Rattle.std.proofs.lemmas.Bool.Decides.{nat_tests}
 use Rattle.std.specs.FinSet as set
-use Rattle.cpu_set.specs.Ids.{Ids}
-use Rattle.cpu_set.specs.Pointwise.{contains-empty}
+use Rattle.cpu_set.specs.Ids.{Ids, is_same}
+use Rattle.cpu_set.specs.Pointwise.{contains-empty, is_same_decides}
 use Rattle.machine.specs.Layout.{Layout, node_count}
 use Rattle.machine.specs.Weight.{AreHomes}
 use Rattle.machine.specs.IsSound.{IsSound}
-use Rattle.demand.specs.Named.{has_none}
 
-is_zero : (n : ℕ) → n ≡ 0 → (n == 0) ≡ true
-is_zero n e = grind (arith, nat_tests)
-
-is_above : (n : ℕ) → (n ≡ 0 → ⊥) → (n == 0) ≡ false
-is_above n ne = grind (arith, nat_tests)
+fails : (b : Bool) → (b ≡ true → ⊥) → b ≡ false
+fails true never = absurd (never refl)
+fails false never = refl
 
 -- the test of a set without a member says so
-pub has_none-empty : (s : Ids) → s ≡ set.empty → has_none s ≡ true
-has_none-empty s e = is_zero (set.len s) (ap set.len e ∙ set.len-empty _)
+pub is_same-empty : (s : Ids) → s ≡ set.empty → is_same s set.empty ≡ true
+is_same-empty s e = (is_same_decides s set.empty).1 e
 
-pub has_none-some : (s : Ids) → (s ≡ set.empty → ⊥) → has_none s ≡ false
-has_none-some s ne = is_above (set.len s) (λ zero. ne (set.empty_of_len s zero))
+pub is_same-some : (s : Ids) → (s ≡ set.empty → ⊥) → is_same s set.empty ≡ false
+is_same-some s ne = fails (is_same s set.empty) (λ same. ne ((is_same_decides s set.empty).0 same))
 
 first_node : (count : ℕ) → 1 ≤ count → nat_lt 0 count ≡ true
 first_node count some = grind (arith, nat_tests)
@@ -48,4 +45,4 @@ pub all_homes : (m : Layout) (nodes : Ids) → IsSound m → ((n : ℕ) → set.
 all_homes m nodes sound each =
     named_homes m nodes nodes (nodes_some nodes (node_count m) each sound.some) each (λ n has. has)
 
-pub ruleset home_nodes = (has_none-empty, has_none-some, named_homes, all_homes)
+pub ruleset home_nodes = (is_same-empty, is_same-some, named_homes, all_homes)

@@ -5,3 +5,4 @@ pub mod FreeCpus
 pub mod Rounding
 pub mod Asked
 pub mod Walk
+pub mod KnownNodes

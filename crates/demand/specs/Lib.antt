@@ -6,3 +6,4 @@ pub mod Allowed
 pub mod DemandFaultOf
 pub mod IsDemand
 pub mod FitsMachine
+pub mod Known

@@ -1,5 +1,5 @@
 -- The set that an optional list names.
-use Rattle.std.specs.Prelude.{ℕ, ◌==◌, Bool, List, Option, Some, None, option_map}
+use Rattle.std.specs.Prelude.{ℕ, List, Option, Some, None, option_map}
 use Rattle.std.specs.Borrow.{Bor}
 use Rattle.std.specs.FinSet as set
 use Rattle.cpu_set.specs.Ids.{Ids}
@@ -9,10 +9,6 @@ use Rattle.machine.specs.Listed.{set_of}
 unfoldable pub named : Option (List ℕ) → Ids
 named None = set.empty
 named (Some text) = set_of text
-
--- a set without a number
-abbrev pub has_none : Ids → Bool
-has_none s = set.len s == 0
 
 -- the text behind a reference that may be absent
 abbrev pub text_of : Option (Bor (List ℕ)) → Option (List ℕ)

@@ -1,10 +1,12 @@
 ghost use Rattle.std.specs.Prelude.{◌≡◌, ℕ, ◌≤◌, true, IfOk, if◌then◌else◌};
 ghost use Rattle.std.specs.FinSet as set;
+ghost use Rattle.cpu_set.specs.Ids.{is_same};
 ghost use Rattle.cpu_set.specs.declared.TheConstants.{CPU_LIMIT};
 ghost use Rattle.machine.specs.Present.{present};
 ghost use Rattle.machine.specs.Nodes.{nodes_of};
+ghost use Rattle.machine.specs.IsSound.{IsSound};
 ghost use Rattle.machine.specs.Weight.{AreHomes};
-ghost use Rattle.demand.specs.Named.{named, has_none, text_of};
+ghost use Rattle.demand.specs.Named.{named, text_of};
 ghost use Rattle.demand.specs.DemandFaultOf.{list_fault, cpus_fault, mems_fault};
 ghost use Rattle.std.specs.Result.{result_err};
 
@@ -64,8 +66,9 @@ pub fn nodes(list: Option<&str>, machine: &Machine) -> Result<IdSet, DemandFault
 #[tactic(auto, using(crate::proofs::HomeNodes::home_nodes))]
 pub fn homes(named: &IdSet, machine: &Machine) -> IdSet
     requires { (n : ℕ) → set.contains named.now n ≡ true → set.contains (nodes_of machine.now) n ≡ true }
-    ensures set { result ≡ (if has_none named.now then nodes_of machine.now else named.now) }
+    ensures set { result ≡ (if is_same named.now set.empty then nodes_of machine.now else named.now) }
     ensures homes { AreHomes machine.now result }
+    ensures sound { IsSound machine.now }
 {
     let nodes = machine.nodes();
     if named.is_empty() { nodes } else { *named }

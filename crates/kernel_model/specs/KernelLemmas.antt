@@ -1,38 +1,35 @@
 -- The laws of kernels, proved.
-use Rattle.std.proofs.Common.{◌≡◌, ◌≢◌, ℕ, ◌+◌, ◌<◌, ◌≤◌, Bool, true, false, not, cond, ◌&&◌, ◌||◌, List, [], ◌∷◌, refl, sym, ap, ◌∙◌, subst, arith, add-zero, eq-eqb, eqb-true}
-use Rattle.std.proofs.lemmas.Bool.{both_ways, cond-true}
+use Rattle.std.proofs.Common.{◌≡◌, ◌≢◌, ℕ, ◌+◌, ◌≤◌, Bool, true, false, not, cond, ◌&&◌, ◌||◌, List, [], ◌∷◌, refl, sym, ap, ◌∙◌, subst, arith, add-zero, eq-eqb, eqb-true}
+use Rattle.std.proofs.lemmas.Bool.{both_ways}
 use Rattle.std.proofs.lemmas.Option.{same_Some, none-some}
-use Rattle.std.specs.Prelude.{Option, Some, None, Result, Ok, Err, is_some, ◌==◌}
+use Rattle.std.specs.Prelude.{Option, Some, None, Result, Ok, is_some, ◌==◌}
 use Rattle.std.specs.FinSet as set
 use Rattle.cpu_set.specs.Ids.{Ids}
 use Rattle.cpu_set.specs.Pointwise.{contains-insert, contains-remove, is_subset-contains, contains-is_subset}
 use Rattle.cpuset_tree.specs.declared.Group.{Group}
 use Rattle.cpuset_tree.specs.TreeState.{TreeState}
-use Rattle.cpuset_tree.specs.Groups.{same_group, entry_of, has_group, is_root}
-use Rattle.cpuset_tree.specs.TreeChanges.{with_group, without_group, with_cpus, with_mems, with_online}
-use Rattle.cpuset_tree.specs.TreeAnswers.{AddsGroup}
+use Rattle.cpuset_tree.specs.Groups.{same_group, has_group}
+use Rattle.cpuset_tree.specs.TreeChanges.{without_group, with_cpus, with_mems, with_online}
 use Rattle.cpuset_tree.specs.TreeWellFormed as tree_formed
 use Rattle.cpuset_tree.specs.TreeLaws.{StandsAs, StandAlike, KeepsSerials, GroupAdded}
 use Rattle.cpuset_tree.specs.GroupLemmas.{same_group_sym}
 use Rattle.cpuset_tree.specs.TreeLemmas as tree
 use Rattle.proctable.specs.declared.Process.{Process}
 use Rattle.proctable.specs.TableState.{TableState}
-use Rattle.proctable.specs.Processes.{process_of, count_in}
-use Rattle.proctable.specs.TableChanges.{ends_with, with_process, exited, ended_in}
-use Rattle.proctable.specs.TableAnswers.{AddsProcess, ForksOf}
+use Rattle.proctable.specs.Processes.{process_of}
+use Rattle.proctable.specs.TableChanges.{ends_with, exited, ended_in}
+use Rattle.proctable.specs.TableAnswers.{AddsProcess}
 use Rattle.proctable.specs.TableLaws.{ProcessAdded, SomeEnd}
 use Rattle.proctable.specs.TableWellFormed as table_formed
 use Rattle.proctable.specs.TableLemmas as table
 use Rattle.kernel_model.specs.declared.faults.KernelFault.{KernelFault}
-use Rattle.kernel_model.specs.declared.faults.KernelFault.TheVariants.{Failed}
 use Rattle.kernel_model.specs.declared.faults.KernelError.{KernelError}
-use Rattle.kernel_model.specs.declared.faults.KernelError.TheVariants.{Fault}
 use Rattle.kernel_model.specs.declared.call.Call.TheVariants.{MakeGroup, RemoveGroup, WriteCpus, WriteMems, Spawn, EndGroup, Root, FindGroup, RequestedCpus, EffectiveCpus, RequestedMems, EffectiveMems, Online, Nodes, FirstAlive, Fork, Exit, Offline, OnlineCpu}
 use Rattle.kernel_model.specs.KernelState.{KernelState, failed}
 use Rattle.kernel_model.specs.Refusals.{make_refusal, remove_refusal, write_refusal, spawn_refusal, end_refusal, fork_refusal, exit_refusal, offline_refusal, online_refusal}
-use Rattle.kernel_model.specs.Cases.{is_failed, rise, rise_or_memory, InTree, InTable, Writes, GrowingWrites, MakesGroup, MakesGroupOf, RemovesGroup, WritesCpus, WritesMems, Spawns, SpawnsIn, EndsGroup, Forks, ForksIn, Exits, GoesOffline, ComesOnline}
+use Rattle.kernel_model.specs.Cases.{is_failed, rise, rise_or_memory, Writes, GrowingWrites, MakesGroup, MakesGroupOf, RemovesGroup, WritesCpus, WritesMems, Spawns, SpawnsIn, EndsGroup, Forks, ForksIn, Exits, GoesOffline, ComesOnline}
 use Rattle.kernel_model.specs.WellFormed.{IsWellFormed}
-use Rattle.kernel_model.specs.Laws.{CpusWriteLeaves, MemsWriteLeaves, MakeLeaves, RemoveLeaves, WritesLeaveGroups, SpawnLeaves, EndLeaves, ForkLeaves, ForkAdds, ExitLeaves, CallsLeaveProcesses, WritesCount, EachCaseKeeps, KeepsMachine, KeepsGroups, KeepsPids, EventsKeepGroups, WritesKeepProcesses, WritesKeepTree, StepKeeps, StepsKeep, RunsKeep, EmptyWhereNoGroup, FirstIsWellFormed}
+use Rattle.kernel_model.specs.Laws.{CpusWriteLeaves, MemsWriteLeaves, MakeLeaves, RemoveLeaves, WritesLeaveGroups, SpawnLeaves, EndLeaves, ForkLeaves, ExitLeaves, CallsLeaveProcesses, WritesCount, EachCaseKeeps, KeepsMachine, KeepsGroups, KeepsPids, EventsKeepGroups, WritesKeepProcesses, WritesKeepTree, StepKeeps, StepsKeep, RunsKeep, EmptyWhereNoGroup, FirstIsWellFormed}
 use Rattle.kernel_model.specs.CaseLemmas.{Writes-answers, GrowingWrites-answers, Decides-answers, Grows-answers, Decides-keeps, Grows-keeps, Writes-keeps, GrowingWrites-keeps}
 use Rattle.kernel_model.specs.RefusalLemmas.{calls_are_free}
 

@@ -18,6 +18,7 @@ pub mod KernelState
 pub mod Refusals
 pub mod Cases
 pub mod Fuse
+pub mod Burning
 pub mod FuseLemmas
 pub mod Runs
 pub mod WellFormed

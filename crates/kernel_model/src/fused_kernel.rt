@@ -1,7 +1,8 @@
 ghost use Rattle.std.specs.Prelude.{◌≡◌, true, false, IfErr, OnOk};
 ghost use Rattle.kernel_model.specs.declared.faults.KernelFault.TheVariants.{Failed};
 ghost use Rattle.kernel_model.specs.declared.faults.KernelError.TheVariants.{Fault};
-ghost use Rattle.kernel_model.specs.Fuse.{burnt, is_due, fused, FailsWhenDue};
+ghost use Rattle.kernel_model.specs.Fuse.{fuse_after, fused, CountsAWrite, FailsAtTheNth};
+ghost use Rattle.kernel_model.specs.Burning.{burnt, is_due};
 ghost use Rattle.kernel_model.specs.Cases.{MakesGroup, RemovesGroup, WritesCpus, WritesMems, Spawns, EndsGroup, Forks, Exits, GoesOffline, ComesOnline};
 
 use crate::{Kernel, KernelError, KernelFault};
@@ -50,7 +51,7 @@ impl<K: Kernel> FusedKernel<K> {
     /// A kernel whose write of number `n` fails, counted from 1, refused ones too; with 0 none does. Takes no memory.
     pub fn new(inner: K, n: u64) -> FusedKernel<K>
         ensures inner { result.inner ≡ inner }
-        ensures fuse { result.fuse ≡ Fuse.Waiting n }
+        ensures fuse { result.fuse ≡ fuse_after n 0 }
     {
         FusedKernel {
             inner,
@@ -77,8 +78,8 @@ impl<K: Kernel> Kernel for FusedKernel<K> {
 
     fn make_group(&mut self, parent: Group, name: &str) -> Result<Group, KernelError>
         ensures case { MakesGroup (fused self.old.fuse (K.state self.old.inner)) parent name.now result (fused self.new.fuse (K.state self.new.inner)) }
-        ensures fuse { self.new.fuse ≡ burnt self.old.fuse }
-        ensures inner { FailsWhenDue (Fault Failed) self.old.fuse (K.state self.old.inner) (MakesGroup (K.state self.old.inner) parent name.now) result (K.state self.new.inner) }
+        ensures fuse { CountsAWrite self.old.fuse self.new.fuse }
+        ensures inner { FailsAtTheNth (Fault Failed) self.old.fuse (K.state self.old.inner) (MakesGroup (K.state self.old.inner) parent name.now) result (K.state self.new.inner) }
     {
         self.burn()?;
         self.inner.make_group(parent, name)
@@ -86,8 +87,8 @@ impl<K: Kernel> Kernel for FusedKernel<K> {
 
     fn remove_group(&mut self, group: Group) -> Result<(), KernelFault>
         ensures case { RemovesGroup (fused self.old.fuse (K.state self.old.inner)) group result (fused self.new.fuse (K.state self.new.inner)) }
-        ensures fuse { self.new.fuse ≡ burnt self.old.fuse }
-        ensures inner { FailsWhenDue Failed self.old.fuse (K.state self.old.inner) (RemovesGroup (K.state self.old.inner) group) result (K.state self.new.inner) }
+        ensures fuse { CountsAWrite self.old.fuse self.new.fuse }
+        ensures inner { FailsAtTheNth Failed self.old.fuse (K.state self.old.inner) (RemovesGroup (K.state self.old.inner) group) result (K.state self.new.inner) }
     {
         self.burn()?;
         self.inner.remove_group(group)
@@ -95,8 +96,8 @@ impl<K: Kernel> Kernel for FusedKernel<K> {
 
     fn write_cpus(&mut self, group: Group, cpus: IdSet) -> Result<(), KernelFault>
         ensures case { WritesCpus (fused self.old.fuse (K.state self.old.inner)) group cpus result (fused self.new.fuse (K.state self.new.inner)) }
-        ensures fuse { self.new.fuse ≡ burnt self.old.fuse }
-        ensures inner { FailsWhenDue Failed self.old.fuse (K.state self.old.inner) (WritesCpus (K.state self.old.inner) group cpus) result (K.state self.new.inner) }
+        ensures fuse { CountsAWrite self.old.fuse self.new.fuse }
+        ensures inner { FailsAtTheNth Failed self.old.fuse (K.state self.old.inner) (WritesCpus (K.state self.old.inner) group cpus) result (K.state self.new.inner) }
     {
         self.burn()?;
         self.inner.write_cpus(group, cpus)
@@ -104,8 +105,8 @@ impl<K: Kernel> Kernel for FusedKernel<K> {
 
     fn write_mems(&mut self, group: Group, mems: IdSet) -> Result<(), KernelFault>
         ensures case { WritesMems (fused self.old.fuse (K.state self.old.inner)) group mems result (fused self.new.fuse (K.state self.new.inner)) }
-        ensures fuse { self.new.fuse ≡ burnt self.old.fuse }
-        ensures inner { FailsWhenDue Failed self.old.fuse (K.state self.old.inner) (WritesMems (K.state self.old.inner) group mems) result (K.state self.new.inner) }
+        ensures fuse { CountsAWrite self.old.fuse self.new.fuse }
+        ensures inner { FailsAtTheNth Failed self.old.fuse (K.state self.old.inner) (WritesMems (K.state self.old.inner) group mems) result (K.state self.new.inner) }
     {
         self.burn()?;
         self.inner.write_mems(group, mems)
@@ -113,8 +114,8 @@ impl<K: Kernel> Kernel for FusedKernel<K> {
 
     fn spawn(&mut self, group: Group) -> Result<u32, KernelError>
         ensures case { Spawns (fused self.old.fuse (K.state self.old.inner)) group result (fused self.new.fuse (K.state self.new.inner)) }
-        ensures fuse { self.new.fuse ≡ burnt self.old.fuse }
-        ensures inner { FailsWhenDue (Fault Failed) self.old.fuse (K.state self.old.inner) (Spawns (K.state self.old.inner) group) result (K.state self.new.inner) }
+        ensures fuse { CountsAWrite self.old.fuse self.new.fuse }
+        ensures inner { FailsAtTheNth (Fault Failed) self.old.fuse (K.state self.old.inner) (Spawns (K.state self.old.inner) group) result (K.state self.new.inner) }
     {
         self.burn()?;
         self.inner.spawn(group)
@@ -122,8 +123,8 @@ impl<K: Kernel> Kernel for FusedKernel<K> {
 
     fn end_group(&mut self, group: Group) -> Result<(), KernelFault>
         ensures case { EndsGroup (fused self.old.fuse (K.state self.old.inner)) group result (fused self.new.fuse (K.state self.new.inner)) }
-        ensures fuse { self.new.fuse ≡ burnt self.old.fuse }
-        ensures inner { FailsWhenDue Failed self.old.fuse (K.state self.old.inner) (EndsGroup (K.state self.old.inner) group) result (K.state self.new.inner) }
+        ensures fuse { CountsAWrite self.old.fuse self.new.fuse }
+        ensures inner { FailsAtTheNth Failed self.old.fuse (K.state self.old.inner) (EndsGroup (K.state self.old.inner) group) result (K.state self.new.inner) }
     {
         self.burn()?;
         self.inner.end_group(group)

@@ -1,4 +1,4 @@
-ghost use Rattle.kernel_model.specs.Fuse.{TheNthAloneFails};
+ghost use Rattle.kernel_model.specs.Fuse.{FusesCountWrites};
 ghost use Rattle.kernel_model.specs.Laws.{EventsKeepGroups, WritesKeepProcesses, WritesKeepTree, WritesLeaveGroups, CallsLeaveProcesses, WritesCount, CallsAreFree, RefusalsHaveCauses, EachCaseKeeps, StepsKeep, RunsKeep, EmptyWhereNoGroup, FirstIsWellFormed};
 
 /// What each call leaves of groups and processes, whatever it answers; nothing runs.
@@ -26,7 +26,7 @@ pub fn runs()
     ensures run { RunsKeep }
 {}
 
-/// Which write of a fused kernel fails, by how many were made before it; nothing runs.
+/// Each fuse counts writes; nothing runs.
 pub fn fuse()
-    ensures { TheNthAloneFails }
+    ensures { FusesCountWrites }
 {}

@@ -1,4 +1,7 @@
+ghost use Rattle.std.specs.Prelude.{◌≡◌};
 ghost use Rattle.proctable.specs.TableLaws.{AddedLeaves, ExitedLeaves, EndedLeaves, EndedIsEmpty, FoundHasPid, PidIsGiven, NoneWhereNoneCounted, NoneCountedWhereNone, LiveBelong, EmptyOnceFirstEnded, ChangesStayWellFormed, FirstIsWellFormed};
+
+use crate::LAST_PID;
 
 /// What each change leaves of a table; nothing runs.
 pub fn changes()
@@ -18,4 +21,9 @@ pub fn well_formed()
     ensures given { PidIsGiven }
     ensures uncounted { NoneWhereNoneCounted }
     ensures none { NoneCountedWhereNone }
+{}
+
+/// Each pid is at most 4,194,303.
+pub fn the_limits()
+    ensures pids { LAST_PID ≡ 4_194_303 }
 {}

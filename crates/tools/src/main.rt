@@ -1,8 +1,8 @@
 //! What `examples/` and `benches/` run; no part of the product.
 //!
-//! `tools ask MACHINE CONFIG..` prints what bundles ask for on a machine. Every other first word is the name of
-//! a benchmark, and the second how often its work is done: what is printed is a sum over all answers, so that
-//! none of the work is idle.
+//! `tools ask MACHINE CONFIG..` prints what bundles ask for on a machine, and `tools solve` what comes of the
+//! problems of certificates on standard input. Else the first word is the name of a benchmark, and the second how
+//! often its work is done: what is printed is a sum over all answers, so that none of the work is idle.
 #![tactic(auto)]
 
 mod ask;
@@ -10,6 +10,7 @@ mod files;
 mod hand_over;
 mod kernel;
 mod lists;
+mod solving;
 
 use anyhow::{Context, Result, bail};
 use std::alloc::Global;
@@ -20,12 +21,13 @@ fn main(rt: HostRuntime) -> Result<()> {
     let words: Vec<String> = env::args(&rt)?.skip(1).collect(rt.alloc())?;
     match words.as_slice() {
         [name, paths @ ..] if name.as_str() == "ask" => ask::bundles(&rt, paths),
+        [name] if name.as_str() == "solve" => solving::each(&rt, &input(&rt)?),
         [name, count] => {
             let sum = benchmark(&rt, name.as_str(), count.as_str().parse()?)?;
             println!(rt; "{sum}")?;
             Ok(())
         }
-        _ => bail!("tools ask MACHINE CONFIG.., or the name of a benchmark and a count"),
+        _ => bail!("tools ask MACHINE CONFIG.., tools solve, or the name of a benchmark and a count"),
     }
 }
 
@@ -33,6 +35,7 @@ fn benchmark<R: AllocGlobal + Input>(rt: &R, name: &str, count: u32) -> Result<u
     let sum = match name {
         "machine" => files::machine(rt.alloc(), &input(rt)?, count),
         "config" => files::config(rt.alloc(), &input(rt)?, count),
+        "solve" => solving::over_and_over(rt.alloc(), &input(rt)?, count),
         name => at_once(rt.alloc(), name, count),
     };
     sum.context("no such benchmark, or a call that was refused")

@@ -7,10 +7,10 @@ use Rattle.cpu_set.specs.Ids.{Ids, IsDisjoint}
 use Rattle.cpu_set.specs.Members.{InRange, cpus}
 use Rattle.cpu_set.specs.Pointwise.{contains-intersection}
 use Rattle.certificate.specs.PlanFault.{is_held}
-use Rattle.certificate.proofs.Sums.{sum_by_none, sum_by_same, sum_by_plus}
-use Rattle.certificate.proofs.Cpus.{sum_by-cpus-le}
-use Rattle.certificate.proofs.Apart.{AllPairs-tail, AllPairs-head, not_held}
-use Rattle.certificate.proofs.Tests.{and_left}
+use Rattle.certificate.specs.Sums.{sum_by_none, sum_by_same, sum_by_plus}
+use Rattle.certificate.specs.Cpus.{sum_by-cpus-le}
+use Rattle.certificate.specs.Apart.{AllPairs-tail, AllPairs-head, not_held}
+use Rattle.certificate.specs.Tests.{and_left}
 use Rattle.twins.specs.IsPart.{times_in}
 use Rattle.twins.proofs.Sets.{len_sum}
 

@@ -12,11 +12,11 @@ use Rattle.certificate.specs.IsDealt.{Holds}
 use Rattle.certificate.specs.PlanFault.{is_held}
 use Rattle.certificate.specs.Price.{price}
 use Rattle.certificate.specs.declared.price_lists.Price.{Price}
-use Rattle.certificate.proofs.Apart.{IsApartFrom, AllPairs-tail, AllPairs-head, not_held}
+use Rattle.certificate.specs.Apart.{IsApartFrom, AllPairs-tail, AllPairs-head, not_held}
 use Rattle.certificate.specs.Limits.{is_disjoint, are_apart, values_fit, prices_fit}
 use Rattle.certificate.specs.declared.limits.TheConstants.{MAX_AMOUNT}
-use Rattle.certificate.proofs.ApartTest.{is_disjoint-true}
-use Rattle.certificate.proofs.Tests.{and_left, and_right, both}
+use Rattle.certificate.specs.ApartTest.{is_disjoint-true}
+use Rattle.certificate.specs.Tests.{and_left, and_right, both}
 use Rattle.twins.specs.IsPriced.{class_prices, with_price}
 
 -- the price of a CPU, where a set is priced before others

@@ -9,7 +9,7 @@ use Rattle.cpu_set.specs.Ids.{Ids, IsFirstFrom, NoneFrom}
 use Rattle.cpu_set.specs.Pointwise.{contains-empty, contains-insert, contains-remove, contains-union, contains-intersection, same_members}
 use Rattle.cpu_set.specs.SetLaws.{empty_of_none}
 use Rattle.certificate.specs.IsDealt.{Holds}
-use Rattle.certificate.proofs.Tests.{and_left, and_right, both, or_left, or_right}
+use Rattle.certificate.specs.Tests.{and_left, and_right, both, or_left, or_right}
 use Rattle.twins.specs.Holdings.{share_of, shared_out}
 use Rattle.twins.specs.IsDeal.{IsTaken, IsNextRow, IsClassDeal}
 use Rattle.twins.specs.declared.holders.Share.{Share}

@@ -11,3 +11,4 @@ pub mod ByClass
 pub mod ClassPrices
 pub mod Paying
 pub mod Closing
+pub mod Few

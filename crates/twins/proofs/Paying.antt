@@ -23,11 +23,11 @@ use Rattle.certificate.specs.IsBound.{IsValueOf, worth, IsBound}
 use Rattle.certificate.specs.IsDealt.{Holds}
 use Rattle.certificate.specs.PlanFault.{is_held}
 use Rattle.certificate.specs.declared.price_lists.Price.{Price}
-use Rattle.certificate.proofs.Apart.{AllPairs-tail, AllPairs-head, not_held}
+use Rattle.certificate.specs.Apart.{AllPairs-tail, AllPairs-head, not_held}
 use Rattle.certificate.specs.Limits.{rows_fit, values_fit, prices_fit, is_within_limits}
-use Rattle.certificate.proofs.Tests.{both, and_right}
-use Rattle.certificate.proofs.Cpus.{len-times}
-use Rattle.certificate.proofs.Sums.{sum_by_none, sum_by_same, sum_by_plus, sum_by-filter}
+use Rattle.certificate.specs.Tests.{both, and_right}
+use Rattle.certificate.specs.Cpus.{len-times}
+use Rattle.certificate.specs.Sums.{sum_by_none, sum_by_same, sum_by_plus, sum_by-filter}
 use Rattle.twins.specs.IsGrouping.{class_at, IsGrouping}
 use Rattle.twins.specs.ClassWeight.{weight_at, class_weight}
 use Rattle.twins.specs.Holdings.{share_of, shared_out, cell, held_of}

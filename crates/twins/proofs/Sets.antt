@@ -10,9 +10,9 @@ use Rattle.cpu_set.specs.Members.{InRange, cpus}
 use Rattle.cpu_set.specs.Pointwise.{contains-empty, contains-remove, contains-intersection, contains-difference}
 use Rattle.cpu_set.specs.SetLaws.{length-members}
 use Rattle.cpu_set.specs.declared.TheConstants.{CPU_LIMIT}
-use Rattle.certificate.proofs.Cpus.{sum_by-cpus-le, length-cpus}
-use Rattle.certificate.proofs.Sums.{sum_by_same, sum_by_plus, sum_by-constant}
-use Rattle.certificate.proofs.Tests.{and_left}
+use Rattle.certificate.specs.Cpus.{sum_by-cpus-le, length-cpus}
+use Rattle.certificate.specs.Sums.{sum_by_same, sum_by_plus, sum_by-constant}
+use Rattle.certificate.specs.Tests.{and_left}
 use Rattle.certificate.specs.IsDealt.{Holds}
 
 -- an empty set has no member

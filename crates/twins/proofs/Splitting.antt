@@ -7,7 +7,7 @@ use Rattle.std.proofs.lemmas.List.{length-take, take-take, get_or-take}
 use Rattle.std.proofs.lemmas.List.Elements.{All-more, All-take, All-push}
 use Rattle.cpu_set.specs.Ids.{Ids, NoneFrom}
 use Rattle.cpu_set.specs.Pointwise.{contains-intersection, contains-difference}
-use Rattle.certificate.proofs.Tests.{and_left, and_right, both}
+use Rattle.certificate.specs.Tests.{and_left, and_right, both}
 use Rattle.certificate.specs.RowView.{RowView}
 use Rattle.certificate.specs.Weight.{weight}
 use Rattle.certificate.specs.IsDealt.{AreTwins}

@@ -8,9 +8,9 @@ use Rattle.std.proofs.lemmas.List.Folds.{find-append}
 use Rattle.certificate.specs.Weight.{weight_in}
 use Rattle.certificate.specs.Limits.{offers_fit}
 use Rattle.certificate.specs.declared.rows.Offer.{Offer}
-use Rattle.certificate.proofs.ApartTest.{apart_at}
-use Rattle.certificate.proofs.CostSums.{offers_apart}
-use Rattle.certificate.proofs.Offers.{is_some-find}
+use Rattle.certificate.specs.ApartTest.{apart_at}
+use Rattle.certificate.specs.OfferLaws.{offers_apart}
+use Rattle.certificate.specs.Offers.{is_some-find}
 use Rattle.twins.specs.IsPart.{is_same_weight}
 
 -- the test says what its name does

@@ -1,5 +1,5 @@
 //! Classes of twins, by splitting sets of CPUs row by row.
-ghost use Rattle.std.specs.Prelude.{◌≡◌, ℕ, ◌<◌, ◌+◌, IsTrue, IfOk, OnOk, All, length};
+ghost use Rattle.std.specs.Prelude.{◌≡◌, ℕ, ◌<◌, ◌≤◌, ◌+◌, IsTrue, IfOk, OnOk, All, length};
 ghost use Rattle.std.specs.List.{list_all};
 ghost use Rattle.std.specs.FinSet as set;
 ghost use Rattle.certificate.specs.Limits.{row_fits};
@@ -10,7 +10,7 @@ ghost use Rattle.twins.specs.IsPart.{IsPart, IsUnsplit, ArePieces, IsSplit, IsPu
 use crate::Classes;
 use crate::alike::{alike, cpus_of};
 use certificate::{Problem, Row};
-use cpu_set::IdSet;
+use cpu_set::{CPU_LIMIT, IdSet};
 use std::alloc::{AllocError, Global};
 
 /// The CPUs with a weight in some row, in classes of twins. A CPU with none is in no class.
@@ -18,7 +18,8 @@ use std::alloc::{AllocError, Global};
 /// Each row splits the sets that are left of the rows before it; one CPU by itself needs no more looks.
 pub fn group(alloc: Global, problem: &Problem) -> Result<Classes, AllocError>
     requires { IsTrue (list_all row_fits problem.now) }
-    ensures { IfOk result (λ classes. IsGrouping problem.now classes) }
+    ensures grouped { IfOk result (λ classes. IsGrouping problem.now classes) }
+    ensures few { IfOk result (λ classes. length classes ≤ CPU_LIMIT) }
 {
     let sets = grouped(alloc, problem.rows.as_slice())?;
     Ok(Classes { sets })

@@ -1,4 +1,4 @@
-use Rattle.certificate.proofs.CostSums.{row_offers_fit}
+use Rattle.certificate.specs.OfferLaws.{row_offers_fit}
 use Rattle.certificate.proofs.costs.row_cost.Goals as goal
 
 pub offers_cost-requires : goal.offers_cost-requires

@@ -1,7 +1,7 @@
 use Rattle.std.proofs.Common.{sym, refl}
 use Rattle.cpu_set.specs.Pointwise.{contains-empty}
-use Rattle.certificate.proofs.Tests.{not_true}
-use Rattle.certificate.proofs.ApartTest.{are_apart_more, are_apart_stop, is_in_one_more}
+use Rattle.certificate.specs.Tests.{not_true}
+use Rattle.certificate.specs.ApartTest.{are_apart_more, are_apart_stop, is_in_one_more}
 use Rattle.certificate.proofs.limit_checks.are_apart.Goals as goal
 
 pub loop-item-init : goal.loop-item-init

@@ -1,7 +1,7 @@
 use Rattle.std.proofs.Common.{◌≡◌, ℕ, true, take}
 use Rattle.std.specs.FinSet as set
 use Rattle.certificate.specs.Limits.{are_apart}
-use Rattle.certificate.proofs.ApartTest.{is_in_one}
+use Rattle.certificate.specs.ApartTest.{is_in_one}
 use Rattle.certificate.proofs.limit_checks.are_apart.Given as goal
 
 abbrev pub invariant-loop-item : goal.invariant-loop-item

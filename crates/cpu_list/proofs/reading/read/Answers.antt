@@ -3,7 +3,7 @@ use Rattle.std.specs.List.{before_first}
 use Rattle.std.proofs.lemmas.List.{take_rest}
 use Rattle.cpu_list.specs.ListText.{is_comma, item_of}
 use Rattle.cpu_list.specs.FirstFault.{item_fault}
-use Rattle.cpu_list.proofs.FirstFaults.{first_decides}
+use Rattle.cpu_list.specs.FirstFaults.{first_decides}
 use Rattle.cpu_list.proofs.ReadSteps.{IsRead-none, IsRead-more, IsRead-fault, IsRead-all}
 use Rattle.cpu_list.proofs.reading.read.Goals as goal
 

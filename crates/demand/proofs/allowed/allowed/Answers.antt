@@ -4,15 +4,17 @@ use Rattle.std.specs.FinSet as set
 use Rattle.cpu_set.specs.Members.{IsCpu}
 use Rattle.machine.specs.Weight.{weight}
 use Rattle.demand.specs.Allowed.{is_allowed, allowed_by}
+use Rattle.demand.proofs.KnownNodes.{AreKnown-none}
 use Rattle.demand.proofs.Walk.{IsWalked, IsWalked-none, IsWalked-more, IsWalked-all, next_is_free, chosen, left_out}
 use Rattle.demand.proofs.allowed.allowed.Goals as goal
-use Rattle.demand.proofs.allowed.allowed.Goals.{then-is_in_reach, else-is_in_reach}
+use Rattle.demand.proofs.allowed.allowed.Goals.{then-is_near, else-is_near}
 
 pub loop-next-init : goal.loop-next-init
 loop-next-init c = record {
   walked = IsWalked-none _ _ _ _ c.empty-allowed.ensures (c.first-next.ensures.first, c.first-next.ensures.in_range);
   member = next_is_free _ 0 _ (c.first-next.ensures.first, c.first-next.ensures.in_range);
   in_range = c.first-next.ensures.in_range;
+  known = AreKnown-none _ _ _ _ c.empty-known.ensures c.empty-near.ensures;
 }
 
 pub loop-next-preserved : goal.loop-next-preserved
@@ -27,17 +29,18 @@ loop-next-preserved c =
     let in_range : IsCpu c.in-Some.cpu = subst InRange c.in-Some.is c.loop-next.invariant.in_range in
     let more = IsWalked-more free passes c.loop-next.allowed c.in-Some.cpu _ walked member in_range
     (c.next_after-next.ensures.first, c.next_after-next.ensures.in_range) in
-    let kept : c.if-is_in_reach.allowed ≡ cond (passes c.in-Some.cpu) (set.insert c.loop-next.allowed c.in-Some.cpu) c.loop-next.allowed =
-    elim c.if-is_in_reach.branch [
-      | then-is_in_reach w ↦
-          w.allowed-is ∙ w.insert.ensures ∙ sym (chosen _ _ _ (sym c.is_in_reach.ensures ∙ w.if-is_in_reach.true))
-      | else-is_in_reach w ↦
-          w.allowed-is ∙ sym (left_out _ _ _ (sym c.is_in_reach.ensures ∙ w.if-is_in_reach.false))
+    let kept : c.if-is_near.allowed ≡ cond (passes c.in-Some.cpu) (set.insert c.loop-next.allowed c.in-Some.cpu) c.loop-next.allowed =
+    elim c.if-is_near.branch [
+      | then-is_near w ↦
+          w.allowed-is ∙ w.insert.ensures ∙ sym (chosen _ _ _ (sym c.is_near.ensures.answer ∙ w.if-is_near.true))
+      | else-is_near w ↦
+          w.allowed-is ∙ sym (left_out _ _ _ (sym c.is_near.ensures.answer ∙ w.if-is_near.false))
     ] in
     record {
       walked = rw kept more;
       member = next_is_free _ _ _ (c.next_after-next.ensures.first, c.next_after-next.ensures.in_range);
       in_range = c.next_after-next.ensures.in_range;
+      known = c.is_near.ensures.known;
     }
 
 none_left : (next : Option ℕ) → ((n : ℕ) → next ≡ Some n → ⊥) → next ≡ None

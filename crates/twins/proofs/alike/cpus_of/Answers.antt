@@ -1,8 +1,8 @@
 use Rattle.std.proofs.Common.{sym, ap, ◌∙◌, take_all}
 use Rattle.cpu_set.specs.Pointwise.{contains-empty}
 use Rattle.certificate.specs.declared.rows.Offer.{Offer}
-use Rattle.certificate.proofs.ApartTest.{is_in_one, is_in_one_more}
-use Rattle.certificate.proofs.Offers.{is_some-weight_in}
+use Rattle.certificate.specs.ApartTest.{is_in_one, is_in_one_more}
+use Rattle.certificate.specs.Offers.{is_some-weight_in}
 use Rattle.twins.proofs.alike.cpus_of.Goals as goal
 
 pub loop-offer-init : goal.loop-offer-init

@@ -1,6 +1,6 @@
 use Rattle.std.proofs.Common.{◌≡◌, ℕ, take}
 use Rattle.std.specs.FinSet as set
-use Rattle.certificate.proofs.ApartTest.{is_in_one}
+use Rattle.certificate.specs.ApartTest.{is_in_one}
 use Rattle.twins.proofs.alike.cpus_of.Given as goal
 
 abbrev pub invariant-loop-offer : goal.invariant-loop-offer

@@ -3,7 +3,7 @@ use Rattle.std.specs.FinSet as set
 use Rattle.certificate.specs.RowView.{RowView}
 use Rattle.certificate.specs.Weight.{weight_in}
 use Rattle.certificate.specs.Limits.{offers_fit, row_fits}
-use Rattle.certificate.proofs.CostSums.{passes_at, row_offers_fit}
+use Rattle.certificate.specs.OfferLaws.{passes_at, row_offers_fit}
 use Rattle.certificate.specs.declared.rows.Offer.{Offer}
 use Rattle.twins.specs.IsPart.{is_same_weight}
 use Rattle.twins.proofs.Splitting.{IsAlike, splitting_start, splitting_more, splitting_end, less_left}

@@ -1,7 +1,7 @@
 use Rattle.std.proofs.Common.{◌≡◌, ℕ, true, List}
 use Rattle.certificate.specs.RowView.{RowView}
 use Rattle.certificate.specs.Limits.{rows_fit, are_row_numbers, is_shortage_within_limits}
-use Rattle.certificate.proofs.Tests.{and_left}
+use Rattle.certificate.specs.Tests.{and_left}
 use Rattle.twins.proofs.tests.are_within.Goals as goal
 
 rows_are : (rows : List RowView) (members : List ℕ) → is_shortage_within_limits rows members ≡ true → rows_fit rows ≡ true

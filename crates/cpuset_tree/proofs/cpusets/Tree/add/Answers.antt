@@ -1,19 +1,28 @@
 use Rattle.std.proofs.Common.{◌≡◌, ℕ, ◌+◌, List, ◌∷◌, sym, ap, ◌∙◌, refl, subst}
 use Rattle.std.specs.Prelude.{Some, None, is_some, string_bytes}
 use Rattle.slab.specs.Slab.{Slab, get, Updates}
-use Rattle.cpuset_tree.specs.declared.TheConstants.{SERIAL_LIMIT}
+use Rattle.cpu_set.specs.Ids.{Ids}
 use Rattle.cpuset_tree.specs.declared.groups.Group.{Group}
 use Rattle.cpuset_tree.specs.declared.groups.Cgroup.{Cgroup}
-use Rattle.cpuset_tree.specs.TreeState.{TreeState}
+use Rattle.cpuset_tree.specs.declared.groups.Resource.{Resource}
+use Rattle.cpuset_tree.specs.declared.groups.Resource.TheVariants.{Cpus, Mems}
+use Rattle.cpuset_tree.specs.TreeState.{GroupEntry, TreeState}
 use Rattle.cpuset_tree.specs.Groups.{has_group}
-use Rattle.cpuset_tree.specs.Effective.{effective_cpus, effective_mems}
+use Rattle.cpuset_tree.specs.Effective.{effective, effective_cpus, effective_mems}
 use Rattle.cpuset_tree.specs.TreeChanges.{new_entry}
 use Rattle.cpuset_tree.specs.TreeAnswers.{AddsGroup}
-use Rattle.cpuset_tree.specs.Kept.{IsSound, entry_of_kept, listed}
+use Rattle.cpuset_tree.specs.Kept.{IsSound, entry_of_kept, listed, share_of, unrequested, requested_of, top_of}
 use Rattle.cpuset_tree.proofs.ChangeLemmas.{not_found}
 use Rattle.cpuset_tree.proofs.SoundLemmas.{IsSound-room, IsSound-added, listed-added}
 use Rattle.std.proofs.lemmas.Option.{none-some}
 use Rattle.cpuset_tree.proofs.cpusets.Tree.add.Goals as goal
+
+-- a new group has all of its parent's
+shares : (online nodes : Ids) (groups : List GroupEntry) (p : Group) (n : Cgroup) (cpus mems : Ids) → n.cpus ≡ unrequested cpus → n.mems ≡ unrequested mems
+    → cpus ≡ effective (λ e. e.cpus) online groups p → mems ≡ effective (λ e. e.mems) nodes groups p
+    → (r : Resource) → share_of r n ≡ unrequested (effective (requested_of r) (top_of r online nodes) groups p)
+shares online nodes groups p n cpus mems a b c d Cpus = a ∙ ap unrequested c
+shares online nodes groups p n cpus mems a b c d Mems = b ∙ ap unrequested d
 
 pub invariant_of-self : goal.invariant_of-self
 invariant_of-self c =
@@ -33,7 +42,7 @@ invariant_of-self-2 c =
     let i = c.self.inside in
     let key = c.vacant_key.result in
     let g : Group = record { key = key; serial = i.next_serial } in
-    let n : Cgroup = record { group = g; parent = Some c.args.parent; name = c.args.name; cpus = c.empty.result; mems = c.empty-2.result; effective_cpus = c.args.cpus; effective_mems = c.args.mems; touched_by = SERIAL_LIMIT } in
+    let n : Cgroup = record { group = g; parent = Some c.args.parent; name = c.args.name; cpus = c.unrequested.result; mems = c.unrequested-2.result } in
     let roomy : Slab Cgroup = record i.groups { capacity = c.reserve.new.self.capacity } in
     let kept : c.reserve.new.self ≡ roomy = c.in_ok-reserve.ensures.rest_kept in
     let updates : Updates c.reserve.new.self c.insert_reserved.new.self key (Some n) =
@@ -45,16 +54,16 @@ invariant_of-self-2 c =
     (ap (λ (s : Slab Cgroup). get s key) (sym kept) ∙ c.vacant_key.ensures.vacant)
     c.args.parent refl refl refl
     (ap (λ (s : TreeState). has_group s c.args.parent) c.self.view_is ∙ c.requires.parent)
-    c.empty.ensures c.empty-2.ensures
+    (shares i.online i.nodes (listed i.groups i.order.items) c.args.parent n c.args.cpus c.args.mems c.unrequested.ensures c.unrequested-2.ensures
     (c.requires.cpus ∙ ap (λ (s : TreeState). effective_cpus s c.args.parent) (sym c.self.view_is))
-    (c.requires.mems ∙ ap (λ (s : TreeState). effective_mems s c.args.parent) (sym c.self.view_is)))
+    (c.requires.mems ∙ ap (λ (s : TreeState). effective_mems s c.args.parent) (sym c.self.view_is))))
 
 pub returns-clause-ok : goal.returns-clause-ok
 returns-clause-ok c =
     let i = c.self.inside in
     let key = c.vacant_key.result in
     let g : Group = record { key = key; serial = i.next_serial } in
-    let n : Cgroup = record { group = g; parent = Some c.args.parent; name = c.args.name; cpus = c.empty.result; mems = c.empty-2.result; effective_cpus = c.args.cpus; effective_mems = c.args.mems; touched_by = SERIAL_LIMIT } in
+    let n : Cgroup = record { group = g; parent = Some c.args.parent; name = c.args.name; cpus = c.unrequested.result; mems = c.unrequested-2.result } in
     let roomy : Slab Cgroup = record i.groups { capacity = c.reserve.new.self.capacity } in
     let kept : c.reserve.new.self ≡ roomy = c.in_ok-reserve.ensures.rest_kept in
     let sound : IsSound roomy i.order.items i.online i.nodes i.root i.next_serial = IsSound-room i.groups c.reserve.new.self.capacity i.order.items i.online i.nodes i.root i.next_serial c.self.invariant in
@@ -63,7 +72,7 @@ returns-clause-ok c =
     subst (λ (s : Slab Cgroup). Updates s c.insert_reserved.new.self key (Some n)) kept
     (subst (λ (k : ℕ). Updates c.reserve.new.self c.insert_reserved.new.self k (Some n)) (c.insert_reserved.ensures.key ∙ sym c.vacant_key.ensures.value) c.insert_reserved.ensures.updates) in
     let entry : entry_of_kept n ≡ new_entry g (Some c.args.parent) (string_bytes c.args.name) =
-    (λ j. record { group = g; parent = Some c.args.parent; name = string_bytes c.args.name; cpus = c.empty.ensures j; mems = c.empty-2.ensures j }) in
+    (λ j. record { group = g; parent = Some c.args.parent; name = string_bytes c.args.name; cpus = (c.unrequested.ensures j).requested; mems = (c.unrequested-2.ensures j).requested }) in
     let groups : listed c.insert_reserved.new.self c.push_front.new.self.items ≡ new_entry g (Some c.args.parent) (string_bytes c.args.name) ∷ listed i.groups i.order.items =
     ap (listed c.insert_reserved.new.self) c.in_ok-push_front.ensures.items
     ∙ listed-added roomy c.insert_reserved.new.self i.order.items i.online i.nodes i.root i.next_serial key n sound updates vacant _ entry in

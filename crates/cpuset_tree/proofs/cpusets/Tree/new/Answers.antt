@@ -1,24 +1,26 @@
-use Rattle.std.proofs.Common.{◌≡◌, ℕ, ◌+◌, List, [], ◌∷◌, ◌++◌, true, false, sym, ap, ◌∙◌, refl, subst, eq-eqb, arith}
+use Rattle.std.proofs.Common.{◌≡◌, ℕ, ◌+◌, List, [], ◌∷◌, true, false, sym, ap, ◌∙◌, refl, subst, eq-eqb, arith}
 use Rattle.std.proofs.lemmas.Bool.{or_left, cases_eq, both_ways}
 use Rattle.std.proofs.Common.{⊎_elim}
 use Rattle.std.proofs.lemmas.Option.{same_Some}
 use Rattle.std.specs.Prelude.{Option, Some, None, is_some, ◌==◌, slice_index_or}
 use Rattle.slab.specs.Slab.{Slab, get, Updates}
 use Rattle.cpu_set.specs.Ids.{Ids}
-use Rattle.cpuset_tree.specs.declared.TheConstants.{SERIAL_LIMIT}
 use Rattle.cpuset_tree.specs.declared.groups.Group.{Group}
 use Rattle.cpuset_tree.specs.declared.groups.Cgroup.{Cgroup}
+use Rattle.cpuset_tree.specs.declared.groups.Resource.{Resource}
+use Rattle.cpuset_tree.specs.declared.groups.Resource.TheVariants.{Cpus, Mems}
+use Rattle.cpuset_tree.specs.declared.groups.Share.{Share}
 use Rattle.cpuset_tree.specs.TreeState.{GroupEntry}
 use Rattle.cpuset_tree.specs.Groups.{root_among}
 use Rattle.cpuset_tree.specs.TreeChanges.{new_entry}
-use Rattle.cpuset_tree.specs.Kept.{IsSound, HasParentAmong, KeepsEffective, entry_of_kept, listed}
+use Rattle.cpuset_tree.specs.Kept.{IsSound, HasParentAmong, KeepsEffective, entry_of_kept, listed, unrequested, top_of}
 use Rattle.cpuset_tree.specs.Effective.{standing, effective}
 use Rattle.cpuset_tree.proofs.KeptLemmas.{listed_at}
 use Rattle.cpuset_tree.proofs.cpusets.Tree.new.Goals as goal
 
 -- a slab of the root alone is sound
 first_sound : (old new : Slab Cgroup) (online nodes : Ids) (root : Group) (n : Cgroup) → Updates old new root.key (Some n) → ((k : ℕ) → get old k ≡ None)
-    → n.group ≡ root → n.parent ≡ None → n.effective_cpus ≡ online → n.effective_mems ≡ nodes
+    → n.group ≡ root → n.parent ≡ None → n.cpus ≡ unrequested online → n.mems ≡ unrequested nodes
     → IsSound new (root.key ∷ []) online nodes root (root.serial + 1)
 first_sound old new online nodes root n updates empty is of cpus mems = record {
   in_order = (
@@ -29,8 +31,8 @@ first_sound old new online nodes root n updates empty is of cpus mems = record {
     subst (λ (o : Option Group). HasParentAmong new o []) (sym of) refl,
     tt,
   );
-  all_kept = (
-    (λ m at. subst (λ (x : Cgroup). KeepsEffective online nodes [] x) (same_Some n m (sym updates.changed ∙ at)) kept),
+  all_kept = λ r. (
+    (λ m at. subst (λ (x : Cgroup). KeepsEffective r (top_of r online nodes) [] x) (same_Some n m (sym updates.changed ∙ at)) (kept r)),
     tt,
   );
   complete = λ k at. ⊎_elim
@@ -40,14 +42,12 @@ first_sound old new online nodes root n updates empty is of cpus mems = record {
   rooted = ap root_among (listed_at new root.key [] n updates.changed) ∙ head n.parent of ∙ ap Some is;
 }
   where
-    kept : KeepsEffective online nodes [] n
-    kept = record {
-      cpus = cpus ∙ ap (λ (o : Option Group). standing o n.cpus online (effective (λ e. e.cpus) online [])) (sym of);
-      mems = mems ∙ ap (λ (o : Option Group). standing o n.mems nodes (effective (λ e. e.mems) nodes [])) (sym of);
-    }
+    kept : (r : Resource) → KeepsEffective r (top_of r online nodes) [] n
+    kept Cpus = ap (λ (x : Share). x.effective) cpus ∙ ap (λ (o : Option Group). standing o n.cpus.requested online (effective (λ e. e.cpus) online [])) (sym of)
+    kept Mems = ap (λ (x : Share). x.effective) mems ∙ ap (λ (o : Option Group). standing o n.mems.requested nodes (effective (λ e. e.mems) nodes [])) (sym of)
 
     head : (parent : Option Group) → parent ≡ None
-        → root_among (record { group = n.group; parent = parent; name = (entry_of_kept n).name; cpus = n.cpus; mems = n.mems } ∷ []) ≡ Some n.group
+        → root_among (record { group = n.group; parent = parent; name = (entry_of_kept n).name; cpus = n.cpus.requested; mems = n.mems.requested } ∷ []) ≡ Some n.group
     head None e = refl
     head (Some q) e = absurd (both_ways true (ap is_some e) refl)
 
@@ -55,24 +55,24 @@ pub invariant_of-result : goal.invariant_of-result
 invariant_of-result c =
     let key = c.vacant_key-key.result in
     let root : Group = record { key = key; serial = c.args.first_serial } in
-    let n : Cgroup = record { group = root; parent = None; name = c.new.result; cpus = c.empty.result; mems = c.empty-2.result; effective_cpus = c.args.online; effective_mems = c.args.nodes; touched_by = SERIAL_LIMIT } in
+    let n : Cgroup = record { group = root; parent = None; name = c.new.result; cpus = c.unrequested.result; mems = c.unrequested-2.result } in
     let items : c.push_front.new.self.items ≡ key ∷ [] = c.in_ok-push_front.ensures.items ∙ ap (λ (l : List ℕ). key ∷ l) c.new-order.ensures.items in
     subst (λ (l : List ℕ). IsSound c.insert_reserved.new.self l c.args.online c.args.nodes root (c.args.first_serial + 1)) (sym items)
     (first_sound c.reserve.new.self c.insert_reserved.new.self c.args.online c.args.nodes root n
     (subst (λ (k : ℕ). Updates c.reserve.new.self c.insert_reserved.new.self k (Some n)) (c.insert_reserved.ensures.key ∙ sym c.vacant_key-key.ensures.value) c.insert_reserved.ensures.updates)
     (λ k. ap (λ (s : Slab Cgroup). get s k) c.in_ok-reserve.ensures.rest_kept ∙ ap (λ (l : List (Option Cgroup)). slice_index_or l k None) c.new-groups.ensures.empty)
-    refl refl refl refl)
+    refl refl c.unrequested.ensures c.unrequested-2.ensures)
 
 pub returns : goal.returns
 returns c =
     let key = c.vacant_key-key.result in
     let root : Group = record { key = key; serial = c.args.first_serial } in
-    let n : Cgroup = record { group = root; parent = None; name = c.new.result; cpus = c.empty.result; mems = c.empty-2.result; effective_cpus = c.args.online; effective_mems = c.args.nodes; touched_by = SERIAL_LIMIT } in
+    let n : Cgroup = record { group = root; parent = None; name = c.new.result; cpus = c.unrequested.result; mems = c.unrequested-2.result } in
     let items : c.push_front.new.self.items ≡ key ∷ [] = c.in_ok-push_front.ensures.items ∙ ap (λ (l : List ℕ). key ∷ l) c.new-order.ensures.items in
     let changed : get c.insert_reserved.new.self key ≡ Some n =
     ap (λ (k : ℕ). get c.insert_reserved.new.self k) (c.vacant_key-key.ensures.value ∙ sym c.insert_reserved.ensures.key) ∙ c.insert_reserved.ensures.updates.changed in
     let entry : entry_of_kept n ≡ new_entry root None [] =
-    (λ i. record { group = root; parent = None; name = c.new.ensures.bytes i; cpus = c.empty.ensures i; mems = c.empty-2.ensures i }) in
+    (λ i. record { group = root; parent = None; name = c.new.ensures.bytes i; cpus = (c.unrequested.ensures i).requested; mems = (c.unrequested-2.ensures i).requested }) in
     record {
       root = root;
       serial = refl;

@@ -1,0 +1,101 @@
+"""Writes the problems of the solver's benchmark into a folder, each as a certificate text: `families.py FOLDER`.
+
+All have the CPUs 1 to 1023. A machine's nodes stand in a ring, a row is at home on one of them, and its weights are the
+distances to it. `full` is the share of the CPUs that the rows ask for together."""
+
+import random
+import sys
+from pathlib import Path
+
+CPUS = range(1, 1024)
+
+
+def demands(rows, full):
+    """About equal numbers, of this share of the CPUs in all."""
+    asked = round(len(CPUS) * full)
+    counts = [asked // rows + (k < asked % rows) for k in range(rows)]
+    random.shuffle(counts)
+    return counts
+
+
+def distance(i, j, nodes):
+    steps = min((i - j) % nodes, (j - i) % nodes)
+    return 10 + 10 * steps if steps < 24 else 254
+
+
+def machine(rows, nodes, full, own_list=False):
+    """Rows at home on the nodes in turn; with lists of their own they may have half of the CPUs each."""
+    size = -(-len(CPUS) // nodes)
+    for k, demand in enumerate(demands(rows, full)):
+        allowed = random.sample(CPUS, len(CPUS) // 2) if own_list else CPUS
+        home = random.randrange(nodes)
+        yield demand, {cpu: distance((cpu - 1) // size, home, nodes) for cpu in allowed}
+
+
+def spread(rows, full, low, high):
+    """A weight by chance for each CPU in each row."""
+    for demand in demands(rows, full):
+        yield demand, {cpu: random.randint(low, high) for cpu in CPUS}
+
+
+def held(rows, nodes, full):
+    """A machine's distances, and one more for a CPU that the row does not hold."""
+    left = list(CPUS)
+    for demand, weights in machine(rows, nodes, full):
+        own, left = set(left[:demand]), left[demand:]
+        yield demand, {cpu: 65536 * weight + (cpu not in own) for cpu, weight in weights.items()}
+
+
+def no_plan(rows):
+    """Weights by chance, and some rows that may have too few CPUs."""
+    few = random.sample(CPUS, 24)
+    for k, (demand, weights) in enumerate(spread(rows, 0.95, 10, 254)):
+        yield demand, {cpu: weights[cpu] for cpu in few} if k % 32 == 31 else weights
+
+
+FAMILIES = {
+    "machine-2-nodes-95": lambda: machine(256, 2, 0.95),
+    "machine-8-nodes-95": lambda: machine(256, 8, 0.95),
+    "machine-64-nodes-95": lambda: machine(256, 64, 0.95),
+    "machine-64-nodes-100": lambda: machine(256, 64, 1),
+    "own-lists-2-nodes-95": lambda: machine(256, 2, 0.95, own_list=True),
+    "own-lists-8-nodes-64-rows-95": lambda: machine(64, 8, 0.95, own_list=True),
+    "own-lists-64-nodes-100": lambda: machine(256, 64, 1, own_list=True),
+    "spread-95": lambda: spread(256, 0.95, 10, 254),
+    "spread-100": lambda: spread(256, 1, 10, 254),
+    "wide-95": lambda: spread(256, 0.95, 10, 33_554_431),
+    "held-8-nodes-95": lambda: held(256, 8, 0.95),
+    "no-plan-spread": lambda: no_plan(256),
+}
+
+
+def shown(cpus):
+    ranges = []
+    for cpu in sorted(cpus):
+        if ranges and ranges[-1][1] + 1 == cpu:
+            ranges[-1][1] = cpu
+        else:
+            ranges.append([cpu, cpu])
+    return ",".join(str(a) if a == b else f"{a}-{b}" for a, b in ranges)
+
+
+def text(rows):
+    """The rows as a certificate; its one member is there to end it."""
+    lines = ["numarun-certificate 1"]
+    for k, (demand, weights) in enumerate(rows):
+        by_weight = {}
+        for cpu, weight in weights.items():
+            by_weight.setdefault(weight, []).append(cpu)
+        offers = [f"{weight}:{shown(by_weight[weight])}" for weight in sorted(by_weight)]
+        lines.append(" ".join([f"row r{k} {demand}"] + offers))
+    return "\n".join(lines + ["short r0", "end", ""])
+
+
+def main(folder):
+    for name, rows in FAMILIES.items():
+        random.seed(name)
+        Path(folder, name).write_text(text(rows()))
+
+
+if __name__ == "__main__":
+    main(*sys.argv[1:])

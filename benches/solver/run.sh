@@ -1,0 +1,15 @@
+#!/usr/bin/env bash
+# Times the solver on problems of 1,023 CPUs, beside LEMON's network simplex (Debian: liblemon-dev, g++) where that is there.
+set -eu
+here=$(cd "$(dirname "$0")" && pwd)
+. "$here/../build-tools.sh"
+
+folder=$(mktemp -d)
+trap 'rm -rf "$folder"' EXIT
+lemon=
+if g++ -O2 -std=c++17 -o "$folder/lemon" "$here/lemon.cc" 2>"$folder/log"; then
+    lemon=$folder/lemon
+else
+    echo "without LEMON: $(head -n 1 "$folder/log")"
+fi
+python3 -B "$here/measure.py" "$tools" $lemon

@@ -1,0 +1,12 @@
+pub mod ListLemmas
+pub mod ContainerLemmas
+pub mod HoldsLemmas
+pub mod LaunchLemmas
+pub mod EventLemmas
+pub mod DeleteLemmas
+pub mod FirstLemmas
+pub mod NodeLemmas
+pub mod CallLemmas
+pub mod CountLemmas
+pub mod LeaveLemmas
+pub mod MachineLemmas

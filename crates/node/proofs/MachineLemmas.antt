@@ -1,0 +1,96 @@
+-- What holds of a node holds after any list of calls and events.
+use Rattle.std.proofs.Common.{◌≡◌, inl, inr, ℕ, List, [], ◌∷◌, sym, subst}
+use Rattle.std.specs.Prelude.{Result, Ok, Err}
+use Rattle.kernel_model.specs.declared.KernelFault.{KernelFault}
+use Rattle.kernel_model.specs.declared.KernelError.{KernelError}
+use Rattle.kernel_model.specs.declared.KernelError.TheVariants as kernel
+use Rattle.faults.specs.declared.OrMemory.{OrMemory}
+use Rattle.faults.specs.declared.OrMemory.TheVariants.{Memory, Fault}
+use Rattle.node.specs.declared.fault.NodeFault.{NodeFault}
+use Rattle.node.specs.declared.fault.NodeFault.TheVariants.{Busy, BadId, IdInUse, TooManyContainers, NoContainer, NotCreated, NotRunnable, BadSignal, NotLive, NotStopped, Config, Demand, Kernel}
+use Rattle.node.specs.NodeState.{NodeState}
+use Rattle.node.specs.IsNode.{IsNode}
+use Rattle.node.specs.Calls.{NotLaunched, Ended, Creates, Starts, Kills, Deletes}
+use Rattle.node.specs.Machine.{Event, Step, RunsKeep}
+use Rattle.node.specs.Machine.Event.{Create, Start, Kill, Delete, Fork, Exit, Offline, Online}
+use Rattle.node.proofs.NodeLemmas.{fork_node, exit_node, offline_node, online_node, end_node, remove_refused_node, created_node, not_created_node, deleted_node, started_node}
+
+module _ (old : NodeState) (h : IsNode old) (new : NodeState) where
+  moved : (other : NodeState) → new ≡ other → IsNode other → IsNode new
+  moved other same o = subst (λ (n : NodeState). IsNode n) (sym same) o
+
+  unchanged : new ≡ old → IsNode new
+  unchanged same = moved old same h
+
+  not_launched : (id config : List ℕ) (e : KernelError) → NotLaunched old id config e new → IsNode new
+  not_launched id config e n = moved (record old { kernel = new.kernel }) n.is (not_created_node old h new.kernel id n.asked e n.free n.refused)
+
+  create_keeps : (id bundle config : List ℕ) (r : Result ℕ (OrMemory NodeFault)) → Creates old id bundle config r new → IsNode new
+  create_keeps id bundle config (Ok pid) c = moved _ c.is (created_node old h new.kernel id bundle c.said c.asked c.group pid c.free c.launched)
+  create_keeps id bundle config (Err Memory) c = elim c [ inl n ↦ not_launched id config kernel.Memory n | inr e ↦ unchanged e.1 ]
+  create_keeps id bundle config (Err (Fault (Kernel fault))) c = not_launched id config (kernel.Fault fault) c
+  create_keeps id bundle config (Err (Fault Busy)) c = unchanged c.1
+  create_keeps id bundle config (Err (Fault BadId)) c = unchanged c.1
+  create_keeps id bundle config (Err (Fault IdInUse)) c = unchanged c.1
+  create_keeps id bundle config (Err (Fault TooManyContainers)) c = unchanged c.1
+  create_keeps id bundle config (Err (Fault NoContainer)) c = unchanged c.1
+  create_keeps id bundle config (Err (Fault NotCreated)) c = unchanged c.1
+  create_keeps id bundle config (Err (Fault NotRunnable)) c = unchanged c.1
+  create_keeps id bundle config (Err (Fault BadSignal)) c = unchanged c.1
+  create_keeps id bundle config (Err (Fault NotLive)) c = unchanged c.1
+  create_keeps id bundle config (Err (Fault NotStopped)) c = unchanged c.1
+  create_keeps id bundle config (Err (Fault (Config fault))) c = unchanged c.1
+  create_keeps id bundle config (Err (Fault (Demand fault))) c = unchanged c.1
+
+  start_keeps : (id : List ℕ) (r : Result (Unit {0}) NodeFault) → Starts old id r new → IsNode new
+  start_keeps id (Ok v) s = moved _ s.4 (started_node old h id s.0 s.1)
+  start_keeps id (Err fault) s = unchanged s.1
+
+  ended : (id signal : List ℕ) (r : Result (Unit {0}) KernelFault) → Ended old id signal r new → IsNode new
+  ended id signal r e = moved (record old { kernel = new.kernel }) e.is (end_node old h new.kernel e.container.group r e.ended)
+
+  kill_keeps : (id signal : List ℕ) (r : Result (Unit {0}) NodeFault) → Kills old id signal r new → IsNode new
+  kill_keeps id signal (Ok v) k = ended id signal (Ok tt) k
+  kill_keeps id signal (Err (Kernel fault)) k = ended id signal (Err fault) k.1
+  kill_keeps id signal (Err Busy) k = unchanged k.1
+  kill_keeps id signal (Err BadId) k = unchanged k.1
+  kill_keeps id signal (Err IdInUse) k = unchanged k.1
+  kill_keeps id signal (Err TooManyContainers) k = unchanged k.1
+  kill_keeps id signal (Err NoContainer) k = unchanged k.1
+  kill_keeps id signal (Err NotCreated) k = unchanged k.1
+  kill_keeps id signal (Err NotRunnable) k = unchanged k.1
+  kill_keeps id signal (Err BadSignal) k = unchanged k.1
+  kill_keeps id signal (Err NotLive) k = unchanged k.1
+  kill_keeps id signal (Err NotStopped) k = unchanged k.1
+  kill_keeps id signal (Err (Config fault)) k = unchanged k.1
+  kill_keeps id signal (Err (Demand fault)) k = unchanged k.1
+
+  delete_keeps : (id : List ℕ) (r : Result (Unit {0}) NodeFault) → Deletes old id r new → IsNode new
+  delete_keeps id (Ok v) d = moved _ d.is (deleted_node old h new.kernel id d.container d.there d.stopped tt d.removed)
+  delete_keeps id (Err (Kernel fault)) d = moved (record old { kernel = new.kernel }) d.1.is (remove_refused_node old h new.kernel d.1.container.group fault d.1.removed)
+  delete_keeps id (Err Busy) d = unchanged d.1
+  delete_keeps id (Err BadId) d = unchanged d.1
+  delete_keeps id (Err IdInUse) d = unchanged d.1
+  delete_keeps id (Err TooManyContainers) d = unchanged d.1
+  delete_keeps id (Err NoContainer) d = unchanged d.1
+  delete_keeps id (Err NotCreated) d = unchanged d.1
+  delete_keeps id (Err NotRunnable) d = unchanged d.1
+  delete_keeps id (Err BadSignal) d = unchanged d.1
+  delete_keeps id (Err NotLive) d = unchanged d.1
+  delete_keeps id (Err NotStopped) d = unchanged d.1
+  delete_keeps id (Err (Config fault)) d = unchanged d.1
+  delete_keeps id (Err (Demand fault)) d = unchanged d.1
+
+  step_keeps : (event : Event) → Step old event new → IsNode new
+  step_keeps (Create id bundle config answer) s = create_keeps id bundle config answer s
+  step_keeps (Start id answer) s = start_keeps id answer s
+  step_keeps (Kill id signal answer) s = kill_keeps id signal answer s
+  step_keeps (Delete id answer) s = delete_keeps id answer s
+  step_keeps (Fork parent answer) s = moved (record old { kernel = new.kernel }) s.1 (fork_node old h new.kernel parent answer s.0)
+  step_keeps (Exit pid answer) s = moved (record old { kernel = new.kernel }) s.1 (exit_node old h new.kernel pid answer s.0)
+  step_keeps (Offline cpu answer) s = moved (record old { kernel = new.kernel }) s.1 (offline_node old h new.kernel cpu answer s.0)
+  step_keeps (Online cpu answer) s = moved (record old { kernel = new.kernel }) s.1 (online_node old h new.kernel cpu answer s.0)
+
+pub runs_keep : RunsKeep
+runs_keep old [] new h r = subst (λ (n : NodeState). IsNode n) (sym r) h
+runs_keep old (event ∷ later) new h r = runs_keep r.0 later new (step_keeps old h r.0 event r.1) r.2

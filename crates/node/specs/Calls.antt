@@ -1,0 +1,138 @@
+-- The calls of a node, each a relation by cases on what it answers.
+use Rattle.std.specs.Prelude.{◌≡◌, ◌⊎◌, ◌++◌, ◌||◌, ◌&&◌, ℕ, Bool, true, false, not, List, [], ◌∷◌, Some, None, Result, Ok, Err, codes}
+use Rattle.std.specs.Map.{set_value, remove_entry}
+use Rattle.std.specs.Str.{bytes_eq}
+use Rattle.cpuset_tree.specs.declared.Group.{Group}
+use Rattle.cpuset_tree.specs.Groups.{root_of}
+use Rattle.kernel_model.specs.declared.KernelFault.{KernelFault}
+use Rattle.kernel_model.specs.declared.KernelFault.TheVariants.{Failed}
+use Rattle.kernel_model.specs.declared.KernelError.{KernelError}
+use Rattle.kernel_model.specs.declared.KernelError.TheVariants as kernel
+use Rattle.kernel_model.specs.KernelState.{KernelState}
+use Rattle.kernel_model.specs.Cases.{EndsGroup, RemovesGroup}
+use Rattle.machine.specs.Layout.{Layout}
+use Rattle.config_json.specs.declared.Config.{Config as Said}
+use Rattle.demand.specs.declared.Demand.{Demand as Asked}
+use Rattle.faults.specs.declared.OrMemory.{OrMemory}
+use Rattle.faults.specs.declared.OrMemory.TheVariants.{Memory, Fault}
+use Rattle.node.specs.declared.fault.NodeFault.{NodeFault}
+use Rattle.node.specs.declared.fault.NodeFault.TheVariants.{Busy, NoContainer, NotCreated, NotRunnable, BadSignal, NotLive, NotStopped, Kernel}
+use Rattle.node.specs.declared.phase.Phase.TheVariants.{Settled}
+use Rattle.node.specs.NodeState.{ContainerState, NodeState, container_of, is_underway}
+use Rattle.node.specs.Status.{is_live}
+use Rattle.node.specs.Launch.{FindsOrMakes, Launches}
+use Rattle.node.specs.Refusals.{IsFree, CreateCause}
+use Rattle.node.specs.Wanted.{Says}
+
+-- a node over a kernel, whose group below the root is found or made; it has no container, and no plan was made yet
+abbrev pub Opens : KernelState → Layout → NodeState → Type 0
+Opens old machine n =
+    (root : Group) × (root_of old.tree ≡ Some root) × FindsOrMakes old root (codes "numarun") (Ok n.parent) n.kernel
+    × (n ≡ record { kernel = n.kernel; machine = machine; parent = n.parent; containers = []; pool = machine.reserved; phase = Settled })
+
+abbrev pub OpensNot : KernelState → KernelError → KernelState → Type 0
+OpensNot old error new = (root : Group) × (root_of old.tree ≡ Some root) × FindsOrMakes old root (codes "numarun") (Err error) new
+
+-- a new container, which is not started
+abbrev pub new_container : List ℕ → Said → Asked → Group → ℕ → ContainerState
+new_container bundle said asked group pid =
+    record { bundle = bundle; demand = asked; runnable = said.runnable; group = group; pid = pid; started = false }
+
+-- a group and a first process on the reserved CPUs and the homes, and the container after all others
+pub record Created (old : NodeState) (id bundle config : List ℕ) (pid : ℕ) (new : NodeState) : Type 0 where
+  pub said : Said
+  pub asked : Asked
+  pub group : Group
+  pub free : IsFree old id
+  pub says : Says old.machine config said asked
+  pub launched : Launches old.kernel old.parent id old.machine.reserved asked.homes (Ok (group, pid)) new.kernel
+  pub is : new ≡ record old { kernel = new.kernel; containers = old.containers ++ (id, new_container bundle said asked group pid) ∷ [] }
+
+-- the kernel refused one of its calls, and the container is not there
+pub record NotLaunched (old : NodeState) (id config : List ℕ) (error : KernelError) (new : NodeState) : Type 0 where
+  pub said : Said
+  pub asked : Asked
+  pub free : IsFree old id
+  pub says : Says old.machine config said asked
+  pub refused : Launches old.kernel old.parent id old.machine.reserved asked.homes (Err error) new.kernel
+  pub is : new ≡ record old { kernel = new.kernel }
+
+-- what `create` answers where the kernel refuses
+abbrev pub late_answer : KernelError → OrMemory NodeFault
+late_answer kernel.Memory = Memory
+late_answer (kernel.Fault fault) = Fault (Kernel fault)
+
+-- `create`
+abbrev pub Creates : NodeState → List ℕ → List ℕ → List ℕ → Result ℕ (OrMemory NodeFault) → NodeState → Type 0
+Creates old id bundle config (Ok pid) new = Created old id bundle config pid new
+Creates old id bundle config (Err Memory) new = NotLaunched old id config kernel.Memory new ⊎ (IsFree old id × (new ≡ old))
+Creates old id bundle config (Err (Fault (Kernel fault))) new = NotLaunched old id config (kernel.Fault fault) new
+Creates old id bundle config (Err (Fault fault)) new = CreateCause old id config fault × (new ≡ old)
+
+-- it is live, and was not started
+abbrev pub is_created : KernelState → ContainerState → Bool
+is_created k c = is_live k c && not c.started
+
+-- what stands against a start
+abbrev pub StartCause : NodeState → List ℕ → NodeFault → Type 0
+StartCause n id NoContainer = container_of n id ≡ None
+StartCause n id NotCreated = (c : ContainerState) × (container_of n id ≡ Some c) × (is_created n.kernel c ≡ false)
+StartCause n id NotRunnable = (c : ContainerState) × (container_of n id ≡ Some c) × (is_created n.kernel c ≡ true) × (c.runnable ≡ false)
+StartCause n id fault = ⊥
+
+-- `start`: the container is running from now on
+abbrev pub Starts : NodeState → List ℕ → Result (Unit {0}) NodeFault → NodeState → Type 0
+Starts old id (Ok _) new =
+    (c : ContainerState) × (container_of old id ≡ Some c) × (is_created old.kernel c ≡ true) × (c.runnable ≡ true)
+    × (new ≡ record old { containers = set_value (bytes_eq id) old.containers (record c { started = true }) })
+Starts old id (Err fault) new = StartCause old id fault × (new ≡ old)
+
+-- the signals that end a process
+abbrev pub is_ending : List ℕ → Bool
+is_ending signal =
+    bytes_eq signal (codes "KILL") || (bytes_eq signal (codes "SIGKILL") || (bytes_eq signal (codes "9")
+    || (bytes_eq signal (codes "TERM") || (bytes_eq signal (codes "SIGTERM") || bytes_eq signal (codes "15")))))
+
+-- what stands against a signal
+abbrev pub KillCause : NodeState → List ℕ → List ℕ → NodeFault → Type 0
+KillCause n id signal BadSignal = is_ending signal ≡ false
+KillCause n id signal NoContainer = (is_ending signal ≡ true) × (container_of n id ≡ None)
+KillCause n id signal NotLive = (c : ContainerState) × (is_ending signal ≡ true) × (container_of n id ≡ Some c) × (is_live n.kernel c ≡ false)
+KillCause n id signal fault = ⊥
+
+-- a live container, and what the kernel answered when all processes of its group were to end
+pub record Ended (old : NodeState) (id signal : List ℕ) (r : Result (Unit {0}) KernelFault) (new : NodeState) : Type 0 where
+  pub container : ContainerState
+  pub ending : is_ending signal ≡ true
+  pub there : container_of old id ≡ Some container
+  pub live : is_live old.kernel container ≡ true
+  pub ended : EndsGroup old.kernel container.group r new.kernel
+  pub is : new ≡ record old { kernel = new.kernel }
+
+-- `kill`: all processes of the container end
+abbrev pub Kills : NodeState → List ℕ → List ℕ → Result (Unit {0}) NodeFault → NodeState → Type 0
+Kills old id signal (Ok _) new = Ended old id signal (Ok tt) new
+Kills old id signal (Err (Kernel fault)) new = (fault ≡ Failed) × Ended old id signal (Err fault) new
+Kills old id signal (Err fault) new = KillCause old id signal fault × (new ≡ old)
+
+-- what stands against a removal
+abbrev pub DeleteCause : NodeState → List ℕ → NodeFault → Type 0
+DeleteCause n id Busy = is_underway n.phase ≡ true
+DeleteCause n id NoContainer = (is_underway n.phase ≡ false) × (container_of n id ≡ None)
+DeleteCause n id NotStopped = (c : ContainerState) × (is_underway n.phase ≡ false) × (container_of n id ≡ Some c) × (is_live n.kernel c ≡ true)
+DeleteCause n id fault = ⊥
+
+-- a stopped container, and what the kernel answered when its group was to be removed
+pub record Removed (old : NodeState) (id : List ℕ) (r : Result (Unit {0}) KernelFault) (containers : List (List ℕ × ContainerState)) (new : NodeState) : Type 0 where
+  pub container : ContainerState
+  pub settled : is_underway old.phase ≡ false
+  pub there : container_of old id ≡ Some container
+  pub stopped : is_live old.kernel container ≡ false
+  pub removed : RemovesGroup old.kernel container.group r new.kernel
+  pub is : new ≡ record old { kernel = new.kernel; containers = containers }
+
+-- `delete`: the container and its group are gone
+abbrev pub Deletes : NodeState → List ℕ → Result (Unit {0}) NodeFault → NodeState → Type 0
+Deletes old id (Ok _) new = Removed old id (Ok tt) (remove_entry (bytes_eq id) old.containers) new
+Deletes old id (Err (Kernel fault)) new = (fault ≡ Failed) × Removed old id (Err fault) old.containers new
+Deletes old id (Err fault) new = DeleteCause old id fault × (new ≡ old)

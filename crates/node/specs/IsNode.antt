@@ -1,0 +1,81 @@
+-- What holds of each node, after each of its calls.
+use Rattle.std.specs.Prelude.{◌≡◌, ℕ, ◌<◌, ◌≤◌, ◌⊎◌, false, List, [], ◌∷◌, length, Some, map}
+use Rattle.std.specs.List.{AllByRecursion}
+use Rattle.std.specs.Str.{bytes_eq}
+use Rattle.std.specs.FinSet as set
+use Rattle.cpuset_tree.specs.declared.Group.{Group}
+use Rattle.cpuset_tree.specs.TreeState.{GroupEntry, TreeState}
+use Rattle.cpuset_tree.specs.Groups.{entry_of, root_of}
+use Rattle.cpuset_tree.specs.TreeLaws.{IsChild}
+use Rattle.proctable.specs.declared.Process.{Process}
+use Rattle.proctable.specs.TableState.{TableState}
+use Rattle.proctable.specs.Processes.{process_of}
+use Rattle.kernel_model.specs.KernelState.{KernelState}
+use Rattle.kernel_model.specs.WellFormed.{IsWellFormed}
+use Rattle.machine.specs.Layout.{Layout}
+use Rattle.machine.specs.Present.{present}
+use Rattle.machine.specs.Nodes.{nodes_of}
+use Rattle.apply_plan.specs.Holders.{Holder, Pairwise, IsSafe}
+use Rattle.node.specs.declared.TheConstants.{CONTAINER_LIMIT}
+use Rattle.node.specs.NodeState.{NodeState}
+use Rattle.node.specs.Owners.{Owner, owners_of}
+
+-- the kernel runs on the machine
+pub record IsOfMachine (k : KernelState) (m : Layout) : Type 0 where
+  pub present : k.present ≡ present m
+  pub reserved : k.reserved ≡ m.reserved
+  pub nodes : k.tree.nodes ≡ nodes_of m
+
+-- the containers' parent is a child of the root, and requests nothing
+pub record IsHome (s : TreeState) (parent : Group) : Type 0 where
+  pub entry : GroupEntry
+  pub root : Group
+  pub there : entry_of s parent ≡ Some entry
+  pub top : root_of s ≡ Some root
+  pub below : entry.parent ≡ Some root
+  pub free_cpus : entry.cpus ≡ set.empty
+  pub free_mems : entry.mems ≡ set.empty
+
+-- no group is below a container's: each is a child of the containers' parent or of the root
+abbrev pub IsShallow : TreeState → Group → Type 0
+IsShallow s parent = (g q : Group) (e : GroupEntry) → entry_of s g ≡ Some e → e.parent ≡ Some q → (q ≡ parent) ⊎ (root_of s ≡ Some q)
+
+-- two containers have two ids
+abbrev pub HaveOtherIds : Owner → Owner → Type 0
+HaveOtherIds a b = bytes_eq a.id b.id ≡ false
+
+-- the container's group is a child of the containers' parent, and has the container's id as its name
+abbrev pub IsPlaced : TreeState → Group → Owner → Type 0
+IsPlaced s parent o = IsChild s parent o.id o.holder.group
+
+-- its pid was given, and if a process of that pid is alive it is the first one of the container's group
+pub record IsFirst (t : TableState) (h : Holder) : Type 0 where
+  pub given : h.pid < t.next_pid
+  pub group : (p : Process) → process_of t h.pid ≡ Some p → p.group ≡ h.group
+  pub itself : (p : Process) → process_of t h.pid ≡ Some p → p.first ≡ h.pid
+
+-- the process is in the group of one of these containers, and belongs to its first process
+abbrev pub IsOwned : Process → List Owner → Type 0
+IsOwned p [] = ⊥
+IsOwned p (o ∷ later) = ((p.group ≡ o.holder.group) × (p.first ≡ o.holder.pid)) ⊎ IsOwned p later
+
+-- nobody else has a process
+abbrev pub AreOwned : TableState → List Owner → Type 0
+AreOwned t owners = (q : ℕ) (p : Process) → process_of t q ≡ Some p → IsOwned p owners
+
+-- the groups and processes of the kernel are the containers', and what they request is safe
+pub record Holds (k : KernelState) (parent : Group) (owners : List Owner) : Type 0 where
+  pub kernel : IsWellFormed k
+  pub home : IsHome k.tree parent
+  pub shallow : IsShallow k.tree parent
+  pub distinct : Pairwise HaveOtherIds owners
+  pub placed : AllByRecursion (IsPlaced k.tree parent) owners
+  pub first : AllByRecursion (λ o. IsFirst k.table o.holder) owners
+  pub owned : AreOwned k.table owners
+  pub safe : IsSafe k k.reserved (map (λ o. o.holder) owners)
+
+-- and the kernel runs on the machine, with no more containers than there may be
+pub record IsNode (n : NodeState) : Type 0 where
+  pub machine : IsOfMachine n.kernel n.machine
+  pub holds : Holds n.kernel n.parent (owners_of n.containers)
+  pub few : length n.containers ≤ CONTAINER_LIMIT

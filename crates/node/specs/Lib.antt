@@ -1,0 +1,16 @@
+pub mod NodeState
+pub mod Status
+pub mod Owners
+pub mod IsNode
+pub mod Unused
+pub mod UnusedLemmas
+pub mod Wanted
+pub mod Refusals
+pub mod Launch
+pub mod Calls
+pub mod Leaves
+pub mod Machine
+pub mod Reads
+pub mod Listed
+pub mod Shown
+pub mod Viewed

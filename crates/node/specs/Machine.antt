@@ -1,0 +1,45 @@
+-- The node machine: calls and events with their answers, one after another.
+use Rattle.std.specs.Prelude.{◌≡◌, ℕ, List, [], ◌∷◌, Result}
+use Rattle.kernel_model.specs.declared.KernelError.{KernelError}
+use Rattle.kernel_model.specs.declared.KernelFault.{KernelFault}
+use Rattle.kernel_model.specs.Cases.{Forks, Exits, GoesOffline, ComesOnline}
+use Rattle.faults.specs.declared.OrMemory.{OrMemory}
+use Rattle.node.specs.declared.fault.NodeFault.{NodeFault}
+use Rattle.node.specs.NodeState.{NodeState}
+use Rattle.node.specs.IsNode.{IsNode}
+use Rattle.node.specs.Calls.{Creates, Starts, Kills, Deletes}
+
+-- a call with its answer, or an event of the kernel with its answer; a call that only reads changes nothing, and is none
+pub data Event : Type 0 where
+  Create : List ℕ → List ℕ → List ℕ → Result ℕ (OrMemory NodeFault) → Event
+  Start : List ℕ → Result (Unit {0}) NodeFault → Event
+  Kill : List ℕ → List ℕ → Result (Unit {0}) NodeFault → Event
+  Delete : List ℕ → Result (Unit {0}) NodeFault → Event
+  Fork : ℕ → Result ℕ KernelError → Event
+  Exit : ℕ → Result (Unit {0}) KernelFault → Event
+  Offline : ℕ → Result (Unit {0}) KernelFault → Event
+  Online : ℕ → Result (Unit {0}) KernelFault → Event
+
+-- an event changes the kernel alone
+abbrev pub InKernel : NodeState → NodeState → Type 0
+InKernel old new = new ≡ record old { kernel = new.kernel }
+
+-- one step: the call's relation, or the event's case
+abbrev pub Step : NodeState → Event → NodeState → Type 0
+Step old (Create id bundle config answer) new = Creates old id bundle config answer new
+Step old (Start id answer) new = Starts old id answer new
+Step old (Kill id signal answer) new = Kills old id signal answer new
+Step old (Delete id answer) new = Deletes old id answer new
+Step old (Fork parent answer) new = Forks old.kernel parent answer new.kernel × InKernel old new
+Step old (Exit pid answer) new = Exits old.kernel pid answer new.kernel × InKernel old new
+Step old (Offline cpu answer) new = GoesOffline old.kernel cpu answer new.kernel × InKernel old new
+Step old (Online cpu answer) new = ComesOnline old.kernel cpu answer new.kernel × InKernel old new
+
+-- steps one after another
+abbrev pub Run : NodeState → List Event → NodeState → Type 0
+Run old [] new = new ≡ old
+Run old (event ∷ later) new = (mid : NodeState) × Step old event mid × Run mid later new
+
+-- what holds of a node holds after any list of calls and events, with all their refusals
+abbrev pub RunsKeep : Type 0
+RunsKeep = (old : NodeState) (events : List Event) (new : NodeState) → IsNode old → Run old events new → IsNode new

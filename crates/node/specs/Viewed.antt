@@ -1,0 +1,14 @@
+-- The containers as the node keeps them, as plain values.
+use Rattle.std.specs.Prelude.{ℕ, List, map, String, string_bytes}
+use Rattle.std.specs.declared.alloc.Global.{Global}
+use Rattle.node.specs.declared.container.Container.{Container}
+use Rattle.node.specs.NodeState.{ContainerState}
+
+abbrev pub seen : Container → ContainerState
+seen c = record { bundle = string_bytes c.bundle; demand = c.demand; runnable = c.runnable; group = c.group; pid = c.pid; started = c.started }
+
+abbrev pub entry_seen : String Global × Container → List ℕ × ContainerState
+entry_seen e = (string_bytes e.0, seen e.1)
+
+abbrev pub all_seen : List (String Global × Container) → List (List ℕ × ContainerState)
+all_seen entries = map entry_seen entries

@@ -1,0 +1,125 @@
+//! `create` (OCI Runtime Specification 1.0.2, runtime.md, "Create").
+ghost use Rattle.std.specs.Prelude.{◌≡◌, ◌+◌};
+ghost use Rattle.node.specs.Wanted.{Reads};
+ghost use Rattle.node.specs.Refusals.{Checks};
+ghost use Rattle.node.specs.Calls.{late_answer, Creates};
+ghost use Rattle.node.specs.Leaves.{CreateLeaves, rise_or_memory};
+
+use crate::container::Container;
+use crate::entries::{append, find, prepare};
+use crate::launch::launch;
+use crate::{CONTAINER_LIMIT, Node, NodeFault};
+use certificate_text::is_id;
+use config_json::Config;
+use demand::Demand;
+use faults::OrMemory;
+use kernel_model::{Kernel, KernelError};
+use machine::Machine;
+use std::alloc::Global;
+
+/// What a config says on a machine: whether the container can be started, and what it asks for.
+fn read_config(
+    alloc: Global,
+    config: &[u8],
+    machine: &Machine,
+) -> Result<(bool, Demand), OrMemory<NodeFault>>
+    ensures { Reads machine.now config.now result }
+{
+    let config = match Config::read(alloc, config) {
+        Ok(config) => config,
+        Err(OrMemory::Memory) => return Err(OrMemory::Memory),
+        Err(OrMemory::Fault(fault)) => return Err(OrMemory::Fault(NodeFault::Config(fault))),
+    };
+    match Demand::of(&config.cpu, machine) {
+        Ok(demand) => Ok((config.runnable, demand)),
+        Err(fault) => Err(OrMemory::Fault(NodeFault::Demand(fault))),
+    }
+}
+
+/// What `create` answers where the kernel refuses.
+fn late_answer(error: KernelError) -> OrMemory<NodeFault>
+    ensures { result ≡ late_answer error }
+{
+    match error {
+        KernelError::Memory => OrMemory::Memory,
+        KernelError::Fault(fault) => OrMemory::Fault(NodeFault::Kernel(fault)),
+    }
+}
+
+impl<K: Kernel + Drop> Node<K> {
+    /// Whether a container of this id may be created.
+    fn check_id(&self, id: &str) -> Result<(), NodeFault>
+        ensures { Checks self.now id.now result }
+    {
+        if self.phase.is_underway() {
+            return Err(NodeFault::Busy);
+        }
+        if !is_id(id.as_bytes()) {
+            return Err(NodeFault::BadId);
+        }
+        if find(&self.containers, id).is_some() {
+            return Err(NodeFault::IdInUse);
+        }
+        if self.containers.len() >= CONTAINER_LIMIT {
+            return Err(NodeFault::TooManyContainers);
+        }
+        Ok(())
+    }
+
+    /// Creates a container.
+    fn try_create(
+        &mut self,
+        id: &str,
+        bundle: &str,
+        config: &[u8],
+    ) -> Result<u32, OrMemory<NodeFault>>
+        ensures { Creates self.old id.now bundle.now config.now result self.new }
+    {
+        if let Err(fault) = self.check_id(id) {
+            return Err(OrMemory::Fault(fault));
+        }
+        let (runnable, demand) = match read_config(self.alloc, config, &self.machine) {
+            Ok(wanted) => wanted,
+            Err(error) => return Err(error),
+        };
+        let (key, bundle) = match prepare(self.alloc, &mut self.containers, id, bundle) {
+            Ok(texts) => texts,
+            Err(_) => return Err(OrMemory::Memory),
+        };
+        let reserved = self.machine.reserved();
+        let (group, pid) = match launch(&mut self.kernel, self.parent, id, reserved, demand.homes) {
+            Ok(made) => made,
+            Err(error) => return Err(late_answer(error)),
+        };
+        let container = Container {
+            bundle,
+            demand,
+            runnable,
+            group,
+            pid,
+            started: false,
+        };
+        append(&mut self.containers, key, container);
+        Ok(pid)
+    }
+    /// Creates a container of a bundle with this config: its group on the reserved CPUs and its homes, and in it its
+    /// first process, whose pid is the answer.
+    ///
+    /// # Errors
+    /// In this order: `Busy`, `BadId`, `IdInUse`, `TooManyContainers`, `Config`, `Demand`; and then of the kernel
+    /// `NoSerials`, `NoPids` or `Failed`. Want of memory or a refusal of the kernel leaves at most an empty group of this
+    /// id, which a later `create` uses.
+    pub fn create(
+        &mut self,
+        id: &str,
+        bundle: &str,
+        config: &[u8],
+    ) -> Result<u32, OrMemory<NodeFault>>
+        ensures creates { Creates self.old id.now bundle.now config.now result self.new }
+        ensures leaves { CreateLeaves self.old id.now result self.new }
+        ensures counted { self.new.kernel.failures ≡ self.old.kernel.failures + rise_or_memory result }
+    {
+        self.holds();
+        self.try_create(id, bundle, config)
+    }
+}

@@ -1,0 +1,26 @@
+//! Containers on one machine: their lifecycle (OCI Runtime Specification 1.0.2, runtime.md) over a kernel that pins them.
+#![tactic(auto)]
+
+mod container;
+mod create;
+mod entries;
+mod events;
+mod fault;
+mod launch;
+pub mod laws;
+mod lifecycle;
+mod list;
+mod node;
+mod phase;
+mod reads;
+mod state;
+
+pub use container::Status;
+pub use fault::NodeFault;
+pub use list::Listing;
+pub use node::{GROUP_NAME, Node, NotOpened};
+pub use phase::Phase;
+pub use reads::Sets;
+
+/// How many containers there may be, stopped ones included.
+pub const CONTAINER_LIMIT: usize = 256;

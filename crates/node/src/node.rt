@@ -1,0 +1,129 @@
+ghost use Rattle.std.specs.Prelude.{◌≡◌, IfOk, IfErr};
+ghost use Rattle.node.specs.IsNode.{IsOfMachine};
+ghost use Rattle.node.specs.Unused.{IsUnused};
+
+use crate::container::Container;
+use crate::launch::find_or_make;
+use crate::phase::Phase;
+use cpu_set::IdSet;
+use indexmap::IndexMap;
+use kernel_model::{Group, Kernel, KernelError};
+use machine::Machine;
+use std::alloc::Global;
+use std::marker::Model;
+
+/// The name of the group below which each container has its own.
+pub const GROUP_NAME: &str = "numarun";
+
+/// The containers of one machine, over a kernel that nobody else writes.
+#[derive(Drop)]
+pub struct Node<K: Kernel + Drop> {
+    pub(crate) alloc: Global,
+    pub(crate) kernel: K,
+    pub(crate) machine: Machine,
+    pub(crate) parent: Group,
+    pub(crate) containers: IndexMap<String, Container>,
+    pub(crate) pool: IdSet,
+    pub(crate) phase: Phase,
+}
+
+impl<K: Kernel + Drop> Model for Node<K> {
+    ghost use Rattle.node.specs.NodeState.{NodeState, node_code};
+    ghost use Rattle.node.specs.IsNode.{IsNode};
+
+    ghost Value = { NodeState };
+
+    ghost coded = { node_code };
+
+    ghost use Rattle.node.specs.Viewed.{all_seen};
+
+    ghost view = { λ n. record {
+      kernel = K.state n.kernel;
+      machine = n.machine;
+      parent = n.parent;
+      containers = all_seen n.containers.entries;
+      pool = n.pool;
+      phase = n.phase;
+    } };
+
+    ghost invariant = { λ n. IsNode (record {
+      kernel = K.state n.kernel;
+      machine = n.machine;
+      parent = n.parent;
+      containers = all_seen n.containers.entries;
+      pool = n.pool;
+      phase = n.phase;
+    }) };
+}
+
+/// Why there is no node, with what it was to be made of.
+#[derive(Drop)]
+pub struct NotOpened<K: Kernel + Drop> {
+    /// The kernel, in which there may be the node's group, empty.
+    pub kernel: K,
+    /// The machine.
+    pub machine: Machine,
+    /// What the kernel answered: that memory or serials ran out, or that the write failed.
+    pub error: KernelError,
+}
+
+impl<K: Kernel + Drop> Node<K> {
+    ghost use Rattle.node.specs.IsNode.{IsNode};
+    ghost use Rattle.node.specs.Calls.{Opens, OpensNot};
+
+    /// A node with no container, over a kernel in which the node's group is found or made.
+    ///
+    /// # Errors
+    /// `Memory`, or `NoSerials` or `Failed` of the kernel, which is handed back with the machine.
+    pub fn new(alloc: Global, kernel: K, machine: Machine) -> Result<Node<K>, NotOpened<K>>
+        requires machine { IsOfMachine (K.state kernel) machine }
+        requires unused { IsUnused (K.state kernel) }
+        ensures opened { IfOk result (λ n. Opens (K.state kernel) machine n) }
+        ensures refused { IfErr result (λ r. OpensNot (K.state kernel) r.error (K.state r.kernel)) }
+        ensures back { IfErr result (λ r. r.machine ≡ machine) }
+    {
+        let mut kernel = kernel;
+        let root = kernel.root();
+        match find_or_make(&mut kernel, root, GROUP_NAME) {
+            Ok(parent) => Ok(Node {
+                alloc,
+                kernel,
+                pool: machine.reserved(),
+                machine,
+                parent,
+                containers: IndexMap::new(alloc),
+                phase: Phase::Settled,
+            }),
+            Err(error) => Err(NotOpened {
+                kernel,
+                machine,
+                error,
+            }),
+        }
+    }
+
+    /// What holds of each node, after each of its calls; nothing runs.
+    ///
+    /// The groups below the node's are its containers', no other process is alive than theirs, and the sets that they
+    /// request are safe: outside the reserved CPUs no CPU is requested for a live pinned container and for another live
+    /// one, and no live one requests none.
+    pub fn holds(&self)
+        ensures { IsNode self.now }
+    {
+        let _ = &self.parent;
+    }
+
+    /// The CPUs that no plan gave to a container; before any plan the reserved ones.
+    pub fn pool(&self) -> IdSet
+        ensures { result ≡ self.now.pool }
+    {
+        self.pool
+    }
+
+    /// How the last hand-over stands.
+    pub fn phase(&self) -> Phase
+        ensures { result ≡ self.now.phase }
+    {
+        self.phase
+    }
+}

@@ -1,0 +1,5 @@
+pub mod Digits
+pub mod Feeds
+pub mod Lines
+pub mod Replying
+pub mod Words

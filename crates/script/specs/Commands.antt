@@ -1,0 +1,41 @@
+-- The commands of a script.
+use Rattle.std.specs.Prelude.{ℕ, List}
+use Rattle.script.specs.declared.command.Command.{Command}
+use Rattle.script.specs.declared.command.Command.TheVariants as command
+
+-- a command, its texts as their bytes
+pub data Asked : Type 0 where
+  create : (id bundle : List ℕ) → Asked
+  start : (id : List ℕ) → Asked
+  kill : (id signal : List ℕ) → Asked
+  delete : (id : List ℕ) → Asked
+  state : (id : List ℕ) → Asked
+  list : Asked
+  sets : (id : List ℕ) → Asked
+  rebalance : Asked
+  begin : Asked
+  step : Asked
+  phase : Asked
+  certificate : Asked
+  fork : (pid : ℕ) → Asked
+  exit : (pid : ℕ) → Asked
+  offline : (cpu : ℕ) → Asked
+  online : (cpu : ℕ) → Asked
+
+abbrev pub asked : Command → Asked
+asked (command.Create id bundle) = create id.now bundle.now
+asked (command.Start id) = start id.now
+asked (command.Kill id signal) = kill id.now signal.now
+asked (command.Delete id) = delete id.now
+asked (command.State id) = state id.now
+asked command.List = list
+asked (command.Sets id) = sets id.now
+asked command.Rebalance = rebalance
+asked command.Begin = begin
+asked command.Step = step
+asked command.Phase = phase
+asked command.Certificate = certificate
+asked (command.Fork pid) = fork pid
+asked (command.Exit pid) = exit pid
+asked (command.Offline cpu) = offline cpu
+asked (command.Online cpu) = online cpu

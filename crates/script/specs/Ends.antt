@@ -1,0 +1,64 @@
+-- How a script ends.
+use Rattle.std.specs.Prelude.{◌≡◌, ℕ, List, [], ◌∷◌, ◌++◌, Option, Result, Ok, Err}
+use Rattle.std.specs.Io.KnownBytes.{Appends, Consumes, IsAtEnd}
+use Rattle.script.specs.Commands.{Asked}
+use Rattle.script.specs.Lines.{lines_of}
+use Rattle.script.specs.Runs.{Runs}
+use Rattle.script.specs.declared.script_fault.ScriptFault.{ScriptFault}
+use Rattle.script.specs.declared.script_fault.ScriptFault.TheVariants.{Read, TooManyReads, Write}
+
+-- a front of the bytes went out, perhaps all of them
+pub record SendsPart (old new : Option (List ℕ)) (bytes : List ℕ) : Type 0 where
+  pub sent : List ℕ
+  pub unsent : List ℕ
+  pub cut : bytes ≡ sent ++ unsent
+  pub went_out : Appends old new sent
+
+-- all of the bytes went out, or at an error a front of them
+abbrev pub WritesPart : {E : Type 0} → Option (List ℕ) → Option (List ℕ) → Result (Unit {0}) E → List ℕ → Type 0
+WritesPart out out' (Ok done) bytes = Appends out out' bytes
+WritesPart out out' (Err e) bytes = SendsPart out out' bytes
+
+-- a text that answers was written, or at an error a front of it
+pub record Replies {S E : Type 0} (Answers : List ℕ → S → Type 0) (out out' : Option (List ℕ)) (result : Result (Unit {0}) E) (new : S) : Type 0 where
+  pub text : List ℕ
+  pub answers : Answers text new
+  pub written : WritesPart out out' result text
+
+-- the whole input was read, and each of its lines was answered
+pub record Ends {S : Type 0} (Answers : S → Asked → List ℕ → S → Type 0) (read read' out out' : Option (List ℕ)) (old new : S) : Type 0 where
+  pub input : List ℕ
+  pub text : List ℕ
+  pub taken : Consumes read read' input
+  pub ended : IsAtEnd read'
+  pub run : Runs Answers old (lines_of input) text new
+  pub went_out : Appends out out' text
+
+-- each line of what was read was answered, but for the last, whose end was not read
+pub record EndsUnread {S : Type 0} (Answers : S → Asked → List ℕ → S → Type 0) (read read' out out' : Option (List ℕ)) (old new : S) : Type 0 where
+  pub input : List ℕ
+  pub lines : List (List ℕ)
+  pub last : List ℕ
+  pub text : List ℕ
+  pub taken : Consumes read read' input
+  pub cut : lines_of input ≡ lines ++ last ∷ []
+  pub run : Runs Answers old lines text new
+  pub went_out : Appends out out' text
+
+-- some lines of what was read were run, the last of the input only where it ended, and a front of their answers went out
+pub record EndsUnwritten {S : Type 0} (Answers : S → Asked → List ℕ → S → Type 0) (read read' out out' : Option (List ℕ)) (old new : S) : Type 0 where
+  pub input : List ℕ
+  pub lines : List (List ℕ)
+  pub others : List (List ℕ)
+  pub text : List ℕ
+  pub taken : Consumes read read' input
+  pub cut : lines_of input ≡ lines ++ others
+  pub whole : others ≡ [] → IsAtEnd read'
+  pub run : Runs Answers old lines text new
+  pub part : SendsPart out out' text
+
+abbrev pub EndsBy : {S : Type 0} → (S → Asked → List ℕ → S → Type 0) → Option (List ℕ) → Option (List ℕ) → Option (List ℕ) → Option (List ℕ) → S → Result (Unit {0}) ScriptFault → S → Type 0
+EndsBy Answers read read' out out' old (Ok done) new = Ends Answers read read' out out' old new
+EndsBy Answers read read' out out' old (Err (Read kind)) new = EndsUnread Answers read read' out out' old new
+EndsBy Answers read read' out out' old (Err TooManyReads) new = EndsUnread Answers read read' out out' old new
+EndsBy Answers read read' out out' old (Err Write) new = EndsUnwritten Answers read read' out out' old new

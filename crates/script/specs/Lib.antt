@@ -1,0 +1,9 @@
+pub mod Commands
+pub mod Ends
+pub mod Lines
+pub mod Requests
+pub mod Runs
+pub mod TextLaws
+pub mod Underway
+pub mod Views
+pub mod Written

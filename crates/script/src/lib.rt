@@ -1,0 +1,19 @@
+//! Scripts: lines of commands, and the run of one over whatever answers commands.
+#![tactic(auto)]
+
+mod command;
+mod laws;
+mod line_buffer;
+mod number;
+mod request;
+mod running;
+mod script_fault;
+mod target;
+mod word;
+
+pub use command::{Command, Request};
+pub use laws::{no_text_is_bad, the_limits};
+pub use request::read_request;
+pub use running::{MOST_READS, run_script};
+pub use script_fault::ScriptFault;
+pub use target::Target;

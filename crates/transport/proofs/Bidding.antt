@@ -1,0 +1,199 @@
+-- A row's offers in rising weight, and a line of which none is opened.
+use Rattle.std.proofs.Common.{◌≡◌, ℕ, zero, suc, ◌+◌, ◌<◌, ◌≤◌, Bool, true, false, cond, List, [], ◌∷◌, ◌++◌, map, length, get_or, Some, None, option_map, slice_get, nat_lt, refl, sym, ap, ◌∙◌, subst, inl, inr, arith}
+use Rattle.std.specs.Prelude.{find, All, AllPairs, Contains}
+use Rattle.std.specs.List.Sorted.{IsPermutation, IsNonDecreasingBy}
+use Rattle.std.specs.FinSet as set
+use Rattle.std.proofs.lemmas.Bool.{cases_lt, cases_Bool, ltb-true, lt-ltb}
+use Rattle.std.proofs.lemmas.List.{get_or_default, get_or-map, length-map, get_or_past, get_or_push, get_or_append_left, length_push}
+use Rattle.std.proofs.lemmas.Option.{slice_get-get_or, get_or_from_slice_get, slice_get_within}
+use Rattle.std.proofs.lemmas.List.Elements.{All-push, All-nil, Contains-push, Contains-append_left}
+use Rattle.std.proofs.lemmas.List.Sorted.{All-permutation, Contains-permutation}
+use Rattle.cpu_set.specs.Ids.{IsDisjoint}
+use Rattle.certificate.specs.Weight.{weight_in}
+use Rattle.certificate.specs.RowView.{RowView}
+use Rattle.certificate.specs.AreWithin.{AreRowsWithin}
+use Rattle.certificate.specs.declared.rows.Offer.{Offer}
+use Rattle.transport.specs.Weights.{offers_of, class_weight, AreLines, AreNewLines}
+use Rattle.transport.specs.declared.tables.Table.{Table}
+use Rattle.certificate.specs.declared.limits.TheConstants.{MAX_WEIGHT}
+use Rattle.transport.specs.Numbers.{number}
+use Rattle.transport.specs.Searches.{weight_limit}
+use Rattle.transport.specs.Lines.{bid_at, weight_of, IsToCome, IsBid, AreBids, AreAllBids, IsNewLine, AreArcs, IsLine}
+use Rattle.transport.specs.declared.lines.Bid.{Bid}
+use Rattle.transport.specs.declared.lines.Line.{Line}
+
+pub bids_none : (offers : List Offer) → AreAllBids offers [] 0
+bids_none offers = record { its = All-nil (IsBid offers); all = λ o x lt is. absurd (omega arith) }
+
+-- one offer more
+pub bids_more : (offers : List Offer) (bids : List Bid) (k : ℕ) (x : Offer) → slice_get offers k ≡ Some x → AreAllBids offers bids k → AreAllBids offers (bids ++ record { weight = x.weight; offer = k } ∷ []) (k + 1)
+bids_more offers bids k x is h = record {
+  its = All-push (IsBid offers) bids b h.its (record { offer = x; its = is; weight = refl });
+  all = λ o y lt its. elim (cases_lt o k) [
+    | inl before ↦ Contains-append_left bids (b ∷ []) _ (h.all o y before its)
+    | inr after ↦ last o y (omega (arith, lt, after)) its
+  ];
+}
+  where
+    b : Bid
+    b = record { weight = x.weight; offer = k }
+
+    last : (o : ℕ) (y : Offer) → o ≡ k → slice_get offers o ≡ Some y → Contains (bids ++ b ∷ []) (record { weight = y.weight; offer = o })
+    last o y e its =
+        let same : y ≡ x = (let both : Some y ≡ Some x = sym its ∙ ap (slice_get offers) e ∙ is in cc) in
+        subst (λ (w : Offer). Contains (bids ++ b ∷ []) (record { weight = w.weight; offer = o })) (sym same)
+        (subst (λ n. Contains (bids ++ b ∷ []) (record { weight = x.weight; offer = n })) (sym e) (Contains-push bids b))
+
+pub bids_sorted : (offers : List Offer) (bids sorted : List Bid) (n : ℕ) → AreAllBids offers bids n → IsPermutation bids sorted → AreAllBids offers sorted n
+bids_sorted offers bids sorted n h p = record {
+  its = All-permutation (IsBid offers) bids sorted p h.its;
+  all = λ o x lt is. Contains-permutation bids sorted _ p (h.all o x lt is);
+}
+
+pub bids_rise : (offers : List Offer) (bids : List Bid) (n : ℕ) → AreAllBids offers bids n → IsNonDecreasingBy (λ (b : Bid). b.weight) bids → AreBids offers bids
+bids_rise offers bids n h up = record {
+  rising = λ i j le lt. up i j _ le lt;
+  its = λ i lt. h.its i _ lt;
+}
+
+-- where no CPU is in two offers, each offer that has a CPU gives its weight
+first_has : (offers : List Offer) (c i : ℕ) (x : Offer) → AllPairs (λ (o p : Offer). IsDisjoint o.cpus p.cpus) offers → slice_get offers i ≡ Some x → set.contains x.cpus c ≡ true
+    → weight_in offers c ≡ Some x.weight
+first_has [] c i x apart is has = absurd (omega (arith, slice_get_within [] i x is))
+first_has (o ∷ offers) c zero x apart is has =
+    let same : o ≡ x = (let both : Some o ≡ Some x = is in cc) in
+    let here : set.contains o.cpus c ≡ true = ap (λ (y : Offer). set.contains y.cpus c) same ∙ has in
+    rw here (ap (λ (y : Offer). Some y.weight) same)
+first_has (o ∷ offers) c (suc i) x apart is has = elim (cases_Bool (set.contains o.cpus c)) [
+  | inl here ↦ absurd (apart 0 (suc i) x (omega arith) (omega (arith, slice_get_within offers i x is)) c here there)
+  | inr off ↦ rw off (first_has offers c i x later is has)
+]
+  where
+    there : set.contains (get_or offers i x).cpus c ≡ true
+    there = ap (λ (y : Offer). set.contains y.cpus c) (get_or_from_slice_get offers i x x is) ∙ has
+
+    later : AllPairs (λ (o p : Offer). IsDisjoint o.cpus p.cpus) offers
+    later a b d lt within = apart (suc a) (suc b) d (omega (arith, lt)) (omega (arith, within))
+
+-- and there is an offer for each weight
+record IsOfferAt (offers : List Offer) (c w : ℕ) : Type 0 where
+  place : ℕ
+  offer : Offer
+  its : slice_get offers place ≡ Some offer
+  has : set.contains offer.cpus c ≡ true
+  weighs : offer.weight ≡ w
+
+offer_of : (offers : List Offer) (c w : ℕ) → weight_in offers c ≡ Some w → IsOfferAt offers c w
+offer_of [] c w e = let no : None ≡ Some w = e in cc
+offer_of (o ∷ offers) c w e = go (set.contains o.cpus c) refl e (offer_of offers c w)
+  where
+    go : (b : Bool) → set.contains o.cpus c ≡ b → option_map (λ (o : Offer). o.weight) (cond b (Some o) (find (λ (o : Offer). set.contains o.cpus c) offers)) ≡ Some w
+        → (weight_in offers c ≡ Some w → IsOfferAt offers c w) → IsOfferAt (o ∷ offers) c w
+    go true on e later = record { place = 0; offer = o; its = refl; has = on; weighs = (let same : Some o.weight ≡ Some w = e in cc) }
+    go false off e later = let a = later e in record { place = suc a.place; offer = a.offer; its = a.its; has = a.has; weighs = a.weighs }
+
+-- a class has a weight only where it is one of the classes
+pub in_classes : (offers : List Offer) (firsts : List ℕ) (g w : ℕ) → weight_of offers firsts g ≡ Some w → g < length firsts
+in_classes offers firsts g w e = elim (cases_Bool (nat_lt g (length firsts))) [
+  | inl on ↦ ltb-true g (length firsts) on
+  | inr off ↦ (let no : None ≡ Some w = sym (ap (λ b. cond b (weight_in offers (number firsts g)) None) off) ∙ e in cc)
+]
+
+pub in_offers : (offers : List Offer) (firsts : List ℕ) (g : ℕ) → g < length firsts → weight_of offers firsts g ≡ weight_in offers (number firsts g)
+in_offers offers firsts g lt = ap (λ b. cond b (weight_in offers (number firsts g)) None) (lt-ltb g (length firsts) lt)
+
+-- a weight is within its limit, and a row's
+past_rows : (rows : List RowView) (firsts : List ℕ) (k g w : ℕ) → length rows ≤ k → class_weight rows firsts k g ≡ Some w → ⊥
+past_rows rows firsts k g w past e =
+    let none : offers_of rows k ≡ [] = get_or_past (map (λ (r : RowView). r.offers) rows) k [] (omega (arith, length-map rows (λ (r : RowView). r.offers), past)) in
+    let lt = in_classes (offers_of rows k) firsts g w e in
+    let no : None ≡ Some w = ap (λ os. weight_in os (number firsts g)) (sym none) ∙ sym (in_offers (offers_of rows k) firsts g lt) ∙ e in
+    cc
+
+pub in_rows : (rows : List RowView) (firsts : List ℕ) (k g w : ℕ) → class_weight rows firsts k g ≡ Some w → k < length rows
+in_rows rows firsts k g w e = elim (cases_lt k (length rows)) [
+  | inl lt ↦ lt
+  | inr past ↦ absurd (past_rows rows firsts k g w past e)
+]
+
+pub weight_low : (rows : List RowView) (firsts : List ℕ) (k g w : ℕ) → AreRowsWithin rows → class_weight rows firsts k g ≡ Some w → w < weight_limit
+weight_low rows firsts k g w fit e =
+    let lt = in_rows rows firsts k g w e in
+    let o = offer_of (offers_of rows k) (number firsts g) w (sym (in_offers (offers_of rows k) firsts g (in_classes (offers_of rows k) firsts g w e)) ∙ e) in
+    let here = get_or_from_slice_get (offers_of rows k) o.place o.offer o.offer o.its in
+    let low = weights k lt o.place o.offer (slice_get_within (offers_of rows k) o.place o.offer o.its) in
+    let same : (get_or (offers_of rows k) o.place o.offer).weight ≡ o.offer.weight = ap (λ (x : Offer). x.weight) here in
+    omega (arith, low, same, o.weighs)
+  where
+    none : RowView
+    none = record { id = []; demand = 0; offers = [] }
+
+    weights : (k : ℕ) → k < length rows → All (λ (o : Offer). o.weight ≤ MAX_WEIGHT) (offers_of rows k)
+    weights k lt = subst (All (λ (o : Offer). o.weight ≤ MAX_WEIGHT)) (sym (get_or-map (λ (r : RowView). r.offers) rows k none [] lt)) (fit.each k none lt).weights
+
+pub new_line : (offers : List Offer) (firsts free : List ℕ) (l : Line) → AllPairs (λ (o p : Offer). IsDisjoint o.cpus p.cpus) offers → length firsts ≤ length free → IsNewLine offers l → IsLine (weight_of offers firsts) offers firsts free l
+new_line offers firsts free l apart long h = record {
+  bids = h.bids;
+  opened_in = omega (arith, h.opened);
+  arcs = rw (h.opened, h.arcs) none;
+  cursor_in = omega (arith, h.cursor);
+  full = λ i lt. absurd (omega (arith, lt, h.cursor));
+  hits = λ o g w has. in_offers offers firsts g has.in_range ∙ first_has offers (number firsts g) o has.offer apart has.its has.has ∙ ap Some has.weight;
+  classes = λ g w e. omega (arith, in_classes offers firsts g w e, long);
+  firsts_in = long;
+}
+  where
+    to_come : (g w : ℕ) → weight_of offers firsts g ≡ Some w → IsToCome offers firsts l.bids.items 0 g w
+    to_come g w e =
+        let lt = in_classes offers firsts g w e in
+        let o = offer_of offers (number firsts g) w (sym (in_offers offers firsts g lt) ∙ e) in
+        let c = h.all.all o.place o.offer (slice_get_within offers o.place o.offer o.its) o.its in
+        let b : bid_at l.bids.items c.0 ≡ record { weight = o.offer.weight; offer = o.place } = get_or_default l.bids.items c.0 _ _ c.1 ∙ c.2 in
+        record {
+          place = c.0;
+          from = omega arith;
+          within = c.1;
+          has = record {
+            offer = o.offer;
+            its = ap (λ (x : Bid). slice_get offers x.offer) b ∙ o.its;
+            in_range = lt;
+            has = o.has;
+            weight = o.weighs;
+          };
+        }
+
+    none : AreArcs (weight_of offers firsts) offers firsts l.bids.items 0 []
+    none = record {
+      sound = λ i lt. absurd (omega arith);
+      rising = λ i j le lt. absurd (omega arith);
+      low = λ i j lt from within. absurd (omega arith);
+      all = λ g w e. inr (to_come g w e);
+    }
+
+-- one row's line more
+pub lines_more : (rows : List RowView) (lines : List Line) (k : ℕ) (offers : List Offer) (l : Line) → AreNewLines rows lines k → offers ≡ offers_of rows k → IsNewLine offers l → AreNewLines rows (lines ++ l ∷ []) (k + 1)
+lines_more rows lines k offers l h are own = record {
+  long = omega (arith, length_push lines l, h.long);
+  each = λ j m is. elim (cases_lt j (length lines)) [
+    | inl before ↦ h.each j m (slice_get-get_or lines j m before ∙ ap Some (sym (get_or_append_left lines (l ∷ []) m j before) ∙ get_or_from_slice_get (lines ++ l ∷ []) j m m is))
+    | inr after ↦ last j m is (omega (arith, after, slice_get_within (lines ++ l ∷ []) j m is, length_push lines l))
+  ];
+}
+  where
+    last : (j : ℕ) (m : Line) → slice_get (lines ++ l ∷ []) j ≡ Some m → length lines ≡ j → IsNewLine (offers_of rows j) m
+    last j m is e =
+        let same : l ≡ m = sym (get_or_push lines l m j e) ∙ get_or_from_slice_get (lines ++ l ∷ []) j m m is in
+        let place : k ≡ j = sym h.long ∙ e in
+        subst (IsNewLine (offers_of rows j)) same (subst (λ o. IsNewLine o l) (are ∙ ap (offers_of rows) place) own)
+
+pub lines_new : (t : Table) (free : List ℕ) (lines : List Line) → AreRowsWithin t.rows.now → length t.firsts.items ≤ length free → AreNewLines t.rows.now lines (length t.rows.now) → AreLines t free lines
+lines_new t free lines fit long h = record {
+  long = h.long;
+  each = λ k l is. new_line (offers_of t.rows.now k) t.firsts.items free l (apart k (omega (arith, slice_get_within lines k l is, h.long))) long (h.each k l is);
+}
+  where
+    none : RowView
+    none = record { id = []; demand = 0; offers = [] }
+
+    apart : (k : ℕ) → k < length t.rows.now → AllPairs (λ (o p : Offer). IsDisjoint o.cpus p.cpus) (offers_of t.rows.now k)
+    apart k lt = subst (AllPairs (λ (o p : Offer). IsDisjoint o.cpus p.cpus)) (sym (get_or-map (λ (r : RowView). r.offers) t.rows.now k none [] lt)) (fit.each k none lt).apart

@@ -1,0 +1,331 @@
+-- Searches for one row after another, and the rows one after another.
+use Rattle.std.proofs.Common.{◌≡◌, ℕ, zero, suc, ◌+◌, ◌*◌, ◌<◌, ◌≤◌, ◌^◌, List, [], ◌∷◌, length, map, get_or, refl, sym, ap, ◌∙◌, subst, inl, inr, arith}
+use Rattle.std.proofs.Math.Nat.{mul-le-mul}
+use Rattle.std.proofs.Math.Numerals.{add-one}
+use Rattle.std.proofs.lemmas.Option.{slice_get_within}
+use Rattle.std.proofs.lemmas.List.{get_or_past, get_or-map, length-map}
+use Rattle.std.proofs.lemmas.List.Sums.{sum_by-cons}
+use Rattle.std.proofs.lemmas.Bool.{cases_eq, cases_lt}
+use Rattle.certificate.specs.RowView.{RowView}
+use Rattle.certificate.specs.IsShortage.{asked}
+use Rattle.certificate.specs.AreWithin.{AreRowsWithin}
+use Rattle.twins.specs.Holdings.{share_of}
+use Rattle.transport.specs.Shares.{AllBelow}
+use Rattle.transport.specs.Duals.{IsTight}
+use Rattle.transport.specs.Numbers.{number}
+use Rattle.transport.specs.Totals.{total, row_total, class_total, IsShared}
+use Rattle.transport.specs.Weights.{weights, offers_of, AreNewLines}
+use Rattle.transport.specs.States.{cell, shares_of, AreHoldings}
+use Rattle.transport.specs.Searches.{IsSearch, AreWeights}
+use Rattle.transport.specs.Settled.{IsSettled}
+use Rattle.transport.specs.Filled.{demand_of, IsDone, IsStuck}
+use Rattle.transport.specs.Filling.{IsFirst, IsHandedOut, CanFill, IsFilling, IsAtEnd, a_search, AreFilled}
+use Rattle.transport.specs.declared.states.State.{State}
+use Rattle.transport.specs.declared.tables.Table.{Table}
+use Rattle.transport.specs.declared.trees.Tree.{Tree}
+use Rattle.transport.specs.declared.lines.Line.{Line}
+use Rattle.transport.proofs.Sums.{total_same, total_zero, hall}
+use Rattle.transport.proofs.Bidding.{lines_new, in_classes, in_rows, weight_low}
+use Rattle.transport.proofs.HandingOut.{taken_full}
+
+-- no search yet
+pub filling_none : (t : Table) (root : ℕ) (s : State) (lines : List Line) (turns : ℕ) → CanFill t root s lines turns → IsFilling t root s s lines turns turns
+filling_none t root s lines turns can = record {
+  settled = can.settled;
+  lines_are = can.lines_are;
+  handed = record {
+    values_long = refl;
+    prices_long = refl;
+    unmet_long = refl;
+    by_row = λ k lt. refl;
+    by_class = λ g lt. refl;
+    others = λ k ne. refl;
+  };
+  kept = omega arith;
+  most = omega arith;
+  least = λ lt. absurd (omega (arith, lt));
+}
+
+handed_more : (root : ℕ) (a b c : State) → IsHandedOut root a b → IsHandedOut root b c → IsHandedOut root a c
+handed_more root a b c f g = record {
+  values_long = g.values_long ∙ f.values_long;
+  prices_long = g.prices_long ∙ f.prices_long;
+  unmet_long = g.unmet_long ∙ f.unmet_long;
+  by_row = λ k lt. rw f.prices_long at (g.by_row k (omega (arith, lt, f.values_long))) ∙ f.by_row k lt;
+  by_class = λ h lt. rw f.values_long at (g.by_class h (omega (arith, lt, f.prices_long))) ∙ f.by_class h lt;
+  others = λ k ne. g.others k ne ∙ f.others k ne;
+}
+
+search_same : (root : ℕ) (a b : State) → IsHandedOut root a b → a_search b ≡ a_search a
+search_same root a b h = omega (arith, h.values_long, h.prices_long)
+
+-- a search more
+pub filling_more : (t : Table) (root : ℕ) (a b c : State) (lines lines' : List Line) (x y z : ℕ) → IsFilling t root a b lines x y → IsFilling t root b c lines' y z
+    → number c.unmet.items root < number b.unmet.items root → IsFilling t root a c lines' x z
+filling_more t root a b c lines lines' x y z f g less = record {
+  settled = g.settled;
+  lines_are = g.lines_are;
+  handed = handed_more root a b c f.handed g.handed;
+  kept = omega (arith, f.kept, g.kept);
+  most = (let m : z + number c.unmet.items root * a_search a ≤ y + number b.unmet.items root * a_search a = subst (λ n. z + number c.unmet.items root * n ≤ y + number b.unmet.items root * n) (search_same root a b f.handed) g.most in
+      omega (arith, f.most, m));
+  least = λ lt. omega (arith, g.least less, f.kept);
+}
+
+pub end_more : (t : Table) (root : ℕ) (a b c : State) (tree : Tree) (lines : List Line) (x y z : ℕ) → IsFilling t root a b lines x y → IsAtEnd t root b c tree y z → IsAtEnd t root a c tree x z
+end_more t root a b c tree lines x y z f g = record {
+  closed = g.closed;
+  on = g.on;
+  lacks = g.lacks;
+  handed = handed_more root a b c f.handed g.handed;
+  most = (let m : z ≤ y + number b.unmet.items root * a_search a = subst (λ n. z ≤ y + number b.unmet.items root * n) (search_same root a b f.handed) g.most in
+      omega (arith, f.most, m));
+  least = g.least;
+}
+
+-- of a class that there is not, nothing is held or free
+class_none : (rows classes : ℕ) (s : State) (g : ℕ) → AreHoldings rows classes s.holdings.items → length s.free.items ≡ classes → classes ≤ g
+    → class_total (cell s.holdings.items) (length s.values.items) g + number s.free.items g ≡ 0
+class_none rows classes s g h long past =
+    let none : shares_of s.holdings.items g ≡ [] = get_or_past s.holdings.items g [] (omega (arith, h.long, past)) in
+    let free : number s.free.items g ≡ 0 = get_or_past s.free.items g 0 (omega (arith, long, past)) in
+    let held = total_same (λ k. cell s.holdings.items k g) (λ k. 0) (length s.values.items) (λ k lt. ap (share_of k) none) in
+    omega (arith, held, total_zero (length s.values.items), free)
+
+-- the next search can begin
+pub can_go_on : (t : Table) (root : ℕ) (a b : State) (before lines : List Line) (x y : ℕ) → CanFill t root a before x → IsFilling t root a b lines x y → CanFill t root b lines y
+can_go_on t root a b before lines x y can f = record {
+  settled = f.settled;
+  lines_are = f.lines_are;
+  rows = can.rows ∙ sym f.handed.values_long;
+  unmet_long = f.handed.unmet_long ∙ can.unmet_long ∙ sym f.handed.values_long;
+  sizes = sizes;
+  in_rows = omega (arith, can.in_rows, f.handed.values_long);
+  fits = (let e : number b.unmet.items root * a_search b ≡ number b.unmet.items root * a_search a = ap (λ n. number b.unmet.items root * n) (search_same root a b f.handed) in
+      omega (arith, e, f.most, can.fits));
+}
+  where
+    sizes : (g : ℕ) → class_total (cell b.holdings.items) (length b.values.items) g + number b.free.items g < 2 ^ 32
+    sizes g = elim (cases_lt g (length a.prices.items)) [
+      | inl lt ↦ (let e : class_total (cell b.holdings.items) (length b.values.items) g ≡ class_total (cell b.holdings.items) (length a.values.items) g =
+          ap (λ n. class_total (cell b.holdings.items) n g) f.handed.values_long in
+          omega (arith, e, f.handed.by_class g lt, can.sizes g))
+      | inr past ↦ omega (arith, class_none (length b.values.items) (length b.prices.items) b g f.settled.holdings f.settled.free_long (omega (arith, past, f.handed.prices_long)))
+    ]
+
+-- sums over rows
+total_last : (f : ℕ → ℕ) (n : ℕ) → total f (suc n) ≡ total f n + f n
+total_last f zero = omega arith
+total_last f (suc n) = let a = total_last (λ i. f (suc i)) n in omega (arith, a)
+
+total_up : (f : ℕ → ℕ) (m n : ℕ) → m ≤ n → total f m ≤ total f n
+total_up f zero n le = omega arith
+total_up f (suc m) zero le = absurd (omega (arith, le))
+total_up f (suc m) (suc n) le = let a = total_up (λ i. f (suc i)) m n (omega (arith, le)) in omega (arith, a)
+
+total_small : (f : ℕ → ℕ) (n c : ℕ) → ((i : ℕ) → f i ≤ c) → total f n ≤ n * c
+total_small f zero c low = omega arith
+total_small f (suc n) c low = let a = total_small (λ i. f (suc i)) n c (λ i. low (suc i)) in omega (arith, a, low 0)
+
+pub asked_is : (rows : List RowView) → total (demand_of rows) (length rows) ≡ asked rows
+asked_is [] = refl
+asked_is (r ∷ rows) = omega (arith, asked_is rows, sum_by-cons (λ (x : RowView). x.demand) r rows)
+
+-- what a row asks for
+no_row : RowView
+no_row = record { id = []; demand = 0; offers = [] }
+
+demand_at : (rows : List RowView) (k : ℕ) → k < length rows → demand_of rows k ≡ (get_or rows k no_row).demand
+demand_at rows k lt = get_or-map (λ (r : RowView). r.demand) rows k no_row 0 lt
+
+demand_some : (rows : List RowView) (k : ℕ) → AreRowsWithin rows → k < length rows → 1 ≤ demand_of rows k
+demand_some rows k fit lt = omega (arith, demand_at rows k lt, (fit.each k no_row lt).some)
+
+demand_low : (rows : List RowView) (k : ℕ) → AreRowsWithin rows → demand_of rows k ≤ 1024
+demand_low rows k fit = elim (cases_lt k (length rows)) [
+  | inl lt ↦ omega (arith, demand_at rows k lt, (fit.each k no_row lt).demand)
+  | inr past ↦ (let e : demand_of rows k ≡ 0 = get_or_past (map (λ (r : RowView). r.demand) rows) k 0 (omega (arith, length-map rows (λ (r : RowView). r.demand), past)) in omega (arith, e))
+]
+
+spend : (x y d a turns after : ℕ) → y ≡ x + d → turns ≤ x * a → after ≤ turns + d * a → after ≤ y * a
+spend x y d a turns after e le most = rw e (omega (arith, le, most))
+
+-- turns that the first rows and one more can take
+turns_low : (rows : List RowView) (row a : ℕ) → AreRowsWithin rows → row < length rows → a ≤ 1280 → total (demand_of rows) (suc row) * a ≤ 335544320
+turns_low rows row a fit lt le =
+    let up = total_up (demand_of rows) (suc row) (length rows) (omega (arith, lt)) in
+    let small = total_small (demand_of rows) (length rows) 1024 (λ k. demand_low rows k fit) in
+    let low : total (demand_of rows) (suc row) ≤ 262144 = below (total (demand_of rows) (suc row)) up small in
+    let m : total (demand_of rows) (suc row) * a ≤ 262144 * 1280 = mul-le-mul low le in
+    at_most (total (demand_of rows) (suc row) * a) m
+  where
+    below : (x : ℕ) → x ≤ total (demand_of rows) (length rows) → total (demand_of rows) (length rows) ≤ length rows * 1024 → x ≤ 262144
+    below x up small = omega (arith, up, small, fit.few)
+
+    at_most : (x : ℕ) → x ≤ 262144 * 1280 → x ≤ 335544320
+    at_most x le = omega (arith, le)
+
+grow : (x y a after : ℕ) → x ≤ y → after ≤ x * a → after ≤ y * a
+grow x y a after le most =
+    let same : a ≤ a = omega arith in
+    let up : x * a ≤ y * a = mul-le-mul le same in
+    omega (arith, most, up)
+
+-- before the first row
+module _ (t : Table) (sizes : List ℕ) (s : State) (lines : List Line) (fit : AreRowsWithin t.rows.now) (long : length t.firsts.items ≡ length sizes) (h : IsFirst t.rows.now sizes s)
+    (new : AreNewLines t.rows.now lines (length t.rows.now)) where
+  no_cell : (k g : ℕ) → cell s.holdings.items k g ≡ 0
+  no_cell k g = ap (share_of k) (h.holdings g)
+
+  no_row_total : (k : ℕ) → row_total (cell s.holdings.items) (length sizes) k ≡ 0
+  no_row_total k = total_same (λ g. cell s.holdings.items k g) (λ g. 0) (length sizes) (λ g lt. no_cell k g) ∙ total_zero (length sizes)
+
+  no_class_total : (g : ℕ) → class_total (cell s.holdings.items) (length t.rows.now) g ≡ 0
+  no_class_total g = total_same (λ k. cell s.holdings.items k g) (λ k. 0) (length t.rows.now) (λ k lt. no_cell k g) ∙ total_zero (length t.rows.now)
+
+  first_settled : IsSettled (weights t) s
+  first_settled = record {
+    fit = record {
+      few = omega (arith, h.values_long, fit.few);
+      low = λ k g w e. weight_low t.rows.now t.firsts.items k g w fit e;
+      class = λ k g w e. omega (arith, in_classes (offers_of t.rows.now k) t.firsts.items g w e, long, h.prices_long);
+    };
+    dual = record {
+      below = λ k g w e. omega (arith, h.values k);
+      tight = λ k g some. absurd (omega (arith, some, no_cell k g));
+      zero = λ g some. h.prices g;
+    };
+    free_long = ap length h.free ∙ sym h.prices_long;
+    values_low = λ k. omega (arith, h.values k);
+    prices_low = λ g. omega (arith, h.prices g);
+    holdings = record {
+      long = h.holdings_long ∙ sym h.prices_long;
+      rows_in = λ g. subst (AllBelow (length s.values.items)) (sym (h.holdings g)) none_below;
+    };
+  }
+    where
+      none_below : AllBelow (length s.values.items) []
+      none_below i x is = absurd (omega (arith, slice_get_within [] i x is))
+
+  pub filled_first : AreFilled t sizes s lines 0 0
+  filled_first = record {
+    values_long = h.values_long;
+    prices_long = h.prices_long;
+    unmet_long = ap length h.unmet ∙ length-map t.rows.now (λ (r : RowView). r.demand);
+    settled = first_settled;
+    lines_are = lines_new t s.free.items lines fit (omega (arith, long, ap length h.free)) new;
+    shared = record {
+      by_row = λ k lt. omega (arith, no_row_total k, ap (λ u. number u k) h.unmet);
+      by_class = λ g lt. omega (arith, no_class_total g, ap (λ f. number f g) h.free);
+      rows_in = λ k g some. absurd (omega (arith, some, no_cell k g));
+    };
+    met = λ k lt. absurd (omega (arith, lt));
+    unfilled = λ k le. ap (λ u. number u k) h.unmet;
+    at_least = omega arith;
+    at_most = omega arith;
+  }
+
+-- the row that is next
+module _ (t : Table) (sizes : List ℕ) (s : State) (lines : List Line) (row turns : ℕ) (h : AreFilled t sizes s lines row turns) (fit : AreRowsWithin t.rows.now) (lt : row < length t.rows.now) where
+  wants : number s.unmet.items row ≡ demand_of t.rows.now row
+  wants = h.unfilled row (omega arith)
+
+  search_is : a_search s ≡ length t.rows.now + length sizes
+  search_is = omega (arith, h.values_long, h.prices_long)
+
+  -- what comes of it is within the turns of the rows so far and this one
+  most_after : (after : ℕ) → after ≤ turns + number s.unmet.items row * a_search s → after ≤ total (demand_of t.rows.now) (suc row) * (length t.rows.now + length sizes)
+  most_after after most =
+      spend (total (demand_of t.rows.now) row) (total (demand_of t.rows.now) (suc row)) (demand_of t.rows.now row) (length t.rows.now + length sizes) turns after
+      (total_last (demand_of t.rows.now) row) h.at_most (rw (wants, search_is) at most)
+
+  pub can_fill : length sizes ≤ 1024 → ((g : ℕ) → number sizes g < 2 ^ 32) → CanFill t row s lines turns
+  can_fill few small = record {
+    settled = h.settled;
+    lines_are = h.lines_are;
+    rows = sym h.values_long;
+    unmet_long = h.unmet_long ∙ sym h.values_long;
+    sizes = fits_sizes;
+    in_rows = omega (arith, lt, h.values_long);
+    fits =
+        let all = most_after (turns + number s.unmet.items row * a_search s) (omega arith) in
+        let low = turns_low t.rows.now row (length t.rows.now + length sizes) fit lt (omega (arith, few, fit.few)) in
+        below (total (demand_of t.rows.now) (suc row) * (length t.rows.now + length sizes)) all low;
+  }
+    where
+      below : (x : ℕ) → turns + number s.unmet.items row * a_search s ≤ x → x ≤ 335544320 → turns + number s.unmet.items row * a_search s < 2 ^ 64
+      below x all low = omega (arith, all, low)
+
+      fits_sizes : (g : ℕ) → class_total (cell s.holdings.items) (length s.values.items) g + number s.free.items g < 2 ^ 32
+      fits_sizes g = elim (cases_lt g (length sizes)) [
+        | inl there ↦ (let e : class_total (cell s.holdings.items) (length s.values.items) g ≡ class_total (cell s.holdings.items) (length t.rows.now) g =
+            ap (λ n. class_total (cell s.holdings.items) n g) h.values_long in
+            omega (arith, e, h.shared.by_class g there, small g))
+        | inr past ↦ omega (arith, class_none (length s.values.items) (length s.prices.items) s g h.settled.holdings h.settled.free_long (omega (arith, past, h.prices_long)))
+      ]
+
+  module _ (new : State) (d : IsHandedOut row s new) (w : AreWeights (weights t) (length new.values.items) (length new.prices.items))
+      (tight : (k g : ℕ) → 0 < cell new.holdings.items k g → IsTight (weights t) new.values.items new.prices.items k g) where
+    shared_after : IsShared (demand_of t.rows.now) (number sizes) (length t.rows.now) (length sizes) (cell new.holdings.items) new.free.items new.unmet.items
+    shared_after = record {
+      by_row = λ k k_in. rw h.prices_long at (d.by_row k (omega (arith, k_in, h.values_long))) ∙ h.shared.by_row k k_in;
+      by_class = λ g g_in. rw h.values_long at (d.by_class g (omega (arith, g_in, h.prices_long))) ∙ h.shared.by_class g g_in;
+      rows_in = λ k g some. (let x = tight k g some in
+          (in_rows t.rows.now t.firsts.items k g x.weight x.its, omega (arith, w.class k g x.weight x.its, d.prices_long, h.prices_long)));
+    }
+
+  -- the row has what it asks for
+  pub filled_more : (new : State) (lines' : List Line) (after : ℕ) → IsFilling t row s new lines' turns after → number new.unmet.items row ≡ 0 → AreFilled t sizes new lines' (row + 1) after
+  filled_more new lines' after f none = record {
+    values_long = f.handed.values_long ∙ h.values_long;
+    prices_long = f.handed.prices_long ∙ h.prices_long;
+    unmet_long = f.handed.unmet_long ∙ h.unmet_long;
+    settled = f.settled;
+    lines_are = f.lines_are;
+    shared = shared_after new f.handed f.settled.fit f.settled.dual.tight;
+    met = met;
+    unfilled = λ k le. f.handed.others k (λ e. absurd (omega (arith, le, e))) ∙ h.unfilled k (omega (arith, le));
+    at_least = omega (arith, h.at_least, f.least (omega (arith, none, wants, demand_some t.rows.now row fit lt)));
+    at_most = rw add-one (most_after after (omega (arith, f.most)));
+  }
+    where
+      met : (k : ℕ) → k < row + 1 → number new.unmet.items k ≡ 0
+      met k k_in = elim (cases_eq k row) [
+        | inl same ↦ ap (number new.unmet.items) same ∙ none
+        | inr ne ↦ f.handed.others k ne ∙ h.met k (omega (arith, k_in, ne))
+      ]
+
+  -- it can't have it
+  pub stuck_at_end : (new : State) (tree : Tree) (after : ℕ) → IsAtEnd t row s new tree turns after → IsStuck t.rows.now t.firsts.items sizes tree.queue.reached.items tree.takings.taken.items after
+  stuck_at_end new tree after e = record {
+    reached_long = x.queue.reached_long ∙ e.handed.values_long ∙ h.values_long;
+    taken_long = x.taken_long ∙ e.handed.prices_long ∙ h.prices_long;
+    hall = hall (weights t) (demand_of t.rows.now) (number sizes) (length t.rows.now) (length sizes) (cell new.holdings.items) new.free.items new.unmet.items
+        tree.queue.reached.items tree.takings.taken.items row (shared_after new e.handed e.closed.running.fit x.dual.tight) e.closed.only
+        (λ g on. taken_full (weights t) new tree g e.closed.running on) x.holders lt e.on e.lacks;
+    some = omega (arith, x.queue.counted, x.rooted);
+    at_least = omega (arith, x.queue.counted, x.listing.counted, e.least);
+    at_most = up (total_up (demand_of t.rows.now) (suc row) (length t.rows.now) (omega (arith, lt))) (most_after after e.most);
+  }
+    where
+      x : IsSearch (weights t) (cell new.holdings.items) new.values.items new.prices.items new.free.items tree.queue tree.notes tree.takings
+      x = e.closed.running.search
+
+      up : total (demand_of t.rows.now) (suc row) ≤ total (demand_of t.rows.now) (length t.rows.now) → after ≤ total (demand_of t.rows.now) (suc row) * (length t.rows.now + length sizes)
+          → after ≤ asked t.rows.now * (length t.rows.now + length sizes)
+      up le most = rw (← asked_is t.rows.now) (grow (total (demand_of t.rows.now) (suc row)) (total (demand_of t.rows.now) (length t.rows.now)) (length t.rows.now + length sizes) after le most)
+
+-- all rows have what they ask for
+pub done_at_end : (t : Table) (sizes : List ℕ) (s : State) (lines : List Line) (row turns : ℕ) → AreFilled t sizes s lines row turns → row ≡ length t.rows.now → IsDone t.rows.now t.firsts.items sizes s turns
+done_at_end t sizes s lines row turns h all = record {
+  values_long = h.values_long;
+  prices_long = h.prices_long;
+  settled = h.settled;
+  shared = h.shared;
+  met = λ k lt. h.met k (omega (arith, lt, all));
+  at_least = omega (arith, h.at_least, all);
+  at_most =
+      let most : turns ≤ total (demand_of t.rows.now) (length t.rows.now) * (length t.rows.now + length sizes) =
+      subst (λ n. turns ≤ total (demand_of t.rows.now) n * (length t.rows.now + length sizes)) all h.at_most in
+      rw (← asked_is t.rows.now) most;
+}

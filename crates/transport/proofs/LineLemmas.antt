@@ -1,0 +1,285 @@
+-- A row's arcs, as offers are opened and the cursor moves.
+use Rattle.std.proofs.Common.{◌≡◌, ℕ, ◌+◌, ◌<◌, ◌≤◌, true, false, List, [], ◌∷◌, ◌++◌, length, get_or, Option, Some, None, MatchOption, slice_get, ◌⊎◌, refl, sym, ap, ◌∙◌, subst, inl, inr, arith}
+use Rattle.std.specs.FinSet as set
+use Rattle.std.proofs.lemmas.List.{length_push, get_or_push, get_or_append_left, get_or_read}
+use Rattle.std.proofs.lemmas.Option.{slice_get_within, slice_get_read}
+use Rattle.std.proofs.lemmas.Bool.{cases_eq, cases_lt}
+use Rattle.certificate.specs.declared.rows.Offer.{Offer}
+use Rattle.transport.specs.Numbers.{number}
+use Rattle.transport.specs.Looks.{arc_at, IsPast}
+use Rattle.transport.specs.Lines.{bid_at, IsArc, HasOffer, IsToCome, AreBids, AreArcs, IsLine, IsScanned, IsFreeArc, IsFoundExit, IsOpening, CanOpen}
+use Rattle.transport.specs.declared.lines.Bid.{Bid}
+use Rattle.transport.specs.declared.lines.Arc.{Arc}
+use Rattle.transport.specs.declared.lines.Line.{Line}
+use Rattle.transport.proofs.Numbers.{not_both}
+
+pub past_up : (o : Option ℕ) (v w : ℕ) → v ≤ w → IsPast o v → IsPast o w
+past_up None v w le h = h
+past_up (Some x) v w le h = omega (arith, h, le)
+
+-- where the cursor stops at an arc, each class is before it or no lighter
+pub scanned_at : (ws : ℕ → Option ℕ) (offers : List Offer) (firsts free : List ℕ) (l : Line) (limit : Option ℕ) → IsLine ws offers firsts free l → l.cursor < length l.arcs.items
+    → IsPast limit (arc_at l.arcs.items l.cursor).weight → IsScanned ws l limit
+scanned_at ws offers firsts free l limit h lt past g w its = elim (h.arcs.all g w its) [
+  | inl a ↦ elim (cases_lt a.place l.cursor) [
+    | inl before ↦ inl (record { place = a.place; within = before; class = a.class; weight = a.weight })
+    | inr after ↦ inr (past_up limit _ w (omega (arith, h.arcs.rising l.cursor a.place after a.within, a.weight)) past)
+  ]
+  | inr b ↦ inr (past_up limit _ w (heavier b) past)
+]
+  where
+    heavier : IsToCome offers firsts l.bids.items l.opened g w → (arc_at l.arcs.items l.cursor).weight ≤ w
+    heavier b =
+        let bid = h.bids.its b.place b.within in
+        let same : bid.offer ≡ b.has.offer = (let both : Some bid.offer ≡ Some b.has.offer = sym bid.its ∙ b.has.its in cc) in
+        omega (arith, h.arcs.low l.cursor b.place lt b.from b.within, bid.weight, ap (λ (o : Offer). o.weight) same, b.has.weight)
+
+-- where it has come past all arcs, and the next offer is past the limit, or there is none
+pub scanned_end : (ws : ℕ → Option ℕ) (offers : List Offer) (firsts free : List ℕ) (l : Line) (limit : Option ℕ) → IsLine ws offers firsts free l → length l.arcs.items ≤ l.cursor
+    → (l.opened < length l.bids.items → IsPast limit (bid_at l.bids.items l.opened).weight) → IsScanned ws l limit
+scanned_end ws offers firsts free l limit h done past g w its = elim (h.arcs.all g w its) [
+  | inl a ↦ inl (record { place = a.place; within = omega (arith, a.within, done); class = a.class; weight = a.weight })
+  | inr b ↦ inr (past_up limit _ w (heavier b) (past (omega (arith, b.from, b.within))))
+]
+  where
+    heavier : IsToCome offers firsts l.bids.items l.opened g w → (bid_at l.bids.items l.opened).weight ≤ w
+    heavier b =
+        let bid = h.bids.its b.place b.within in
+        let same : bid.offer ≡ b.has.offer = (let both : Some bid.offer ≡ Some b.has.offer = sym bid.its ∙ b.has.its in cc) in
+        omega (arith, h.bids.rising l.opened b.place b.from b.within, bid.weight, ap (λ (o : Offer). o.weight) same, b.has.weight)
+
+-- a class with a free CPU at the cursor
+pub found_at : (ws : ℕ → Option ℕ) (offers : List Offer) (firsts free : List ℕ) (l : Line) (limit : Option ℕ) (arc : Arc) → IsLine ws offers firsts free l → l.cursor < length l.arcs.items
+    → arc ≡ arc_at l.arcs.items l.cursor → 0 < number free arc.class → (IsPast limit arc.weight → ⊥) → IsFreeArc ws free limit l arc
+found_at ws offers firsts free l limit arc h lt is some near = record {
+  weighs = rw is (h.arcs.sound l.cursor lt);
+  some_free = some;
+  near = near;
+  scanned = scanned_at ws offers firsts free l (Some arc.weight) h lt (rw is (omega arith));
+}
+
+-- opening an offer
+pub opening_none : (ws : ℕ → Option ℕ) (offers : List Offer) (firsts : List ℕ) (bids : List Bid) (opened : ℕ) (arcs : List Arc) → AreArcs ws offers firsts bids opened arcs
+    → IsOpening ws offers firsts bids opened arcs arcs 0
+opening_none ws offers firsts bids opened arcs h = record {
+  sound = h.sound;
+  rising = h.rising;
+  low = h.low;
+  all = λ g w its. elim (h.all g w its) [ inl a ↦ inl a | inr b ↦ inr (later g w b) ];
+  longer = omega arith;
+  kept = λ i lt. refl;
+}
+  where
+    at_first : (g w p : ℕ) → p ≡ opened → HasOffer offers firsts (bid_at bids p).offer g w → HasOffer offers firsts (bid_at bids opened).offer g w
+    at_first g w p e b = subst (λ x. HasOffer offers firsts (bid_at bids x).offer g w) e b
+
+    later : (g w : ℕ) → IsToCome offers firsts bids opened g w → IsToCome offers firsts bids (opened + 1) g w ⊎ ((0 ≤ g) × HasOffer offers firsts (bid_at bids opened).offer g w)
+    later g w b = elim (cases_eq b.place opened) [
+      | inl e ↦ inr (omega arith, at_first g w b.place e b.has)
+      | inr ne ↦ inl (record { place = b.place; from = omega (arith, b.from, ne); within = b.within; has = b.has })
+    ]
+
+module _ (ws : ℕ → Option ℕ) (offers : List Offer) (firsts : List ℕ) (bids : List Bid) (opened : ℕ) (old arcs : List Arc) (g : ℕ) (offer : Offer)
+    (bs : AreBids offers bids) (in_bids : opened < length bids) (lt : g < length firsts) (its : slice_get offers (bid_at bids opened).offer ≡ Some offer)
+    (h : IsOpening ws offers firsts bids opened old arcs g) where
+  weight_is : offer.weight ≡ (bid_at bids opened).weight
+  weight_is =
+      let b = bs.its opened in_bids in
+      let same : b.offer ≡ offer = (let both : Some b.offer ≡ Some offer = sym b.its ∙ its in cc) in
+      ap (λ (o : Offer). o.weight) (sym same) ∙ b.weight
+
+  pub opening_miss : set.contains offer.cpus (number firsts g) ≡ false → IsOpening ws offers firsts bids opened old arcs (g + 1)
+  opening_miss off = record {
+    sound = h.sound;
+    rising = h.rising;
+    low = h.low;
+    all = λ j w weighs. elim (h.all j w weighs) [ inl a ↦ inl a | inr b ↦ inr (elim b [ inl c ↦ inl c | inr d ↦ inr (further j w d.0 d.1) ]) ];
+    longer = h.longer;
+    kept = h.kept;
+  }
+    where
+      never : (w : ℕ) → HasOffer offers firsts (bid_at bids opened).offer g w → ⊥
+      never w d =
+          let same : d.offer ≡ offer = (let both : Some d.offer ≡ Some offer = sym d.its ∙ its in cc) in
+          not_both _ (subst (λ o. set.contains o.cpus (number firsts g) ≡ true) same d.has) off
+
+      further : (j w : ℕ) → g ≤ j → HasOffer offers firsts (bid_at bids opened).offer j w → (g + 1 ≤ j) × HasOffer offers firsts (bid_at bids opened).offer j w
+      further j w le d = elim (cases_eq j g) [
+        | inl e ↦ absurd (never w (subst (λ x. HasOffer offers firsts (bid_at bids opened).offer x w) e d))
+        | inr ne ↦ (omega (arith, le, ne), d)
+      ]
+
+  module _ (hits : (o j w : ℕ) → HasOffer offers firsts o j w → ws j ≡ Some w) (on : set.contains offer.cpus (number firsts g) ≡ true) where
+    abbrev pub arc : Arc
+    arc = record { weight = (bid_at bids opened).weight; class = g }
+
+    abbrev pub more : List Arc
+    more = arcs ++ arc ∷ []
+
+    before : (i : ℕ) → i < length arcs → arc_at more i ≡ arc_at arcs i
+    before i h = get_or_append_left arcs (arc ∷ []) _ i h
+
+    last : (i : ℕ) → i ≡ length arcs → arc_at more i ≡ arc
+    last i e = get_or_push arcs arc _ i (sym e)
+
+    long : length more ≡ length arcs + 1
+    long = length_push arcs arc
+
+    sound_more : (i : ℕ) → i < length more → ws (arc_at more i).class ≡ Some (arc_at more i).weight
+    sound_more i within = elim (cases_lt i (length arcs)) [
+      | inl b ↦ rw (before i b) (h.sound i b)
+      | inr a ↦ rw (last i (omega (arith, a, within, long)))
+          (hits (bid_at bids opened).offer g _ (record { offer = offer; its = its; in_range = lt; has = on; weight = weight_is }))
+    ]
+
+    rising_more : (i j : ℕ) → i ≤ j → j < length more → (arc_at more i).weight ≤ (arc_at more j).weight
+    rising_more i j le within = elim (cases_lt j (length arcs)) [
+      | inl b ↦ rw (before i (omega arith), before j b) (h.rising i j le b)
+      | inr a ↦ elim (cases_lt i (length arcs)) [
+        | inl c ↦ rw (before i c, last j (omega (arith, a, within, long))) (h.low i opened c (omega arith) in_bids)
+        | inr d ↦ rw (last i (omega (arith, d, le, within, long)), last j (omega (arith, a, within, long))) (omega arith)
+      ]
+    ]
+
+    low_more : (i j : ℕ) → i < length more → opened ≤ j → j < length bids → (arc_at more i).weight ≤ (bid_at bids j).weight
+    low_more i j within from to = elim (cases_lt i (length arcs)) [
+      | inl b ↦ rw (before i b) (h.low i j b from to)
+      | inr a ↦ rw (last i (omega (arith, a, within, long))) (bs.rising opened j from to)
+    ]
+
+    arc_more : (j w : ℕ) → IsArc arcs (length arcs) j w → IsArc more (length more) j w
+    arc_more j w a = record {
+      place = a.place;
+      within = omega (arith, a.within, long);
+      class = rw (before a.place a.within) a.class;
+      weight = rw (before a.place a.within) a.weight;
+    }
+
+    own : (w : ℕ) → HasOffer offers firsts (bid_at bids opened).offer g w → IsArc more (length more) g w
+    own w d =
+        let same : d.offer ≡ offer = (let both : Some d.offer ≡ Some offer = sym d.its ∙ its in cc) in
+        record {
+          place = length arcs;
+          within = omega (arith, long);
+          class = ap (λ (x : Arc). x.class) (last (length arcs) refl);
+          weight = ap (λ (x : Arc). x.weight) (last (length arcs) refl) ∙ sym weight_is ∙ ap (λ (o : Offer). o.weight) (sym same) ∙ d.weight;
+        }
+
+    all_more : (j w : ℕ) → ws j ≡ Some w → IsArc more (length more) j w ⊎ (IsToCome offers firsts bids (opened + 1) j w ⊎ ((g + 1 ≤ j) × HasOffer offers firsts (bid_at bids opened).offer j w))
+    all_more j w weighs = elim (h.all j w weighs) [
+      | inl a ↦ inl (arc_more j w a)
+      | inr b ↦ elim b [
+        | inl c ↦ inr (inl c)
+        | inr d ↦ elim (cases_eq j g) [
+          | inl e ↦ inl (subst (λ x. IsArc more (length more) x w) (sym e) (own w (subst (λ x. HasOffer offers firsts (bid_at bids opened).offer x w) e d.1)))
+          | inr ne ↦ inr (inr (omega (arith, d.0, ne), d.1))
+        ]
+      ]
+    ]
+
+    pub opening_hit : IsOpening ws offers firsts bids opened old more (g + 1)
+    opening_hit = record {
+      sound = sound_more;
+      rising = rising_more;
+      low = low_more;
+      all = all_more;
+      longer = omega (arith, h.longer, long);
+      kept = λ i early. before i (omega (arith, early, h.longer)) ∙ h.kept i early;
+    }
+
+-- all classes were looked at
+pub opening_all : (ws : ℕ → Option ℕ) (offers : List Offer) (firsts : List ℕ) (bids : List Bid) (opened : ℕ) (old arcs : List Arc) (n : ℕ) → length firsts ≤ n → IsOpening ws offers firsts bids opened old arcs n
+    → AreArcs ws offers firsts bids (opened + 1) arcs
+opening_all ws offers firsts bids opened old arcs n done h = record {
+  sound = h.sound;
+  rising = h.rising;
+  low = λ i j lt from to. h.low i j lt (omega arith) to;
+  all = λ g w its. elim (h.all g w its) [ inl a ↦ inl a | inr b ↦ elim b [ inl c ↦ inr c | inr d ↦ absurd (omega (arith, d.0, d.1.in_range, done)) ] ];
+}
+
+-- what is left of a line as an offer is opened
+pub can_open : (ws : ℕ → Option ℕ) (offers : List Offer) (firsts free : List ℕ) (l : Line) (offer : Offer) (weight : ℕ) → IsLine ws offers firsts free l → l.opened < length l.bids.items
+    → slice_get offers (bid_at l.bids.items l.opened).offer ≡ Some offer → weight ≡ (bid_at l.bids.items l.opened).weight → CanOpen ws offers firsts l.bids.items l.opened offer weight l.arcs.items
+can_open ws offers firsts free l offer weight h more its weighs = record { bids_are = h.bids; in_bids = more; its = its; weighs = weighs; arcs_are = h.arcs; hits = h.hits }
+
+pub line_opened : (ws : ℕ → Option ℕ) (offers : List Offer) (firsts free : List ℕ) (l new : Line) → IsLine ws offers firsts free l → l.opened < length l.bids.items
+    → IsOpening ws offers firsts l.bids.items l.opened l.arcs.items new.arcs.items (length firsts) → new.bids ≡ l.bids → new.opened ≡ l.opened + 1 → new.cursor ≡ l.cursor → IsLine ws offers firsts free new
+line_opened ws offers firsts free l new h more o bids opened cursor = record {
+  bids = rw bids h.bids;
+  opened_in = rw (bids, opened) (omega arith);
+  arcs = rw (bids, opened) (opening_all ws offers firsts l.bids.items l.opened l.arcs.items new.arcs.items (length firsts) (omega arith) o);
+  cursor_in = rw cursor (omega (arith, h.cursor_in, o.longer));
+  full = λ i lt. full i (omega (arith, lt, cursor));
+  hits = h.hits;
+  classes = h.classes;
+  firsts_in = h.firsts_in;
+}
+  where
+    full : (i : ℕ) → i < l.cursor → number free (arc_at new.arcs.items i).class ≡ 0
+    full i lt = rw (o.kept i (omega (arith, lt, h.cursor_in))) (h.full i lt)
+
+pub line_moved : (ws : ℕ → Option ℕ) (offers : List Offer) (firsts free : List ℕ) (l new : Line) → IsLine ws offers firsts free l → new.bids ≡ l.bids → new.opened ≡ l.opened → new.arcs ≡ l.arcs
+    → new.cursor ≤ length l.arcs.items → ((i : ℕ) → i < new.cursor → number free (arc_at l.arcs.items i).class ≡ 0) → IsLine ws offers firsts free new
+line_moved ws offers firsts free l new h bids opened arcs cursor full = record {
+  bids = rw bids h.bids;
+  opened_in = rw (bids, opened) h.opened_in;
+  arcs = rw (bids, opened, arcs) h.arcs;
+  cursor_in = rw arcs cursor;
+  full = rw arcs full;
+  hits = h.hits;
+  classes = h.classes;
+  firsts_in = h.firsts_in;
+}
+
+-- a turn over the classes
+pub arcs_start : (ws : ℕ → Option ℕ) (offers : List Offer) (firsts : List ℕ) (bids : List Bid) (opened : ℕ) (offer : Offer) (weight : ℕ) (arcs : List Arc) → CanOpen ws offers firsts bids opened offer weight arcs
+    → IsOpening ws offers firsts bids opened arcs arcs 0
+arcs_start ws offers firsts bids opened offer weight arcs can = opening_none ws offers firsts bids opened arcs can.arcs_are
+
+pub arcs_miss : (ws : ℕ → Option ℕ) (offers : List Offer) (firsts : List ℕ) (bids : List Bid) (opened : ℕ) (offer : Offer) (weight : ℕ) (old arcs : List Arc) (g : ℕ) → CanOpen ws offers firsts bids opened offer weight old
+    → g < length firsts → set.contains offer.cpus (number firsts g) ≡ false → IsOpening ws offers firsts bids opened old arcs g → IsOpening ws offers firsts bids opened old arcs (g + 1)
+arcs_miss ws offers firsts bids opened offer weight old arcs g can lt off h = opening_miss ws offers firsts bids opened old arcs g offer can.bids_are can.in_bids lt can.its h off
+
+pub arcs_hit : (ws : ℕ → Option ℕ) (offers : List Offer) (firsts : List ℕ) (bids : List Bid) (opened : ℕ) (offer : Offer) (weight : ℕ) (old arcs new : List Arc) (g : ℕ) → CanOpen ws offers firsts bids opened offer weight old
+    → g < length firsts → set.contains offer.cpus (number firsts g) ≡ true → new ≡ arcs ++ (record { weight = weight; class = g }) ∷ [] → IsOpening ws offers firsts bids opened old arcs g
+    → IsOpening ws offers firsts bids opened old new (g + 1)
+arcs_hit ws offers firsts bids opened offer weight old arcs new g can lt on is h =
+    let P = λ (xs : List Arc). IsOpening ws offers firsts bids opened old xs (g + 1) in
+    subst P (sym (is ∙ ap (λ w. arcs ++ (record { weight = w; class = g }) ∷ []) can.weighs))
+    (opening_hit ws offers firsts bids opened old arcs g offer can.bids_are can.in_bids lt can.its h can.hits on)
+
+bid_here : (bids : List Bid) (i : ℕ) (b : Bid) → i < length bids → b ≡ get_or bids i b → b ≡ bid_at bids i
+bid_here bids i b lt is = get_or_read bids i b lt is _
+
+pub bid_in : (offers : List Offer) (bids : List Bid) (i : ℕ) (b : Bid) → AreBids offers bids → i < length bids → b ≡ get_or bids i b → b.offer < length offers
+bid_in offers bids i b h lt is = let x = h.its i lt in rw (bid_here bids i b lt is) (slice_get_within offers _ x.offer x.its)
+
+-- an offer that was read, at the bid that was read
+pub offer_read : (offers : List Offer) (bids : List Bid) (i : ℕ) (b : Bid) (o : Offer) → i < length bids → b ≡ get_or bids i b → b.offer < length offers → o ≡ get_or offers b.offer o → slice_get offers (bid_at bids i).offer ≡ Some o
+offer_read offers bids i b o lt is in_offers read = rw (← bid_here bids i b lt is) (slice_get_read offers (length offers) b.offer o refl in_offers read)
+
+pub weight_read : (bids : List Bid) (i : ℕ) (b : Bid) → i < length bids → b ≡ get_or bids i b → b.weight ≡ (bid_at bids i).weight
+weight_read bids i b lt is = ap (λ (x : Bid). x.weight) (bid_here bids i b lt is)
+
+pub arc_here : (arcs : List Arc) (i : ℕ) (a : Arc) → i < length arcs → a ≡ get_or arcs i a → a ≡ arc_at arcs i
+arc_here arcs i a lt is = get_or_read arcs i a lt is _
+
+-- what is found at an arc with a free CPU or at the limit
+pub found_cases : (ws : ℕ → Option ℕ) (offers : List Offer) (firsts free : List ℕ) (l : Line) (limit : Option ℕ) (arc : Arc) (result : Option Arc) → IsLine ws offers firsts free l → l.cursor < length l.arcs.items
+    → arc ≡ arc_at l.arcs.items l.cursor → IsPast limit (arc_at l.arcs.items l.cursor).weight ⊎ (0 < number free (arc_at l.arcs.items l.cursor).class)
+    → MatchOption result (IsPast limit arc.weight) (λ a. (a ≡ arc) × (IsPast limit arc.weight → ⊥)) → IsFoundExit ws free limit l result
+found_cases ws offers firsts free l limit arc None h lt is stop past = scanned_at ws offers firsts free l limit h lt (rw (← is) past)
+found_cases ws offers firsts free l limit arc (Some a) h lt is stop found = elim stop [
+  | inl past ↦ absurd (found.1 (rw is past))
+  | inr some ↦ found_at ws offers firsts free l limit a h lt (found.0 ∙ is) (rw (found.0 ∙ is) some) (rw found.0 found.1)
+]
+
+-- the cursor moves past full classes
+pub line_skipped : (ws : ℕ → Option ℕ) (offers : List Offer) (firsts free : List ℕ) (l : Line) (xs : List Arc) (r : ℕ) → IsLine ws offers firsts free l → xs ≡ l.arcs.items → r ≤ length xs
+    → ((i : ℕ) → i < r → number free (arc_at xs i).class ≡ 0) → IsLine ws offers firsts free (record { bids = l.bids; opened = l.opened; arcs = l.arcs; cursor = r })
+line_skipped ws offers firsts free l xs r h e le full =
+    line_moved ws offers firsts free l _ h refl refl refl (omega (arith, ap length e, le)) (subst (λ ys. (i : ℕ) → i < r → number free (arc_at ys i).class ≡ 0) e full)
+
+pub stop_at : (free : List ℕ) (limit : Option ℕ) (xs ys : List Arc) (r : ℕ) → xs ≡ ys → r < length ys → (r < length xs → IsPast limit (arc_at xs r).weight ⊎ (0 < number free (arc_at xs r).class))
+    → IsPast limit (arc_at ys r).weight ⊎ (0 < number free (arc_at ys r).class)
+stop_at free limit xs ys r e lt stop = subst (λ zs. IsPast limit (arc_at zs r).weight ⊎ (0 < number free (arc_at zs r).class)) e (stop (omega (arith, ap length e, lt)))

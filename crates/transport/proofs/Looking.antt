@@ -1,0 +1,161 @@
+-- A look at a row: the exit, and the classes that are nearer.
+use Rattle.std.proofs.Common.{◌≡◌, ℕ, ◌+◌, ◌<◌, ◌≤◌, true, false, List, [], length, get_or, set, Option, Some, None, slice_get, refl, sym, ap, ◌∙◌, subst, inl, inr, arith}
+use Rattle.std.proofs.lemmas.Bool.{cases_eq, cases_lt}
+use Rattle.std.proofs.lemmas.List.{get_or-map, get_or_read, length-set, get_or-set_same, get_or-set_other}
+use Rattle.std.proofs.lemmas.Option.{slice_get-get_or, get_or_from_slice_get, slice_get_within}
+use Rattle.certificate.specs.RowView.{RowView}
+use Rattle.certificate.specs.declared.rows.Offer.{Offer}
+use Rattle.transport.specs.Numbers.{number}
+use Rattle.transport.specs.Queues.{is_reached, place, row_at}
+use Rattle.transport.specs.Searches.{is_taken, IsCovered}
+use Rattle.transport.specs.States.{IsRunning, HasLooked}
+use Rattle.transport.specs.Looks.{IsPast, IsLimit, CanLimit, IsBetter, HasNoted, CanNoteArcs, IsSeen, IsExitNoted, arc_at}
+use Rattle.transport.specs.Lines.{IsArc, IsLine, IsScanned, IsFoundExit}
+use Rattle.transport.specs.Weights.{offers_of, weights, AreLines}
+use Rattle.transport.specs.declared.tables.Table.{Table}
+use Rattle.transport.specs.declared.notes.Exit.{Exit}
+use Rattle.transport.specs.declared.states.State.{State}
+use Rattle.transport.specs.declared.trees.Tree.{Tree}
+use Rattle.transport.specs.declared.lines.Arc.{Arc}
+use Rattle.transport.specs.declared.lines.Line.{Line}
+use Rattle.transport.proofs.QueueLemmas.{marked_below}
+use Rattle.transport.proofs.Noting.{better_more, better_exit, covered_past, looked_better}
+use Rattle.transport.proofs.LineLemmas.{past_up}
+
+row_below : (ws : ℕ → ℕ → Option ℕ) (s : State) (t : Tree) (k : ℕ) → IsRunning ws s t → is_reached t.queue k ≡ true → k < length s.values.items
+row_below ws s t k h on = omega (arith, marked_below t.queue.reached.items k on, h.search.queue.reached_long)
+
+pub can_limit : (ws : ℕ → ℕ → Option ℕ) (s : State) (t : Tree) (k : ℕ) → IsRunning ws s t → is_reached t.queue k ≡ true → CanLimit s.values.items k t.notes.exit
+can_limit ws s t k h on = record {
+  row = row_below ws s t k h on;
+  fits = h.search.values_fit k;
+  exit_row = λ e is. row_below ws s t e.near.row h (h.search.exit e is).there;
+  above = λ e is. (let x = h.search.exit e is in omega (arith, h.search.dual.below e.near.row e.class e.near.weight x.weighs, h.search.dual.zero e.class x.some_free));
+  light = λ e is. h.fit.low e.near.row e.class e.near.weight (h.search.exit e is).weighs;
+}
+
+same_tree : (a b : Tree) → a.queue ≡ b.queue → a.notes ≡ b.notes → a.takings ≡ b.takings → a ≡ b
+same_tree a b q n t = λ i. record { queue = q i; notes = n i; takings = t i }
+
+limit_once : (values : List ℕ) (k : ℕ) (e : Option Exit) (a b : Option ℕ) → IsLimit values k e a → IsLimit values k e b → a ≡ b
+limit_once values k None None None x y = refl
+limit_once values k None None (Some b) x y = absurd y
+limit_once values k None (Some a) b x y = absurd x
+limit_once values k (Some e) None b x y = absurd x
+limit_once values k (Some e) (Some a) None x y = absurd y
+limit_once values k (Some e) (Some a) (Some b) x y = let same : a ≡ b = omega (arith, x, y) in ap Some same
+
+below_limit : (values : List ℕ) (k w : ℕ) (o : Exit) (limit : Option ℕ) → IsLimit values k (Some o) limit → (IsPast limit w → ⊥) → w + number values o.near.row ≤ o.near.weight + number values k
+below_limit values k w o None l near = absurd l
+below_limit values k w o (Some x) l near = elim (cases_lt w x) [ inl lt ↦ omega (arith, l, lt) | inr le ↦ absurd (near le) ]
+
+-- what is known once the exit is noted
+module _ (ws : ℕ → ℕ → Option ℕ) (s : State) (t new : Tree) (k : ℕ) (l : Line) (limit : Option ℕ) (h : IsRunning ws s t) (on : is_reached t.queue k ≡ true)
+    (at : IsLimit s.values.items k t.notes.exit limit) (queue : new.queue ≡ t.queue) (takings : new.takings ≡ t.takings) where
+  pub exit_better : (found : Option Arc) → IsFoundExit (ws k) s.free.items limit l found → IsExitNoted t.notes new.notes k found → IsBetter ws s t new
+  exit_better None f x = record {
+    running = subst (IsRunning ws s) (sym all) h;
+    covers = λ j g w c. subst (λ n. IsCovered s.values.items s.prices.items n j g w) (sym x) c;
+    queue = queue;
+    takings = takings;
+  }
+    where
+      all : new ≡ t
+      all = same_tree new t queue x takings
+  exit_better (Some arc) f x = better_exit ws s t new _ h queue takings x.nears x.noted x.exit on f.weighs f.some_free nearer
+    where
+      nearer : (o : Exit) → t.notes.exit ≡ Some o → arc.weight + number s.values.items o.near.row ≤ o.near.weight + number s.values.items k
+      nearer o is = below_limit s.values.items k arc.weight o limit (subst (λ e. IsLimit s.values.items k e limit) is at) f.near
+
+  pub exit_scanned : (found : Option Arc) → IsFoundExit (ws k) s.free.items limit l found → IsExitNoted t.notes new.notes k found → (limit' : Option ℕ) → IsLimit s.values.items k new.notes.exit limit' → IsScanned (ws k) l limit'
+  exit_scanned None f x limit' at' =
+      let old : IsLimit s.values.items k t.notes.exit limit' = subst (λ n. IsLimit s.values.items k n.exit limit') x at' in
+      subst (IsScanned (ws k) l) (limit_once s.values.items k t.notes.exit limit limit' at old) f
+  exit_scanned (Some arc) f x None at' = absurd (subst (λ e. IsLimit s.values.items k e None) x.exit at')
+  exit_scanned (Some arc) f x (Some y) at' =
+      let now : y + number s.values.items k ≡ arc.weight + number s.values.items k = subst (λ e. IsLimit s.values.items k e (Some y)) x.exit at' in
+      let same : arc.weight ≡ y = omega (arith, now) in
+      subst (λ z. IsScanned (ws k) l (Some z)) same f.scanned
+
+-- the arcs before the cursor
+pub arcs_can : (ws : ℕ → ℕ → Option ℕ) (s : State) (t : Tree) (k : ℕ) (offers : List Offer) (firsts : List ℕ) (l : Line) → IsRunning ws s t → is_reached t.queue k ≡ true → IsLine (ws k) offers firsts s.free.items l
+    → CanNoteArcs ws s t k l.arcs.items l.cursor
+arcs_can ws s t k offers firsts l h on line = record {
+  running = h;
+  there = on;
+  full = record { weighs = λ i lt. line.arcs.sound i (omega (arith, lt, line.cursor_in)); full = line.full };
+}
+
+pub seen : (ws : ℕ → ℕ → Option ℕ) (s : State) (t mid new : Tree) (k : ℕ) (l : Line) (limit : Option ℕ) → IsBetter ws s t mid → IsScanned (ws k) l limit → IsLimit s.values.items k mid.notes.exit limit
+    → HasNoted ws s k mid new l.arcs.items l.cursor → IsSeen ws s k t new
+seen ws s t mid new k l limit b scanned at n = record {
+  better = better_more ws s t mid new b n.better;
+  own = λ g w its off. elim (scanned g w its) [
+    | inl a ↦ at_arc g w a off
+    | inr past ↦ covered_past s new.notes k g w new.notes.exit limit refl (subst (λ e. IsLimit s.values.items k e limit) (sym n.exit) at) (past_up limit w _ (omega arith) past)
+  ];
+}
+  where
+    at_arc : (g w : ℕ) → IsArc l.arcs.items l.cursor g w → is_taken new.takings g ≡ false → IsCovered s.values.items s.prices.items new.notes k g w
+    at_arc g w a off =
+        subst (λ x. IsCovered s.values.items s.prices.items new.notes k x w) a.class
+        (subst (λ y. IsCovered s.values.items s.prices.items new.notes k (arc_at l.arcs.items a.place).class y) a.weight
+        (n.each a.place a.within (subst (λ x. is_taken new.takings x ≡ false) (sym a.class) off)))
+
+-- one row more was looked at
+pub looked_more : (ws : ℕ → ℕ → Option ℕ) (s : State) (t new : Tree) (k at : ℕ) → IsRunning ws s t → row_at t.queue at ≡ k → IsSeen ws s k t new → HasLooked ws s t at → HasLooked ws s new (at + 1)
+looked_more ws s t new k at h is v all = record {
+  covered = λ j g w on here its off. elim (cases_lt (place new.queue j) at) [
+    | inl before ↦ (looked_better ws s t new at v.better all).covered j g w on before its off
+    | inr after ↦ at_end j g w on (omega (arith, here, after)) its off
+  ];
+}
+  where
+    at_end : (j g w : ℕ) → is_reached new.queue j ≡ true → place new.queue j ≡ at → ws j g ≡ Some w → is_taken new.takings g ≡ false → IsCovered s.values.items s.prices.items new.notes j g w
+    at_end j g w on e its off =
+        let there : is_reached t.queue j ≡ true = subst (λ q. is_reached q j ≡ true) v.better.queue on in
+        let where_is : place t.queue j ≡ at = subst (λ q. place q j ≡ at) v.better.queue e in
+        let same : k ≡ j = sym is ∙ ap (λ i. row_at t.queue i) (sym where_is) ∙ h.search.queue.placed j there in
+        subst (λ x. IsCovered s.values.items s.prices.items new.notes x g w) same (v.own g w (subst (λ x. ws x g ≡ Some w) (sym same) its) off)
+
+pub offers_read : (rows : List RowView) (k : ℕ) (r : RowView) → k < length rows → r ≡ get_or rows k r → r.offers ≡ offers_of rows k
+offers_read rows k r lt is = ap (λ (x : RowView). x.offers) is ∙ sym (get_or-map (λ (x : RowView). x.offers) rows k r [] lt)
+
+pub line_as : (ws : ℕ → Option ℕ) (a b : List Offer) (f g u v : List ℕ) (l : Line) → a ≡ b → f ≡ g → u ≡ v → IsLine ws b g v l → IsLine ws a f u l
+line_as ws a b f g u v l x y z h = rw (x, y, z) h
+
+pub line_back : (ws : ℕ → Option ℕ) (a b : List Offer) (f g u v : List ℕ) (l : Line) → a ≡ b → f ≡ g → u ≡ v → IsLine ws a f u l → IsLine ws b g v l
+line_back ws a b f g u v l x y z h = rw (← x, ← y, ← z) h
+
+pub row_in : (ws : ℕ → ℕ → Option ℕ) (s : State) (t : Tree) (k : ℕ) → IsRunning ws s t → is_reached t.queue k ≡ true → k < length s.values.items
+row_in ws s t k h on = row_below ws s t k h on
+
+-- a row at a place of the order
+pub row_read : (ws : ℕ → ℕ → Option ℕ) (s : State) (t : Tree) (at k : ℕ) → IsRunning ws s t → at < length t.queue.order.items → k ≡ get_or t.queue.order.items at k → (row_at t.queue at ≡ k) × (is_reached t.queue k ≡ true)
+row_read ws s t at k h lt is =
+    let e : row_at t.queue at ≡ k = sym (get_or_read t.queue.order.items at k lt is 0) in
+    (e, subst (λ x. is_reached t.queue x ≡ true) e (h.search.queue.on at lt))
+
+pub line_of : (t : Table) (free : List ℕ) (lines : List Line) (k : ℕ) (d : Line) → AreLines t free lines → k < length lines → IsLine (weights t k) (offers_of t.rows.now k) t.firsts.items free (get_or lines k d)
+line_of t free lines k d h lt = h.each k (get_or lines k d) (slice_get-get_or lines k d lt)
+
+pub lines_set : (t : Table) (free : List ℕ) (lines : List Line) (k : ℕ) (l : Line) → AreLines t free lines → k < length lines → IsLine (weights t k) (offers_of t.rows.now k) t.firsts.items free l → AreLines t free (set lines k l)
+lines_set t free lines k l h lt own = record {
+  long = length-set lines k l ∙ h.long;
+  each = each;
+}
+  where
+    at_own : (j : ℕ) (m : Line) → j ≡ k → slice_get (set lines k l) j ≡ Some m → IsLine (weights t j) (offers_of t.rows.now j) t.firsts.items free m
+    at_own j m e its =
+        let here : get_or (set lines k l) k l ≡ m = get_or_from_slice_get (set lines k l) k m l (subst (λ x. slice_get (set lines k l) x ≡ Some m) e its) in
+        let same : l ≡ m = sym (get_or-set_same lines k l l lt) ∙ here in
+        subst (λ x. IsLine (weights t x) (offers_of t.rows.now x) t.firsts.items free m) (sym e)
+        (subst (λ (y : Line). IsLine (weights t k) (offers_of t.rows.now k) t.firsts.items free y) same own)
+
+    each : (j : ℕ) (m : Line) → slice_get (set lines k l) j ≡ Some m → IsLine (weights t j) (offers_of t.rows.now j) t.firsts.items free m
+    each j m its = elim (cases_eq j k) [
+      | inl e ↦ at_own j m e its
+      | inr ne ↦ (let here : get_or lines j l ≡ m = sym (get_or-set_other lines k j l l ne) ∙ get_or_from_slice_get (set lines k l) j m l its in
+          let in_lines : j < length lines = omega (arith, slice_get_within (set lines k l) j m its, length-set lines k l) in
+          subst (λ (y : Line). IsLine (weights t j) (offers_of t.rows.now j) t.firsts.items free y) here (line_of t free lines j l h in_lines))
+    ]

@@ -1,0 +1,145 @@
+-- A raise by the least slack: values and prices stay below the weights, and tight.
+use Rattle.std.proofs.Common.{◌≡◌, ℕ, ◌+◌, ◌*◌, ◌<◌, ◌≤◌, Bool, true, false, List, length, Option, Some, sym, ◌∙◌, subst, inl, inr, arith}
+use Rattle.std.proofs.lemmas.List.Sums.{count_by-le-length}
+use Rattle.std.proofs.lemmas.Bool.{cases_Bool}
+use Rattle.transport.specs.Numbers.{number}
+use Rattle.transport.specs.Queues.{IsQueue, is_reached, place, row_at}
+use Rattle.transport.specs.Duals.{IsTight}
+use Rattle.transport.specs.Searches.{is_taken, IsLinked, weight_limit, most, top, IsClose, IsSearch, IsCovered, AllCovered, IsLeast, IsAttained, AreWeights}
+use Rattle.transport.specs.declared.queues.Queue.{Queue}
+use Rattle.transport.specs.declared.notes.Exit.{Exit}
+use Rattle.transport.specs.declared.notes.Notes.{Notes}
+use Rattle.transport.specs.declared.takings.Takings.{Takings}
+
+module _ (ws : ℕ → ℕ → Option ℕ) (cells : ℕ → ℕ → ℕ) (values prices free new news : List ℕ) (q : Queue) (ns : Notes) (ts : Takings) (by : ℕ)
+    (fit : AreWeights ws (length values) (length prices)) (s : IsSearch ws cells values prices free q ns ts)
+    (all : AllCovered ws values prices q ns ts (length q.order.items)) (least : IsLeast values prices ns ts by)
+    (rv : (k : ℕ) → is_reached q k ≡ true → number new k ≡ number values k + by)
+    (ov : (k : ℕ) → is_reached q k ≡ false → number new k ≡ number values k)
+    (rp : (g : ℕ) → is_taken ts g ≡ true → number news g ≡ number prices g + by)
+    (op : (g : ℕ) → is_taken ts g ≡ false → number news g ≡ number prices g) where
+  covered_at : (k g w : ℕ) → is_reached q k ≡ true → is_taken ts g ≡ false → ws k g ≡ Some w → IsCovered values prices ns k g w
+  covered_at k g w on off its = all.covered k g w on (s.queue.within k on) its off
+
+  exit_free : (e : Exit) → ns.exit ≡ Some e → number prices e.class ≡ 0
+  exit_free e is = s.dual.zero e.class (s.exit e is).some_free
+
+  room_by : (k g w : ℕ) → is_taken ts g ≡ false → IsCovered values prices ns k g w → number values k + by ≤ w + number prices g
+  room_by k g w off c = elim c [
+    | inl c ↦ omega (arith, c.least, least.noted g c.near c.its off)
+    | inr c ↦ omega (arith, c.least, least.exit c.exit c.its, exit_free c.exit c.its)
+  ]
+
+  pub room_to_rise : (k g w : ℕ) → is_reached q k ≡ true → is_taken ts g ≡ false → ws k g ≡ Some w → number values k + by ≤ w + number prices g
+  room_to_rise k g w on off its = room_by k g w off (covered_at k g w on off its)
+
+  below_new : (k g w : ℕ) → ws k g ≡ Some w → number new k ≤ w + number news g
+  below_new k g w its = elim (cases_Bool (is_reached q k)) [
+    | inl on ↦ elim (cases_Bool (is_taken ts g)) [
+      | inl taken ↦ omega (arith, rv k on, rp g taken, s.dual.below k g w its)
+      | inr off ↦ omega (arith, rv k on, op g off, room_to_rise k g w on off its)
+    ]
+    | inr not ↦ elim (cases_Bool (is_taken ts g)) [
+      | inl taken ↦ omega (arith, ov k not, rp g taken, s.dual.below k g w its)
+      | inr off ↦ omega (arith, ov k not, op g off, s.dual.below k g w its)
+    ]
+  ]
+
+  tight_at : (k g : ℕ) → 0 < cells k g → (t : IsTight ws values prices k g) → number new k ≡ t.weight + number news g
+  tight_at k g some t = elim (cases_Bool (is_taken ts g)) [
+    | inl taken ↦ omega (arith, rv k (s.holders k g taken some), rp g taken, t.equal)
+    | inr off ↦ elim (cases_Bool (is_reached q k)) [
+      | inl on ↦ omega (arith, rv k on, op g off, t.equal, room_to_rise k g t.weight on off t.its)
+      | inr not ↦ omega (arith, ov k not, op g off, t.equal)
+    ]
+  ]
+
+  full : (g : ℕ) → is_taken ts g ≡ true → number free g ≡ 0
+  full g taken = let l = s.linked g taken in (s.noted g l.near l.its).full
+
+  zero_new : (g : ℕ) → 0 < number free g → number news g ≡ 0
+  zero_new g some = elim (cases_Bool (is_taken ts g)) [
+    | inl taken ↦ absurd (omega (arith, full g taken, some))
+    | inr off ↦ op g off ∙ s.dual.zero g some
+  ]
+
+  root_on : is_reached q (row_at q 0) ≡ true
+  root_on = s.queue.on 0 s.rooted
+
+  linked_new : (g : ℕ) → is_taken ts g ≡ true → IsLinked new news ns g
+  linked_new g taken =
+      let l = s.linked g taken in
+      record { near = l.near; its = l.its; equal = omega (arith, rv l.near.row (s.noted g l.near l.its).there, rp g taken, l.equal) }
+
+  close_new : (k : ℕ) → is_reached q k ≡ true → IsClose new q k
+  close_new k on =
+      let c = s.close k on in
+      record { up = omega (arith, c.up, rv k on, rv (row_at q 0) root_on); down = omega (arith, c.down, rv k on, rv (row_at q 0) root_on) }
+
+  few : (k : ℕ) → is_reached q k ≡ true → place q k < 256
+  few k on =
+      omega (arith, s.queue.within k on, s.queue.counted, count_by-le-length {X = Bool} (λ b. b) q.reached.items, s.queue.reached_long, fit.few)
+
+  -- some reached row is low after the raise
+  module _ (at : IsAttained values prices ns ts by) where
+    low_row : (k : ℕ) → is_reached q k ≡ true → number values k + by ≤ weight_limit + most + 511 * weight_limit
+    low_row k on = elim at [
+      | inl e ↦ near_low e.exit.near.row (s.exit e.exit e.its).there
+          (omega (arith, e.equal, exit_free e.exit e.its, fit.low _ _ _ (s.exit e.exit e.its).weighs))
+      | inr c ↦ near_low c.near.row (s.noted c.class c.near c.its).there
+          (omega (arith, c.equal, s.prices_low c.class c.left, fit.low _ _ _ (s.noted c.class c.near c.its).weighs))
+    ]
+      where
+        near_low : (j : ℕ) → is_reached q j ≡ true → by + number values j ≤ weight_limit + most → number values k + by ≤ weight_limit + most + 511 * weight_limit
+        near_low j there low =
+            let a = s.close k on in
+            let b = s.close j there in
+            omega (arith, a.up, b.down, few k on, few j there, low)
+
+    values_fit_new : (k : ℕ) → number new k ≤ top
+    values_fit_new k = elim (cases_Bool (is_reached q k)) [
+      | inl on ↦ omega (arith, rv k on, low_row k on)
+      | inr not ↦ omega (arith, ov k not, s.others_low k not)
+    ]
+
+    prices_fit_new : (g : ℕ) → number news g ≤ top
+    prices_fit_new g = elim (cases_Bool (is_taken ts g)) [
+      | inl taken ↦ (let l = linked_new g taken in omega (arith, l.equal, values_fit_new l.near.row))
+      | inr off ↦ omega (arith, op g off, s.prices_low g off)
+    ]
+
+    pub search_raised : length new ≡ length values → length news ≡ length prices → IsSearch ws cells new news free q ns ts
+    search_raised long longs = record {
+      queue = subst (λ n. IsQueue n q) (sym long) s.queue;
+      listing = s.listing;
+      taken_long = s.taken_long ∙ sym longs;
+      nears_long = s.nears_long ∙ sym longs;
+      free_long = s.free_long ∙ sym longs;
+      dual = record {
+        below = below_new;
+        tight = λ k g some. (let t = s.dual.tight k g some in record { weight = t.weight; its = t.its; equal = tight_at k g some t });
+        zero = zero_new;
+      };
+      rooted = s.rooted;
+      entries = s.entries;
+      rooms = s.rooms;
+      noted = s.noted;
+      noted_in = λ i lt. omega (arith, s.noted_in i lt, longs);
+      linked = linked_new;
+      holders = s.holders;
+      exit = s.exit;
+      close = close_new;
+      others_low = λ k not. omega (arith, ov k not, s.others_low k not);
+      prices_low = λ g off. omega (arith, op g off, s.prices_low g off);
+      values_fit = values_fit_new;
+      prices_fit = prices_fit_new;
+    }
+
+  covered_new : (k g w : ℕ) → is_reached q k ≡ true → is_taken ts g ≡ false → IsCovered values prices ns k g w → IsCovered new news ns k g w
+  covered_new k g w on off c = elim c [
+    | inl c ↦ inl (record { near = c.near; its = c.its; least = omega (arith, c.least, rv k on, rv c.near.row (s.noted g c.near c.its).there) })
+    | inr c ↦ inr (record { exit = c.exit; its = c.its; least = omega (arith, c.least, rv k on, op g off, rv c.exit.near.row (s.exit c.exit c.its).there) })
+  ]
+
+  pub covered_raised : AllCovered ws new news q ns ts (length q.order.items)
+  covered_raised = record { covered = λ k g w on here its off. covered_new k g w on off (covered_at k g w on off its) }

@@ -1,0 +1,153 @@
+-- A search at its start, and the bounds after it has found an exit.
+use Rattle.std.proofs.Common.{◌≡◌, ℕ, zero, suc, ◌<◌, ◌≤◌, Bool, true, false, cond, List, [], ◌∷◌, length, get_or, replicate, Option, Some, None, refl, sym, ap, ◌∙◌, subst, inl, inr, arith}
+use Rattle.std.specs.List.{count_by}
+use Rattle.std.proofs.lemmas.Bool.{cases_Bool, cases_lt}
+use Rattle.std.proofs.lemmas.List.{length_push, length-replicate, get_or-replicate, get_or_past, get_or-set_same}
+use Rattle.std.proofs.lemmas.List.Sums.{sum_by-cons, count_by-le-length}
+use Rattle.transport.specs.Numbers.{number, is_marked}
+use Rattle.transport.specs.Queues.{IsQueue, IsAtRoot, IsReached, is_reached, place, room, row_at}
+use Rattle.transport.specs.Searches.{is_taken, IsSearch, IsClose, most}
+use Rattle.transport.specs.States.{cell, IsRunning}
+use Rattle.transport.specs.Answers.{IsFound}
+use Rattle.transport.specs.Settled.{IsSettled, IsFresh}
+use Rattle.transport.specs.declared.notes.Exit.{Exit}
+use Rattle.transport.specs.declared.states.State.{State}
+use Rattle.transport.specs.declared.trees.Tree.{Tree}
+use Rattle.transport.proofs.Numbers.{not_both}
+use Rattle.transport.proofs.QueueLemmas.{queue_reached}
+use Rattle.transport.specs.declared.queues.Queue.{Queue}
+
+count_none : (bs : List Bool) → ((k : ℕ) → is_marked bs k ≡ false) → count_by (λ b. b) bs ≡ 0
+count_none [] h = refl
+count_none (b ∷ bs) h =
+    let here : ◌≡◌ {A = ℕ} (cond b 1 0) 0 = ap (λ x. cond {A = ℕ} x 1 0) (h 0) in
+    omega (arith, sum_by-cons (λ x. cond {A = ℕ} x 1 0) b bs, here, count_none bs (λ k. h (suc k)))
+
+pub count_less : (bs : List Bool) (k : ℕ) → k < length bs → is_marked bs k ≡ false → count_by (λ b. b) bs < length bs
+count_less [] k lt off = absurd (omega arith)
+count_less (b ∷ bs) zero lt off =
+    let here : ◌≡◌ {A = ℕ} (cond b 1 0) 0 = ap (λ x. cond {A = ℕ} x 1 0) off in
+    omega (arith, sum_by-cons (λ x. cond {A = ℕ} x 1 0) b bs, here, count_by-le-length {X = Bool} (λ x. x) bs)
+count_less (b ∷ bs) (suc k) lt off =
+    omega (arith, sum_by-cons (λ x. cond {A = ℕ} x 1 0) b bs, cond_one b, count_less bs k (omega arith) off)
+  where
+    cond_one : (b : Bool) → cond {A = ℕ} b 1 0 ≤ 1
+    cond_one true = omega arith
+    cond_one false = omega arith
+
+pub replicate_default : {X : Type 0} (n i : ℕ) (a : X) → get_or (replicate n a) i a ≡ a
+replicate_default n i a = elim (cases_lt i n) [
+  | inl lt ↦ get_or-replicate n i a a lt
+  | inr past ↦ get_or_past (replicate n a) i a (omega (arith, length-replicate n a, past))
+]
+
+-- a queue in which the first row is reached
+module _ (rows root amount : ℕ) (old new : Queue) (in_rows : root < rows) (reached : old.reached.items ≡ replicate rows false) (via_is : old.via.items ≡ replicate rows 0)
+    (room_is : old.room.items ≡ replicate rows 0) (place_is : old.place.items ≡ replicate rows 0) (order : old.order.items ≡ []) (r : IsReached old new root 0 amount) where
+  none : (k : ℕ) → is_reached old k ≡ false
+  none k = ap (λ bs. is_marked bs k) reached ∙ replicate_default rows k false
+
+  queue_none : IsQueue rows old
+  queue_none = record {
+    reached_long = ap length reached ∙ length-replicate rows false;
+    via_long = ap length via_is ∙ length-replicate {A = ℕ} rows 0;
+    room_long = ap length room_is ∙ length-replicate {A = ℕ} rows 0;
+    place_long = ap length place_is ∙ length-replicate {A = ℕ} rows 0;
+    on = λ i lt. absurd (omega (arith, lt, ap length order));
+    at = λ i lt. absurd (omega (arith, lt, ap length order));
+    within = λ k on. absurd (not_both _ on (none k));
+    placed = λ k on. absurd (not_both _ on (none k));
+    counted = count_none old.reached.items none ∙ sym (ap length order);
+  }
+
+  now : IsQueue rows new
+  now = queue_reached rows old new root 0 amount queue_none in_rows (none root) r
+
+  one_row : length new.order.items ≡ 1
+  one_row = omega (arith, ap length r.order, length_push old.order.items root, ap length order)
+
+  first_row : row_at new 0 ≡ root
+  first_row = rw (r.order, order) refl
+
+  only_root : (k : ℕ) → is_reached new k ≡ true → k ≡ root
+  only_root k on =
+      let p : place new k ≡ 0 = omega (arith, now.within k on, one_row) in
+      sym (now.placed k on) ∙ ap (λ i. row_at new i) p ∙ first_row
+
+  pub queue_at_root : IsAtRoot rows root amount new
+  queue_at_root = record {
+    queue = now;
+    one = one_row;
+    root_at = first_row;
+    only = only_root;
+    some_room = rw r.rooms (get_or-set_same old.room.items root amount 0 (omega (arith, in_rows, queue_none.room_long)));
+  }
+
+module _ (ws : ℕ → ℕ → Option ℕ) (s : State) (t : Tree) (root amount : ℕ) (h : IsSettled ws s) (f : IsFresh (length s.values.items) (length s.prices.items) root amount t) (some : 0 < amount) where
+  no_taken : (g : ℕ) → is_taken t.takings g ≡ true → ⊥
+  no_taken g on = not_both _ on (f.taken g)
+
+  at_root : place t.queue root ≡ 0
+  at_root = ap (λ k. place t.queue k) (sym f.at_root.root_at) ∙ f.at_root.queue.at 0 (omega (arith, f.at_root.one))
+
+  close_root : IsClose s.values.items t.queue root
+  close_root =
+      let e : number s.values.items (row_at t.queue 0) ≡ number s.values.items root = ap (λ k. number s.values.items k) f.at_root.root_at in
+      record { up = omega (arith, e, at_root); down = omega (arith, e, at_root) }
+
+  search_start : IsSearch ws (cell s.holdings.items) s.values.items s.prices.items s.free.items t.queue t.notes t.takings
+  search_start = record {
+    queue = f.at_root.queue;
+    listing = record {
+      on = λ i lt. absurd (omega (arith, lt, ap length f.order));
+      all = λ k on. absurd (no_taken k on);
+      once = λ i j lt. absurd (omega (arith, lt, ap length f.order));
+      counted = count_none t.takings.taken.items f.taken ∙ sym (ap length f.order);
+    };
+    taken_long = f.taken_long;
+    nears_long = f.nears_long;
+    free_long = h.free_long;
+    dual = h.dual;
+    rooted = omega (arith, f.at_root.one);
+    entries = λ k on deep. (let e = ap (λ x. place t.queue x) (f.at_root.only k on) in absurd (omega (arith, e, deep, at_root)));
+    rooms = λ k on. (let e = ap (λ x. room t.queue x) (f.at_root.only k on) in omega (arith, e, f.at_root.some_room, some));
+    noted = λ g n is. (let no_note : Some n ≡ None = sym is ∙ f.nears g in cc);
+    noted_in = λ i lt. absurd (omega (arith, lt, ap length f.noted));
+    linked = λ g on. absurd (no_taken g on);
+    holders = λ k g on. absurd (no_taken g on);
+    exit = λ e is. (let no_exit : Some e ≡ None = sym is ∙ f.exit in cc);
+    close = λ k on. subst (IsClose s.values.items t.queue) (sym (f.at_root.only k on)) close_root;
+    others_low = λ k off. h.values_low k;
+    prices_low = λ g off. h.prices_low g;
+    values_fit = λ k. omega (arith, h.values_low k);
+    prices_fit = λ g. omega (arith, h.prices_low g);
+  }
+
+  pub running_start : IsRunning ws s t
+  running_start = record { fit = h.fit; search = search_start; holdings = h.holdings }
+
+-- once an exit is at slack 0 all values and prices are low again
+module _ (ws : ℕ → ℕ → Option ℕ) (s : State) (t : Tree) (e : Exit) (h : IsFound ws s t e) where
+  few : (k : ℕ) → is_reached t.queue k ≡ true → place t.queue k < 256
+  few k on =
+      let q = h.running.search.queue in
+      omega (arith, q.within k on, q.counted, count_by-le-length {X = Bool} (λ b. b) t.queue.reached.items, q.reached_long, h.running.fit.few)
+
+  reached_low : (k : ℕ) → is_reached t.queue k ≡ true → number s.values.items k ≤ most
+  reached_low k on =
+      let x = h.running.search.exit e h.its in
+      let a = h.running.search.close k on in
+      let b = h.running.search.close e.near.row x.there in
+      omega (arith, a.up, b.down, few k on, few e.near.row x.there, h.equal, h.running.search.dual.zero e.class x.some_free, h.running.fit.low e.near.row e.class e.near.weight x.weighs)
+
+  pub found_values_low : (k : ℕ) → number s.values.items k ≤ most
+  found_values_low k = elim (cases_Bool (is_reached t.queue k)) [
+    | inl on ↦ reached_low k on
+    | inr off ↦ h.running.search.others_low k off
+  ]
+
+  pub found_prices_low : (g : ℕ) → number s.prices.items g ≤ most
+  found_prices_low g = elim (cases_Bool (is_taken t.takings g)) [
+    | inl on ↦ (let l = h.running.search.linked g on in omega (arith, l.equal, found_values_low l.near.row))
+    | inr off ↦ h.running.search.prices_low g off
+  ]

@@ -1,0 +1,173 @@
+-- A class is taken up, and its holders are reached.
+use Rattle.std.proofs.Common.{◌≡◌, ℕ, ◌+◌, ◌<◌, ◌≤◌, Bool, true, false, List, [], ◌∷◌, ◌++◌, length, set, Option, Some, ◌⊎◌, sym, ap, ◌∙◌, subst, inl, inr, arith}
+use Rattle.std.proofs.lemmas.List.{length-set, length_push, get_or-set_same, get_or-set_other, get_or_append_left, get_or_push}
+use Rattle.std.proofs.lemmas.Bool.{cases_lt, cases_Bool}
+use Rattle.transport.specs.Numbers.{number, is_marked, IsIn, IsListing}
+use Rattle.twins.specs.Holdings.{share_of}
+use Rattle.transport.specs.Queues.{IsQueue, IsGrown, is_reached, via, room, place, row_at}
+use Rattle.transport.specs.Searches.{near_of, is_taken, IsNoted, IsLinked, IsEntered, IsClose, IsSearch, AllCovered, IsTaken, AreWeights}
+use Rattle.twins.specs.declared.holders.Share.{Share}
+use Rattle.transport.specs.declared.queues.Queue.{Queue}
+use Rattle.transport.specs.declared.notes.Near.{Near}
+use Rattle.transport.specs.declared.notes.Notes.{Notes}
+use Rattle.transport.specs.declared.takings.Takings.{Takings}
+use Rattle.transport.proofs.Numbers.{not_both, in_push, in_last}
+use Rattle.transport.proofs.QueueLemmas.{count-set, marked_more}
+
+pub listing_push :
+    (order : List ℕ) (marks : List Bool) (g : ℕ) → IsListing order marks → g < length marks → is_marked marks g ≡ false
+    → IsListing (order ++ g ∷ []) (set marks g true)
+listing_push order marks g h lt off = record {
+  on = λ i within. elim (cases_lt i (length order)) [ inl before ↦ on_before i before | inr after ↦ on_last i (omega (arith, length_push order g, within)) ];
+  all = λ k on. elim (marked_more marks g k on) [ inl e ↦ subst (IsIn (order ++ g ∷ [])) (sym e) (in_last order g) | inr before ↦ in_push order g k (h.all k before) ];
+  once = once;
+  counted = count-set marks g lt off ∙ ap (λ n. n + 1) h.counted ∙ sym (length_push order g);
+}
+  where
+    other : (i : ℕ) → i < length order → number order i ≡ g → ⊥
+    other i before e = not_both (is_marked marks g) (subst (λ n. is_marked marks n ≡ true) e (h.on i before)) off
+
+    at_before : (i : ℕ) → i < length order → number (order ++ g ∷ []) i ≡ number order i
+    at_before i before = get_or_append_left order (g ∷ []) 0 i before
+
+    at_last : (i : ℕ) → i ≡ length order → number (order ++ g ∷ []) i ≡ g
+    at_last i e = get_or_push order g 0 i (sym e)
+
+    on_before : (i : ℕ) → i < length order → is_marked (set marks g true) (number (order ++ g ∷ []) i) ≡ true
+    on_before i before = rw (at_before i before) (get_or-set_other marks g (number order i) true false (other i before) ∙ h.on i before)
+
+    on_last : (i : ℕ) → i ≡ length order → is_marked (set marks g true) (number (order ++ g ∷ []) i) ≡ true
+    on_last i e = rw (at_last i e) (get_or-set_same marks g true false lt)
+
+    once : (i j : ℕ) → i < length (order ++ g ∷ []) → j < length (order ++ g ∷ []) → number (order ++ g ∷ []) i ≡ number (order ++ g ∷ []) j → i ≡ j
+    once i j a b e = elim (cases_lt i (length order)) [
+      | inl i_before ↦ elim (cases_lt j (length order)) [
+        | inl j_before ↦ h.once i j i_before j_before (sym (at_before i i_before) ∙ e ∙ at_before j j_before)
+        | inr j_after ↦ absurd (other i i_before (sym (at_before i i_before) ∙ e ∙ at_last j (omega (arith, length_push order g, b))))
+      ]
+      | inr i_after ↦ elim (cases_lt j (length order)) [
+        | inl j_before ↦ absurd (other j j_before (sym (at_before j j_before) ∙ sym e ∙ at_last i (omega (arith, length_push order g, a))))
+        | inr j_after ↦ omega (arith, length_push order g, a, b)
+      ]
+    ]
+
+module _ (ws : ℕ → ℕ → Option ℕ) (cells : ℕ → ℕ → ℕ) (values prices free : List ℕ) (q r : Queue) (ns : Notes) (ts us : Takings) (g : ℕ) (n : Near) (shares : List Share)
+    (fit : AreWeights ws (length values) (length prices)) (s : IsSearch ws cells values prices free q ns ts) (its : near_of ns g ≡ Some n) (left : is_taken ts g ≡ false)
+    (equal : number values n.row ≡ n.weight + number prices g) (taken : IsTaken ts us g)
+    (queue : IsQueue (length values) r) (grown : IsGrown q r g (room q n.row) shares shares) (held : (k : ℕ) → share_of k shares ≡ cells k g) (in_range : g < length prices) where
+  note : IsNoted ws free q ns g n
+  note = s.noted g n its
+
+  now_taken : is_taken us g ≡ true
+  now_taken = rw taken.taken (get_or-set_same ts.taken.items g true false (omega (arith, s.taken_long, in_range)))
+
+  other_class : (h : ℕ) → is_taken ts h ≡ true → h ≡ g → ⊥
+  other_class h on e = not_both (is_taken ts g) (subst (λ x. is_taken ts x ≡ true) e on) left
+
+  still_taken : (h : ℕ) → is_taken ts h ≡ true → is_taken us h ≡ true
+  still_taken h on = rw taken.taken (get_or-set_other ts.taken.items g h true false (other_class h on) ∙ on)
+
+  pub taken_cases : (h : ℕ) → is_taken us h ≡ true → (h ≡ g) ⊎ (is_taken ts h ≡ true)
+  taken_cases h on = marked_more ts.taken.items g h (rw taken.taken at on)
+
+  was_left : (h : ℕ) → is_taken us h ≡ false → is_taken ts h ≡ false
+  was_left h off = elim (cases_Bool (is_taken ts h)) [ inl on ↦ absurd (not_both _ (still_taken h on) off) | inr not ↦ not ]
+
+  was_out : (k : ℕ) → is_reached r k ≡ false → is_reached q k ≡ false
+  was_out k off = elim (cases_Bool (is_reached q k)) [ inl on ↦ absurd (not_both _ (grown.kept k on).reached off) | inr not ↦ not ]
+
+  near_place : place q n.row < length q.order.items
+  near_place = s.queue.within n.row note.there
+
+  entered_old : (k : ℕ) → is_reached q k ≡ true → 0 < place r k → IsEntered cells r ns us k
+  entered_old k on deep =
+      let kept = grown.kept k on in
+      let e = s.entries k on (omega (arith, kept.places, deep)) in
+      let before = grown.kept e.near.row (s.noted (via q k) e.near e.its).there in
+      record {
+        taken = rw kept.by (still_taken _ e.taken);
+        held = rw (kept.by, kept.rooms) e.held;
+        near = e.near;
+        its = rw kept.by e.its;
+        before = omega (arith, e.before, before.places, kept.places);
+        less = omega (arith, e.less, before.rooms, kept.rooms);
+      }
+
+  entered_new : (k : ℕ) → is_reached q k ≡ false → is_reached r k ≡ true → IsEntered cells r ns us k
+  entered_new k not on =
+      let f = grown.fresh k not on in
+      let before = grown.kept n.row note.there in
+      record {
+        taken = rw f.by now_taken;
+        held = rw f.by (omega (arith, f.held, held k));
+        near = n;
+        its = rw f.by its;
+        before = omega (arith, f.later, before.places, near_place);
+        less = omega (arith, f.less, before.rooms);
+      }
+
+  pub root_same : row_at r 0 ≡ row_at q 0
+  root_same =
+      let on = s.queue.on 0 s.rooted in
+      let kept = grown.kept (row_at q 0) on in
+      let zero : place r (row_at q 0) ≡ 0 = kept.places ∙ s.queue.at 0 s.rooted in
+      ap (λ i. row_at r i) (sym zero) ∙ queue.placed (row_at q 0) kept.reached
+
+  close_old : (k : ℕ) → is_reached q k ≡ true → IsClose values r k
+  close_old k on =
+      let c = s.close k on in
+      let kept = grown.kept k on in
+      record { up = rw (root_same, kept.places) c.up; down = rw (root_same, kept.places) c.down }
+
+  close_new : (k : ℕ) → is_reached q k ≡ false → is_reached r k ≡ true → IsClose values r k
+  close_new k not on =
+      let f = grown.fresh k not on in
+      let t = s.dual.tight k g (omega (arith, f.held, f.some_room, held k)) in
+      let c = s.close n.row note.there in
+      let low = fit.low k g t.weight t.its in
+      let near_low = fit.low n.row g n.weight note.weighs in
+      record {
+        up = rw root_same (omega (arith, c.up, t.equal, equal, low, near_low, f.later, near_place));
+        down = rw root_same (omega (arith, c.down, t.equal, equal, low, near_low, f.later, near_place));
+      }
+
+  pub search_taken : IsSearch ws cells values prices free r ns us
+  search_taken = record {
+    queue = queue;
+    listing = rw (taken.taken, taken.order) (listing_push ts.order.items ts.taken.items g s.listing (omega (arith, s.taken_long, in_range)) left);
+    taken_long = ap length taken.taken ∙ length-set _ _ _ ∙ s.taken_long;
+    nears_long = s.nears_long;
+    free_long = s.free_long;
+    dual = s.dual;
+    rooted = omega (arith, s.rooted, grown.longer);
+    entries = λ k on deep. elim (cases_Bool (is_reached q k)) [ inl was ↦ entered_old k was deep | inr not ↦ entered_new k not on ];
+    rooms = λ k on. elim (cases_Bool (is_reached q k)) [
+      | inl was ↦ omega (arith, s.rooms k was, (grown.kept k was).rooms)
+      | inr not ↦ (grown.fresh k not on).some_room
+    ];
+    noted = λ h m is. (let o = s.noted h m is in record { listed = o.listed; there = (grown.kept m.row o.there).reached; weighs = o.weighs; full = o.full });
+    noted_in = s.noted_in;
+    linked = λ h on. elim (taken_cases h on) [
+      | inl e ↦ subst (IsLinked values prices ns) (sym e) (record { near = n; its = its; equal = equal })
+      | inr was ↦ s.linked h was
+    ];
+    holders = λ k h on some. elim (taken_cases h on) [
+      | inl e ↦ grown.held k (omega (arith, held k, subst (λ x. 0 < cells k x) e some))
+      | inr was ↦ (grown.kept k (s.holders k h was some)).reached
+    ];
+    exit = λ e is. (let o = s.exit e is in record { there = (grown.kept e.near.row o.there).reached; weighs = o.weighs; some_free = o.some_free });
+    close = λ k on. elim (cases_Bool (is_reached q k)) [ inl was ↦ close_old k was | inr not ↦ close_new k not on ];
+    others_low = λ k off. s.others_low k (was_out k off);
+    prices_low = λ h off. s.prices_low h (was_left h off);
+    values_fit = s.values_fit;
+    prices_fit = s.prices_fit;
+  }
+
+  -- a row that is newly reached was not looked at yet
+  pub covered_taken : (looked : ℕ) → looked ≤ length q.order.items → AllCovered ws values prices q ns ts looked → AllCovered ws values prices r ns us looked
+  covered_taken looked less all = record {
+    covered = λ k h w on here weighs off. elim (cases_Bool (is_reached q k)) [
+      | inl was ↦ all.covered k h w was (omega (arith, here, (grown.kept k was).places)) weighs (was_left h off)
+      | inr not ↦ absurd (omega (arith, here, (grown.fresh k not on).later, less))
+    ];
+  }

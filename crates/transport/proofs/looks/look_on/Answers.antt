@@ -1,0 +1,61 @@
+use Rattle.std.proofs.Common.{◌≡◌, ◌<◌, true, length, ap, subst, arith}
+use Rattle.transport.specs.Queues.{is_reached, row_at}
+use Rattle.transport.specs.Weights.{weights}
+use Rattle.transport.specs.States.{HasLooked}
+use Rattle.transport.specs.declared.queues.Queue.{Queue}
+use Rattle.transport.proofs.Noting.{better_same, better_more}
+use Rattle.transport.proofs.Looking.{looked_more, row_read, row_in, line_of, lines_set}
+use Rattle.transport.proofs.looks.look_on.Goals as goal
+use Rattle.transport.proofs.looks.look_on.Goals.{After-index-row}
+
+pub loop-at-init : goal.loop-at-init
+loop-at-init c = record { lines = c.requires.lines; better = better_same _ _ _ c.requires.running; looked = c.requires.looked }
+
+in_order : (c : After-index-row) → c.loop-at.at < length c.loop-at.tree.queue.order.items
+in_order c = omega (arith, c.loop-at-test.true, c.len-at-end.ensures, c.args.tree.now.queue.order.ok.0, ap (λ (q : Queue). length q.order.items) c.loop-at.invariant.better.queue)
+
+read : (c : After-index-row) → (row_at c.loop-at.tree.queue c.loop-at.at ≡ c.index-row.result.now) × (is_reached c.loop-at.tree.queue c.index-row.result.now ≡ true)
+read c = row_read _ _ c.loop-at.tree c.loop-at.at c.index-row.result.now c.loop-at.invariant.better.running (in_order c) c.index-row.ensures
+
+in_lines : (c : After-index-row) → c.index-row.result.now < length c.loop-at.lines
+in_lines c =
+    let lt = row_in _ _ c.loop-at.tree c.index-row.result.now c.loop-at.invariant.better.running (read c).1 in
+    omega (arith, lt, c.requires.rows, c.loop-at.invariant.lines.long)
+
+pub bounds-lines-row : goal.bounds-lines-row
+bounds-lines-row c = in_lines (goal.at.bounds-lines-row c).After-index-row
+
+pub offset_bounds-lines-row : goal.offset_bounds-lines-row
+offset_bounds-lines-row c =
+    let i = (goal.at.offset_bounds-lines-row c).After-index-row in
+    omega (arith, in_lines i, c.loop-at.invariant.lines.long, c.requires.rows, c.requires.running.fit.few)
+
+pub look-requires : goal.look-requires
+look-requires c =
+    let i = (goal.at.look-requires c).After-index-row in
+    record {
+      running = c.loop-at.invariant.better.running;
+      row = omega (arith, in_lines i, c.loop-at.invariant.lines.long);
+      there = (read i).1;
+      line = line_of _ _ _ _ _ c.loop-at.invariant.lines (in_lines i);
+    }
+
+pub loop-at-preserved : goal.loop-at-preserved
+loop-at-preserved c =
+    let i = (goal.at.loop-at-preserved c).After-index-row in
+    let seen = c.in_ok-look.ensures.seen in
+    record {
+      lines = lines_set _ _ _ _ _ c.loop-at.invariant.lines (in_lines i) c.in_ok-look.ensures.line;
+      better = better_more _ _ _ _ _ c.loop-at.invariant.better seen.better;
+      looked = looked_more _ _ _ _ _ c.loop-at.at c.loop-at.invariant.better.running (read i).0 seen c.loop-at.invariant.looked;
+    }
+
+pub returns : goal.returns
+returns c =
+    let e : c.loop-at.at ≡ length c.loop-at.tree.queue.order.items =
+    omega (arith, c.loop-at-test.false, c.loop-at.auto.at-end, c.requires.from, c.len-at-end.ensures, c.args.tree.now.queue.order.ok.0, ap (λ (q : Queue). length q.order.items) c.loop-at.invariant.better.queue) in
+    record {
+      lines = c.loop-at.invariant.lines;
+      better = c.loop-at.invariant.better;
+      looked = subst (λ n. HasLooked (weights c.args.table.now) c.args.state.now c.loop-at.tree n) e c.loop-at.invariant.looked;
+    }

@@ -1,0 +1,32 @@
+use Rattle.std.proofs.Common.{◌≡◌, subst, arith}
+use Rattle.transport.specs.Looks.{HasNoted}
+use Rattle.transport.proofs.Noting.{noted_start, noted_more, noted_past, past_rise, arc_can, limit_same}
+use Rattle.transport.proofs.looks.note_arcs.Goals as goal
+
+pub loop-at-init : goal.loop-at-init
+loop-at-init c = record { noted = λ ws can. noted_start ws _ _ _ _ can.running; limit = c.requires.limit }
+
+pub note_arc-requires : goal.note_arc-requires
+note_arc-requires c = record {
+  limit = c.loop-at.invariant.limit;
+  can = (c.requires.can.0, arc_can _ _ _ _ _ c.args.arcs.now _ _ c.requires.can.1 (c.loop-at.invariant.noted _ c.requires.can.1) c.loop-at-test.true);
+}
+
+pub loop-at-preserved : goal.loop-at-preserved
+loop-at-preserved c =
+    let can = c.requires.can.1 in
+    let one = c.in_ok-note_arc.ensures c.requires.can.0 (arc_can _ _ _ _ _ c.args.arcs.now _ _ can (c.loop-at.invariant.noted _ can) c.loop-at-test.true) in
+    record {
+      noted = λ ws can. noted_more ws _ _ _ _ _ c.args.arcs.now _ (c.loop-at.invariant.noted ws can) (c.in_ok-note_arc.ensures ws (arc_can ws _ _ _ _ c.args.arcs.now _ _ can (c.loop-at.invariant.noted ws can) c.loop-at-test.true));
+      limit = limit_same _ _ _ _ _ one.exit c.loop-at.invariant.limit;
+    }
+
+pub returns-then-is_past : goal.returns-then-is_past
+returns-then-is_past c = λ ws can.
+    noted_past ws _ _ _ _ c.args.arcs.now c.loop-at.at c.args.upto c.args.limit (c.loop-at.invariant.noted ws can) c.loop-at.invariant.limit
+    (λ j le lt. past_rise c.args.limit _ _ (c.requires.rising c.loop-at.at j le (omega (arith, lt, c.requires.upto))) (c.is_past.ensures.0 c.if-is_past.true))
+
+pub returns : goal.returns
+returns c = λ ws can.
+    let e : c.loop-at.at ≡ c.args.upto = omega (arith, c.loop-at.auto.at-end, c.loop-at-test.false) in
+    subst (λ n. HasNoted ws c.args.state.now c.args.row c.args.tree.now c.loop-at.tree c.args.arcs.now n) e (c.loop-at.invariant.noted ws can)

@@ -1,0 +1,6 @@
+use Rattle.std.proofs.Common.{take}
+use Rattle.transport.specs.States.{IsLeastUpTo}
+use Rattle.transport.proofs.nearest.least_slack.Given as goal
+
+abbrev pub invariant-loop-class : goal.invariant-loop-class
+invariant-loop-class l = IsLeastUpTo l.state.values.items l.state.prices.items l.tree.notes l.tree.takings (take l.class-index l.tree.notes.noted.items) l.least

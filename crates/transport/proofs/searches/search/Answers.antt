@@ -1,0 +1,70 @@
+use Rattle.std.proofs.Common.{◌≡◌, length, refl, sym, ◌∙◌, subst, arith}
+use Rattle.transport.specs.States.{IsRunning, HasLooked}
+use Rattle.transport.specs.Weights.{weights}
+use Rattle.transport.proofs.Steps.{closed, raise_values_fit, raise_prices_fit, step_raised, step_running, step_looked_on, step_root, step_smaller}
+use Rattle.transport.proofs.searches.search.Goals as goal
+use Rattle.transport.proofs.searches.search.Goals.{After-raise_all}
+
+pub steps-init : goal.steps-init
+steps-init c = record {
+  running = c.requires.running;
+  rows = c.requires.rows;
+  lines = c.requires.lines;
+  from = omega arith;
+  looked = record { covered = λ k g w on here its off. absurd (omega (arith, here)) };
+  rest = record { free = refl; unmet = refl; holdings = refl };
+  root = record { row = refl; rooms = refl };
+}
+
+pub returns-in_default-clause-answer : goal.returns-in_default-clause-answer
+returns-in_default-clause-answer c = closed _ _ _ c.in_ok-look_on.ensures.better.running c.in_ok-look_on.ensures.looked c.in_default.ensures
+
+pub raise_all-requires-clause-values_fit : goal.raise_all-requires-clause-values_fit
+raise_all-requires-clause-values_fit c =
+    raise_values_fit _ _ c.steps.state _ _ _ c.in_ok-look_on.ensures.better c.in_ok-look_on.ensures.looked c.in-Some.ensures
+
+pub raise_all-requires-clause-prices_fit : goal.raise_all-requires-clause-prices_fit
+raise_all-requires-clause-prices_fit c =
+    raise_prices_fit _ _ c.steps.state _ _ _ c.in_ok-look_on.ensures.better c.in_ok-look_on.ensures.looked c.in-Some.ensures
+
+raised : (c : After-raise_all) → IsRunning (weights c.args.table.now) c.raise_all.new.state c.look_on.new.tree
+raised c =
+    step_raised _ _ c.raise_all.new.state _ _ _ c.in_ok-look_on.ensures.better c.in_ok-look_on.ensures.looked c.in-Some.ensures
+    c.raise_all.ensures.values c.raise_all.ensures.prices c.raise_all.ensures.free c.raise_all.ensures.holdings
+
+pub nearest_exit-requires : goal.nearest_exit-requires
+nearest_exit-requires c = (weights c.args.table.now, raised (goal.at.nearest_exit-requires c).After-raise_all)
+
+pub take_nearest-requires : goal.take_nearest-requires
+take_nearest-requires c = (weights c.args.table.now, raised (goal.at.take_nearest-requires c).After-raise_all)
+
+pub returns-in-Some-nearest_exit-clause-answer : goal.returns-in-Some-nearest_exit-clause-answer
+returns-in-Some-nearest_exit-clause-answer c = record {
+  running = raised (goal.at.returns-in-Some-nearest_exit-clause-answer c).After-raise_all;
+  its = c.in-Some-nearest_exit.ensures.its;
+  equal = c.in-Some-nearest_exit.ensures.equal;
+}
+
+pub steps-preserved : goal.steps-preserved
+steps-preserved c =
+    let b = c.in_ok-look_on.ensures.better in
+    let all = c.in_ok-look_on.ensures.looked in
+    let l = c.in-Some.ensures in
+    let r = c.raise_all.ensures in
+    let e : c.len-looked.result ≡ length c.look_on.new.tree.queue.order.items = omega (arith, c.len-looked.ensures, c.look_on.new.tree.queue.order.ok.0) in
+    record {
+      running = step_running _ _ c.raise_all.new.state _ _ _ b all l r.values r.prices r.free r.holdings _ c.in_ok-take_nearest.ensures;
+      rows = c.steps.invariant.rows ∙ sym r.values.long;
+      lines = rw r.free c.in_ok-look_on.ensures.lines;
+      from = omega (arith, e, c.in_ok-take_nearest.ensures.longer);
+      looked = subst (λ n. HasLooked (weights c.args.table.now) c.raise_all.new.state c.take_nearest.new.tree n) (sym e)
+          (step_looked_on _ _ c.raise_all.new.state _ _ _ b all l r.values r.prices r.free r.holdings _ c.in_ok-take_nearest.ensures);
+      rest = record { free = r.free ∙ c.steps.invariant.rest.free; unmet = r.unmet ∙ c.steps.invariant.rest.unmet; holdings = r.holdings ∙ c.steps.invariant.rest.holdings };
+      root = step_root _ _ c.raise_all.new.state _ _ _ b all l r.values r.prices r.free r.holdings _ c.in_ok-take_nearest.ensures c.args.tree.now c.steps.invariant.root;
+    }
+
+pub steps-smaller : goal.steps-smaller
+steps-smaller c =
+    let r = c.raise_all.ensures in
+    step_smaller _ _ c.raise_all.new.state _ _ _ c.in_ok-look_on.ensures.better c.in_ok-look_on.ensures.looked c.in-Some.ensures r.values r.prices r.free r.holdings _
+    c.in_ok-take_nearest.ensures c.in_default-nearest_exit.ensures

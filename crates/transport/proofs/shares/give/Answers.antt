@@ -1,0 +1,30 @@
+use Rattle.std.proofs.Common.{◌+◌, ◌<◌, length, set, refl, ap, subst, arith}
+use Rattle.twins.specs.Holdings.{share_of}
+use Rattle.transport.specs.Shares.{IsShareGiven}
+use Rattle.transport.proofs.QueueLemmas.{amount_le}
+use Rattle.transport.proofs.Sharing.{given_at, given_push}
+use Rattle.transport.proofs.shares.give.Goals as goal
+use Rattle.transport.proofs.shares.give.Goals.{After-index-share}
+
+here : (c : After-index-share) → c.loop-at.at < length c.loop-at.shares.items
+here c = omega (arith, c.loop-at-test.true, c.len-at-end.ensures, c.args.shares.now.ok.0, ap length c.loop-at.invariant)
+
+pub overflow_add-share : goal.overflow_add-share
+overflow_add-share c =
+    let i = (goal.at.overflow_add-share c).After-index-share in
+    let a = amount_le c.loop-at.shares.items c.loop-at.at c.index-share.result.now c.index-share.result.now (here i) c.index-share.ensures in
+    let b = ap (λ k. share_of k c.loop-at.shares.items) c.if-share-row.true in
+    let d = ap (λ xs. share_of c.args.row xs) c.loop-at.invariant in
+    omega (arith, a, b, d, c.requires)
+
+pub returns-then-share-row : goal.returns-then-share-row
+returns-then-share-row c =
+    let i = (goal.at.returns-then-share-row c).After-index-share in
+    let new = set c.loop-at.shares.items c.loop-at.at (record { row = c.args.row; amount = c.index-share.result.now.amount + c.args.amount }) in
+    subst (λ xs. IsShareGiven xs new c.args.row c.args.amount) c.loop-at.invariant
+    (given_at c.loop-at.shares.items new c.loop-at.at c.args.row c.args.amount c.index-share.result.now c.index-share.result.now (here i) c.index-share.ensures c.if-share-row.true refl)
+
+pub returns : goal.returns
+returns c =
+    subst (λ xs. IsShareGiven xs c.push.new.self.items c.args.row c.args.amount) c.loop-at.invariant
+    (given_push c.loop-at.shares.items c.push.new.self.items c.args.row c.args.amount c.in_ok-push.ensures.items)

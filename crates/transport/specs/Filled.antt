@@ -1,0 +1,42 @@
+-- What filling the rows ends with.
+use Rattle.std.specs.Prelude.{◌≡◌, ℕ, ◌+◌, ◌*◌, ◌<◌, ◌≤◌, Bool, List, map, length, slice_index_or}
+use Rattle.std.specs.List.{count_by}
+use Rattle.certificate.specs.RowView.{RowView}
+use Rattle.certificate.specs.IsShortage.{asked}
+use Rattle.transport.specs.Numbers.{number}
+use Rattle.transport.specs.Weights.{class_weight}
+use Rattle.transport.specs.Totals.{IsShared, IsHall}
+use Rattle.transport.specs.States.{cell}
+use Rattle.transport.specs.Settled.{IsSettled}
+use Rattle.transport.specs.declared.states.State.{State}
+use Rattle.transport.specs.declared.fills.Filled.{Filled}
+use Rattle.transport.specs.declared.fills.Filled.TheVariants.{Done, Stuck}
+
+-- how many CPUs row k asks for
+abbrev pub demand_of : List RowView → ℕ → ℕ
+demand_of rows k = slice_index_or (map (λ r. r.demand) rows) k 0
+
+-- each row holds as many CPUs as it asks for, and values and prices show that this costs the least;
+-- two turns for each row at least, one for the row and one for a class
+pub record IsDone (rows : List RowView) (firsts sizes : List ℕ) (s : State) (turns : ℕ) : Type 0 where
+  pub values_long : length s.values.items ≡ length rows
+  pub prices_long : length s.prices.items ≡ length sizes
+  pub settled : IsSettled (class_weight rows firsts) s
+  pub shared : IsShared (demand_of rows) (number sizes) (length rows) (length sizes) (cell s.holdings.items) s.free.items s.unmet.items
+  pub met : (k : ℕ) → k < length rows → number s.unmet.items k ≡ 0
+  pub at_least : 2 * length rows ≤ turns
+  pub at_most : turns ≤ asked rows * (length rows + length sizes)
+
+-- the reached rows have weights for the classes taken up alone, and ask for more CPUs than these have;
+-- a turn for each of these rows and classes at least
+pub record IsStuck (rows : List RowView) (firsts sizes : List ℕ) (reached taken : List Bool) (turns : ℕ) : Type 0 where
+  pub reached_long : length reached ≡ length rows
+  pub taken_long : length taken ≡ length sizes
+  pub hall : IsHall (class_weight rows firsts) (demand_of rows) (number sizes) (length rows) (length sizes) reached taken
+  pub some : 0 < count_by (λ b. b) reached
+  pub at_least : count_by (λ b. b) reached + count_by (λ b. b) taken ≤ turns
+  pub at_most : turns ≤ asked rows * (length rows + length sizes)
+
+abbrev pub IsFilled : List RowView → List ℕ → List ℕ → Filled → Type 0
+IsFilled rows firsts sizes (Done state turns) = IsDone rows firsts sizes state turns
+IsFilled rows firsts sizes (Stuck reached taken turns) = IsStuck rows firsts sizes reached.items taken.items turns

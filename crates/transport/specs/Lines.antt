@@ -1,0 +1,114 @@
+-- A row's offers in rising weight, and the classes of those that are opened.
+use Rattle.std.specs.Prelude.{◌≡◌, ℕ, ◌+◌, ◌<◌, ◌≤◌, true, Option, Some, None, List, [], ◌⊎◌, All, Contains, length, slice_get, slice_index_or, nat_lt, cond}
+use Rattle.std.specs.FinSet as set
+use Rattle.certificate.specs.Weight.{weight_in}
+use Rattle.certificate.specs.declared.rows.Offer.{Offer}
+use Rattle.transport.specs.Numbers.{number}
+use Rattle.transport.specs.Looks.{arc_at, IsPast}
+use Rattle.transport.specs.declared.lines.Bid.{Bid}
+use Rattle.transport.specs.declared.lines.Arc.{Arc}
+use Rattle.transport.specs.declared.lines.Line.{Line}
+
+-- the weight of a class in a row, which is its first CPU's
+abbrev pub weight_of : List Offer → List ℕ → ℕ → Option ℕ
+weight_of offers firsts g = cond (nat_lt g (length firsts)) (weight_in offers (number firsts g)) None
+
+abbrev pub bid_at : List Bid → ℕ → Bid
+bid_at bids i = slice_index_or bids i (record { weight = 0; offer = 0 })
+
+-- one of the first arcs has that class, at that weight
+pub record IsArc (arcs : List Arc) (upto g w : ℕ) : Type 0 where
+  pub place : ℕ
+  pub within : place < upto
+  pub class : (arc_at arcs place).class ≡ g
+  pub weight : (arc_at arcs place).weight ≡ w
+
+-- an offer is of that weight and has the class's first CPU
+pub record HasOffer (offers : List Offer) (firsts : List ℕ) (o g w : ℕ) : Type 0 where
+  pub offer : Offer
+  pub its : slice_get offers o ≡ Some offer
+  pub in_range : g < length firsts
+  pub has : set.contains offer.cpus (number firsts g) ≡ true
+  pub weight : offer.weight ≡ w
+
+-- such an offer is not opened yet
+pub record IsToCome (offers : List Offer) (firsts : List ℕ) (bids : List Bid) (opened g w : ℕ) : Type 0 where
+  pub place : ℕ
+  pub from : opened ≤ place
+  pub within : place < length bids
+  pub has : HasOffer offers firsts (bid_at bids place).offer g w
+
+-- an offer at its weight
+pub record IsBid (offers : List Offer) (b : Bid) : Type 0 where
+  pub offer : Offer
+  pub its : slice_get offers b.offer ≡ Some offer
+  pub weight : offer.weight ≡ b.weight
+
+-- the offers of a row by rising weight
+pub record AreBids (offers : List Offer) (bids : List Bid) : Type 0 where
+  pub rising : (i j : ℕ) → i ≤ j → j < length bids → (bid_at bids i).weight ≤ (bid_at bids j).weight
+  pub its : (i : ℕ) → i < length bids → IsBid offers (bid_at bids i)
+
+-- each of these is an offer, and each of the first offers is one of them
+pub record AreAllBids (offers : List Offer) (bids : List Bid) (upto : ℕ) : Type 0 where
+  pub its : All (IsBid offers) bids
+  pub all : (o : ℕ) (x : Offer) → o < upto → slice_get offers o ≡ Some x → Contains bids (record { weight = x.weight; offer = o })
+
+-- no offer is opened
+pub record IsNewLine (offers : List Offer) (l : Line) : Type 0 where
+  pub bids : AreBids offers l.bids.items
+  pub all : AreAllBids offers l.bids.items (length offers)
+  pub opened : l.opened ≡ 0
+  pub arcs : l.arcs.items ≡ []
+  pub cursor : l.cursor ≡ 0
+
+-- the classes of the opened offers are arcs, by rising weight
+pub record AreArcs (ws : ℕ → Option ℕ) (offers : List Offer) (firsts : List ℕ) (bids : List Bid) (opened : ℕ) (arcs : List Arc) : Type 0 where
+  pub sound : (i : ℕ) → i < length arcs → ws (arc_at arcs i).class ≡ Some (arc_at arcs i).weight
+  pub rising : (i j : ℕ) → i ≤ j → j < length arcs → (arc_at arcs i).weight ≤ (arc_at arcs j).weight
+  pub low : (i j : ℕ) → i < length arcs → opened ≤ j → j < length bids → (arc_at arcs i).weight ≤ (bid_at bids j).weight
+  pub all : (g w : ℕ) → ws g ≡ Some w → IsArc arcs (length arcs) g w ⊎ IsToCome offers firsts bids opened g w
+
+-- what a line keeps: arcs before the cursor are of full classes
+pub record IsLine (ws : ℕ → Option ℕ) (offers : List Offer) (firsts free : List ℕ) (l : Line) : Type 0 where
+  pub bids : AreBids offers l.bids.items
+  pub opened_in : l.opened ≤ length l.bids.items
+  pub arcs : AreArcs ws offers firsts l.bids.items l.opened l.arcs.items
+  pub cursor_in : l.cursor ≤ length l.arcs.items
+  pub full : (i : ℕ) → i < l.cursor → number free (arc_at l.arcs.items i).class ≡ 0
+  pub hits : (o g w : ℕ) → HasOffer offers firsts o g w → ws g ≡ Some w
+  pub classes : (g w : ℕ) → ws g ≡ Some w → g < length free
+  pub firsts_in : length firsts ≤ length free
+
+-- each class of the row is one of the arcs before the cursor, or lies past the limit
+abbrev pub IsScanned : (ℕ → Option ℕ) → Line → Option ℕ → Type 0
+IsScanned ws l limit = (g w : ℕ) → ws g ≡ Some w → IsArc l.arcs.items l.cursor g w ⊎ IsPast limit w
+
+-- a class with a free CPU whose weight is below the limit
+pub record IsFreeArc (ws : ℕ → Option ℕ) (free : List ℕ) (limit : Option ℕ) (l : Line) (arc : Arc) : Type 0 where
+  pub weighs : ws arc.class ≡ Some arc.weight
+  pub some_free : 0 < number free arc.class
+  pub near : IsPast limit arc.weight → ⊥
+  pub scanned : IsScanned ws l (Some arc.weight)
+
+abbrev pub IsFoundExit : (ℕ → Option ℕ) → List ℕ → Option ℕ → Line → Option Arc → Type 0
+IsFoundExit ws free limit l None = IsScanned ws l limit
+IsFoundExit ws free limit l (Some arc) = IsFreeArc ws free limit l arc
+
+-- the classes of an offer, of those numbers from some number on still to come, beside the arcs so far
+pub record IsOpening (ws : ℕ → Option ℕ) (offers : List Offer) (firsts : List ℕ) (bids : List Bid) (opened : ℕ) (old arcs : List Arc) (upto : ℕ) : Type 0 where
+  pub sound : (i : ℕ) → i < length arcs → ws (arc_at arcs i).class ≡ Some (arc_at arcs i).weight
+  pub rising : (i j : ℕ) → i ≤ j → j < length arcs → (arc_at arcs i).weight ≤ (arc_at arcs j).weight
+  pub low : (i j : ℕ) → i < length arcs → opened ≤ j → j < length bids → (arc_at arcs i).weight ≤ (bid_at bids j).weight
+  pub all : (g w : ℕ) → ws g ≡ Some w → IsArc arcs (length arcs) g w ⊎ (IsToCome offers firsts bids (opened + 1) g w ⊎ ((upto ≤ g) × HasOffer offers firsts (bid_at bids opened).offer g w))
+  pub longer : length old ≤ length arcs
+  pub kept : (i : ℕ) → i < length old → arc_at arcs i ≡ arc_at old i
+
+-- an offer to open, at its weight
+pub record CanOpen (ws : ℕ → Option ℕ) (offers : List Offer) (firsts : List ℕ) (bids : List Bid) (opened : ℕ) (offer : Offer) (weight : ℕ) (arcs : List Arc) : Type 0 where
+  pub bids_are : AreBids offers bids
+  pub in_bids : opened < length bids
+  pub its : slice_get offers (bid_at bids opened).offer ≡ Some offer
+  pub weighs : weight ≡ (bid_at bids opened).weight
+  pub arcs_are : AreArcs ws offers firsts bids opened arcs
+  pub hits : (o g w : ℕ) → HasOffer offers firsts o g w → ws g ≡ Some w

@@ -1,0 +1,72 @@
+-- The rows that a search has reached.
+use Rattle.std.specs.Prelude.{◌≡◌, ℕ, ◌<◌, ◌≤◌, Bool, true, false, List, [], ◌∷◌, ◌++◌, length, slice_set}
+use Rattle.std.specs.List.{count_by}
+use Rattle.transport.specs.Numbers.{number, is_marked}
+use Rattle.twins.specs.Holdings.{share_of}
+use Rattle.twins.specs.declared.holders.Share.{Share}
+use Rattle.transport.specs.declared.queues.Queue.{Queue}
+
+abbrev pub is_reached : Queue → ℕ → Bool
+is_reached q k = is_marked q.reached.items k
+
+abbrev pub via : Queue → ℕ → ℕ
+via q k = number q.via.items k
+
+abbrev pub room : Queue → ℕ → ℕ
+room q k = number q.room.items k
+
+abbrev pub place : Queue → ℕ → ℕ
+place q k = number q.place.items k
+
+abbrev pub row_at : Queue → ℕ → ℕ
+row_at q i = number q.order.items i
+
+-- each reached row stands at its place, once
+pub record IsQueue (rows : ℕ) (q : Queue) : Type 0 where
+  pub reached_long : length q.reached.items ≡ rows
+  pub via_long : length q.via.items ≡ rows
+  pub room_long : length q.room.items ≡ rows
+  pub place_long : length q.place.items ≡ rows
+  pub on : (i : ℕ) → i < length q.order.items → is_reached q (row_at q i) ≡ true
+  pub at : (i : ℕ) → i < length q.order.items → place q (row_at q i) ≡ i
+  pub within : (k : ℕ) → is_reached q k ≡ true → place q k < length q.order.items
+  pub placed : (k : ℕ) → is_reached q k ≡ true → row_at q (place q k) ≡ k
+  pub counted : count_by (λ b. b) q.reached.items ≡ length q.order.items
+
+-- one row is reached
+pub record IsAtRoot (rows root amount : ℕ) (q : Queue) : Type 0 where
+  pub queue : IsQueue rows q
+  pub one : length q.order.items ≡ 1
+  pub root_at : row_at q 0 ≡ root
+  pub only : (k : ℕ) → is_reached q k ≡ true → k ≡ root
+  pub some_room : room q root ≡ amount
+
+-- one row more is reached
+pub record IsReached (old new : Queue) (k g amount : ℕ) : Type 0 where
+  pub reached : new.reached.items ≡ slice_set old.reached.items k true
+  pub order : new.order.items ≡ old.order.items ++ k ∷ []
+  pub by : new.via.items ≡ slice_set old.via.items k g
+  pub rooms : new.room.items ≡ slice_set old.room.items k amount
+  pub places : new.place.items ≡ slice_set old.place.items k (length old.order.items)
+
+-- a row that was reached before is reached as it was
+pub record IsKept (old new : Queue) (k : ℕ) : Type 0 where
+  pub reached : is_reached new k ≡ true
+  pub by : via new k ≡ via old k
+  pub rooms : room new k ≡ room old k
+  pub places : place new k ≡ place old k
+
+-- a row that is newly reached, through a class of which it holds some, with no more room than that
+pub record IsNewRow (old new : Queue) (g most : ℕ) (shares : List Share) (k : ℕ) : Type 0 where
+  pub by : via new k ≡ g
+  pub some_room : 0 < room new k
+  pub less : room new k ≤ most
+  pub held : room new k ≤ share_of k shares
+  pub later : length old.order.items ≤ place new k
+
+-- the holders of some of these shares are reached
+pub record IsGrown (old new : Queue) (g most : ℕ) (done shares : List Share) : Type 0 where
+  pub kept : (k : ℕ) → is_reached old k ≡ true → IsKept old new k
+  pub fresh : (k : ℕ) → is_reached old k ≡ false → is_reached new k ≡ true → IsNewRow old new g most shares k
+  pub longer : length old.order.items ≤ length new.order.items
+  pub held : (k : ℕ) → 0 < share_of k done → is_reached new k ≡ true

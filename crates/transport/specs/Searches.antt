@@ -1,0 +1,133 @@
+-- What holds in the course of a search.
+use Rattle.std.specs.Prelude.{◌≡◌, ℕ, ◌+◌, ◌*◌, ◌<◌, ◌≤◌, Bool, true, false, List, [], ◌∷◌, ◌++◌, Option, Some, None, ◌⊎◌, length, slice_index_or, slice_set}
+use Rattle.transport.specs.Numbers.{number, is_marked, IsIn, IsListing}
+use Rattle.transport.specs.Queues.{IsQueue, is_reached, via, room, place, row_at}
+use Rattle.transport.specs.Duals.{IsDual}
+use Rattle.transport.specs.declared.queues.Queue.{Queue}
+use Rattle.transport.specs.declared.notes.Near.{Near}
+use Rattle.transport.specs.declared.notes.Exit.{Exit}
+use Rattle.transport.specs.declared.notes.Notes.{Notes}
+use Rattle.transport.specs.declared.takings.Takings.{Takings}
+
+abbrev pub near_of : Notes → ℕ → Option Near
+near_of ns g = slice_index_or ns.nears.items g None
+
+abbrev pub is_taken : Takings → ℕ → Bool
+is_taken ts g = is_marked ts.taken.items g
+
+-- a class is noted with a reached row that has a weight for it, and has no free CPU
+pub record IsNoted (ws : ℕ → ℕ → Option ℕ) (free : List ℕ) (q : Queue) (ns : Notes) (g : ℕ) (n : Near) : Type 0 where
+  pub listed : IsIn ns.noted.items g
+  pub there : is_reached q n.row ≡ true
+  pub weighs : ws n.row g ≡ Some n.weight
+  pub full : number free g ≡ 0
+
+-- a class with a free CPU, and a reached row that has a weight for it
+pub record IsExit (ws : ℕ → ℕ → Option ℕ) (free : List ℕ) (q : Queue) (e : Exit) : Type 0 where
+  pub there : is_reached q e.near.row ≡ true
+  pub weighs : ws e.near.row e.class ≡ Some e.near.weight
+  pub some_free : 0 < number free e.class
+
+-- a row's value is the weight with which the class is noted, with the price
+pub record IsLinked (values prices : List ℕ) (ns : Notes) (g : ℕ) : Type 0 where
+  pub near : Near
+  pub its : near_of ns g ≡ Some near
+  pub equal : number values near.row ≡ near.weight + number prices g
+
+-- a reached row holds some of the class through which it was reached, and the row before it was reached earlier
+pub record IsEntered (cells : ℕ → ℕ → ℕ) (q : Queue) (ns : Notes) (ts : Takings) (k : ℕ) : Type 0 where
+  pub taken : is_taken ts (via q k) ≡ true
+  pub held : room q k ≤ cells k (via q k)
+  pub near : Near
+  pub its : near_of ns (via q k) ≡ Some near
+  pub before : place q near.row < place q k
+  pub less : room q k ≤ room q near.row
+
+-- no weight is as high as this: 2 ^ 25
+abbrev pub weight_limit : ℕ
+weight_limit = 33554432
+
+-- between searches no value and no price is above this: 2 ^ 34
+abbrev pub most : ℕ
+most = 17179869184
+
+-- and in a search none above this: 2 ^ 36
+abbrev pub top : ℕ
+top = 68719476736
+
+-- a row's value is as far from the root's as the classes between them allow
+pub record IsClose (values : List ℕ) (q : Queue) (k : ℕ) : Type 0 where
+  pub up : number values k ≤ number values (row_at q 0) + place q k * weight_limit
+  pub down : number values (row_at q 0) ≤ number values k + place q k * weight_limit
+
+pub record IsSearch (ws : ℕ → ℕ → Option ℕ) (cells : ℕ → ℕ → ℕ) (values prices free : List ℕ) (q : Queue) (ns : Notes) (ts : Takings) : Type 0 where
+  pub queue : IsQueue (length values) q
+  pub listing : IsListing ts.order.items ts.taken.items
+  pub taken_long : length ts.taken.items ≡ length prices
+  pub nears_long : length ns.nears.items ≡ length prices
+  pub free_long : length free ≡ length prices
+  pub dual : IsDual ws values prices cells free
+  pub rooted : 0 < length q.order.items
+  pub entries : (k : ℕ) → is_reached q k ≡ true → 0 < place q k → IsEntered cells q ns ts k
+  pub rooms : (k : ℕ) → is_reached q k ≡ true → 0 < room q k
+  pub noted : (g : ℕ) (n : Near) → near_of ns g ≡ Some n → IsNoted ws free q ns g n
+  pub noted_in : (i : ℕ) → i < length ns.noted.items → number ns.noted.items i < length prices
+  pub linked : (g : ℕ) → is_taken ts g ≡ true → IsLinked values prices ns g
+  pub holders : (k g : ℕ) → is_taken ts g ≡ true → 0 < cells k g → is_reached q k ≡ true
+  pub exit : (e : Exit) → ns.exit ≡ Some e → IsExit ws free q e
+  pub close : (k : ℕ) → is_reached q k ≡ true → IsClose values q k
+  pub others_low : (k : ℕ) → is_reached q k ≡ false → number values k ≤ most
+  pub prices_low : (g : ℕ) → is_taken ts g ≡ false → number prices g ≤ most
+  pub values_fit : (k : ℕ) → number values k ≤ top
+  pub prices_fit : (g : ℕ) → number prices g ≤ top
+
+-- a class is noted with a row that is no further from it
+pub record IsNearer (values : List ℕ) (ns : Notes) (k g w : ℕ) : Type 0 where
+  pub near : Near
+  pub its : near_of ns g ≡ Some near
+  pub least : near.weight + number values k ≤ w + number values near.row
+
+-- the exit is no further from its row than the class from this one
+pub record IsPastExit (values prices : List ℕ) (ns : Notes) (k g w : ℕ) : Type 0 where
+  pub exit : Exit
+  pub its : ns.exit ≡ Some exit
+  pub least : exit.near.weight + number values k ≤ w + number prices g + number values exit.near.row
+
+abbrev pub IsCovered : List ℕ → List ℕ → Notes → ℕ → ℕ → ℕ → Type 0
+IsCovered values prices ns k g w = IsNearer values ns k g w ⊎ IsPastExit values prices ns k g w
+
+-- the classes of the rows up to some place that are not taken up
+pub record AllCovered (ws : ℕ → ℕ → Option ℕ) (values prices : List ℕ) (q : Queue) (ns : Notes) (ts : Takings) (looked : ℕ) : Type 0 where
+  pub covered : (k g w : ℕ) → is_reached q k ≡ true → place q k < looked → ws k g ≡ Some w → is_taken ts g ≡ false → IsCovered values prices ns k g w
+
+-- one class more is taken up
+pub record IsTaken (old new : Takings) (g : ℕ) : Type 0 where
+  pub taken : new.taken.items ≡ slice_set old.taken.items g true
+  pub order : new.order.items ≡ old.order.items ++ g ∷ []
+
+-- a slack, where neither the exit's nor that of a noted class is less
+pub record IsLeast (values prices : List ℕ) (ns : Notes) (ts : Takings) (by : ℕ) : Type 0 where
+  pub exit : (e : Exit) → ns.exit ≡ Some e → by + number values e.near.row ≤ e.near.weight + number prices e.class
+  pub noted : (g : ℕ) (n : Near) → near_of ns g ≡ Some n → is_taken ts g ≡ false → by + number values n.row ≤ n.weight + number prices g
+
+-- the exit lies at that slack, or a noted class that is not taken up
+pub record IsExitAt (values prices : List ℕ) (ns : Notes) (by : ℕ) : Type 0 where
+  pub exit : Exit
+  pub its : ns.exit ≡ Some exit
+  pub equal : by + number values exit.near.row ≡ exit.near.weight + number prices exit.class
+
+pub record IsClassAt (values prices : List ℕ) (ns : Notes) (ts : Takings) (by : ℕ) : Type 0 where
+  pub class : ℕ
+  pub near : Near
+  pub its : near_of ns class ≡ Some near
+  pub left : is_taken ts class ≡ false
+  pub equal : by + number values near.row ≡ near.weight + number prices class
+
+abbrev pub IsAttained : List ℕ → List ℕ → Notes → Takings → ℕ → Type 0
+IsAttained values prices ns ts by = IsExitAt values prices ns by ⊎ IsClassAt values prices ns ts by
+
+-- rows and weights are within their limits
+pub record AreWeights (ws : ℕ → ℕ → Option ℕ) (rows classes : ℕ) : Type 0 where
+  pub few : rows ≤ 256
+  pub low : (k g w : ℕ) → ws k g ≡ Some w → w < weight_limit
+  pub class : (k g w : ℕ) → ws k g ≡ Some w → g < classes

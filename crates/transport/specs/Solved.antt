@@ -1,0 +1,76 @@
+-- What a problem comes to: a least plan with what proves it, or a shortage.
+use Rattle.std.specs.Prelude.{◌≡◌, ℕ, ◌+◌, ◌*◌, ◌<◌, ◌≤◌, List, All, length}
+use Rattle.std.specs.FinSet as set
+use Rattle.cpu_set.specs.Ids.{Ids}
+use Rattle.certificate.specs.RowView.{RowView}
+use Rattle.certificate.specs.PricesView.{PricesView}
+use Rattle.certificate.specs.IsLeast.{IsLeast}
+use Rattle.certificate.specs.IsProved.{IsProved}
+use Rattle.certificate.specs.IsDealt.{IsDealt}
+use Rattle.certificate.specs.IsShortage.{asked, IsShortage, HasNoPlan}
+use Rattle.certificate.specs.declared.price_lists.Price.{Price}
+use Rattle.twins.specs.IsGrouping.{IsGrouping}
+use Rattle.twins.specs.IsPriced.{class_prices}
+use Rattle.transport.specs.declared.answers.Answer.{Answer}
+use Rattle.transport.specs.declared.answers.Answer.TheVariants.{Plan, Short}
+
+-- a price for each class of twins whose price is not 0, and no other
+pub record IsPricedByClass (rows : List RowView) (of_cpu : List Price) : Type 0 where
+  pub classes : List Ids
+  pub grouping : IsGrouping rows classes
+  pub amounts : List ℕ
+  pub as_many : length amounts ≡ length classes
+  pub its : of_cpu ≡ class_prices classes amounts
+
+-- as many turns as there are rows and classes of twins at most, for each CPU that is asked for
+pub record IsWithinTurns (rows : List RowView) (turns : ℕ) : Type 0 where
+  pub classes : List Ids
+  pub grouping : IsGrouping rows classes
+  pub within : turns ≤ asked rows * (length rows + length classes)
+
+-- a plan that its values and prices prove to be of least cost, that cost the total; or a shortage
+abbrev pub IsRight : List RowView → Answer → Type 0
+IsRight rows (Plan sets prices total turns) = IsProved rows sets prices total
+IsRight rows (Short members turns) = IsShortage rows members.items
+
+-- a plan where there is one, and none is less; and a shortage only where there is none
+abbrev pub IsDecided : List RowView → Answer → Type 0
+IsDecided rows (Plan sets prices total turns) = IsLeast rows sets
+IsDecided rows (Short members turns) = HasNoPlan rows
+
+-- twins go to the rows in order, the lower CPU first
+abbrev pub AreTwinsDealt : List RowView → Answer → Type 0
+AreTwinsDealt rows (Plan sets prices total turns) = IsDealt rows sets
+AreTwinsDealt rows (Short members turns) = Unit {0}
+
+-- prices of whole classes, above 0, of sets that are not empty
+abbrev pub ArePricesOfClasses : List RowView → Answer → Type 0
+ArePricesOfClasses rows (Plan sets prices total turns) =
+    IsPricedByClass rows prices.of_cpu × All (λ p. (0 < p.amount) × (0 < set.len p.cpus)) prices.of_cpu
+ArePricesOfClasses rows (Short members turns) = Unit {0}
+
+-- the first and the last of a way for each row of a plan, each member of a shortage, and not more than the bound
+abbrev pub AreTurns : List RowView → Answer → Type 0
+AreTurns rows (Plan sets prices total turns) = (2 * length rows ≤ turns) × IsWithinTurns rows turns
+AreTurns rows (Short members turns) = (length members.items ≤ turns) × IsWithinTurns rows turns
+
+-- a plan, with all of that
+pub record IsSolvedPlan (rows : List RowView) (sets : List Ids) (prices : PricesView) (total turns : ℕ) : Type 0 where
+  pub proved : IsProved rows sets prices total
+  pub least : IsLeast rows sets
+  pub dealt : IsDealt rows sets
+  pub by_class : IsPricedByClass rows prices.of_cpu
+  pub some : All (λ p. (0 < p.amount) × (0 < set.len p.cpus)) prices.of_cpu
+  pub at_least : 2 * length rows ≤ turns
+  pub within : IsWithinTurns rows turns
+
+-- a shortage, with all of that
+pub record IsSolvedShortage (rows : List RowView) (members : List ℕ) (turns : ℕ) : Type 0 where
+  pub shortage : IsShortage rows members
+  pub none : HasNoPlan rows
+  pub at_least : length members ≤ turns
+  pub within : IsWithinTurns rows turns
+
+abbrev pub IsSolved : List RowView → Answer → Type 0
+IsSolved rows (Plan sets prices total turns) = IsSolvedPlan rows sets prices total turns
+IsSolved rows (Short members turns) = IsSolvedShortage rows members.items turns

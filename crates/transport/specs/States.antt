@@ -1,0 +1,97 @@
+-- Rows and classes between two searches, and in one.
+use Rattle.std.specs.Prelude.{◌≡◌, ℕ, ◌+◌, ◌<◌, ◌≤◌, true, false, ◌⊎◌, Option, Some, None, List, [], length, slice_index_or}
+use Rattle.transport.specs.Numbers.{number}
+use Rattle.transport.specs.Shares.{AllBelow}
+use Rattle.twins.specs.Holdings.{share_of}
+use Rattle.transport.specs.Queues.{IsQueue, IsGrown, room, row_at}
+use Rattle.transport.specs.Searches.{near_of, is_taken, top, IsSearch, AllCovered, IsAttained, IsTaken, AreWeights}
+use Rattle.transport.specs.declared.notes.Near.{Near}
+use Rattle.transport.specs.declared.notes.Exit.{Exit}
+use Rattle.transport.specs.declared.notes.Notes.{Notes}
+use Rattle.transport.specs.declared.takings.Takings.{Takings}
+use Rattle.twins.specs.declared.holders.Share.{Share}
+use Rattle.transport.specs.declared.states.State.{State}
+use Rattle.transport.specs.declared.queues.Queue.{Queue}
+use Rattle.transport.specs.declared.trees.Tree.{Tree}
+
+-- the shares of a class
+abbrev pub shares_of : List (List Share) → ℕ → List Share
+shares_of holdings g = slice_index_or holdings g []
+
+-- how many CPUs of a class a row holds
+abbrev pub cell : List (List Share) → ℕ → ℕ → ℕ
+cell holdings k g = share_of k (shares_of holdings g)
+
+-- holdings of so many classes, by so many rows
+pub record AreHoldings (rows classes : ℕ) (holdings : List (List Share)) : Type 0 where
+  pub long : length holdings ≡ classes
+  pub rows_in : (g : ℕ) → AllBelow rows (shares_of holdings g)
+
+-- what holds in the course of a search
+pub record IsRunning (ws : ℕ → ℕ → Option ℕ) (s : State) (t : Tree) : Type 0 where
+  pub fit : AreWeights ws (length s.values.items) (length s.prices.items)
+  pub search : IsSearch ws (cell s.holdings.items) s.values.items s.prices.items s.free.items t.queue t.notes t.takings
+  pub holdings : AreHoldings (length s.values.items) (length s.prices.items) s.holdings.items
+
+-- the classes of the rows up to some place that are not taken up are covered
+abbrev pub HasLooked : (ℕ → ℕ → Option ℕ) → State → Tree → ℕ → Type 0
+HasLooked ws s t looked = AllCovered ws s.values.items s.prices.items t.queue t.notes t.takings looked
+
+-- a class is taken up, and its holders are reached
+pub record IsTakenUp (old new : Tree) (g k : ℕ) (shares : List Share) : Type 0 where
+  pub taken : IsTaken old.takings new.takings g
+  pub queue : IsQueue (length old.queue.reached.items) new.queue
+  pub grown : IsGrown old.queue new.queue g (room old.queue k) shares shares
+  pub notes : new.notes ≡ old.notes
+
+-- both begin at the same row, with the same room
+pub record IsSameRoot (old new : Queue) : Type 0 where
+  pub row : row_at new 0 ≡ row_at old 0
+  pub rooms : room new (row_at old 0) ≡ room old (row_at old 0)
+
+-- the classes of a list that are at slack 0 are taken up
+pub record HasTaken (s : State) (old new : Tree) (done : List ℕ) : Type 0 where
+  pub running : (ws : ℕ → ℕ → Option ℕ) → IsRunning ws s old → IsRunning ws s new
+  pub looked : (ws : ℕ → ℕ → Option ℕ) (upto : ℕ) → upto ≤ length old.queue.order.items → IsRunning ws s old → HasLooked ws s old upto → HasLooked ws s new upto
+  pub notes : new.notes ≡ old.notes
+  pub longer : length old.queue.order.items ≤ length new.queue.order.items
+  pub root : (ws : ℕ → ℕ → Option ℕ) → IsRunning ws s old → IsSameRoot old.queue new.queue
+  pub kept : (g : ℕ) → is_taken old.takings g ≡ true → is_taken new.takings g ≡ true
+  pub all : (i : ℕ) (n : Near) → i < length done → near_of old.notes (number done i) ≡ Some n
+      → number s.values.items n.row ≡ n.weight + number s.prices.items (number done i) → is_taken new.takings (number done i) ≡ true
+  pub grew : (new.takings ≡ old.takings) ⊎ (length old.takings.order.items < length new.takings.order.items)
+
+-- neither an exit nor a class of these is left
+pub record IsNoneLeft (ns : Notes) (ts : Takings) (done : List ℕ) : Type 0 where
+  pub exit : ns.exit ≡ None
+  pub noted : (i : ℕ) (n : Near) → i < length done → near_of ns (number done i) ≡ Some n → is_taken ts (number done i) ≡ true
+
+-- the least slack of the exit and of those of these classes that are not taken up
+pub record IsLeastOf (values prices : List ℕ) (ns : Notes) (ts : Takings) (done : List ℕ) (by : ℕ) : Type 0 where
+  pub exit : (e : Exit) → ns.exit ≡ Some e → by + number values e.near.row ≤ e.near.weight + number prices e.class
+  pub noted : (i : ℕ) (n : Near) → i < length done → near_of ns (number done i) ≡ Some n → is_taken ts (number done i) ≡ false
+      → by + number values n.row ≤ n.weight + number prices (number done i)
+  pub attained : IsAttained values prices ns ts by
+
+abbrev pub IsLeastUpTo : List ℕ → List ℕ → Notes → Takings → List ℕ → Option ℕ → Type 0
+IsLeastUpTo values prices ns ts done None = IsNoneLeft ns ts done
+IsLeastUpTo values prices ns ts done (Some by) = IsLeastOf values prices ns ts done by
+
+-- how far a class is from the row with which it is noted, unless it is taken up or not noted
+pub record IsSlack (values prices : List ℕ) (ns : Notes) (ts : Takings) (g by : ℕ) : Type 0 where
+  pub near : Near
+  pub its : near_of ns g ≡ Some near
+  pub left : is_taken ts g ≡ false
+  pub equal : by + number values near.row ≡ near.weight + number prices g
+
+abbrev pub IsTakenOrUnseen : Notes → Takings → ℕ → Type 0
+IsTakenOrUnseen ns ts g = (n : Near) → near_of ns g ≡ Some n → is_taken ts g ≡ true
+
+-- what a search knows of a class that is noted, or of the exit
+pub record IsInReach (s : State) (t : Tree) (g : ℕ) (n : Near) : Type 0 where
+  pub class : g < length s.prices.items
+  pub row : n.row < length s.values.items
+  pub fits : number s.prices.items g ≤ top
+  pub below : number s.values.items n.row ≤ n.weight + number s.prices.items g
+  pub in_rooms : n.row < length t.queue.room.items
+  pub some_room : 0 < room t.queue n.row

@@ -1,0 +1,125 @@
+ghost use Rattle.std.specs.Prelude.{◌≡◌, ℕ, ◌+◌, ◌*◌, ◌<◌, ◌≤◌, ◌^◌, length, IfOk};
+ghost use Rattle.certificate.specs.AreWithin.{AreRowsWithin};
+ghost use Rattle.transport.specs.Numbers.{number};
+ghost use Rattle.transport.specs.Weights.{weights, AreLines, AreNewLines};
+ghost use Rattle.transport.specs.Totals.{class_total};
+ghost use Rattle.transport.specs.States.{cell};
+ghost use Rattle.transport.specs.Settled.{IsSettled};
+ghost use Rattle.transport.specs.Filled.{IsFilled};
+ghost use Rattle.transport.specs.Filling.{CanFill, IsSearched, IsRowFilled};
+ghost use Rattle.transport.specs.declared.fills.Filled.TheVariants.{Stuck};
+
+use crate::lines::Line;
+use crate::pushes::push;
+use crate::searches::search;
+use crate::trees::Tree;
+use crate::{State, Table};
+use certificate::Row;
+use std::alloc::{AllocError, Global};
+
+/// What the rows get.
+#[derive(Debug, Drop)]
+pub enum Filled {
+    /// Each row has what it asks for.
+    Done {
+        state: State,
+        turns: u64,
+    },
+    /// The reached rows ask for more CPUs than the classes have that they may have, which are those taken up.
+    Stuck {
+        reached: Vec<bool>,
+        taken: Vec<bool>,
+        turns: u64,
+    },
+}
+
+/// Fills the rows one after another, with CPUs of classes of the given sizes.
+///
+/// A turn is counted for each row or class that a search takes up: at most one search for each CPU that is
+/// asked for, and in a search at most one turn for each row and class.
+pub fn fill(alloc: Global, table: &Table, sizes: &[u32]) -> Result<Filled, AllocError>
+    requires fit { AreRowsWithin table.now.rows.now }
+    requires classes { length table.now.firsts.items ≡ length sizes.now }
+    requires few { length sizes.now ≤ 1024 }
+    ensures { IfOk result (IsFilled table.now.rows.now table.now.firsts.items sizes.now) }
+{
+    let mut state = State::first(alloc, table, sizes)?;
+    let mut lines = lines_of(alloc, table.rows)?;
+    let mut turns = 0;
+    for row in 0..table.rows.len() {
+        if let Some(tree) = fill_row(alloc, table, &mut state, &mut lines, row, &mut turns)? {
+            return Ok(stuck(tree, turns));
+        }
+    }
+    Ok(Filled::Done { state, turns })
+}
+
+/// The line of each row.
+fn lines_of(alloc: Global, rows: &[Row]) -> Result<Vec<Line>, AllocError>
+    ensures { IfOk result (λ lines. AreNewLines rows.now lines.items (length rows.now)) }
+{
+    let mut lines = Vec::new(alloc);
+    for row in rows {
+        lines.push(Line::new(alloc, row.offers.as_slice())?)?;
+    }
+    Ok(lines)
+}
+
+/// Searches until the row has what it asks for, or hands back the search that found nothing.
+fn fill_row(
+    alloc: Global,
+    table: &Table,
+    state: &mut State,
+    lines: &mut [Line],
+    row: usize,
+    turns: &mut u64,
+) -> Result<Option<Tree>, AllocError>
+    requires { CanFill table.now row state.old lines.old turns.old }
+    ensures { IfOk result (IsRowFilled table.now row state.old state.new lines.new turns.old turns.new) }
+{
+    'searches: while state.unmet[row] > 0 {
+        if let Some(tree) = search_for(alloc, table, state, lines, row, turns)? {
+            return Ok(Some(tree));
+        }
+    }
+    Ok(None)
+}
+
+/// Searches once for the row: moves CPUs along the way that is found, or hands back the search.
+fn search_for(
+    alloc: Global,
+    table: &Table,
+    state: &mut State,
+    lines: &mut [Line],
+    row: usize,
+    turns: &mut u64,
+) -> Result<Option<Tree>, AllocError>
+    requires can { CanFill table.now row state.old lines.old turns.old }
+    requires lacks { 0 < number state.old.unmet.items row }
+    ensures { IfOk result (IsSearched table.now row state.old state.new lines.new turns.old turns.new) }
+{
+    let wanted = state.unmet[row];
+    let mut tree = Tree::at_root(alloc, table.rows.len(), state.free.len(), row, wanted)?;
+    let found = search(table, state, lines, &mut tree)?;
+    *turns += (tree.queue.order.len() + tree.takings.order.len()) as u64;
+    let Some(exit) = found else {
+        return Ok(Some(tree));
+    };
+    *turns += 1;
+    let amount = tree.queue.room[exit.near.row].min(state.free[exit.class]);
+    push(state, &tree, exit, amount)?;
+    Ok(None)
+}
+
+/// The rows that a search reached, and the classes that it took up.
+fn stuck(tree: Tree, turns: u64) -> Filled
+    ensures { result ≡ Stuck tree.queue.reached tree.takings.taken turns }
+{
+    let queue = tree.queue;
+    let takings = tree.takings;
+    Filled::Stuck {
+        reached: queue.reached,
+        taken: takings.taken,
+        turns,
+    }
+}

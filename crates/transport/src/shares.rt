@@ -1,0 +1,44 @@
+ghost use Rattle.std.specs.Prelude.{◌≡◌, ◌+◌, ◌<◌, ◌≤◌, ◌^◌, OnOk};
+ghost use Rattle.twins.specs.Holdings.{share_of};
+ghost use Rattle.transport.specs.Shares.{IsShareGiven, IsShareTaken};
+
+use std::alloc::AllocError;
+use twins::Share;
+
+/// Gives a row some CPUs of the class.
+pub(crate) fn give(shares: &mut Vec<Share>, row: usize, amount: u32) -> Result<(), AllocError>
+    requires { share_of row shares.old.items + amount < 2 ^ 32 }
+    ensures { OnOk result (IsShareGiven shares.old.items shares.new.items row amount) }
+{
+    for at in 0..shares.len() {
+        let share = shares[at];
+        if share.row == row {
+            shares[at] = Share {
+                row,
+                amount: share.amount + amount,
+            };
+            return Ok(());
+        }
+    }
+    shares.push(Share { row, amount })?;
+    Ok(())
+}
+
+/// Takes some CPUs of the class from a row.
+pub(crate) fn take(shares: &mut Vec<Share>, row: usize, amount: u32)
+    requires { amount ≤ share_of row shares.old.items }
+    ensures { IsShareTaken shares.old.items shares.new.items row amount }
+{
+    let mut left = amount;
+    for at in 0..shares.len() {
+        let share = shares[at];
+        if share.row == row {
+            let taken = left.min(share.amount);
+            shares[at] = Share {
+                row,
+                amount: share.amount - taken,
+            };
+            left -= taken;
+        }
+    }
+}

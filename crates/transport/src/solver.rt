@@ -1,0 +1,133 @@
+//! The plan or the shortage that a problem comes to.
+ghost use Rattle.std.specs.Prelude.{◌≡◌, ◌≤◌, IsTrue, IfOk, length, map};
+ghost use Rattle.std.specs.FinSet as set;
+ghost use Rattle.certificate.specs.AreWithin.{AreRowsWithin};
+ghost use Rattle.certificate.specs.Limits.{rows_fit};
+ghost use Rattle.twins.specs.IsGrouping.{IsGrouping};
+ghost use Rattle.transport.specs.Filled.{IsDone, IsStuck, IsFilled};
+ghost use Rattle.transport.specs.Firsts.{first_of};
+ghost use Rattle.transport.specs.Solved.{IsRight, IsDecided, AreTwinsDealt, ArePricesOfClasses, AreTurns, IsSolved};
+
+use crate::outlines::{firsts_of, sizes_of};
+use crate::places::places_of;
+use crate::{Answer, Filled, State, Table, fill};
+use certificate::{
+    Plan, Prices, Problem, Row, a_shortage_leaves_no_plan, no_plan_is_below_a_bound, plan_cost,
+    what_is_within_the_limits,
+};
+use cpu_set::{CPU_LIMIT, IdSet};
+use std::alloc::{AllocError, Global};
+use twins::{
+    Classes, classes_prove_plans, closed_rows_are_short, deal, deals_of_twins_are_dealt, group,
+    prices_of,
+};
+
+/// A plan of the least cost with the values and prices that show it, or the rows of a shortage.
+///
+/// Nothing is refused but for want of memory. `turns` counts the rows and the classes of twins that the
+/// searches take up.
+pub fn solve(alloc: Global, problem: &Problem) -> Result<Answer, AllocError>
+    requires { IsTrue (rows_fit problem.now) }
+
+    // A plan that its values and prices prove to cost the least, or a shortage: what `check_plan` and
+    // `check_shortage` accept.
+    ensures right { IfOk result (IsRight problem.now) }
+
+    // Hence a plan wherever there is one, and none costs less; and a shortage only where there is none.
+    ensures decided { IfOk result (IsDecided problem.now) }
+
+    // Of CPUs that are alike to all rows the lower ones go to the earlier rows.
+    ensures dealt { IfOk result (AreTwinsDealt problem.now) }
+
+    // A price for each class of twins whose price is not 0, and no others.
+    ensures priced { IfOk result (ArePricesOfClasses problem.now) }
+
+    // At most as many turns as there are rows and classes, for each CPU that is asked for; two at least for
+    // each row of a plan, and one for each member of a shortage.
+    ensures turns { IfOk result (AreTurns problem.now) }
+{
+    solved(alloc, problem)
+}
+
+fn solved(alloc: Global, problem: &Problem) -> Result<Answer, AllocError>
+    requires { IsTrue (rows_fit problem.now) }
+    ensures { IfOk result (IsSolved problem.now) }
+{
+    what_is_within_the_limits();
+    let classes = group(alloc, problem)?;
+    match filled(alloc, problem.rows.as_slice(), classes.sets.as_slice())? {
+        Filled::Done { state, turns } => planned(alloc, problem, &classes, state, turns),
+        Filled::Stuck {
+            reached,
+            taken,
+            turns,
+        } => short(alloc, problem, &classes, &reached, &taken, turns),
+    }
+}
+
+/// The rows, filled with CPUs of these classes.
+fn filled(alloc: Global, rows: &[Row], classes: &[IdSet]) -> Result<Filled, AllocError>
+    requires fit { AreRowsWithin rows.now }
+    requires few { length classes.now ≤ CPU_LIMIT }
+    ensures { IfOk result (IsFilled rows.now (map first_of classes.now) (map (λ s. set.len s) classes.now)) }
+{
+    let firsts = firsts_of(alloc, classes)?;
+    let sizes = sizes_of(alloc, classes)?;
+    let table = Table { rows, firsts };
+    fill(alloc, &table, &sizes)
+}
+
+/// The plan of rows that have what they ask for, of each class so many CPUs.
+fn planned(
+    alloc: Global,
+    problem: &Problem,
+    classes: &Classes,
+    state: State,
+    turns: u64,
+) -> Result<Answer, AllocError>
+    requires fit { IsTrue (rows_fit problem.now) }
+    requires grouping { IsGrouping problem.now classes.now }
+    requires done { IsDone problem.now (map first_of classes.now) (map (λ s. set.len s) classes.now) state turns }
+    ensures { IfOk result (IsSolved problem.now) }
+{
+    classes_prove_plans();
+    deals_of_twins_are_dealt();
+    no_plan_is_below_a_bound();
+    let rows = problem.rows.as_slice();
+    let sets = deal(alloc, rows.len(), classes, &state.holdings)?;
+    let of_cpu = prices_of(alloc, classes, &state.prices)?;
+    let total = plan_cost(rows, &sets);
+    let plan = Plan { sets };
+    let prices = Prices {
+        values: state.values,
+        of_cpu,
+    };
+    Ok(Answer::Plan {
+        plan,
+        prices,
+        total,
+        turns,
+    })
+}
+
+/// The shortage of rows that ask for more CPUs than the classes have that they may have.
+fn short(
+    alloc: Global,
+    problem: &Problem,
+    classes: &Classes,
+    reached: &[bool],
+    taken: &[bool],
+    turns: u64,
+) -> Result<Answer, AllocError>
+    requires grouping { IsGrouping problem.now classes.now }
+    requires stuck { IsStuck problem.now (map first_of classes.now) (map (λ s. set.len s) classes.now) reached.now taken.now turns }
+    ensures { IfOk result (IsSolved problem.now) }
+{
+    closed_rows_are_short();
+    a_shortage_leaves_no_plan();
+    let members = places_of(alloc, reached)?;
+    Ok(Answer::Short { members, turns })
+}
+
+#[cfg(test)]
+mod tests;

@@ -1,0 +1,36 @@
+ghost use Rattle.std.specs.Prelude.{◌≡◌, ◌<◌, length, OnOk};
+ghost use Rattle.transport.specs.Shares.{AllBelow};
+ghost use Rattle.transport.specs.Queues.{IsQueue, room};
+ghost use Rattle.transport.specs.States.{IsTakenUp};
+
+use crate::queues::reach_holders;
+use crate::trees::Tree;
+use std::alloc::AllocError;
+use twins::Share;
+
+/// The classes that a search has taken up, in their order.
+#[derive(Debug, Drop)]
+pub(crate) struct Takings {
+    pub(crate) taken: Vec<bool>,
+    pub(crate) order: Vec<usize>,
+}
+
+/// Takes up a class: the rows that hold some of it are reached.
+pub(crate) fn take_class(
+    tree: &mut Tree,
+    shares: &[Share],
+    class: usize,
+    from: usize,
+) -> Result<(), AllocError>
+    requires queue { IsQueue (length tree.old.queue.reached.items) tree.old.queue }
+    requires rows { AllBelow (length tree.old.queue.reached.items) shares.now }
+    requires class { class < length tree.old.takings.taken.items }
+    requires from { from < length tree.old.queue.room.items }
+    requires room { 0 < room tree.old.queue from }
+    ensures { OnOk result (IsTakenUp tree.old tree.new class from shares.now) }
+{
+    tree.takings.order.push(class)?;
+    tree.takings.taken[class] = true;
+    let room = tree.queue.room[from];
+    reach_holders(&mut tree.queue, shares, class, room)
+}

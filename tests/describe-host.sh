@@ -1,0 +1,102 @@
+#!/usr/bin/env bash
+# Compares what examples/describe-host.sh writes of trees of files, as Linux has them under /sys/devices/system, with the
+# machine file that stands beside each.
+set -eu
+top=$(cd "$(dirname "$0")/.." && pwd)
+scratch=$(mktemp -d)
+trap 'rm -rf "$scratch"' EXIT
+failed=0
+
+# tree NAME PRESENT ONLINE begins a tree, and node NUMBER DISTANCES CPU.. adds a node to it.
+tree() {
+    name=$1
+    mkdir -p "$scratch/$name/cpu"
+    echo "$2" > "$scratch/$name/cpu/present"
+    echo "$3" > "$scratch/$name/cpu/online"
+}
+node() {
+    local folder=$scratch/$name/node/node$1 cpu
+    mkdir -p "$folder"
+    echo "$2" > "$folder/distance"
+    for cpu in "${@:3}"; do
+        mkdir "$folder/cpu$cpu"
+    done
+}
+nodes() { echo "$1" > "$scratch/$name/node/online"; }
+
+# says EXPECTED WORD.. compares standard output, or, with a word "refused" before, standard error of a status of 1.
+says() {
+    local expected=$1 stream=1 status=0 answer
+    shift
+    if [ "${1:-}" = refused ]; then stream=2; shift; fi
+    if [ "$stream" = 1 ]; then
+        answer=$(bash "$top/examples/describe-host.sh" --sys "$scratch/$name" "$@" 2>/dev/null) || status=$?
+    else
+        answer=$(bash "$top/examples/describe-host.sh" --sys "$scratch/$name" "$@" 2>&1 >/dev/null) || status=$?
+    fi
+    if [ "$answer" != "$expected" ] || [ "$status" != $((stream - 1)) ]; then
+        printf '%s %s: status %s\n%s\nexpected:\n%s\n' "$name" "$*" "$status" "$answer" "$expected"
+        failed=1
+    fi
+}
+
+# Two sockets with two threads a core, one CPU of the second offline.
+tree two-sockets 0-7 0-6
+node 0 "10 21" 0 1 4 5
+node 1 "21 10" 2 3 6 7
+nodes 0-1
+says '{
+  "nodes": ["0-1,4-5", "2-3,6-7"],
+  "distances": [[10, 21], [21, 10]],
+  "reserved": "0,4",
+  "offline": "7"
+}' --reserved 4,0
+says 'describe-host.sh: reserved CPUs that are not online: 7-8' refused --reserved 6-8
+
+# The nodes 0 and 2, and memory alone at 3.
+tree gap 0-3,10 0-3,10
+node 0 "10 40 80" 0 1
+node 2 "40 10 80" 2 3 10
+node 3 "80 80 10"
+nodes 0,2-3
+says '{
+  "nodes": ["0-1", "", "2-3,10", ""],
+  "distances": [[10, 255, 40, 80], [255, 10, 255, 255], [40, 255, 10, 80], [80, 255, 80, 10]],
+  "reserved": "0",
+  "offline": ""
+}'
+says '{
+  "nodes": ["0-1", "2-3,10", ""],
+  "distances": [[10, 40, 80], [40, 10, 80], [80, 80, 10]],
+  "reserved": "0",
+  "offline": ""
+}' --renumber
+
+# Memory of graphics processors at nodes with high numbers.
+tree high 0-1 0-1
+node 0 "10 80" 0 1
+node 255 "80 10"
+nodes 0,255
+says 'describe-host.sh: node 255: a machine file has nodes 0 to 63 (see --renumber)' refused
+says '{
+  "nodes": ["0-1", ""],
+  "distances": [[10, 80], [80, 10]],
+  "reserved": "1",
+  "offline": ""
+}' --renumber --reserved 1
+
+# A kernel without node folders.
+tree plain 0-3 0,2-3
+says '{
+  "nodes": ["0-3"],
+  "distances": [[10]],
+  "reserved": "0",
+  "offline": "1"
+}'
+
+# More CPUs than a machine file may have.
+tree large 0-1024 0-1024
+says 'describe-host.sh: CPU 1024: a machine file has CPUs 0 to 1023' refused
+
+[ "$failed" = 0 ] && echo "describe-host.sh: all machine files as expected"
+exit "$failed"

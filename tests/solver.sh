@@ -1,0 +1,7 @@
+#!/usr/bin/env bash
+# Compares what the solver answers to some thousands of small problems, made by a fixed rule, with what a plain solver
+# finds that tries every plan.
+set -eu
+top=$(cd "$(dirname "$0")/.." && pwd)
+. "$top/benches/build-tools.sh"
+python3 -B "$top/tests/solver/compare.py" "$tools"

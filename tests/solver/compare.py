@@ -1,0 +1,104 @@
+"""Compares what `tools solve` answers to some thousands of small problems with what a plain solver finds that tries
+every plan: the plan's cost and how twins are dealt, the shortage, the prices and the turns."""
+
+import os
+import random
+import subprocess
+import sys
+from collections import Counter
+
+sys.path.insert(0, os.path.join(os.path.dirname(__file__), "..", "certificates"))
+from reference import check, least_cost, read
+
+PROBLEMS = 3000
+
+
+def made():
+    """The rows of a problem: up to four, over up to seven CPUs, some of them alike to all rows."""
+    cpus = random.sample(range(12), random.randint(1, 7))
+    groups = [random.sample(cpus, random.randint(1, len(cpus))) for _ in range(3)]
+    rows = []
+    for k in range(random.choice((0, 1, 2, 2, 3, 3, 4, 4))):
+        weights = {}
+        for group in random.sample(groups, random.randint(1, 3)) + [random.sample(cpus, random.randint(0, len(cpus)))]:
+            weight = random.choice((random.randint(0, 3), random.randint(10, 30), random.randint(0, 33_554_431)))
+            weights.update(dict.fromkeys(group, weight))
+        by_weight = {}
+        for cpu, weight in weights.items():
+            by_weight.setdefault(weight, set()).add(cpu)
+        offers = list(by_weight.items())
+        random.shuffle(offers)
+        rows.append((f"r{k}", random.choice((1, 1, 1, 2, 2, 3)), offers))
+    return rows
+
+
+def problem(rows):
+    lines = ["numarun-certificate 1"]
+    for name, demand, offers in rows:
+        lines.append(" ".join([f"row {name} {demand}"] + [f"{w}:{','.join(map(str, sorted(s)))}" for w, s in offers]))
+    return lines
+
+
+def classes(rows):
+    """The CPUs with a weight, by the weights that all rows have for them."""
+    weights = [{cpu: w for w, s in offers for cpu in s} for _, _, offers in rows]
+    alike = {}
+    for cpu in sorted(set().union(*weights)):
+        alike.setdefault(tuple(w.get(cpu) for w in weights), []).append(cpu)
+    return list(alike.values())
+
+
+def faults(rows, answer):
+    """What is wrong with an answer, if anything is."""
+    lines = [line.split(" ") for line in answer.splitlines()]
+    turns = int(lines.pop()[1])
+    twins = classes(rows)
+    if turns > sum(demand for _, demand, _ in rows) * (len(rows) + len(twins)):
+        yield "too many turns"
+    least = least_cost(rows)
+    if lines and lines[0][0] == "short":
+        if turns < len(lines):
+            yield "too few turns"
+        text = problem(rows) + [f"short {rows[int(k)][0]}" for _, k in lines] + ["end", ""]
+        if least is not None or not check("\n".join(text).encode()).startswith("short"):
+            yield "no shortage"
+        return
+    holds, rest = lines[: len(rows)], lines[len(rows) :]
+    text = problem(rows) + [f"hold {row[0]} {l} {v}" for row, (_, l, v) in zip(rows, holds)]
+    text = "\n".join(text + [" ".join(words) for words in rest] + ["end", ""]).encode()
+    if check(text) != f"plan total {least}":
+        yield f"{check(text)}, and the least plan costs {least}"
+        return
+    _, sets, prices, _, _ = read(text)
+    owner = {cpu: k for k, (s, _) in enumerate(sets) for cpu in s}
+    for twin in twins:
+        owners = [owner.get(cpu, len(rows)) for cpu in twin]
+        if owners != sorted(owners):
+            yield f"{twin} are dealt to {owners}"
+    if any(sorted(s) not in twins or not amount for amount, s in prices):
+        yield "a price that is not one of a class"
+    if turns < 2 * len(rows):
+        yield "too few turns"
+
+
+def main(program):
+    random.seed(1)
+    problems = [rows for rows in (made() for _ in range(PROBLEMS)) if rows]
+    texts = ["\n".join(problem(rows) + [f"short {rows[0][0]}", "end", ""]) for rows in problems]
+    run = subprocess.run(program.split() + ["solve"], input="".join(texts), capture_output=True, text=True)
+    answers = run.stdout.split("turns ")
+    if run.returncode != 0 or run.stderr or len(answers) != len(problems) + 1:
+        sys.exit(f"compare: status {run.returncode}, {len(answers) - 1} answers, {run.stderr!r}")
+    seen = Counter()
+    for rows, text, lines, more in zip(problems, texts, answers, answers[1:]):
+        answer = lines[lines.find("\n") + 1 :] if lines[:1].isdigit() else lines
+        answer += "turns " + more[: more.find("\n") + 1]
+        for fault in faults(rows, answer):
+            sys.exit(f"compare: {text!r}: {fault}: {answer!r}")
+        seen["shortages" if answer.startswith("short") else "plans"] += 1
+    print("compare:", ", ".join(f"{seen[name]} {name}" for name in ("plans", "shortages")))
+    if min(seen["plans"], seen["shortages"]) < PROBLEMS // 10:
+        sys.exit("compare: too few of one kind")
+
+
+main(*sys.argv[1:])
