@@ -27,7 +27,9 @@ fn main(rt: HostRuntime) -> Result<()> {
             println!(rt; "{sum}")?;
             Ok(())
         }
-        _ => bail!("tools ask MACHINE CONFIG.., tools solve, or the name of a benchmark and a count"),
+        _ => bail!(
+            "tools ask MACHINE CONFIG.., tools solve, or the name of a benchmark and a count"
+        ),
     }
 }
 
