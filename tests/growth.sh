@@ -2,6 +2,7 @@
 # Runs the built program with each of its allocations refused in turn. What it does then has to be the line of E1 with its
 # status, or the whole answer; at least one refusal has to be seen as E1; and with nothing refused it is the whole answer.
 # The status is 1 while the words are collected, 2 while they are parsed, and 1 from then on.
+# Of the solver, over a plan and a shortage, a front of the answer and an error of status 1 stand for the line of E1.
 set -u
 top=$(cd "$(dirname "$0")/.." && pwd)
 work=$(mktemp -d)
@@ -61,3 +62,28 @@ each_growth "the version" 0 "1+2+" /dev/null --version
 each_growth "an unknown command" 2 "1+2+" /dev/null foo
 each_growth "a missing argument" 2 "1+2+" /dev/null list
 each_growth "an unknown option" 2 "1+2+" /dev/null check -f
+
+# what the solver answers to two problems
+solver_growth() {
+    local name="the solver" number=0 seen=0 got
+    "$tools" solve <"$work/problems" >"$work/whole" 2>"$work/error" || { cp "$work/whole" "$work/output"; wrong "$name" $?; }
+    while :; do
+        number=$((number + 1))
+        REFUSE=$number LD_PRELOAD="$work/refuse.so" "$tools" solve <"$work/problems" 3>"$work/refused" >"$work/output" 2>"$work/error"
+        got=$?
+        if cmp -s "$work/output" "$work/whole" && [ ! -s "$work/error" ] && [ $got -eq 0 ]; then
+            [ -s "$work/refused" ] || break
+        elif [ $got -eq 1 ] && cmp -s -n "$(stat -c %s "$work/output")" "$work/output" "$work/whole" \
+            && grep -qxE 'Error: (memory allocation failed|out of memory)' "$work/error"; then
+            seen=$((seen + 1))
+        else
+            wrong "$name, allocation $number" $got
+        fi
+    done
+    [ $seen -gt 0 ] || { echo "growth: $name: no refusal was seen"; exit 1; }
+    echo "growth: $name: $((number - 1)) allocations, each refused in turn, $seen of them seen"
+}
+
+. "$top/benches/build-tools.sh"
+{ cat "$example"; printf 'numarun-certificate 1\nrow a 2 10:1-2\nrow b 1 10:1-2\nshort a\nshort b\nend\n'; } >"$work/problems"
+solver_growth

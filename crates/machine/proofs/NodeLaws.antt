@@ -1,7 +1,7 @@
 -- Which CPUs are present, and in which node.
 use Rattle.std.specs.Prelude.{◌||◌, ◌&&◌, nat_le}
 use Rattle.std.proofs.Common.{◌≡◌, ℕ, ◌-◌, ◌<◌, ◌≤◌, Bool, true, false, inl, inr, nat_lt, List, [], ◌∷◌, length, get_or, Some, refl, sym, ap, ◌∙◌, arith}
-use Rattle.std.specs.Prelude.{AllPairs, fold, position, IsSome}
+use Rattle.std.specs.Prelude.{AllPairs, Option, None, fold, map, min, position, unwrap_or, IsSome}
 use Rattle.std.specs.List.{list_any, position_or_len}
 use Rattle.std.proofs.lemmas.Bool.{cases_lt, false≢true}
 use Rattle.std.proofs.lemmas.Bool.Decides.{nat_tests}
@@ -13,10 +13,13 @@ use Rattle.std.proofs.lemmas.List.Sums.{fails_before_first}
 use Rattle.std.specs.FinSet as set
 use Rattle.cpu_set.specs.Ids.{Ids, IsDisjoint}
 use Rattle.cpu_set.specs.Pointwise.{same_members, contains-empty, contains-union}
+use Rattle.cpu_set.specs.Members.{members}
 use Rattle.cpu_set.specs.Those.{contains-those}
-use Rattle.machine.specs.Layout.{Layout, node_count, cpus_of}
-use Rattle.machine.specs.Nodes.{nodes_of, IsOfNode}
+use Rattle.machine.specs.Layout.{Layout, node_count, cpus_of, distance}
+use Rattle.machine.specs.IsSound.{IsSound}
+use Rattle.machine.specs.Nodes.{nodes_of, node_of, IsOfNode}
 use Rattle.machine.specs.Present.{union_of, present, IsPresent}
+use Rattle.machine.specs.Weight.{weight, HaveOneWeight}
 
 or_false : (a : Bool) → (a || false) ≡ a
 or_false true = refl
@@ -113,3 +116,22 @@ of_one_node m c i j apart in_i in_j =
         | inr same ↦ omega arith
       ]
     ]
+
+node_found : (m : Layout) (c i : ℕ) → IsSound m → IsOfNode m c i → node_of m c ≡ i
+node_found m c i sound has =
+    let some : IsSome (position (λ s. set.contains s c) m.nodes) = IsOfNode-first m c (IsOfNode-IsPresent m c i has) in
+    by_place (position (λ s. set.contains s c) m.nodes) refl some
+  where
+    by_place : (place : Option ℕ) → position (λ s. set.contains s c) m.nodes ≡ place → IsSome place → unwrap_or place 0 ≡ i
+    by_place None at some = absurd (cc)
+    by_place (Some j) at some = of_one_node m c j i sound.apart (IsOfNode-at m c j at) has
+
+weight_by_node : (m : Layout) (homes : Ids) (a b : ℕ) → node_of m a ≡ node_of m b → weight m homes a ≡ weight m homes b
+unfolding weight
+weight_by_node m homes a b same = ap (λ i. fold min 255 (map (distance m i) (members homes))) same
+
+-- the CPUs of a node have one weight
+pub of_one_weight : (m : Layout) (i : ℕ) (cpus : Ids) → IsSound m → i < node_count m → cpus ≡ cpus_of m i → HaveOneWeight m cpus
+of_one_weight m i cpus sound lt is homes a b has_a has_b =
+    let of_node : (c : ℕ) → set.contains cpus c ≡ true → IsOfNode m c i = λ c has. record { is_node = lt; has_cpu = ap (λ s. set.contains s c) (sym is) ∙ has } in
+    weight_by_node m homes a b (node_found m a i sound (of_node a has_a) ∙ sym (node_found m b i sound (of_node b has_b)))

@@ -22,3 +22,7 @@ IsWeight m homes cpu w = (i : ℕ) × IsOfNode m cpu i × IsLeast m homes i w
 -- the same weight, computed: the least of the distances from the CPU's node to the homes
 unfoldable pub weight : Layout → Ids → ℕ → ℕ
 weight m homes cpu = fold min 255 (map (distance m (node_of m cpu)) (members homes))
+
+-- whatever the homes, these CPUs have one weight
+abbrev pub HaveOneWeight : Layout → Ids → Type 0
+HaveOneWeight m cpus = (homes : Ids) (a b : ℕ) → set.contains cpus a ≡ true → set.contains cpus b ≡ true → weight m homes a ≡ weight m homes b

@@ -1,10 +1,10 @@
 ghost use Rattle.std.specs.Prelude.{◌≡◌, ◌≢◌, ℕ, ◌<◌, ◌≤◌, ◌↔◌, true, nat_lt, position, option_map, IfOk};
 ghost use Rattle.serde_json.specs.View.{view};
 ghost use Rattle.std.specs.FinSet as set;
-ghost use Rattle.machine.specs.Layout.{Layout, node_count, distance};
+ghost use Rattle.machine.specs.Layout.{Layout, node_count, cpus_of, distance};
 ghost use Rattle.machine.specs.Present.{present, IsPresent};
 ghost use Rattle.machine.specs.Nodes.{nodes_of, node_of, IsOfNode};
-ghost use Rattle.machine.specs.Weight.{weight, IsWeight, AreHomes};
+ghost use Rattle.machine.specs.Weight.{weight, IsWeight, AreHomes, HaveOneWeight};
 ghost use Rattle.faults.specs.Answers.{Reports, Gives, ChecksFirst};
 
 use crate::boot::{read_offline, read_reserved};
@@ -173,6 +173,23 @@ impl Machine {
         let mut nodes = IdSet::empty();
         nodes.insert_range(0, last as u16);
         nodes
+    }
+
+    /// The CPUs of a node, which weigh the same for any homes.
+    pub fn cpus_of(&self, node: usize) -> IdSet
+        requires { node < node_count self.now }
+        ensures is { result ≡ cpus_of self.now node }
+        ensures alike { HaveOneWeight self.now result }
+    {
+        self.cpus_at(node)
+    }
+
+    fn cpus_at(&self, node: usize) -> IdSet
+        requires { node < node_count self.now }
+        ensures is { result ≡ cpus_of self.now node }
+        ensures sound { IsSound self.now }
+    {
+        self.nodes[node]
     }
 
     /// The node that has the CPU.

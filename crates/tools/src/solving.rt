@@ -5,7 +5,8 @@ ghost use Rattle.certificate.specs.Limits.{rows_fit};
 use anyhow::{Result, bail};
 use certificate::{CheckFault, Problem, check_shortage};
 use certificate_text::{Certificate, read_text};
-use std::alloc::Global;
+use faults::OrMemory;
+use std::alloc::{AllocError, Global};
 use transport::{Answer, solve};
 
 /// Prints what comes of the problems of certificates, which stand one after another.
@@ -24,7 +25,7 @@ pub fn each<R: AllocGlobal + Print>(rt: &R, texts: &[u8]) -> Result<()> {
 /// Prints what comes of a certificate's problem: what each row holds and its value, the prices and the total, or
 /// the numbers of the rows that lack CPUs; and the turns.
 fn one<R: AllocGlobal + Print>(rt: &R, text: &[u8]) -> Result<()> {
-    let Some(problem) = problem_of(rt.alloc(), text) else {
+    let Some(problem) = problem_of(rt.alloc(), text)? else {
         bail!("this is no certificate");
     };
     if !are_within(&problem) {
@@ -61,7 +62,7 @@ fn one<R: AllocGlobal + Print>(rt: &R, text: &[u8]) -> Result<()> {
 
 /// A certificate's problem, solved so often.
 pub fn over_and_over(alloc: Global, text: &[u8], count: u32) -> Option<u64> {
-    let problem = problem_of(alloc, text)?;
+    let problem = problem_of(alloc, text).ok()??;
     if !are_within(&problem) {
         return None;
     }
@@ -73,11 +74,13 @@ pub fn over_and_over(alloc: Global, text: &[u8], count: u32) -> Option<u64> {
     Some(sum)
 }
 
-fn problem_of(alloc: Global, text: &[u8]) -> Option<Problem> {
+/// The problem of a certificate, where the text is one.
+fn problem_of(alloc: Global, text: &[u8]) -> Result<Option<Problem>, AllocError> {
     match read_text(alloc, text) {
-        Ok(Certificate::Plan { problem, .. }) => Some(problem),
-        Ok(Certificate::Short { problem, .. }) => Some(problem),
-        Err(_) => None,
+        Ok(Certificate::Plan { problem, .. }) => Ok(Some(problem)),
+        Ok(Certificate::Short { problem, .. }) => Ok(Some(problem)),
+        Err(OrMemory::Memory) => Err(AllocError),
+        Err(OrMemory::Fault(_)) => Ok(None),
     }
 }
 

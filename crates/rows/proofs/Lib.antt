@@ -1,0 +1,4 @@
+pub mod FewerLemmas
+pub mod OfferLemmas
+pub mod NearestLemmas
+pub mod LimitLemmas

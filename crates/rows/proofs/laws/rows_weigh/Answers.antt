@@ -1,0 +1,5 @@
+use Rattle.rows.proofs.LimitLemmas.{rows_weigh}
+use Rattle.rows.proofs.laws.rows_weigh.Goals as goal
+
+pub returns : goal.returns
+returns c = rows_weigh

@@ -1,0 +1,4 @@
+pub mod Offers
+pub mod RowOf
+pub mod Weighs
+pub mod Nearest

@@ -1,0 +1,11 @@
+//! What containers ask for as rows of a problem: their demands, with the CPUs that they may get now, by distance.
+//!
+//! Which CPUs a row offers, and what each of them weighs, is decided here and nowhere else.
+#![tactic(auto)]
+
+mod laws;
+mod offers;
+mod row;
+
+pub use laws::rows_weigh;
+pub use row::row_of;

@@ -1,0 +1,40 @@
+ghost use Rattle.std.specs.Prelude.{◌≡◌, option_map, IsTrue, IfOk, IfSome};
+ghost use Rattle.certificate.specs.Limits.{row_fits};
+ghost use Rattle.demand.specs.FitsMachine.{FitsMachine};
+ghost use Rattle.rows.specs.RowOf.{row_of};
+
+use crate::offers::offers_of;
+use certificate::Row;
+use cpu_set::IdSet;
+use demand::{Demand, Kind};
+use machine::Machine;
+use std::alloc::{AllocError, Global};
+
+/// The row of a container that asks for CPUs of its own while these CPUs are online; a shared one has none.
+///
+/// It offers the CPUs that the container may get and that are online. Each weighs as much as the distance from its node
+/// to the nearest home; there is one offer for each weight, the least weight first.
+pub fn row_of(
+    alloc: Global,
+    machine: &Machine,
+    online: &IdSet,
+    id: &str,
+    demand: &Demand,
+) -> Result<Option<Row>, AllocError>
+    requires { FitsMachine machine.now demand.now }
+    ensures row { IfOk result (λ row. row ≡ row_of machine.now online.now id.now demand.now) }
+    ensures fits { IfOk result (λ row. IfSome row (λ r. IsTrue (row_fits r))) }
+{
+    let Kind::Pinned(count) = demand.kind else {
+        return Ok(None);
+    };
+    let cpus = demand.allowed.meet(online);
+    Ok(Some(Row {
+        id: String::from_str(alloc, id)?,
+        demand: count,
+        offers: offers_of(alloc, machine, &demand.homes, &cpus)?,
+    }))
+}
+
+#[cfg(test)]
+mod tests;
