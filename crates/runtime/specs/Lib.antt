@@ -1,0 +1,5 @@
+pub mod RuntimeState
+pub mod Found
+pub mod RefusalLine
+pub mod AnswerTexts
+pub mod Answered
