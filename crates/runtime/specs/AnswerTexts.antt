@@ -47,10 +47,12 @@ pid_line pid = codes "pid " ++ (decimal pid ++ codes "\n")
 abbrev pub set_text : Ids → List ℕ
 set_text s = if set.len s == 0 then codes "-" else list_text s
 
+-- the set that is requested, behind its label, and the one in effect
+abbrev pub both_text : List ℕ → Ids → Ids → List ℕ
+both_text label requested effective = (label ++ set_text requested) ++ (codes " effective " ++ set_text effective)
+
 abbrev pub sets_line : Sets → List ℕ
-sets_line sets =
-    codes "cpus " ++ (set_text sets.cpus ++ (codes " effective " ++ (set_text sets.effective_cpus
-    ++ (codes " mems " ++ (set_text sets.mems ++ (codes " effective " ++ (set_text sets.effective_mems ++ codes "\n")))))))
+sets_line sets = both_text (codes "cpus ") sets.cpus sets.effective_cpus ++ (both_text (codes " mems ") sets.mems sets.effective_mems ++ codes "\n")
 
 -- a container's id and status
 abbrev pub entry_line : List ℕ × Status → List ℕ

@@ -3,3 +3,4 @@ pub mod Found
 pub mod RefusalLine
 pub mod AnswerTexts
 pub mod Answered
+pub mod Boots

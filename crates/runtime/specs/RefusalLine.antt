@@ -15,20 +15,21 @@ use Rattle.node.specs.declared.fault.NodeFault.TheVariants as node
 use Rattle.runtime.specs.declared.refusal.Refusal.{Refusal}
 use Rattle.runtime.specs.declared.refusal.Refusal.TheVariants as refusal
 
--- an argument behind a space: a word, a number, or what is wrong with a list and where
+-- an argument behind a space: a word or a number
 abbrev pub word_text : List ℕ → List ℕ
 word_text word = codes " " ++ word
 
 abbrev pub number_text : ℕ → List ℕ
 number_text n = word_text (decimal n)
 
-abbrev pub list_title : ListErrorKind → List ℕ
-list_title BadItem = codes "E10 BadItem"
-list_title TooLarge = codes "E11 TooLarge"
-list_title Descending = codes "E12 Descending"
+-- the number of what is wrong with a list, and where it is
+abbrev pub list_number : ListErrorKind → List ℕ
+list_number BadItem = codes "E10"
+list_number TooLarge = codes "E11"
+list_number Descending = codes "E12"
 
 abbrev pub list_argument : ListError → List ℕ
-list_argument error = word_text (list_title error.kind) ++ number_text error.at
+list_argument error = word_text (list_number error.kind) ++ number_text error.at
 
 -- the number and the name of what is wrong with a config
 abbrev pub config_title : ConfigFault → List ℕ

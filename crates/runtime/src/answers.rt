@@ -1,8 +1,9 @@
 //! The texts that answer commands.
+ghost use Rattle.std.specs.Prelude.{◌≡◌, ◌++◌, codes};
 ghost use Rattle.cpu_list.specs.Output.{Writes};
 ghost use Rattle.node.specs.Listed.{listed};
 ghost use Rattle.node.specs.Shown.{status_text};
-ghost use Rattle.runtime.specs.AnswerTexts.{done_line, entry_line, listing_text, phase_line, pid_line, set_text, sets_line};
+ghost use Rattle.runtime.specs.AnswerTexts.{both_text, done_line, listing_text, phase_line, pid_line, set_text, sets_line};
 ghost use Rattle.runtime.specs.Answered.{state_line};
 
 use cpu_list::{put, put_all, write_list};
@@ -42,17 +43,30 @@ fn put_set<W: Write>(set: &IdSet, w: &mut W) -> io::Result<()>
     write_list(set, w)
 }
 
-pub fn put_sets<W: Write>(sets: Sets, w: &mut W) -> io::Result<()>
-    ensures { Writes (W.contents w.old) (W.contents w.new) result (sets_line sets) }
+fn put_labelled<W: Write>(label: &[u8], set: &IdSet, w: &mut W) -> io::Result<()>
+    ensures { Writes (W.contents w.old) (W.contents w.new) result (label.now ++ set_text set.now) }
 {
-    put(b"cpus ", w)?;
-    put_set(&sets.cpus, w)?;
-    put(b" effective ", w)?;
-    put_set(&sets.effective_cpus, w)?;
-    put(b" mems ", w)?;
-    put_set(&sets.mems, w)?;
-    put(b" effective ", w)?;
-    put_set(&sets.effective_mems, w)?;
+    put(label, w)?;
+    put_set(set, w)
+}
+
+fn put_both<W: Write>(
+    label: &[u8],
+    requested: &IdSet,
+    effective: &IdSet,
+    w: &mut W,
+) -> io::Result<()>
+    ensures { Writes (W.contents w.old) (W.contents w.new) result (both_text label.now requested.now effective.now) }
+{
+    put_labelled(label, requested, w)?;
+    put_labelled(b" effective ", effective, w)
+}
+
+pub fn put_sets<W: Write>(sets: &Sets, w: &mut W) -> io::Result<()>
+    ensures { Writes (W.contents w.old) (W.contents w.new) result (sets_line sets.now) }
+{
+    put_both(b"cpus ", &sets.cpus, &sets.effective_cpus, w)?;
+    put_both(b" mems ", &sets.mems, &sets.effective_mems, w)?;
     put(b"\n", w)
 }
 
@@ -66,12 +80,17 @@ fn status_word(status: Status) -> &'static str
     }
 }
 
-fn put_entry<'a, W: Write>(id: &'a str, status: Status, w: &mut W) -> io::Result<()>
-    ensures { Writes (W.contents w.old) (W.contents w.new) result (entry_line (id.now, status)) }
+/// Writes a container's id and its status.
+fn put_entry<'a, W: Write>(id: &'a str, status: &'a str, w: &mut W) -> io::Result<()>
+    ensures { Writes (W.contents w.old) (W.contents w.new) result (id.now ++ (codes " " ++ (status.now ++ codes "\n"))) }
 {
-    let status = status_word(status).as_bytes();
     put_all(
-        &[id.as_bytes(), b" ".as_slice(), status, b"\n".as_slice()],
+        &[
+            id.as_bytes(),
+            b" ".as_slice(),
+            status.as_bytes(),
+            b"\n".as_slice(),
+        ],
         w,
     )
 }
@@ -80,7 +99,7 @@ pub fn put_listing<K: Kernel + Drop, W: Write>(node: &Node<K>, w: &mut W) -> io:
     ensures { Writes (W.contents w.old) (W.contents w.new) result (listing_text (listed node.now)) }
 {
     for (id, status) in node.list() {
-        put_entry(id, status, w)?;
+        put_entry(id, status_word(status), w)?;
     }
     put(b"end\n", w)
 }

@@ -28,7 +28,7 @@ pub fn sets<K: Kernel + Drop, W: Write>(node: &Node<K>, id: &str, w: &mut W) -> 
     ensures { Replies (AnswersSets node.now id.now) (W.contents w.old) (W.contents w.new) result node.now }
 {
     match node.sets(id) {
-        Ok(sets) => put_sets(sets, w),
+        Ok(sets) => put_sets(&sets, w),
         Err(fault) => Refusal::Node(fault).write(w),
     }
 }

@@ -2,7 +2,7 @@
 ghost use Rattle.std.specs.Prelude.{◌≡◌};
 ghost use Rattle.cpu_list.specs.Output.{Writes};
 ghost use Rattle.runtime.specs.AnswerTexts.{of_either, of_kernel, of_kernel_fault};
-ghost use Rattle.runtime.specs.RefusalLine.{arguments_of, config_arguments, config_title, demand_arguments, demand_title, kernel_title, list_argument, list_title, node_arguments, node_title, number_text, refusal_line, title_of, word_text};
+ghost use Rattle.runtime.specs.RefusalLine.{arguments_of, config_arguments, config_title, demand_arguments, demand_title, kernel_title, list_argument, list_number, node_arguments, node_title, number_text, refusal_line, title_of, word_text};
 
 use config_json::ConfigFault;
 use cpu_list::{ListError, ListErrorKind, put, put_all};
@@ -119,7 +119,7 @@ fn put_number<W: Write>(number: u64, w: &mut W) -> io::Result<()>
 fn put_list_error<W: Write>(error: ListError, w: &mut W) -> io::Result<()>
     ensures { Writes (W.contents w.old) (W.contents w.new) result (list_argument error) }
 {
-    put_word(list_title(error.kind), w)?;
+    put_word(list_number(error.kind), w)?;
     put_number(error.at as u64, w)
 }
 
@@ -157,13 +157,13 @@ fn put_demand_arguments<W: Write>(fault: DemandFault, w: &mut W) -> io::Result<(
     }
 }
 
-fn list_title(kind: ListErrorKind) -> &'static str
-    ensures { result.now ≡ list_title kind }
+fn list_number(kind: ListErrorKind) -> &'static str
+    ensures { result.now ≡ list_number kind }
 {
     match kind {
-        ListErrorKind::BadItem => "E10 BadItem",
-        ListErrorKind::TooLarge => "E11 TooLarge",
-        ListErrorKind::Descending => "E12 Descending",
+        ListErrorKind::BadItem => "E10",
+        ListErrorKind::TooLarge => "E11",
+        ListErrorKind::Descending => "E12",
     }
 }
 

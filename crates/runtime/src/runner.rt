@@ -83,3 +83,6 @@ fn carry_out<K: Kernel + Drop, B: Bundles, W: Write>(
         }
     }
 }
+
+#[cfg(test)]
+mod tests;
