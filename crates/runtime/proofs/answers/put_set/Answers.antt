@@ -1,0 +1,8 @@
+use Rattle.runtime.proofs.SetTexts.{set_text-empty, set_text-some}
+use Rattle.runtime.proofs.answers.put_set.Goals as goal
+
+pub returns-then-is_empty : goal.returns-then-is_empty
+returns-then-is_empty g c = rw (set_text-empty c.args.set.now (c.is_empty.ensures.0 c.if-is_empty.true)) c.put.ensures
+
+pub returns : goal.returns
+returns g c = rw (set_text-some c.args.set.now (λ e. c.if-is_empty.false (c.is_empty.ensures.1 e))) c.write_list.ensures
