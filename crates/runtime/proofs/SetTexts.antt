@@ -1,7 +1,8 @@
 -- The text of a set, empty or not.
-use Rattle.std.proofs.Common.{◌≡◌, ℕ, ◌==◌, Bool, true, false, cond, arith, nat_tests, refl, codes}
+use Rattle.std.proofs.Common.{◌≡◌, ℕ, ◌==◌, Bool, true, false, cond, arith, refl, codes}
+use Rattle.std.proofs.lemmas.Bool.Decides.{nat_tests}
 use Rattle.std.specs.FinSet as set
-use Rattle.std.specs.Cmp.{nat_cmp}
+use Rattle.std.specs.Ordering.{nat_cmp}
 use Rattle.cpu_set.specs.Ids.{Ids}
 use Rattle.cpu_list.specs.CanonicalList.{list_text}
 use Rattle.runtime.specs.AnswerTexts.{set_text}

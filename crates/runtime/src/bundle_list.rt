@@ -25,7 +25,7 @@ impl Bundles for BundleList<'_> {
 
     fn config(&mut self, bundle: &str) -> Result<Option<Vec<u8>>, AllocError> {
         for (name, config) in self.configs {
-            if *name == bundle {
+            if bundle == *name {
                 return Ok(Some(Vec::from_slice(self.alloc, config)?));
             }
         }

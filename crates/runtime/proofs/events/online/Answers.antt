@@ -12,4 +12,4 @@ returns-in-Ok g c =
 pub returns-in-Err : goal.returns-in-Err
 returns-in-Err g c =
     Replies-written (AnswersOnline c.args.node.now c.args.cpu) _ _ _ _ (refusal_line (of_kernel_fault c.in-Err.fault)) (Err c.in-Err.fault, c.in-Err.ensures.event, c.in-Err.ensures.rest, refl)
-    (rw c.from.ensures.from_gives at c.write.ensures)
+    (rw c.from.ensures at c.write.ensures)

@@ -12,4 +12,4 @@ returns-in-Ok g c =
 pub returns-in-Err : goal.returns-in-Err
 returns-in-Err g c =
     Replies-written (AnswersState c.args.node.now c.args.id.now) _ _ _ _ (refusal_line (of_either c.in-Err.error)) (Err c.in-Err.error, c.in-Err.ensures, refl, refl)
-    (rw c.from.ensures.from_gives at c.write.ensures)
+    (rw c.from.ensures at c.write.ensures)
