@@ -1,5 +1,5 @@
 -- The text of a set, empty or not.
-use Rattle.std.proofs.Common.{◌≡◌, ℕ, ◌==◌, Bool, true, false, cond, arith, refl, codes}
+use Rattle.std.proofs.Common.{◌≡◌, ◌==◌, Bool, true, false, cond, arith, refl, codes}
 use Rattle.std.proofs.lemmas.Bool.Decides.{nat_tests}
 use Rattle.std.specs.FinSet as set
 use Rattle.std.specs.Ordering.{nat_cmp}

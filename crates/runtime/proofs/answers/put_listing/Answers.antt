@@ -9,8 +9,8 @@ loop-id-preserved g c = (
   tt,
   tt,
   HasSent-then _ _ _ _ _ _ _ c.loop-id.invariant.2
-  (listing_text-next c.loop-id.id-iterator c.next.new.self (c.in-Some.id.now, c.in-Some.status) c.in-Some.ensures.steps)
-  (rw c.status_word.ensures at c.in_ok-put_entry.ensures),
+      (listing_text-next c.loop-id.id-iterator c.next.new.self (c.in-Some.id.now, c.in-Some.status) c.in-Some.ensures.steps)
+      (rw c.status_word.ensures at c.in_ok-put_entry.ensures),
 )
 
 pub returns-in_err-put_entry : goal.returns-in_err-put_entry
