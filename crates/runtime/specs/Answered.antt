@@ -1,0 +1,105 @@
+-- What a runtime may answer each command of a script, and what it is then.
+use Rattle.std.specs.Prelude.{◌≡◌, ◌⊎◌, ℕ, List, ◌++◌, Option, Some, None, Result, codes, String, string_bytes}
+use Rattle.std.specs.declared.alloc.Global.{Global}
+use Rattle.faults.specs.declared.or_memory.OrMemory.{OrMemory}
+use Rattle.kernel_model.specs.declared.faults.KernelError.{KernelError}
+use Rattle.kernel_model.specs.declared.faults.KernelFault.{KernelFault}
+use Rattle.kernel_model.specs.Cases.{Forks, Exits, GoesOffline, ComesOnline}
+use Rattle.node.specs.declared.fault.NodeFault.{NodeFault}
+use Rattle.node.specs.declared.reads.Sets.{Sets}
+use Rattle.node.specs.NodeState.{NodeState}
+use Rattle.node.specs.Calls.{Creates, Starts, Kills, Deletes}
+use Rattle.node.specs.Machine.{InKernel}
+use Rattle.node.specs.Reads.{HasSets}
+use Rattle.node.specs.Listed.{listed}
+use Rattle.node.specs.Shown.{Shows}
+use Rattle.script.specs.Commands.{Asked}
+use Rattle.script.specs.Commands as ask
+use Rattle.runtime.specs.RuntimeState.{Told, RuntimeState}
+use Rattle.runtime.specs.Found.{IsFound}
+use Rattle.runtime.specs.RefusalLine.{refusal_line}
+use Rattle.runtime.specs.AnswerTexts.{of_either, of_kernel, of_kernel_fault, answer_text, done_line, pid_line, sets_line, listing_text, phase_line}
+use Rattle.runtime.specs.declared.refusal.Refusal.TheVariants.{Memory, Node, BadLine, NoBundle}
+
+-- a container of the bundle whose config was found; or there is no such bundle
+abbrev pub AnswersFound : NodeState → List ℕ → List ℕ → Option (List ℕ) → List ℕ → NodeState → Type 0
+AnswersFound old id bundle None text new = (text ≡ refusal_line NoBundle) × (new ≡ old)
+AnswersFound old id bundle (Some config) text new =
+    (r : Result ℕ (OrMemory NodeFault)) × Creates old id bundle config r new × (text ≡ answer_text pid_line of_either r)
+
+-- memory for the bundle's config was wanted
+abbrev pub WantsMemory : NodeState → List ℕ → NodeState → Type 0
+WantsMemory old text new = (text ≡ refusal_line Memory) × (new ≡ old)
+
+abbrev pub AnswersCreate : Told → NodeState → List ℕ → List ℕ → List ℕ → NodeState → Type 0
+AnswersCreate told old id bundle text new =
+    WantsMemory old text new ⊎ ((found : Option (List ℕ)) × IsFound told bundle found × AnswersFound old id bundle found text new)
+
+abbrev pub AnswersStart : NodeState → List ℕ → List ℕ → NodeState → Type 0
+AnswersStart old id text new = (r : Result (Unit {0}) NodeFault) × Starts old id r new × (text ≡ answer_text done_line Node r)
+
+abbrev pub AnswersKill : NodeState → List ℕ → List ℕ → List ℕ → NodeState → Type 0
+AnswersKill old id signal text new = (r : Result (Unit {0}) NodeFault) × Kills old id signal r new × (text ≡ answer_text done_line Node r)
+
+abbrev pub AnswersDelete : NodeState → List ℕ → List ℕ → NodeState → Type 0
+AnswersDelete old id text new = (r : Result (Unit {0}) NodeFault) × Deletes old id r new × (text ≡ answer_text done_line Node r)
+
+-- a text of the state, and a line feed
+abbrev pub state_line : String Global → List ℕ
+state_line text = string_bytes text ++ codes "\n"
+
+abbrev pub AnswersState : NodeState → List ℕ → List ℕ → NodeState → Type 0
+AnswersState old id text new =
+    (r : Result (String Global) (OrMemory NodeFault)) × Shows old id r × (text ≡ answer_text state_line of_either r) × (new ≡ old)
+
+abbrev pub AnswersList : NodeState → List ℕ → NodeState → Type 0
+AnswersList old text new = (text ≡ listing_text (listed old)) × (new ≡ old)
+
+abbrev pub AnswersSets : NodeState → List ℕ → List ℕ → NodeState → Type 0
+AnswersSets old id text new = (r : Result Sets NodeFault) × HasSets old id r × (text ≡ answer_text sets_line Node r) × (new ≡ old)
+
+abbrev pub AnswersPhase : NodeState → List ℕ → NodeState → Type 0
+AnswersPhase old text new = (text ≡ phase_line old.phase) × (new ≡ old)
+
+abbrev pub AnswersFork : NodeState → ℕ → List ℕ → NodeState → Type 0
+AnswersFork old pid text new = (r : Result ℕ KernelError)
+    × Forks old.kernel pid r new.kernel × InKernel old new × (text ≡ answer_text pid_line of_kernel r)
+
+abbrev pub AnswersExit : NodeState → ℕ → List ℕ → NodeState → Type 0
+AnswersExit old pid text new = (r : Result (Unit {0}) KernelFault)
+    × Exits old.kernel pid r new.kernel × InKernel old new × (text ≡ answer_text done_line of_kernel_fault r)
+
+abbrev pub AnswersOffline : NodeState → ℕ → List ℕ → NodeState → Type 0
+AnswersOffline old cpu text new = (r : Result (Unit {0}) KernelFault)
+    × GoesOffline old.kernel cpu r new.kernel × InKernel old new × (text ≡ answer_text done_line of_kernel_fault r)
+
+abbrev pub AnswersOnline : NodeState → ℕ → List ℕ → NodeState → Type 0
+AnswersOnline old cpu text new = (r : Result (Unit {0}) KernelFault)
+    × ComesOnline old.kernel cpu r new.kernel × InKernel old new × (text ≡ answer_text done_line of_kernel_fault r)
+
+-- a command that can't be carried out yet is none
+abbrev pub IsUnknown : NodeState → List ℕ → NodeState → Type 0
+IsUnknown old text new = (text ≡ refusal_line BadLine) × (new ≡ old)
+
+-- the answer to a command: that of the node's own call, as its text
+abbrev pub AnswersBy : Told → NodeState → Asked → List ℕ → NodeState → Type 0
+AnswersBy told old (ask.create id bundle) text new = AnswersCreate told old id bundle text new
+AnswersBy told old (ask.start id) text new = AnswersStart old id text new
+AnswersBy told old (ask.kill id signal) text new = AnswersKill old id signal text new
+AnswersBy told old (ask.delete id) text new = AnswersDelete old id text new
+AnswersBy told old (ask.state id) text new = AnswersState old id text new
+AnswersBy told old ask.list text new = AnswersList old text new
+AnswersBy told old (ask.sets id) text new = AnswersSets old id text new
+AnswersBy told old ask.rebalance text new = IsUnknown old text new
+AnswersBy told old ask.begin text new = IsUnknown old text new
+AnswersBy told old ask.step text new = IsUnknown old text new
+AnswersBy told old ask.phase text new = AnswersPhase old text new
+AnswersBy told old ask.certificate text new = IsUnknown old text new
+AnswersBy told old (ask.fork pid) text new = AnswersFork old pid text new
+AnswersBy told old (ask.exit pid) text new = AnswersExit old pid text new
+AnswersBy told old (ask.offline cpu) text new = AnswersOffline old cpu text new
+AnswersBy told old (ask.online cpu) text new = AnswersOnline old cpu text new
+
+-- and what is told of the bundles stays
+abbrev pub Answered : RuntimeState → Asked → List ℕ → RuntimeState → Type 0
+Answered old command text new = AnswersBy old.told old.node command text new.node × (new ≡ record old { node = new.node })

@@ -1,0 +1,16 @@
+-- A node from the beginning.
+use Rattle.kernel_model.specs.KernelState.{KernelState, IsFirstKernel}
+use Rattle.machine.specs.Layout.{Layout}
+use Rattle.machine.specs.Present.{present}
+use Rattle.machine.specs.Nodes.{nodes_of}
+use Rattle.node.specs.NodeState.{NodeState}
+use Rattle.node.specs.Calls.{Opens}
+use Rattle.runtime.specs.declared.opening.TheConstants.{FIRST_PID}
+
+-- a kernel of which nothing was asked yet, with the machine's CPUs and nodes
+abbrev pub IsKernelOf : Layout → KernelState → Type 0
+IsKernelOf m = IsFirstKernel (present m) m.reserved m.online (nodes_of m) FIRST_PID
+
+-- a node with no container, over such a kernel
+abbrev pub Boots : Layout → NodeState → Type 0
+Boots m n = (k : KernelState) × IsKernelOf m k × Opens k m n

@@ -1,0 +1,10 @@
+-- What is found of a bundle.
+use Rattle.std.specs.Prelude.{◌≡◌, ℕ, List, Option, Some, None}
+use Rattle.std.specs.Map.{lookup}
+use Rattle.std.specs.Str.{bytes_eq}
+use Rattle.runtime.specs.RuntimeState.{Told}
+
+-- the config of this bundle, if there is such a bundle; anything may be found where nothing is told
+abbrev pub IsFound : Told → List ℕ → Option (List ℕ) → Type 0
+IsFound None bundle found = Unit {0}
+IsFound (Some configs) bundle found = found ≡ lookup (bytes_eq bundle) configs

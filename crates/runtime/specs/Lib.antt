@@ -1,0 +1,6 @@
+pub mod RuntimeState
+pub mod Found
+pub mod RefusalLine
+pub mod AnswerTexts
+pub mod Answered
+pub mod Boots

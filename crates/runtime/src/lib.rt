@@ -1,0 +1,18 @@
+//! A container runtime that answers the commands of a script: containers on one machine, made of bundles.
+#![tactic(auto)]
+
+mod answers;
+mod bundle_list;
+mod bundles;
+mod commands;
+mod events;
+mod opening;
+mod queries;
+mod refusal;
+mod runner;
+
+pub use bundle_list::BundleList;
+pub use bundles::Bundles;
+pub use opening::{FIRST_PID, boot};
+pub use refusal::Refusal;
+pub use runner::Runner;

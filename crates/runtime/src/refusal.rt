@@ -1,0 +1,232 @@
+//! Why a command is refused, and the line that says so.
+ghost use Rattle.std.specs.Prelude.{◌≡◌};
+ghost use Rattle.cpu_list.specs.Output.{Writes};
+ghost use Rattle.runtime.specs.AnswerTexts.{of_either, of_kernel, of_kernel_fault};
+ghost use Rattle.runtime.specs.RefusalLine.{arguments_of, config_arguments, config_title, demand_arguments, demand_title, kernel_title, list_argument, list_number, node_arguments, node_title, number_text, refusal_line, title_of, word_text};
+
+use config_json::ConfigFault;
+use cpu_list::{ListError, ListErrorKind, put, put_all};
+use demand::DemandFault;
+use faults::OrMemory;
+use itoa::Buffer;
+use kernel_model::{KernelError, KernelFault};
+use node::NodeFault;
+use std::io;
+use std::io::Write;
+
+/// Why a command is refused.
+#[derive(Clone, Copy, Debug, PartialEq, Eq)]
+pub enum Refusal {
+    /// E1: there was no memory.
+    Memory,
+    /// E40 to E67 and E90 to E99: the node or the kernel refuses the call, or a write of the kernel failed in it.
+    Node(NodeFault),
+    /// E110: it can't be carried out yet.
+    BadLine,
+    /// E111: there is no such bundle, or its config can't be read.
+    NoBundle,
+}
+
+impl Refusal {
+    /// The refusal's number and its name.
+    fn title(self) -> &'static str
+        ensures { result.now ≡ title_of self }
+    {
+        match self {
+            Refusal::Memory => "E1 Memory",
+            Refusal::Node(fault) => node_title(fault),
+            Refusal::BadLine => "E110 BadLine",
+            Refusal::NoBundle => "E111 NoBundle",
+        }
+    }
+
+    /// Writes each argument behind a space.
+    fn write_arguments<W: Write>(self, w: &mut W) -> io::Result<()>
+        ensures { Writes (W.contents w.old) (W.contents w.new) result (arguments_of self) }
+    {
+        match self {
+            Refusal::Node(fault) => put_node_arguments(fault, w),
+            Refusal::Memory | Refusal::BadLine | Refusal::NoBundle => Ok(()),
+        }
+    }
+
+    /// Writes the refusal's line.
+    ///
+    /// # Errors
+    /// That of the first write that fails or takes no byte; a front of the line then went out.
+    pub fn write<W: Write>(self, w: &mut W) -> io::Result<()>
+        ensures { Writes (W.contents w.old) (W.contents w.new) result (refusal_line self) }
+    {
+        put_all(&[b"refused ".as_slice(), self.title().as_bytes()], w)?;
+        self.write_arguments(w)?;
+        put(b"\n", w)
+    }
+}
+
+impl From<NodeFault> for Refusal {
+    ghost use Rattle.runtime.specs.declared.refusal.Refusal.TheVariants.{Node};
+
+    ghost from_gives = { λ fault refusal. refusal ≡ Node fault };
+
+    fn from(fault: NodeFault) -> Refusal {
+        Refusal::Node(fault)
+    }
+}
+
+impl From<OrMemory<NodeFault>> for Refusal {
+    ghost from_gives = { λ error refusal. refusal ≡ of_either error };
+
+    fn from(error: OrMemory<NodeFault>) -> Refusal {
+        match error {
+            OrMemory::Memory => Refusal::Memory,
+            OrMemory::Fault(fault) => Refusal::Node(fault),
+        }
+    }
+}
+
+impl From<KernelFault> for Refusal {
+    ghost from_gives = { λ fault refusal. refusal ≡ of_kernel_fault fault };
+
+    fn from(fault: KernelFault) -> Refusal {
+        Refusal::Node(NodeFault::Kernel(fault))
+    }
+}
+
+impl From<KernelError> for Refusal {
+    ghost from_gives = { λ error refusal. refusal ≡ of_kernel error };
+
+    fn from(error: KernelError) -> Refusal {
+        match error {
+            KernelError::Memory => Refusal::Memory,
+            KernelError::Fault(fault) => Refusal::from(fault),
+        }
+    }
+}
+
+fn put_word<W: Write>(word: &str, w: &mut W) -> io::Result<()>
+    ensures { Writes (W.contents w.old) (W.contents w.new) result (word_text word.now) }
+{
+    put_all(&[b" ".as_slice(), word.as_bytes()], w)
+}
+
+fn put_number<W: Write>(number: u64, w: &mut W) -> io::Result<()>
+    ensures { Writes (W.contents w.old) (W.contents w.new) result (number_text number) }
+{
+    let mut digits = Buffer::new();
+    put_word(digits.format(number), w)
+}
+
+fn put_list_error<W: Write>(error: ListError, w: &mut W) -> io::Result<()>
+    ensures { Writes (W.contents w.old) (W.contents w.new) result (list_argument error) }
+{
+    put_word(list_number(error.kind), w)?;
+    put_number(error.at as u64, w)
+}
+
+fn put_node_arguments<W: Write>(fault: NodeFault, w: &mut W) -> io::Result<()>
+    ensures { Writes (W.contents w.old) (W.contents w.new) result (node_arguments fault) }
+{
+    match fault {
+        NodeFault::Config(fault) => put_config_arguments(fault, w),
+        NodeFault::Demand(fault) => put_demand_arguments(fault, w),
+        _ => Ok(()),
+    }
+}
+
+fn put_config_arguments<W: Write>(fault: ConfigFault, w: &mut W) -> io::Result<()>
+    ensures { Writes (W.contents w.old) (W.contents w.new) result (config_arguments fault) }
+{
+    match fault {
+        ConfigFault::Missing(field) | ConfigFault::BadField(field) => put_word(field.path(), w),
+        ConfigFault::TooLong
+        | ConfigFault::NotJson
+        | ConfigFault::NotObject
+        | ConfigFault::BadVersion => Ok(()),
+    }
+}
+
+fn put_demand_arguments<W: Write>(fault: DemandFault, w: &mut W) -> io::Result<()>
+    ensures { Writes (W.contents w.old) (W.contents w.new) result (demand_arguments fault) }
+{
+    match fault {
+        DemandFault::BadCpus(error) | DemandFault::BadMems(error) => put_list_error(error, w),
+        DemandFault::NoSuchCpu(number) | DemandFault::NoSuchNode(number) => {
+            put_number(u64::from(number), w)
+        }
+        DemandFault::QuotaTooLarge | DemandFault::NothingAllowed => Ok(()),
+    }
+}
+
+fn list_number(kind: ListErrorKind) -> &'static str
+    ensures { result.now ≡ list_number kind }
+{
+    match kind {
+        ListErrorKind::BadItem => "E10",
+        ListErrorKind::TooLarge => "E11",
+        ListErrorKind::Descending => "E12",
+    }
+}
+
+fn config_title(fault: ConfigFault) -> &'static str
+    ensures { result.now ≡ config_title fault }
+{
+    match fault {
+        ConfigFault::TooLong => "E55 TooLong",
+        ConfigFault::NotJson => "E56 NotJson",
+        ConfigFault::NotObject => "E57 NotObject",
+        ConfigFault::Missing(_) => "E58 Missing",
+        ConfigFault::BadVersion => "E59 BadVersion",
+        ConfigFault::BadField(_) => "E60 BadField",
+    }
+}
+
+fn demand_title(fault: DemandFault) -> &'static str
+    ensures { result.now ≡ demand_title fault }
+{
+    match fault {
+        DemandFault::BadCpus(_) => "E62 BadCpus",
+        DemandFault::NoSuchCpu(_) => "E63 NoSuchCpu",
+        DemandFault::BadMems(_) => "E64 BadMems",
+        DemandFault::NoSuchNode(_) => "E65 NoSuchNode",
+        DemandFault::QuotaTooLarge => "E66 QuotaTooLarge",
+        DemandFault::NothingAllowed => "E67 NothingAllowed",
+    }
+}
+
+fn kernel_title(fault: KernelFault) -> &'static str
+    ensures { result.now ≡ kernel_title fault }
+{
+    match fault {
+        KernelFault::NoGroup => "E40 NoGroup",
+        KernelFault::Exists => "E41 Exists",
+        KernelFault::HasChildren => "E42 HasChildren",
+        KernelFault::HasProcesses => "E43 HasProcesses",
+        KernelFault::IsRoot => "E44 IsRoot",
+        KernelFault::NoPids => "E45 NoPids",
+        KernelFault::NoProcess => "E46 NoProcess",
+        KernelFault::NoSerials => "E47 NoSerials",
+        KernelFault::Failed => "E50 KernelFault",
+        KernelFault::Reserved => "E51 Reserved",
+        KernelFault::NoCpu => "E52 NoCpu",
+    }
+}
+
+fn node_title(fault: NodeFault) -> &'static str
+    ensures { result.now ≡ node_title fault }
+{
+    match fault {
+        NodeFault::Busy => "E90 Busy",
+        NodeFault::BadId => "E91 BadId",
+        NodeFault::IdInUse => "E92 IdInUse",
+        NodeFault::TooManyContainers => "E93 TooManyContainers",
+        NodeFault::NoContainer => "E94 NoContainer",
+        NodeFault::NotCreated => "E95 NotCreated",
+        NodeFault::NotRunnable => "E96 NotRunnable",
+        NodeFault::BadSignal => "E97 BadSignal",
+        NodeFault::NotLive => "E98 NotLive",
+        NodeFault::NotStopped => "E99 NotStopped",
+        NodeFault::Config(fault) => config_title(fault),
+        NodeFault::Demand(fault) => demand_title(fault),
+        NodeFault::Kernel(fault) => kernel_title(fault),
+    }
+}

@@ -1,0 +1,88 @@
+ghost use Rattle.std.specs.Prelude.{◌≡◌};
+ghost use Rattle.script.specs.Commands.{asked};
+ghost use Rattle.script.specs.Ends.{Replies};
+ghost use Rattle.runtime.specs.Answered.{Answered, AnswersBy};
+
+use crate::bundles::Bundles;
+use crate::commands::{create, delete, kill, refuse, start};
+use crate::events::{exit, fork, offline, online};
+use crate::queries::{list, phase, sets, state};
+use kernel_model::Kernel;
+use node::Node;
+use script::{Command, Target};
+use std::io;
+use std::io::Write;
+use std::marker::Model;
+
+/// The containers of one machine and the bundles that they are made of: what a script is run over.
+#[derive(Drop)]
+pub struct Runner<K: Kernel + Drop, B: Bundles + Drop> {
+    node: Node<K>,
+    bundles: B,
+}
+
+impl<K: Kernel + Drop, B: Bundles + Drop> Model for Runner<K, B> {
+    ghost use Rattle.runtime.specs.RuntimeState.{RuntimeState, runtime_code};
+
+    ghost Value = { RuntimeState };
+
+    ghost coded = { runtime_code };
+
+    ghost view = { λ r. record { node = r.node; told = B.told r.bundles } };
+}
+
+impl<K: Kernel + Drop, B: Bundles + Drop> Runner<K, B> {
+    /// A runtime over a node, which may have containers already.
+    pub fn new(node: Node<K>, bundles: B) -> Runner<K, B>
+        ensures { result ≡ record { node = node; told = B.told bundles } }
+    {
+        Runner { node, bundles }
+    }
+
+    /// The node.
+    pub fn node(&self) -> &Node<K>
+        ensures { result.now ≡ self.now.node }
+    {
+        &self.node
+    }
+}
+
+impl<K: Kernel + Drop, B: Bundles + Drop> Target for Runner<K, B> {
+    ghost answers = { Answered };
+
+    fn answer<W: Write>(&mut self, command: Command<'_>, w: &mut W) -> io::Result<()> {
+        carry_out(&mut self.node, &mut self.bundles, command, w)
+    }
+}
+
+/// Carries the command out and writes the answer.
+fn carry_out<K: Kernel + Drop, B: Bundles, W: Write>(
+    node: &mut Node<K>,
+    bundles: &mut B,
+    command: Command<'_>,
+    w: &mut W,
+) -> io::Result<()>
+    ensures answers { Replies (AnswersBy (B.told bundles.old) node.old (asked command.entry)) (W.contents w.old) (W.contents w.new) result node.new }
+    ensures same { B.told bundles.new ≡ B.told bundles.old }
+{
+    match command {
+        Command::Create { id, bundle } => create(node, bundles, id, bundle, w),
+        Command::Start { id } => start(node, id, w),
+        Command::Kill { id, signal } => kill(node, id, signal, w),
+        Command::Delete { id } => delete(node, id, w),
+        Command::State { id } => state(node, id, w),
+        Command::List => list(node, w),
+        Command::Sets { id } => sets(node, id, w),
+        Command::Phase => phase(node, w),
+        Command::Fork { pid } => fork(node, pid, w),
+        Command::Exit { pid } => exit(node, pid, w),
+        Command::Offline { cpu } => offline(node, cpu, w),
+        Command::Online { cpu } => online(node, cpu, w),
+        Command::Rebalance | Command::Begin | Command::Step | Command::Certificate => {
+            refuse(node, w)
+        }
+    }
+}
+
+#[cfg(test)]
+mod tests;
