@@ -1,5 +1,6 @@
 pub mod Bidding
 pub mod Cells
+pub mod Clearing
 pub mod Filling
 pub mod HandingOut
 pub mod LeastSlack

@@ -18,6 +18,7 @@ mod answers;
 mod fills;
 mod lines;
 mod looks;
+mod marks;
 mod nearest;
 mod notes;
 mod outlines;
