@@ -44,7 +44,7 @@ line_free ws offers firsts free less l h long down = record {
 pub lines_free : (t : Table) (free less : List ℕ) (lines : List Line) → AreLines t free lines → length less ≡ length free → ((g : ℕ) → number less g ≤ number free g) → AreLines t less lines
 lines_free t free less lines h long down = record {
   long = h.long;
-  each = λ k l is. line_free (weights t k) (offers_of t.rows.now k) t.firsts.items free less l (h.each k l is) long down;
+  each = λ k l is. line_free (weights t k) (offers_of t.rows.now k) t.firsts free less l (h.each k l is) long down;
 }
 
 -- no row has more room than the root

@@ -5,6 +5,7 @@ pub mod Filling
 pub mod HandingOut
 pub mod LeastSlack
 pub mod LineLemmas
+pub mod Indexing
 pub mod Looking
 pub mod Noting
 pub mod Numbers

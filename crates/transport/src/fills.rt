@@ -39,9 +39,9 @@ pub enum Filled {
 /// asked for, and in a search at most one turn for each row and class.
 pub fn fill(alloc: Global, table: &Table, sizes: &[u32]) -> Result<Filled, AllocError>
     requires fit { AreRowsWithin table.now.rows.now }
-    requires classes { length table.now.firsts.items ≡ length sizes.now }
+    requires classes { length table.now.firsts ≡ length sizes.now }
     requires few { length sizes.now ≤ 1024 }
-    ensures { IfOk result (IsFilled table.now.rows.now table.now.firsts.items sizes.now) }
+    ensures { IfOk result (IsFilled table.now.rows.now table.now.firsts sizes.now) }
 {
     let mut state = State::first(alloc, table, sizes)?;
     let mut lines = lines_of(alloc, table.rows)?;

@@ -18,7 +18,7 @@ fill_row-requires-clause-can c =
 
 pub returns-then-not-branch : goal.returns-then-not-branch
 returns-then-not-branch c =
-    subst (IsFilled c.args.table.now.rows.now c.args.table.now.firsts.items c.args.sizes.now) (sym c.stuck.ensures)
+    subst (IsFilled c.args.table.now.rows.now c.args.table.now.firsts c.args.sizes.now) (sym c.stuck.ensures)
     (stuck_at_end _ _ _ _ _ _ c.loop-row.invariant.0 c.requires.fit c.loop-row-test.true _ _ _
     (subst (IsRowFilled c.args.table.now c.loop-row.row c.loop-row.state c.fill_row.new.state c.fill_row.new.lines c.fill_row.new.tree c.loop-row.turns c.fill_row.new.turns) c.if-not-branch.true c.in_ok-fill_row.ensures))
 
