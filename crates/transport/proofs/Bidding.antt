@@ -186,10 +186,10 @@ lines_more rows lines k offers l h are own = record {
         let place : k ≡ j = sym h.long ∙ e in
         subst (IsNewLine (offers_of rows j)) same (subst (λ o. IsNewLine o l) (are ∙ ap (offers_of rows) place) own)
 
-pub lines_new : (t : Table) (free : List ℕ) (lines : List Line) → AreRowsWithin t.rows.now → length t.firsts.items ≤ length free → AreNewLines t.rows.now lines (length t.rows.now) → AreLines t free lines
+pub lines_new : (t : Table) (free : List ℕ) (lines : List Line) → AreRowsWithin t.rows.now → length t.firsts ≤ length free → AreNewLines t.rows.now lines (length t.rows.now) → AreLines t free lines
 lines_new t free lines fit long h = record {
   long = h.long;
-  each = λ k l is. new_line (offers_of t.rows.now k) t.firsts.items free l (apart k (omega (arith, slice_get_within lines k l is, h.long))) long (h.each k l is);
+  each = λ k l is. new_line (offers_of t.rows.now k) t.firsts free l (apart k (omega (arith, slice_get_within lines k l is, h.long))) long (h.each k l is);
 }
   where
     none : RowView

@@ -1,5 +1,5 @@
 -- Classes of twins, as the search knows them: a first CPU and a size each.
-use Rattle.std.proofs.Common.{◌≡◌, ℕ, ◌<◌, ◌≤◌, Bool, true, false, cond, Option, Some, None, MatchOption, unwrap_or, List, [], length, map, get_or, slice_get, refl, sym, ap, ◌∙◌, inl, inr, arith}
+use Rattle.std.proofs.Common.{◌≡◌, ℕ, ◌<◌, ◌≤◌, Bool, true, false, cond, Option, Some, None, MatchOption, unwrap_or, List, [], length, map, get_or, slice_get, refl, sym, ap, ◌∙◌, subst, inl, inr, arith}
 use Rattle.std.specs.Prelude.{option_and_then, nat_lt}
 use Rattle.std.specs.Ordering.{nat_cmp}
 use Rattle.std.specs.FinSet as set
@@ -7,7 +7,7 @@ use Rattle.std.proofs.lemmas.Bool.{cases_lt, true≢false, lt-ltb, le-ltb}
 use Rattle.std.proofs.lemmas.List.{get_or-map, get_or_past, length-map}
 use Rattle.std.proofs.lemmas.Option.{slice_get-get_or, slice_get_past}
 use Rattle.cpu_set.specs.Ids.{Ids}
-use Rattle.cpu_set.specs.Members.{InRange}
+use Rattle.cpu_set.specs.Members.{InRange, IsCpu}
 use Rattle.cpu_set.specs.Least.{least_that}
 use Rattle.cpu_set.specs.LeastLaws.{NonePasses, IsLeastThat, least-passes, least-none}
 use Rattle.cpu_set.specs.Pointwise.{contains-empty}
@@ -16,7 +16,7 @@ use Rattle.certificate.specs.RowView.{RowView}
 use Rattle.certificate.specs.Weight.{weight, weight_in}
 use Rattle.twins.specs.IsGrouping.{class_at, IsGrouping}
 use Rattle.twins.specs.ClassWeight as twins
-use Rattle.transport.specs.Numbers.{number}
+use Rattle.transport.specs.Numbers.{number, IsEachOnce}
 use Rattle.transport.specs.Weights.{offers_of, class_weight}
 use Rattle.transport.specs.Firsts.{first_of}
 
@@ -98,3 +98,32 @@ module _ (rows : List RowView) (classes : List Ids) (grouping : IsGrouping rows 
 
   pub no_size_past : (g : ℕ) → length classes ≤ g → set.len (class_at classes g) ≡ 0
   no_size_past g past = ap set.len (get_or_past classes g set.empty past) ∙ set.len-empty nat_cmp
+
+  -- each class has its first CPU, and no other class has it
+  first_held : (g : ℕ) → g < length classes → (set.contains (class_at classes g) (number (map first_of classes) g) ≡ true) × IsCpu (number (map first_of classes) g)
+  first_held g lt =
+      let least : least_that (set.contains (class_at classes g)) ≡ Some (first_of (class_at classes g)) =
+      has_first (class_at classes g) (grouping.in_range g set.empty lt) (grouping.not_empty g set.empty lt) in
+      let first : number (map first_of classes) g ≡ first_of (class_at classes g) = get_or-map first_of classes g set.empty 0 lt in
+      let passes = subst (λ found. MatchOption found (NonePasses (set.contains (class_at classes g))) (IsLeastThat (set.contains (class_at classes g)))) least (least-passes (set.contains (class_at classes g))) in
+      (rw first passes.passes, rw first passes.is_cpu)
+
+  pub first_is_cpu : (g : ℕ) → IsCpu (number (map first_of classes) g)
+  first_is_cpu g = elim (cases_lt g (length classes)) [
+    | inl lt ↦ (first_held g lt).1
+    | inr past ↦ (let e : number (map first_of classes) g ≡ 0 = get_or_past (map first_of classes) g 0 (omega (arith, length-map classes first_of, past)) in omega (arith, e))
+  ]
+
+  pub firsts_once : IsEachOnce (map first_of classes)
+  firsts_once i j i_in j_in same = elim (cases_lt i j) [
+    | inl before ↦ absurd (meet i j before (omega (arith, j_in, length-map classes first_of)) same)
+    | inr le ↦ elim (cases_lt j i) [
+      | inl after ↦ absurd (meet j i after (omega (arith, i_in, length-map classes first_of)) (sym same))
+      | inr ge ↦ omega (arith, le, ge)
+    ]
+  ]
+    where
+      meet : (a b : ℕ) → a < b → b < length classes → number (map first_of classes) a ≡ number (map first_of classes) b → ⊥
+      meet a b lt b_in e =
+          let in_a : set.contains (class_at classes a) (number (map first_of classes) b) ≡ true = subst (λ c. set.contains (class_at classes a) c ≡ true) e (first_held a (omega (arith, lt, b_in))).0 in
+          grouping.apart a b set.empty lt b_in (number (map first_of classes) b) in_a (first_held b b_in).0

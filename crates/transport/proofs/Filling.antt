@@ -172,7 +172,7 @@ grow x y a after le most =
     omega (arith, most, up)
 
 -- before the first row
-module _ (t : Table) (sizes : List ℕ) (s : State) (lines : List Line) (fit : AreRowsWithin t.rows.now) (long : length t.firsts.items ≡ length sizes) (h : IsFirst t.rows.now sizes s)
+module _ (t : Table) (sizes : List ℕ) (s : State) (lines : List Line) (fit : AreRowsWithin t.rows.now) (long : length t.firsts ≡ length sizes) (h : IsFirst t.rows.now sizes s)
     (new : AreNewLines t.rows.now lines (length t.rows.now)) where
   no_cell : (k g : ℕ) → cell s.holdings.items k g ≡ 0
   no_cell k g = ap (share_of k) (h.holdings g)
@@ -187,8 +187,8 @@ module _ (t : Table) (sizes : List ℕ) (s : State) (lines : List Line) (fit : A
   first_settled = record {
     fit = record {
       few = omega (arith, h.values_long, fit.few);
-      low = λ k g w e. weight_low t.rows.now t.firsts.items k g w fit e;
-      class = λ k g w e. omega (arith, in_classes (offers_of t.rows.now k) t.firsts.items g w e, long, h.prices_long);
+      low = λ k g w e. weight_low t.rows.now t.firsts k g w fit e;
+      class = λ k g w e. omega (arith, in_classes (offers_of t.rows.now k) t.firsts g w e, long, h.prices_long);
     };
     dual = record {
       below = λ k g w e. omega (arith, h.values k);
@@ -271,7 +271,7 @@ module _ (t : Table) (sizes : List ℕ) (s : State) (lines : List Line) (row tur
       by_row = λ k k_in. rw h.prices_long at (d.by_row k (omega (arith, k_in, h.values_long))) ∙ h.shared.by_row k k_in;
       by_class = λ g g_in. rw h.values_long at (d.by_class g (omega (arith, g_in, h.prices_long))) ∙ h.shared.by_class g g_in;
       rows_in = λ k g some. (let x = tight k g some in
-          (in_rows t.rows.now t.firsts.items k g x.weight x.its, omega (arith, w.class k g x.weight x.its, d.prices_long, h.prices_long)));
+          (in_rows t.rows.now t.firsts k g x.weight x.its, omega (arith, w.class k g x.weight x.its, d.prices_long, h.prices_long)));
     }
 
   -- the row has what it asks for
@@ -296,7 +296,7 @@ module _ (t : Table) (sizes : List ℕ) (s : State) (lines : List Line) (row tur
       ]
 
   -- it can't have it
-  pub stuck_at_end : (new : State) (tree : Tree) (after : ℕ) → IsAtEnd t row s new tree turns after → IsStuck t.rows.now t.firsts.items sizes tree.queue.reached.items tree.takings.taken.items after
+  pub stuck_at_end : (new : State) (tree : Tree) (after : ℕ) → IsAtEnd t row s new tree turns after → IsStuck t.rows.now t.firsts sizes tree.queue.reached.items tree.takings.taken.items after
   stuck_at_end new tree after e = record {
     reached_long = x.queue.reached_long ∙ e.handed.values_long ∙ h.values_long;
     taken_long = x.taken_long ∙ e.handed.prices_long ∙ h.prices_long;
@@ -316,7 +316,7 @@ module _ (t : Table) (sizes : List ℕ) (s : State) (lines : List Line) (row tur
       up le most = rw (← asked_is t.rows.now) (grow (total (demand_of t.rows.now) (suc row)) (total (demand_of t.rows.now) (length t.rows.now)) (length t.rows.now + length sizes) after le most)
 
 -- all rows have what they ask for
-pub done_at_end : (t : Table) (sizes : List ℕ) (s : State) (lines : List Line) (row turns : ℕ) → AreFilled t sizes s lines row turns → row ≡ length t.rows.now → IsDone t.rows.now t.firsts.items sizes s turns
+pub done_at_end : (t : Table) (sizes : List ℕ) (s : State) (lines : List Line) (row turns : ℕ) → AreFilled t sizes s lines row turns → row ≡ length t.rows.now → IsDone t.rows.now t.firsts sizes s turns
 done_at_end t sizes s lines row turns h all = record {
   values_long = h.values_long;
   prices_long = h.prices_long;

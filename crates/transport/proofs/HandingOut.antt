@@ -16,7 +16,7 @@ use Rattle.transport.specs.States.{cell, IsRunning}
 use Rattle.transport.specs.Answers.{IsClosed, IsFound, IsAnswer, IsSameRest}
 use Rattle.transport.specs.Pushes.{in_hand}
 use Rattle.transport.specs.Pushed.{IsPushed}
-use Rattle.transport.specs.Settled.{IsFresh}
+use Rattle.transport.specs.Settled.{IsTreeOf}
 use Rattle.transport.specs.Filling.{IsHandedOut, CanFill, IsFilling, IsAtEnd, a_search}
 use Rattle.transport.specs.declared.notes.Exit.{Exit}
 use Rattle.transport.specs.declared.states.State.{State}
@@ -24,7 +24,7 @@ use Rattle.transport.specs.declared.tables.Table.{Table}
 use Rattle.transport.specs.declared.trees.Tree.{Tree}
 use Rattle.transport.specs.declared.lines.Line.{Line}
 use Rattle.transport.proofs.QueueLemmas.{marked_below}
-use Rattle.transport.proofs.Starting.{count_less}
+use Rattle.transport.proofs.Starting.{count_less, tidy_running}
 use Rattle.transport.proofs.Settling.{settled_pushed}
 
 -- a line stays one where no more CPUs are free
@@ -44,7 +44,7 @@ line_free ws offers firsts free less l h long down = record {
 pub lines_free : (t : Table) (free less : List ℕ) (lines : List Line) → AreLines t free lines → length less ≡ length free → ((g : ℕ) → number less g ≤ number free g) → AreLines t less lines
 lines_free t free less lines h long down = record {
   long = h.long;
-  each = λ k l is. line_free (weights t k) (offers_of t.rows.now k) t.firsts.items free less l (h.each k l is) long down;
+  each = λ k l is. line_free (weights t k) (offers_of t.rows.now k) t.firsts free less l (h.each k l is) long down;
 }
 
 -- no row has more room than the root
@@ -201,9 +201,6 @@ pub answer_running : (ws : ℕ → ℕ → Option ℕ) (s : State) (t : Tree) (f
 answer_running ws s t None a = a.running
 answer_running ws s t (Some e) a = a.running
 
-pub fresh_as : (rows rows' classes classes' root amount amount' : ℕ) (t : Tree) → rows ≡ rows' → classes ≡ classes' → amount ≡ amount' → IsFresh rows classes root amount t → IsFresh rows' classes' root amount' t
-fresh_as rows rows' classes classes' root amount amount' t x y z h = rw (← x, ← y, ← z) h
-
 -- the search's end in the words of `search_for`: `lines` are those after the search
 module _ (tb : Table) (root : ℕ) (old mid : State) (t : Tree) (before : List Line) (lines : List Line) (turns : ℕ) (can : CanFill tb root old before turns) (lacks : 0 < number old.unmet.items root)
     (running : IsRunning (weights tb) mid t) (rows : length tb.rows.now ≡ length mid.values.items) (rest : IsSameRest old mid) (root_at : row_at t.queue 0 ≡ root)
@@ -292,3 +289,6 @@ module _ (tb : Table) (root : ℕ) (old mid : State) (t : Tree) (before : List L
         most = omega (arith, taken_up_exit, one_more (number new.unmet.items root) (number old.unmet.items root) (a_search old) fewer, after_is);
         least = λ lt. omega (arith, running.search.rooted, after_is);
       }
+
+      pub tree_left : IsTreeOf new t
+      tree_left = rw (p.values, p.prices) (tidy_running (weights tb) mid t running)

@@ -1,9 +1,11 @@
 pub mod Bidding
 pub mod Cells
+pub mod Clearing
 pub mod Filling
 pub mod HandingOut
 pub mod LeastSlack
 pub mod LineLemmas
+pub mod Indexing
 pub mod Looking
 pub mod Noting
 pub mod Numbers

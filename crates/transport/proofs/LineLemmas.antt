@@ -1,13 +1,14 @@
 -- A row's arcs, as offers are opened and the cursor moves.
-use Rattle.std.proofs.Common.{◌≡◌, ℕ, ◌+◌, ◌<◌, ◌≤◌, true, false, List, [], ◌∷◌, ◌++◌, length, get_or, Option, Some, None, MatchOption, slice_get, ◌⊎◌, refl, sym, ap, ◌∙◌, subst, inl, inr, arith}
+use Rattle.std.proofs.Common.{◌≡◌, ℕ, ◌+◌, ◌<◌, ◌≤◌, true, List, [], ◌∷◌, ◌++◌, length, get_or, Option, Some, None, MatchOption, IfSome, slice_get, ◌⊎◌, refl, sym, ap, ◌∙◌, subst, inl, inr, arith}
 use Rattle.std.specs.FinSet as set
 use Rattle.std.proofs.lemmas.List.{length_push, get_or_push, get_or_append_left, get_or_read}
 use Rattle.std.proofs.lemmas.Option.{slice_get_within, slice_get_read}
 use Rattle.std.proofs.lemmas.Bool.{cases_eq, cases_lt}
 use Rattle.certificate.specs.declared.rows.Offer.{Offer}
-use Rattle.transport.specs.Numbers.{number}
+use Rattle.cpu_set.specs.Ids.{Ids, NoneFrom, IsFirstFrom}
+use Rattle.transport.specs.Numbers.{number, IsIn}
 use Rattle.transport.specs.Looks.{arc_at, IsPast}
-use Rattle.transport.specs.Lines.{bid_at, IsArc, HasOffer, IsToCome, AreBids, AreArcs, IsLine, IsScanned, IsFreeArc, IsFoundExit, IsOpening, CanOpen}
+use Rattle.transport.specs.Lines.{bid_at, IsArc, HasOffer, IsToCome, AreBids, AreArcs, IsLine, IsScanned, IsFreeArc, IsFoundExit, IsAhead, IsOpening, CanOpen}
 use Rattle.transport.specs.declared.lines.Bid.{Bid}
 use Rattle.transport.specs.declared.lines.Arc.{Arc}
 use Rattle.transport.specs.declared.lines.Line.{Line}
@@ -58,58 +59,58 @@ found_at ws offers firsts free l limit arc h lt is some near = record {
   scanned = scanned_at ws offers firsts free l (Some arc.weight) h lt (rw is (omega arith));
 }
 
+-- a member from some number on is no lower than the next one of a walk
+pub ahead : (s : Ids) (from c : ℕ) (next : Option ℕ) → MatchOption next (NoneFrom s from) (λ n. IsFirstFrom s from n) → from ≤ c → set.contains s c ≡ true → IsAhead next c
+ahead s from c None none le on = not_both _ on (none c le)
+ahead s from c (Some n) first le on = elim (cases_lt c n) [
+  | inl below ↦ absurd (not_both _ on (first.least c le below))
+  | inr at ↦ at
+]
+
+pub next_member : (s : Ids) (from : ℕ) (next : Option ℕ) → MatchOption next (NoneFrom s from) (λ n. IsFirstFrom s from n) → IfSome next (λ n. set.contains s n ≡ true)
+next_member s from None none = tt
+next_member s from (Some n) first = first.member
+
+-- the first CPUs of the offer's classes
+abbrev pub HasAll : List ℕ → Ids → Ids → Type 0
+HasAll firsts cpus there = (g : ℕ) → g < length firsts → set.contains cpus (number firsts g) ≡ true → set.contains there (number firsts g) ≡ true
+
+has_offer : (offers : List Offer) (firsts : List ℕ) (o g w : ℕ) (offer : Offer) → slice_get offers o ≡ Some offer → HasOffer offers firsts o g w → set.contains offer.cpus (number firsts g) ≡ true
+has_offer offers firsts o g w offer its d =
+    let same : d.offer ≡ offer = (let both : Some d.offer ≡ Some offer = sym d.its ∙ its in cc) in
+    subst (λ (x : Offer). set.contains x.cpus (number firsts g) ≡ true) same d.has
+
 -- opening an offer
-pub opening_none : (ws : ℕ → Option ℕ) (offers : List Offer) (firsts : List ℕ) (bids : List Bid) (opened : ℕ) (arcs : List Arc) → AreArcs ws offers firsts bids opened arcs
-    → IsOpening ws offers firsts bids opened arcs arcs 0
-opening_none ws offers firsts bids opened arcs h = record {
-  sound = h.sound;
-  rising = h.rising;
-  low = h.low;
-  all = λ g w its. elim (h.all g w its) [ inl a ↦ inl a | inr b ↦ inr (later g w b) ];
+pub arcs_start : (ws : ℕ → Option ℕ) (offers : List Offer) (firsts : List ℕ) (bids : List Bid) (opened : ℕ) (offer : Offer) (weight : ℕ) (arcs : List Arc) (there : Ids) (next : Option ℕ)
+    → CanOpen ws offers firsts bids opened offer weight arcs → HasAll firsts offer.cpus there → MatchOption next (NoneFrom there 0) (λ n. IsFirstFrom there 0 n)
+    → IsOpening ws offers firsts bids opened arcs arcs next
+arcs_start ws offers firsts bids opened offer weight arcs there next can all first = record {
+  sound = can.arcs_are.sound;
+  rising = can.arcs_are.rising;
+  low = can.arcs_are.low;
+  all = λ g w its. elim (can.arcs_are.all g w its) [ inl a ↦ inl a | inr b ↦ inr (later g w b) ];
   longer = omega arith;
   kept = λ i lt. refl;
 }
   where
-    at_first : (g w p : ℕ) → p ≡ opened → HasOffer offers firsts (bid_at bids p).offer g w → HasOffer offers firsts (bid_at bids opened).offer g w
-    at_first g w p e b = subst (λ x. HasOffer offers firsts (bid_at bids x).offer g w) e b
-
-    later : (g w : ℕ) → IsToCome offers firsts bids opened g w → IsToCome offers firsts bids (opened + 1) g w ⊎ ((0 ≤ g) × HasOffer offers firsts (bid_at bids opened).offer g w)
+    later : (g w : ℕ) → IsToCome offers firsts bids opened g w → IsToCome offers firsts bids (opened + 1) g w ⊎ (IsAhead next (number firsts g) × HasOffer offers firsts (bid_at bids opened).offer g w)
     later g w b = elim (cases_eq b.place opened) [
-      | inl e ↦ inr (omega arith, at_first g w b.place e b.has)
+      | inl e ↦ (let d : HasOffer offers firsts (bid_at bids opened).offer g w = subst (λ x. HasOffer offers firsts (bid_at bids x).offer g w) e b.has in
+          inr (ahead there 0 (number firsts g) next first (omega arith) (all g d.in_range (has_offer offers firsts _ g w offer can.its d)), d))
       | inr ne ↦ inl (record { place = b.place; from = omega (arith, b.from, ne); within = b.within; has = b.has })
     ]
 
 module _ (ws : ℕ → Option ℕ) (offers : List Offer) (firsts : List ℕ) (bids : List Bid) (opened : ℕ) (old arcs : List Arc) (g : ℕ) (offer : Offer)
     (bs : AreBids offers bids) (in_bids : opened < length bids) (lt : g < length firsts) (its : slice_get offers (bid_at bids opened).offer ≡ Some offer)
-    (h : IsOpening ws offers firsts bids opened old arcs g) where
+    (now next : Option ℕ) (h : IsOpening ws offers firsts bids opened old arcs now) where
   weight_is : offer.weight ≡ (bid_at bids opened).weight
   weight_is =
       let b = bs.its opened in_bids in
       let same : b.offer ≡ offer = (let both : Some b.offer ≡ Some offer = sym b.its ∙ its in cc) in
       ap (λ (o : Offer). o.weight) (sym same) ∙ b.weight
 
-  pub opening_miss : set.contains offer.cpus (number firsts g) ≡ false → IsOpening ws offers firsts bids opened old arcs (g + 1)
-  opening_miss off = record {
-    sound = h.sound;
-    rising = h.rising;
-    low = h.low;
-    all = λ j w weighs. elim (h.all j w weighs) [ inl a ↦ inl a | inr b ↦ inr (elim b [ inl c ↦ inl c | inr d ↦ inr (further j w d.0 d.1) ]) ];
-    longer = h.longer;
-    kept = h.kept;
-  }
-    where
-      never : (w : ℕ) → HasOffer offers firsts (bid_at bids opened).offer g w → ⊥
-      never w d =
-          let same : d.offer ≡ offer = (let both : Some d.offer ≡ Some offer = sym d.its ∙ its in cc) in
-          not_both _ (subst (λ o. set.contains o.cpus (number firsts g) ≡ true) same d.has) off
-
-      further : (j w : ℕ) → g ≤ j → HasOffer offers firsts (bid_at bids opened).offer j w → (g + 1 ≤ j) × HasOffer offers firsts (bid_at bids opened).offer j w
-      further j w le d = elim (cases_eq j g) [
-        | inl e ↦ absurd (never w (subst (λ x. HasOffer offers firsts (bid_at bids opened).offer x w) e d))
-        | inr ne ↦ (omega (arith, le, ne), d)
-      ]
-
-  module _ (hits : (o j w : ℕ) → HasOffer offers firsts o j w → ws j ≡ Some w) (on : set.contains offer.cpus (number firsts g) ≡ true) where
+  module _ (hits : (o j w : ℕ) → HasOffer offers firsts o j w → ws j ≡ Some w) (on : set.contains offer.cpus (number firsts g) ≡ true)
+      (step : (j w : ℕ) → IsAhead now (number firsts j) → HasOffer offers firsts (bid_at bids opened).offer j w → (j ≡ g) ⊎ IsAhead next (number firsts j)) where
     abbrev pub arc : Arc
     arc = record { weight = (bid_at bids opened).weight; class = g }
 
@@ -165,19 +166,20 @@ module _ (ws : ℕ → Option ℕ) (offers : List Offer) (firsts : List ℕ) (bi
           weight = ap (λ (x : Arc). x.weight) (last (length arcs) refl) ∙ sym weight_is ∙ ap (λ (o : Offer). o.weight) (sym same) ∙ d.weight;
         }
 
-    all_more : (j w : ℕ) → ws j ≡ Some w → IsArc more (length more) j w ⊎ (IsToCome offers firsts bids (opened + 1) j w ⊎ ((g + 1 ≤ j) × HasOffer offers firsts (bid_at bids opened).offer j w))
+    all_more : (j w : ℕ) → ws j ≡ Some w
+        → IsArc more (length more) j w ⊎ (IsToCome offers firsts bids (opened + 1) j w ⊎ (IsAhead next (number firsts j) × HasOffer offers firsts (bid_at bids opened).offer j w))
     all_more j w weighs = elim (h.all j w weighs) [
       | inl a ↦ inl (arc_more j w a)
       | inr b ↦ elim b [
         | inl c ↦ inr (inl c)
-        | inr d ↦ elim (cases_eq j g) [
+        | inr d ↦ elim (step j w d.0 d.1) [
           | inl e ↦ inl (subst (λ x. IsArc more (length more) x w) (sym e) (own w (subst (λ x. HasOffer offers firsts (bid_at bids opened).offer x w) e d.1)))
-          | inr ne ↦ inr (inr (omega (arith, d.0, ne), d.1))
+          | inr on ↦ inr (inr (on, d.1))
         ]
       ]
     ]
 
-    pub opening_hit : IsOpening ws offers firsts bids opened old more (g + 1)
+    pub opening_hit : IsOpening ws offers firsts bids opened old more next
     opening_hit = record {
       sound = sound_more;
       rising = rising_more;
@@ -187,14 +189,14 @@ module _ (ws : ℕ → Option ℕ) (offers : List Offer) (firsts : List ℕ) (bi
       kept = λ i early. before i (omega (arith, early, h.longer)) ∙ h.kept i early;
     }
 
--- all classes were looked at
-pub opening_all : (ws : ℕ → Option ℕ) (offers : List Offer) (firsts : List ℕ) (bids : List Bid) (opened : ℕ) (old arcs : List Arc) (n : ℕ) → length firsts ≤ n → IsOpening ws offers firsts bids opened old arcs n
+-- all classes of the offer were looked at
+pub opening_all : (ws : ℕ → Option ℕ) (offers : List Offer) (firsts : List ℕ) (bids : List Bid) (opened : ℕ) (old arcs : List Arc) → IsOpening ws offers firsts bids opened old arcs None
     → AreArcs ws offers firsts bids (opened + 1) arcs
-opening_all ws offers firsts bids opened old arcs n done h = record {
+opening_all ws offers firsts bids opened old arcs h = record {
   sound = h.sound;
   rising = h.rising;
   low = λ i j lt from to. h.low i j lt (omega arith) to;
-  all = λ g w its. elim (h.all g w its) [ inl a ↦ inl a | inr b ↦ elim b [ inl c ↦ inr c | inr d ↦ absurd (omega (arith, d.0, d.1.in_range, done)) ] ];
+  all = λ g w its. elim (h.all g w its) [ inl a ↦ inl a | inr b ↦ elim b [ inl c ↦ inr c | inr d ↦ absurd d.0 ] ];
 }
 
 -- what is left of a line as an offer is opened
@@ -203,11 +205,11 @@ pub can_open : (ws : ℕ → Option ℕ) (offers : List Offer) (firsts free : Li
 can_open ws offers firsts free l offer weight h more its weighs = record { bids_are = h.bids; in_bids = more; its = its; weighs = weighs; arcs_are = h.arcs; hits = h.hits }
 
 pub line_opened : (ws : ℕ → Option ℕ) (offers : List Offer) (firsts free : List ℕ) (l new : Line) → IsLine ws offers firsts free l → l.opened < length l.bids.items
-    → IsOpening ws offers firsts l.bids.items l.opened l.arcs.items new.arcs.items (length firsts) → new.bids ≡ l.bids → new.opened ≡ l.opened + 1 → new.cursor ≡ l.cursor → IsLine ws offers firsts free new
+    → IsOpening ws offers firsts l.bids.items l.opened l.arcs.items new.arcs.items None → new.bids ≡ l.bids → new.opened ≡ l.opened + 1 → new.cursor ≡ l.cursor → IsLine ws offers firsts free new
 line_opened ws offers firsts free l new h more o bids opened cursor = record {
   bids = rw bids h.bids;
   opened_in = rw (bids, opened) (omega arith);
-  arcs = rw (bids, opened) (opening_all ws offers firsts l.bids.items l.opened l.arcs.items new.arcs.items (length firsts) (omega arith) o);
+  arcs = rw (bids, opened) (opening_all ws offers firsts l.bids.items l.opened l.arcs.items new.arcs.items o);
   cursor_in = rw cursor (omega (arith, h.cursor_in, o.longer));
   full = λ i lt. full i (omega (arith, lt, cursor));
   hits = h.hits;
@@ -231,22 +233,25 @@ line_moved ws offers firsts free l new h bids opened arcs cursor full = record {
   firsts_in = h.firsts_in;
 }
 
--- a turn over the classes
-pub arcs_start : (ws : ℕ → Option ℕ) (offers : List Offer) (firsts : List ℕ) (bids : List Bid) (opened : ℕ) (offer : Offer) (weight : ℕ) (arcs : List Arc) → CanOpen ws offers firsts bids opened offer weight arcs
-    → IsOpening ws offers firsts bids opened arcs arcs 0
-arcs_start ws offers firsts bids opened offer weight arcs can = opening_none ws offers firsts bids opened arcs can.arcs_are
-
-pub arcs_miss : (ws : ℕ → Option ℕ) (offers : List Offer) (firsts : List ℕ) (bids : List Bid) (opened : ℕ) (offer : Offer) (weight : ℕ) (old arcs : List Arc) (g : ℕ) → CanOpen ws offers firsts bids opened offer weight old
-    → g < length firsts → set.contains offer.cpus (number firsts g) ≡ false → IsOpening ws offers firsts bids opened old arcs g → IsOpening ws offers firsts bids opened old arcs (g + 1)
-arcs_miss ws offers firsts bids opened offer weight old arcs g can lt off h = opening_miss ws offers firsts bids opened old arcs g offer can.bids_are can.in_bids lt can.its h off
-
-pub arcs_hit : (ws : ℕ → Option ℕ) (offers : List Offer) (firsts : List ℕ) (bids : List Bid) (opened : ℕ) (offer : Offer) (weight : ℕ) (old arcs new : List Arc) (g : ℕ) → CanOpen ws offers firsts bids opened offer weight old
-    → g < length firsts → set.contains offer.cpus (number firsts g) ≡ true → new ≡ arcs ++ (record { weight = weight; class = g }) ∷ [] → IsOpening ws offers firsts bids opened old arcs g
-    → IsOpening ws offers firsts bids opened old new (g + 1)
-arcs_hit ws offers firsts bids opened offer weight old arcs new g can lt on is h =
-    let P = λ (xs : List Arc). IsOpening ws offers firsts bids opened old xs (g + 1) in
+-- a class of the offer more, and the next one
+pub arcs_more : (ws : ℕ → Option ℕ) (offers : List Offer) (firsts : List ℕ) (bids : List Bid) (opened : ℕ) (offer : Offer) (weight : ℕ) (old arcs new : List Arc) (there : Ids) (cpu g : ℕ) (next : Option ℕ)
+    → CanOpen ws offers firsts bids opened offer weight old → HasAll firsts offer.cpus there → set.contains offer.cpus cpu ≡ true
+    → IsIn firsts cpu → ((j : ℕ) → j < length firsts → number firsts j ≡ cpu → g ≡ j)
+    → MatchOption next (NoneFrom there (cpu + 1)) (λ n. IsFirstFrom there (cpu + 1) n) → new ≡ arcs ++ (record { weight = weight; class = g }) ∷ []
+    → IsOpening ws offers firsts bids opened old arcs (Some cpu) → IsOpening ws offers firsts bids opened old new next
+arcs_more ws offers firsts bids opened offer weight old arcs new there cpu g next can all on among own first is h =
+    let same : g ≡ among.place = own among.place among.within among.is in
+    let lt : g < length firsts = omega (arith, same, among.within) in
+    let here : number firsts g ≡ cpu = ap (λ j. number firsts j) same ∙ among.is in
+    let P = λ (xs : List Arc). IsOpening ws offers firsts bids opened old xs next in
     subst P (sym (is ∙ ap (λ w. arcs ++ (record { weight = w; class = g }) ∷ []) can.weighs))
-    (opening_hit ws offers firsts bids opened old arcs g offer can.bids_are can.in_bids lt can.its h can.hits on)
+    (opening_hit ws offers firsts bids opened old arcs g offer can.bids_are can.in_bids lt can.its (Some cpu) next h can.hits (subst (λ c. set.contains offer.cpus c ≡ true) (sym here) on) step)
+  where
+    step : (j w : ℕ) → cpu ≤ number firsts j → HasOffer offers firsts (bid_at bids opened).offer j w → (j ≡ g) ⊎ IsAhead next (number firsts j)
+    step j w le d = elim (cases_eq (number firsts j) cpu) [
+      | inl e ↦ inl (sym (own j d.in_range e))
+      | inr ne ↦ inr (ahead there (cpu + 1) (number firsts j) next first (omega (arith, le, ne)) (all j d.in_range (has_offer offers firsts _ j w offer can.its d)))
+    ]
 
 bid_here : (bids : List Bid) (i : ℕ) (b : Bid) → i < length bids → b ≡ get_or bids i b → b ≡ bid_at bids i
 bid_here bids i b lt is = get_or_read bids i b lt is _

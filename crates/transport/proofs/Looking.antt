@@ -136,26 +136,26 @@ row_read ws s t at k h lt is =
     let e : row_at t.queue at ≡ k = sym (get_or_read t.queue.order.items at k lt is 0) in
     (e, subst (λ x. is_reached t.queue x ≡ true) e (h.search.queue.on at lt))
 
-pub line_of : (t : Table) (free : List ℕ) (lines : List Line) (k : ℕ) (d : Line) → AreLines t free lines → k < length lines → IsLine (weights t k) (offers_of t.rows.now k) t.firsts.items free (get_or lines k d)
+pub line_of : (t : Table) (free : List ℕ) (lines : List Line) (k : ℕ) (d : Line) → AreLines t free lines → k < length lines → IsLine (weights t k) (offers_of t.rows.now k) t.firsts free (get_or lines k d)
 line_of t free lines k d h lt = h.each k (get_or lines k d) (slice_get-get_or lines k d lt)
 
-pub lines_set : (t : Table) (free : List ℕ) (lines : List Line) (k : ℕ) (l : Line) → AreLines t free lines → k < length lines → IsLine (weights t k) (offers_of t.rows.now k) t.firsts.items free l → AreLines t free (set lines k l)
+pub lines_set : (t : Table) (free : List ℕ) (lines : List Line) (k : ℕ) (l : Line) → AreLines t free lines → k < length lines → IsLine (weights t k) (offers_of t.rows.now k) t.firsts free l → AreLines t free (set lines k l)
 lines_set t free lines k l h lt own = record {
   long = length-set lines k l ∙ h.long;
   each = each;
 }
   where
-    at_own : (j : ℕ) (m : Line) → j ≡ k → slice_get (set lines k l) j ≡ Some m → IsLine (weights t j) (offers_of t.rows.now j) t.firsts.items free m
+    at_own : (j : ℕ) (m : Line) → j ≡ k → slice_get (set lines k l) j ≡ Some m → IsLine (weights t j) (offers_of t.rows.now j) t.firsts free m
     at_own j m e its =
         let here : get_or (set lines k l) k l ≡ m = get_or_from_slice_get (set lines k l) k m l (subst (λ x. slice_get (set lines k l) x ≡ Some m) e its) in
         let same : l ≡ m = sym (get_or-set_same lines k l l lt) ∙ here in
-        subst (λ x. IsLine (weights t x) (offers_of t.rows.now x) t.firsts.items free m) (sym e)
-        (subst (λ (y : Line). IsLine (weights t k) (offers_of t.rows.now k) t.firsts.items free y) same own)
+        subst (λ x. IsLine (weights t x) (offers_of t.rows.now x) t.firsts free m) (sym e)
+        (subst (λ (y : Line). IsLine (weights t k) (offers_of t.rows.now k) t.firsts free y) same own)
 
-    each : (j : ℕ) (m : Line) → slice_get (set lines k l) j ≡ Some m → IsLine (weights t j) (offers_of t.rows.now j) t.firsts.items free m
+    each : (j : ℕ) (m : Line) → slice_get (set lines k l) j ≡ Some m → IsLine (weights t j) (offers_of t.rows.now j) t.firsts free m
     each j m its = elim (cases_eq j k) [
       | inl e ↦ at_own j m e its
       | inr ne ↦ (let here : get_or lines j l ≡ m = sym (get_or-set_other lines k j l l ne) ∙ get_or_from_slice_get (set lines k l) j m l its in
           let in_lines : j < length lines = omega (arith, slice_get_within (set lines k l) j m its, length-set lines k l) in
-          subst (λ (y : Line). IsLine (weights t j) (offers_of t.rows.now j) t.firsts.items free y) here (line_of t free lines j l h in_lines))
+          subst (λ (y : Line). IsLine (weights t j) (offers_of t.rows.now j) t.firsts free y) here (line_of t free lines j l h in_lines))
     ]

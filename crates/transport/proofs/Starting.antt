@@ -5,11 +5,12 @@ use Rattle.std.proofs.lemmas.Bool.{cases_Bool, cases_lt}
 use Rattle.std.proofs.lemmas.List.{length_push, length-replicate, get_or-replicate, get_or_past, get_or-set_same}
 use Rattle.std.proofs.lemmas.List.Sums.{sum_by-cons, count_by-le-length}
 use Rattle.transport.specs.Numbers.{number, is_marked}
-use Rattle.transport.specs.Queues.{IsQueue, IsAtRoot, IsReached, is_reached, place, room, row_at}
+use Rattle.transport.specs.Queues.{IsQueue, IsUnreached, IsAtRoot, IsReached, is_reached, place, room, row_at}
 use Rattle.transport.specs.Searches.{is_taken, IsSearch, IsClose, most}
 use Rattle.transport.specs.States.{cell, IsRunning}
 use Rattle.transport.specs.Answers.{IsFound}
-use Rattle.transport.specs.Settled.{IsSettled, IsFresh}
+use Rattle.transport.specs.Settled.{IsSettled, IsFresh, IsTidy, IsTreeOf}
+use Rattle.transport.specs.declared.notes.Near.{Near}
 use Rattle.transport.specs.declared.notes.Exit.{Exit}
 use Rattle.transport.specs.declared.states.State.{State}
 use Rattle.transport.specs.declared.trees.Tree.{Tree}
@@ -17,7 +18,7 @@ use Rattle.transport.proofs.Numbers.{not_both}
 use Rattle.transport.proofs.QueueLemmas.{queue_reached}
 use Rattle.transport.specs.declared.queues.Queue.{Queue}
 
-count_none : (bs : List Bool) → ((k : ℕ) → is_marked bs k ≡ false) → count_by (λ b. b) bs ≡ 0
+pub count_none : (bs : List Bool) → ((k : ℕ) → is_marked bs k ≡ false) → count_by (λ b. b) bs ≡ 0
 count_none [] h = refl
 count_none (b ∷ bs) h =
     let here : ◌≡◌ {A = ℕ} (cond b 1 0) 0 = ap (λ x. cond {A = ℕ} x 1 0) (h 0) in
@@ -41,33 +42,52 @@ replicate_default n i a = elim (cases_lt i n) [
   | inr past ↦ get_or_past (replicate n a) i a (omega (arith, length-replicate n a, past))
 ]
 
--- a queue in which the first row is reached
-module _ (rows root amount : ℕ) (old new : Queue) (in_rows : root < rows) (reached : old.reached.items ≡ replicate rows false) (via_is : old.via.items ≡ replicate rows 0)
-    (room_is : old.room.items ≡ replicate rows 0) (place_is : old.place.items ≡ replicate rows 0) (order : old.order.items ≡ []) (r : IsReached old new root 0 amount) where
-  none : (k : ℕ) → is_reached old k ≡ false
-  none k = ap (λ bs. is_marked bs k) reached ∙ replicate_default rows k false
+-- a queue in which no row is reached
+pub queue_none : (rows : ℕ) (q : Queue) → IsUnreached rows q → IsQueue rows q
+queue_none rows q h = record {
+  reached_long = h.reached_long;
+  via_long = h.via_long;
+  room_long = h.room_long;
+  place_long = h.place_long;
+  on = λ i lt. absurd (omega (arith, lt, ap length h.order));
+  at = λ i lt. absurd (omega (arith, lt, ap length h.order));
+  within = λ k on. absurd (not_both _ on (h.none k));
+  placed = λ k on. absurd (not_both _ on (h.none k));
+  counted = count_none q.reached.items h.none ∙ sym (ap length h.order);
+}
 
-  queue_none : IsQueue rows old
-  queue_none = record {
-    reached_long = ap length reached ∙ length-replicate rows false;
-    via_long = ap length via_is ∙ length-replicate {A = ℕ} rows 0;
-    room_long = ap length room_is ∙ length-replicate {A = ℕ} rows 0;
-    place_long = ap length place_is ∙ length-replicate {A = ℕ} rows 0;
+-- a tree before the first search
+pub tidy_none : (rows classes : ℕ) (t : Tree) → IsUnreached rows t.queue → t.notes.nears.items ≡ replicate classes None → t.notes.noted.items ≡ []
+    → t.takings.taken.items ≡ replicate classes false → t.takings.order.items ≡ [] → IsTidy rows classes t
+tidy_none rows classes t queue nears noted taken order = record {
+  queue = queue_none rows t.queue queue;
+  nears_long = ap length nears ∙ length-replicate {A = Option Near} classes None;
+  noted = record {
+    all = λ g n is. (let no_note : Some n ≡ None = sym is ∙ ap (λ ns. get_or ns g None) nears ∙ replicate_default classes g None in cc);
+    within = λ i lt. absurd (omega (arith, lt, ap length noted));
+  };
+  taken_long = ap length taken ∙ length-replicate classes false;
+  taken = record {
     on = λ i lt. absurd (omega (arith, lt, ap length order));
-    at = λ i lt. absurd (omega (arith, lt, ap length order));
-    within = λ k on. absurd (not_both _ on (none k));
-    placed = λ k on. absurd (not_both _ on (none k));
-    counted = count_none old.reached.items none ∙ sym (ap length order);
-  }
+    all = λ k on. absurd (not_both _ on (none k));
+    once = λ i j lt. absurd (omega (arith, lt, ap length order));
+    counted = count_none t.takings.taken.items none ∙ sym (ap length order);
+  };
+}
+  where
+    none : (g : ℕ) → is_taken t.takings g ≡ false
+    none g = ap (λ bs. is_marked bs g) taken ∙ replicate_default classes g false
 
+-- and the one in which the first row is
+module _ (rows root amount : ℕ) (old new : Queue) (in_rows : root < rows) (h : IsUnreached rows old) (r : IsReached old new root 0 amount) where
   now : IsQueue rows new
-  now = queue_reached rows old new root 0 amount queue_none in_rows (none root) r
+  now = queue_reached rows old new root 0 amount (queue_none rows old h) in_rows (h.none root) r
 
   one_row : length new.order.items ≡ 1
-  one_row = omega (arith, ap length r.order, length_push old.order.items root, ap length order)
+  one_row = omega (arith, ap length r.order, length_push old.order.items root, ap length h.order)
 
   first_row : row_at new 0 ≡ root
-  first_row = rw (r.order, order) refl
+  first_row = rw (r.order, h.order) refl
 
   only_root : (k : ℕ) → is_reached new k ≡ true → k ≡ root
   only_root k on =
@@ -80,12 +100,25 @@ module _ (rows root amount : ℕ) (old new : Queue) (in_rows : root < rows) (rea
     one = one_row;
     root_at = first_row;
     only = only_root;
-    some_room = rw r.rooms (get_or-set_same old.room.items root amount 0 (omega (arith, in_rows, queue_none.room_long)));
+    some_room = rw r.rooms (get_or-set_same old.room.items root amount 0 (omega (arith, in_rows, h.room_long)));
   }
+
+-- all that a search marked and noted is named by its lists
+pub tidy_running : (ws : ℕ → ℕ → Option ℕ) (s : State) (t : Tree) → IsRunning ws s t → IsTreeOf s t
+tidy_running ws s t h = record {
+  queue = h.search.queue;
+  nears_long = h.search.nears_long;
+  noted = record {
+    all = λ g n is. (h.search.noted g n is).listed;
+    within = λ i lt. omega (arith, h.search.noted_in i lt, h.search.nears_long);
+  };
+  taken_long = h.search.taken_long;
+  taken = h.search.listing;
+}
 
 module _ (ws : ℕ → ℕ → Option ℕ) (s : State) (t : Tree) (root amount : ℕ) (h : IsSettled ws s) (f : IsFresh (length s.values.items) (length s.prices.items) root amount t) (some : 0 < amount) where
   no_taken : (g : ℕ) → is_taken t.takings g ≡ true → ⊥
-  no_taken g on = not_both _ on (f.taken g)
+  no_taken g on = not_both _ on (f.takings.taken g)
 
   at_root : place t.queue root ≡ 0
   at_root = ap (λ k. place t.queue k) (sym f.at_root.root_at) ∙ f.at_root.queue.at 0 (omega (arith, f.at_root.one))
@@ -99,23 +132,23 @@ module _ (ws : ℕ → ℕ → Option ℕ) (s : State) (t : Tree) (root amount :
   search_start = record {
     queue = f.at_root.queue;
     listing = record {
-      on = λ i lt. absurd (omega (arith, lt, ap length f.order));
+      on = λ i lt. absurd (omega (arith, lt, ap length f.takings.order));
       all = λ k on. absurd (no_taken k on);
-      once = λ i j lt. absurd (omega (arith, lt, ap length f.order));
-      counted = count_none t.takings.taken.items f.taken ∙ sym (ap length f.order);
+      once = λ i j lt. absurd (omega (arith, lt, ap length f.takings.order));
+      counted = count_none t.takings.taken.items f.takings.taken ∙ sym (ap length f.takings.order);
     };
-    taken_long = f.taken_long;
-    nears_long = f.nears_long;
+    taken_long = f.takings.taken_long;
+    nears_long = f.notes.nears_long;
     free_long = h.free_long;
     dual = h.dual;
     rooted = omega (arith, f.at_root.one);
     entries = λ k on deep. (let e = ap (λ x. place t.queue x) (f.at_root.only k on) in absurd (omega (arith, e, deep, at_root)));
     rooms = λ k on. (let e = ap (λ x. room t.queue x) (f.at_root.only k on) in omega (arith, e, f.at_root.some_room, some));
-    noted = λ g n is. (let no_note : Some n ≡ None = sym is ∙ f.nears g in cc);
-    noted_in = λ i lt. absurd (omega (arith, lt, ap length f.noted));
+    noted = λ g n is. (let no_note : Some n ≡ None = sym is ∙ f.notes.nears g in cc);
+    noted_in = λ i lt. absurd (omega (arith, lt, ap length f.notes.noted));
     linked = λ g on. absurd (no_taken g on);
     holders = λ k g on. absurd (no_taken g on);
-    exit = λ e is. (let no_exit : Some e ≡ None = sym is ∙ f.exit in cc);
+    exit = λ e is. (let no_exit : Some e ≡ None = sym is ∙ f.notes.exit in cc);
     close = λ k on. subst (IsClose s.values.items t.queue) (sym (f.at_root.only k on)) close_root;
     others_low = λ k off. h.values_low k;
     prices_low = λ g off. h.prices_low g;

@@ -1,5 +1,5 @@
 -- The rows on the way to being filled.
-use Rattle.std.specs.Prelude.{◌≡◌, ℕ, ◌+◌, ◌*◌, ◌<◌, ◌≤◌, ◌^◌, true, Option, Some, None, List, [], map, length}
+use Rattle.std.specs.Prelude.{◌≡◌, ℕ, ◌+◌, ◌*◌, ◌<◌, ◌≤◌, ◌^◌, Bool, true, false, List, [], map, length}
 use Rattle.certificate.specs.RowView.{RowView}
 use Rattle.transport.specs.Numbers.{number}
 use Rattle.transport.specs.Queues.{is_reached}
@@ -7,7 +7,7 @@ use Rattle.transport.specs.Weights.{weights, AreLines}
 use Rattle.transport.specs.Totals.{total, row_total, class_total, IsShared}
 use Rattle.transport.specs.States.{shares_of, cell}
 use Rattle.transport.specs.Answers.{IsClosed}
-use Rattle.transport.specs.Settled.{IsSettled}
+use Rattle.transport.specs.Settled.{IsSettled, IsTreeOf}
 use Rattle.transport.specs.Filled.{demand_of}
 use Rattle.transport.specs.declared.states.State.{State}
 use Rattle.transport.specs.declared.tables.Table.{Table}
@@ -69,15 +69,15 @@ pub record IsAtEnd (t : Table) (root : ℕ) (old new : State) (tree : Tree) (bef
   pub most : after ≤ before + number old.unmet.items root * a_search old
   pub least : length tree.queue.order.items + length tree.takings.order.items ≤ after
 
--- a search: the row wants less than before, or no class was found
-abbrev pub IsSearched : Table → ℕ → State → State → List Line → ℕ → ℕ → Option Tree → Type 0
-IsSearched t root old new lines before after None = IsFilling t root old new lines before after × (number new.unmet.items root < number old.unmet.items root)
-IsSearched t root old new lines before after (Some tree) = IsAtEnd t root old new tree before after
+-- whether a search found a class: the row wants less than before, and the next search can begin
+abbrev pub IsSearched : Table → ℕ → State → State → List Line → Tree → ℕ → ℕ → Bool → Type 0
+IsSearched t root old new lines tree before after true = IsFilling t root old new lines before after × (number new.unmet.items root < number old.unmet.items root) × IsTreeOf new tree
+IsSearched t root old new lines tree before after false = IsAtEnd t root old new tree before after
 
--- all searches for the row: it wants nothing more, or no class was found
-abbrev pub IsRowFilled : Table → ℕ → State → State → List Line → ℕ → ℕ → Option Tree → Type 0
-IsRowFilled t root old new lines before after None = IsFilling t root old new lines before after × (number new.unmet.items root ≡ 0)
-IsRowFilled t root old new lines before after (Some tree) = IsAtEnd t root old new tree before after
+-- whether all searches for the row did: it wants nothing more
+abbrev pub IsRowFilled : Table → ℕ → State → State → List Line → Tree → ℕ → ℕ → Bool → Type 0
+IsRowFilled t root old new lines tree before after true = IsFilling t root old new lines before after × (number new.unmet.items root ≡ 0) × IsTreeOf new tree
+IsRowFilled t root old new lines tree before after false = IsAtEnd t root old new tree before after
 
 -- the first rows have what they ask for, and the others still want it
 pub record AreFilled (t : Table) (sizes : List ℕ) (s : State) (lines : List Line) (upto turns : ℕ) : Type 0 where

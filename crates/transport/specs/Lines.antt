@@ -95,12 +95,18 @@ abbrev pub IsFoundExit : (ℕ → Option ℕ) → List ℕ → Option ℕ → Li
 IsFoundExit ws free limit l None = IsScanned ws l limit
 IsFoundExit ws free limit l (Some arc) = IsFreeArc ws free limit l arc
 
--- the classes of an offer, of those numbers from some number on still to come, beside the arcs so far
-pub record IsOpening (ws : ℕ → Option ℕ) (offers : List Offer) (firsts : List ℕ) (bids : List Bid) (opened : ℕ) (old arcs : List Arc) (upto : ℕ) : Type 0 where
+-- the next CPU of a walk is no higher
+abbrev pub IsAhead : Option ℕ → ℕ → Type 0
+IsAhead None cpu = ⊥
+IsAhead (Some next) cpu = next ≤ cpu
+
+-- the classes of an offer, of those first CPUs from the next one on still to come, beside the arcs so far
+pub record IsOpening (ws : ℕ → Option ℕ) (offers : List Offer) (firsts : List ℕ) (bids : List Bid) (opened : ℕ) (old arcs : List Arc) (next : Option ℕ) : Type 0 where
   pub sound : (i : ℕ) → i < length arcs → ws (arc_at arcs i).class ≡ Some (arc_at arcs i).weight
   pub rising : (i j : ℕ) → i ≤ j → j < length arcs → (arc_at arcs i).weight ≤ (arc_at arcs j).weight
   pub low : (i j : ℕ) → i < length arcs → opened ≤ j → j < length bids → (arc_at arcs i).weight ≤ (bid_at bids j).weight
-  pub all : (g w : ℕ) → ws g ≡ Some w → IsArc arcs (length arcs) g w ⊎ (IsToCome offers firsts bids (opened + 1) g w ⊎ ((upto ≤ g) × HasOffer offers firsts (bid_at bids opened).offer g w))
+  pub all : (g w : ℕ) → ws g ≡ Some w
+      → IsArc arcs (length arcs) g w ⊎ (IsToCome offers firsts bids (opened + 1) g w ⊎ (IsAhead next (number firsts g) × HasOffer offers firsts (bid_at bids opened).offer g w))
   pub longer : length old ≤ length arcs
   pub kept : (i : ℕ) → i < length old → arc_at arcs i ≡ arc_at old i
 

@@ -33,6 +33,15 @@ pub record IsQueue (rows : ℕ) (q : Queue) : Type 0 where
   pub placed : (k : ℕ) → is_reached q k ≡ true → row_at q (place q k) ≡ k
   pub counted : count_by (λ b. b) q.reached.items ≡ length q.order.items
 
+-- no row is reached
+pub record IsUnreached (rows : ℕ) (q : Queue) : Type 0 where
+  pub reached_long : length q.reached.items ≡ rows
+  pub via_long : length q.via.items ≡ rows
+  pub room_long : length q.room.items ≡ rows
+  pub place_long : length q.place.items ≡ rows
+  pub none : (k : ℕ) → is_reached q k ≡ false
+  pub order : q.order.items ≡ []
+
 -- one row is reached
 pub record IsAtRoot (rows root amount : ℕ) (q : Queue) : Type 0 where
   pub queue : IsQueue rows q

@@ -1,10 +1,13 @@
 -- What stands between two searches, and a search at its start.
-use Rattle.std.specs.Prelude.{◌≡◌, ℕ, ◌≤◌, false, Option, None, [], length}
-use Rattle.transport.specs.Numbers.{number}
-use Rattle.transport.specs.Queues.{IsAtRoot}
+use Rattle.std.specs.Prelude.{◌≡◌, ℕ, ◌<◌, ◌≤◌, false, Option, Some, None, [], length}
+use Rattle.transport.specs.Numbers.{number, IsIn, IsListing}
+use Rattle.transport.specs.Queues.{IsQueue, IsAtRoot}
 use Rattle.transport.specs.Duals.{IsDual}
 use Rattle.transport.specs.Searches.{near_of, is_taken, most, AreWeights}
 use Rattle.transport.specs.States.{cell, AreHoldings}
+use Rattle.transport.specs.declared.notes.Near.{Near}
+use Rattle.transport.specs.declared.notes.Notes.{Notes}
+use Rattle.transport.specs.declared.takings.Takings.{Takings}
 use Rattle.transport.specs.declared.states.State.{State}
 use Rattle.transport.specs.declared.trees.Tree.{Tree}
 
@@ -16,13 +19,37 @@ pub record IsSettled (ws : ℕ → ℕ → Option ℕ) (s : State) : Type 0 wher
   pub prices_low : (g : ℕ) → number s.prices.items g ≤ most
   pub holdings : AreHoldings (length s.values.items) (length s.prices.items) s.holdings.items
 
+-- no class is noted, and there is no exit
+pub record AreNoneNoted (classes : ℕ) (ns : Notes) : Type 0 where
+  pub nears_long : length ns.nears.items ≡ classes
+  pub nears : (g : ℕ) → near_of ns g ≡ None
+  pub noted : ns.noted.items ≡ []
+  pub exit : ns.exit ≡ None
+
+-- no class is taken up
+pub record AreNoneTaken (classes : ℕ) (ts : Takings) : Type 0 where
+  pub taken_long : length ts.taken.items ≡ classes
+  pub taken : (g : ℕ) → is_taken ts g ≡ false
+  pub order : ts.order.items ≡ []
+
 -- one row is reached, no class noted or taken up
 pub record IsFresh (rows classes root amount : ℕ) (t : Tree) : Type 0 where
   pub at_root : IsAtRoot rows root amount t.queue
+  pub notes : AreNoneNoted classes t.notes
+  pub takings : AreNoneTaken classes t.takings
+
+-- each noted class stands in the list
+pub record AreListed (ns : Notes) : Type 0 where
+  pub all : (g : ℕ) (n : Near) → near_of ns g ≡ Some n → IsIn ns.noted.items g
+  pub within : (i : ℕ) → i < length ns.noted.items → number ns.noted.items i < length ns.nears.items
+
+-- lists name all that a search reached, noted and took up
+pub record IsTidy (rows classes : ℕ) (t : Tree) : Type 0 where
+  pub queue : IsQueue rows t.queue
   pub nears_long : length t.notes.nears.items ≡ classes
-  pub nears : (g : ℕ) → near_of t.notes g ≡ None
-  pub noted : t.notes.noted.items ≡ []
-  pub exit : t.notes.exit ≡ None
+  pub noted : AreListed t.notes
   pub taken_long : length t.takings.taken.items ≡ classes
-  pub taken : (g : ℕ) → is_taken t.takings g ≡ false
-  pub order : t.takings.order.items ≡ []
+  pub taken : IsListing t.takings.order.items t.takings.taken.items
+
+abbrev pub IsTreeOf : State → Tree → Type 0
+IsTreeOf s t = IsTidy (length s.values.items) (length s.prices.items) t

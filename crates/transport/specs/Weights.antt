@@ -14,7 +14,7 @@ abbrev pub class_weight : List RowView → List ℕ → ℕ → ℕ → Option �
 class_weight rows firsts k g = weight_of (offers_of rows k) firsts g
 
 abbrev pub weights : Table → ℕ → ℕ → Option ℕ
-weights t = class_weight t.rows.now t.firsts.items
+weights t = class_weight t.rows.now t.firsts
 
 -- the first rows have their lines, of which no offer is opened
 pub record AreNewLines (rows : List RowView) (lines : List Line) (upto : ℕ) : Type 0 where
@@ -24,4 +24,4 @@ pub record AreNewLines (rows : List RowView) (lines : List Line) (upto : ℕ) : 
 -- each row has its line
 pub record AreLines (t : Table) (free : List ℕ) (lines : List Line) : Type 0 where
   pub long : length lines ≡ length t.rows.now
-  pub each : (k : ℕ) (l : Line) → slice_get lines k ≡ Some l → IsLine (weights t k) (offers_of t.rows.now k) t.firsts.items free l
+  pub each : (k : ℕ) (l : Line) → slice_get lines k ≡ Some l → IsLine (weights t k) (offers_of t.rows.now k) t.firsts free l

@@ -4,7 +4,7 @@ ghost use Rattle.transport.specs.Numbers.{number};
 ghost use Rattle.transport.specs.Weights.{weights, AreLines, AreNewLines};
 ghost use Rattle.transport.specs.Totals.{class_total};
 ghost use Rattle.transport.specs.States.{cell};
-ghost use Rattle.transport.specs.Settled.{IsSettled};
+ghost use Rattle.transport.specs.Settled.{IsSettled, IsTreeOf};
 ghost use Rattle.transport.specs.Filled.{IsFilled};
 ghost use Rattle.transport.specs.Filling.{CanFill, IsSearched, IsRowFilled};
 ghost use Rattle.transport.specs.declared.fills.Filled.TheVariants.{Stuck};
@@ -39,15 +39,16 @@ pub enum Filled {
 /// asked for, and in a search at most one turn for each row and class.
 pub fn fill(alloc: Global, table: &Table, sizes: &[u32]) -> Result<Filled, AllocError>
     requires fit { AreRowsWithin table.now.rows.now }
-    requires classes { length table.now.firsts.items ≡ length sizes.now }
+    requires classes { length table.now.firsts ≡ length sizes.now }
     requires few { length sizes.now ≤ 1024 }
-    ensures { IfOk result (IsFilled table.now.rows.now table.now.firsts.items sizes.now) }
+    ensures { IfOk result (IsFilled table.now.rows.now table.now.firsts sizes.now) }
 {
     let mut state = State::first(alloc, table, sizes)?;
     let mut lines = lines_of(alloc, table.rows)?;
+    let mut tree = Tree::new(alloc, table.rows.len(), sizes.len())?;
     let mut turns = 0;
     for row in 0..table.rows.len() {
-        if let Some(tree) = fill_row(alloc, table, &mut state, &mut lines, row, &mut turns)? {
+        if !fill_row(table, &mut state, &mut lines, &mut tree, row, &mut turns)? {
             return Ok(stuck(tree, turns));
         }
     }
@@ -65,50 +66,52 @@ fn lines_of(alloc: Global, rows: &[Row]) -> Result<Vec<Line>, AllocError>
     Ok(lines)
 }
 
-/// Searches until the row has what it asks for, or hands back the search that found nothing.
+/// Searches until the row has what it asks for, or until a search finds nothing; says which.
 fn fill_row(
-    alloc: Global,
     table: &Table,
     state: &mut State,
     lines: &mut [Line],
+    tree: &mut Tree,
     row: usize,
     turns: &mut u64,
-) -> Result<Option<Tree>, AllocError>
-    requires { CanFill table.now row state.old lines.old turns.old }
-    ensures { IfOk result (IsRowFilled table.now row state.old state.new lines.new turns.old turns.new) }
+) -> Result<bool, AllocError>
+    requires can { CanFill table.now row state.old lines.old turns.old }
+    requires tidy { IsTreeOf state.old tree.old }
+    ensures { IfOk result (IsRowFilled table.now row state.old state.new lines.new tree.new turns.old turns.new) }
 {
     'searches: while state.unmet[row] > 0 {
-        if let Some(tree) = search_for(alloc, table, state, lines, row, turns)? {
-            return Ok(Some(tree));
+        if !search_for(table, state, lines, tree, row, turns)? {
+            return Ok(false);
         }
     }
-    Ok(None)
+    Ok(true)
 }
 
-/// Searches once for the row: moves CPUs along the way that is found, or hands back the search.
+/// Searches once for the row, and moves CPUs along the way, where one is found.
 fn search_for(
-    alloc: Global,
     table: &Table,
     state: &mut State,
     lines: &mut [Line],
+    tree: &mut Tree,
     row: usize,
     turns: &mut u64,
-) -> Result<Option<Tree>, AllocError>
+) -> Result<bool, AllocError>
     requires can { CanFill table.now row state.old lines.old turns.old }
     requires lacks { 0 < number state.old.unmet.items row }
-    ensures { IfOk result (IsSearched table.now row state.old state.new lines.new turns.old turns.new) }
+    requires tidy { IsTreeOf state.old tree.old }
+    ensures { IfOk result (IsSearched table.now row state.old state.new lines.new tree.new turns.old turns.new) }
 {
     let wanted = state.unmet[row];
-    let mut tree = Tree::at_root(alloc, table.rows.len(), state.free.len(), row, wanted)?;
-    let found = search(table, state, lines, &mut tree)?;
+    tree.start(row, wanted)?;
+    let found = search(table, state, lines, tree)?;
     *turns += (tree.queue.order.len() + tree.takings.order.len()) as u64;
     let Some(exit) = found else {
-        return Ok(Some(tree));
+        return Ok(false);
     };
     *turns += 1;
     let amount = tree.queue.room[exit.near.row].min(state.free[exit.class]);
-    push(state, &tree, exit, amount)?;
-    Ok(None)
+    push(state, tree, exit, amount)?;
+    Ok(true)
 }
 
 /// The rows that a search reached, and the classes that it took up.

@@ -10,14 +10,16 @@
 //! has reached ask together for more CPUs than they may have.
 //!
 //! A search looks at no more than each row's weights for each class, and there is at most one for each CPU
-//! that is asked for: O(demands * rows * classes) steps at worst. Memory is taken for each row, each class, each
+//! that is asked for: O(demands * rows * classes) steps at worst. Memory is taken for each CPU, row and class, each
 //! row that holds CPUs of a class, and each class of the offers that a search has come to.
 #![tactic(auto)]
 
 mod answers;
 mod fills;
+mod firsts;
 mod lines;
 mod looks;
+mod marks;
 mod nearest;
 mod notes;
 mod outlines;
@@ -35,6 +37,7 @@ mod trees;
 
 pub use answers::Answer;
 pub(crate) use fills::{Filled, fill};
+pub(crate) use firsts::Firsts;
 pub use solver::solve;
 pub(crate) use states::State;
 pub(crate) use tables::Table;

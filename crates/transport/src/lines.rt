@@ -1,10 +1,11 @@
-ghost use Rattle.std.specs.Prelude.{◌≡◌, ◌↔◌, ℕ, ◌+◌, ◌<◌, ◌≤◌, ◌⊎◌, IsTrue, Option, List, length, MatchOption, IfOk, OnOk};
+ghost use Rattle.std.specs.Prelude.{◌≡◌, ◌↔◌, ℕ, ◌+◌, ◌<◌, ◌≤◌, ◌⊎◌, IsTrue, Option, None, List, length, MatchOption, IfOk, OnOk};
 ghost use Rattle.transport.specs.Numbers.{number};
 ghost use Rattle.transport.specs.Looks.{arc_at, IsPast};
 ghost use Rattle.certificate.specs.declared.rows.Offer.{Offer};
 ghost use Rattle.transport.specs.declared.lines.Bid.{Bid};
 ghost use Rattle.transport.specs.Lines.{IsLine, IsNewLine, AreAllBids, IsFoundExit, CanOpen, IsOpening};
 
+use crate::Firsts;
 use certificate::Offer;
 use std::alloc::{AllocError, Global};
 
@@ -50,7 +51,7 @@ impl Line {
     pub(crate) fn find_exit(
         &mut self,
         offers: &[Offer],
-        firsts: &[u16],
+        firsts: &Firsts,
         free: &[u32],
         limit: Option<u64>,
     ) -> Result<Option<Arc>, AllocError>
@@ -75,7 +76,7 @@ impl Line {
     }
 
     /// Opens the next offer: its classes are arcs from now on.
-    fn open(&mut self, offers: &[Offer], firsts: &[u16]) -> Result<(), AllocError>
+    fn open(&mut self, offers: &[Offer], firsts: &Firsts) -> Result<(), AllocError>
         requires more { self.old.opened < length self.old.bids.items }
         requires line { (ws : ℕ → Option ℕ) × (free : List ℕ) × IsLine ws offers.now firsts.now free self.old }
         ensures line { OnOk result ((ws : ℕ → Option ℕ) (free : List ℕ) → IsLine ws offers.now firsts.now free self.old → IsLine ws offers.now firsts.now free self.new) }
@@ -103,20 +104,22 @@ fn bids_of(alloc: Global, offers: &[Offer]) -> Result<Vec<Bid>, AllocError>
     Ok(bids)
 }
 
-/// Adds the classes of an offer, at its weight.
+/// Adds the classes of an offer, at its weight, in the order of their first CPUs.
 fn push_arcs(
     arcs: &mut Vec<Arc>,
     offer: &Offer,
-    firsts: &[u16],
+    firsts: &Firsts,
     weight: u32,
 ) -> Result<(), AllocError>
     ensures { OnOk result ((ws : ℕ → Option ℕ) (offers : List Offer) (bids : List Bid) (opened : ℕ) → CanOpen ws offers firsts.now bids opened offer.now weight arcs.old.items
-        → IsOpening ws offers firsts.now bids opened arcs.old.items arcs.new.items (length firsts.now)) }
+        → IsOpening ws offers firsts.now bids opened arcs.old.items arcs.new.items None) }
 {
-    for (class, first) in firsts.iter().enumerate() {
-        if offer.cpus.contains(*first) {
-            arcs.push(Arc { weight, class })?;
-        }
+    let there = firsts.among(&offer.cpus);
+    let mut next = there.first();
+    while let Some(cpu) = next {
+        let class = firsts.class_of(cpu);
+        arcs.push(Arc { weight, class })?;
+        next = there.next_after(cpu);
     }
     Ok(())
 }

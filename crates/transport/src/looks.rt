@@ -49,8 +49,8 @@ pub(crate) fn look(
     requires running { IsRunning (weights table.now) state.now tree.old }
     requires row { row < length table.now.rows.now }
     requires there { is_reached tree.old.queue row ≡ true }
-    requires line { IsLine (weights table.now row) (offers_of table.now.rows.now row) table.now.firsts.items state.now.free.items line.old }
-    ensures line { OnOk result (IsLine (weights table.now row) (offers_of table.now.rows.now row) table.now.firsts.items state.now.free.items line.new) }
+    requires line { IsLine (weights table.now row) (offers_of table.now.rows.now row) table.now.firsts state.now.free.items line.old }
+    ensures line { OnOk result (IsLine (weights table.now row) (offers_of table.now.rows.now row) table.now.firsts state.now.free.items line.new) }
     ensures seen { OnOk result (IsSeen (weights table.now) state.now row tree.old tree.new) }
 {
     let limit = limit_of(&state.values, tree.notes.exit, row);
@@ -69,8 +69,8 @@ fn find_exit(
     limit: Option<u64>,
 ) -> Result<Option<Arc>, AllocError>
     requires row { row < length table.now.rows.now }
-    requires line { IsLine (weights table.now row) (offers_of table.now.rows.now row) table.now.firsts.items state.now.free.items line.old }
-    ensures line { OnOk result (IsLine (weights table.now row) (offers_of table.now.rows.now row) table.now.firsts.items state.now.free.items line.new) }
+    requires line { IsLine (weights table.now row) (offers_of table.now.rows.now row) table.now.firsts state.now.free.items line.old }
+    ensures line { OnOk result (IsLine (weights table.now row) (offers_of table.now.rows.now row) table.now.firsts state.now.free.items line.new) }
     ensures found { IfOk result (λ found. IsFoundExit (weights table.now row) state.now.free.items limit line.new found) }
 {
     let asked = &table.rows[row];

@@ -1,5 +1,8 @@
-ghost use Rattle.std.specs.Prelude.{OnOk};
+ghost use Rattle.std.specs.Prelude.{◌≡◌, ℕ, ◌<◌, Option, Some, None, length, slice_index_or, OnOk};
+ghost use Rattle.transport.specs.Numbers.{number, IsIn};
+ghost use Rattle.transport.specs.declared.notes.Near.{Near};
 ghost use Rattle.transport.specs.Looks.{CanNote, IsNotedNow};
+ghost use Rattle.transport.specs.Settled.{AreListed, AreNoneNoted};
 
 use std::alloc::AllocError;
 
@@ -27,6 +30,16 @@ pub(crate) struct Notes {
 }
 
 impl Notes {
+    /// Forgets the classes that are noted, and the exit.
+    pub(crate) fn clear(&mut self)
+        requires { AreListed self.old }
+        ensures { AreNoneNoted (length self.old.nears.items) self.new }
+    {
+        forget(&mut self.nears, &self.noted);
+        self.noted.clear();
+        self.exit = None;
+    }
+
     /// Notes that a class is this near, unless it is as near already.
     pub(crate) fn note(
         &mut self,
@@ -49,5 +62,17 @@ impl Notes {
             }
         }
         Ok(())
+    }
+}
+
+/// Clears the notes of these classes, which are all that there are.
+fn forget(nears: &mut [Option<Near>], noted: &[usize])
+    requires within { (i : ℕ) → i < length noted.now → number noted.now i < length nears.old }
+    requires all { (g : ℕ) (n : Near) → slice_index_or nears.old g None ≡ Some n → IsIn noted.now g }
+    ensures long { length nears.new ≡ length nears.old }
+    ensures none { (g : ℕ) → slice_index_or nears.new g None ≡ None }
+{
+    for class in noted {
+        nears[*class] = None;
     }
 }

@@ -1,7 +1,8 @@
-ghost use Rattle.std.specs.Prelude.{◌≡◌, ◌+◌, ◌<◌, ◌≤◌, false, length, IfOk, OnOk};
+ghost use Rattle.std.specs.Prelude.{◌≡◌, ℕ, ◌+◌, ◌<◌, ◌≤◌, false, length, IfOk, OnOk};
 ghost use Rattle.transport.specs.Shares.{AllBelow};
-ghost use Rattle.transport.specs.Queues.{IsQueue, IsAtRoot, IsReached, IsGrown, is_reached};
+ghost use Rattle.transport.specs.Queues.{IsQueue, IsUnreached, IsReached, IsGrown, is_reached};
 
+use crate::marks::unmark;
 use std::alloc::{AllocError, Global};
 use twins::Share;
 
@@ -19,29 +20,30 @@ pub(crate) struct Queue {
 }
 
 impl Queue {
-    /// The queue in which one row is reached.
-    pub(crate) fn at_root(
-        alloc: Global,
-        rows: usize,
-        root: usize,
-        room: u32,
-    ) -> Result<Queue, AllocError>
-        requires { root < rows }
-        ensures { IfOk result (IsAtRoot rows root room) }
+    /// The queue in which no row is reached.
+    pub(crate) fn new(alloc: Global, rows: usize) -> Result<Queue, AllocError>
+        ensures { IfOk result (IsUnreached rows) }
     {
         let reached = vec![in alloc; false; rows]?;
         let via = vec![in alloc; 0usize; rows]?;
         let rooms = vec![in alloc; 0u32; rows]?;
         let place = vec![in alloc; 0usize; rows]?;
-        let mut queue = Queue {
+        Ok(Queue {
             reached,
             order: Vec::new(alloc),
             via,
             room: rooms,
             place,
-        };
-        queue.reach(root, 0, room)?;
-        Ok(queue)
+        })
+    }
+
+    /// Forgets the rows that are reached.
+    pub(crate) fn clear(&mut self)
+        requires { (rows : ℕ) × IsQueue rows self.old }
+        ensures { (rows : ℕ) → IsQueue rows self.old → IsUnreached rows self.new }
+    {
+        unmark(&mut self.reached, &self.order);
+        self.order.clear();
     }
 
     /// Reaches a row through a class.

@@ -8,9 +8,9 @@ ghost use Rattle.transport.specs.Filled.{IsDone, IsStuck, IsFilled};
 ghost use Rattle.transport.specs.Firsts.{first_of};
 ghost use Rattle.transport.specs.Solved.{IsRight, IsDecided, AreTwinsDealt, ArePricesOfClasses, AreTurns, IsSolved};
 
-use crate::outlines::{firsts_of, sizes_of};
+use crate::outlines::sizes_of;
 use crate::places::places_of;
-use crate::{Answer, Filled, State, Table, fill};
+use crate::{Answer, Filled, Firsts, State, Table, fill};
 use certificate::{
     Plan, Prices, Problem, Row, a_shortage_leaves_no_plan, no_plan_is_below_a_bound, plan_cost,
     what_is_within_the_limits,
@@ -68,10 +68,11 @@ fn solved(alloc: Global, problem: &Problem) -> Result<Answer, AllocError>
 /// The rows, filled with CPUs of these classes.
 fn filled(alloc: Global, rows: &[Row], classes: &[IdSet]) -> Result<Filled, AllocError>
     requires fit { AreRowsWithin rows.now }
+    requires grouping { IsGrouping rows.now classes.now }
     requires few { length classes.now ≤ CPU_LIMIT }
     ensures { IfOk result (IsFilled rows.now (map first_of classes.now) (map (λ s. set.len s) classes.now)) }
 {
-    let firsts = firsts_of(alloc, classes)?;
+    let firsts = Firsts::new(alloc, classes)?;
     let sizes = sizes_of(alloc, classes)?;
     let table = Table { rows, firsts };
     fill(alloc, &table, &sizes)

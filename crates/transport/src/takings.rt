@@ -1,8 +1,11 @@
 ghost use Rattle.std.specs.Prelude.{◌≡◌, ◌<◌, length, OnOk};
 ghost use Rattle.transport.specs.Shares.{AllBelow};
 ghost use Rattle.transport.specs.Queues.{IsQueue, room};
+ghost use Rattle.transport.specs.Numbers.{IsListing};
+ghost use Rattle.transport.specs.Settled.{AreNoneTaken};
 ghost use Rattle.transport.specs.States.{IsTakenUp};
 
+use crate::marks::unmark;
 use crate::queues::reach_holders;
 use crate::trees::Tree;
 use std::alloc::AllocError;
@@ -13,6 +16,17 @@ use twins::Share;
 pub(crate) struct Takings {
     pub(crate) taken: Vec<bool>,
     pub(crate) order: Vec<usize>,
+}
+
+impl Takings {
+    /// Forgets the classes that are taken up.
+    pub(crate) fn clear(&mut self)
+        requires { IsListing self.old.order.items self.old.taken.items }
+        ensures { AreNoneTaken (length self.old.taken.items) self.new }
+    {
+        unmark(&mut self.taken, &self.order);
+        self.order.clear();
+    }
 }
 
 /// Takes up a class: the rows that hold some of it are reached.

@@ -1,20 +1,23 @@
 -- The CPUs of one class, dealt row by row.
-use Rattle.std.proofs.Common.{◌≡◌, ◌⊎◌, ℕ, ◌+◌, ◌-◌, ◌<◌, ◌≤◌, ◌==◌, Bool, true, false, cond, not, ◌&&◌, ◌||◌, Some, None, List, length, get_or, set, refl, sym, ap, subst, ◌∙◌, inl, inr, arith}
+use Rattle.std.proofs.Common.{◌≡◌, ◌⊎◌, ℕ, ◌+◌, ◌-◌, ◌<◌, ◌≤◌, ◌==◌, Bool, true, false, cond, not, ◌&&◌, ◌||◌, List, [], ◌∷◌, ◌++◌, length, take, get_or, set, refl, sym, ap, ◌∙◌, inl, inr, arith}
 use Rattle.std.specs.Cmp.{nat_cmp_total}
 use Rattle.std.specs.Ordering.{nat_cmp}
 use Rattle.std.specs.FinSet as fin
-use Rattle.std.proofs.lemmas.Bool.{cases_eq, cases_lt, true≢false, false≢true, eqb-true, eq-eqb}
-use Rattle.std.proofs.lemmas.List.{length-set, get_or-set_same, get_or-set_other, get_or_default}
+use Rattle.std.proofs.lemmas.Bool.{cases_eq, cases_lt, true≢false, false≢true, eqb-true, eq-eqb, ne_eqb}
+use Rattle.std.proofs.lemmas.List.{length-set, get_or-set_same, get_or-set_other, get_or_default, take_more}
+use Rattle.std.proofs.lemmas.List.Sums.{sum_by_push, sum_by-take-le}
+use Rattle.std.specs.List.Sorted.{IsPermutation, IsNonDecreasingBy}
+use Rattle.std.proofs.lemmas.List.Sorted.{sum_by-IsPermutation}
+use Rattle.cpu_set.specs.Members.{InRange}
 use Rattle.cpu_set.specs.Ids.{Ids, IsFirstFrom, NoneFrom}
-use Rattle.cpu_set.specs.Pointwise.{contains-empty, contains-insert, contains-remove, contains-union, contains-intersection, same_members}
+use Rattle.cpu_set.specs.Pointwise.{contains-empty, contains-insert, contains-remove, contains-union, contains-intersection, contains-difference, same_members}
 use Rattle.cpu_set.specs.SetLaws.{empty_of_none}
 use Rattle.certificate.specs.IsDealt.{Holds}
-use Rattle.certificate.specs.Tests.{and_left, and_right, both, or_left, or_right}
+use Rattle.certificate.specs.Tests.{and_left, and_right, or_left, or_right}
 use Rattle.twins.specs.Holdings.{share_of, shared_out}
-use Rattle.twins.specs.IsDeal.{IsTaken, IsNextRow, IsClassDeal}
+use Rattle.twins.specs.IsDeal.{IsTaken, IsClassDeal}
 use Rattle.twins.specs.declared.holders.Share.{Share}
-use Rattle.twins.proofs.Sets.{some_of_member}
-use Rattle.twins.proofs.Shares.{later, later_split, later_all, share_none}
+use Rattle.twins.proofs.Sets.{some_of_member, len_split}
 
 -- nothing is taken yet
 pub taken_start : (s taken : Ids) → taken ≡ fin.empty → IsTaken s s taken 0
@@ -95,8 +98,18 @@ still_some old new taken count many so_far lt le none =
 abbrev pub at : List Ids → ℕ → Ids
 at sets k = get_or sets k fin.empty
 
--- some of a class's CPUs are dealt: those of the rows before `from`
-pub record Dealing (class : Ids) (shares : List Share) (old new : List Ids) (rest : Ids) (from : ℕ) : Type 0 where
+abbrev pub no_share : Share
+no_share = record { row = 0; amount = 0 }
+
+abbrev pub share_at : List Share → ℕ → Share
+share_at shares i = get_or shares i no_share
+
+-- the row of the last of the first shares, and of the first one where there are none
+abbrev pub last_row : List Share → ℕ → ℕ
+last_row shares i = (share_at shares (i - 1)).row
+
+-- some of a class's CPUs are dealt, by the first of its shares, to rows up to `last`
+pub record Dealing (class : Ids) (done : List Share) (old new : List Ids) (rest : Ids) (last : ℕ) : Type 0 where
   pub long : length new ≡ length old
   pub others : (k c : ℕ) → fin.contains class c ≡ false → fin.contains (at new k) c ≡ fin.contains (at old k) c
   pub within : (c : ℕ) → fin.contains rest c ≡ true → fin.contains class c ≡ true
@@ -105,15 +118,22 @@ pub record Dealing (class : Ids) (shares : List Share) (old new : List Ids) (res
   pub low : (a b k : ℕ) → fin.contains rest a ≡ true → fin.contains class b ≡ true → Holds new k b → b < a
   pub ordered : (a b j k : ℕ) → a < b → fin.contains class a ≡ true → fin.contains class b ≡ true → Holds new j a → Holds new k b → j ≤ k
   pub once : (j k c : ℕ) → fin.contains class c ≡ true → Holds new j c → Holds new k c → j ≡ k
-  pub before : (k c : ℕ) → fin.contains class c ≡ true → Holds new k c → k < from
-  pub counts : (k : ℕ) → k < from → k < length new → fin.len (fin.intersection (at new k) class) ≡ share_of k shares
-  pub room : later from shares ≤ fin.len rest
+  pub before : (k c : ℕ) → fin.contains class c ≡ true → Holds new k c → k ≤ last
+  pub counts : (k : ℕ) → k < length new → fin.len (fin.intersection (at new k) class) ≡ share_of k done
+  pub left : fin.len rest + shared_out done ≡ fin.len class
+
+-- a set that holds none of a class has nothing in common with it
+pub none_held :
+    (s class : Ids) → ((c : ℕ) → fin.contains class c ≡ true → fin.contains s c ≡ true → ⊥) → fin.len (fin.intersection s class) ≡ 0
+none_held s class never =
+    ap fin.len (empty_of_none (fin.intersection s class) (λ c _. contains-intersection s class c ∙ is_not _ (λ here. never c (and_right _ _ here) (and_left _ _ here))))
+    ∙ fin.len-empty nat_cmp
 
 -- none are dealt yet
 pub dealing_start :
-    (class : Ids) (shares : List Share) (sets : List Ids) → shared_out shares ≤ fin.len class
-    → ((k c : ℕ) → fin.contains class c ≡ true → Holds sets k c → ⊥) → Dealing class shares sets sets class 0
-dealing_start class shares sets room free = record {
+    (class : Ids) (shares : List Share) (sets : List Ids)
+    → ((k c : ℕ) → fin.contains class c ≡ true → Holds sets k c → ⊥) → Dealing class (take 0 shares) sets sets class (last_row shares 0)
+dealing_start class shares sets free = record {
   long = refl;
   others = λ k c other. refl;
   within = λ c here. here;
@@ -123,24 +143,19 @@ dealing_start class shares sets room free = record {
   ordered = λ a b j k lt in_a in_b holds_a holds_b. absurd (free j a in_a holds_a);
   once = λ j k c here holds_j holds_k. absurd (free j c here holds_j);
   before = λ k c here holds. absurd (free k c here holds);
-  counts = λ k lt within. absurd (omega arith);
-  room = omega (arith, later_all shares);
+  counts = λ k within. none_held (at sets k) class (λ c here holds. free k c here holds);
+  left = omega arith;
 }
 
--- no member of the class in a set that holds none
--- and a set that holds none of a class has nothing in common with it
-pub none_held :
-    (s class : Ids) → ((c : ℕ) → fin.contains class c ≡ true → fin.contains s c ≡ true → ⊥) → fin.len (fin.intersection s class) ≡ 0
-none_held s class never =
-    ap fin.len (empty_of_none (fin.intersection s class) (λ c _. contains-intersection s class c ∙ is_not _ (λ here. never c (and_right _ _ here) (and_left _ _ here))))
-    ∙ fin.len-empty nat_cmp
-
--- the next row's share is dealt
+-- the next share is dealt
 module _
-    (class : Ids) (shares : List Share) (old new new_after : List Ids) (rest rest_after dealt_now : Ids) (from row : ℕ)
-    (so_far : Dealing class shares old new rest from) (next : IsNextRow shares from (Some row)) (in_rows : row < length new)
-    (taken : IsTaken rest rest_after dealt_now (share_of row shares))
+    (class : Ids) (done : List Share) (old new new_after : List Ids) (rest rest_after dealt_now : Ids) (last row amount : ℕ)
+    (in_range : InRange class) (so_far : Dealing class done old new rest last) (later : last ≤ row) (in_rows : row < length new)
+    (taken : IsTaken rest rest_after dealt_now amount)
     (is : new_after ≡ set new row (fin.union (at new row) dealt_now)) where
+  abbrev share : Share
+  share = record { row = row; amount = amount }
+
   in_rest : (c : ℕ) → fin.contains dealt_now c ≡ true → fin.contains rest c ≡ true
   in_rest c here = taken.both c ∙ or_left _ _ here
 
@@ -189,7 +204,7 @@ module _
       (a b j k : ℕ) → a < b → fin.contains class a ≡ true → fin.contains class b ≡ true
       → Holds new j a ⊎ ((j ≡ row) × (fin.contains dealt_now a ≡ true)) → Holds new k b ⊎ ((k ≡ row) × (fin.contains dealt_now b ≡ true)) → j ≤ k
   ordered_after a b j k lt in_a in_b (inl a_before) (inl b_before) = so_far.ordered a b j k lt in_a in_b a_before b_before
-  ordered_after a b j k lt in_a in_b (inl a_before) (inr b_now) = omega (arith, so_far.before j a in_a a_before, next.0, b_now.0)
+  ordered_after a b j k lt in_a in_b (inl a_before) (inr b_now) = omega (arith, so_far.before j a in_a a_before, later, b_now.0)
   ordered_after a b j k lt in_a in_b (inr a_now) (inl b_before) = absurd (omega (arith, so_far.low a b k (in_rest a a_now.1) in_b b_before, lt))
   ordered_after a b j k lt in_a in_b (inr a_now) (inr b_now) = omega (arith, a_now.0, b_now.0)
 
@@ -201,42 +216,68 @@ module _
   once_after j k c here (inr now_j) (inl before_k) = absurd (so_far.apart k c before_k (in_rest c now_j.1))
   once_after j k c here (inr now_j) (inr now_k) = now_j.0 ∙ sym now_k.0
 
-  before_after : (k c : ℕ) → fin.contains class c ≡ true → Holds new k c ⊎ ((k ≡ row) × (fin.contains dealt_now c ≡ true)) → k < row + 1
-  before_after k c here (inl before) = omega (arith, so_far.before k c here before, next.0)
+  before_after : (k c : ℕ) → fin.contains class c ≡ true → Holds new k c ⊎ ((k ≡ row) × (fin.contains dealt_now c ≡ true)) → k ≤ row
+  before_after k c here (inl before) = omega (arith, so_far.before k c here before, later)
   before_after k c here (inr now) = omega (arith, now.0)
 
-  -- what the row holds of the class is what it was dealt now
-  row_holds : fin.intersection (at new_after row) class ≡ dealt_now
-  row_holds = same_members _ _ (λ c. contains-intersection (at new_after row) class c ∙ one c (fin.contains dealt_now c) refl)
-    where
-      one : (c : ℕ) (b : Bool) → fin.contains dealt_now c ≡ b → (fin.contains (at new_after row) c && fin.contains class c) ≡ fin.contains dealt_now c
-      one c true here = both _ _ (gets c here) (so_far.within c (in_rest c here)) ∙ sym here
-      one c false gone =
-          is_not _ (λ e. never c (and_right _ _ e) (held row c (and_left _ _ e)) gone) ∙ sym gone
-        where
-          never : (c : ℕ) → fin.contains class c ≡ true → Holds new row c ⊎ ((row ≡ row) × (fin.contains dealt_now c ≡ true)) → fin.contains dealt_now c ≡ false → ⊥
-          never c here (inl before) gone = omega (arith, so_far.before row c here before, next.0)
-          never c here (inr now) gone = true≢false (sym now.1 ∙ gone)
+  -- what the row holds of the class is what it held before, and what it was dealt now
+  abbrev holds_after : Ids
+  holds_after = fin.intersection (at new_after row) class
 
-  counts_after : (k : ℕ) → k < row + 1 → k < length new_after → fin.len (fin.intersection (at new_after k) class) ≡ share_of k shares
-  counts_after k lt within =
+  in_class : (c : ℕ) → fin.contains dealt_now c ≡ true → fin.contains class c ≡ true
+  in_class c here = so_far.within c (in_rest c here)
+
+  after_is : (c : ℕ) → fin.contains holds_after c ≡ ((fin.contains (at new row) c || fin.contains dealt_now c) && fin.contains class c)
+  after_is c = contains-intersection (at new_after row) class c ∙ ap (λ b. b && fin.contains class c) (ap (λ s. fin.contains s c) at_row ∙ contains-union (at new row) dealt_now c)
+
+  now_part : fin.intersection holds_after dealt_now ≡ dealt_now
+  now_part = same_members _ _ (λ c. contains-intersection holds_after dealt_now c ∙ ap (λ b. b && fin.contains dealt_now c) (after_is c)
+      ∙ with_now (fin.contains (at new row) c) (fin.contains dealt_now c) (fin.contains class c) (in_class c))
+    where
+      with_now : (a b g : Bool) → (b ≡ true → g ≡ true) → (((a || b) && g) && b) ≡ b
+      with_now true true g h = rw (h refl) refl
+      with_now false true g h = rw (h refl) refl
+      with_now true false true h = refl
+      with_now true false false h = refl
+      with_now false false g h = refl
+
+  before_part : fin.difference holds_after dealt_now ≡ fin.intersection (at new row) class
+  before_part = same_members _ _ (λ c. contains-difference holds_after dealt_now c ∙ ap (λ b. b && not (fin.contains dealt_now c)) (after_is c)
+      ∙ without_now (fin.contains (at new row) c) (fin.contains dealt_now c) (fin.contains class c) (λ held now. so_far.apart row c held (in_rest c now)) ∙ sym (contains-intersection (at new row) class c))
+    where
+      without_now : (a b g : Bool) → (a ≡ true → b ≡ true → ⊥) → (((a || b) && g) && not b) ≡ (a && g)
+      without_now true true g never = absurd (never refl refl)
+      without_now false true true never = refl
+      without_now false true false never = refl
+      without_now true false true never = refl
+      without_now true false false never = refl
+      without_now false false g never = refl
+
+  both_parts : fin.len holds_after ≡ fin.len (fin.intersection holds_after dealt_now) + fin.len (fin.difference holds_after dealt_now)
+  both_parts = len_split holds_after dealt_now (λ n here. in_range n (and_right _ _ (sym (contains-intersection (at new_after row) class n) ∙ here)))
+
+  row_counts : fin.len holds_after ≡ fin.len (fin.intersection (at new row) class) + amount
+  row_counts = omega (arith, both_parts, ap fin.len now_part, ap fin.len before_part, taken.as_many)
+
+  more_of : (k : ℕ) → share_of k (done ++ share ∷ []) ≡ share_of k done + cond (row == k) amount 0
+  more_of k = sum_by_push (λ (t : Share). cond (t.row == k) t.amount 0) done share
+
+  long_after : length new_after ≡ length new
+  long_after = ap length is ∙ length-set new row (fin.union (at new row) dealt_now)
+
+  counts_after : (k : ℕ) → k < length new_after → fin.len (fin.intersection (at new_after k) class) ≡ share_of k (done ++ share ∷ [])
+  counts_after k within =
       elim (cases_eq k row) [
-        | inl same ↦ ap (λ j. fin.len (fin.intersection (at new_after j) class)) same ∙ ap fin.len row_holds ∙ taken.as_many ∙ ap (λ j. share_of j shares) (sym same)
+        | inl same ↦
+            (let own : cond {A = ℕ} (row == k) amount 0 ≡ amount = ap (λ b. cond {A = ℕ} b amount 0) (eq-eqb row k (sym same)) in
+            let at_k : fin.len (fin.intersection (at new_after k) class) ≡ fin.len holds_after = ap (λ j. fin.len (fin.intersection (at new_after j) class)) same in
+            let was : share_of row done ≡ share_of k done = ap (λ j. share_of j done) (sym same) in
+            omega (arith, at_k, row_counts, so_far.counts row in_rows, was, more_of k, own))
         | inr differ ↦
-            ap (λ s. fin.len (fin.intersection s class)) (at_other k differ)
-            ∙ elim (cases_lt k from) [
-              | inl early ↦ so_far.counts k early (rw (← long_after) within)
-              | inr late ↦
-                  none_held (at new k) class (λ c here holds. late_holds k c late here holds)
-                  ∙ sym (share_none k shares (λ i d lt_i e. omega (arith, next.2 i d lt_i (rw e late), e, lt, differ)))
-            ]
+            (let none : cond {A = ℕ} (row == k) amount 0 ≡ 0 = ap (λ b. cond {A = ℕ} b amount 0) (ne_eqb row k (λ e. differ (sym e))) in
+            let at_k : fin.len (fin.intersection (at new_after k) class) ≡ fin.len (fin.intersection (at new k) class) = ap (λ s. fin.len (fin.intersection s class)) (at_other k differ) in
+            omega (arith, at_k, so_far.counts k (rw (← long_after) within), more_of k, none))
       ]
-    where
-      long_after : length new_after ≡ length new
-      long_after = ap length is ∙ length-set new row (fin.union (at new row) dealt_now)
-
-      late_holds : (k c : ℕ) → from ≤ k → fin.contains class c ≡ true → Holds new k c → ⊥
-      late_holds k c late here holds = omega (arith, so_far.before k c here holds)
 
   others_after : (k c : ℕ) → fin.contains class c ≡ false → fin.contains (at new_after k) c ≡ fin.contains (at old k) c
   others_after k c outside =
@@ -265,9 +306,9 @@ module _
           let earlier = so_far.dealt c here not_rest in
           (earlier.0, keeps earlier.0 c earlier.1)
 
-  pub dealing_more : Dealing class shares old new_after rest_after (row + 1)
+  pub dealing_more : Dealing class (done ++ share ∷ []) old new_after rest_after row
   dealing_more = record {
-    long = ap length is ∙ length-set new row (fin.union (at new row) dealt_now) ∙ so_far.long;
+    long = long_after ∙ so_far.long;
     others = others_after;
     within = λ c here. so_far.within c (still_rest c here);
     apart = λ k c holds left. apart_after k c (held k c holds) left;
@@ -277,39 +318,55 @@ module _
     once = λ j k c here holds_j holds_k. once_after j k c here (held j c holds_j) (held k c holds_k);
     before = λ k c here holds. before_after k c here (held k c holds);
     counts = counts_after;
-    room = omega (arith, so_far.room, later_split from row shares next.0 next.2, taken.left);
+    left =
+        let more : shared_out (done ++ share ∷ []) ≡ shared_out done + amount = sum_by_push (λ (t : Share). t.amount) done share in
+        omega (arith, so_far.left, taken.left, more);
   }
 
--- the same, as the call sees it: the row's set is read, and written with what was taken
+-- the same, as the loop sees it: the row's set is read, and written with what was taken
 pub dealing_step :
-    (class : Ids) (shares : List Share) (old new : List Ids) (rest rest_after dealt_now here both_now : Ids) (from row count : ℕ)
-    → Dealing class shares old new rest from → IsNextRow shares from (Some row) → row < length new
-    → IsTaken rest rest_after dealt_now count → count ≡ share_of row shares
-    → here ≡ get_or new row here → both_now ≡ fin.union here dealt_now → Dealing class shares old (set new row both_now) rest_after (row + 1)
-dealing_step class shares old new rest rest_after dealt_now here both_now from row count so_far next in_rows taken is_share here_is both_is =
-    dealing_more class shares old new (set new row both_now) rest rest_after dealt_now from row so_far next in_rows
-    (subst (IsTaken rest rest_after dealt_now) is_share taken)
-    (ap (set new row) (both_is ∙ ap (λ s. fin.union s dealt_now) (here_is ∙ get_or_default new row here fin.empty in_rows)))
+    (class : Ids) (shares : List Share) (old new : List Ids) (rest rest_after dealt_now here both_now : Ids) (i : ℕ)
+    → InRange class → Dealing class (take i shares) old new rest (last_row shares i) → IsNonDecreasingBy (λ (t : Share). t.row) shares → i < length shares
+    → (share_at shares i).row < length new → IsTaken rest rest_after dealt_now (share_at shares i).amount
+    → here ≡ get_or new (share_at shares i).row here → both_now ≡ fin.union here dealt_now
+    → Dealing class (take (i + 1) shares) old (set new (share_at shares i).row both_now) rest_after (last_row shares (i + 1))
+dealing_step class shares old new rest rest_after dealt_now here both_now i in_range so_far rising lt in_rows taken here_is both_is =
+    let later : last_row shares i ≤ (share_at shares i).row = rising (i - 1) i no_share (omega arith) lt in
+    let last : (share_at shares i).row ≡ last_row shares (i + 1) = ap (λ j. (share_at shares j).row) (before_next i) in
+    rw (← last, take_more shares i no_share lt)
+    (dealing_more class (take i shares) old new (set new (share_at shares i).row both_now) rest rest_after dealt_now (last_row shares i) (share_at shares i).row (share_at shares i).amount
+    in_range so_far later in_rows taken
+    (ap (set new (share_at shares i).row) (both_is ∙ ap (λ x. fin.union x dealt_now) (here_is ∙ get_or_default new (share_at shares i).row here fin.empty in_rows))))
+  where
+    before_next : (i : ℕ) → i ≡ (i + 1) - 1
+    before_next i = omega arith
 
--- the next row's share can be taken of what is left
-pub share_left : (class : Ids) (shares : List Share) (old new : List Ids) (rest : Ids) (from row : ℕ) → Dealing class shares old new rest from → IsNextRow shares from (Some row)
-    → share_of row shares ≤ fin.len rest
-share_left class shares old new rest from row so_far next = omega (arith, so_far.room, later_split from row shares next.0 next.2)
+-- the next share can be taken of what is left
+pub share_left : (class : Ids) (shares : List Share) (old new : List Ids) (rest : Ids) (i last : ℕ) → Dealing class (take i shares) old new rest last → i < length shares
+    → shared_out shares ≤ fin.len class → (share_at shares i).amount ≤ fin.len rest
+share_left class shares old new rest i last so_far lt room =
+    let more : shared_out (take (i + 1) shares) ≡ shared_out (take i shares) + (share_at shares i).amount =
+    rw (take_more shares i no_share lt) (sum_by_push (λ (t : Share). t.amount) (take i shares) (share_at shares i)) in
+    omega (arith, so_far.left, more, sum_by-take-le (λ (t : Share). t.amount) shares (i + 1), room)
 
--- all rows have their shares
+-- shares in another order are dealt alike
+pub dealt_as : (class : Ids) (shares sorted : List Share) (old new : List Ids) → IsPermutation shares sorted → IsClassDeal class sorted old new → IsClassDeal class shares old new
+dealt_as class shares sorted old new same deal = record {
+  long = deal.long;
+  others = deal.others;
+  counts = λ k within. deal.counts k within ∙ sum_by-IsPermutation (λ (t : Share). cond (t.row == k) t.amount 0) shares sorted same;
+  once = deal.once;
+  rising = deal.rising;
+}
+
+-- all shares are dealt
 pub dealing_end :
-    (class : Ids) (shares : List Share) (old new : List Ids) (rest : Ids) (from : ℕ) → Dealing class shares old new rest from → IsNextRow shares from None
+    (class : Ids) (shares done : List Share) (old new : List Ids) (rest : Ids) (last : ℕ) → Dealing class done old new rest last → done ≡ shares
     → IsClassDeal class shares old new
-dealing_end class shares old new rest from so_far none = record {
+dealing_end class shares done old new rest last so_far all = record {
   long = so_far.long;
   others = so_far.others;
-  counts = λ k within.
-      elim (cases_lt k from) [
-        | inl early ↦ so_far.counts k early within
-        | inr late ↦
-            none_held (at new k) class (λ c here holds. omega (arith, so_far.before k c here holds, late))
-            ∙ sym (share_none k shares (λ i d lt e. omega (arith, none i d lt, e, late)))
-      ];
+  counts = λ k within. so_far.counts k within ∙ ap (share_of k) all;
   once = so_far.once;
   rising = λ a b k lt in_a in_b holds.
       by_cases a b k lt in_a in_b holds (fin.contains rest a) refl;

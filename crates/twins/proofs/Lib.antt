@@ -3,7 +3,6 @@ pub mod Sets
 pub mod Times
 pub mod Splitting
 pub mod Grouped
-pub mod Shares
 pub mod Deals
 pub mod Rounds
 pub mod TwinLaws

@@ -1,5 +1,5 @@
 -- The CPUs of classes, dealt to rows.
-use Rattle.std.specs.Prelude.{◌≡◌, ℕ, ◌+◌, ◌<◌, ◌≤◌, true, false, ◌||◌, Option, Some, None, List, All, Any, AllPairs, length, slice_index_or}
+use Rattle.std.specs.Prelude.{◌≡◌, ℕ, ◌+◌, ◌<◌, ◌≤◌, true, false, ◌||◌, List, All, AllPairs, length, slice_index_or}
 use Rattle.std.specs.FinSet as set
 use Rattle.cpu_set.specs.Ids.{Ids, IsDisjoint}
 use Rattle.cpu_set.specs.Members.{InRange}
@@ -32,11 +32,6 @@ pub record IsTaken (old new taken : Ids) (count : ℕ) : Type 0 where
   pub below : (a b : ℕ) → set.contains taken a ≡ true → set.contains new b ≡ true → a < b
   pub as_many : set.len taken ≡ count
   pub left : set.len new + count ≡ set.len old
-
--- the least row at or above `from` that has a share, or none
-abbrev pub IsNextRow : List Share → ℕ → Option ℕ → Type 0
-IsNextRow shares from None = All (λ s. s.row < from) shares
-IsNextRow shares from (Some row) = (from ≤ row) × Any (λ s. s.row ≡ row) shares × All (λ s. from ≤ s.row → row ≤ s.row) shares
 
 -- the CPUs of one class are dealt to the holders of shares, in the rows' order, and nothing else changes
 pub record IsClassDeal (class : Ids) (shares : List Share) (old new : List Ids) : Type 0 where

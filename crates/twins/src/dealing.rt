@@ -1,12 +1,13 @@
 //! The CPUs of classes, dealt to rows.
-ghost use Rattle.std.specs.Prelude.{◌≡◌, ℕ, ◌<◌, ◌≤◌, ◌^◌, true, min, IfOk, MatchOption, All, AllPairs, length};
+ghost use Rattle.std.specs.Prelude.{◌≡◌, ℕ, ◌<◌, ◌≤◌, true, IfOk, All, AllPairs, length};
+ghost use Rattle.std.specs.List.Sorted.{IsPermutation, IsNonDecreasingBy};
 ghost use Rattle.std.specs.FinSet as set;
 ghost use Rattle.cpu_set.specs.Ids.{IsDisjoint};
 ghost use Rattle.cpu_set.specs.Members.{InRange};
 ghost use Rattle.certificate.specs.IsDealt.{Holds};
 ghost use Rattle.twins.specs.IsGrouping.{class_at};
-ghost use Rattle.twins.specs.Holdings.{share_of, shared_out, held_of};
-ghost use Rattle.twins.specs.IsDeal.{IsDeal, IsClassDeal, IsNextRow, IsTaken};
+ghost use Rattle.twins.specs.Holdings.{shared_out, held_of};
+ghost use Rattle.twins.specs.IsDeal.{IsDeal, IsClassDeal, IsTaken};
 
 use crate::{Classes, Holders, Share};
 use cpu_set::IdSet;
@@ -14,6 +15,8 @@ use std::alloc::{AllocError, Global};
 
 /// A set for each row: of each class as many CPUs as the row holds, the lowest to the first row that
 /// holds some.
+///
+/// The shares of a class are sorted once: O(h log h) steps for h of them, and one for each CPU dealt.
 pub fn deal(
     alloc: Global,
     rows: usize,
@@ -49,62 +52,36 @@ fn deal_sets(
     for g in 0..classes.len() {
         let class = &classes[g];
         let holders = &holdings[g];
-        deal_class(class, holders.shares.as_slice(), sets.as_mut_slice());
+        let shares = in_row_order(alloc, holders.shares.as_slice())?;
+        deal_class(class, shares.as_slice(), sets.as_mut_slice());
     }
     Ok(sets)
 }
 
-/// The CPUs of one class, dealt to its holders in the rows' order.
+/// The shares, those of earlier rows first.
+fn in_row_order(alloc: Global, shares: &[Share]) -> Result<Vec<Share>, AllocError>
+    ensures same { IfOk result (λ sorted. IsPermutation shares.now sorted.items) }
+    ensures rising { IfOk result (λ sorted. IsNonDecreasingBy (λ s. s.row) sorted.items) }
+{
+    let mut sorted = shares.to_vec(alloc)?;
+    sorted.sort_by_key(|share| share.row)?;
+    Ok(sorted)
+}
+
+/// The CPUs of one class, dealt to its holders, whose shares stand in the rows' order.
 fn deal_class(class: &IdSet, shares: &[Share], sets: &mut [IdSet])
     requires in_range { InRange class.now }
     requires rows { All (λ share. share.row < length sets.old) shares.now }
+    requires rising { IsNonDecreasingBy (λ share. share.row) shares.now }
     requires room { shared_out shares.now ≤ set.len class.now }
     requires free { (k cpu : ℕ) → set.contains class.now cpu ≡ true → Holds sets.old k cpu → ⊥ }
     ensures { IsClassDeal class.now shares.now sets.old sets.new }
 {
     let mut rest = *class;
-    let mut from = 0;
-    while let Some(row) = next_row(shares, from) {
-        let dealt = take_lowest(&mut rest, amount_of(shares, row));
-        sets[row] = sets[row].union(&dealt);
-        from = row + 1;
-    }
-}
-
-/// The least row at or above `from` that has a share.
-fn next_row(shares: &[Share], from: usize) -> Option<usize>
-    ensures { IsNextRow shares.now from result }
-{
-    let mut next: Option<usize> = None;
     for share in shares {
-        if share.row >= from {
-            next = Some(lower_of(next, share.row));
-        }
+        let dealt = take_lowest(&mut rest, share.amount);
+        sets[share.row] = sets[share.row].union(&dealt);
     }
-    next
-}
-
-fn lower_of(least: Option<usize>, row: usize) -> usize
-    ensures { MatchOption least (result ≡ row) (λ n. result ≡ min n row) }
-{
-    match least {
-        Some(n) => n.min(row),
-        None => row,
-    }
-}
-
-/// How many CPUs one row holds.
-fn amount_of(shares: &[Share], row: usize) -> u32
-    requires { shared_out shares.now < 2 ^ 32 }
-    ensures { result ≡ share_of row shares.now }
-{
-    let mut amount = 0;
-    for share in shares {
-        if share.row == row {
-            amount += share.amount;
-        }
-    }
-    amount
 }
 
 /// Takes the lowest CPUs out of a set.

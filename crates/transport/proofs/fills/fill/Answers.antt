@@ -7,18 +7,20 @@ use Rattle.transport.proofs.Filling.{filled_first, can_fill, filled_more, stuck_
 use Rattle.transport.proofs.fills.fill.Goals as goal
 
 pub loop-row-init : goal.loop-row-init
-loop-row-init c = filled_first _ _ _ _ c.requires.fit c.requires.classes c.in_ok-state.ensures c.in_ok-lines.ensures
+loop-row-init c =
+    let first = filled_first _ _ _ _ c.requires.fit c.requires.classes c.in_ok-state.ensures c.in_ok-lines.ensures in
+    (first, rw (first.values_long, first.prices_long) c.in_ok-tree.ensures)
 
-pub fill_row-requires : goal.fill_row-requires
-fill_row-requires c =
+pub fill_row-requires-clause-can : goal.fill_row-requires-clause-can
+fill_row-requires-clause-can c =
     subst (λ lines. CanFill c.args.table.now c.loop-row.row c.loop-row.state lines c.loop-row.turns) (sym c.deref_mut.ensures.value)
-    (can_fill _ _ _ _ _ _ c.loop-row.invariant c.requires.fit c.loop-row-test.true c.requires.few (λ g. omega (arith, c.type_inv.sizes g)))
+    (can_fill _ _ _ _ _ _ c.loop-row.invariant.0 c.requires.fit c.loop-row-test.true c.requires.few (λ g. omega (arith, c.type_inv.sizes g)))
 
-pub returns-in-Some : goal.returns-in-Some
-returns-in-Some c =
-    let e = subst (IsRowFilled c.args.table.now c.loop-row.row c.loop-row.state c.fill_row.new.state c.fill_row.new.lines c.loop-row.turns c.fill_row.new.turns) c.in-Some.is c.in_ok-tree.ensures in
-    subst (IsFilled c.args.table.now.rows.now c.args.table.now.firsts.items c.args.sizes.now) (sym c.stuck.ensures)
-    (stuck_at_end _ _ _ _ _ _ c.loop-row.invariant c.requires.fit c.loop-row-test.true _ _ _ e)
+pub returns-then-not-branch : goal.returns-then-not-branch
+returns-then-not-branch c =
+    subst (IsFilled c.args.table.now.rows.now c.args.table.now.firsts c.args.sizes.now) (sym c.stuck.ensures)
+    (stuck_at_end _ _ _ _ _ _ c.loop-row.invariant.0 c.requires.fit c.loop-row-test.true _ _ _
+    (subst (IsRowFilled c.args.table.now c.loop-row.row c.loop-row.state c.fill_row.new.state c.fill_row.new.lines c.fill_row.new.tree c.loop-row.turns c.fill_row.new.turns) c.if-not-branch.true c.in_ok-fill_row.ensures))
 
 -- the lines behind the slice are those that the call left
 written : (n : ℕ) (new rest : List Line) → n ≡ length new → take n (new ++ rest) ≡ new
@@ -26,10 +28,12 @@ written n new rest long = take-append-le n new rest (omega (arith, long)) ∙ ta
 
 pub loop-row-preserved : goal.loop-row-preserved
 loop-row-preserved c =
-    let p = subst (IsRowFilled c.args.table.now c.loop-row.row c.loop-row.state c.fill_row.new.state c.fill_row.new.lines c.loop-row.turns c.fill_row.new.turns) c.in_default.is c.in_ok-tree.ensures in
-    subst (λ lines. AreFilled c.args.table.now c.args.sizes.now c.fill_row.new.state lines (c.loop-row.row + 1) c.fill_row.new.turns)
-    (sym (written _ _ _ (omega (arith, c.loop-row.lines.ok.0, c.loop-row.invariant.lines_are.long, p.0.lines_are.long))))
-    (filled_more _ _ _ _ _ _ c.loop-row.invariant c.requires.fit c.loop-row-test.true _ _ _ p.0 p.1)
+    let p = subst (IsRowFilled c.args.table.now c.loop-row.row c.loop-row.state c.fill_row.new.state c.fill_row.new.lines c.fill_row.new.tree c.loop-row.turns c.fill_row.new.turns) c.if-not-branch.false c.in_ok-fill_row.ensures in (
+      subst (λ lines. AreFilled c.args.table.now c.args.sizes.now c.fill_row.new.state lines (c.loop-row.row + 1) c.fill_row.new.turns)
+          (sym (written _ _ _ (omega (arith, c.loop-row.lines.ok.0, c.loop-row.invariant.0.lines_are.long, p.0.lines_are.long))))
+          (filled_more _ _ _ _ _ _ c.loop-row.invariant.0 c.requires.fit c.loop-row-test.true _ _ _ p.0 p.1),
+      p.2,
+    )
 
 pub returns : goal.returns
-returns c = done_at_end _ _ _ _ _ _ c.loop-row.invariant (omega (arith, c.loop-row-test.false, c.loop-row.auto.row-end))
+returns c = done_at_end _ _ _ _ _ _ c.loop-row.invariant.0 (omega (arith, c.loop-row-test.false, c.loop-row.auto.row-end))

@@ -7,39 +7,41 @@ use Rattle.transport.specs.States.{IsRunning}
 use Rattle.transport.specs.Answers.{IsAnswer, IsFound}
 use Rattle.transport.proofs.Numbers.{read_number}
 use Rattle.transport.proofs.Starting.{running_start}
-use Rattle.transport.proofs.HandingOut.{answer_running, fresh_as, turns_fit, no_exit, turns_fit_exit, exit_row, exit_class, room_unmet, fewer, pushed}
+use Rattle.transport.proofs.HandingOut.{answer_running, turns_fit, no_exit, turns_fit_exit, exit_row, exit_class, room_unmet, fewer, pushed, tree_left}
 use Rattle.transport.proofs.fills.search_for.Goals as goal
-use Rattle.transport.proofs.fills.search_for.Goals.{In_ok-tree, In_ok-found, In-Some, After-min-amount}
+use Rattle.transport.proofs.fills.search_for.Goals.{In_ok-start, In_ok-found, In-Some, After-min-amount}
 
-wanted : (c : In_ok-tree) → c.index-wanted.result.now ≡ number c.args.state.now.unmet.items c.args.row
+wanted : (c : In_ok-start) → c.index-wanted.result.now ≡ number c.args.state.now.unmet.items c.args.row
 wanted c = sym (read_number _ _ _ _ c.requires.can.in_rows c.requires.can.unmet_long c.index-wanted.ensures)
 
-fresh : (c : In_ok-tree) → IsFresh (length c.args.state.now.values.items) (length c.args.state.now.prices.items) c.args.row (number c.args.state.now.unmet.items c.args.row) c.in_ok-tree.tree
-fresh c =
-    fresh_as _ _ _ _ _ _ _ _ c.requires.can.rows (omega (arith, c.len.ensures, c.args.state.now.free.ok.0, c.requires.can.settled.free_long)) (wanted c) c.in_ok-tree.ensures
+fresh : (c : In_ok-start) → IsFresh (length c.args.state.now.values.items) (length c.args.state.now.prices.items) c.args.row c.index-wanted.result.now c.start.new.self
+fresh c = c.in_ok-start.ensures _ _ c.requires.tidy c.requires.can.in_rows
 
 pub search-requires-clause-running : goal.search-requires-clause-running
-search-requires-clause-running c = running_start _ _ _ _ _ c.requires.can.settled (fresh (goal.at.search-requires-clause-running c).In_ok-tree) c.requires.lacks
+search-requires-clause-running c =
+    let s = (goal.at.search-requires-clause-running c).In_ok-start in
+    running_start _ _ _ _ _ c.requires.can.settled (fresh s) (omega (arith, wanted s, c.requires.lacks))
 
 running : (c : In_ok-found) → IsRunning (weights c.args.table.now) c.search.new.state c.search.new.tree
 running c = answer_running _ _ _ _ c.in_ok-found.ensures.answer
 
 root_at : (c : In_ok-found) → row_at c.search.new.tree.queue 0 ≡ c.args.row
-root_at c = c.in_ok-found.ensures.root.row ∙ c.in_ok-tree.ensures.at_root.root_at
+root_at c = c.in_ok-found.ensures.root.row ∙ (c.in_ok-start.ensures _ _ c.requires.tidy c.requires.can.in_rows).at_root.root_at
 
 room_is : (c : In_ok-found) (w : c.index-wanted.result.now ≡ number c.args.state.now.unmet.items c.args.row) → room c.search.new.tree.queue c.args.row ≡ number c.args.state.now.unmet.items c.args.row
 room_is c w =
-    subst (λ k. room c.search.new.tree.queue k ≡ room c.in_ok-tree.tree.queue k) c.in_ok-tree.ensures.at_root.root_at c.in_ok-found.ensures.root.rooms
-    ∙ c.in_ok-tree.ensures.at_root.some_room ∙ w
+    let f = c.in_ok-start.ensures _ _ c.requires.tidy c.requires.can.in_rows in
+    subst (λ k. room c.search.new.tree.queue k ≡ room c.start.new.self.queue k) f.at_root.root_at c.in_ok-found.ensures.root.rooms
+    ∙ f.at_root.some_room ∙ w
 
 pub overflow_add-turns-2 : goal.overflow_add-turns-2
 overflow_add-turns-2 c =
     let i = (goal.at.overflow_add-turns-2 c).In_ok-found in
-    let w = wanted (goal.at.overflow_add-turns-2 c).In_ok-tree in
+    let w = wanted (goal.at.overflow_add-turns-2 c).In_ok-start in
     omega (
       arith,
+      c.len.ensures,
       c.len-2.ensures,
-      c.len-3.ensures,
       c.search.new.tree.queue.order.ok.0,
       c.search.new.tree.takings.order.ok.0,
       turns_fit _ _ _ _ _ _ _ _ c.requires.can c.requires.lacks (running i) c.in_ok-found.ensures.rows c.in_ok-found.ensures.rest (root_at i) (room_is i w) c.in_ok-found.ensures.lines,
@@ -48,9 +50,9 @@ overflow_add-turns-2 c =
 pub returns-in_default : goal.returns-in_default
 returns-in_default c =
     let i = (goal.at.returns-in_default c).In_ok-found in
-    let w = wanted (goal.at.returns-in_default c).In_ok-tree in
+    let w = wanted (goal.at.returns-in_default c).In_ok-start in
     no_exit _ _ _ _ _ _ _ _ c.requires.can c.requires.lacks (running i) c.in_ok-found.ensures.rows c.in_ok-found.ensures.rest (root_at i) (room_is i w) c.in_ok-found.ensures.lines _
-    (omega (arith, c.len-2.ensures, c.len-3.ensures, c.search.new.tree.queue.order.ok.0, c.search.new.tree.takings.order.ok.0))
+    (omega (arith, c.len.ensures, c.len-2.ensures, c.search.new.tree.queue.order.ok.0, c.search.new.tree.takings.order.ok.0))
     (subst (IsAnswer (weights c.args.table.now) c.search.new.state c.search.new.tree) c.in_default.is c.in_ok-found.ensures.answer)
 
 found : (c : In-Some) → IsFound (weights c.args.table.now) c.search.new.state c.search.new.tree c.in-Some.exit
@@ -59,12 +61,12 @@ found c = subst (IsAnswer (weights c.args.table.now) c.search.new.state c.search
 pub overflow_add-turns-3 : goal.overflow_add-turns-3
 overflow_add-turns-3 c =
     let i = (goal.at.overflow_add-turns-3 c).In_ok-found in
-    let w = wanted (goal.at.overflow_add-turns-3 c).In_ok-tree in
+    let w = wanted (goal.at.overflow_add-turns-3 c).In_ok-start in
     let f = found (goal.at.overflow_add-turns-3 c).In-Some in
     omega (
       arith,
+      c.len.ensures,
       c.len-2.ensures,
-      c.len-3.ensures,
       c.search.new.tree.queue.order.ok.0,
       c.search.new.tree.takings.order.ok.0,
       turns_fit_exit _ _ _ _ _ _ _ _ c.requires.can c.requires.lacks (running i) c.in_ok-found.ensures.rows c.in_ok-found.ensures.rest (root_at i) (room_is i w) c.in_ok-found.ensures.lines _ f,
@@ -73,7 +75,7 @@ overflow_add-turns-3 c =
 pub index-requires : goal.index-requires
 index-requires c =
     let i = (goal.at.index-requires c).In_ok-found in
-    let w = wanted (goal.at.index-requires c).In_ok-tree in
+    let w = wanted (goal.at.index-requires c).In_ok-start in
     let f = found (goal.at.index-requires c).In-Some in
     omega (
       arith,
@@ -84,7 +86,7 @@ index-requires c =
 pub index-requires-2 : goal.index-requires-2
 index-requires-2 c =
     let i = (goal.at.index-requires-2 c).In_ok-found in
-    let w = wanted (goal.at.index-requires-2 c).In_ok-tree in
+    let w = wanted (goal.at.index-requires-2 c).In_ok-start in
     let f = found (goal.at.index-requires-2 c).In-Some in
     omega (
       arith,
@@ -103,7 +105,7 @@ amount_is c w f at is =
 pub push-requires-clause-unmet : goal.push-requires-clause-unmet
 push-requires-clause-unmet c =
     let i = (goal.at.push-requires-clause-unmet c).In_ok-found in
-    let w = wanted (goal.at.push-requires-clause-unmet c).In_ok-tree in
+    let w = wanted (goal.at.push-requires-clause-unmet c).In_ok-start in
     let f = found (goal.at.push-requires-clause-unmet c).In-Some in
     omega (
       arith,
@@ -114,10 +116,11 @@ push-requires-clause-unmet c =
 pub returns : goal.returns
 returns c =
     let i = (goal.at.returns c).In_ok-found in
-    let w = wanted (goal.at.returns c).In_ok-tree in
+    let w = wanted (goal.at.returns c).In_ok-start in
     let f = found (goal.at.returns c).In-Some in
     let is = amount_is (goal.at.returns c).After-min-amount w f (root_at i) (room_is i w) in (
       pushed _ _ _ _ _ _ _ _ c.requires.can c.requires.lacks (running i) c.in_ok-found.ensures.rows c.in_ok-found.ensures.rest (root_at i) (room_is i w) c.in_ok-found.ensures.lines _ f _ _ c.in_ok-push.ensures is _
-          (omega (arith, c.len-2.ensures, c.len-3.ensures, c.search.new.tree.queue.order.ok.0, c.search.new.tree.takings.order.ok.0)),
+          (omega (arith, c.len.ensures, c.len-2.ensures, c.search.new.tree.queue.order.ok.0, c.search.new.tree.takings.order.ok.0)),
       fewer _ _ _ _ _ _ _ _ c.requires.can c.requires.lacks (running i) c.in_ok-found.ensures.rows c.in_ok-found.ensures.rest (root_at i) (room_is i w) c.in_ok-found.ensures.lines _ f _ _ c.in_ok-push.ensures is,
+      tree_left _ _ _ _ _ _ _ _ c.requires.can c.requires.lacks (running i) c.in_ok-found.ensures.rows c.in_ok-found.ensures.rest (root_at i) (room_is i w) c.in_ok-found.ensures.lines _ f _ _ c.in_ok-push.ensures is,
     )

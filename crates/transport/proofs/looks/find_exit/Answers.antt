@@ -1,4 +1,4 @@
-use Rattle.std.proofs.Common.{◌≡◌, ap, ◌∙◌, subst}
+use Rattle.std.proofs.Common.{◌≡◌, refl, ap, ◌∙◌, subst}
 use Rattle.certificate.specs.RowView.{RowView}
 use Rattle.transport.specs.Lines.{IsFoundExit}
 use Rattle.transport.specs.Weights.{weights, offers_of}
@@ -14,14 +14,14 @@ offers_are c =
 pub find_exit-requires : goal.find_exit-requires
 find_exit-requires c =
     let e = offers_are (goal.at.find_exit-requires c).After-as_slice in
-    (weights c.args.table.now c.args.row, line_as _ _ _ _ _ _ _ _ e c.deref.ensures.value c.deref-2.ensures.value c.requires.line)
+    (weights c.args.table.now c.args.row, line_as _ _ _ _ _ _ _ _ e refl c.deref.ensures.value c.requires.line)
 
 pub returns : goal.returns
 returns c =
     let e = offers_are (goal.at.returns c).After-as_slice in
     let ws = weights c.args.table.now c.args.row in
-    let old = line_as ws _ _ _ _ _ _ _ e c.deref.ensures.value c.deref-2.ensures.value c.requires.line in
+    let old = line_as ws _ _ _ _ _ _ _ e refl c.deref.ensures.value c.requires.line in
     record {
-      line = line_back ws _ _ _ _ _ _ _ e c.deref.ensures.value c.deref-2.ensures.value (c.in_ok-found.ensures.line ws old);
-      found = subst (λ f. IsFoundExit ws f c.args.limit c.find_exit.new.self c.in_ok-found.found) c.deref-2.ensures.value (c.in_ok-found.ensures.found ws old);
+      line = line_back ws _ _ _ _ _ _ _ e refl c.deref.ensures.value (c.in_ok-found.ensures.line ws old);
+      found = subst (λ f. IsFoundExit ws f c.args.limit c.find_exit.new.self c.in_ok-found.found) c.deref.ensures.value (c.in_ok-found.ensures.found ws old);
     }

@@ -1,9 +1,6 @@
-use Rattle.std.proofs.Common.{◌-◌, length}
-use Rattle.twins.proofs.Deals.{Dealing}
+use Rattle.std.proofs.Common.{take}
+use Rattle.twins.proofs.Deals.{Dealing, last_row}
 use Rattle.twins.proofs.dealing.deal_class.Given as goal
 
-abbrev pub invariant-loop-row : goal.invariant-loop-row
-invariant-loop-row l = Dealing l.class l.shares l.fn.sets l.sets l.rest l.from
-
-abbrev pub decreases-loop-row : goal.decreases-loop-row
-decreases-loop-row l = length l.sets - l.from
+abbrev pub invariant-loop-share : goal.invariant-loop-share
+invariant-loop-share l = Dealing l.fn.class (take l.share-index l.shares) l.fn.sets l.sets l.rest (last_row l.shares l.share-index)
