@@ -50,3 +50,6 @@ fn answered(problem: Problem, answer: Answer) -> Certificate
         },
     }
 }
+
+#[cfg(test)]
+mod tests;
