@@ -1,0 +1,34 @@
+-- What a problem comes to.
+use Rattle.std.specs.Prelude.{◌≡◌, ℕ, List}
+use Rattle.cpu_set.specs.Ids.{Ids}
+use Rattle.certificate.specs.RowView.{RowView}
+use Rattle.certificate.specs.PricesView.{PricesView}
+use Rattle.certificate.specs.IsDealt.{IsDealt}
+use Rattle.certificate.specs.IsLeast.{IsLeast}
+use Rattle.certificate.specs.IsProved.{IsProved}
+use Rattle.certificate.specs.IsShortage.{IsShortage, HasNoPlan}
+use Rattle.certificate_text.specs.declared.certificates.Certificate.{Certificate}
+use Rattle.certificate_text.specs.declared.certificates.Certificate.TheVariants.{Plan, Short}
+use Rattle.transport.specs.declared.answers.Answer.{Answer}
+use Rattle.transport.specs.declared.answers.Answer.TheVariants as answer
+
+-- a plan of the rows that no plan undercuts, as its values and prices prove, and of twins the lower one to the earlier row
+pub record DecidesPlan (rows : List RowView) (sets : List Ids) (prices : PricesView) (total : ℕ) : Type 0 where
+  pub least : IsLeast rows sets
+  pub proved : IsProved rows sets prices total
+  pub dealt : IsDealt rows sets
+
+-- rows that ask for more than they may have, so that there is no plan
+pub record DecidesShort (rows : List RowView) (members : List ℕ) : Type 0 where
+  pub shortage : IsShortage rows members
+  pub none : HasNoPlan rows
+
+-- one of both, of these very rows
+abbrev pub Decides : List RowView → Certificate → Type 0
+Decides rows (Plan own sets prices total) = (own ≡ rows) × DecidesPlan rows sets prices total
+Decides rows (Short own members) = (own ≡ rows) × DecidesShort rows members
+
+-- a problem with its answer
+abbrev pub answered : List RowView → Answer → Certificate
+answered rows (answer.Plan sets prices total turns) = Plan rows sets prices total
+answered rows (answer.Short members turns) = Short rows members.items
