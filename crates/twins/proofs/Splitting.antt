@@ -4,6 +4,7 @@ use Rattle.std.specs.FinSet as set
 use Rattle.std.specs.List.{All}
 use Rattle.std.proofs.lemmas.Bool.{true≢false, false≢true, eqb-true}
 use Rattle.std.proofs.lemmas.List.{length-take, take-take, get_or-take}
+use Rattle.std.proofs.lemmas.List.Sums.{sum_by_push}
 use Rattle.std.proofs.lemmas.List.Elements.{All-more, All-take, All-push}
 use Rattle.cpu_set.specs.Ids.{Ids, NoneFrom}
 use Rattle.cpu_set.specs.Pointwise.{contains-intersection, contains-difference}
@@ -179,3 +180,24 @@ splitting_more rows k cpu row part rest piece rest_new parts_old alone_old parts
     not_is : (b : Bool) → (b ≡ true → ⊥) → not b ≡ true
     not_is true never = absurd (never refl)
     not_is false never = refl
+
+-- a set that the row does not tell apart stays whole
+pub unsplit :
+    (rows : List RowView) (k : ℕ) (row : RowView) (part : Ids) (parts alone parts_new : List Ids) → k < length rows → row ≡ get_or rows k row
+    → IsPart rows k part → All (IsPart rows (k + 1)) parts → All (IsPart rows (length rows)) alone
+    → ((a b : ℕ) → set.contains part a ≡ true → set.contains part b ≡ true → weight row a ≡ weight row b)
+    → parts_new ≡ parts ++ part ∷ [] → IsSplit rows (k + 1) part parts alone parts_new alone
+unsplit rows k row part parts alone parts_new lt is is_part all lone same added = record {
+  parts = rw added (All-push (IsPart rows (k + 1)) parts part all whole);
+  lone = lone;
+  same = λ c. (let more : times_in parts_new c ≡ times_in parts c + cond (set.contains part c) 1 0 = ap (λ l. times_in l c) added ∙ sum_by_push (λ (s : Ids). cond (set.contains s c) 1 0) parts part in
+      omega (arith, more));
+}
+  where
+    whole : IsPart rows (k + 1) part
+    whole = record {
+      in_range = is_part.in_range;
+      some = is_part.some;
+      alike = λ a b in_a in_b. twins_more rows k a b row lt is (is_part.alike a b in_a in_b) (same a b in_a in_b);
+      whole = λ a b in_a twins offered. is_part.whole a b in_a (twins_before rows k (k + 1) a b (omega arith) twins) offered;
+    }

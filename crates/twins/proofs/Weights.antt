@@ -1,9 +1,10 @@
 -- CPUs of one weight, offer by offer.
-use Rattle.std.proofs.Common.{◌≡◌, ℕ, ◌+◌, ◌<◌, Bool, true, false, cond, not, ◌&&◌, ◌||◌, ◌==◌, Option, Some, None, option_map, is_some, List, [], ◌∷◌, length, take, get_or, refl, sym, ap, ◌∙◌}
+use Rattle.std.proofs.Common.{◌≡◌, ℕ, ◌+◌, ◌<◌, Bool, true, false, cond, not, ◌&&◌, ◌||◌, ◌==◌, Option, Some, None, option_map, is_some, List, [], ◌∷◌, length, take, drop, get_or, refl, sym, ap, ◌∙◌}
 use Rattle.std.specs.Option.{option_or}
 use Rattle.std.specs.FinSet as set
 use Rattle.std.proofs.lemmas.Bool.{eqb-true, eq-eqb, ne_eqb, true≢false, false≢true}
-use Rattle.std.proofs.lemmas.List.{take_more}
+use Rattle.std.proofs.lemmas.List.{take_more, take-append-drop}
+use Rattle.certificate.specs.Tests.{both, or_right}
 use Rattle.std.proofs.lemmas.List.Folds.{find-append}
 use Rattle.certificate.specs.Weight.{weight_in}
 use Rattle.certificate.specs.Limits.{offers_fit}
@@ -83,3 +84,18 @@ pub same_without :
     → found ≡ is_same_weight (Some w) (weight_in (take (k + 1) offers) c)
 same_without w offers k o found c lt is fit differ same =
     same ∙ without_match w o.weight (set.contains o.cpus c) _ differ ∙ sym (same_more w offers k o c lt is fit)
+
+extended : (found later : Option Offer) (w : ℕ) → option_map (λ (o : Offer). o.weight) found ≡ Some w → option_map (λ (o : Offer). o.weight) (option_or found later) ≡ Some w
+extended None later w e = (let none : None ≡ Some w = e in cc)
+extended (Some o) later w e = e
+
+-- the CPUs of an offer have its weight
+pub in_offer :
+    (offers : List Offer) (k : ℕ) (o : Offer) (c : ℕ) → k < length offers → o ≡ get_or offers k o → offers_fit offers ≡ true → set.contains o.cpus c ≡ true
+    → weight_in offers c ≡ Some o.weight
+in_offer offers k o c lt is fit has =
+    let first : weight_in (take (k + 1) offers) c ≡ Some o.weight =
+    sym (same_says (Some o.weight) _ (same_more o.weight offers k o c lt is fit ∙ or_right _ _ (both _ _ has (eqb_itself o.weight)))) in
+    ap (λ l. weight_in l c) (sym (take-append-drop (k + 1) offers))
+    ∙ ap (option_map (λ (p : Offer). p.weight)) (find-append (λ (p : Offer). set.contains p.cpus c) (take (k + 1) offers) (drop (k + 1) offers))
+    ∙ extended _ _ o.weight first

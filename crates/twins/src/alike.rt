@@ -1,5 +1,5 @@
 //! The CPUs that are alike to one row.
-ghost use Rattle.std.specs.Prelude.{◌≡◌, ℕ, ◌&&◌, Some, IsTrue, is_some};
+ghost use Rattle.std.specs.Prelude.{◌≡◌, ℕ, ◌&&◌, true, Some, IsTrue, is_some};
 ghost use Rattle.std.specs.FinSet as set;
 ghost use Rattle.certificate.specs.Weight.{weight_in};
 ghost use Rattle.certificate.specs.Limits.{offers_fit};
@@ -18,6 +18,22 @@ pub(crate) fn alike(offers: &[Offer], cpu: u16, among: &IdSet) -> IdSet
         Some(weight) => among.meet(&cpus_of_weight(offers, weight)),
         None => among.minus(&cpus_of(offers)),
     }
+}
+
+/// Whether some CPUs are all in the offer that has the lowest of them, so that they have one weight.
+pub(crate) fn are_in_one(offers: &[Offer], cpus: &IdSet) -> bool
+    requires { IsTrue (offers_fit offers.now) }
+    ensures { IsTrue result → (a b : ℕ) → set.contains cpus.now a ≡ true → set.contains cpus.now b ≡ true → weight_in offers.now a ≡ weight_in offers.now b }
+{
+    let Some(cpu) = cpus.first() else {
+        return false;
+    };
+    for offer in offers {
+        if offer.cpus.contains(cpu) {
+            return cpus.is_subset(&offer.cpus);
+        }
+    }
+    false
 }
 
 fn weight_of(offers: &[Offer], cpu: u16) -> Option<u32>

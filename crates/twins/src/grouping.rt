@@ -8,7 +8,7 @@ ghost use Rattle.twins.specs.IsGrouping.{IsGrouping};
 ghost use Rattle.twins.specs.IsPart.{IsPart, IsUnsplit, ArePieces, IsSplit, IsPutTo};
 
 use crate::Classes;
-use crate::alike::{alike, cpus_of};
+use crate::alike::{alike, are_in_one, cpus_of};
 use certificate::{Problem, Row};
 use cpu_set::{CPU_LIMIT, IdSet};
 use std::alloc::{AllocError, Global};
@@ -85,7 +85,7 @@ fn split_all(
     Ok(parts)
 }
 
-/// One set, split by the weights that its CPUs have in row `k`.
+/// One set, split by the weights that its CPUs have in row `k`. A set within an offer stays whole.
 fn split(
     rows: &[Row],
     k: usize,
@@ -101,9 +101,14 @@ fn split(
     ensures { OnOk result (IsSplit rows.now (k + 1) part.now parts.old.items alone.old.items parts.new.items alone.new.items) }
 {
     let row = &rows[k];
+    let offers = row.offers.as_slice();
+    if are_in_one(offers, part) {
+        parts.push(*part)?;
+        return Ok(());
+    }
     let mut rest = *part;
     while let Some(cpu) = rest.first() {
-        let piece = alike(row.offers.as_slice(), cpu, &rest);
+        let piece = alike(offers, cpu, &rest);
         put(piece, parts, alone)?;
         rest = rest.minus(&piece);
     }

@@ -1,0 +1,10 @@
+use Rattle.std.proofs.Common.{sym, ◌∙◌}
+use Rattle.cpu_set.specs.Pointwise.{is_subset-contains}
+use Rattle.twins.proofs.Weights.{in_offer}
+use Rattle.twins.proofs.alike.are_in_one.Goals as goal
+
+pub returns-then-contains : goal.returns-then-contains
+returns-then-contains c = λ all a b in_a in_b.
+    let within = is_subset-contains _ _ (sym c.is_subset.ensures ∙ all) in
+    in_offer _ _ _ a c.loop-offer-test.true c.offer-item.is c.requires (within a in_a)
+    ∙ sym (in_offer _ _ _ b c.loop-offer-test.true c.offer-item.is c.requires (within b in_b))
