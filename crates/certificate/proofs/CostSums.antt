@@ -16,7 +16,7 @@ use Rattle.cpu_set.specs.Pointwise.{contains-intersection}
 use Rattle.cpu_set.specs.declared.TheConstants.{CPU_LIMIT}
 use Rattle.certificate.specs.RowView.{RowView}
 use Rattle.certificate.specs.Weight.{weight_in}
-use Rattle.certificate.specs.Limits.{are_apart, offers_fit, row_fits, values_fit}
+use Rattle.certificate.specs.Limits.{offers_fit, row_fits, values_fit}
 use Rattle.certificate.specs.declared.rows.Offer.{Offer}
 use Rattle.certificate.specs.declared.limits.TheConstants.{MAX_DEMAND, MAX_WEIGHT, MAX_AMOUNT}
 use Rattle.certificate.specs.Tests.{and_left, and_right, both, not_true}

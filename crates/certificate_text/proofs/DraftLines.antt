@@ -16,7 +16,7 @@ use Rattle.certificate_text.specs.declared.certificates.Certificate.TheVariants.
 use Rattle.certificate_text.specs.declared.stage.Stage.{Stage}
 use Rattle.certificate_text.specs.declared.stage.Stage.TheVariants.{Body, Totalled, Planned, Named, Shown}
 use Rattle.certificate_text.specs.Line.{LineView, RowLine, HoldLine, PriceLine, TotalLine, ShortLine, EndLine}
-use Rattle.certificate_text.specs.CertificateText.{hold_lines, id_at, short_lines, lines_of, CanBeText, HasShortText}
+use Rattle.certificate_text.specs.CertificateText.{hold_lines, id_at, short_lines, lines_of, CanBeText}
 use Rattle.certificate_text.specs.Begun.{run}
 use Rattle.certificate_text.specs.DraftView.{DraftView, has_id, is_id_of, is_held, number_in, number_of, with_member, next_in_body, next_at, next, empty_draft}
 use Rattle.certificate_text.proofs.RowIds.{IsNew, Differ, has_id_from_new, new_after}

@@ -1,12 +1,12 @@
 -- Which lines a draft takes, by tests.
-use Rattle.std.proofs.Common.{◌≡◌, ℕ, zero, suc, ◌+◌, ◌<◌, ◌≤◌, Bool, true, false, not, ◌&&◌, cond, ◌++◌, List, [], ◌∷◌, length, drop, Option, Some, None, refl, sym, ap, ◌∙◌, subst, arith}
+use Rattle.std.proofs.Common.{◌≡◌, ℕ, zero, suc, ◌+◌, Bool, true, false, not, ◌&&◌, cond, ◌++◌, List, [], ◌∷◌, drop, Option, Some, None, refl, sym, ap, ◌∙◌, subst, arith}
 use Rattle.std.specs.Prelude.{slice_get, is_some, IsSome}
 use Rattle.std.specs.Str.{bytes_eq}
 use Rattle.std.proofs.lemmas.Option.{none-some, same_Some}
 use Rattle.certificate.specs.RowView.{RowView}
 use Rattle.certificate_text.specs.declared.stage.Stage.{Stage}
 use Rattle.certificate_text.specs.declared.stage.Stage.TheVariants.{Start, Body, Totalled, Planned, Named, Shown}
-use Rattle.certificate_text.specs.Line.{LineView, RowLine, HoldLine, PriceLine, TotalLine, ShortLine, EndLine}
+use Rattle.certificate_text.specs.Line.{RowLine, ShortLine}
 use Rattle.certificate_text.specs.DraftView.{DraftView, has_id, has_no_plan, number_in, number_of, takes_members, takes_members_at, with_member, next_in_body, next_at, next}
 
 cond_yes : {A : Type 0} (b : Bool) (x y : A) → b ≡ true → cond b x y ≡ x

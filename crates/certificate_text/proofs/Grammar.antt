@@ -13,7 +13,7 @@ use Rattle.certificate_text.specs.CertificateText.{IsText, hold_lines, lines_of,
 use Rattle.certificate_text.specs.Begun.{run, IsBegun}
 use Rattle.certificate_text.specs.Finished.{plan_of, shortage_of, finished, finished_at}
 use Rattle.certificate_text.specs.DraftView.{DraftView, next, empty_draft}
-use Rattle.certificate_text.proofs.DraftSteps.{IsRightAt, IsNamed, lines_at, step}
+use Rattle.certificate_text.proofs.DraftSteps.{IsRightAt, lines_at, step}
 use Rattle.certificate_text.proofs.DraftLines.{ended_of, run-lines_of}
 use Rattle.certificate_text.proofs.SpelledOnce.{spelled_once}
 use Rattle.certificate_text.proofs.Zips.{zip_once}

@@ -1,8 +1,8 @@
 -- What is written is a text of its certificate.
-use Rattle.std.proofs.Common.{◌≡◌, ◌≢◌, ℕ, zero, suc, ◌+◌, ◌<◌, ◌≤◌, ◌^◌, Bool, true, false, ◌&&◌, ◌||◌, List, [], ◌∷◌, ◌++◌, map, length, get_or, refl, sym, ap, ◌∙◌, subst, arith, append-nil, append_assoc}
+use Rattle.std.proofs.Common.{◌≡◌, ◌≢◌, ℕ, zero, suc, ◌<◌, ◌^◌, Bool, true, false, ◌&&◌, ◌||◌, List, [], ◌∷◌, ◌++◌, map, length, refl, sym, ap, ◌∙◌, arith, append-nil, append_assoc}
 use Rattle.std.specs.Prelude.{codes, decimal, All, ◌==◌}
-use Rattle.std.specs.Char.{is_ascii_digit, is_ascii_alphanumeric}
-use Rattle.std.specs.List.{AllZip, flat_map, list_all, slice_split}
+use Rattle.std.specs.Char.{is_ascii_digit}
+use Rattle.std.specs.List.{AllZip, flat_map, list_all}
 use Rattle.std.specs.FinSet as set
 use Rattle.std.proofs.lemmas.Bool.{false≢true}
 use Rattle.std.proofs.lemmas.Bool.Decides.{nat_tests}
@@ -14,18 +14,17 @@ use Rattle.cpu_set.specs.declared.TheConstants.{CPU_LIMIT}
 use Rattle.cpu_list.specs.CanonicalList.{list_text}
 use Rattle.cpu_list.specs.CanonicalLaws.{TextIsCanonical, CanonicalReadsAgain, TextLacks}
 use Rattle.certificate.specs.RowView.{RowView}
-use Rattle.certificate.specs.PricesView.{PricesView}
 use Rattle.certificate.specs.declared.rows.Offer.{Offer}
 use Rattle.certificate.specs.declared.price_lists.Price.{Price}
 use Rattle.certificate_text.specs.declared.certificates.Certificate.{Certificate}
 use Rattle.certificate_text.specs.declared.certificates.Certificate.TheVariants.{Plan, Short}
-use Rattle.certificate_text.specs.CertificateText.{CanBeText, IsText, hold_lines, id_at, short_lines, lines_of}
+use Rattle.certificate_text.specs.CertificateText.{CanBeText, hold_lines, id_at, short_lines, lines_of}
 use Rattle.certificate_text.specs.IdWord.{is_id_letter, IsId}
 use Rattle.certificate_text.specs.ListWord.{IsListWord}
 use Rattle.certificate_text.specs.NumberWord.{IsNumber}
 use Rattle.certificate_text.specs.Line.{LineView, HeaderLine, RowLine, HoldLine, PriceLine, TotalLine, ShortLine, EndLine, IsOfferWord, Spells, words}
 use Rattle.certificate_text.specs.Parts.{parts}
-use Rattle.certificate_text.specs.Written.{offer_text, line_text, text_of, CanWriteRow, CanWrite, IsOfferHeld, IsRowHeld, IsPriceHeld, IsHeld, WrittenReadsAgain}
+use Rattle.certificate_text.specs.Written.{offer_text, line_text, CanWriteRow, CanWrite, IsOfferHeld, IsRowHeld, IsPriceHeld, IsHeld, WrittenReadsAgain}
 use Rattle.certificate_text.proofs.Decimals.{own}
 
 -- the byte stands nowhere in the word

@@ -1,5 +1,5 @@
 -- A line that a draft was given, as text.
-use Rattle.std.proofs.Common.{◌≡◌, inr, ℕ, List, Result, Ok, Err, ap, ◌∙◌}
+use Rattle.std.proofs.Common.{inr, ℕ, List, Result, Ok, Err, ap, ◌∙◌}
 use Rattle.certificate_text.specs.Line.{LineView, Spells}
 use Rattle.certificate_text.specs.DraftView.{DraftView, next}
 use Rattle.certificate_text.specs.Takes.{Takes}

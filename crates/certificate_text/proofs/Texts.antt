@@ -1,16 +1,14 @@
 -- The text of a certificate in its sections.
 use Rattle.std.proofs.Common.{◌≡◌, ℕ, suc, ◌+◌, ◌<◌, List, [], ◌∷◌, ◌++◌, length, drop, drop-cons, get_or, map, refl, sym, ap, ◌∙◌, arith, append-nil, append_assoc}
-use Rattle.std.specs.Prelude.{slice_get, Some}
 use Rattle.std.specs.List.{flat_map}
 use Rattle.std.proofs.lemmas.Grind.{flat_map-append}
 use Rattle.std.proofs.lemmas.Option.{slice_get_read}
 use Rattle.cpu_set.specs.Ids.{Ids}
 use Rattle.certificate.specs.RowView.{RowView}
 use Rattle.certificate.specs.PricesView.{PricesView}
-use Rattle.certificate.specs.declared.price_lists.Price.{Price}
 use Rattle.certificate_text.specs.declared.certificates.Certificate.TheVariants.{Plan, Short}
-use Rattle.certificate_text.specs.CertificateText.{hold_lines, id_at, short_lines, lines_of}
-use Rattle.certificate_text.specs.Line.{LineView, HeaderLine, RowLine, HoldLine, PriceLine, TotalLine, ShortLine, EndLine}
+use Rattle.certificate_text.specs.CertificateText.{hold_lines, id_at, short_lines}
+use Rattle.certificate_text.specs.Line.{HeaderLine, RowLine, HoldLine, PriceLine, TotalLine, ShortLine, EndLine}
 use Rattle.certificate_text.specs.Written.{line_text, text_of}
 use Rattle.certificate_text.proofs.Pieces.{flat_map-map}
 

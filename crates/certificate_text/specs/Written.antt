@@ -1,12 +1,10 @@
 -- The text that a certificate is written as: the one of those that stand for it whose lists are canonical.
-use Rattle.std.specs.Prelude.{◌≡◌, ◌≢◌, ℕ, ◌<◌, ◌^◌, List, [], ◌∷◌, ◌++◌, All, codes, decimal}
+use Rattle.std.specs.Prelude.{◌≢◌, ℕ, ◌<◌, ◌^◌, List, ◌++◌, All, codes, decimal}
 use Rattle.std.specs.List.{flat_map}
 use Rattle.std.specs.FinSet as set
-use Rattle.cpu_set.specs.Ids.{Ids}
 use Rattle.cpu_set.specs.Members.{InRange}
 use Rattle.cpu_list.specs.CanonicalList.{list_text}
 use Rattle.certificate.specs.RowView.{RowView}
-use Rattle.certificate.specs.PricesView.{PricesView}
 use Rattle.certificate.specs.declared.rows.Offer.{Offer}
 use Rattle.certificate.specs.declared.price_lists.Price.{Price}
 use Rattle.certificate_text.specs.declared.certificates.Certificate.{Certificate}

@@ -1,8 +1,9 @@
 -- Bytes that a reader gave, one piece after another.
-use Rattle.std.proofs.Common.{◌≡◌, ℕ, ◌+◌, ◌≤◌, List, ◌++◌, length, take, Option, Some, None, arith, length-append, length-take, ◌∙◌, ap}
+use Rattle.std.proofs.Common.{◌≡◌, ℕ, ◌+◌, ◌≤◌, List, ◌++◌, length, take, Option, Some, None, arith, length-append, length-take}
 use Rattle.std.proofs.KnownBytes.{Consumes-trans}
 use Rattle.std.specs.Io.KnownBytes.{Consumes, Keeps}
-use Rattle.cli.specs.StoppedReads.{ConsumesUpTo, IsReadFaultOf, IsSystemFault, PassesBound, StopsWith}
+use Rattle.std.specs.declared.io.ErrorKind.{ErrorKind}
+use Rattle.cli.specs.StoppedReads.{ConsumesUpTo, IsSystemFault, PassesBound, StopsWith}
 use Rattle.cli.specs.declared.read_error.ReadError.{ReadError}
 use Rattle.cli.specs.declared.read_error.ReadError.TheVariants.{Memory, Fault}
 use Rattle.cli.specs.declared.read_fault.ReadFault.TheVariants.{NoSuchFile, Directory, Forbidden, Failed, TooManyBytes, TooManyReads}
@@ -24,11 +25,11 @@ Consumes-kept (Some xs) (Some ys) None bs p k = absurd k
 Consumes-kept (Some xs) (Some ys) (Some zs) bs p k = rw k p
 
 -- at a fault that the system told no bound was passed
-pub StopsWith-told : (a c : Option (List ℕ)) (e : ReadError) → IsSystemFault e → ConsumesUpTo MOST_BYTES a c → StopsWith a c e
-StopsWith-told a c Memory told within = within
-StopsWith-told a c (Fault NoSuchFile) told within = within
-StopsWith-told a c (Fault Directory) told within = within
-StopsWith-told a c (Fault Forbidden) told within = within
-StopsWith-told a c (Fault Failed) told within = within
-StopsWith-told a c (Fault TooManyBytes) told within = absurd told
-StopsWith-told a c (Fault TooManyReads) told within = within
+pub StopsWith-told : (a c : Option (List ℕ)) (kind : ErrorKind) (e : ReadError) → IsSystemFault kind e → ConsumesUpTo MOST_BYTES a c → StopsWith a c e
+StopsWith-told a c kind Memory told within = absurd told
+StopsWith-told a c kind (Fault NoSuchFile) told within = within
+StopsWith-told a c kind (Fault Directory) told within = within
+StopsWith-told a c kind (Fault Forbidden) told within = within
+StopsWith-told a c kind (Fault Failed) told within = within
+StopsWith-told a c kind (Fault TooManyBytes) told within = absurd told
+StopsWith-told a c kind (Fault TooManyReads) told within = absurd told

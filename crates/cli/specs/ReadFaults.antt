@@ -1,5 +1,7 @@
 -- Why an input can't be read.
-use Rattle.std.specs.Prelude.{ℕ, List, codes, ⊤}
+use Rattle.std.specs.Prelude.{◌≡◌, ◌≢◌, ℕ, List, codes}
+use Rattle.std.specs.declared.io.ErrorKind.{ErrorKind}
+use Rattle.std.specs.declared.io.ErrorKind.TheVariants.{NotFound, IsADirectory, PermissionDenied}
 use Rattle.cli.specs.declared.read_fault.ReadFault.{ReadFault}
 use Rattle.cli.specs.declared.read_fault.ReadFault.TheVariants.{NoSuchFile, Directory, Forbidden, Failed, TooManyBytes, TooManyReads}
 
@@ -12,8 +14,11 @@ reason_of Failed = codes "can't be read"
 reason_of TooManyBytes = codes "has more than 67108864 bytes"
 reason_of TooManyReads = codes "took more than 1000000 reads"
 
--- the system told it, and no bound was passed
-abbrev pub IsTold : ReadFault → Type 0
-IsTold TooManyBytes = ⊥
-IsTold TooManyReads = ⊥
-IsTold _ = ⊤
+-- the system told it by an error of this kind, and no bound was passed
+abbrev pub IsTold : ErrorKind → ReadFault → Type 0
+IsTold kind NoSuchFile = kind ≡ NotFound
+IsTold kind Directory = kind ≡ IsADirectory
+IsTold kind Forbidden = kind ≡ PermissionDenied
+IsTold kind Failed = (kind ≢ NotFound) × (kind ≢ IsADirectory) × (kind ≢ PermissionDenied)
+IsTold kind TooManyBytes = ⊥
+IsTold kind TooManyReads = ⊥

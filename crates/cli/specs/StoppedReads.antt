@@ -1,6 +1,7 @@
 -- What was read of an input that could not be read to its end.
 use Rattle.std.specs.Prelude.{◌≡◌, ℕ, ◌+◌, ◌≤◌, ◌<◌, List, Option, length, ⊤}
 use Rattle.std.specs.Io.KnownBytes.{Consumes}
+use Rattle.std.specs.declared.io.ErrorKind.{ErrorKind}
 use Rattle.cli.specs.ReadFaults.{IsTold}
 use Rattle.cli.specs.declared.read_error.ReadError.{ReadError}
 use Rattle.cli.specs.declared.read_error.ReadError.TheVariants.{Memory, Fault}
@@ -21,10 +22,10 @@ abbrev pub StopsWith : Option (List ℕ) → Option (List ℕ) → ReadError →
 StopsWith old new (Fault TooManyBytes) = PassesBound old new
 StopsWith old new _ = ConsumesUpTo MOST_BYTES old new
 
--- a fault that the system told
-abbrev pub IsSystemFault : ReadError → Type 0
-IsSystemFault Memory = ⊥
-IsSystemFault (Fault fault) = IsTold fault
+-- a fault that the system told by an error of this kind
+abbrev pub IsSystemFault : ErrorKind → ReadError → Type 0
+IsSystemFault kind Memory = ⊥
+IsSystemFault kind (Fault fault) = IsTold kind fault
 
 -- too many bytes is answered only where there are
 abbrev pub IsReadFaultOf : List ℕ → ReadFault → Type 0

@@ -20,11 +20,15 @@ pub trait Opens {
 /// The system's files. What they hold is not known.
 #[derive(Clone, Copy)]
 pub struct Disk<'a, R> {
-    rt: &'a R,
+    /// What gives access to them.
+    pub rt: &'a R,
 }
 
 impl<'a, R> Disk<'a, R> {
-    pub fn new(rt: &'a R) -> Disk<'a, R> {
+    /// The files that this gives access to.
+    pub fn new(rt: &'a R) -> Disk<'a, R>
+        ensures { result.rt.now ≡ rt.now }
+    {
         Disk { rt }
     }
 }

@@ -1,4 +1,5 @@
 ghost use Rattle.std.specs.Prelude.{◌≡◌};
+ghost use Rattle.std.specs.IoError.{error_kind};
 ghost use Rattle.cli.specs.StoppedReads.{IsSystemFault};
 ghost use Rattle.cli.specs.declared.read_error.ReadError.TheVariants.{Memory};
 
@@ -27,7 +28,7 @@ impl From<AllocError> for ReadError {
 }
 
 impl From<io::Error> for ReadError {
-    ghost from_gives = { λ _ error. IsSystemFault error };
+    ghost from_gives = { λ error result. IsSystemFault (error_kind error) result };
 
     fn from(error: io::Error) -> ReadError {
         ReadError::Fault(ReadFault::from(error))

@@ -1,4 +1,5 @@
 ghost use Rattle.std.specs.Prelude.{◌≡◌};
+ghost use Rattle.std.specs.IoError.{error_kind};
 ghost use Rattle.cli.specs.ReadFaults.{IsTold, reason_of};
 
 use std::io::{Error, ErrorKind};
@@ -37,7 +38,7 @@ impl ReadFault {
 }
 
 impl From<Error> for ReadFault {
-    ghost from_gives = { λ _ fault. IsTold fault };
+    ghost from_gives = { λ error fault. IsTold (error_kind error) fault };
 
     fn from(error: Error) -> ReadFault {
         match error.kind() {

@@ -1,5 +1,5 @@
 -- The least CPU that two sets share.
-use Rattle.std.proofs.Common.{◌≡◌, ℕ, ◌&&◌, Option, Some, None, ap}
+use Rattle.std.proofs.Common.{◌≡◌, ℕ, Option, ap}
 use Rattle.std.specs.Prelude.{option_map}
 use Rattle.std.specs.FinSet as set
 use Rattle.cpu_set.specs.Ids.{Ids, IsDisjoint, NoneFrom}

@@ -1,5 +1,5 @@
 -- The machine that a text describes, with or without a SLIT beside it, or the first thing that is wrong with it.
-use Rattle.std.specs.Prelude.{ℕ, not, cond, nat_lt, List, [], ◌∷◌, length, map, Option, Some, None, is_some, Result, Ok, Err}
+use Rattle.std.specs.Prelude.{ℕ, not, cond, nat_lt, List, [], ◌∷◌, length, map, Option, Some, None, is_some, Result, Err}
 use Rattle.std.specs.FinSet as set
 use Rattle.faults.specs.First.{when, first_of, unless}
 use Rattle.serde_json.specs.Data.{Data}

@@ -13,7 +13,7 @@ returns-in_err-count-clause-err g c =
     let fault = err_from_is_err_and c.from_residual.result c.from_residual.ensures.1 in
     let stopped : ConsumesUpTo MOST_BYTES (g.R.Read.remaining c.args.reader.now) (g.R.Read.remaining c.read.new.self) =
     (c.loop.bytes.items, omega (arith, c.loop.invariant.within), Consumes-kept _ _ _ _ c.loop.invariant.taken c.in_err-count.ensures.bytes) in
-    rw fault.1 (StopsWith-told _ _ fault.0 fault.2 stopped)
+    rw fault.1 (StopsWith-told _ _ _ fault.0 fault.2 stopped)
 
 pub returns-then-count-len-clause-err : goal.returns-then-count-len-clause-err
 returns-then-count-len-clause-err g c =

@@ -1,11 +1,10 @@
-use Rattle.std.proofs.Common.{◌≡◌, ◌++◌, ◌∷◌, [], true, false, Bool, List, string_bytes, ap, sym, ◌∙◌, refl, arith, length, length-append}
+use Rattle.std.proofs.Common.{◌≡◌, ◌++◌, ◌∷◌, [], List, string_bytes, ap, sym, ◌∙◌, refl, arith, length, length-append}
 use Rattle.std.specs.Prelude.{Some}
 use Rattle.std.specs.BTreeSet.{contains_text}
 use Rattle.std.proofs.lemmas.Result.{err_from_is_err_and}
 use Rattle.certificate.specs.RowView.{RowView}
-use Rattle.certificate_text.specs.DraftView.{DraftView, has_id, has_no_plan}
+use Rattle.certificate_text.specs.DraftView.{has_id, has_no_plan}
 use Rattle.certificate_text.specs.DraftRead.{draft_view}
-use Rattle.certificate_text.specs.Line.{RowLine}
 use Rattle.certificate_text.proofs.Ids.{ids_more}
 use Rattle.certificate_text.proofs.DraftTakes.{row_once, row_more, is_some_of}
 use Rattle.certificate_text.proofs.draft.Draft.add_row.Goals as goal
