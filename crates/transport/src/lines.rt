@@ -94,7 +94,7 @@ impl Line {
 fn bids_of(alloc: Global, offers: &[Offer]) -> Result<Vec<Bid>, AllocError>
     ensures { IfOk result (λ bids. AreAllBids offers.now bids.items (length offers.now)) }
 {
-    let mut bids = Vec::new(alloc);
+    let mut bids = Vec::with_capacity(alloc, offers.len())?;
     for (k, offer) in offers.iter().enumerate() {
         bids.push(Bid {
             weight: offer.weight,

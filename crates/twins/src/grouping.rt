@@ -78,7 +78,7 @@ fn split_all(
     requires alone { All (IsPart rows.now (length rows.now)) alone.old.items }
     ensures { IfOk result (λ parts. ArePieces rows.now (k + 1) sets.now alone.old.items parts.items alone.new.items) }
 {
-    let mut parts = Vec::new(alloc);
+    let mut parts = Vec::with_capacity(alloc, sets.len())?;
     for part in sets {
         split(rows, k, part, &mut parts, alone)?;
     }
