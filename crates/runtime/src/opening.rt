@@ -27,7 +27,7 @@ pub fn kernel_of(alloc: Global, machine: &Machine) -> Result<ModelKernel, AllocE
 /// A node with no container, over a modelled kernel that has the machine's CPUs and nodes.
 ///
 /// # Errors
-/// `Memory`.
+/// `Memory`, or what the kernel refuses as the node's group is made.
 pub fn boot(alloc: Global, machine: Machine) -> Result<Node<ModelKernel>, Refusal>
     ensures { IfOk result (Boots machine) }
 {
