@@ -64,8 +64,7 @@ lines_are_calls old new (line ∷ lines) text (mid, first, more, answered, run, 
     let here = by_line old mid (kept line) first answered in
     let later = lines_are_calls mid new lines more run in
     let few : length here.0.0 ≤ 1 = here.0.1 in
-    let fewer : length later.0.0 ≤ length lines = later.0.1 in
-    (
+    let fewer : length later.0.0 ≤ length lines = later.0.1 in (
       (here.0.0 ++ later.0.0, omega (arith, length-append here.0.0 later.0.0, few, fewer), Run-append old.node mid.node new.node here.0.0 later.0.0 here.0.2 later.0.2),
       later.1 ∙ here.1,
     )
