@@ -4,7 +4,7 @@ ghost use Rattle.runtime.specs.Boots.{Boots, IsKernelOf};
 use crate::refusal::Refusal;
 use kernel_model::ModelKernel;
 use machine::Machine;
-use node::{Node, laws};
+use node::Node;
 use std::alloc::{AllocError, Global};
 
 /// The pid that the first process of a modelled kernel gets.
@@ -31,7 +31,6 @@ pub fn kernel_of(alloc: Global, machine: &Machine) -> Result<ModelKernel, AllocE
 pub fn boot(alloc: Global, machine: Machine) -> Result<Node<ModelKernel>, Refusal>
     ensures { IfOk result (Boots machine) }
 {
-    laws::first_kernels();
     let Ok(kernel) = kernel_of(alloc, &machine) else {
         return Err(Refusal::Memory);
     };
