@@ -1,10 +1,11 @@
 #!/usr/bin/env bash
-# Everything: the proofs from nothing, the wrong bodies, the tests and the program; then a machine file made of recorded
-# hosts, the built program against a table of command lines and against a second checker, the solver against one that tries
-# every plan, and each of the program's growths refused in turn.
+# Everything: the proofs from nothing, the wrong bodies, the tests and the programs; then, with the programs that this
+# built, a machine file made of recorded hosts, a table of command lines, a second checker, a solver that tries every plan,
+# and each of the program's growths refused in turn.
 set -eu
 cd "$(dirname "$0")/.."
 rt ci
+export PROGRAM=$PWD/crates/numarun/out/numarun TOOLS=$PWD/crates/tools/out/tools
 bash tests/describe-host.sh
 bash tests/command-line.sh
 bash tests/certificates.sh

@@ -3,12 +3,5 @@
 # and both streams byte by byte. PROGRAM in the environment is compared in place of the one that this builds.
 set -eu
 top=$(cd "$(dirname "$0")/.." && pwd)
-log=$(mktemp)
-trap 'rm -f "$log"' EXIT
-
-program=${PROGRAM:-}
-if [ -z "$program" ]; then
-    (cd "$top/crates/numarun" && rt run <stdin >"$log" 2>&1) || { tail -5 "$log"; exit 1; }
-    program=$top/crates/numarun/out/numarun
-fi
+. "$top/tests/build-program.sh"
 python3 -B "$top/tests/command-line/compare.py" "$program" "$top/tests/command-line/table" "$top/crates/numarun/stdin"

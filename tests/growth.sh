@@ -9,11 +9,7 @@ trap 'rm -rf "$work"' EXIT
 
 command -v gcc >/dev/null || { apt-get -qq update && apt-get -qq install -y gcc libc6-dev; } >/dev/null || exit 1
 gcc -O2 -shared -fPIC -o "$work/refuse.so" "$top/tests/refuse.c" || exit 1
-program=${PROGRAM:-}
-if [ -z "$program" ]; then
-    (cd "$top/crates/numarun" && rt run <stdin >"$work/log" 2>&1) || { cat "$work/log"; exit 1; }
-    program=$top/crates/numarun/out/numarun
-fi
+. "$top/tests/build-program.sh"
 
 wrong() {
     echo "growth: $1: status $2, answer '$(cat "$work/output")', error '$(cat "$work/error")'"
