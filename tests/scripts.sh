@@ -5,5 +5,7 @@
 set -eu
 top=$(cd "$(dirname "$0")/.." && pwd)
 . "$top/tests/build-program.sh"
+(cd "$top" && "$program" run examples/machines/two-socket.json <examples/scripts/two-containers) |
+    diff "$top/examples/scripts/two-containers.answers" -
 python3 -B "$top/tests/scripts/worked.py" "$program" --without-plans
 python3 -B "$top/tests/scripts/compare.py" "$program" --without-plans

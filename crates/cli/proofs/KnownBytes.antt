@@ -1,8 +1,8 @@
 -- Bytes that a reader gave, one piece after another.
-use Rattle.std.proofs.Common.{◌≡◌, ℕ, ◌+◌, ◌≤◌, List, ◌++◌, length, take, Option, Some, None, arith, length-append, length-take, ◌∙◌, ap}
+use Rattle.std.proofs.Common.{◌≡◌, ℕ, ◌+◌, ◌≤◌, List, ◌++◌, length, take, Option, Some, None, arith, length-append, length-take}
 use Rattle.std.proofs.KnownBytes.{Consumes-trans}
 use Rattle.std.specs.Io.KnownBytes.{Consumes, Keeps}
-use Rattle.cli.specs.StoppedReads.{ConsumesUpTo, IsReadFaultOf, IsSystemFault, PassesBound, StopsWith}
+use Rattle.cli.specs.StoppedReads.{ConsumesUpTo, IsSystemFault, PassesBound, StopsWith}
 use Rattle.cli.specs.declared.read_error.ReadError.{ReadError}
 use Rattle.cli.specs.declared.read_error.ReadError.TheVariants.{Memory, Fault}
 use Rattle.cli.specs.declared.read_fault.ReadFault.TheVariants.{NoSuchFile, Directory, Forbidden, Failed, TooManyBytes, TooManyReads}

@@ -1,5 +1,5 @@
 -- What a page takes of a text that is written to it.
-use Rattle.std.proofs.Common.{◌≡◌, ℕ, ◌≤◌, List, [], ◌++◌, length, take, sym, ap, ◌∙◌, arith, length-append, take_all, Option, Result, Ok, Err}
+use Rattle.std.proofs.Common.{ℕ, List, length, arith, length-append, take_all, Option, Result, Ok, Err}
 use Rattle.std.proofs.Math.Seq.{take-append_seam}
 use Rattle.std.proofs.KnownBytes.{Appends-nil}
 use Rattle.std.specs.Io.KnownBytes.{Appends}

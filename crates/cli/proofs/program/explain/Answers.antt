@@ -1,5 +1,5 @@
 -- What goes to standard error is no request.
-use Rattle.std.proofs.Common.{◌≡◌, ◌≢◌, inl, inr, refl, rules, string_bytes}
+use Rattle.std.proofs.Common.{◌≢◌, inl, inr, refl, rules, string_bytes}
 use Rattle.clap.specs.Words.{kind_of}
 use Rattle.clap.specs.declared.error.kind.ErrorKind.TheVariants.{DisplayHelp, DisplayVersion}
 use Rattle.cli.specs.Program.{IsRequest}

@@ -2,7 +2,7 @@
 use Rattle.std.proofs.Common.{◌++◌, List, ℕ, append-nil, codes}
 use Rattle.std.proofs.lemmas.Result.{err_from_is_err_and}
 use Rattle.cpu_list.specs.Sending.{SendsFront-more, SendsFront-then, Writes-then}
-use Rattle.cli.specs.RefusalLine.{arguments_of, arguments_text, title_of}
+use Rattle.cli.specs.RefusalLine.{title_of}
 use Rattle.cli.proofs.refusal.Refusal.write.Goals as goal
 
 pub returns-in_err-put_all : goal.returns-in_err-put_all
