@@ -19,7 +19,7 @@ use Rattle.cli.specs.declared.write_fault.WriteFault.{WriteFault}
 
 -- why the script could not be read, or none where an answer could not be written
 abbrev pub is_unread : ScriptFault → Option ReadFault → Type 0
-is_unread (fault.Read kind) why = (told : ReadFault) × IsTold told × (why ≡ Some told)
+is_unread (fault.Read kind) why = (told : ReadFault) × IsTold kind told × (why ≡ Some told)
 is_unread fault.TooManyReads why = why ≡ Some TooManyReads
 is_unread fault.Write why = why ≡ None
 

@@ -24,7 +24,7 @@ pub enum ReadFault {
 impl ReadFault {
     /// The reason that the system tells.
     pub fn told(kind: ErrorKind) -> ReadFault
-        ensures { IsTold result }
+        ensures { IsTold kind result }
     {
         match kind {
             ErrorKind::NotFound => ReadFault::NoSuchFile,
