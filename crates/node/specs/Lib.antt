@@ -14,3 +14,5 @@ pub mod Reads
 pub mod Listed
 pub mod Shown
 pub mod Viewed
+pub mod Rows
+pub mod Entries
