@@ -1,7 +1,7 @@
 #!/usr/bin/env bash
 # Everything: the proofs from nothing, the wrong bodies, the tests and the programs; then, with the programs that this
-# built, a machine file made of recorded hosts, a table of command lines, a second checker, a solver that tries every plan,
-# and each of the program's growths refused in turn.
+# built, a machine file made of recorded hosts, a table of command lines, a second checker, a second runtime, a solver that
+# tries every plan, and each of the program's growths refused in turn.
 set -eu
 cd "$(dirname "$0")/.."
 rt ci
@@ -9,5 +9,6 @@ export PROGRAM=$PWD/crates/numarun/out/numarun TOOLS=$PWD/crates/tools/out/tools
 bash tests/describe-host.sh
 bash tests/command-line.sh
 bash tests/certificates.sh
+bash tests/scripts.sh
 bash tests/solver.sh
 bash tests/growth.sh

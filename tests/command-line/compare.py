@@ -14,6 +14,8 @@ import sys
 import tempfile
 
 SLIT = b"SLIT\x30\0\0\0\x01\x53" + bytes(26) + b"\x02\0\0\0\0\0\0\0\x0a\x15\x15\x0a"
+FAR = b'{"nodes":["0-3","4-7"],"reserved":"0"}'
+CONFIG = b'{"ociVersion":"1.0.2","root":{"path":"rootfs"},"process":{"args":["run"]}}'
 
 
 def make_files(certificate):
@@ -26,11 +28,16 @@ def make_files(certificate):
         "table": SLIT,
         "reserved": SLIT.replace(b"\x53", b"\x5f", 2).replace(b"\x15", b"\x09", 1).replace(b"\x5fLIT", b"SLIT"),
         "cut": SLIT[:43],
+        "far": FAR,
+        "machine": FAR.replace(b"}", b',"distances":[[10,21],[21,10]]}'),
+        "script": b"create a bundle\nstart a\ncreate b no\nstate a\nlist",
     }
     for name, content in files.items():
         open(name, "wb").write(content)
     open("long", "wb").truncate(67_108_865)
     os.mkdir("folder")
+    os.mkdir("bundle")
+    open("bundle/config.json", "wb").write(CONFIG)
 
 
 def cases(table):
@@ -73,7 +80,8 @@ def run(program, words, places):
         place = places.get(mark)
         if place == "closed":
             closed.append(number)
-        streams[name] = open(place, "wb" if number else "rb") if place not in (None, "closed") else default
+        flags = os.O_WRONLY if number else os.O_RDONLY
+        streams[name] = os.open(place, flags) if place not in (None, "closed") else default
 
     def close():
         for number in closed:

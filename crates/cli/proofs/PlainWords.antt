@@ -2,8 +2,8 @@
 use Rattle.std.proofs.Common.{◌≡◌, [], ◌∷◌, Some, None, codes, bytes_eq, false, refl, rules}
 use Rattle.clap.proofs.OnLiterals.{clap_on_literals}
 use Rattle.clap.specs.Words.{Text}
-use Rattle.cli.specs.Asked.{check, list, slit}
-use Rattle.cli.specs.Spellings.{CheckSpellings, IsPlain, ListSpellings, SlitSpellings, Spells}
+use Rattle.cli.specs.Asked.{check, list, run, slit}
+use Rattle.cli.specs.Spellings.{CheckSpellings, IsPlain, ListSpellings, RunSpellings, SlitSpellings, Spells}
 
 -- a word that begins with no hyphen isn't `--`
 pub no_dashes : (word : Text) → IsPlain word → bytes_eq word (45 ∷ 45 ∷ []) ≡ false
@@ -55,3 +55,26 @@ slit_escaped word = record { asks = refl; right = refl }
 
 pub slit_spelled : SlitSpellings
 slit_spelled = record { file = slit_file; escaped = slit_escaped }
+
+run_machine : (word : Text) → IsPlain word → Spells (codes "run" ∷ word ∷ []) (run word None)
+unfolding clap_on_literals
+run_machine word plain = let other = no_dashes word plain in record { asks = simp (other, plain); right = simp (other, plain) }
+
+run_escaped : (word : Text) → Spells (codes "run" ∷ codes "--" ∷ word ∷ []) (run word None)
+unfolding clap_on_literals
+run_escaped word = record { asks = refl; right = refl }
+
+run_slit_behind : (word table : Text) → IsPlain word → IsPlain table → Spells (codes "run" ∷ word ∷ codes "--slit" ∷ table ∷ []) (run word (Some table))
+unfolding clap_on_literals
+run_slit_behind word table plain plain' =
+    let other = no_dashes word plain in let other' = no_dashes table plain' in
+    record { asks = simp (other, plain, other', plain'); right = simp (other, plain, other', plain') }
+
+run_slit_before : (word table : Text) → IsPlain word → IsPlain table → Spells (codes "run" ∷ codes "--slit" ∷ table ∷ word ∷ []) (run word (Some table))
+unfolding clap_on_literals
+run_slit_before word table plain plain' =
+    let other = no_dashes word plain in let other' = no_dashes table plain' in
+    record { asks = simp (other, plain, other', plain'); right = simp (other, plain, other', plain') }
+
+pub run_spelled : RunSpellings
+run_spelled = record { machine = run_machine; escaped = run_escaped; slit_behind = run_slit_behind; slit_before = run_slit_before }

@@ -5,17 +5,20 @@ use Rattle.cli.specs.CommandLine.{numarun}
 use Rattle.cli.specs.declared.words.Words.{Words}
 use Rattle.cli.specs.declared.words.Words.TheVariants as words
 
--- the check of a file, or of standard input; a list; the distance table in a file
+-- the check of a file, or of standard input; a list; the distance table in a file; a script over the machine of a file,
+-- perhaps with a distance table in another
 pub data Asked : Type 0 where
   check : Option Text → Asked
   list : Text → Asked
   slit : Text → Asked
+  run : Text → Option Text → Asked
 
 -- what numarun is asked to do, its strings as texts
 abbrev pub asked : Words → Asked
 asked (words.Check file) = check (option_map string_bytes file)
 asked (words.List text) = list (string_bytes text)
 asked (words.Slit file) = slit (string_bytes file)
+asked (words.Run machine table) = run (string_bytes machine) (option_map string_bytes table)
 
 -- the value of an argument that has to be given
 abbrev pub value : Text → List Row → Text
@@ -26,6 +29,7 @@ abbrev pub asked_by : Text × List Row → Asked
 asked_by given =
     if bytes_eq given.0 (codes "list") then list (value (codes "text") given.1)
     else if bytes_eq given.0 (codes "slit") then slit (value (codes "file") given.1)
+    else if bytes_eq given.0 (codes "run") then run (value (codes "machine") given.1) (first_of (codes "slit") given.1)
     else check (first_of (codes "file") given.1)
 
 -- what the subcommand that was given asks for

@@ -1,6 +1,6 @@
 -- The command line of numarun: its subcommands and what each takes.
 use Rattle.std.specs.Borrow.{Bor}
-use Rattle.std.specs.Prelude.{◌≡◌, List, [], ◌∷◌, codes, map, true, false}
+use Rattle.std.specs.Prelude.{◌≡◌, List, [], ◌∷◌, Some, codes, map, true, false}
 use Rattle.clap.specs.Words.{App, Rule, Shape, Text, app_of, new_app, new_rule}
 use Rattle.clap.specs.declared.builder.command.Command.{Command}
 use Rattle.clap.specs.declared.builder.command.Command.TheViews.{out-Command}
@@ -33,11 +33,19 @@ list_command = command (codes "list") (required (codes "text") ∷ [])
 abbrev pub slit_command : Shape
 slit_command = command (codes "slit") (required (codes "file") ∷ [])
 
+-- an option of this long name, which takes a value
+abbrev pub option : Text → Rule
+option id = record (placed id) { long = Some id }
+
+-- run MACHINE [--slit FILE]
+abbrev pub run_command : Shape
+run_command = command (codes "run") (required (codes "machine") ∷ option (codes "slit") ∷ [])
+
 -- numarun, which has a version, and its subcommands, of which one has to be given
 abbrev pub numarun : App
 numarun = record {
   top = record (new_app (codes "numarun")).top { no_binary_name = true; has_version = true; subcommand_required = true; is_leaf = false };
-  subs = check_command ∷ list_command ∷ slit_command ∷ [];
+  subs = check_command ∷ list_command ∷ slit_command ∷ run_command ∷ [];
 }
 
 -- a command of this shape with no subcommands of its own

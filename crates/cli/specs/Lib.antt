@@ -10,7 +10,10 @@ pub mod Notes
 pub mod Pages
 pub mod Program
 pub mod ReadFaults
+pub mod Ready
 pub mod RefusalLine
+pub mod RunAnswer
+pub mod Says
 pub mod SlitAnswer
 pub mod Spellings
 pub mod Start

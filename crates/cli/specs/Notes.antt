@@ -12,19 +12,22 @@ use Rattle.cli.specs.declared.refusal.Refusal.TheVariants as refusal
 abbrev pub unwritten_line : List ℕ
 unwritten_line = codes "error: the answer can't be written\n"
 
--- which input it is; `-` names standard input
+abbrev pub standard_input : List ℕ
+standard_input = codes "standard input"
+
+-- how an input is called that may be standard input, which is named by `-`
 abbrev pub shown : Text → List ℕ
-shown name = if bytes_eq name (codes "-") then codes "standard input" else name
+shown name = if bytes_eq name (codes "-") then standard_input else name
 
 -- of an input that can't be read: which it is, and why
 abbrev pub unread_line : Text → ReadFault → List ℕ
-unread_line name fault = error_line (shown name) (reason_of fault)
+unread_line name fault = error_line name (reason_of fault)
 
 abbrev pub note_text : Option Note → List ℕ
 note_text None = []
 note_text (Some note) = unread_line note.name.now note.fault
 
--- of a refusal of the input of this name
+-- of a refusal of the input that is called so
 abbrev pub note_of : Text → Refusal → List ℕ
 note_of name (refusal.ReadFault fault) = unread_line name fault
 note_of name _ = []

@@ -2,7 +2,7 @@
 use Rattle.std.specs.Prelude.{◌≡◌, List, [], ◌∷◌, Some, None, codes}
 use Rattle.clap.specs.Lexer.{strip_byte}
 use Rattle.clap.specs.Words.{Text}
-use Rattle.cli.specs.Asked.{Asked, asked_for, check, list, slit}
+use Rattle.cli.specs.Asked.{Asked, asked_for, check, list, run, slit}
 use Rattle.cli.specs.Mistakes.{mistakes}
 
 -- the word doesn't begin with a hyphen
@@ -31,3 +31,10 @@ pub record ListSpellings : Type 0 where
 pub record SlitSpellings : Type 0 where
   pub file : (word : Text) → IsPlain word → Spells (codes "slit" ∷ word ∷ []) (slit word)
   pub escaped : (word : Text) → Spells (codes "slit" ∷ codes "--" ∷ word ∷ []) (slit word)
+
+-- numarun run MACHINE; and with --slit FILE, behind the machine or before it
+pub record RunSpellings : Type 0 where
+  pub machine : (word : Text) → IsPlain word → Spells (codes "run" ∷ word ∷ []) (run word None)
+  pub escaped : (word : Text) → Spells (codes "run" ∷ codes "--" ∷ word ∷ []) (run word None)
+  pub slit_behind : (word table : Text) → IsPlain word → IsPlain table → Spells (codes "run" ∷ word ∷ codes "--slit" ∷ table ∷ []) (run word (Some table))
+  pub slit_before : (word table : Text) → IsPlain word → IsPlain table → Spells (codes "run" ∷ codes "--slit" ∷ table ∷ word ∷ []) (run word (Some table))

@@ -4,8 +4,9 @@ use Rattle.std.specs.IoError.{error_kind}
 use Rattle.std.specs.declared.io.Error.{Error}
 use Rattle.std.specs.declared.io.ErrorKind.TheVariants.{OutOfMemory}
 use Rattle.clap.specs.Words.{Text}
-use Rattle.cli.specs.Program.{Complains, Runs, Says}
+use Rattle.cli.specs.Program.{Runs}
 use Rattle.cli.specs.RefusalLine.{refusal_line}
+use Rattle.cli.specs.Says.{Complains, Says}
 use Rattle.cli.specs.declared.console.Console.{Console}
 use Rattle.cli.specs.declared.refusal.Refusal.TheVariants.{Memory}
 

@@ -1,7 +1,7 @@
 //! What numarun can be told, in the builder's terms.
-ghost use Rattle.std.specs.Prelude.{◌≡◌, IfOk};
-ghost use Rattle.clap.specs.Words.{app_of, FailsBy, fault_of, subcommand_of, subcommand_rows_of};
-ghost use Rattle.cli.specs.CommandLine.{IsLeaf, check_command, list_command, numarun, slit_command, texts};
+ghost use Rattle.std.specs.Prelude.{◌≡◌, IfOk, codes, false};
+ghost use Rattle.clap.specs.Words.{app_of, FailsBy, fault_of, rule_of, subcommand_of, subcommand_rows_of};
+ghost use Rattle.cli.specs.CommandLine.{IsLeaf, check_command, list_command, numarun, option, required, run_command, slit_command, texts};
 
 use clap::{Arg, ArgMatches, Command, Error};
 use std::alloc::{AllocError, Global};
@@ -35,6 +35,15 @@ const SLIT_HELP: &str =
     they are parsed.\n\n\
     Format: docs/formats.md, \"Distance tables\".\n\n\
     Example: numarun slit /sys/firmware/acpi/tables/SLIT";
+
+const RUN_HELP: &str =
+    "Prints an answer to each line, a refusal too, before the next line is read. A bundle is a folder with\n\
+    a config.json.\n\n\
+    Exit status: 0 if the script was read to its end; 1 if MACHINE or FILE is refused, if an input can't\n\
+    be read, if memory is short for the machine, or if an answer can't be written; 2 if the words are no\n\
+    command line, or if memory is short while they are parsed.\n\n\
+    Formats: docs/formats.md, \"Scripts\" and \"The machine file\".\n\n\
+    Example: numarun run examples/machines/two-socket.json < examples/scripts/two-containers";
 
 fn check<'a>(alloc: Global) -> Result<Command<'a>, AllocError>
     ensures { IfOk result (IsLeaf check_command) }
@@ -77,6 +86,36 @@ fn slit<'a>(alloc: Global) -> Result<Command<'a>, AllocError>
         .arg(file)
 }
 
+fn machine<'a>(alloc: Global) -> Arg<'a>
+    ensures rule { rule_of result ≡ required (codes "machine") }
+    ensures local { result.global ≡ false }
+{
+    Arg::new(alloc, "machine")
+        .value_name("MACHINE")
+        .help("The file of the machine")
+        .required(true)
+}
+
+fn table<'a>(alloc: Global) -> Arg<'a>
+    ensures rule { rule_of result ≡ option (codes "slit") }
+    ensures local { result.global ≡ false }
+{
+    Arg::new(alloc, "slit").long("slit").value_name("FILE").help(
+        "The distance table's bytes, where MACHINE has no distances",
+    )
+}
+
+fn run<'a>(alloc: Global) -> Result<Command<'a>, AllocError>
+    ensures { IfOk result (IsLeaf run_command) }
+{
+    Command::new(alloc, "run")
+        .about("Run the commands on standard input over a machine")
+        .override_usage("numarun run MACHINE [--slit FILE]")
+        .after_help(RUN_HELP)
+        .arg(machine(alloc))?
+        .arg(table(alloc))
+}
+
 fn command_line<'a>(alloc: Global) -> Result<Command<'a>, AllocError>
     ensures { IfOk result (λ c. app_of c ≡ numarun) }
 {
@@ -89,7 +128,8 @@ fn command_line<'a>(alloc: Global) -> Result<Command<'a>, AllocError>
         .subcommand_required(true)
         .subcommand(check(alloc)?)?
         .subcommand(list(alloc)?)?
-        .subcommand(slit(alloc)?)
+        .subcommand(slit(alloc)?)?
+        .subcommand(run(alloc)?)
 }
 
 pub fn matches_of<'a>(alloc: Global, words: &'a [&'a str]) -> Result<ArgMatches<'a>, Error>

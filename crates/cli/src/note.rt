@@ -1,5 +1,5 @@
 ghost use Rattle.std.specs.Prelude.{◌≡◌, option_map};
-ghost use Rattle.cli.specs.Notes.{note_of, note_text, shown};
+ghost use Rattle.cli.specs.Notes.{note_of, note_text, shown, standard_input};
 ghost use Rattle.cli.specs.declared.note.Note.{Note};
 
 use crate::answer::Printed;
@@ -17,7 +17,7 @@ pub struct Note<'a> {
 }
 
 impl<'a> Note<'a> {
-    /// The note beside a refusal of the input of this name, where there is one.
+    /// The note beside a refusal of the input that is called so, where there is one.
     pub fn beside(refusal: Refusal, name: &'a str) -> Option<Note<'a>>
         ensures { note_text result ≡ note_of name.now refusal }
     {
@@ -34,20 +34,19 @@ impl Printed for Option<Note<'_>> {
     fn print<W: Write>(&self, w: &mut W) -> io::Result<()> {
         match self {
             Some(note) => {
-                put_error_line(
-                    shown(note.name).as_bytes(),
-                    note.fault.reason().as_bytes(),
-                    w,
-                )
+                put_error_line(note.name.as_bytes(), note.fault.reason().as_bytes(), w)
             }
             None => Ok(()),
         }
     }
 }
 
-/// The input's name; `-` is standard input.
-fn shown(name: &str) -> &str
+/// How standard input is called.
+pub const STANDARD_INPUT: &str = "standard input";
+
+/// How an input of this name is called that is standard input where its name is `-`.
+pub fn shown(name: &str) -> &str
     ensures { result.now ≡ shown name.now }
 {
-    if name == "-" { "standard input" } else { name }
+    if name == "-" { STANDARD_INPUT } else { name }
 }

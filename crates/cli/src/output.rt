@@ -1,7 +1,7 @@
 //! Lines of output, and numbers in them.
 ghost use Rattle.std.specs.Prelude.{◌++◌, codes, decimal};
 ghost use Rattle.cli.specs.ErrorLine.{error_line};
-ghost use Rattle.cli.specs.RefusalLine.{argument_text};
+ghost use Rattle.cli.specs.RefusalLine.{argument_text, word_text};
 ghost use Rattle.cpu_list.specs.Output.{Writes};
 
 use cpu_list::put_all;
@@ -25,6 +25,13 @@ pub fn put_argument<W: Write>(number: u64, w: &mut W) -> io::Result<()>
     let mut digits = Buffer::new();
     let number = digits.format(number).as_bytes();
     put_all(&[b" ".as_slice(), number], w)
+}
+
+/// Writes a word behind a space.
+pub fn put_word<W: Write>(word: &[u8], w: &mut W) -> io::Result<()>
+    ensures { Writes (W.contents w.old) (W.contents w.new) result (word_text word.now) }
+{
+    put_all(&[b" ".as_slice(), word], w)
 }
 
 /// Writes the line of an error: what it is of, and what is wrong.

@@ -6,8 +6,9 @@ ghost use Rattle.cli.specs.CheckAnswer.{IsAnswerTo};
 ghost use Rattle.cli.specs.CommandLine.{texts};
 ghost use Rattle.cli.specs.Notes.{note_text};
 ghost use Rattle.cli.specs.Pages.{Sends, Takes};
-ghost use Rattle.cli.specs.Program.{Answers, Does, Explains, Runs, Says, input_of};
+ghost use Rattle.cli.specs.Program.{Answers, Does, Explains, Runs, input_of};
 ghost use Rattle.cli.specs.RefusalLine.{refusal_line};
+ghost use Rattle.cli.specs.Says.{Says};
 ghost use Rattle.cli.specs.declared.refusal.Refusal.TheVariants.{Memory};
 ghost use Rattle.cli.specs.SlitAnswer.{IsTableOrRefusal};
 ghost use Rattle.cli.specs.StoppedReads.{IsReadErrorOf};
@@ -15,7 +16,8 @@ ghost use Rattle.cli.specs.StoppedReads.{IsReadErrorOf};
 use crate::answer::Printed;
 use crate::console::Console;
 use crate::list::set_of;
-use crate::note::Note;
+use crate::named_run::run_named;
+use crate::note::{Note, shown};
 use crate::opens::Opens;
 use crate::page::Page;
 use crate::parse_fault::ParseFault;
@@ -36,7 +38,7 @@ pub const REFUSED: u8 = 1;
 /// The status of words that are no command line.
 pub const MISUSED: u8 = 2;
 
-const UNWRITTEN: &str = "error: the answer can't be written\n";
+pub const UNWRITTEN: &str = "error: the answer can't be written\n";
 
 /// Does what the words of the command line ask for, over these files and standard streams, and tells the exit status:
 /// 0; 1 where an input is refused, memory is short or the answer can't be written; 2 where the words are no command line,
@@ -71,12 +73,16 @@ fn obey<F: Opens, R: Read, W: Write, E: Write>(
     match words {
         Words::Check { file } => {
             let name = file.as_ref().map(|name| name.as_str()).unwrap_or("-");
-            reply(&verdict(alloc, name, files, input), name, console)
+            reply(&verdict(alloc, name, files, input), shown(name), console)
         }
         Words::List { text } => reply(&set_of(text.as_bytes()), "", console),
         Words::Slit { file } => {
             let name = file.as_str();
-            reply(&table(alloc, name, files, input), name, console)
+            reply(&table(alloc, name, files, input), shown(name), console)
+        }
+        Words::Run { machine, slit } => {
+            let table = slit.as_deref();
+            run_named(alloc, machine.as_str(), table, files, input, console)
         }
     }
 }
@@ -124,7 +130,7 @@ fn read_named<F: Opens, R: Read>(
     read_all(alloc, &mut file)
 }
 
-/// Writes the answer to the input of this name, and beside a refused reading why it was.
+/// Writes the answer to the input that is called so, and beside a refused reading why it was.
 fn reply<T: Printed, W: Write, E: Write>(
     answer: &Result<T, Refusal>,
     name: &str,

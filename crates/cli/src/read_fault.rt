@@ -22,6 +22,18 @@ pub enum ReadFault {
 }
 
 impl ReadFault {
+    /// The reason that the system tells.
+    pub fn told(kind: ErrorKind) -> ReadFault
+        ensures { IsTold kind result }
+    {
+        match kind {
+            ErrorKind::NotFound => ReadFault::NoSuchFile,
+            ErrorKind::IsADirectory => ReadFault::Directory,
+            ErrorKind::PermissionDenied => ReadFault::Forbidden,
+            _ => ReadFault::Failed,
+        }
+    }
+
     /// The reason in words.
     pub fn reason(self) -> &'static str
         ensures { result.now ≡ reason_of self }
@@ -41,11 +53,6 @@ impl From<Error> for ReadFault {
     ghost from_gives = { λ error fault. IsTold (error_kind error) fault };
 
     fn from(error: Error) -> ReadFault {
-        match error.kind() {
-            ErrorKind::NotFound => ReadFault::NoSuchFile,
-            ErrorKind::IsADirectory => ReadFault::Directory,
-            ErrorKind::PermissionDenied => ReadFault::Forbidden,
-            _ => ReadFault::Failed,
-        }
+        ReadFault::told(error.kind())
     }
 }

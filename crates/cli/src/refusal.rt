@@ -1,17 +1,18 @@
 ghost use Rattle.std.specs.Prelude.{◌≡◌};
-ghost use Rattle.cli.specs.FaultRefusal.{read_refusal, slit_refusal, verdict_refusal};
+ghost use Rattle.cli.specs.FaultRefusal.{machine_refusal, read_refusal, slit_refusal, verdict_refusal};
 ghost use Rattle.cli.specs.declared.refusal.Refusal.TheVariants.{List};
-ghost use Rattle.cli.specs.RefusalLine.{arguments_of, arguments_text, check_arguments_of, check_title_of, list_title_of, numbers_of, slit_arguments_of, slit_title_of, refusal_line, title_of};
+ghost use Rattle.cli.specs.RefusalLine.{arguments_of, arguments_text, check_arguments_of, check_title_of, list_title_of, machine_arguments_of, machine_title_of, slit_arguments_of, slit_title_of, refusal_line, text_of, title_of};
 ghost use Rattle.cpu_list.specs.Output.{Writes};
 
 use crate::answer::Printed;
-use crate::output::put_argument;
+use crate::output::{put_argument, put_word};
 use crate::read_error::ReadError;
 use crate::read_fault::ReadFault;
 use certificate::CheckFault;
 use certificate_text::VerdictFault;
 use cpu_list::{ListError, ListErrorKind, put, put_all};
 use faults::OrMemory;
+use machine::MachineFault;
 use slit::SlitFault;
 use std::io;
 use std::io::Write;
@@ -25,7 +26,9 @@ pub enum Refusal {
     List(ListError),
     /// E15 to E21: the bytes are no distance table.
     Slit(SlitFault),
-    /// E70 to E75: the certificate doesn't pass its check.
+    /// E25 to E34: the text describes no machine.
+    Machine(MachineFault),
+    /// E70 to E76: the certificate doesn't pass its check.
     Check(CheckFault),
     /// E77: the line of this number, counted from 1, can't follow those before it.
     BadText { line: u64 },
@@ -39,6 +42,7 @@ enum Arguments {
     None,
     One(u64),
     Two(u64, u64),
+    Word(&'static str),
 }
 
 impl Refusal {
@@ -50,6 +54,7 @@ impl Refusal {
             Refusal::Memory => "E1 Memory",
             Refusal::List(error) => list_title(error.kind),
             Refusal::Slit(fault) => slit_title(fault),
+            Refusal::Machine(fault) => machine_title(fault),
             Refusal::Check(fault) => check_title(fault),
             Refusal::BadText { .. } => "E77 BadText",
             Refusal::ReadFault(_) => "E113 ReadFault",
@@ -57,11 +62,12 @@ impl Refusal {
     }
 
     fn arguments(self) -> Arguments
-        ensures { numbers_of result ≡ arguments_of self }
+        ensures { text_of result ≡ arguments_of self }
     {
         match self {
             Refusal::List(error) => Arguments::One(error.at as u64),
             Refusal::Slit(fault) => slit_arguments(fault),
+            Refusal::Machine(fault) => machine_arguments(fault),
             Refusal::Check(fault) => check_arguments(fault),
             Refusal::BadText { line } => Arguments::One(line),
             Refusal::Memory | Refusal::ReadFault(_) => Arguments::None,
@@ -92,7 +98,7 @@ impl Printed for Refusal {
 impl Arguments {
     /// Writes each argument behind a space.
     fn write<W: Write>(self, w: &mut W) -> io::Result<()>
-        ensures { Writes (W.contents w.old) (W.contents w.new) result (arguments_text (numbers_of self)) }
+        ensures { Writes (W.contents w.old) (W.contents w.new) result (text_of self) }
     {
         match self {
             Arguments::None => Ok(()),
@@ -101,6 +107,7 @@ impl Arguments {
                 put_argument(first, w)?;
                 put_argument(second, w)
             }
+            Arguments::Word(word) => put_word(word.as_bytes(), w),
         }
     }
 }
@@ -130,7 +137,7 @@ fn slit_title(fault: SlitFault) -> &'static str
 }
 
 fn slit_arguments(fault: SlitFault) -> Arguments
-    ensures { numbers_of result ≡ slit_arguments_of fault }
+    ensures { text_of result ≡ arguments_text (slit_arguments_of fault) }
 {
     match fault {
         SlitFault::ReservedValue(row, column) => Arguments::Two(row as u64, column as u64),
@@ -140,6 +147,40 @@ fn slit_arguments(fault: SlitFault) -> Arguments
         | SlitFault::BadLength
         | SlitFault::BadCount
         | SlitFault::BadSum => Arguments::None,
+    }
+}
+
+fn machine_title(fault: MachineFault) -> &'static str
+    ensures { result.now ≡ machine_title_of fault }
+{
+    match fault {
+        MachineFault::NotJson => "E25 NotJson",
+        MachineFault::BadField(_) => "E26 BadField",
+        MachineFault::NodeCount => "E27 NodeCount",
+        MachineFault::CpuTwice(_) => "E28 CpuTwice",
+        MachineFault::BothDistances => "E29 BothDistances",
+        MachineFault::NoDistances => "E30 NoDistances",
+        MachineFault::WrongSize => "E31 WrongSize",
+        MachineFault::BadDistance(_, _) => "E32 BadDistance",
+        MachineFault::BadReserved => "E33 BadReserved",
+        MachineFault::BadOffline => "E34 BadOffline",
+    }
+}
+
+fn machine_arguments(fault: MachineFault) -> Arguments
+    ensures { text_of result ≡ machine_arguments_of fault }
+{
+    match fault {
+        MachineFault::BadField(field) => Arguments::Word(field.name()),
+        MachineFault::CpuTwice(cpu) => Arguments::One(u64::from(cpu)),
+        MachineFault::BadDistance(row, column) => Arguments::Two(row as u64, column as u64),
+        MachineFault::NotJson
+        | MachineFault::NodeCount
+        | MachineFault::BothDistances
+        | MachineFault::NoDistances
+        | MachineFault::WrongSize
+        | MachineFault::BadReserved
+        | MachineFault::BadOffline => Arguments::None,
     }
 }
 
@@ -158,7 +199,7 @@ fn check_title(fault: CheckFault) -> &'static str
 }
 
 fn check_arguments(fault: CheckFault) -> Arguments
-    ensures { numbers_of result ≡ check_arguments_of fault }
+    ensures { text_of result ≡ arguments_text (check_arguments_of fault) }
 {
     match fault {
         CheckFault::WrongCount { row } => Arguments::One(row as u64),
@@ -188,6 +229,17 @@ impl From<OrMemory<SlitFault>> for Refusal {
         match error {
             OrMemory::Memory => Refusal::Memory,
             OrMemory::Fault(fault) => Refusal::Slit(fault),
+        }
+    }
+}
+
+impl From<OrMemory<MachineFault>> for Refusal {
+    ghost from_gives = { λ error refusal. refusal ≡ machine_refusal error };
+
+    fn from(error: OrMemory<MachineFault>) -> Refusal {
+        match error {
+            OrMemory::Memory => Refusal::Memory,
+            OrMemory::Fault(fault) => Refusal::Machine(fault),
         }
     }
 }

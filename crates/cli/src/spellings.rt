@@ -1,5 +1,5 @@
 //! Laws of the command line in plain words.
-ghost use Rattle.cli.specs.Spellings.{CheckSpellings, ListSpellings, SlitSpellings};
+ghost use Rattle.cli.specs.Spellings.{CheckSpellings, ListSpellings, RunSpellings, SlitSpellings};
 
 /// No words and `check` ask for a check of standard input; `check FILE` asks for that of the file, where its
 /// name doesn't begin with a hyphen or has `--` before it.
@@ -17,4 +17,10 @@ pub fn list_spellings()
 /// `--` before it.
 pub fn slit_spellings()
     ensures { SlitSpellings }
+{}
+
+/// `run MACHINE` asks for a run over the machine in that file, and with `--slit FILE` behind the machine or before it for
+/// one with the distances of that file, where neither name begins with a hyphen, or MACHINE has `--` before it.
+pub fn run_spellings()
+    ensures { RunSpellings }
 {}

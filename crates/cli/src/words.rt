@@ -14,11 +14,22 @@ use std::alloc::{AllocError, Global};
 #[derive(Debug, PartialEq, Eq, Drop)]
 pub enum Words {
     /// Check the certificate in the file, or where there is none the one on standard input.
-    Check { file: Option<String> },
+    Check {
+        file: Option<String>,
+    },
     /// Print the list of CPUs in its one spelling.
-    List { text: String },
+    List {
+        text: String,
+    },
     /// Print the distance table in the file.
-    Slit { file: String },
+    Slit {
+        file: String,
+    },
+    /// Run the script on standard input over the machine of a file, its distances perhaps in a table of their own.
+    Run {
+        machine: String,
+        slit: Option<String>,
+    },
 }
 
 /// What the words after the program's name ask for; no words ask for a check of standard input.
@@ -67,6 +78,10 @@ fn asked_by(alloc: Global, name: &str, given: &ArgMatches) -> Result<Words, Allo
         }),
         "slit" => Ok(Words::Slit {
             file: value(alloc, given, "file")?,
+        }),
+        "run" => Ok(Words::Run {
+            machine: value(alloc, given, "machine")?,
+            slit: text(alloc, given, "slit")?,
         }),
         _ => Ok(Words::Check {
             file: text(alloc, given, "file")?,

@@ -4,3 +4,4 @@ pub mod RefusalLine
 pub mod AnswerTexts
 pub mod Answered
 pub mod Boots
+pub mod ScriptLaws

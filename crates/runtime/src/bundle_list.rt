@@ -13,6 +13,7 @@ pub struct BundleList<'a> {
 impl<'a> BundleList<'a> {
     ghost use Rattle.std.specs.Prelude.{◌≡◌};
 
+    /// The bundles of these names with their configs.
     pub fn new(alloc: Global, configs: &'a [(&'a str, &'a [u8])]) -> BundleList<'a>
         ensures { result.configs.now ≡ configs.now }
     {

@@ -6,6 +6,7 @@ mod bundle_list;
 mod bundles;
 mod commands;
 mod events;
+mod laws;
 mod opening;
 mod queries;
 mod refusal;
@@ -13,6 +14,7 @@ mod runner;
 
 pub use bundle_list::BundleList;
 pub use bundles::Bundles;
+pub use laws::lines_are_calls;
 pub use opening::{FIRST_PID, boot};
 pub use refusal::Refusal;
 pub use runner::Runner;

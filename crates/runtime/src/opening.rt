@@ -4,7 +4,7 @@ ghost use Rattle.runtime.specs.Boots.{Boots, IsKernelOf};
 use crate::refusal::Refusal;
 use kernel_model::ModelKernel;
 use machine::Machine;
-use node::{Node, laws};
+use node::Node;
 use std::alloc::{AllocError, Global};
 
 /// The pid that the first process of a modelled kernel gets.
@@ -27,11 +27,10 @@ pub fn kernel_of(alloc: Global, machine: &Machine) -> Result<ModelKernel, AllocE
 /// A node with no container, over a modelled kernel that has the machine's CPUs and nodes.
 ///
 /// # Errors
-/// `Memory`.
+/// `Memory`, or what the kernel refuses as the node's group is made.
 pub fn boot(alloc: Global, machine: Machine) -> Result<Node<ModelKernel>, Refusal>
     ensures { IfOk result (Boots machine) }
 {
-    laws::first_kernels();
     let Ok(kernel) = kernel_of(alloc, &machine) else {
         return Err(Refusal::Memory);
     };

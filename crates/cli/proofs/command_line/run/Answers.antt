@@ -1,0 +1,12 @@
+-- The machine, and then the option.
+use Rattle.std.proofs.Common.{rules, [], codes}
+use Rattle.std.proofs.lemmas.Result.{IfOk-weaker}
+use Rattle.cli.specs.CommandLine.{IsLeaf, command}
+use Rattle.cli.proofs.Leaves.{IsLeaf-arg}
+use Rattle.cli.proofs.command_line.run.Goals as goal
+
+pub returns : goal.returns
+returns c =
+    let bare : IsLeaf (command (codes "run") []) c.after_help.result = search rules in
+    let one = IsLeaf-arg _ _ c.machine.result bare c.in_ok-arg.ensures c.machine.ensures.rule c.machine.ensures.local in
+    IfOk-weaker c.arg-2.result _ _ (λ all adds. IsLeaf-arg _ all c.table.result one adds c.table.ensures.rule c.table.ensures.local) c.arg-2.ensures

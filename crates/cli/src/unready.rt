@@ -1,0 +1,21 @@
+use crate::refusal::Refusal;
+
+/// Why a script is not begun: what is wrong with the machine file, or with the distance table beside it.
+#[derive(Clone, Copy, Debug, PartialEq, Eq)]
+pub enum Unready {
+    Machine(Refusal),
+    Slit(Refusal),
+}
+
+impl Unready {
+    ghost use Rattle.std.specs.Prelude.{◌≡◌};
+    ghost use Rattle.cli.specs.Ready.{refusal_of};
+
+    pub fn refusal(self) -> Refusal
+        ensures { result ≡ refusal_of self }
+    {
+        match self {
+            Unready::Machine(refusal) | Unready::Slit(refusal) => refusal,
+        }
+    }
+}

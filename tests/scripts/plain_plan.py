@@ -1,0 +1,85 @@
+"""Plans of least cost for small problems, found one CPU at a time by cheapest moves, and prices that prove them; or rows
+that ask for more than they may have. A problem is a list of `(demand, {cpu: weight})`, a plan a list of sets."""
+
+
+def cheapest_moves(rows, plan, start):
+    """Of all ways to give the row a CPU more, the moves `(row, cpu)` of the cheapest, the last of them to a CPU that nobody
+    holds; or, where there is none, the rows that were looked at."""
+    holder = {cpu: k for k, cpus in enumerate(plan) for cpu in cpus}
+    best = {start: (0, [])}
+    for _ in rows:
+        for k, (cost, moves) in list(best.items()):
+            for cpu, weight in rows[k][1].items():
+                loser = holder.get(cpu, k)
+                if loser != k:
+                    after = cost + weight - rows[loser][1][cpu]
+                    if loser not in best or after < best[loser][0]:
+                        best[loser] = (after, moves + [(k, cpu)])
+    ends = [(cost + weight, cpu, moves + [(k, cpu)])
+            for k, (cost, moves) in best.items() for cpu, weight in rows[k][1].items() if cpu not in holder]
+    return (min(ends)[2], None) if ends else (None, sorted(best))
+
+
+def classes(rows):
+    """The CPUs with a weight, by what all rows weigh them; those of a class are twins."""
+    alike = {}
+    for cpu in sorted(set().union(*(weights for _, weights in rows))):
+        alike.setdefault(tuple(weights.get(cpu) for _, weights in rows), []).append(cpu)
+    return list(alike.values())
+
+
+def dealt(rows, plan):
+    """The plan with the same numbers of twins in each row, the lower CPUs in the earlier rows."""
+    sets = [set() for _ in rows]
+    for twins in classes(rows):
+        left = list(twins)
+        for k, cpus in enumerate(plan):
+            for _ in cpus & set(twins):
+                sets[k].add(left.pop(0))
+    return sets
+
+
+def work_out(rows):
+    """`(plan, None)`, the plan of least cost and dealt, or `(None, members)` of a shortage."""
+    plan = [set() for _ in rows]
+    for k, (demand, _) in enumerate(rows):
+        for _ in range(demand):
+            moves, members = cheapest_moves(rows, plan, k)
+            if members is not None:
+                return None, members
+            for row, cpu in reversed(moves):
+                for cpus in plan:
+                    cpus.discard(cpu)
+                plan[row].add(cpu)
+    return dealt(rows, plan), None
+
+
+def cost_of(rows, plan):
+    return sum(weights[cpu] for (_, weights), cpus in zip(rows, plan) for cpu in cpus)
+
+
+def proof(rows, plan):
+    """Values and prices that prove a plan of least cost."""
+    price = {cpu: 0 for _, weights in rows for cpu in weights}
+    rises = True
+    while rises:
+        rises = False
+        for (_, weights), cpus in zip(rows, plan):
+            value = max((weights[cpu] + price[cpu] for cpu in cpus), default=0)
+            for cpu, weight in weights.items():
+                if weight + price[cpu] < value:
+                    price[cpu], rises = value - weight, True
+    values = [min((weight + price[cpu] for cpu, weight in weights.items()), default=0) for _, weights in rows]
+    return values, price
+
+
+def is_least(rows, plan, least):
+    """Whether it is a plan that costs as much as the least one and is dealt."""
+    fits = all(len(cpus) == demand and cpus <= weights.keys() for cpus, (demand, weights) in zip(plan, rows))
+    apart = len(set().union(*plan)) == sum(map(len, plan))
+    return fits and apart and cost_of(rows, plan) == cost_of(rows, least) and dealt(rows, plan) == plan
+
+
+def is_short(rows, members):
+    allowed = set().union(*(rows[k][1] for k in members))
+    return sum(rows[k][0] for k in members) > len(allowed)

@@ -1,0 +1,79 @@
+"""Transcripts: a machine file, bundles, and a script with its answers, as one text.
+
+`machine TEXT` is the machine file, `slit HEX` the bytes of a distance table beside it, `bundle NAME SECTION` a bundle whose
+config has this `linux.resources.cpu`, and `config NAME TEXT` one with this `config.json`. Then come the lines of the script,
+each behind `$ `, and below each its answers, each behind `| `. In a line of the script `[N bytes]` is a word of N bytes."""
+
+import json
+import os
+import re
+import subprocess
+
+PLANS = (b"rebalance", b"begin", b"step", b"certificate")
+
+
+def config(section):
+    told = {"ociVersion": "1.0.2", "root": {"path": "rootfs"}, "process": {"args": ["run"]}}
+    told["linux"] = {"resources": {"cpu": section}}
+    return json.dumps(told).encode()
+
+
+class Transcript:
+    def __init__(self, path):
+        self.machine, self.slit, self.bundles, self.script, self.answers = b"", None, {}, [], []
+        for line in open(path, encoding="utf-8"):
+            word, _, rest = line.rstrip("\n").partition(" ")
+            name, _, text = rest.partition(" ")
+            if word == "machine":
+                self.machine = rest.encode()
+            elif word == "slit":
+                self.slit = bytes.fromhex(rest)
+            elif word == "bundle":
+                self.bundles[name] = config(json.loads(text))
+            elif word == "config":
+                self.bundles[name] = text.encode()
+            elif word == "$":
+                self.script.append(re.sub(r"\[(\d+) bytes\]", lambda found: "x" * int(found[1]), rest).encode())
+                self.answers.append([])
+            elif word == "|":
+                self.answers[-1].append(rest)
+            elif word not in ("", "#"):
+                raise ValueError(f"{path}: {line!r} is no part of a transcript")
+
+    def plans(self):
+        """Whether it asks for a plan, or of one."""
+        return any(line.split(b" ")[0] in PLANS for line in self.script)
+
+    def place(self):
+        """Writes its files, and answers the words of a command line that runs it, but for the program's name."""
+        return place(self.machine, self.slit, self.bundles)
+
+
+def place(machine, slit, bundles):
+    """Writes files into the working directory, and answers the words that name them."""
+    for name, data in bundles.items():
+        os.makedirs(name, exist_ok=True)
+        open(os.path.join(name, "config.json"), "wb").write(data)
+    open("machine.json", "wb").write(machine)
+    if slit is None:
+        return ["run", "machine.json"]
+    open("table", "wb").write(slit)
+    return ["run", "machine.json", "--slit", "table"]
+
+
+def run(program, words, script):
+    return subprocess.run([program] + words, input=script, capture_output=True)
+
+
+def difference(runtime, script, output):
+    """Where the program's output is not what the runtime answers to the lines; the runtime is told what comes."""
+    found = output.decode("utf-8", "backslashreplace").split("\n")
+    if found.pop() != "":
+        return "the last line has no line feed"
+    for line in script:
+        runtime.coming = found
+        expected = runtime.answer(line)
+        if found[: len(expected)] != expected:
+            return f"{line[:100]!r}: expected {expected}, found {found[: len(expected) + 1]}"
+        found = found[len(expected) :]
+    return f"more than was asked for: {found}" if found else None
