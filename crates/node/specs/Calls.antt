@@ -28,7 +28,7 @@ use Rattle.node.specs.Wanted.{Says}
 abbrev pub Opens : KernelState → Layout → NodeState → Type 0
 Opens old machine n =
     (root : Group) × (root_of old.tree ≡ Some root) × FindsOrMakes old root (codes "numarun") (Ok n.parent) n.kernel
-    × (n ≡ record { kernel = n.kernel; machine = machine; parent = n.parent; containers = []; pool = machine.reserved; phase = Settled })
+    × (n ≡ record { kernel = n.kernel; machine = machine; parent = n.parent; containers = []; pool = machine.reserved; phase = Settled; ongoing = None; last = None })
 
 abbrev pub OpensNot : KernelState → KernelError → KernelState → Type 0
 OpensNot old error new = (root : Group) × (root_of old.tree ≡ Some root) × FindsOrMakes old root (codes "numarun") (Err error) new

@@ -17,8 +17,11 @@ use Rattle.machine.specs.Present.{present}
 use Rattle.machine.specs.Nodes.{nodes_of}
 use Rattle.apply_plan.specs.Holders.{Holder, Pairwise, IsSafe}
 use Rattle.node.specs.declared.TheConstants.{CONTAINER_LIMIT}
-use Rattle.node.specs.NodeState.{NodeState}
+use Rattle.demand.specs.FitsMachine.{FitsMachine}
+use Rattle.certificate_text.specs.IdWord.{IsId}
+use Rattle.node.specs.NodeState.{ContainerState, NodeState, is_underway}
 use Rattle.node.specs.Owners.{Owner, owners_of}
+use Rattle.node.specs.Ongoing.{Stands}
 
 -- the kernel runs on the machine
 pub record IsOfMachine (k : KernelState) (m : Layout) : Type 0 where
@@ -74,8 +77,15 @@ pub record Holds (k : KernelState) (parent : Group) (owners : List Owner) : Type
   pub owned : AreOwned k.table owners
   pub safe : IsSafe k k.reserved (map (λ o. o.holder) owners)
 
--- and the kernel runs on the machine, with no more containers than there may be
+-- its id is one, and what it asks for fits the machine
+pub record IsAsked (m : Layout) (e : List ℕ × ContainerState) : Type 0 where
+  pub id : IsId e.0
+  pub fits : FitsMachine m e.1.demand
+
+-- and the kernel runs on the machine, with no more containers than there may be, and a hand-over that is open is theirs
 pub record IsNode (n : NodeState) : Type 0 where
   pub machine : IsOfMachine n.kernel n.machine
   pub holds : Holds n.kernel n.parent (owners_of n.containers)
   pub few : length n.containers ≤ CONTAINER_LIMIT
+  pub asked : AllByRecursion (IsAsked n.machine) n.containers
+  pub stands : Stands n.kernel (owners_of n.containers) (is_underway n.phase) n.ongoing

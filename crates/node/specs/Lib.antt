@@ -1,6 +1,7 @@
 pub mod NodeState
 pub mod Status
 pub mod Owners
+pub mod Ongoing
 pub mod IsNode
 pub mod Unused
 pub mod UnusedLemmas
@@ -9,6 +10,10 @@ pub mod Refusals
 pub mod Launch
 pub mod Calls
 pub mod Leaves
+pub mod Rows
+pub mod Entries
+pub mod Rebalance
+pub mod Headline
 pub mod Machine
 pub mod Reads
 pub mod Listed

@@ -1,6 +1,6 @@
 -- A node as a plain value: what each of its calls answers and changes is said of it.
-use Rattle.std.specs.Prelude.{◌≡◌, ℕ, Bool, true, false, List, Option, Some, None, refl}
-use Rattle.std.specs.Coded.{Coded, code_by, coded×, coded_ℕ, coded_bool, coded_list, coded_option}
+use Rattle.std.specs.Prelude.{◌≡◌, ◌⊎◌, inl, inr, ℕ, Bool, true, false, List, Option, Some, None, refl}
+use Rattle.std.specs.Coded.{Coded, code_by, coded×, coded⊎, coded_ℕ, coded_bool, coded_list, coded_option}
 use Rattle.std.specs.Map.{lookup}
 use Rattle.std.specs.Str.{bytes_eq}
 use Rattle.cpu_set.specs.Ids.{Ids, ids_code}
@@ -11,6 +11,12 @@ use Rattle.machine.specs.Layout.{Layout, layout_code}
 use Rattle.demand.specs.declared.Kind.{Kind}
 use Rattle.demand.specs.declared.Kind.TheVariants.{Pinned, Shared}
 use Rattle.demand.specs.declared.Demand.{Demand}
+use Rattle.certificate.specs.RowView.{RowView, rows_code}
+use Rattle.certificate.specs.PricesView.{PricesView, prices_code}
+use Rattle.certificate.specs.SetsCode.{sets_code}
+use Rattle.certificate_text.specs.declared.certificates.Certificate.{Certificate}
+use Rattle.certificate_text.specs.declared.certificates.Certificate.TheVariants.{Plan, Short}
+use Rattle.apply_plan.specs.Targets.{Targets, targets_code}
 use Rattle.node.specs.declared.phase.Phase.{Phase}
 use Rattle.node.specs.declared.phase.Phase.TheVariants.{Settled, Underway, Unsettled}
 
@@ -24,8 +30,14 @@ pub record ContainerState : Type 0 where
   pub pid : ℕ
   pub started : Bool
 
+-- a hand-over that is open: its containers with what they are to have, and what each of their groups requested at first
+pub record Ongoing : Type 0 where
+  pub targets : Targets
+  pub found : List Ids
+
 -- the kernel and the machine; the group below which the containers' groups are; the containers by their ids, in the order
--- in which they were created; the CPUs that no plan gave to a container, and how the last hand-over stands
+-- in which they were created; the CPUs that no plan gave to a container; how the last hand-over stands, and itself while
+-- it is open; and what was worked out last
 pub record NodeState : Type 0 where
   pub kernel : KernelState
   pub machine : Layout
@@ -33,6 +45,8 @@ pub record NodeState : Type 0 where
   pub containers : List (List ℕ × ContainerState)
   pub pool : Ids
   pub phase : Phase
+  pub ongoing : Option Ongoing
+  pub last : Option Certificate
 
 -- the container of this id, if there is one
 abbrev pub container_of : NodeState → List ℕ → Option ContainerState
@@ -97,12 +111,46 @@ container_code =
     (λ p. record { bundle = p.0; demand = p.1.0; runnable = p.1.1.0; group = p.1.1.1.0; pid = p.1.1.1.1.0; started = p.1.1.1.1.1 })
     (λ _. refl)
 
+-- a hand-over is stored as the pair of its fields
+abbrev pub ongoing_code : Coded Ongoing
+ongoing_code =
+    code_by (Targets × List Ids) (coded× targets_code sets_code) (λ o. (o.targets, o.found)) (λ p. record { targets = p.0; found = p.1 }) (λ _. refl)
+
+-- a certificate is stored as one of the two tuples of what it holds
+abbrev pub Held : Type 0
+Held = (List RowView × (List Ids × (PricesView × ℕ))) ⊎ (List RowView × List ℕ)
+
+abbrev pub of_certificate : Certificate → Held
+of_certificate (Plan rows sets prices total) = inl (rows, (sets, (prices, total)))
+of_certificate (Short rows members) = inr (rows, members)
+
+abbrev pub to_certificate : Held → Certificate
+to_certificate (inl p) = Plan p.0 p.1.0 p.1.1.0 p.1.1.1
+to_certificate (inr p) = Short p.0 p.1
+
+pub to_of_certificate : (c : Certificate) → to_certificate (of_certificate c) ≡ c
+to_of_certificate (Plan rows sets prices total) = refl
+to_of_certificate (Short rows members) = refl
+
+abbrev pub certificate_code : Coded Certificate
+certificate_code =
+    code_by Held (coded⊎ (coded× rows_code (coded× sets_code (coded× prices_code coded_ℕ))) (coded× rows_code (coded_list coded_ℕ))) of_certificate to_certificate to_of_certificate
+
 -- a node is stored as the tuple of its fields
 abbrev pub node_code : Coded NodeState
 node_code =
     code_by
-    (KernelState × (Layout × (Group × (List (List ℕ × ContainerState) × (Ids × Phase)))))
-    (coded× kernel_code (coded× layout_code (coded× group_code (coded× (coded_list (coded× (coded_list coded_ℕ) container_code)) (coded× ids_code phase_code)))))
-    (λ n. (n.kernel, (n.machine, (n.parent, (n.containers, (n.pool, n.phase))))))
-    (λ p. record { kernel = p.0; machine = p.1.0; parent = p.1.1.0; containers = p.1.1.1.0; pool = p.1.1.1.1.0; phase = p.1.1.1.1.1 })
+    (KernelState × (Layout × (Group × (List (List ℕ × ContainerState) × (Ids × (Phase × (Option Ongoing × Option Certificate)))))))
+    (coded× kernel_code (coded× layout_code (coded× group_code (coded× (coded_list (coded× (coded_list coded_ℕ) container_code)) (coded× ids_code (coded× phase_code (coded× (coded_option ongoing_code) (coded_option certificate_code))))))))
+    (λ n. (n.kernel, (n.machine, (n.parent, (n.containers, (n.pool, (n.phase, (n.ongoing, n.last))))))))
+    (λ p. record {
+      kernel = p.0;
+      machine = p.1.0;
+      parent = p.1.1.0;
+      containers = p.1.1.1.0;
+      pool = p.1.1.1.1.0;
+      phase = p.1.1.1.1.1.0;
+      ongoing = p.1.1.1.1.1.1.0;
+      last = p.1.1.1.1.1.1.1;
+    })
     (λ _. refl)

@@ -2,7 +2,8 @@
 use Rattle.std.specs.Prelude.{ℕ, List, map, String, string_bytes}
 use Rattle.std.specs.declared.alloc.Global.{Global}
 use Rattle.node.specs.declared.container.Container.{Container}
-use Rattle.node.specs.NodeState.{ContainerState}
+use Rattle.node.specs.declared.ongoing.Ongoing.{Ongoing as Kept}
+use Rattle.node.specs.NodeState.{ContainerState, Ongoing}
 
 abbrev pub seen : Container → ContainerState
 seen c = record { bundle = string_bytes c.bundle; demand = c.demand; runnable = c.runnable; group = c.group; pid = c.pid; started = c.started }
@@ -12,3 +13,7 @@ entry_seen e = (string_bytes e.0, seen e.1)
 
 abbrev pub all_seen : List (String Global × Container) → List (List ℕ × ContainerState)
 all_seen entries = map entry_seen entries
+
+-- and a hand-over that is open
+abbrev pub seen_ongoing : Kept → Ongoing
+seen_ongoing o = record { targets = o.handover; found = o.found.items }

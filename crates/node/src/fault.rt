@@ -26,6 +26,10 @@ pub enum NodeFault {
     NotLive,
     /// The container is not `stopped`.
     NotStopped,
+    /// No hand-over is open.
+    NoHandover,
+    /// No plan and no shortage was worked out yet.
+    NoAnswer,
     /// The container's config can't be read.
     Config(ConfigFault),
     /// The machine can't give what the container asks for.

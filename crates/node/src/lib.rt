@@ -11,6 +11,8 @@ pub mod laws;
 mod lifecycle;
 mod list;
 mod node;
+mod ongoing;
+mod outcome;
 mod phase;
 mod reads;
 mod state;
@@ -19,6 +21,7 @@ pub use container::Status;
 pub use fault::NodeFault;
 pub use list::Listing;
 pub use node::{GROUP_NAME, Node, NotOpened};
+pub use outcome::Outcome;
 pub use phase::Phase;
 pub use reads::Sets;
 

@@ -4,7 +4,9 @@ ghost use Rattle.node.specs.Unused.{IsUnused};
 
 use crate::container::Container;
 use crate::launch::find_or_make;
+use crate::ongoing::Ongoing;
 use crate::phase::Phase;
+use certificate_text::Certificate;
 use cpu_set::IdSet;
 use indexmap::IndexMap;
 use kernel_model::{Group, Kernel, KernelError};
@@ -25,6 +27,8 @@ pub struct Node<K: Kernel + Drop> {
     pub(crate) containers: IndexMap<String, Container>,
     pub(crate) pool: IdSet,
     pub(crate) phase: Phase,
+    pub(crate) ongoing: Option<Ongoing>,
+    pub(crate) last: Option<Certificate>,
 }
 
 impl<K: Kernel + Drop> Model for Node<K> {
@@ -35,7 +39,8 @@ impl<K: Kernel + Drop> Model for Node<K> {
 
     ghost coded = { node_code };
 
-    ghost use Rattle.node.specs.Viewed.{all_seen};
+    ghost use Rattle.std.specs.Prelude.{option_map};
+    ghost use Rattle.node.specs.Viewed.{all_seen, seen_ongoing};
 
     ghost view = { λ n. record {
       kernel = K.state n.kernel;
@@ -44,6 +49,8 @@ impl<K: Kernel + Drop> Model for Node<K> {
       containers = all_seen n.containers.entries;
       pool = n.pool;
       phase = n.phase;
+      ongoing = option_map seen_ongoing n.ongoing;
+      last = n.last;
     } };
 
     ghost invariant = { λ n. IsNode (record {
@@ -53,6 +60,8 @@ impl<K: Kernel + Drop> Model for Node<K> {
       containers = all_seen n.containers.entries;
       pool = n.pool;
       phase = n.phase;
+      ongoing = option_map seen_ongoing n.ongoing;
+      last = n.last;
     }) };
 }
 
@@ -93,6 +102,8 @@ impl<K: Kernel + Drop> Node<K> {
                 parent,
                 containers: IndexMap::new(alloc),
                 phase: Phase::Settled,
+                ongoing: None,
+                last: None,
             }),
             Err(error) => Err(NotOpened {
                 kernel,

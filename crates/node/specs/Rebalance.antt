@@ -1,0 +1,104 @@
+-- Plans and the hand-overs to them, each call a relation by cases on what it answers.
+use Rattle.std.specs.Prelude.{◌≡◌, ℕ, suc, zero, true, false, List, Option, Some, None, Result, Ok, Err}
+use Rattle.std.specs.FinSet as set
+use Rattle.cpu_set.specs.Ids.{Ids}
+use Rattle.certificate.specs.PricesView.{PricesView}
+use Rattle.certificate.specs.IsShortage.{asked, chosen, is_offered}
+use Rattle.certificate_text.specs.declared.certificates.Certificate.{Certificate}
+use Rattle.certificate_text.specs.declared.certificates.Certificate.TheVariants as certificate
+use Rattle.kernel_model.specs.declared.KernelFault.{KernelFault}
+use Rattle.faults.specs.declared.OrMemory.{OrMemory}
+use Rattle.faults.specs.declared.OrMemory.TheVariants.{Memory, Fault}
+use Rattle.apply_plan.specs.declared.Progress.{Progress}
+use Rattle.apply_plan.specs.declared.Progress.TheVariants.{More, Done}
+use Rattle.apply_plan.specs.DueWrite.{Steps}
+use Rattle.decision.specs.Decides.{DecidesPlan, DecidesShort}
+use Rattle.node.specs.declared.fault.NodeFault.{NodeFault}
+use Rattle.node.specs.declared.fault.NodeFault.TheVariants.{Busy, NoHandover, NoAnswer, Kernel}
+use Rattle.node.specs.declared.outcome.Outcome.{Outcome}
+use Rattle.node.specs.declared.outcome.Outcome.TheVariants.{Plan, Short}
+use Rattle.node.specs.declared.phase.Phase.{Phase}
+use Rattle.node.specs.declared.phase.Phase.TheVariants.{Settled, Underway, Unsettled}
+use Rattle.node.specs.NodeState.{Ongoing, NodeState, is_underway}
+use Rattle.node.specs.Rows.{rows_of}
+use Rattle.node.specs.Entries.{plan_pool, opened}
+
+-- a least plan of the rows; its hand-over is open, and nothing is written yet
+pub record Begun (old : NodeState) (total : ℕ) (new : NodeState) : Type 0 where
+  pub sets : List Ids
+  pub prices : PricesView
+  pub settled : is_underway old.phase ≡ false
+  pub decides : DecidesPlan (rows_of old) sets prices total
+  pub is : new ≡ record old {
+    pool = plan_pool old sets;
+    phase = Underway;
+    ongoing = Some (opened old sets);
+    last = Some (certificate.Plan (rows_of old) sets prices total);
+  }
+
+-- a shortage of the rows: what its members ask for, and what they are allowed; nothing else changes
+pub record Lacks (old : NodeState) (wanted : ℕ) (allowed : Ids) (new : NodeState) : Type 0 where
+  pub members : List ℕ
+  pub settled : is_underway old.phase ≡ false
+  pub decides : DecidesShort (rows_of old) members
+  pub asks : wanted ≡ asked (chosen (rows_of old) members)
+  pub has : (cpu : ℕ) → set.contains allowed cpu ≡ is_offered (chosen (rows_of old) members) cpu
+  pub is : new ≡ record old { last = Some (certificate.Short (rows_of old) members) }
+
+-- `begin`
+abbrev pub Begins : NodeState → Result Outcome (OrMemory NodeFault) → NodeState → Type 0
+Begins old (Ok (Plan total)) new = Begun old total new
+Begins old (Ok (Short wanted allowed)) new = Lacks old wanted allowed new
+Begins old (Err Memory) new = (is_underway old.phase ≡ false) × (new ≡ old)
+Begins old (Err (Fault Busy)) new = (is_underway old.phase ≡ true) × (new ≡ old)
+Begins old (Err (Fault fault)) new = ⊥
+
+-- a step of the hand-over that is open, and how it stands then
+pub record Stepped (old : NodeState) (r : Result Progress KernelFault) (phase : Phase) (ongoing : Option Ongoing) (new : NodeState) : Type 0 where
+  pub handover : Ongoing
+  pub was : old.ongoing ≡ Some handover
+  pub steps : Steps handover.targets old.kernel r new.kernel
+  pub is : new ≡ record old { kernel = new.kernel; phase = phase; ongoing = ongoing }
+
+-- `step`: the write that is due; the hand-over ends where nothing is due after it, or where the write failed
+abbrev pub StepsOn : NodeState → Result Progress NodeFault → NodeState → Type 0
+StepsOn old (Ok More) new = Stepped old (Ok More) old.phase old.ongoing new
+StepsOn old (Ok Done) new = Stepped old (Ok Done) Settled None new
+StepsOn old (Err (Kernel fault)) new = Stepped old (Err fault) Unsettled None new
+StepsOn old (Err NoHandover) new = (is_underway old.phase ≡ false) × (new ≡ old)
+StepsOn old (Err fault) new = ⊥
+
+-- so many steps, after each of which more are to come
+abbrev pub StepsMore : ℕ → NodeState → NodeState → Type 0
+StepsMore zero old new = new ≡ old
+StepsMore (suc n) old new = (mid : NodeState) × StepsOn old (Ok More) mid × StepsMore n mid new
+
+-- the step that ends a hand-over
+abbrev pub Ends : NodeState → Result (Unit {0}) KernelFault → NodeState → Type 0
+Ends old (Ok done) new = StepsOn old (Ok Done) new
+Ends old (Err fault) new = StepsOn old (Err (Kernel fault)) new
+
+-- steps until the hand-over ends
+pub record Finishes (old : NodeState) (r : Result (Unit {0}) KernelFault) (new : NodeState) : Type 0 where
+  pub steps : ℕ
+  pub mid : NodeState
+  pub more : StepsMore steps old mid
+  pub ends : Ends mid r new
+
+-- `begin`, and steps until its hand-over ends
+pub record Moves (old : NodeState) (total : ℕ) (r : Result (Unit {0}) KernelFault) (new : NodeState) : Type 0 where
+  pub mid : NodeState
+  pub begun : Begun old total mid
+  pub finishes : Finishes mid r new
+
+-- `rebalance`
+abbrev pub Rebalances : NodeState → Result Outcome (OrMemory NodeFault) → NodeState → Type 0
+Rebalances old (Ok (Plan total)) new = Moves old total (Ok tt) new
+Rebalances old (Ok (Short wanted allowed)) new = Lacks old wanted allowed new
+Rebalances old (Err (Fault (Kernel fault))) new = (total : ℕ) × Moves old total (Err fault) new
+Rebalances old (Err error) new = Begins old (Err error) new
+
+-- `certificate`: what was worked out last
+abbrev pub ShowsCertificate : NodeState → Result Certificate NodeFault → Type 0
+ShowsCertificate n (Ok c) = n.last ≡ Some c
+ShowsCertificate n (Err fault) = (fault ≡ NoAnswer) × (n.last ≡ None)

@@ -1,0 +1,11 @@
+use apply_plan::Handover;
+use cpu_set::IdSet;
+
+/// A hand-over that is open.
+#[derive(Drop)]
+pub struct Ongoing {
+    /// The containers with what they are to have.
+    pub handover: Handover,
+    /// What each of their groups requested when it began.
+    pub found: Vec<IdSet>,
+}

@@ -1,0 +1,15 @@
+use cpu_set::IdSet;
+
+/// What a node works out for its containers.
+#[derive(Clone, Copy, Debug, PartialEq, Eq)]
+pub enum Outcome {
+    /// A plan of this total distance.
+    Plan(u64),
+    /// A shortage.
+    Short {
+        /// How many CPUs its members ask for together.
+        asked: u64,
+        /// The CPUs that one of them may get.
+        allowed: IdSet,
+    },
+}
