@@ -34,4 +34,4 @@ pub use plans::Plan;
 pub use price_lists::{Price, Prices};
 pub use problems::Problem;
 pub use rows::{Offer, Row};
-pub use shortages::check_shortage;
+pub use shortages::{check_shortage, offered_to};

@@ -72,8 +72,10 @@ fn asked_by(rows: &[Row], members: &[usize]) -> u64
     asked
 }
 
-/// The CPUs that are in an offer of a member.
-fn offered_to(rows: &[Row], members: &[usize]) -> IdSet
+/// The CPUs that are in an offer of a member, each a row of this number.
+///
+/// Takes no memory.
+pub fn offered_to(rows: &[Row], members: &[usize]) -> IdSet
     requires { All (λ k. k < length rows.now) members.now }
     ensures { (cpu : ℕ) → set.contains result cpu ≡ is_offered (chosen rows.now members.now) cpu }
 {

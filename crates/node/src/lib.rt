@@ -14,6 +14,7 @@ mod node;
 mod ongoing;
 mod outcome;
 mod phase;
+mod planning;
 mod reads;
 mod state;
 

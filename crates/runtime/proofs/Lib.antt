@@ -1,3 +1,4 @@
 pub mod Listing
 pub mod SetTexts
 pub mod Entries
+pub mod Outcomes

@@ -1,14 +1,19 @@
 -- What a runtime may answer each command of a script, and what it is then.
 use Rattle.std.specs.Prelude.{◌≡◌, ◌⊎◌, ℕ, List, ◌++◌, Option, Some, None, Result, codes, String, string_bytes}
 use Rattle.std.specs.declared.alloc.Global.{Global}
+use Rattle.certificate_text.specs.Written.{text_of}
+use Rattle.certificate_text.specs.declared.certificates.Certificate.{Certificate}
+use Rattle.apply_plan.specs.declared.handover.Progress.{Progress}
 use Rattle.faults.specs.declared.or_memory.OrMemory.{OrMemory}
 use Rattle.kernel_model.specs.declared.faults.KernelError.{KernelError}
 use Rattle.kernel_model.specs.declared.faults.KernelFault.{KernelFault}
 use Rattle.kernel_model.specs.Cases.{Forks, Exits, GoesOffline, ComesOnline}
 use Rattle.node.specs.declared.fault.NodeFault.{NodeFault}
 use Rattle.node.specs.declared.reads.Sets.{Sets}
+use Rattle.node.specs.declared.outcome.Outcome.{Outcome}
 use Rattle.node.specs.NodeState.{NodeState}
 use Rattle.node.specs.Calls.{Creates, Starts, Kills, Deletes}
+use Rattle.node.specs.Rebalance.{Begins, StepsOn, Rebalances, ShowsCertificate}
 use Rattle.node.specs.Machine.{InKernel}
 use Rattle.node.specs.Reads.{HasSets}
 use Rattle.node.specs.Listed.{listed}
@@ -18,8 +23,9 @@ use Rattle.script.specs.Commands as ask
 use Rattle.runtime.specs.RuntimeState.{Told, RuntimeState}
 use Rattle.runtime.specs.Found.{IsFound}
 use Rattle.runtime.specs.RefusalLine.{refusal_line}
+use Rattle.runtime.specs.OutcomeTexts.{outcome_text, progress_line}
 use Rattle.runtime.specs.AnswerTexts.{of_either, of_kernel, of_kernel_fault, answer_text, done_line, pid_line, sets_line, listing_text, phase_line}
-use Rattle.runtime.specs.declared.refusal.Refusal.TheVariants.{Memory, Node, BadLine, NoBundle}
+use Rattle.runtime.specs.declared.refusal.Refusal.TheVariants.{Memory, Node, NoBundle}
 
 -- a container of the bundle whose config was found; or there is no such bundle
 abbrev pub AnswersFound : NodeState → List ℕ → List ℕ → Option (List ℕ) → List ℕ → NodeState → Type 0
@@ -77,9 +83,18 @@ abbrev pub AnswersOnline : NodeState → ℕ → List ℕ → NodeState → Type
 AnswersOnline old cpu text new = (r : Result (Unit {0}) KernelFault)
     × ComesOnline old.kernel cpu r new.kernel × InKernel old new × (text ≡ answer_text done_line of_kernel_fault r)
 
--- a command that can't be carried out yet is none
-abbrev pub IsUnknown : NodeState → List ℕ → NodeState → Type 0
-IsUnknown old text new = (text ≡ refusal_line BadLine) × (new ≡ old)
+abbrev pub AnswersRebalance : NodeState → List ℕ → NodeState → Type 0
+AnswersRebalance old text new = (r : Result Outcome (OrMemory NodeFault)) × Rebalances old r new × (text ≡ answer_text (outcome_text new) of_either r)
+
+abbrev pub AnswersBegin : NodeState → List ℕ → NodeState → Type 0
+AnswersBegin old text new = (r : Result Outcome (OrMemory NodeFault)) × Begins old r new × (text ≡ answer_text (outcome_text new) of_either r)
+
+abbrev pub AnswersStep : NodeState → List ℕ → NodeState → Type 0
+AnswersStep old text new = (r : Result Progress NodeFault) × StepsOn old r new × (text ≡ answer_text progress_line Node r)
+
+abbrev pub AnswersCertificate : NodeState → List ℕ → NodeState → Type 0
+AnswersCertificate old text new =
+    (r : Result Certificate NodeFault) × ShowsCertificate old r × (text ≡ answer_text text_of Node r) × (new ≡ old)
 
 -- the answer to a command: that of the node's own call, as its text
 abbrev pub AnswersBy : Told → NodeState → Asked → List ℕ → NodeState → Type 0
@@ -90,11 +105,11 @@ AnswersBy told old (ask.delete id) text new = AnswersDelete old id text new
 AnswersBy told old (ask.state id) text new = AnswersState old id text new
 AnswersBy told old ask.list text new = AnswersList old text new
 AnswersBy told old (ask.sets id) text new = AnswersSets old id text new
-AnswersBy told old ask.rebalance text new = IsUnknown old text new
-AnswersBy told old ask.begin text new = IsUnknown old text new
-AnswersBy told old ask.step text new = IsUnknown old text new
+AnswersBy told old ask.rebalance text new = AnswersRebalance old text new
+AnswersBy told old ask.begin text new = AnswersBegin old text new
+AnswersBy told old ask.step text new = AnswersStep old text new
 AnswersBy told old ask.phase text new = AnswersPhase old text new
-AnswersBy told old ask.certificate text new = IsUnknown old text new
+AnswersBy told old ask.certificate text new = AnswersCertificate old text new
 AnswersBy told old (ask.fork pid) text new = AnswersFork old pid text new
 AnswersBy told old (ask.exit pid) text new = AnswersExit old pid text new
 AnswersBy told old (ask.offline cpu) text new = AnswersOffline old cpu text new

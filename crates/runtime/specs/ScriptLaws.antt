@@ -1,7 +1,7 @@
 -- What a script does to the node: a list of its calls and events.
 use Rattle.std.proofs.Common.{◌≡◌, ℕ, ◌≤◌, List, [], ◌∷◌, ◌++◌, length, length-append, Option, Some, None, inl, inr, refl, ap, subst, ◌∙◌, arith}
 use Rattle.node.specs.NodeState.{NodeState}
-use Rattle.node.specs.Machine.{Event, Create, Start, Kill, Delete, Fork, Exit, Offline, Online, Step, Run}
+use Rattle.node.specs.Machine.{Event, Create, Start, Kill, Delete, Rebalance, Begin, StepOn, Fork, Exit, Offline, Online, Step, Run}
 use Rattle.script.specs.Commands.{Asked}
 use Rattle.script.specs.Commands as ask
 use Rattle.script.specs.Lines.{kept, words_of}
@@ -39,11 +39,11 @@ by_command told old (ask.delete id) text new (r, h, e) = one old (Delete id r) n
 by_command told old (ask.state id) text new (r, h, e, same) = none old new same
 by_command told old ask.list text new h = none old new h.1
 by_command told old (ask.sets id) text new (r, h, e, same) = none old new same
-by_command told old ask.rebalance text new h = none old new h.1
-by_command told old ask.begin text new h = none old new h.1
-by_command told old ask.step text new h = none old new h.1
+by_command told old ask.rebalance text new (r, h, e) = one old (Rebalance r) new h
+by_command told old ask.begin text new (r, h, e) = one old (Begin r) new h
+by_command told old ask.step text new (r, h, e) = one old (StepOn r) new h
 by_command told old ask.phase text new h = none old new h.1
-by_command told old ask.certificate text new h = none old new h.1
+by_command told old ask.certificate text new (r, h, e, same) = none old new same
 by_command told old (ask.fork pid) text new (r, h, rest, e) = one old (Fork pid r) new (h, rest)
 by_command told old (ask.exit pid) text new (r, h, rest, e) = one old (Exit pid r) new (h, rest)
 by_command told old (ask.offline cpu) text new (r, h, rest, e) = one old (Offline cpu r) new (h, rest)

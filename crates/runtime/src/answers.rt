@@ -34,7 +34,7 @@ pub fn put_state<W: Write>(text: &String, w: &mut W) -> io::Result<()>
     put_all(&[text.as_bytes(), b"\n".as_slice()], w)
 }
 
-fn put_set<W: Write>(set: &IdSet, w: &mut W) -> io::Result<()>
+pub fn put_set<W: Write>(set: &IdSet, w: &mut W) -> io::Result<()>
     ensures { Writes (W.contents w.old) (W.contents w.new) result (set_text set.now) }
 {
     if set.is_empty() {
@@ -43,7 +43,7 @@ fn put_set<W: Write>(set: &IdSet, w: &mut W) -> io::Result<()>
     write_list(set, w)
 }
 
-fn put_labelled<W: Write>(label: &[u8], set: &IdSet, w: &mut W) -> io::Result<()>
+pub fn put_labelled<W: Write>(label: &[u8], set: &IdSet, w: &mut W) -> io::Result<()>
     ensures { Writes (W.contents w.old) (W.contents w.new) result (label.now ++ set_text set.now) }
 {
     put(label, w)?;

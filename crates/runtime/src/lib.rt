@@ -8,6 +8,8 @@ mod commands;
 mod events;
 mod laws;
 mod opening;
+mod outcomes;
+mod plans;
 mod queries;
 mod refusal;
 mod runner;

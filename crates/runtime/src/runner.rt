@@ -4,8 +4,9 @@ ghost use Rattle.script.specs.Ends.{Replies};
 ghost use Rattle.runtime.specs.Answered.{Answered, AnswersBy};
 
 use crate::bundles::Bundles;
-use crate::commands::{create, delete, kill, refuse, start};
+use crate::commands::{create, delete, kill, start};
 use crate::events::{exit, fork, offline, online};
+use crate::plans::{begin, certificate, rebalance, step};
 use crate::queries::{list, phase, sets, state};
 use kernel_model::Kernel;
 use node::Node;
@@ -73,14 +74,15 @@ fn carry_out<K: Kernel + Drop, B: Bundles, W: Write>(
         Command::State { id } => state(node, id, w),
         Command::List => list(node, w),
         Command::Sets { id } => sets(node, id, w),
+        Command::Rebalance => rebalance(node, w),
+        Command::Begin => begin(node, w),
+        Command::Step => step(node, w),
         Command::Phase => phase(node, w),
+        Command::Certificate => certificate(node, w),
         Command::Fork { pid } => fork(node, pid, w),
         Command::Exit { pid } => exit(node, pid, w),
         Command::Offline { cpu } => offline(node, cpu, w),
         Command::Online { cpu } => online(node, cpu, w),
-        Command::Rebalance | Command::Begin | Command::Step | Command::Certificate => {
-            refuse(node, w)
-        }
     }
 }
 

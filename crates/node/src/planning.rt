@@ -1,0 +1,110 @@
+//! Plans, and the hand-overs to them.
+ghost use Rattle.std.specs.Prelude.{◌≡◌, false, true, IsTrue, IfOk, All};
+ghost use Rattle.certificate.specs.Limits.{rows_fit};
+ghost use Rattle.certificate.specs.IsShortage.{IsShortage, asked, chosen, is_offered};
+ghost use Rattle.std.specs.FinSet as set;
+ghost use Rattle.node.specs.NodeState.{is_underway};
+ghost use Rattle.node.specs.Leaves.{rise_or_memory};
+ghost use Rattle.node.specs.Headline.{Headline};
+ghost use Rattle.node.specs.Rebalance.{Begins, Rebalances, WorksOut, IsNeed, ShowsCertificate};
+
+use crate::{Node, NodeFault, Outcome, Phase};
+use certificate::{Problem, check_shortage, offered_to};
+use certificate_text::Certificate;
+use cpu_set::IdSet;
+use decision::decide;
+use faults::OrMemory;
+use kernel_model::Kernel;
+use std::alloc::AllocError;
+
+/// How many CPUs the members of a shortage ask for together, and those that one of them may get.
+fn need_of(problem: &Problem, members: &[usize]) -> (u64, IdSet)
+    requires fit { IsTrue (rows_fit problem.now) }
+    requires short { IsShortage problem.now members.now }
+    ensures { IsNeed problem.now members.now result.0 result.1 }
+{
+    let Ok((asked, _)) = check_shortage(problem, members) else {
+        unreachable!()
+    };
+    (asked, offered_to(problem.rows.as_slice(), members))
+}
+
+impl<K: Kernel + Drop> Node<K> {
+    /// Works out a plan or a shortage, and opens the hand-over to a plan.
+    fn work_out(&mut self) -> Result<Outcome, AllocError>
+        requires { is_underway self.old.phase ≡ false }
+        ensures { WorksOut self.old result self.new }
+    {
+        let certificate = decide(self.alloc, self.problem()?)?;
+        let outcome = match &certificate {
+            Certificate::Plan { plan, total, .. } => {
+                let (pool, ongoing) = self.opening(plan.sets.as_slice())?;
+                self.pool = pool;
+                self.phase = Phase::Underway;
+                self.ongoing = Some(ongoing);
+                Outcome::Plan(*total)
+            }
+            Certificate::Short { problem, members } => {
+                let (asked, allowed) = need_of(problem, members.rows.as_slice());
+                Outcome::Short { asked, allowed }
+            }
+        };
+        self.last = Some(certificate);
+        Ok(outcome)
+    }
+
+    /// Works out a plan of the live containers, and opens the hand-over to it: [`step`](Node::step) makes its writes one
+    /// by one. Where there is no plan, a shortage shows why. In the kernel nothing is written.
+    ///
+    /// # Errors
+    /// `Busy`, or want of memory; then all is as before.
+    pub fn begin(&mut self) -> Result<Outcome, OrMemory<NodeFault>>
+        ensures { Begins self.old result self.new }
+    {
+        if self.phase.is_underway() {
+            return Err(OrMemory::Fault(NodeFault::Busy));
+        }
+        match self.work_out() {
+            Ok(outcome) => Ok(outcome),
+            Err(_) => Err(OrMemory::Memory),
+        }
+    }
+
+    /// Works out a plan of the live containers and moves them onto it, so that each one that asks for CPUs of its own has
+    /// as many as it asks for, all allowed, online and in nobody else's set, at a total distance to the home nodes that no
+    /// plan undercuts; the others share the pool. Where there is no plan, a shortage names containers that together ask
+    /// for more CPUs than they are allowed, and nothing is written.
+    ///
+    /// All memory is taken before the first write.
+    ///
+    /// # Errors
+    /// In this order: `Busy`; want of memory; `Failed` of the kernel: the hand-over is over, each container requests what
+    /// it did before, or what it keeps of that, or its target, and the next call starts from there.
+    pub fn rebalance(&mut self) -> Result<Outcome, OrMemory<NodeFault>>
+        ensures headline { Headline self.old result self.new }
+        ensures rebalances { Rebalances self.old result self.new }
+        ensures counted { self.new.kernel.failures ≡ self.old.kernel.failures + rise_or_memory result }
+    {
+        let outcome = self.begin()?;
+        if let Outcome::Plan(_) = outcome {
+            if let Err(fault) = self.finish() {
+                return Err(OrMemory::Fault(NodeFault::Kernel(fault)));
+            }
+        }
+        Ok(outcome)
+    }
+
+    /// The certificate of the last plan or shortage that was worked out.
+    ///
+    /// # Errors
+    /// `NoAnswer`.
+    pub fn certificate(&self) -> Result<&Certificate, NodeFault>
+        ensures shows { ShowsCertificate self.now result }
+        ensures can { IfOk result (λ c. CanWrite c.now) }
+    {
+        match &self.last {
+            Some(certificate) => Ok(certificate),
+            None => Err(NodeFault::NoAnswer),
+        }
+    }
+}

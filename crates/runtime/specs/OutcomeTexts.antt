@@ -1,0 +1,49 @@
+-- The texts of plans and shortages.
+use Rattle.std.specs.Prelude.{ℕ, List, [], ◌++◌, Option, Some, None, codes, decimal, zip}
+use Rattle.std.specs.List.{flat_map}
+use Rattle.cpu_set.specs.Ids.{Ids}
+use Rattle.certificate.specs.RowView.{RowView}
+use Rattle.certificate_text.specs.CertificateText.{id_at}
+use Rattle.certificate_text.specs.declared.certificates.Certificate.{Certificate}
+use Rattle.certificate_text.specs.declared.certificates.Certificate.TheVariants as certificate
+use Rattle.apply_plan.specs.declared.handover.Progress.{Progress}
+use Rattle.apply_plan.specs.declared.handover.Progress.TheVariants.{More, Done}
+use Rattle.node.specs.declared.outcome.Outcome.{Outcome}
+use Rattle.node.specs.declared.outcome.Outcome.TheVariants.{Plan, Short}
+use Rattle.node.specs.NodeState.{NodeState}
+use Rattle.runtime.specs.AnswerTexts.{set_text}
+
+-- what a plan gives a container
+abbrev pub hold_line : RowView × Ids → List ℕ
+hold_line p = codes "hold " ++ (p.0.id ++ (codes " " ++ (set_text p.1 ++ codes "\n")))
+
+-- a container that is short
+abbrev pub member_line : List RowView → ℕ → List ℕ
+member_line rows k = codes "member " ++ (id_at rows k ++ codes "\n")
+
+-- a line for each container that a certificate names
+abbrev pub container_lines : Certificate → List ℕ
+container_lines (certificate.Plan rows sets prices total) = flat_map hold_line (zip rows sets)
+container_lines (certificate.Short rows members) = flat_map (member_line rows) members
+
+abbrev pub last_lines : Option Certificate → List ℕ
+last_lines (Some c) = container_lines c
+last_lines None = []
+
+-- the total; or what is asked for, and what is allowed
+abbrev pub first_line : Outcome → List ℕ
+first_line (Plan total) = codes "plan total " ++ (decimal total ++ codes "\n")
+first_line (Short wanted allowed) = (codes "short demand " ++ (decimal wanted ++ codes " allowed ")) ++ (set_text allowed ++ codes "\n")
+
+-- the pool that a plan leaves, and the end
+abbrev pub end_lines : Ids → Outcome → List ℕ
+end_lines pool (Plan total) = (codes "pool " ++ set_text pool) ++ codes "\nend\n"
+end_lines pool (Short wanted allowed) = codes "end\n"
+
+-- an outcome, with the containers of the last certificate and the pool
+abbrev pub outcome_text : NodeState → Outcome → List ℕ
+outcome_text n outcome = first_line outcome ++ (last_lines n.last ++ end_lines n.pool outcome)
+
+abbrev pub progress_line : Progress → List ℕ
+progress_line More = codes "more\n"
+progress_line Done = codes "done\n"

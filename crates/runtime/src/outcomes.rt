@@ -1,0 +1,126 @@
+//! The texts of plans and shortages.
+ghost use Rattle.std.specs.Prelude.{◌≡◌, ◌<◌, ◌++◌, All, length, zip};
+ghost use Rattle.std.specs.List.{flat_map};
+ghost use Rattle.cpu_list.specs.Output.{Writes};
+ghost use Rattle.certificate_text.specs.Written.{CanWrite};
+ghost use Rattle.runtime.specs.OutcomeTexts.{container_lines, end_lines, first_line, hold_line, member_line, outcome_text, progress_line};
+
+use crate::answers::{put_labelled, put_set};
+use certificate::Row;
+use certificate_text::Certificate;
+use cpu_list::{put, put_all};
+use cpu_set::IdSet;
+use itoa::Buffer;
+use kernel_model::Kernel;
+use node::{Node, Outcome, Progress};
+use std::io;
+use std::io::Write;
+
+fn put_hold<W: Write>(row: &Row, cpus: &IdSet, w: &mut W) -> io::Result<()>
+    ensures { Writes (W.contents w.old) (W.contents w.new) result (hold_line (row.now, cpus.now)) }
+{
+    put_all(&[b"hold ".as_slice(), row.id.as_bytes(), b" ".as_slice()], w)?;
+    put_set(cpus, w)?;
+    put(b"\n", w)
+}
+
+fn put_holds<W: Write>(rows: &[Row], sets: &[IdSet], w: &mut W) -> io::Result<()>
+    requires { length sets.now ≡ length rows.now }
+    ensures { Writes (W.contents w.old) (W.contents w.new) result (flat_map hold_line (zip rows.now sets.now)) }
+{
+    for (k, row) in rows.iter().enumerate() {
+        put_hold(row, &sets[k], w)?;
+    }
+    Ok(())
+}
+
+fn put_member<W: Write>(row: &Row, w: &mut W) -> io::Result<()>
+    ensures { Writes (W.contents w.old) (W.contents w.new) result (codes "member " ++ (row.now.id ++ codes "\n")) }
+{
+    put_all(
+        &[b"member ".as_slice(), row.id.as_bytes(), b"\n".as_slice()],
+        w,
+    )
+}
+
+fn put_members<W: Write>(rows: &[Row], members: &[usize], w: &mut W) -> io::Result<()>
+    requires { All (λ k. k < length rows.now) members.now }
+    ensures { Writes (W.contents w.old) (W.contents w.new) result (flat_map (member_line rows.now) members.now) }
+{
+    for k in members {
+        put_member(&rows[*k], w)?;
+    }
+    Ok(())
+}
+
+/// Writes a line for each container that the certificate names.
+fn put_containers<W: Write>(certificate: &Certificate, w: &mut W) -> io::Result<()>
+    requires { CanWrite certificate.now }
+    ensures { Writes (W.contents w.old) (W.contents w.new) result (container_lines certificate.now) }
+{
+    match certificate {
+        Certificate::Plan { problem, plan, .. } => {
+            put_holds(problem.rows.as_slice(), plan.sets.as_slice(), w)
+        }
+        Certificate::Short { problem, members } => {
+            put_members(problem.rows.as_slice(), members.rows.as_slice(), w)
+        }
+    }
+}
+
+fn put_first<W: Write>(outcome: &Outcome, w: &mut W) -> io::Result<()>
+    ensures { Writes (W.contents w.old) (W.contents w.new) result (first_line outcome.now) }
+{
+    let mut digits = Buffer::new();
+    match outcome {
+        Outcome::Plan(total) => {
+            let total = digits.format(*total).as_bytes();
+            put_all(&[b"plan total ".as_slice(), total, b"\n".as_slice()], w)
+        }
+        Outcome::Short { asked, allowed } => {
+            let asked = digits.format(*asked).as_bytes();
+            put_all(
+                &[b"short demand ".as_slice(), asked, b" allowed ".as_slice()],
+                w,
+            )?;
+            put_set(allowed, w)?;
+            put(b"\n", w)
+        }
+    }
+}
+
+fn put_last<W: Write>(outcome: &Outcome, pool: &IdSet, w: &mut W) -> io::Result<()>
+    ensures { Writes (W.contents w.old) (W.contents w.new) result (end_lines pool.now outcome.now) }
+{
+    match outcome {
+        Outcome::Plan(_) => {
+            put_labelled(b"pool ", pool, w)?;
+            put(b"\nend\n", w)
+        }
+        Outcome::Short { .. } => put(b"end\n", w),
+    }
+}
+
+/// Writes an outcome with the containers that its certificate names.
+pub fn put_outcome<K: Kernel + Drop, W: Write>(
+    outcome: &Outcome,
+    node: &Node<K>,
+    w: &mut W,
+) -> io::Result<()>
+    ensures { Writes (W.contents w.old) (W.contents w.new) result (outcome_text node.now outcome.now) }
+{
+    put_first(outcome, w)?;
+    if let Ok(certificate) = node.certificate() {
+        put_containers(certificate, w)?;
+    }
+    put_last(outcome, &node.pool(), w)
+}
+
+pub fn put_progress<W: Write>(progress: Progress, w: &mut W) -> io::Result<()>
+    ensures { Writes (W.contents w.old) (W.contents w.new) result (progress_line progress) }
+{
+    match progress {
+        Progress::More => put(b"more\n", w),
+        Progress::Done => put(b"done\n", w),
+    }
+}

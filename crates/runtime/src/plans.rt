@@ -1,0 +1,47 @@
+//! The commands that plan, each with the answer that is written.
+ghost use Rattle.script.specs.Ends.{Replies};
+ghost use Rattle.runtime.specs.Answered.{AnswersBegin, AnswersCertificate, AnswersRebalance, AnswersStep};
+
+use crate::outcomes::{put_outcome, put_progress};
+use crate::refusal::Refusal;
+use certificate_text::write_text;
+use kernel_model::Kernel;
+use node::Node;
+use std::io;
+use std::io::Write;
+
+pub fn rebalance<K: Kernel + Drop, W: Write>(node: &mut Node<K>, w: &mut W) -> io::Result<()>
+    ensures { Replies (AnswersRebalance node.old) (W.contents w.old) (W.contents w.new) result node.new }
+{
+    match node.rebalance() {
+        Ok(outcome) => put_outcome(&outcome, node, w),
+        Err(error) => Refusal::from(error).write(w),
+    }
+}
+
+pub fn begin<K: Kernel + Drop, W: Write>(node: &mut Node<K>, w: &mut W) -> io::Result<()>
+    ensures { Replies (AnswersBegin node.old) (W.contents w.old) (W.contents w.new) result node.new }
+{
+    match node.begin() {
+        Ok(outcome) => put_outcome(&outcome, node, w),
+        Err(error) => Refusal::from(error).write(w),
+    }
+}
+
+pub fn step<K: Kernel + Drop, W: Write>(node: &mut Node<K>, w: &mut W) -> io::Result<()>
+    ensures { Replies (AnswersStep node.old) (W.contents w.old) (W.contents w.new) result node.new }
+{
+    match node.step() {
+        Ok(progress) => put_progress(progress, w),
+        Err(fault) => Refusal::Node(fault).write(w),
+    }
+}
+
+pub fn certificate<K: Kernel + Drop, W: Write>(node: &Node<K>, w: &mut W) -> io::Result<()>
+    ensures { Replies (AnswersCertificate node.now) (W.contents w.old) (W.contents w.new) result node.now }
+{
+    match node.certificate() {
+        Ok(certificate) => write_text(certificate, w),
+        Err(fault) => Refusal::Node(fault).write(w),
+    }
+}
