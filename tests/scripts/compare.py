@@ -1,6 +1,5 @@
-"""Compares what the program answers to random scripts with what the second runtime answers: `compare.py PROGRAM
-[--without-plans]`. Machines, bundles and lines are made at random, faulty ones among them. Each kind of answer has to be
-seen."""
+"""Compares what the program answers to random scripts with what the second runtime answers: `compare.py PROGRAM`.
+Machines, bundles and lines are made at random, faulty ones among them. Each kind of answer has to be seen."""
 
 import json
 import os
@@ -108,10 +107,10 @@ def made_line(cpus, commands):
     return (random.choice(["", "", " "]) + "".join(w + b for w, b in zip(words, blanks)).rstrip(" ")).encode()
 
 
-def made_script(cpus, plans):
+def made_script(cpus):
     often = ["create"] * 5 + ["start", "kill", "delete", "fork", "fork", "exit", "offline", "online"] * 2
     asked = ["state", "list", "sets", "sets", "phase"]
-    planned = ["rebalance"] * 3 + ["begin"] * 3 + ["step"] * 8 + ["certificate"] * 2 if plans else []
+    planned = ["rebalance"] * 3 + ["begin"] * 3 + ["step"] * 8 + ["certificate"] * 2
     return [made_line(cpus, often + asked + planned) for _ in range(random.randint(1, 90))]
 
 
@@ -122,9 +121,9 @@ def full_node():
     return machine, None, {"b0": config({})}, script
 
 
-def made(plans):
+def made():
     machine, slit, cpus, count = made_machine()
-    return machine, slit, made_bundles(cpus, count), made_script(cpus, plans)
+    return machine, slit, made_bundles(cpus, count), made_script(cpus)
 
 
 def compared(program, seen, machine, slit, bundles, script):
@@ -139,19 +138,18 @@ def compared(program, seen, machine, slit, bundles, script):
         seen[" ".join(line.split(" ")[: 2 if line.startswith("refused") else 1]) if line[:1] != "{" else "{"] += 1
 
 
-def main(program, *options):
+def main(program):
     random.seed(1)
     program = os.path.abspath(program)
-    plans = "--without-plans" not in options
     seen, lines = Counter(), 0
     for number in range(SCRIPTS):
-        case = made(plans) if number else full_node()
+        case = made() if number else full_node()
         lines += len(case[3])
         with tempfile.TemporaryDirectory() as folder:
             os.chdir(folder)
             compared(program, seen, *case)
             os.chdir("/")
-    missing = [answer for answer in ANSWERS + (PLAN_ANSWERS if plans else []) if not seen[answer]]
+    missing = [answer for answer in ANSWERS + PLAN_ANSWERS if not seen[answer]]
     if missing:
         sys.exit(f"compare: no line was answered with {', '.join(missing)}")
     print(f"compare: {SCRIPTS} scripts, {lines} lines")

@@ -9,8 +9,6 @@ import os
 import re
 import subprocess
 
-PLANS = (b"rebalance", b"begin", b"step", b"certificate")
-
 
 def config(section):
     told = {"ociVersion": "1.0.2", "root": {"path": "rootfs"}, "process": {"args": ["run"]}}
@@ -39,10 +37,6 @@ class Transcript:
                 self.answers[-1].append(rest)
             elif word not in ("", "#"):
                 raise ValueError(f"{path}: {line!r} is no part of a transcript")
-
-    def plans(self):
-        """Whether it asks for a plan, or of one."""
-        return any(line.split(b" ")[0] in PLANS for line in self.script)
 
     def place(self):
         """Writes its files, and answers the words of a command line that runs it, but for the program's name."""

@@ -1,5 +1,5 @@
-"""Runs the worked transcripts by the second runtime and by the program: `worked.py PROGRAM [--without-plans]`. Each answer
-has to be the written one, and each transcript is also typed: a line is sent once the one before has been answered."""
+"""Runs the worked transcripts by the second runtime and by the program: `worked.py PROGRAM`. Each answer has to be the
+written one, and each transcript is also typed: a line is sent once the one before has been answered."""
 
 import os
 import subprocess
@@ -46,15 +46,12 @@ def check(program, name, told):
         os.chdir("/")
 
 
-def main(program, *options):
+def main(program):
     program = os.path.abspath(program)
     names = sorted(os.listdir(WORKED))
-    known = {name: Transcript(os.path.join(WORKED, name)) for name in names}
-    if "--without-plans" in options:
-        known = {name: told for name, told in known.items() if not told.plans()}
-    for name, told in known.items():
-        check(program, name, told)
-    print(f"worked: {len(known)} of {len(names)} transcripts")
+    for name in names:
+        check(program, name, Transcript(os.path.join(WORKED, name)))
+    print(f"worked: {len(names)} transcripts")
 
 
 main(*sys.argv[1:])
