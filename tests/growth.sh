@@ -2,6 +2,7 @@
 # Runs the built program with each of its allocations refused in turn. What it does then has to be the line of E1 with its
 # status, or the whole answer; at least one refusal has to be seen as E1; and with nothing refused it is the whole answer.
 # The status is 1 while the words are collected, 2 while they are parsed, and 1 from then on.
+# Under a script one command may answer E1, and all others what they answer where that one is left out.
 # Of the solver, over a plan and a shortage, a front of the answer and an error of status 1 stand for the line of E1.
 set -u
 top=$(cd "$(dirname "$0")/.." && pwd)
@@ -62,6 +63,7 @@ each_growth "the version" 0 "1+2+" /dev/null --version
 each_growth "an unknown command" 2 "1+2+" /dev/null foo
 each_growth "a missing argument" 2 "1+2+" /dev/null list
 each_growth "an unknown option" 2 "1+2+" /dev/null check -f
+python3 -B "$top/tests/scripts/growth.py" "$program" "$work/refuse.so" "$top/tests/scripts/worked/every-command" || exit 1
 
 # what the solver answers to two problems
 solver_growth() {

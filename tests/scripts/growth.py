@@ -1,0 +1,59 @@
+"""Runs a worked transcript by the program with each of its allocations refused in turn: `growth.py PROGRAM REFUSE.SO
+TRANSCRIPT`. The answer is the whole one, or E1 alone, or E1 for one command, and of all others what they answer where that
+command is left out. Each command that takes memory has to be seen with E1."""
+
+import os
+import subprocess
+import sys
+import tempfile
+
+from second_runtime import Machine, Runtime, config_of
+from transcripts import Transcript
+
+MEMORY = "refused E1 Memory"
+
+
+def answers(told, without):
+    """What the lines answer where memory is short for the one of this number."""
+    runtime = Runtime(Machine(told.machine, None), config_of)
+    lines = [[MEMORY] if k == without else runtime.answer(line) for k, line in enumerate(told.script)]
+    return "".join(answer + "\n" for answers in lines for answer in answers)
+
+
+def refused(program, library, words, script, number):
+    """What the program answers where this allocation is refused, and whether one was."""
+    environment = dict(os.environ, REFUSE=str(number), LD_PRELOAD=library)
+    with tempfile.TemporaryFile() as told:
+        done = subprocess.run(["bash", "-c", f'exec "$@" 3>&{told.fileno()}', "-", program] + words, input=script,
+                              capture_output=True, env=environment, pass_fds=[told.fileno()])
+        told.seek(0)
+        return done, told.read() != b""
+
+
+def main(program, library, transcript):
+    told = Transcript(os.path.abspath(transcript))
+    program, library = os.path.abspath(program), os.path.abspath(library)
+    with tempfile.TemporaryDirectory() as folder:
+        os.chdir(folder)
+        words = told.place()
+        whole = answers(told, None)
+        known = {answers(told, k): k for k in range(len(told.script))}
+        seen, number = set(), 0
+        while True:
+            number += 1
+            done, was = refused(program, library, words, b"\n".join(told.script), number)
+            output = done.stdout.decode()
+            if done.stderr == b"" and (done.returncode, output) == (0, whole):
+                if not was:
+                    break
+            elif done.stderr == b"" and done.returncode == 0 and output in known:
+                seen.add(told.script[known[output]].split(b" ")[0].decode())
+            elif done.stderr != b"" or done.returncode not in (1, 2) or output != MEMORY + "\n":
+                sys.exit(f"growth: run, allocation {number}: {done}")
+        os.chdir("/")
+    if seen != {"create", "state", "fork", "rebalance", "begin"}:
+        sys.exit(f"growth: run: E1 was seen of {sorted(seen)}")
+    print(f"growth: run: {number - 1} allocations, each refused in turn, E1 of {', '.join(sorted(seen))}")
+
+
+main(*sys.argv[1:])
