@@ -20,14 +20,12 @@ def answers(told, without):
     return "".join(answer + "\n" for answers in lines for answer in answers)
 
 
-def refused(program, library, words, script, number):
+def refused(program, library, words, script, number, told):
     """What the program answers where this allocation is refused, and whether one was."""
+    told.truncate(0)
     environment = dict(os.environ, REFUSE=str(number), LD_PRELOAD=library)
-    with tempfile.TemporaryFile() as told:
-        done = subprocess.run(["bash", "-c", f'exec "$@" 3>&{told.fileno()}', "-", program] + words, input=script,
-                              capture_output=True, env=environment, pass_fds=[told.fileno()])
-        told.seek(0)
-        return done, told.read() != b""
+    done = subprocess.run([program] + words, input=script, capture_output=True, env=environment, pass_fds=[3])
+    return done, os.fstat(told.fileno()).st_size > 0
 
 
 def main(program, library, transcript):
@@ -39,9 +37,11 @@ def main(program, library, transcript):
         whole = answers(told, None)
         known = {answers(told, k): k for k in range(len(told.script))}
         seen, number = set(), 0
+        refusals = open("refusals", "ab")
+        os.dup2(refusals.fileno(), 3)
         while True:
             number += 1
-            done, was = refused(program, library, words, b"\n".join(told.script), number)
+            done, was = refused(program, library, words, b"\n".join(told.script), number, refusals)
             output = done.stdout.decode()
             if done.stderr == b"" and (done.returncode, output) == (0, whole):
                 if not was:
