@@ -1,0 +1,9 @@
+#!/usr/bin/env bash
+# Times `rebalance` of 256 containers on 8 nodes and 1,024 CPUs: from nothing, after one container went, and after a CPU went off;
+# beside the solver alone on the same rows.
+set -eu
+here=$(cd "$(dirname "$0")" && pwd)
+top=$(cd "$here/../.." && pwd)
+. "$top/tests/build-program.sh"
+. "$here/../build-tools.sh"
+python3 -B "$here/measure.py" "$program" "$tools"

@@ -1,0 +1,33 @@
+"""Writes a machine of 1,024 CPUs, a bundle, and a script of so many lines over 256 containers: `lines.py FOLDER COUNT`. Behind the
+creations come forks and ends of the forked processes, the sets and states of containers, and CPUs that go and come back."""
+
+import json
+import os
+import random
+import sys
+
+CONTAINERS = 256
+
+
+def lines(count):
+    told = [f"create c{k} bundle" for k in range(CONTAINERS)]
+    pid = CONTAINERS + 2
+    while len(told) < count:
+        name, cpu = random.randrange(CONTAINERS), random.randrange(1, 1024)
+        told += [f"fork {name + 2}", f"sets c{name}", f"state c{name}", f"offline {cpu}", f"exit {pid}", f"online {cpu}"]
+        pid += 1
+    return told[:count]
+
+
+def main(folder, count):
+    random.seed(1)
+    os.chdir(folder)
+    nodes = [f"{128 * k}-{128 * k + 127}" for k in range(8)]
+    distances = [[10 if i == j else 21 for j in range(8)] for i in range(8)]
+    json.dump({"nodes": nodes, "distances": distances, "reserved": "0"}, open("machine.json", "w"))
+    os.makedirs("bundle", exist_ok=True)
+    json.dump({"ociVersion": "1.0.2", "root": {"path": "rootfs"}, "process": {"args": ["run"]}}, open("bundle/config.json", "w"))
+    open("script", "w").write("\n".join(lines(int(count))) + "\n")
+
+
+main(*sys.argv[1:])

@@ -1,0 +1,22 @@
+#!/usr/bin/env bash
+# Times `numarun run` on a script of 100,000 lines over 256 containers, beside `cat` of the same bytes, and prints the most
+# memory that it held on that script and on one of ten times as many lines.
+set -eu
+here=$(cd "$(dirname "$0")" && pwd)
+top=$(cd "$here/../.." && pwd)
+work=$(mktemp -d)
+trap 'rm -rf "$work"' EXIT
+
+. "$top/tests/build-program.sh"
+
+exec 2>&1
+TIMEFORMAT='%3R s'
+for count in 100000 1000000; do
+    python3 -B "$here/lines.py" "$work" "$count"
+    cd "$work"
+    for round in 1 2 3; do
+        echo -n "$count lines, numarun run: "; time "$program" run machine.json <script >answers
+        echo -n "$count lines, cat: "; time cat script >/dev/null
+    done
+    python3 -B "$here/memory.py" "$program" run machine.json <script
+done
