@@ -2,6 +2,7 @@
 use Rattle.std.specs.Prelude.{◌≡◌, ℕ, suc, zero, true, false, List, Option, Some, None, Result, Ok, Err}
 use Rattle.std.specs.FinSet as set
 use Rattle.cpu_set.specs.Ids.{Ids}
+use Rattle.certificate.specs.RowView.{RowView}
 use Rattle.certificate.specs.PricesView.{PricesView}
 use Rattle.certificate.specs.IsShortage.{asked, chosen, is_offered}
 use Rattle.certificate_text.specs.declared.certificates.Certificate.{Certificate}
@@ -38,14 +39,18 @@ pub record Begun (old : NodeState) (total : ℕ) (new : NodeState) : Type 0 wher
     last = Some (certificate.Plan (rows_of old) sets prices total);
   }
 
+-- how many CPUs the members of a shortage ask for together, and those that one of them may get
+pub record IsNeed (rows : List RowView) (members : List ℕ) (wanted : ℕ) (allowed : Ids) : Type 0 where
+  pub asks : wanted ≡ asked (chosen rows members)
+  pub has : (cpu : ℕ) → set.contains allowed cpu ≡ is_offered (chosen rows members) cpu
+
 -- a shortage of the rows: what its members ask for, and what they are allowed; nothing else changes
 pub record Lacks (old : NodeState) (wanted : ℕ) (allowed : Ids) (new : NodeState) : Type 0 where
   pub members : List ℕ
   pub settled : is_underway old.phase ≡ false
   pub decides : DecidesShort (rows_of old) members
   pub can : CanWrite (certificate.Short (rows_of old) members)
-  pub asks : wanted ≡ asked (chosen (rows_of old) members)
-  pub has : (cpu : ℕ) → set.contains allowed cpu ≡ is_offered (chosen (rows_of old) members) cpu
+  pub need : IsNeed (rows_of old) members wanted allowed
   pub is : new ≡ record old { last = Some (certificate.Short (rows_of old) members) }
 
 -- `begin`
@@ -55,6 +60,11 @@ Begins old (Ok (Short wanted allowed)) new = Lacks old wanted allowed new
 Begins old (Err Memory) new = (is_underway old.phase ≡ false) × (new ≡ old)
 Begins old (Err (Fault Busy)) new = (is_underway old.phase ≡ true) × (new ≡ old)
 Begins old (Err (Fault fault)) new = ⊥
+
+-- the same where no hand-over is open, as the program asks for it; only memory can be wanting
+abbrev pub WorksOut : {E : Type 0} → NodeState → Result Outcome E → NodeState → Type 0
+WorksOut old (Ok outcome) new = Begins old (Ok outcome) new
+WorksOut old (Err e) new = new ≡ old
 
 -- a step of the hand-over that is open, and how it stands then
 pub record Stepped (old : NodeState) (r : Result Progress KernelFault) (phase : Phase) (ongoing : Option Ongoing) (new : NodeState) : Type 0 where
