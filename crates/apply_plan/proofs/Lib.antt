@@ -1,4 +1,3 @@
-pub mod KeptLemmas
 pub mod ListLemmas
 pub mod KernelFacts
 pub mod WriteLemmas

@@ -10,23 +10,25 @@ use Rattle.cpuset_tree.specs.Effective.{is_empty}
 use Rattle.proctable.specs.Processes.{is_alive}
 use Rattle.kernel_model.specs.declared.KernelFault.{KernelFault}
 use Rattle.kernel_model.specs.KernelState.{KernelState, failed}
-use Rattle.kernel_model.specs.WellFormed.{IsWellFormed}
+use Rattle.kernel_model.specs.Laws.{StepKeeps}
 use Rattle.apply_plan.specs.declared.entry.Entry.{Entry}
 use Rattle.apply_plan.specs.declared.handover.Progress.{Progress}
+use Rattle.apply_plan.specs.declared.handover.Progress.TheVariants.{More, Done}
 use Rattle.apply_plan.specs.Holders.{AreApart, HasSome, IsSafe}
 use Rattle.apply_plan.specs.Targets.{Targets, holder_of, holders_of}
-use Rattle.apply_plan.specs.DueWrite.{held, due, Steps, written, writes_of, writes_to_come, IsBetween, Between}
+use Rattle.apply_plan.specs.DueWrite.{held, due, Steps, written, progress_of, writes_of, writes_to_come, IsBetween, Between}
+use Rattle.apply_plan.specs.OneStep.{StepLeaves, StepsLeave}
 use Rattle.apply_plan.specs.Runs.{Event, Stepped, Called, Happens, AllHappen, IsOpen, StaysSafe, StaysBetween, EndsWithin, writes_in, writes_of_event, last_of}
 use Rattle.apply_plan.proofs.ListLemmas.{all_map, all_map2, all_of, all_of_map, of_all_map, pairs_map, pairs_of_map, of_pairs_map, sum_le}
 use Rattle.apply_plan.proofs.WriteLemmas.{ApartAs}
 use Rattle.apply_plan.proofs.StepLemmas.{waits}
 use Rattle.apply_plan.proofs.EventLemmas.{IsCalm, calm, still_open}
-use Rattle.apply_plan.proofs.HandoverLemmas.{step_safe, step_lowers, step_between, step_keeps}
+use Rattle.apply_plan.proofs.HandoverLemmas.{step_safe, step_lowers, step_between, step_done, step_counts, step_keeps}
 use Rattle.apply_plan.proofs.KernelFacts.{placed_alike}
 use Rattle.apply_plan.specs.declared.scan.Write.{Write}
 use Rattle.cpuset_tree.specs.declared.Group.{Group}
 use Rattle.kernel_model.specs.declared.KernelFault.TheVariants.{Failed}
-use Rattle.kernel_model.specs.KernelLemmas.{each_case_keeps}
+use Rattle.kernel_model.specs.KernelLemmas.{each_case_keeps, runs_keep}
 use Rattle.kernel_model.specs.RefusalLemmas.{calls_are_free}
 use Rattle.apply_plan.proofs.DueLemmas.{due_is_placed}
 
@@ -63,35 +65,62 @@ module _ (h : Targets) (old new : KernelState) (all : AllByRecursion (IsCalm old
   pub calm_fewer : writes_to_come h new ≤ writes_to_come h old
   calm_fewer = sum_le (writes_of new h.reserved) (writes_of old h.reserved) h.entries (all_map (IsCalm old new) (λ e. writes_of new h.reserved e ≤ writes_of old h.reserved e) one_fewer h.entries all)
 
--- a step leaves a hand-over open
+-- a step leaves a kernel, and a hand-over open
 module _ (h : Targets) (old new : KernelState) (before : IsOpen h old) where
-  made_well_formed : (w : Write) → due h old ≡ Some w → IsWellFormed (written old (Some w))
-  made_well_formed w is =
+  written_kernel : (d : Option Write) → due h old ≡ d → StepKeeps old (written old d)
+  written_kernel None is = runs_keep old old [] [] before.well_formed refl
+  written_kernel (Some w) is =
       let placed = due_is_placed old h.reserved h.entries w before.placed is in
-      ((each_case_keeps old (written old (Some w)) before.well_formed).cpus w.group w.cpus (Ok tt) (((calls_are_free old).write w.group).1 (placed.there, placed.below), refl)).well_formed
-
-  written_well_formed : (d : Option Write) → due h old ≡ d → IsWellFormed (written old d)
-  written_well_formed None is = before.well_formed
-  written_well_formed (Some w) is = made_well_formed w is
+      (each_case_keeps old (written old (Some w)) before.well_formed).cpus w.group w.cpus (Ok tt) (((calls_are_free old).write w.group).1 (placed.there, placed.below), refl)
 
   any_group : Group
   any_group = record { key = 0; serial = 0 }
 
-  failed_well_formed : IsWellFormed (failed old)
-  failed_well_formed = ((each_case_keeps old (failed old) before.well_formed).cpus any_group set.empty (Err Failed) refl).well_formed
+  failed_kernel : StepKeeps old (failed old)
+  failed_kernel = (each_case_keeps old (failed old) before.well_formed).cpus any_group set.empty (Err Failed) refl
 
-  step_well_formed : (r : Result Progress KernelFault) → Steps h old r new → IsWellFormed new
-  step_well_formed (Ok answer) s = subst IsWellFormed (sym s.0) (written_well_formed (due h old) refl)
-  step_well_formed (Err fault) s = subst IsWellFormed (sym s.1) failed_well_formed
+  step_kernel : (r : Result Progress KernelFault) → Steps h old r new → StepKeeps old new
+  step_kernel (Ok answer) s = subst (StepKeeps old) (sym s.0) (written_kernel (due h old) refl)
+  step_kernel (Err fault) s = subst (StepKeeps old) (sym s.1) failed_kernel
 
   step_stays_open : (r : Result Progress KernelFault) → Steps h old r new → IsOpen h new
   step_stays_open r s =
       let keeps = step_keeps h before.handover old new before.placed r s in
       record {
         handover = before.handover;
-        well_formed = step_well_formed r s;
+        well_formed = (step_kernel r s).well_formed;
         placed = placed_alike old new h.entries keeps.alike before.placed;
         given = all_map (λ e. e.pid < old.table.next_pid) (λ e. e.pid < new.table.next_pid) (λ e g. subst (λ t. e.pid < t.next_pid) (sym keeps.table) g) h.entries before.given;
+      }
+
+  -- where more is due after a step, something was due before it
+  more_was_due : (r : Result Progress KernelFault) → Steps h old r new → r ≡ Ok More → writes_to_come h old ≡ writes_to_come h new + 1
+  more_was_due (Err fault) s is = absurd (let x : ⊥ = cc is in x)
+  more_was_due (Ok answer) s is = by (due h old) refl where
+    lowers : writes_to_come h old ≡ writes_to_come h new + cond (is_some (due h old)) 1 0
+    lowers = step_lowers h before.handover old new before.placed (Ok answer) s
+
+    by : (d : Option Write) → due h old ≡ d → writes_to_come h old ≡ writes_to_come h new + 1
+    by (Some w) was = lowers ∙ ap (λ o. writes_to_come h new + cond (is_some o) 1 0) was
+    by None was =
+        let same : new ≡ old = s.0 ∙ ap (written old) was in
+        let rests : progress_of (due h new) ≡ Done = ap (λ k. progress_of (due h k)) same ∙ ap progress_of was in
+        let more : progress_of (due h new) ≡ More = sym s.1 ∙ cc is in
+        absurd (let x : ⊥ = cc (rests, more) in x)
+
+  step_leaves : (r : Result Progress KernelFault) → Steps h old r new → StepLeaves h old r new
+  step_leaves r s =
+      let after = step_stays_open r s in
+      record {
+        open_still = after;
+        safe = step_safe h before.handover old new before.placed r s;
+        rest = step_keeps h before.handover old new before.placed r s;
+        done = step_done h before.handover old new before.placed r s after.placed;
+        falls = more_was_due r s;
+        lowers = step_lowers h before.handover old new before.placed r s;
+        between = λ first. step_between h before.handover old new before.placed first r s;
+        counted = step_counts h before.handover old new before.placed r s;
+        kernel = step_kernel r s;
       }
 
   pub event_stays_open : (x : Event) → Happens h old x new → IsOpen h new
@@ -132,6 +161,9 @@ between_on h first k [] before happen between = tt
 between_on h first k (x ∷ later) before happen between =
     let after = event_between h first k x.1 before x.0 happen.0 between in
     (after, between_on h first x.1 later (event_stays_open h k x.1 before x.0 happen.0) happen.1 after)
+
+pub steps_leave : StepsLeave
+steps_leave h old r new before s = step_leaves h old new before r s
 
 pub stays_between : StaysBetween
 stays_between h k run before happen = between_on h k k run before happen (all_of (IsBetween h.reserved k k) (λ e. inl refl) h.entries)

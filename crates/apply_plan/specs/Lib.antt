@@ -1,8 +1,10 @@
 pub mod Holders
 pub mod Kept
+pub mod KeptLemmas
 pub mod Targets
 pub mod DueWrite
 pub mod Leaves
 pub mod Wants
 pub mod Runs
+pub mod OneStep
 pub mod Effects

@@ -1,5 +1,6 @@
 //! Laws over the definitions alone: nothing here runs.
 ghost use Rattle.apply_plan.specs.Runs.{StaysSafe, StaysBetween, EndsWithin};
+ghost use Rattle.apply_plan.specs.OneStep.{StepsLeave};
 ghost use Rattle.apply_plan.specs.Effects.{TargetsTakeEffect, SafeInEffect};
 
 /// Whatever happens while a hand-over is open, event by event: its steps, failing ones too, forks and ends of processes,
@@ -11,6 +12,11 @@ pub fn runs()
     ensures safe { StaysSafe }
     ensures between { StaysBetween }
     ensures ends { EndsWithin }
+{}
+
+/// What one step leaves while a hand-over is open: what [`crate::Handover::step`] says, of plain states.
+pub fn steps()
+    ensures { StepsLeave }
 {}
 
 /// What requested sets are worth, for groups whose parent is a child of the root that requests nothing.

@@ -19,7 +19,7 @@ Target = (List ℕ × ContainerState) × Ids
 
 -- each live container, a pinned one with the next set of the plan, a shared one with the pool; in the order in which they
 -- were created
-pub targets_in : KernelState → Ids → List (List ℕ × ContainerState) → List Ids → List Target
+abbrev pub targets_in : KernelState → Ids → List (List ℕ × ContainerState) → List Ids → List Target
 targets_in k pool [] sets = []
 targets_in k pool (e ∷ later) sets =
     cond (is_live k e.1)

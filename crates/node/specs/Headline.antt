@@ -50,7 +50,7 @@ abbrev pub asking : NodeState → List (List ℕ × ContainerState)
 asking n = filter (is_asking n.kernel) n.containers
 
 -- what they have in effect
-pub effective_sets : KernelState → List (List ℕ × ContainerState) → List Ids
+abbrev pub effective_sets : KernelState → List (List ℕ × ContainerState) → List Ids
 effective_sets k [] = []
 effective_sets k (e ∷ later) = cond (is_asking k e) (effective k e ∷ effective_sets k later) (effective_sets k later)
 

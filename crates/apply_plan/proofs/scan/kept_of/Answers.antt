@@ -1,7 +1,7 @@
 use Rattle.std.proofs.Common.{sym, ◌∙◌, ap, refl}
 use Rattle.std.proofs.lemmas.Bool.{iff_false}
 use Rattle.std.specs.FinSet as set
-use Rattle.apply_plan.proofs.KeptLemmas.{is_empty-empty, is_empty-some, kept_nothing, kept_some}
+use Rattle.apply_plan.specs.KeptLemmas.{is_empty-empty, is_empty-some, kept_nothing, kept_some}
 use Rattle.apply_plan.proofs.scan.kept_of.Goals as goal
 
 pub returns-then-is_empty : goal.returns-then-is_empty

@@ -1,0 +1,30 @@
+-- What one step of a hand-over leaves, said of plain states.
+use Rattle.std.specs.Prelude.{◌≡◌, ◌+◌, Result, Ok}
+use Rattle.kernel_model.specs.declared.KernelFault.{KernelFault}
+use Rattle.kernel_model.specs.KernelState.{KernelState}
+use Rattle.kernel_model.specs.Cases.{rise}
+use Rattle.kernel_model.specs.Laws.{StepKeeps}
+use Rattle.apply_plan.specs.declared.handover.Progress.{Progress}
+use Rattle.apply_plan.specs.declared.handover.Progress.TheVariants.{More, Done}
+use Rattle.apply_plan.specs.Holders.{IsSafe}
+use Rattle.apply_plan.specs.Targets.{Targets, holders_of}
+use Rattle.apply_plan.specs.DueWrite.{Steps, writes_to_come, HaveTargets, Between, Lowers}
+use Rattle.apply_plan.specs.Leaves.{KeepsRest}
+use Rattle.apply_plan.specs.Runs.{IsOpen}
+
+-- the hand-over is still open, what was safe is safe, and nothing changed but the entries' sets and the count of failures;
+-- where no write is due any more each live container has its target, and where one is there is one less to come
+pub record StepLeaves (h : Targets) (old : KernelState) (r : Result Progress KernelFault) (new : KernelState) : Type 0 where
+  pub open_still : IsOpen h new
+  pub safe : IsSafe old h.reserved (holders_of h.entries) → IsSafe new h.reserved (holders_of h.entries)
+  pub rest : KeepsRest h old new
+  pub done : r ≡ Ok Done → HaveTargets new h.entries
+  pub falls : r ≡ Ok More → writes_to_come h old ≡ writes_to_come h new + 1
+  pub lowers : Lowers h old r new
+  pub between : (first : KernelState) → Between h first old → Between h first new
+  pub counted : new.failures ≡ old.failures + rise r
+  pub kernel : StepKeeps old new
+
+abbrev pub StepsLeave : Type 0
+StepsLeave =
+    (h : Targets) (old : KernelState) (r : Result Progress KernelFault) (new : KernelState) → IsOpen h old → Steps h old r new → StepLeaves h old r new
