@@ -1,8 +1,8 @@
 //! Plans, and the hand-overs to them.
-ghost use Rattle.std.specs.Prelude.{◌≡◌, false, true, IsTrue, IfOk, All};
+ghost use Rattle.std.specs.Prelude.{◌≡◌, ◌+◌, false, IsTrue, IfOk};
 ghost use Rattle.certificate.specs.Limits.{rows_fit};
-ghost use Rattle.certificate.specs.IsShortage.{IsShortage, asked, chosen, is_offered};
-ghost use Rattle.std.specs.FinSet as set;
+ghost use Rattle.certificate.specs.IsShortage.{IsShortage};
+ghost use Rattle.certificate_text.specs.Written.{CanWrite};
 ghost use Rattle.node.specs.NodeState.{is_underway};
 ghost use Rattle.node.specs.Leaves.{rise_or_memory};
 ghost use Rattle.node.specs.Headline.{Headline};
