@@ -46,6 +46,7 @@ use Rattle.node.specs.IsNode.{HaveOtherIds, IsAsked, IsNode}
 use Rattle.node.specs.Rows.{row_of_container, rows_in, rows_of}
 use Rattle.node.specs.Rebalance.{Lacks}
 use Rattle.node.specs.Headline.{is_asking, asking, wanted_by, is_allowed, IsShort}
+use Rattle.node.specs.Asking.{IsRowOf}
 use Rattle.node.specs.Viewed.{entry_seen, all_seen}
 use Rattle.node.proofs.ListLemmas.{of_pairs_map}
 
@@ -204,51 +205,11 @@ pub all_fit : (rows : List RowView) → length rows ≤ MAX_ROWS → list_all ro
 unfolding rows_fit
 all_fit rows few each = both_pass (nat_le (length rows) MAX_ROWS) (list_all row_fits rows) (grind (arith, nat_tests)) each
 
--- all of a list pass, and one more at its end
-all_pass : (p : RowView → Bool) (rows : List RowView) (row : RowView) → list_all p rows ≡ true → p row ≡ true → list_all p (rows ++ row ∷ []) ≡ true
-all_pass p rows row all one = list_all-append p rows (row ∷ []) ∙ both_pass (list_all p rows) (list_all p (row ∷ [])) all (both_pass (p row) true one refl)
-
 -- the rows made so far, and those of the containers that are left
 pub record IsSoFar (k : KernelState) (m : Layout) (all left : List (String Global × Container)) (rows : List RowView) : Type 0 where
   pub are : rows ++ rows_in k m (all_seen left) ≡ rows_in k m (all_seen all)
   pub asked : AllByRecursion (IsAsked m) (all_seen left)
   pub fit : list_all row_fits rows ≡ true
-
-pub so_far_none : (k : KernelState) (m : Layout) (all left : List (String Global × Container)) → AllByRecursion (IsAsked m) (all_seen all) → left ≡ all → IsSoFar k m all left []
-so_far_none k m all left asked same = record {
-  are = ap (λ (es : List (String Global × Container)). rows_in k m (all_seen es)) same;
-  asked = subst (λ (es : List (String Global × Container)). AllByRecursion (IsAsked m) (all_seen es)) (sym same) asked;
-  fit = refl;
-}
-
-module _ (k : KernelState) (m : Layout) (all left later : List (String Global × Container)) (rows : List RowView) (e : String Global × Container) where
-  next_are : IsSoFar k m all left rows → left ≡ e ∷ later → rows ++ cons_option (row_of_container k m (entry_seen e)) (rows_in k m (all_seen later)) ≡ rows_in k m (all_seen all)
-  next_are so_far next = ap (λ (es : List (String Global × Container)). rows ++ rows_in k m (all_seen es)) (sym next) ∙ so_far.are
-
-  next_asked : IsSoFar k m all left rows → left ≡ e ∷ later → AllByRecursion (IsAsked m) (all_seen (e ∷ later))
-  next_asked so_far next = subst (λ (es : List (String Global × Container)). AllByRecursion (IsAsked m) (all_seen es)) next so_far.asked
-
-  -- the next container asks for what fits the machine
-  pub next_fits : IsSoFar k m all left rows → left ≡ e ∷ later → FitsMachine m e.1.demand
-  next_fits so_far next = (next_asked so_far next).0.fits
-
-  -- it has a row, or none
-  pub row_made_now : IsSoFar k m all left rows → left ≡ e ∷ later → (row : RowView) → row_of_container k m (entry_seen e) ≡ Some row → row_fits row ≡ true
-      → IsSoFar k m all later (rows ++ row ∷ [])
-  row_made_now so_far next row is fits = record {
-    are =
-        append_assoc rows (row ∷ []) (rows_in k m (all_seen later))
-        ∙ ap (λ o. rows ++ cons_option o (rows_in k m (all_seen later))) (sym is) ∙ next_are so_far next;
-    asked = (next_asked so_far next).1;
-    fit = all_pass row_fits rows row so_far.fit fits;
-  }
-
-  pub no_row_now : IsSoFar k m all left rows → left ≡ e ∷ later → row_of_container k m (entry_seen e) ≡ None → IsSoFar k m all later rows
-  no_row_now so_far next is = record {
-    are = ap (λ o. rows ++ cons_option o (rows_in k m (all_seen later))) (sym is) ∙ next_are so_far next;
-    asked = (next_asked so_far next).1;
-    fit = so_far.fit;
-  }
 
 -- what holds of the problem of these containers
 pub record IsProblem (k : KernelState) (m : Layout) (containers : List (List ℕ × ContainerState)) (rows : List RowView) : Type 0 where
@@ -269,14 +230,6 @@ all_made k m all left rows asked few distinct so_far none =
       can = subst (λ (rs : List RowView). All CanWriteRow rs) (sym rows_are) (rows_can k m (all_seen all) asked);
       apart = subst HaveOwnIds (sym rows_are) (rows_apart k m (all_seen all) distinct);
     }
-
--- a row is that of a live pinned container: it has its id, it asks for what the container asks for, and the CPUs that have a
--- weight in it are those that the container is allowed and that are online
-pub record IsRowOf (k : KernelState) (m : Layout) (row : RowView) (e : List ℕ × ContainerState) : Type 0 where
-  pub row_is : row_of m k.tree.online e.0 e.1.demand ≡ Some row
-  pub id : row.id ≡ e.0
-  pub demand : row.demand ≡ wanted_by e.1.demand.kind
-  pub offers : (cpu : ℕ) → is_some (weight row cpu) ≡ is_allowed k cpu e
 
 module _ (k : KernelState) (m : Layout) (weigh : RowsWeigh) where
   some_where : {A : Type 0} (b : Bool) (x : A) → is_some (cond b (Some x) None) ≡ b
