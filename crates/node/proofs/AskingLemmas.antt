@@ -1,10 +1,9 @@
 -- The rows of the live pinned containers: what holds of each, and whose it is.
-use Rattle.std.proofs.Common.{◌≡◌, ◌≢◌, ℕ, zero, suc, ◌<◌, ◌≤◌, Bool, true, false, cond, ◌&&◌, ◌||◌, nat_lt, nat_le, List, [], ◌∷◌, ◌++◌, length, map, Option, Some, None, is_some, refl, sym, ap, ◌∙◌, subst, sum_by, arith}
+use Rattle.std.proofs.Common.{◌≡◌, ◌≢◌, ℕ, zero, suc, ◌<◌, ◌≤◌, Bool, true, false, cond, ◌&&◌, nat_lt, nat_le, List, [], ◌∷◌, ◌++◌, length, map, Option, Some, None, is_some, refl, sym, ap, ◌∙◌, subst, sum_by, arith}
 use Rattle.std.proofs.lemmas.Bool.{true≢false, false≢true}
 use Rattle.std.proofs.lemmas.Bool.Decides.{nat_tests}
-use Rattle.std.proofs.lemmas.List.{append_assoc, append-nil}
+use Rattle.std.proofs.lemmas.List.{append-nil}
 use Rattle.std.proofs.lemmas.List.Elements.{All-from_recursion, All-weaker, filter_agree, filter_passes}
-use Rattle.std.proofs.lemmas.List.Folds.{list_all-append}
 use Rattle.std.proofs.lemmas.List.Kept.{AllPairs-cons}
 use Rattle.std.proofs.lemmas.List.Sums.{sum_by-cons}
 use Rattle.std.proofs.lemmas.Option.{none-some, same_Some}
@@ -12,10 +11,9 @@ use Rattle.std.proofs.lemmas.Slice.Eq.{bytes_eq-Decides}
 use Rattle.std.specs.Prelude.{MatchOption, filter, filter_map, slice_get, String}
 use Rattle.std.specs.declared.alloc.Global.{Global}
 use Rattle.std.specs.List.{All, AllPairs, AllByRecursion, AllZip, cons_option, list_all, list_any, range_with_len}
-use Rattle.std.specs.Str.{bytes_eq}
 use Rattle.std.specs.FinSet as set
 use Rattle.cpu_set.specs.Ids.{Ids}
-use Rattle.cpu_set.specs.Members.{InRange, cpus, members}
+use Rattle.cpu_set.specs.Members.{InRange, cpus}
 use Rattle.cpu_set.specs.SetLaws.{length-members}
 use Rattle.kernel_model.specs.KernelState.{KernelState}
 use Rattle.machine.specs.Layout.{Layout}
@@ -47,7 +45,7 @@ use Rattle.node.specs.Rows.{row_of_container, rows_in, rows_of}
 use Rattle.node.specs.Rebalance.{Lacks}
 use Rattle.node.specs.Headline.{is_asking, asking, wanted_by, is_allowed, IsShort}
 use Rattle.node.specs.Asking.{IsRowOf}
-use Rattle.node.specs.Viewed.{entry_seen, all_seen}
+use Rattle.node.specs.Viewed.{all_seen}
 use Rattle.node.proofs.ListLemmas.{of_pairs_map}
 
 -- what is given of the elements of a list
