@@ -287,11 +287,11 @@ offered_len : (allowed : Ids) (rows : List RowView) → InRange allowed → ((cp
 offered_len allowed rows in_range has = sym (length-members allowed in_range) ∙ ap length (filter_agree (set.contains allowed) (is_offered rows) has cpus)
 
 -- a shortage of the rows is one of the live pinned containers
-pub short_stands : (old : NodeState) → IsNode old → RowsWeigh → (wanted : ℕ) (allowed : Ids) (new : NodeState) → InRange allowed → Lacks old wanted allowed new
+pub short_stands : (old : NodeState) → IsNode old → RowsWeigh → (wanted : ℕ) (allowed : Ids) (new : NodeState) → Lacks old wanted allowed new
     → IsShort old wanted allowed new
-short_stands old h weigh wanted allowed new in_range l =
+short_stands old h weigh wanted allowed new l =
     let named : new.last ≡ Some (certificate.Short (rows_of old) l.members) = ap (λ (n : NodeState). n.last) l.is in
-    let as_many : set.len allowed ≡ length (offered (chosen (rows_of old) l.members)) = offered_len allowed (chosen (rows_of old) l.members) in_range l.need.has in
+    let as_many : set.len allowed ≡ length (offered (chosen (rows_of old) l.members)) = offered_len allowed (chosen (rows_of old) l.members) l.need.in_range l.need.has in
     let short : length (offered (chosen (rows_of old) l.members)) < asked (chosen (rows_of old) l.members) = l.decides.shortage.short in
     let asks : wanted ≡ asked (chosen (rows_of old) l.members) = l.need.asks in
     record {
