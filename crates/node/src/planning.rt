@@ -1,13 +1,19 @@
 //! Plans, and the hand-overs to them.
-ghost use Rattle.std.specs.Prelude.{◌≡◌, ◌+◌, false, IsTrue, IfOk};
+ghost use Rattle.std.specs.Prelude.{◌≡◌, ◌+◌, false, Some, IsTrue, IfOk};
+ghost use Rattle.std.specs.Result.{result_map_both};
 ghost use Rattle.certificate.specs.Limits.{rows_fit};
 ghost use Rattle.certificate.specs.IsShortage.{IsShortage};
 ghost use Rattle.certificate_text.specs.Written.{CanWrite};
 ghost use Rattle.node.specs.NodeState.{is_underway};
 ghost use Rattle.node.specs.Leaves.{rise_or_memory};
+ghost use Rattle.node.specs.Owners.{owners_of};
+ghost use Rattle.node.specs.Ongoing.{IsOngoing};
+ghost use Rattle.node.specs.Viewed.{seen_ongoing};
+ghost use Rattle.node.specs.declared.phase.Phase.TheVariants.{Underway};
 ghost use Rattle.node.specs.Headline.{Headline};
 ghost use Rattle.node.specs.Rebalance.{Begins, Rebalances, WorksOut, IsNeed, ShowsCertificate};
 
+use crate::ongoing::Ongoing;
 use crate::{Node, NodeFault, Outcome, Phase};
 use certificate::{Problem, check_shortage, offered_to};
 use certificate_text::Certificate;
@@ -23,13 +29,34 @@ fn need_of(problem: &Problem, members: &[usize]) -> (u64, IdSet)
     requires short { IsShortage problem.now members.now }
     ensures { IsNeed problem.now members.now result.0 result.1 }
 {
-    let Ok((asked, _)) = check_shortage(problem, members) else {
+    let Ok((asked, there)) = check_shortage(problem, members) else {
         unreachable!()
     };
-    (asked, offered_to(problem.rows.as_slice(), members))
+    let allowed = offered_to(problem.rows.as_slice(), members);
+    let count = allowed.count();
+    prove!(count == there);
+    (asked, allowed)
 }
 
 impl<K: Kernel + Drop> Node<K> {
+    /// Opens a hand-over to a plan that leaves this pool.
+    fn open_to(&mut self, pool: IdSet, ongoing: Ongoing)
+        requires { IsOngoing self.old.kernel (owners_of self.old.containers) (seen_ongoing ongoing) }
+        ensures { self.new ≡ record self.old { pool = pool; phase = Underway; ongoing = Some (seen_ongoing ongoing) } }
+    {
+        self.pool = pool;
+        self.phase = Phase::Underway;
+        self.ongoing = Some(ongoing);
+    }
+
+    /// Keeps the certificate of what was worked out.
+    fn keep(&mut self, certificate: Certificate)
+        requires { CanWrite certificate }
+        ensures { self.new ≡ record self.old { last = Some certificate } }
+    {
+        self.last = Some(certificate);
+    }
+
     /// Works out a plan or a shortage, and opens the hand-over to a plan.
     fn work_out(&mut self) -> Result<Outcome, AllocError>
         requires { is_underway self.old.phase ≡ false }
@@ -39,9 +66,7 @@ impl<K: Kernel + Drop> Node<K> {
         let outcome = match &certificate {
             Certificate::Plan { plan, total, .. } => {
                 let (pool, ongoing) = self.opening(plan.sets.as_slice())?;
-                self.pool = pool;
-                self.phase = Phase::Underway;
-                self.ongoing = Some(ongoing);
+                self.open_to(pool, ongoing);
                 Outcome::Plan(*total)
             }
             Certificate::Short { problem, members } => {
@@ -49,7 +74,7 @@ impl<K: Kernel + Drop> Node<K> {
                 Outcome::Short { asked, allowed }
             }
         };
-        self.last = Some(certificate);
+        self.keep(certificate);
         Ok(outcome)
     }
 
@@ -99,7 +124,7 @@ impl<K: Kernel + Drop> Node<K> {
     /// # Errors
     /// `NoAnswer`.
     pub fn certificate(&self) -> Result<&Certificate, NodeFault>
-        ensures shows { ShowsCertificate self.now result }
+        ensures shows { ShowsCertificate self.now (result_map_both (λ c. c.now) (λ fault. fault) result) }
         ensures can { IfOk result (λ c. CanWrite c.now) }
     {
         match &self.last {
