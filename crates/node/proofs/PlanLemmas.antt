@@ -1,8 +1,8 @@
 -- What a plan gives to the live containers, and the hand-over to it.
-use Rattle.std.proofs.Common.{◌≡◌, ◌≢◌, ◌⊎◌, inl, inr, ℕ, suc, ◌≤◌, Bool, true, false, cond, not, ◌&&◌, ◌||◌, List, [], ◌∷◌, Option, Some, None, refl, sym, ap, ◌∙◌, subst, arith, length, get_or}
+use Rattle.std.proofs.Common.{◌≡◌, inl, inr, ℕ, suc, ◌≤◌, Bool, true, false, cond, not, ◌&&◌, ◌||◌, List, [], ◌∷◌, Option, Some, None, refl, sym, ap, ◌∙◌, subst, arith}
 use Rattle.std.proofs.lemmas.Bool.{false≢true, ne_eqb, eqb-true}
 use Rattle.std.proofs.lemmas.List.Elements.{recursion_from_All}
-use Rattle.std.specs.Prelude.{map, fold, drop, slice_index_or, is_some, is_none, IsSome, AllPairs}
+use Rattle.std.specs.Prelude.{map, drop, slice_index_or, is_some, is_none, IsSome, AllPairs}
 use Rattle.std.specs.List.{AllByRecursion, AllZip, cons_option}
 use Rattle.std.specs.FinSet as set
 use Rattle.cpu_set.specs.Ids.{Ids, IsDisjoint}
@@ -11,15 +11,12 @@ use Rattle.cpu_set.specs.SetLaws.{empty_of_none, none_of_empty}
 use Rattle.cpuset_tree.specs.declared.Group.{Group}
 use Rattle.cpuset_tree.specs.Groups.{same_group, is_root_entry}
 use Rattle.cpuset_tree.specs.Effective.{is_empty}
-use Rattle.proctable.specs.Processes.{is_alive}
 use Rattle.kernel_model.specs.KernelState.{KernelState}
-use Rattle.kernel_model.specs.WellFormed.{IsWellFormed}
 use Rattle.machine.specs.Layout.{Layout}
 use Rattle.machine.specs.Weight.{weight as distance_home}
 use Rattle.demand.specs.declared.Kind.{Kind}
 use Rattle.demand.specs.declared.Kind.TheVariants.{Pinned, Shared}
-use Rattle.demand.specs.declared.Demand.{Demand}
-use Rattle.demand.specs.FitsMachine.{FitsKind, FitsMachine}
+use Rattle.demand.specs.FitsMachine.{FitsKind}
 use Rattle.certificate.specs.RowView.{RowView}
 use Rattle.certificate.specs.Weight.{weight}
 use Rattle.certificate.specs.IsPlan.{Meets, IsPlan}
@@ -28,19 +25,19 @@ use Rattle.rows.specs.RowOf.{available, row_of, row_of_kind}
 use Rattle.rows.specs.Weighs.{RowsWeigh}
 use Rattle.apply_plan.specs.declared.Entry.{Entry}
 use Rattle.apply_plan.specs.Holders.{Pairwise}
-use Rattle.apply_plan.specs.KeptLemmas.{is_empty-some}
+use Rattle.apply_plan.specs.KeptLemmas.{is_empty-empty, is_empty-some}
 use Rattle.apply_plan.specs.Targets.{IsPlaced as IsPlacedIn, ArePlaced, HaveOtherGroups, AreTargetsApart, IsHandover}
 use Rattle.apply_plan.specs.DueWrite.{held}
 use Rattle.apply_plan.specs.Effects.{CanTakeEffect}
-use Rattle.node.specs.NodeState.{ContainerState, NodeState}
+use Rattle.node.specs.NodeState.{ContainerState, Ongoing, NodeState}
 use Rattle.node.specs.Owners.{Owner, is_pinned, owner_of, owners_of}
 use Rattle.node.specs.Status.{is_live}
-use Rattle.node.specs.Rows.{row_of_container, rows_in, rows_of}
+use Rattle.node.specs.Rows.{rows_in, rows_of}
 use Rattle.node.specs.Entries.{pool_of, Target, targets_in, entry_of, entries_in, plan_pool, plan_targets, plan_entries, opened}
 use Rattle.node.specs.Headline.{HasItsCpus}
 use Rattle.node.specs.IsNode.{IsAsked, IsNode, HaveOtherIds, IsPlaced}
-use Rattle.node.specs.Ongoing.{Leads, AreOf, IsSince, IsOngoing}
-use Rattle.node.proofs.ListLemmas.{all_map, all_map2, pairs_map, all_of_map, of_all_map, pairs_of_map, of_pairs_map}
+use Rattle.node.specs.Ongoing.{AreOf, IsSince, IsOngoing}
+use Rattle.node.proofs.ListLemmas.{all_map, pairs_map, all_of_map, of_all_map, pairs_of_map, of_pairs_map}
 use Rattle.node.proofs.LaunchLemmas.{names_apart, is_there}
 
 abbrev Container : Type 0
@@ -88,9 +85,9 @@ module _ (k : KernelState) (m : Layout) (pool : Ids) (weigh : RowsWeigh) (P : Li
     (start : P [] [] [])
     (dead : (e : Container) (later : List Container) (sets : List Ids) (ts : List Target) → is_live k e.1 ≡ false → P later sets ts → P (e ∷ later) sets ts)
     (shared : (e : Container) (later : List Container) (sets : List Ids) (ts : List Target) → is_live k e.1 ≡ true → e.1.demand.kind ≡ Shared
-      → P later sets ts → P (e ∷ later) sets ((e, pool) ∷ ts))
+    → P later sets ts → P (e ∷ later) sets ((e, pool) ∷ ts))
     (pinned : (e : Container) (later : List Container) (s : Ids) (sets : List Ids) (ts : List Target) → IsDealt k m e s
-      → P later sets ts → P (e ∷ later) (s ∷ sets) ((e, s) ∷ ts)) where
+    → P later sets ts → P (e ∷ later) (s ∷ sets) ((e, s) ∷ ts)) where
   over : (e : Container) (later : List Container) → IsAsked m e
       → ((sets : List Ids) → AllZip Meets (rows_in k m later) sets → P later sets (targets_in k pool later sets))
       → (live : Bool) (kind : Kind) → is_live k e.1 ≡ live → e.1.demand.kind ≡ kind → (sets : List Ids)
@@ -154,7 +151,7 @@ pool_disjoint online sets =
     (λ s out c in_pool in_s. false≢true (sym (out c in_pool) ∙ in_s)) sets
     (swapped (λ c. set.contains (pool_of online sets) c ≡ true) (λ c s. set.contains s c ≡ false) sets (pool_apart online sets))
 
--- a set within one that is empty is empty
+-- what has all CPUs of a set that is not empty is not empty
 not_empty_above : (s t : Ids) → is_empty s ≡ false → ((c : ℕ) → set.contains s c ≡ true → set.contains t c ≡ true) → is_empty t ≡ false
 not_empty_above s t some within = by (is_empty t) refl where
   none : is_empty t ≡ true → (c : ℕ) (b : Bool) → set.contains s c ≡ b → set.contains s c ≡ false
@@ -165,9 +162,9 @@ not_empty_above s t some within = by (is_empty t) refl where
   by false is = is
   by true is =
       let nothing : s ≡ set.empty = empty_of_none s (λ c _. none is c (set.contains s c) refl) in
-      absurd (false≢true (sym some ∙ ap is_empty nothing))
+      absurd (false≢true (sym some ∙ is_empty-empty s nothing))
 
--- a container's groups: no two have one
+-- what holds of a plan of a node's rows
 module _ (n : NodeState) (h : IsNode n) where
   abbrev AreOther : Container → Container → Type 0
   AreOther a b = same_group a.1.group b.1.group ≡ false
@@ -242,7 +239,7 @@ module _ (n : NodeState) (h : IsNode n) where
         record {
           pairs = (
             all_map (λ p. is_pinned p.0.1.demand.kind ≡ true → IsDisjoint pool p.1) (AreParted (e, pool))
-            (λ q other either. other (ap (λ b. b || is_pinned q.0.1.demand.kind) (sym not_pinned) ∙ either)) ts rest.pinned,
+                (λ q other either. other (ap (λ b. b || is_pinned q.0.1.demand.kind) (sym not_pinned) ∙ either)) ts rest.pinned,
             rest.pairs,
           );
           from = λ s d all. (d, rest.from s d all);
@@ -350,3 +347,26 @@ module _ (n : NodeState) (h : IsNode n) where
 pub effects_later : (old new : KernelState) → new.tree.online ≡ old.tree.online → (es : List Entry) → AllByRecursion (CanTakeEffect old) es → AllByRecursion (CanTakeEffect new) es
 effects_later old new same es h =
     all_map (CanTakeEffect old) (CanTakeEffect new) (λ e c. record { some = c.some; online = ap (λ s. set.is_subset e.target s) same ∙ c.online }) es h
+
+-- the same of the values that the program has
+module _ (n now : NodeState) (is : n ≡ now) (h : IsNode n) (weigh : RowsWeigh) (sets : List Ids) (plan : IsPlan (rows_of now) sets) (pool : Ids)
+    (pool_is : pool ≡ plan_pool n sets) (es : List Entry) (es_are : es ≡ entries_in n.kernel pool n.containers sets) where
+  plan_before : IsPlan (rows_of n) sets
+  plan_before = subst (λ (m : NodeState). IsPlan (rows_of m) sets) (sym is) plan
+
+  entries_are : es ≡ plan_entries n sets
+  entries_are = es_are ∙ ap (λ s. entries_in n.kernel s n.containers sets) pool_is
+
+  pub entries_placed : ArePlaced n.kernel es
+  entries_placed = subst (ArePlaced n.kernel) (sym entries_are) (plan_placed n h weigh sets plan_before)
+
+  pub entries_handed : (reserved : Ids) → reserved ≡ n.machine.reserved → IsHandover (record { entries = es; reserved = reserved })
+  entries_handed reserved same =
+      subst (λ (s : Ids). IsHandover (record { entries = es; reserved = s })) (sym same)
+      (subst (λ (xs : List Entry). IsHandover (record { entries = xs; reserved = n.machine.reserved })) (sym entries_are) (plan_handover n h weigh sets plan_before))
+
+pub opened_stands : (n now : NodeState) → n ≡ now → IsNode n → RowsWeigh → (sets : List Ids) → IsPlan (rows_of now) sets → (o : Ongoing) → o ≡ opened now sets
+    → IsOngoing now.kernel (owners_of now.containers) o
+opened_stands n now is h weigh sets plan o o_is =
+    let there : IsNode now = subst (λ (m : NodeState). IsNode m) is h in
+    subst (λ (x : Ongoing). IsOngoing now.kernel (owners_of now.containers) x) (sym o_is) (opened_ongoing now there weigh sets plan)

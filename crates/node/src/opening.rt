@@ -28,7 +28,7 @@ pub fn pool_of(online: &IdSet, sets: &[IdSet]) -> IdSet
     sets.iter().fold(*online, |pool, set| pool.minus(set))
 }
 
-/// The next of the sets, or none where no set is left.
+/// The next of the sets; the empty one where none is left.
 fn next_of(sets: &mut Iter<'_, IdSet>) -> IdSet
     ensures set { result ≡ slice_index_or (iter_rest sets.old) 0 set.empty }
     ensures rest { iter_rest sets.new ≡ drop 1 (iter_rest sets.old) }
