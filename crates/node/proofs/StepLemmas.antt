@@ -20,14 +20,16 @@ use Rattle.apply_plan.specs.DueWrite.{held, Steps, IsBetween}
 use Rattle.apply_plan.specs.Leaves.{KeepsRest}
 use Rattle.apply_plan.specs.Runs.{IsOpen}
 use Rattle.apply_plan.specs.OneStep.{StepLeaves, StepsLeave}
-use Rattle.node.specs.NodeState.{Ongoing, NodeState}
+use Rattle.node.specs.declared.phase.Phase.{Phase}
+use Rattle.node.specs.NodeState.{Ongoing, NodeState, is_underway}
 use Rattle.node.specs.Owners.{Owner, owners_of}
-use Rattle.node.specs.Ongoing.{AreOf, IsSince, IsOngoing}
+use Rattle.node.specs.Ongoing.{AreOf, IsSince, IsOngoing, Stands, IsBroken}
 use Rattle.node.specs.IsNode.{IsHome, IsShallow, IsPlaced, IsFirst, Holds, IsNode}
 use Rattle.node.proofs.ListLemmas.{all_of, all_map, all_map2, zip_map}
 use Rattle.node.proofs.HoldsLemmas.{same_owned}
 use Rattle.node.proofs.OngoingLemmas.{of_entries, entries_safe, owners_safe, same_of}
 use Rattle.node.proofs.LaunchLemmas.{Stays, child_differs, is_there}
+use Rattle.node.proofs.NodeLemmas.{kernel_node}
 
 -- what a group requests since the hand-over began, where a step leaves it between that and its target
 module _ (old new : KernelState) (reserved : Ids) (some : is_empty reserved ≡ false) (e : Entry) (found : Ids) (target : is_empty e.target ≡ false) where
@@ -135,3 +137,38 @@ module _ (parent : Group) (owners : List Owner) where
       ongoing = record { handover = g.handover; reserved = reserve; of = of; since = since };
       rest = rest;
     }
+
+-- a node whose hand-over is open
+module _ (law : StepsLeave) (n : NodeState) (h : IsNode n) (o : Ongoing) (was : n.ongoing ≡ Some o) where
+  abbrev Owners : List Owner
+  Owners = owners_of n.containers
+
+  stands : Stands n.kernel Owners (is_underway n.phase) (Some o)
+  stands = subst (Stands n.kernel Owners (is_underway n.phase)) was h.stands
+
+  pub open_now : IsOpen o.targets n.kernel
+  open_now = is_open n.parent Owners n.kernel h.holds o stands.1
+
+  module _ (new : KernelState) (r : Result Progress KernelFault) (s : Steps o.targets n.kernel r new) where
+    pub leaves : StepLeaves o.targets n.kernel r new
+    leaves = law o.targets n.kernel r new open_now s
+
+    pub moved_on : Moved n.parent Owners o n.kernel new
+    moved_on = moved n.parent Owners o n.kernel new h.holds stands.1 r leaves
+
+    -- a step after which more are to come, and one that ends the hand-over
+    pub more_node : IsNode (record n { kernel = new })
+    more_node = kernel_node n h new moved_on.stays (subst (Stands new Owners (is_underway n.phase)) (sym was) (stands.0, moved_on.ongoing))
+
+    pub ended_node : (phase : Phase) → is_underway phase ≡ false → IsNode (record n { kernel = new; phase = phase; ongoing = None })
+    ended_node phase settled = record {
+      machine = more_node.machine;
+      holds = more_node.holds;
+      few = more_node.few;
+      asked = more_node.asked;
+      stands = settled;
+      written = more_node.written;
+    }
+
+    pub broken : IsBroken o n.kernel new
+    broken = record { since = moved_on.ongoing.since; rest = moved_on.rest }
