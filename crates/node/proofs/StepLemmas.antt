@@ -16,7 +16,7 @@ use Rattle.apply_plan.specs.declared.Progress.TheVariants.{More, Done}
 use Rattle.apply_plan.specs.Holders.{IsSafe}
 use Rattle.apply_plan.specs.Kept.{kept}
 use Rattle.apply_plan.specs.KeptLemmas.{kept_target, kept_again}
-use Rattle.apply_plan.specs.Targets.{holders_of}
+use Rattle.apply_plan.specs.Targets.{Targets, holders_of}
 use Rattle.apply_plan.specs.Targets as plan
 use Rattle.apply_plan.specs.DueWrite.{Steps, writes_to_come, HaveTargets, IsBetween}
 use Rattle.apply_plan.specs.Leaves.{KeepsRest}
@@ -184,6 +184,30 @@ module _ (law : StepsLeave) (n : NodeState) (h : IsNode n) (o : Ongoing) (was : 
 
     pub broken : IsBroken o n.kernel new
     broken = record { since = moved_on.ongoing.since; rest = moved_on.rest }
+
+    -- the same of the node as the program keeps it
+    pub kept_open : (t : Targets) → t ≡ o.targets → IsNode (record n { kernel = new; ongoing = Some (record o { targets = t }) })
+    kept_open t same = subst (λ (x : Option Ongoing). IsNode (record n { kernel = new; ongoing = x })) (was ∙ ap (λ (x : Targets). Some (record o { targets = x })) (sym same)) more_node
+
+    pub closed : (phase : Phase) → is_underway phase ≡ false → (x : Option Ongoing) → x ≡ None → IsNode (record n { kernel = new; phase = phase; ongoing = x })
+    closed phase settled x none = subst (λ (y : Option Ongoing). IsNode (record n { kernel = new; phase = phase; ongoing = y })) (sym none) (ended_node phase settled)
+
+    module _ (now : NodeState) (is : n ≡ now) where
+      pub went_on : (t : Targets) → t ≡ o.targets → Stepped now r now.phase now.ongoing (record n { kernel = new; ongoing = Some (record o { targets = t }) })
+      went_on t same = subst (λ (m : NodeState). Stepped m r m.phase m.ongoing (record n { kernel = new; ongoing = Some (record o { targets = t }) })) is (record {
+        handover = o;
+        was = was;
+        steps = s;
+        is = ap (λ (x : Option Ongoing). record n { kernel = new; ongoing = x }) (ap (λ (x : Targets). Some (record o { targets = x })) same ∙ sym was);
+      })
+
+      pub came_to_end : (phase : Phase) (x : Option Ongoing) → x ≡ None → Stepped now r phase None (record n { kernel = new; phase = phase; ongoing = x })
+      came_to_end phase x none = subst (λ (m : NodeState). Stepped m r phase None (record n { kernel = new; phase = phase; ongoing = x })) is (record {
+        handover = o;
+        was = was;
+        steps = s;
+        is = ap (λ (y : Option Ongoing). record n { kernel = new; phase = phase; ongoing = y }) none;
+      })
 
 -- what is said of a step, by what it answers
 module _ (old : NodeState) (P : Result Progress NodeFault → NodeState → Type 0)
