@@ -1,5 +1,5 @@
 -- What the steps of a hand-over leave, once it ended.
-use Rattle.std.proofs.Common.{◌≡◌, ℕ, zero, suc, ◌+◌, false, Some, None, refl, sym, ap, ◌∙◌, subst, arith}
+use Rattle.std.proofs.Common.{◌≡◌, ℕ, zero, suc, ◌+◌, true, false, Some, None, refl, sym, ap, ◌∙◌, subst, arith}
 use Rattle.std.specs.Prelude.{Result, Ok, Err}
 use Rattle.cpuset_tree.specs.declared.Group.{Group}
 use Rattle.cpuset_tree.specs.TreeState.{GroupEntry, TreeState}
@@ -15,13 +15,15 @@ use Rattle.apply_plan.specs.Targets.{Targets}
 use Rattle.apply_plan.specs.DueWrite.{HaveTargets}
 use Rattle.apply_plan.specs.Leaves.{KeepsRest}
 use Rattle.apply_plan.specs.OneStep.{StepsLeave}
+use Rattle.node.specs.declared.fault.NodeFault.{NodeFault}
+use Rattle.node.specs.declared.fault.NodeFault.TheVariants.{Kernel}
 use Rattle.node.specs.declared.phase.Phase.{Phase}
 use Rattle.node.specs.declared.phase.Phase.TheVariants.{Settled, Unsettled}
 use Rattle.node.specs.NodeState.{Ongoing, NodeState, is_underway}
 use Rattle.node.specs.Owners.{owners_of}
 use Rattle.node.specs.Ongoing.{IsOngoing, IsBroken}
 use Rattle.node.specs.IsNode.{IsNode}
-use Rattle.node.specs.Rebalance.{Stepped, StepsOn, StepsMore, Ends, Finishes}
+use Rattle.node.specs.Rebalance.{Stepped, StepsOn, StepsMore, Finishes}
 use Rattle.node.proofs.StepLemmas.{its_steps, leaves, moved_on, more_node, ended_node}
 
 -- what a hand-over leaves that came to its end: a node in which each of its live containers has its target; and nothing
@@ -189,5 +191,24 @@ module _ (law : StepsLeave) (o : Ongoing) where
 
 -- one step more after others
 pub more_then : (count : ℕ) (old mid new : NodeState) → StepsMore count old mid → StepsOn mid (Ok More) new → StepsMore (suc count) old new
-more_then zero old mid new more s = (new, (subst (λ (n : NodeState). StepsOn n (Ok More) new) more s, refl))
-more_then (suc count) old mid new more s = (more.0, (more.1, more_then count more.0 mid new more.2 s))
+more_then zero old mid new more s = (new, subst (λ (n : NodeState). StepsOn n (Ok More) new) more s, refl)
+more_then (suc count) old mid new more s = (more.0, more.1, more_then count more.0 mid new more.2 s)
+
+-- the steps that were made, and one more, by what it answers
+module _ (first old new : NodeState) (made : (count : ℕ) × StepsMore count first old) where
+  one_more : StepsOn old (Ok More) new → (count : ℕ) × StepsMore count first new
+  one_more s = (suc made.0, more_then made.0 first old new made.1 s)
+
+  pub goes_on : (answer : Progress) → answer ≡ More → StepsOn old (Ok answer) new → (count : ℕ) × StepsMore count first new
+  goes_on answer is s = one_more (subst (λ (a : Progress). StepsOn old (Ok a) new) is s)
+
+  pub still_underway : (answer : Progress) → answer ≡ More → StepsOn old (Ok answer) new → is_underway old.phase ≡ true → is_underway new.phase ≡ true
+  still_underway answer is s underway =
+      let more : StepsOn old (Ok More) new = subst (λ (a : Progress). StepsOn old (Ok a) new) is s in
+      ap (λ (n : NodeState). is_underway n.phase) more.is ∙ underway
+
+  pub finishes : (answer : Progress) → answer ≡ Done → StepsOn old (Ok answer) new → Finishes first (Ok tt) new
+  finishes answer is s = record { steps = made.0; mid = old; more = made.1; ends = subst (λ (a : Progress). StepsOn old (Ok a) new) is s }
+
+  pub fails : (fault : KernelFault) (error : NodeFault) → error ≡ Kernel fault → StepsOn old (Err error) new → Finishes first (Err fault) new
+  fails fault error is s = record { steps = made.0; mid = old; more = made.1; ends = subst (λ (e : NodeFault). StepsOn old (Err e) new) is s }
