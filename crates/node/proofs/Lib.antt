@@ -13,3 +13,5 @@ pub mod CallLemmas
 pub mod CountLemmas
 pub mod LeaveLemmas
 pub mod MachineLemmas
+pub mod PlanLemmas
+pub mod AskingLemmas
