@@ -10,3 +10,4 @@ pub mod CallLemmas
 pub mod CountLemmas
 pub mod LeaveLemmas
 pub mod MachineLemmas
+pub mod PlanLemmas
