@@ -115,7 +115,7 @@ module _ (n now : NodeState) (is : n ≡ now) (id : List ℕ) where
 
         pub delete_node : IsNode n → IsNode (record n { kernel = new; containers = cs })
         delete_node h =
-            subst (λ (xs : Containers). IsNode (record n { kernel = new; containers = xs })) (sym out) (deleted_node n h new id c found stopped tt r)
+            subst (λ (xs : Containers). IsNode (record n { kernel = new; containers = xs })) (sym out) (deleted_node n h new settled id c found stopped tt r)
 
   -- `create`
   free_then : IsFree now id → IsFree n id
@@ -178,4 +178,4 @@ module _ (n now : NodeState) (is : n ≡ now) (id : List ℕ) where
 
       pub create_node : IsNode n → IsNode (record n { kernel = new; containers = cs })
       create_node h =
-          subst (λ (xs : Containers). IsNode (record n { kernel = new; containers = xs })) (sym added) (created_node n h new id bundle reads.0 asked group pid (free_then free) launched)
+          subst (λ (xs : Containers). IsNode (record n { kernel = new; containers = xs })) (sym added) (created_node n h new id bundle reads.0 asked group pid (free_then free) reads.2.fits launched)

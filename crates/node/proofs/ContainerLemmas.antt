@@ -19,6 +19,7 @@ use Rattle.node.specs.NodeState.{ContainerState}
 use Rattle.node.specs.Owners.{Owner, owner_of, owners_of}
 use Rattle.node.specs.IsNode.{HaveOtherIds, IsOwned}
 use Rattle.node.specs.Viewed.{seen, entry_seen, all_seen}
+use Rattle.node.proofs.ListLemmas.{all_of_map, of_all_map}
 
 -- the test of a stored key
 abbrev pub is_id : List ℕ → String Global → Bool
@@ -106,12 +107,26 @@ module _ (id : List ℕ) where
       (λ t. subst (λ y. P (owner_of (y, c))) (sym (same_id id x.0 t)) (subst (λ (y : ContainerState). P (owner_of (x.0, y))) (here x xs c t e) h.0))
       (λ t. found_owner P xs c (sym (later x xs t) ∙ e) h.1)
 
+  -- what holds of each container, started or not, holds of each once one is started
+  pub all_started : (P : List ℕ × ContainerState → Type 0) (xs : Entries) (c : ContainerState) → lookup (bytes_eq id) xs ≡ Some c
+      → ((key : List ℕ) → P (key, c) → P (key, record c { started = true })) → AllByRecursion P xs
+      → AllByRecursion P (set_value (bytes_eq id) xs (record c { started = true }))
+  all_started P [] c e start h = tt
+  all_started P (x ∷ xs) c e start h = split x
+      (λ t. subst (λ b. AllByRecursion P (cond b ((x.0, record c { started = true }) ∷ xs) (x ∷ set_value (bytes_eq id) xs (record c { started = true })))) (sym t)
+      (start x.0 (subst (λ (y : ContainerState). P (x.0, y)) (here x xs c t e) h.0), h.1))
+      (λ t. subst (λ b. AllByRecursion P (cond b ((x.0, record c { started = true }) ∷ xs) (x ∷ set_value (bytes_eq id) xs (record c { started = true })))) (sym t)
+      (h.0, all_started P xs c (sym (later x xs t) ∙ e) start h.1))
+
   -- what holds of each, and of each two, holds of those that are left once one is removed
+  pub each_left : (P : List ℕ × ContainerState → Type 0) (xs : Entries) → AllByRecursion P xs → AllByRecursion P (remove_entry (bytes_eq id) xs)
+  each_left P [] h = tt
+  each_left P (x ∷ xs) h = split x
+      (λ t. subst (AllByRecursion P) (sym (out_here x xs t)) h.1)
+      (λ t. subst (AllByRecursion P) (sym (out_later x xs t)) (h.0, each_left P xs h.1))
+
   pub all_left : (P : Owner → Type 0) (xs : Entries) → AllByRecursion P (owners_of xs) → AllByRecursion P (owners_of (remove_entry (bytes_eq id) xs))
-  all_left P [] h = tt
-  all_left P (x ∷ xs) h = split x
-      (λ t. subst (λ (ys : Entries). AllByRecursion P (owners_of ys)) (sym (out_here x xs t)) h.1)
-      (λ t. subst (λ (ys : Entries). AllByRecursion P (owners_of ys)) (sym (out_later x xs t)) (h.0, all_left P xs h.1))
+  all_left P xs h = all_of_map owner_of P (remove_entry (bytes_eq id) xs) (each_left (λ e. P (owner_of e)) xs (of_all_map owner_of P xs h))
 
   pub pairs_left : (R : Owner → Owner → Type 0) (xs : Entries) → Pairwise R (owners_of xs) → Pairwise R (owners_of (remove_entry (bytes_eq id) xs))
   pairs_left R [] h = tt

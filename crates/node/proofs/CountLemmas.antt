@@ -13,7 +13,7 @@ use Rattle.kernel_model.specs.KernelLemmas.{writes_count}
 use Rattle.faults.specs.declared.OrMemory.{OrMemory}
 use Rattle.faults.specs.declared.OrMemory.TheVariants.{Memory, Fault}
 use Rattle.node.specs.declared.fault.NodeFault.{NodeFault}
-use Rattle.node.specs.declared.fault.NodeFault.TheVariants.{Busy, BadId, IdInUse, TooManyContainers, NoContainer, NotCreated, NotRunnable, BadSignal, NotLive, NotStopped, Config, Demand, Kernel}
+use Rattle.node.specs.declared.fault.NodeFault.TheVariants.{Busy, BadId, IdInUse, TooManyContainers, NoContainer, NotCreated, NotRunnable, BadSignal, NotLive, NotStopped, NoHandover, NoAnswer, Config, Demand, Kernel}
 use Rattle.node.specs.NodeState.{NodeState}
 use Rattle.node.specs.Launch.{FindsOr, FindsOrMakes, AtOnce, WritesSets, StartsIn, Launches}
 use Rattle.node.specs.Calls.{Creates, Kills, Deletes}
@@ -104,6 +104,8 @@ create_counts old id bundle config (Err (Fault NotRunnable)) new h = kept_count 
 create_counts old id bundle config (Err (Fault BadSignal)) new h = kept_count old new h.1
 create_counts old id bundle config (Err (Fault NotLive)) new h = kept_count old new h.1
 create_counts old id bundle config (Err (Fault NotStopped)) new h = kept_count old new h.1
+create_counts old id bundle config (Err (Fault NoHandover)) new h = kept_count old new h.1
+create_counts old id bundle config (Err (Fault NoAnswer)) new h = kept_count old new h.1
 create_counts old id bundle config (Err (Fault (Config fault))) new h = kept_count old new h.1
 create_counts old id bundle config (Err (Fault (Demand fault))) new h = kept_count old new h.1
 
@@ -122,6 +124,8 @@ kill_counts old id signal (Err NotRunnable) new h = kept_count old new h.1
 kill_counts old id signal (Err BadSignal) new h = kept_count old new h.1
 kill_counts old id signal (Err NotLive) new h = kept_count old new h.1
 kill_counts old id signal (Err NotStopped) new h = kept_count old new h.1
+kill_counts old id signal (Err NoHandover) new h = kept_count old new h.1
+kill_counts old id signal (Err NoAnswer) new h = kept_count old new h.1
 kill_counts old id signal (Err (Config fault)) new h = kept_count old new h.1
 kill_counts old id signal (Err (Demand fault)) new h = kept_count old new h.1
 
@@ -140,5 +144,7 @@ delete_counts old id (Err NotRunnable) new h = kept_count old new h.1
 delete_counts old id (Err BadSignal) new h = kept_count old new h.1
 delete_counts old id (Err NotLive) new h = kept_count old new h.1
 delete_counts old id (Err NotStopped) new h = kept_count old new h.1
+delete_counts old id (Err NoHandover) new h = kept_count old new h.1
+delete_counts old id (Err NoAnswer) new h = kept_count old new h.1
 delete_counts old id (Err (Config fault)) new h = kept_count old new h.1
 delete_counts old id (Err (Demand fault)) new h = kept_count old new h.1

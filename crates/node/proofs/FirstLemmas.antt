@@ -2,6 +2,7 @@
 use Rattle.std.proofs.Common.{◌≡◌, inl, inr, ℕ, Bool, true, false, List, [], length, Option, Some, None, refl, sym, ap, ◌∙◌, subst, arith}
 use Rattle.std.proofs.lemmas.Option.{none-some}
 use Rattle.std.specs.Prelude.{is_some, Ok}
+use Rattle.std.specs.List.{AllByRecursion}
 use Rattle.cpu_set.specs.Ids.{Ids}
 use Rattle.cpuset_tree.specs.declared.Group.{Group}
 use Rattle.cpuset_tree.specs.TreeState.{GroupEntry}
@@ -21,7 +22,7 @@ use Rattle.machine.specs.Layout.{Layout}
 use Rattle.node.specs.declared.phase.Phase.TheVariants.{Settled}
 use Rattle.node.specs.NodeState.{ContainerState}
 use Rattle.node.specs.Owners.{owners_of}
-use Rattle.node.specs.IsNode.{IsOfMachine, Holds, IsNode}
+use Rattle.node.specs.IsNode.{IsOfMachine, Holds, IsAsked, IsNode}
 use Rattle.node.specs.Unused.{IsUnused}
 use Rattle.node.specs.Launch.{FindsOr, FindsOrMakes}
 use Rattle.node.proofs.LaunchLemmas.{Stays}
@@ -100,7 +101,7 @@ module _ (old new : KernelState) (unused : IsUnused old) (well : IsWellFormed ol
 
   pub first_node : (machine : Layout) → IsOfMachine old machine → (g : Group) (pool : Ids) (containers : List (List ℕ × ContainerState)) → containers ≡ []
       → FindsOrMakes old root name (Ok g) new
-      → IsNode (record { kernel = new; machine = machine; parent = g; containers = containers; pool = pool; phase = Settled })
+      → IsNode (record { kernel = new; machine = machine; parent = g; containers = containers; pool = pool; phase = Settled; ongoing = None; last = None })
   first_node machine fits g pool containers none f =
       let s = opened g f in
       let few : length containers ≡ 0 = ap length none in
@@ -108,4 +109,7 @@ module _ (old new : KernelState) (unused : IsUnused old) (well : IsWellFormed ol
         machine = record { present = s.machine.present ∙ fits.present; reserved = s.machine.reserved ∙ fits.reserved; nodes = s.machine.nodes ∙ fits.nodes };
         holds = subst (λ (cs : List (List ℕ × ContainerState)). Holds new g (owners_of cs)) (sym none) s.holds;
         few = omega (arith, few);
+        asked = subst (λ (cs : List (List ℕ × ContainerState)). AllByRecursion (IsAsked machine) cs) (sym none) tt;
+        stands = refl;
+        written = tt;
       }

@@ -109,10 +109,10 @@ some_of (Some p) e = (p, refl)
 some_of None e = absurd (false≢true e)
 
 -- what a call of the kernel leaves of one container
-record EachKept (old new : KernelState) (o : Owner) : Type 0 where
-  first : IsFirst new.table o.holder
-  requested : requested_cpus new.tree o.holder.group ≡ requested_cpus old.tree o.holder.group
-  dies : is_alive new.table o.holder.pid ≡ true → is_alive old.table o.holder.pid ≡ true
+pub record EachKept (old new : KernelState) (o : Owner) : Type 0 where
+  pub first : IsFirst new.table o.holder
+  pub requested : requested_cpus new.tree o.holder.group ≡ requested_cpus old.tree o.holder.group
+  pub dies : is_alive new.table o.holder.pid ≡ true → is_alive old.table o.holder.pid ≡ true
 
 module _ (old new : KernelState) (keeps : StepKeeps old new) where
   still_first : (h : Holder) → IsFirst old.table h → IsFirst new.table h
@@ -130,12 +130,15 @@ module _ (old new : KernelState) (keeps : StepKeeps old new) where
       let found = some_of (process_of new.table h.pid) live in
       ap is_some (keeps.pids.same h.pid found.0 f.given found.1)
 
+  pub each_kept : (parent : Group) (owners : List Owner) → Holds old parent owners → KeepsPlaces old.tree new.tree parent owners → AllByRecursion (EachKept old new) owners
+  each_kept parent owners h places =
+      all_map2 (λ o. IsFirst old.table o.holder) (λ o. requested_cpus new.tree o.holder.group ≡ requested_cpus old.tree o.holder.group) (EachKept old new)
+      (λ o f r. record { first = still_first o.holder f; requested = r; dies = dies o.holder f }) owners h.first places.requested
+
   -- what a call leaves that leaves the containers' groups, whatever processes it makes
   pub left : (parent : Group) (owners : List Owner) → Holds old parent owners → KeepsPlaces old.tree new.tree parent owners → IsLeft new parent owners
   left parent owners h places =
-      let each : AllByRecursion (EachKept old new) owners =
-      all_map2 (λ o. IsFirst old.table o.holder) (λ o. requested_cpus new.tree o.holder.group ≡ requested_cpus old.tree o.holder.group) (EachKept old new)
-      (λ o f r. record { first = still_first o.holder f; requested = r; dies = dies o.holder f }) owners h.first places.requested in
+      let each : AllByRecursion (EachKept old new) owners = each_kept parent owners h places in
       let safe : AreSafeOwners old old.reserved owners = of_safe old old.reserved owners h.safe in
       record {
         kernel = keeps.well_formed;

@@ -20,7 +20,7 @@ use Rattle.kernel_model.specs.KernelLemmas.{writes_leave_groups, writes_keep_pro
 use Rattle.faults.specs.declared.OrMemory.{OrMemory}
 use Rattle.faults.specs.declared.OrMemory.TheVariants.{Memory, Fault}
 use Rattle.node.specs.declared.fault.NodeFault.{NodeFault}
-use Rattle.node.specs.declared.fault.NodeFault.TheVariants.{Busy, BadId, IdInUse, TooManyContainers, NoContainer, NotCreated, NotRunnable, BadSignal, NotLive, NotStopped, Config, Demand, Kernel}
+use Rattle.node.specs.declared.fault.NodeFault.TheVariants.{Busy, BadId, IdInUse, TooManyContainers, NoContainer, NotCreated, NotRunnable, BadSignal, NotLive, NotStopped, NoHandover, NoAnswer, Config, Demand, Kernel}
 use Rattle.node.specs.NodeState.{NodeState}
 use Rattle.node.specs.Owners.{Owner, owners_of}
 use Rattle.node.specs.IsNode.{Holds, IsNode}
@@ -163,5 +163,7 @@ module _ (old : NodeState) (h : IsNode old) (id config : List ℕ) where
   create_leaves bundle (Err (Fault BadSignal)) new c = c.1
   create_leaves bundle (Err (Fault NotLive)) new c = c.1
   create_leaves bundle (Err (Fault NotStopped)) new c = c.1
+  create_leaves bundle (Err (Fault NoHandover)) new c = c.1
+  create_leaves bundle (Err (Fault NoAnswer)) new c = c.1
   create_leaves bundle (Err (Fault (Config fault))) new c = c.1
   create_leaves bundle (Err (Fault (Demand fault))) new c = c.1

@@ -1,6 +1,7 @@
 pub mod ListLemmas
 pub mod ContainerLemmas
 pub mod HoldsLemmas
+pub mod OngoingLemmas
 pub mod LaunchLemmas
 pub mod EventLemmas
 pub mod DeleteLemmas

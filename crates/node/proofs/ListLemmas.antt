@@ -14,6 +14,10 @@ module _ {X : Type 0} where
   all_map2 P R Q f [] h i = tt
   all_map2 P R Q f (x ∷ xs) h i = (f x h.0 i.0, all_map2 P R Q f xs h.1 i.1)
 
+  pub all_of : (P : X → Type 0) → ((x : X) → P x) → (xs : List X) → AllByRecursion P xs
+  all_of P f [] = tt
+  all_of P f (x ∷ xs) = (f x, all_of P f xs)
+
   -- of each two that R holds of, and that P holds of one by one, S holds
   pub pairs_map : (P : X → Type 0) (R S : X → X → Type 0) → ((x y : X) → P x → P y → R x y → S x y) → (xs : List X) → AllByRecursion P xs → Pairwise R xs
       → Pairwise S xs

@@ -7,7 +7,7 @@ use Rattle.kernel_model.specs.declared.KernelError.TheVariants as kernel
 use Rattle.faults.specs.declared.OrMemory.{OrMemory}
 use Rattle.faults.specs.declared.OrMemory.TheVariants.{Memory, Fault}
 use Rattle.node.specs.declared.fault.NodeFault.{NodeFault}
-use Rattle.node.specs.declared.fault.NodeFault.TheVariants.{Busy, BadId, IdInUse, TooManyContainers, NoContainer, NotCreated, NotRunnable, BadSignal, NotLive, NotStopped, Config, Demand, Kernel}
+use Rattle.node.specs.declared.fault.NodeFault.TheVariants.{Busy, BadId, IdInUse, TooManyContainers, NoContainer, NotCreated, NotRunnable, BadSignal, NotLive, NotStopped, NoHandover, NoAnswer, Config, Demand, Kernel}
 use Rattle.node.specs.NodeState.{NodeState}
 use Rattle.node.specs.IsNode.{IsNode}
 use Rattle.node.specs.Calls.{NotLaunched, Ended, Creates, Starts, Kills, Deletes}
@@ -39,6 +39,8 @@ module _ (old : NodeState) (h : IsNode old) (new : NodeState) where
   create_keeps id bundle config (Err (Fault BadSignal)) c = unchanged c.1
   create_keeps id bundle config (Err (Fault NotLive)) c = unchanged c.1
   create_keeps id bundle config (Err (Fault NotStopped)) c = unchanged c.1
+  create_keeps id bundle config (Err (Fault NoHandover)) c = unchanged c.1
+  create_keeps id bundle config (Err (Fault NoAnswer)) c = unchanged c.1
   create_keeps id bundle config (Err (Fault (Config fault))) c = unchanged c.1
   create_keeps id bundle config (Err (Fault (Demand fault))) c = unchanged c.1
 
@@ -62,11 +64,13 @@ module _ (old : NodeState) (h : IsNode old) (new : NodeState) where
   kill_keeps id signal (Err BadSignal) k = unchanged k.1
   kill_keeps id signal (Err NotLive) k = unchanged k.1
   kill_keeps id signal (Err NotStopped) k = unchanged k.1
+  kill_keeps id signal (Err NoHandover) k = unchanged k.1
+  kill_keeps id signal (Err NoAnswer) k = unchanged k.1
   kill_keeps id signal (Err (Config fault)) k = unchanged k.1
   kill_keeps id signal (Err (Demand fault)) k = unchanged k.1
 
   delete_keeps : (id : List ℕ) (r : Result (Unit {0}) NodeFault) → Deletes old id r new → IsNode new
-  delete_keeps id (Ok v) d = moved _ d.is (deleted_node old h new.kernel id d.container d.there d.stopped tt d.removed)
+  delete_keeps id (Ok v) d = moved _ d.is (deleted_node old h new.kernel d.settled id d.container d.there d.stopped tt d.removed)
   delete_keeps id (Err (Kernel fault)) d = moved (record old { kernel = new.kernel }) d.1.is (remove_refused_node old h new.kernel d.1.container.group fault d.1.removed)
   delete_keeps id (Err Busy) d = unchanged d.1
   delete_keeps id (Err BadId) d = unchanged d.1
@@ -78,6 +82,8 @@ module _ (old : NodeState) (h : IsNode old) (new : NodeState) where
   delete_keeps id (Err BadSignal) d = unchanged d.1
   delete_keeps id (Err NotLive) d = unchanged d.1
   delete_keeps id (Err NotStopped) d = unchanged d.1
+  delete_keeps id (Err NoHandover) d = unchanged d.1
+  delete_keeps id (Err NoAnswer) d = unchanged d.1
   delete_keeps id (Err (Config fault)) d = unchanged d.1
   delete_keeps id (Err (Demand fault)) d = unchanged d.1
 

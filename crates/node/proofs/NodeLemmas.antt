@@ -15,50 +15,65 @@ use Rattle.proctable.specs.Processes.{is_alive}
 use Rattle.machine.specs.Layout.{Layout}
 use Rattle.config_json.specs.declared.Config.{Config as Said}
 use Rattle.demand.specs.declared.Demand.{Demand as Asked}
+use Rattle.demand.specs.FitsMachine.{FitsMachine}
 use Rattle.node.specs.declared.TheConstants.{CONTAINER_LIMIT}
-use Rattle.node.specs.NodeState.{ContainerState, NodeState, container_of}
+use Rattle.node.specs.NodeState.{ContainerState, NodeState, container_of, is_underway}
 use Rattle.node.specs.Owners.{owner_of, owners_of}
-use Rattle.node.specs.IsNode.{IsOfMachine, Holds, IsNode}
+use Rattle.node.specs.Ongoing.{Stands}
+use Rattle.node.specs.IsNode.{IsOfMachine, Holds, IsAsked, IsNode}
 use Rattle.node.specs.Refusals.{IsFree}
 use Rattle.node.specs.Launch.{Launches}
 use Rattle.node.specs.Calls.{new_container}
 use Rattle.node.specs.Owners.{is_pinned}
-use Rattle.node.proofs.ContainerLemmas.{other_ids, owners_started}
+use Rattle.node.proofs.ListLemmas.{all_push}
+use Rattle.node.proofs.ContainerLemmas.{other_ids, owners_started, all_started, each_left}
+use Rattle.node.proofs.OngoingLemmas.{still_stands, none_stands}
 use Rattle.node.proofs.LaunchLemmas.{Stays, launched, not_launched}
-use Rattle.node.proofs.EventLemmas.{fork_stays, exit_stays, offline_stays, online_stays, end_stays, remove_refused}
+use Rattle.node.proofs.EventLemmas.{Passes, fork_passes, exit_passes, offline_passes, online_passes, end_passes, remove_refused}
 use Rattle.node.proofs.DeleteLemmas.{deleted_stays}
 
 still_of_machine : (old new : KernelState) (m : Layout) → IsOfMachine old m → KeepsMachine old new → IsOfMachine new m
 still_of_machine old new m h k = record { present = k.present ∙ h.present; reserved = k.reserved ∙ h.reserved; nodes = k.nodes ∙ h.nodes }
 
 module _ (n : NodeState) (h : IsNode n) (new : KernelState) where
-  -- a call that leaves the containers
-  pub kernel_node : Stays n.kernel new n.parent (owners_of n.containers) → IsNode (record n { kernel = new })
-  kernel_node s = record { machine = still_of_machine n.kernel new n.machine h.machine s.machine; holds = s.holds; few = h.few }
+  -- a call that leaves the containers, and a hand-over that is open
+  pub kernel_node : Stays n.kernel new n.parent (owners_of n.containers) → Stands new (owners_of n.containers) (is_underway n.phase) n.ongoing
+      → IsNode (record n { kernel = new })
+  kernel_node s stands = record {
+    machine = still_of_machine n.kernel new n.machine h.machine s.machine;
+    holds = s.holds;
+    few = h.few;
+    asked = h.asked;
+    stands = stands;
+    written = h.written;
+  }
+
+  passed : Passes n.kernel new n.parent (owners_of n.containers) → IsNode (record n { kernel = new })
+  passed p = kernel_node p.stays (still_stands n.kernel new (owners_of n.containers) p.stays.machine.reserved p.each (is_underway n.phase) n.ongoing h.stands)
 
   pub fork_node : (pid : ℕ) (r : Result ℕ KernelError) → Forks n.kernel pid r new → IsNode (record n { kernel = new })
-  fork_node pid r f = kernel_node (fork_stays n.parent (owners_of n.containers) n.kernel new h.holds pid r f)
+  fork_node pid r f = passed (fork_passes n.parent (owners_of n.containers) n.kernel new h.holds pid r f)
 
   pub exit_node : (pid : ℕ) (r : Result (Unit {0}) KernelFault) → Exits n.kernel pid r new → IsNode (record n { kernel = new })
-  exit_node pid r f = kernel_node (exit_stays n.parent (owners_of n.containers) n.kernel new h.holds pid r f)
+  exit_node pid r f = passed (exit_passes n.parent (owners_of n.containers) n.kernel new h.holds pid r f)
 
   pub offline_node : (cpu : ℕ) (r : Result (Unit {0}) KernelFault) → GoesOffline n.kernel cpu r new → IsNode (record n { kernel = new })
-  offline_node cpu r f = kernel_node (offline_stays n.parent (owners_of n.containers) n.kernel new h.holds cpu r f)
+  offline_node cpu r f = passed (offline_passes n.parent (owners_of n.containers) n.kernel new h.holds cpu r f)
 
   pub online_node : (cpu : ℕ) (r : Result (Unit {0}) KernelFault) → ComesOnline n.kernel cpu r new → IsNode (record n { kernel = new })
-  online_node cpu r f = kernel_node (online_stays n.parent (owners_of n.containers) n.kernel new h.holds cpu r f)
+  online_node cpu r f = passed (online_passes n.parent (owners_of n.containers) n.kernel new h.holds cpu r f)
 
   pub end_node : (g : Group) (r : Result (Unit {0}) KernelFault) → EndsGroup n.kernel g r new → IsNode (record n { kernel = new })
-  end_node g r f = kernel_node (end_stays n.parent (owners_of n.containers) n.kernel new h.holds g r f)
+  end_node g r f = passed (end_passes n.parent (owners_of n.containers) n.kernel new h.holds g r f)
 
   pub remove_refused_node : (g : Group) (e : KernelFault) → RemovesGroup n.kernel g (Err e) new → IsNode (record n { kernel = new })
-  remove_refused_node g e r = kernel_node (remove_refused n.parent (owners_of n.containers) n.kernel new h.holds g e r)
+  remove_refused_node g e r = passed (remove_refused n.parent (owners_of n.containers) n.kernel new h.holds g e r)
 
   -- `create`, and one that the kernel refused
-  pub created_node : (id bundle : List ℕ) (said : Said) (asked : Asked) (g : Group) (pid : ℕ) → IsFree n id
+  pub created_node : (id bundle : List ℕ) (said : Said) (asked : Asked) (g : Group) (pid : ℕ) → IsFree n id → FitsMachine n.machine asked
       → Launches n.kernel n.parent id n.machine.reserved asked.homes (Ok (g, pid)) new
       → IsNode (record n { kernel = new; containers = n.containers ++ (id, new_container bundle said asked g pid) ∷ [] })
-  created_node id bundle said asked g pid free l =
+  created_node id bundle said asked g pid free fits l =
       let s = launched n.parent id (owners_of n.containers) (other_ids id n.containers free.new) (is_pinned asked.kind) n.machine.reserved asked.homes g pid n.kernel new h.holds
       (sym h.machine.reserved) l in
       let same : owners_of (n.containers ++ (id, new_container bundle said asked g pid) ∷ []) ≡ owners_of n.containers ++ owner_of (id, new_container bundle said asked g pid) ∷ [] =
@@ -69,12 +84,17 @@ module _ (n : NodeState) (h : IsNode n) (new : KernelState) where
         machine = still_of_machine n.kernel new n.machine h.machine s.machine;
         holds = subst (λ os. Holds new n.parent os) (sym same) s.holds;
         few = omega (arith, room, more);
+        asked = all_push (IsAsked n.machine) n.containers (id, new_container bundle said asked g pid) h.asked (record { id = free.valid; fits = fits });
+        stands = none_stands n.kernel (owners_of n.containers) (is_underway n.phase) free.settled n.ongoing h.stands new
+            (owners_of (n.containers ++ (id, new_container bundle said asked g pid) ∷ []));
+        written = h.written;
       }
 
   pub not_created_node : (id : List ℕ) (asked : Asked) (e : KernelError) → IsFree n id
       → Launches n.kernel n.parent id n.machine.reserved asked.homes (Err e) new → IsNode (record n { kernel = new })
   not_created_node id asked e free l =
       kernel_node (not_launched n.parent id (owners_of n.containers) (other_ids id n.containers free.new) false n.machine.reserved asked.homes e n.kernel new h.holds l)
+      (none_stands n.kernel (owners_of n.containers) (is_underway n.phase) free.settled n.ongoing h.stands new (owners_of n.containers))
 
   length_left : (id : List ℕ) (xs : List (List ℕ × ContainerState)) → length (remove_entry (bytes_eq id) xs) ≤ length xs
   length_left id [] = omega arith
@@ -83,13 +103,20 @@ module _ (n : NodeState) (h : IsNode n) (new : KernelState) where
       elim (bytes_eq id x.0) as (λ b. length (cond b xs (x ∷ remove_entry (bytes_eq id) xs)) ≤ length (x ∷ xs)) [ true ↦ omega arith | false ↦ omega (arith, rest) ]
 
   -- `delete`
-  pub deleted_node : (id : List ℕ) (c : ContainerState) → container_of n id ≡ Some c → is_alive n.kernel.table c.pid ≡ false → (v : Unit {0}) → RemovesGroup n.kernel c.group (Ok v) new
+  pub deleted_node : is_underway n.phase ≡ false → (id : List ℕ) (c : ContainerState) → container_of n id ≡ Some c → is_alive n.kernel.table c.pid ≡ false → (v : Unit {0}) → RemovesGroup n.kernel c.group (Ok v) new
       → IsNode (record n { kernel = new; containers = remove_entry (bytes_eq id) n.containers })
-  deleted_node id c found stopped v r =
+  deleted_node settled id c found stopped v r =
       let s = deleted_stays n.parent id n.containers c found n.kernel h.holds stopped new v r in
       let few : length n.containers ≤ CONTAINER_LIMIT = h.few in
       let less : length (remove_entry (bytes_eq id) n.containers) ≤ length n.containers = length_left id n.containers in
-      record { machine = still_of_machine n.kernel new n.machine h.machine s.machine; holds = s.holds; few = omega (arith, few, less) }
+      record {
+        machine = still_of_machine n.kernel new n.machine h.machine s.machine;
+        holds = s.holds;
+        few = omega (arith, few, less);
+        asked = each_left id (IsAsked n.machine) n.containers h.asked;
+        stands = none_stands n.kernel (owners_of n.containers) (is_underway n.phase) settled n.ongoing h.stands new (owners_of (remove_entry (bytes_eq id) n.containers));
+        written = h.written;
+      }
 
 -- `start`
 pub started_node : (n : NodeState) → IsNode n → (id : List ℕ) (c : ContainerState) → container_of n id ≡ Some c
@@ -100,4 +127,7 @@ started_node n h id c found =
       machine = h.machine;
       holds = subst (λ os. Holds n.kernel n.parent os) (sym (owners_started id n.containers c found)) h.holds;
       few = omega (arith, few, length-set_value (bytes_eq id) n.containers (record c { started = true }));
+      asked = all_started id (IsAsked n.machine) n.containers c found (λ key a. record { id = a.id; fits = a.fits }) h.asked;
+      stands = subst (λ os. Stands n.kernel os (is_underway n.phase) n.ongoing) (sym (owners_started id n.containers c found)) h.stands;
+      written = h.written;
     }

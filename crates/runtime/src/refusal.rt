@@ -19,7 +19,7 @@ use std::io::Write;
 pub enum Refusal {
     /// E1: there was no memory.
     Memory,
-    /// E40 to E67 and E90 to E99: the node or the kernel refuses the call, or a write of the kernel failed in it.
+    /// E40 to E67 and E90 to E101: the node or the kernel refuses the call, or a write of the kernel failed in it.
     Node(NodeFault),
     /// E110: it can't be carried out yet.
     BadLine,
@@ -225,6 +225,8 @@ fn node_title(fault: NodeFault) -> &'static str
         NodeFault::BadSignal => "E97 BadSignal",
         NodeFault::NotLive => "E98 NotLive",
         NodeFault::NotStopped => "E99 NotStopped",
+        NodeFault::NoHandover => "E100 NoHandover",
+        NodeFault::NoAnswer => "E101 NoAnswer",
         NodeFault::Config(fault) => config_title(fault),
         NodeFault::Demand(fault) => demand_title(fault),
         NodeFault::Kernel(fault) => kernel_title(fault),
