@@ -7,6 +7,8 @@ pub mod EventLemmas
 pub mod DeleteLemmas
 pub mod FirstLemmas
 pub mod NodeLemmas
+pub mod StepLemmas
+pub mod FinishLemmas
 pub mod CallLemmas
 pub mod CountLemmas
 pub mod LeaveLemmas

@@ -16,7 +16,9 @@ mod outcome;
 mod phase;
 mod reads;
 mod state;
+mod stepping;
 
+pub use apply_plan::Progress;
 pub use container::Status;
 pub use fault::NodeFault;
 pub use list::Listing;
