@@ -26,7 +26,7 @@ module _ (old : NodeState) (h : IsNode old) (new : NodeState) where
   not_launched id config e n = moved (record old { kernel = new.kernel }) n.is (not_created_node old h new.kernel id n.asked e n.free n.refused)
 
   create_keeps : (id bundle config : List ℕ) (r : Result ℕ (OrMemory NodeFault)) → Creates old id bundle config r new → IsNode new
-  create_keeps id bundle config (Ok pid) c = moved _ c.is (created_node old h new.kernel id bundle c.said c.asked c.group pid c.free c.launched)
+  create_keeps id bundle config (Ok pid) c = moved _ c.is (created_node old h new.kernel id bundle c.said c.asked c.group pid c.free c.says.fits c.launched)
   create_keeps id bundle config (Err Memory) c = elim c [ inl n ↦ not_launched id config kernel.Memory n | inr e ↦ unchanged e.1 ]
   create_keeps id bundle config (Err (Fault (Kernel fault))) c = not_launched id config (kernel.Fault fault) c
   create_keeps id bundle config (Err (Fault Busy)) c = unchanged c.1
