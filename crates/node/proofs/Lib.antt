@@ -14,3 +14,4 @@ pub mod CountLemmas
 pub mod LeaveLemmas
 pub mod MachineLemmas
 pub mod PlanLemmas
+pub mod HeadlineLemmas
