@@ -15,3 +15,4 @@ pub mod LeaveLemmas
 pub mod MachineLemmas
 pub mod PlanLemmas
 pub mod HeadlineLemmas
+pub mod AskingLemmas

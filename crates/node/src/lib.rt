@@ -1,6 +1,7 @@
 //! Containers on one machine: their lifecycle (OCI Runtime Specification 1.0.2, runtime.md) over a kernel that pins them.
 #![tactic(auto)]
 
+mod asking;
 mod container;
 mod create;
 mod entries;
