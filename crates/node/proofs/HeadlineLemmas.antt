@@ -40,6 +40,7 @@ use Rattle.node.specs.Entries.{Target, entry_of, plan_pool, plan_targets, plan_e
 use Rattle.node.specs.Rebalance.{Begun, Lacks, Begins, Moves, Finishes, Rebalances}
 use Rattle.node.specs.Headline.{effective, HasItsCpus, IsServed, AreAlone, is_asking, effective_sets, IsRebalanced, IsShort, Headline}
 use Rattle.node.proofs.ListLemmas.{all_map, all_map2, pairs_map, all_of_map, of_all_map}
+use Rattle.node.proofs.AskingLemmas.{short_stands}
 use Rattle.node.proofs.FinishLemmas.{Settles, Breaks, settles, breaks}
 use Rattle.node.proofs.PlanLemmas.{IsDealt, over_targets, plan_serves, plan_parts, plan_effects, opened_ongoing, effects_later}
 
@@ -278,8 +279,7 @@ module _ (old : NodeState) (h : IsNode old) (weigh : RowsWeigh) where
           settled old h weigh effects b.sets b.decides.least.plan (Some (certificate.Plan (rows_of old) b.sets b.prices total)) new (moved_settles total new m) total
           b.decides.least b.decides.proved.costs
 
-      module _ (short_stands : (wanted : ℕ) (allowed : Ids) (new : NodeState) → Lacks old wanted allowed new → IsShort old wanted allowed new) where
-        pub headline : (r : Result Outcome (OrMemory NodeFault)) (new : NodeState) → Rebalances old r new → Headline old r new
-        headline (Ok (Plan total)) new m = rebalanced total new m
-        headline (Ok (Short wanted allowed)) new l = short_stands wanted allowed new l
-        headline (Err error) new e = tt
+      pub headline : (r : Result Outcome (OrMemory NodeFault)) (new : NodeState) → Rebalances old r new → Headline old r new
+      headline (Ok (Plan total)) new m = rebalanced total new m
+      headline (Ok (Short wanted allowed)) new l = short_stands old h weigh wanted allowed new l.need.in_range l
+      headline (Err error) new e = tt
