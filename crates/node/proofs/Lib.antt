@@ -15,3 +15,7 @@ pub mod LeaveLemmas
 pub mod MachineLemmas
 pub mod PlanLemmas
 pub mod AskingLemmas
+pub mod PlanLemmas
+pub mod AskingLemmas
+pub mod HeadlineLemmas
+pub mod MachineLemmas

@@ -1,5 +1,5 @@
-use Rattle.node.proofs.MachineLemmas.{runs_keep}
+use Rattle.node.proofs.MachineLemmas.{runs_keep, runs_stay_safe}
 use Rattle.node.proofs.laws.runs.Goals as goal
 
 pub returns : goal.returns
-returns c = runs_keep
+returns c = record { keep = runs_keep c.rows_weigh.ensures c.steps.ensures; safe = runs_stay_safe c.rows_weigh.ensures c.steps.ensures }
