@@ -1,5 +1,5 @@
 -- What a rebalance leaves: the headline.
-use Rattle.std.proofs.Common.{◌≡◌, ℕ, true, false, cond, ◌||◌, List, [], ◌∷◌, Option, Some, refl, sym, ap, ◌∙◌, subst}
+use Rattle.std.proofs.Common.{◌≡◌, ℕ, ◌+◌, true, false, cond, ◌||◌, List, [], ◌∷◌, Option, Some, refl, sym, ap, ◌∙◌, subst, arith}
 use Rattle.std.proofs.lemmas.Bool.{false≢true, and_from, and_left, and_right}
 use Rattle.std.proofs.lemmas.List.Elements.{recursion_from_All}
 use Rattle.std.specs.Prelude.{Result, Ok, Err}
@@ -38,7 +38,8 @@ use Rattle.node.specs.IsNode.{IsHome, IsPlaced, IsNode}
 use Rattle.node.specs.Rows.{rows_of}
 use Rattle.node.specs.Entries.{Target, entry_of, plan_pool, plan_targets, plan_entries, opened}
 use Rattle.node.specs.Rebalance.{Begun, Lacks, Begins, Moves, Finishes, Rebalances}
-use Rattle.node.specs.Headline.{effective, HasItsCpus, IsServed, AreAlone, is_asking, effective_sets, IsRebalanced, IsShort, Headline}
+use Rattle.node.specs.Leaves.{fault_rise, rise_or_memory}
+use Rattle.node.specs.Headline.{effective, HasItsCpus, IsServed, AreAlone, is_asking, effective_sets, IsRebalanced, IsShort, IsBrokenOff, Headline}
 use Rattle.node.proofs.ListLemmas.{all_map, all_map2, pairs_map, all_of_map, of_all_map}
 use Rattle.node.proofs.AskingLemmas.{short_stands}
 use Rattle.node.proofs.FinishLemmas.{Settles, Breaks, settles, breaks}
@@ -272,6 +273,22 @@ module _ (old : NodeState) (h : IsNode old) (weigh : RowsWeigh) where
     rebalances_node (Err (Fault Busy)) new e = begins_node (Err (Fault Busy)) new e
     rebalances_node (Err (Fault fault)) new e = absurd e
 
+    pub broken_off : (total : ℕ) (fault : KernelFault) (new : NodeState) → Moves old total (Err fault) new → IsBrokenOff old new
+    broken_off total fault new m =
+        let left = moved_breaks total fault new m in
+        record { sets = m.begun.sets; least = m.begun.decides.least; broken = left.broken; phase = left.phase; same = left.containers }
+
+    -- a failure is counted, and nothing else is
+    pub rebalance_counts : (r : Result Outcome (OrMemory NodeFault)) (new : NodeState) → Rebalances old r new → new.kernel.failures ≡ old.kernel.failures + rise_or_memory r
+    rebalance_counts (Ok (Plan total)) new m = let same : new.kernel.failures ≡ old.kernel.failures = (moved_settles total new m).failures in omega (arith, same)
+    rebalance_counts (Ok (Short wanted allowed)) new l = let same : new.kernel.failures ≡ old.kernel.failures = ap (λ (n : NodeState). n.kernel.failures) l.is in omega (arith, same)
+    rebalance_counts (Err Memory) new e = let same : new.kernel.failures ≡ old.kernel.failures = ap (λ (n : NodeState). n.kernel.failures) e.1 in omega (arith, same)
+    rebalance_counts (Err (Fault (Kernel fault))) new m =
+        let left = moved_breaks m.0 fault new m.1 in
+        left.failures ∙ ap (λ f. old.kernel.failures + fault_rise (Kernel f)) (sym left.failed)
+    rebalance_counts (Err (Fault Busy)) new e = let same : new.kernel.failures ≡ old.kernel.failures = ap (λ (n : NodeState). n.kernel.failures) e.1 in omega (arith, same)
+    rebalance_counts (Err (Fault fault)) new e = absurd e
+
     module _ (effects : TargetsTakeEffect) where
       pub rebalanced : (total : ℕ) (new : NodeState) → Moves old total (Ok tt) new → IsRebalanced old total new
       rebalanced total new m =
@@ -282,4 +299,7 @@ module _ (old : NodeState) (h : IsNode old) (weigh : RowsWeigh) where
       pub headline : (r : Result Outcome (OrMemory NodeFault)) (new : NodeState) → Rebalances old r new → Headline old r new
       headline (Ok (Plan total)) new m = rebalanced total new m
       headline (Ok (Short wanted allowed)) new l = short_stands old h weigh wanted allowed new l
-      headline (Err error) new e = tt
+      headline (Err Memory) new e = e.1
+      headline (Err (Fault (Kernel fault))) new m = broken_off m.0 fault new m.1
+      headline (Err (Fault Busy)) new e = e.1
+      headline (Err (Fault fault)) new e = absurd e

@@ -10,17 +10,22 @@ use Rattle.certificate.specs.IsShortage.{HasNoPlan}
 use Rattle.certificate.specs.Cost.{cost}
 use Rattle.certificate_text.specs.declared.certificates.Certificate.TheVariants as certificate
 use Rattle.faults.specs.declared.OrMemory.{OrMemory}
+use Rattle.faults.specs.declared.OrMemory.TheVariants.{Memory, Fault}
 use Rattle.apply_plan.specs.Holders.{Pairwise}
 use Rattle.demand.specs.declared.Kind.{Kind}
 use Rattle.demand.specs.declared.Kind.TheVariants.{Pinned, Shared}
 use Rattle.demand.specs.declared.Demand.{Demand}
 use Rattle.node.specs.declared.fault.NodeFault.{NodeFault}
+use Rattle.node.specs.declared.fault.NodeFault.TheVariants.{Kernel}
+use Rattle.node.specs.declared.phase.Phase.TheVariants.{Unsettled}
 use Rattle.node.specs.declared.outcome.Outcome.{Outcome}
 use Rattle.node.specs.declared.outcome.Outcome.TheVariants.{Plan, Short}
 use Rattle.node.specs.NodeState.{ContainerState, NodeState}
 use Rattle.node.specs.Owners.{is_pinned}
 use Rattle.node.specs.Status.{is_live}
 use Rattle.node.specs.Rows.{rows_of}
+use Rattle.node.specs.Entries.{opened}
+use Rattle.node.specs.Ongoing.{IsBroken}
 
 -- the CPUs that a container has in effect
 abbrev pub effective : KernelState → List ℕ × ContainerState → Ids
@@ -82,8 +87,19 @@ pub record IsShort (old : NodeState) (wanted : ℕ) (allowed : Ids) (new : NodeS
   pub none : HasNoPlan (rows_of old)
   pub same : new ≡ record old { last = new.last }
 
+-- after a write that failed: the hand-over to a least plan is over; each of its containers requests what it did before, or
+-- what it keeps of that, or what the plan gives it; and nothing else changed in the kernel but its count of failures
+pub record IsBrokenOff (old new : NodeState) : Type 0 where
+  pub sets : List Ids
+  pub least : IsLeast (rows_of old) sets
+  pub broken : IsBroken (opened old sets) old.kernel new.kernel
+  pub phase : new.phase ≡ Unsettled
+  pub same : new.containers ≡ old.containers
+
 -- what stands after a rebalance that answers this
 abbrev pub Headline : NodeState → Result Outcome (OrMemory NodeFault) → NodeState → Type 0
 Headline old (Ok (Plan total)) new = IsRebalanced old total new
 Headline old (Ok (Short wanted allowed)) new = IsShort old wanted allowed new
-Headline old (Err error) new = Unit {0}
+Headline old (Err Memory) new = new ≡ old
+Headline old (Err (Fault (Kernel fault))) new = IsBrokenOff old new
+Headline old (Err (Fault fault)) new = new ≡ old

@@ -15,12 +15,14 @@ ghost use Rattle.node.specs.Rebalance.{Begins, Rebalances, WorksOut, IsNeed, Sho
 
 use crate::ongoing::Ongoing;
 use crate::{Node, NodeFault, Outcome, Phase};
+use apply_plan::laws::{effects, steps};
 use certificate::{Problem, check_shortage, offered_to};
 use certificate_text::Certificate;
 use cpu_set::IdSet;
 use decision::decide;
 use faults::OrMemory;
 use kernel_model::Kernel;
+use rows::rows_weigh;
 use std::alloc::AllocError;
 
 /// How many CPUs the members of a shortage ask for together, and those that one of them may get.
@@ -95,6 +97,22 @@ impl<K: Kernel + Drop> Node<K> {
         }
     }
 
+    /// Works out a plan and makes all writes of its hand-over.
+    fn move_all(&mut self) -> Result<Outcome, OrMemory<NodeFault>>
+        ensures { Rebalances self.old result self.new }
+    {
+        let outcome = match self.begin() {
+            Ok(outcome) => outcome,
+            Err(error) => return Err(error),
+        };
+        if let Outcome::Plan(_) = outcome {
+            if let Err(fault) = self.finish() {
+                return Err(OrMemory::Fault(NodeFault::Kernel(fault)));
+            }
+        }
+        Ok(outcome)
+    }
+
     /// Works out a plan of the live containers and moves them onto it, so that each one that asks for CPUs of its own has
     /// as many as it asks for, all allowed, online and in nobody else's set, at a total distance to the home nodes that no
     /// plan undercuts; the others share the pool. Where there is no plan, a shortage names containers that together ask
@@ -110,13 +128,11 @@ impl<K: Kernel + Drop> Node<K> {
         ensures rebalances { Rebalances self.old result self.new }
         ensures counted { self.new.kernel.failures ≡ self.old.kernel.failures + rise_or_memory result }
     {
-        let outcome = self.begin()?;
-        if let Outcome::Plan(_) = outcome {
-            if let Err(fault) = self.finish() {
-                return Err(OrMemory::Fault(NodeFault::Kernel(fault)));
-            }
-        }
-        Ok(outcome)
+        rows_weigh();
+        steps();
+        effects();
+        self.holds();
+        self.move_all()
     }
 
     /// The certificate of the last plan or shortage that was worked out.

@@ -1,0 +1,11 @@
+use Rattle.node.proofs.HeadlineLemmas.{headline, rebalance_counts}
+use Rattle.node.proofs.node.Node.rebalance.Goals as goal
+
+pub returns : goal.returns
+returns g c =
+    let done = c.move_all.ensures in
+    record {
+      headline = headline c.args.self.now c.holds.ensures c.rows_weigh.ensures c.steps.ensures c.effects.ensures.targets c.move_all.result c.move_all.new.self done;
+      rebalances = done;
+      counted = rebalance_counts c.args.self.now c.holds.ensures c.rows_weigh.ensures c.steps.ensures c.move_all.result c.move_all.new.self done;
+    }
