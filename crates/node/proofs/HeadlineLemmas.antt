@@ -25,13 +25,13 @@ use Rattle.faults.specs.declared.OrMemory.TheVariants.{Memory, Fault}
 use Rattle.kernel_model.specs.declared.KernelFault.{KernelFault}
 use Rattle.apply_plan.specs.Holders.{Pairwise}
 use Rattle.apply_plan.specs.OneStep.{StepsLeave}
-use Rattle.apply_plan.specs.Effects.{HasFreeParent, CanTakeEffect, TargetsTakeEffect}
+use Rattle.apply_plan.specs.Effects.{HasFreeParent, TargetsTakeEffect}
 use Rattle.node.specs.declared.fault.NodeFault.{NodeFault}
 use Rattle.node.specs.declared.fault.NodeFault.TheVariants.{Busy, Kernel}
 use Rattle.node.specs.declared.outcome.Outcome.{Outcome}
 use Rattle.node.specs.declared.outcome.Outcome.TheVariants.{Plan, Short}
-use Rattle.node.specs.declared.phase.Phase.TheVariants.{Settled, Underway}
-use Rattle.node.specs.NodeState.{ContainerState, Ongoing, NodeState}
+use Rattle.node.specs.declared.phase.Phase.TheVariants.{Underway}
+use Rattle.node.specs.NodeState.{ContainerState, NodeState}
 use Rattle.node.specs.Owners.{Owner, is_pinned, owner_of, owners_of}
 use Rattle.node.specs.Status.{is_live}
 use Rattle.node.specs.IsNode.{IsHome, IsPlaced, IsNode}
@@ -39,7 +39,7 @@ use Rattle.node.specs.Rows.{rows_of}
 use Rattle.node.specs.Entries.{Target, entry_of, plan_pool, plan_targets, plan_entries, opened}
 use Rattle.node.specs.Rebalance.{Begun, Lacks, Begins, Moves, Finishes, Rebalances}
 use Rattle.node.specs.Leaves.{fault_rise, rise_or_memory}
-use Rattle.node.specs.Headline.{effective, HasItsCpus, IsServed, AreAlone, is_asking, effective_sets, IsRebalanced, IsShort, IsBrokenOff, Headline}
+use Rattle.node.specs.Headline.{effective, HasItsCpus, IsServed, AreAlone, is_asking, effective_sets, IsRebalanced, IsBrokenOff, Headline}
 use Rattle.node.proofs.ListLemmas.{all_map, all_map2, pairs_map, all_of_map, of_all_map}
 use Rattle.node.proofs.AskingLemmas.{short_stands}
 use Rattle.node.proofs.FinishLemmas.{Settles, Breaks, settles, breaks}

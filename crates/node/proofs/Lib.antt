@@ -15,5 +15,4 @@ pub mod LeaveLemmas
 pub mod PlanLemmas
 pub mod AskingLemmas
 pub mod HeadlineLemmas
-pub mod PlanningLemmas
 pub mod MachineLemmas
