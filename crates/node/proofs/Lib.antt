@@ -15,4 +15,5 @@ pub mod LeaveLemmas
 pub mod PlanLemmas
 pub mod AskingLemmas
 pub mod HeadlineLemmas
+pub mod RebalanceLemmas
 pub mod MachineLemmas

@@ -101,14 +101,16 @@ impl<K: Kernel + Drop> Node<K> {
     fn move_all(&mut self) -> Result<Outcome, OrMemory<NodeFault>>
         ensures { Rebalances self.old result self.new }
     {
-        match self.begin() {
-            Ok(Outcome::Plan(total)) => match self.finish() {
-                Ok(()) => Ok(Outcome::Plan(total)),
-                Err(fault) => Err(OrMemory::Fault(NodeFault::Kernel(fault))),
-            },
-            Ok(Outcome::Short { asked, allowed }) => Ok(Outcome::Short { asked, allowed }),
-            Err(error) => Err(error),
+        let outcome = match self.begin() {
+            Ok(outcome) => outcome,
+            Err(error) => return Err(error),
+        };
+        if let Outcome::Plan(_) = outcome {
+            if let Err(fault) = self.finish() {
+                return Err(OrMemory::Fault(NodeFault::Kernel(fault)));
+            }
         }
+        Ok(outcome)
     }
 
     /// Works out a plan of the live containers and moves them onto it, so that each one that asks for CPUs of its own has
