@@ -7,7 +7,12 @@ pub mod EventLemmas
 pub mod DeleteLemmas
 pub mod FirstLemmas
 pub mod NodeLemmas
+pub mod StepLemmas
+pub mod FinishLemmas
 pub mod CallLemmas
 pub mod CountLemmas
 pub mod LeaveLemmas
 pub mod MachineLemmas
+pub mod PlanLemmas
+pub mod AskingLemmas
+pub mod HeadlineLemmas

@@ -1,7 +1,7 @@
 -- Facts on each element of a list and on each two.
 use Rattle.std.proofs.Common.{List, [], ◌∷◌, ◌++◌}
 use Rattle.std.specs.Prelude.{map}
-use Rattle.std.specs.List.{AllByRecursion}
+use Rattle.std.specs.List.{AllByRecursion, AllZip}
 use Rattle.apply_plan.specs.Holders.{Pairwise}
 
 module _ {X : Type 0} where
@@ -50,3 +50,11 @@ module _ {X Y : Type 0} (f : X → Y) where
   pub of_pairs_map : (R : Y → Y → Type 0) (xs : List X) → Pairwise R (map f xs) → Pairwise (λ a b. R (f a) (f b)) xs
   of_pairs_map R [] h = tt
   of_pairs_map R (x ∷ xs) h = (of_all_map (R (f x)) xs h.0, of_pairs_map R xs h.1)
+
+-- facts on two lists, place by place
+pub zip_map : {X Y : Type 0} (P : X → Type 0) (R S : X → Y → Type 0) → ((x : X) (y : Y) → P x → R x y → S x y) → (xs : List X) (ys : List Y)
+    → AllByRecursion P xs → AllZip R xs ys → AllZip S xs ys
+zip_map P R S f [] [] h i = tt
+zip_map P R S f [] (y ∷ ys) h i = absurd i
+zip_map P R S f (x ∷ xs) [] h i = absurd i
+zip_map P R S f (x ∷ xs) (y ∷ ys) h i = (f x y h.0 i.0, zip_map P R S f xs ys h.1 i.1)

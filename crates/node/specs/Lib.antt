@@ -14,6 +14,7 @@ pub mod Rows
 pub mod Entries
 pub mod Rebalance
 pub mod Headline
+pub mod Asking
 pub mod Machine
 pub mod Reads
 pub mod Listed

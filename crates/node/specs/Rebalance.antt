@@ -2,6 +2,7 @@
 use Rattle.std.specs.Prelude.{◌≡◌, ℕ, suc, zero, true, false, List, Option, Some, None, Result, Ok, Err}
 use Rattle.std.specs.FinSet as set
 use Rattle.cpu_set.specs.Ids.{Ids}
+use Rattle.cpu_set.specs.Members.{InRange}
 use Rattle.certificate.specs.RowView.{RowView}
 use Rattle.certificate.specs.PricesView.{PricesView}
 use Rattle.certificate.specs.IsShortage.{asked, chosen, is_offered}
@@ -43,6 +44,7 @@ pub record Begun (old : NodeState) (total : ℕ) (new : NodeState) : Type 0 wher
 pub record IsNeed (rows : List RowView) (members : List ℕ) (wanted : ℕ) (allowed : Ids) : Type 0 where
   pub asks : wanted ≡ asked (chosen rows members)
   pub has : (cpu : ℕ) → set.contains allowed cpu ≡ is_offered (chosen rows members) cpu
+  pub in_range : InRange allowed
 
 -- a shortage of the rows: what its members ask for, and what they are allowed; nothing else changes
 pub record Lacks (old : NodeState) (wanted : ℕ) (allowed : Ids) (new : NodeState) : Type 0 where

@@ -1,6 +1,7 @@
 //! Containers on one machine: their lifecycle (OCI Runtime Specification 1.0.2, runtime.md) over a kernel that pins them.
 #![tactic(auto)]
 
+mod asking;
 mod container;
 mod create;
 mod entries;
@@ -12,11 +13,14 @@ mod lifecycle;
 mod list;
 mod node;
 mod ongoing;
+mod opening;
 mod outcome;
 mod phase;
 mod reads;
 mod state;
+mod stepping;
 
+pub use apply_plan::Progress;
 pub use container::Status;
 pub use fault::NodeFault;
 pub use list::Listing;

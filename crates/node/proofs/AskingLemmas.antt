@@ -1,0 +1,305 @@
+-- The rows of the live pinned containers: what holds of each, and whose it is.
+use Rattle.std.proofs.Common.{◌≡◌, ◌≢◌, ℕ, zero, suc, ◌<◌, ◌≤◌, Bool, true, false, cond, ◌&&◌, nat_lt, nat_le, List, [], ◌∷◌, ◌++◌, length, map, Option, Some, None, is_some, refl, sym, ap, ◌∙◌, subst, sum_by, arith}
+use Rattle.std.proofs.lemmas.Bool.{true≢false, false≢true}
+use Rattle.std.proofs.lemmas.Bool.Decides.{nat_tests}
+use Rattle.std.proofs.lemmas.List.{append-nil}
+use Rattle.std.proofs.lemmas.List.Elements.{All-from_recursion, All-weaker, filter_agree, filter_passes}
+use Rattle.std.proofs.lemmas.List.Kept.{AllPairs-cons}
+use Rattle.std.proofs.lemmas.List.Sums.{sum_by-cons}
+use Rattle.std.proofs.lemmas.Option.{none-some, same_Some}
+use Rattle.std.proofs.lemmas.Slice.Eq.{bytes_eq-Decides}
+use Rattle.std.specs.Prelude.{MatchOption, filter, filter_map, slice_get, String}
+use Rattle.std.specs.declared.alloc.Global.{Global}
+use Rattle.std.specs.List.{All, AllPairs, AllByRecursion, AllZip, cons_option, list_all, list_any, range_with_len}
+use Rattle.std.specs.FinSet as set
+use Rattle.cpu_set.specs.Ids.{Ids}
+use Rattle.cpu_set.specs.Members.{InRange, cpus}
+use Rattle.cpu_set.specs.SetLaws.{length-members}
+use Rattle.kernel_model.specs.KernelState.{KernelState}
+use Rattle.machine.specs.Layout.{Layout}
+use Rattle.demand.specs.declared.Kind.{Kind}
+use Rattle.demand.specs.declared.Kind.TheVariants.{Pinned, Shared}
+use Rattle.demand.specs.declared.Demand.{Demand}
+use Rattle.demand.specs.FitsMachine.{FitsMachine}
+use Rattle.certificate.specs.declared.Offer.{Offer}
+use Rattle.certificate.specs.declared.limits.TheConstants.{MAX_ROWS}
+use Rattle.certificate.specs.RowView.{RowView}
+use Rattle.certificate.specs.Weight.{weight}
+use Rattle.certificate.specs.Limits.{row_fits, rows_fit}
+use Rattle.certificate.specs.IsShortage.{asked, chosen, is_offered, offered}
+use Rattle.certificate_text.specs.declared.certificates.Certificate.TheVariants as certificate
+use Rattle.certificate_text.specs.CertificateText.{HaveOwnIds}
+use Rattle.certificate_text.specs.IdWord.{IsId}
+use Rattle.certificate_text.specs.Written.{CanWriteRow}
+use Rattle.rows.specs.Offers.{offer_at, has_some, offers_below, offers_of}
+use Rattle.rows.specs.RowOf.{available, row_of, row_of_kind}
+use Rattle.rows.specs.Weighs.{RowsWeigh}
+use Rattle.apply_plan.specs.Holders.{Pairwise}
+use Rattle.node.specs.declared.TheConstants.{CONTAINER_LIMIT}
+use Rattle.node.specs.declared.container.Container.{Container}
+use Rattle.node.specs.NodeState.{ContainerState, NodeState}
+use Rattle.node.specs.Owners.{is_pinned, owner_of, owners_of}
+use Rattle.node.specs.Status.{is_live}
+use Rattle.node.specs.IsNode.{HaveOtherIds, IsAsked, IsNode}
+use Rattle.node.specs.Rows.{row_of_container, rows_in, rows_of}
+use Rattle.node.specs.Rebalance.{Lacks}
+use Rattle.node.specs.Headline.{is_asking, asking, wanted_by, is_allowed, IsShort}
+use Rattle.node.specs.Asking.{IsRowOf}
+use Rattle.node.specs.Viewed.{all_seen}
+use Rattle.node.proofs.ListLemmas.{of_pairs_map}
+
+-- what is given of the elements of a list
+module _ {X Y : Type 0} (f : X → Option Y) where
+  pub all_given : (P : X → Type 0) (Q : Y → Type 0) → ((x : X) (y : Y) → P x → f x ≡ Some y → Q y) → (xs : List X) → AllByRecursion P xs → AllByRecursion Q (filter_map f xs)
+  all_given P Q gives [] all = tt
+  all_given P Q gives (x ∷ xs) all = by (f x) refl (all_given P Q gives xs all.1) where
+    by : (o : Option Y) → f x ≡ o → AllByRecursion Q (filter_map f xs) → AllByRecursion Q (cons_option o (filter_map f xs))
+    by None e rest = rest
+    by (Some y) e rest = (gives x y all.0 e, rest)
+
+  pub pairs_given : (R : X → X → Type 0) (S : Y → Y → Type 0) → ((x z : X) (y w : Y) → R x z → f x ≡ Some y → f z ≡ Some w → S y w) → (xs : List X) → Pairwise R xs
+      → AllPairs S (filter_map f xs)
+  pairs_given R S gives [] pairs = λ i j d lt within. absurd (omega arith)
+  pairs_given R S gives (x ∷ xs) pairs = by (f x) refl (pairs_given R S gives xs pairs.1) where
+    by : (o : Option Y) → f x ≡ o → AllPairs S (filter_map f xs) → AllPairs S (cons_option o (filter_map f xs))
+    by None e rest = rest
+    by (Some y) e rest =
+        AllPairs-cons S y (filter_map f xs)
+        (All-from_recursion (S y) (filter_map f xs) (all_given (R x) (S y) (λ z w r given. gives x z y w r e given) xs pairs.0)) rest
+
+  pub fewer_given : (xs : List X) → length (filter_map f xs) ≤ length xs
+  fewer_given [] = omega arith
+  fewer_given (x ∷ xs) = by (f x) (fewer_given xs) where
+    by : (o : Option Y) → length (filter_map f xs) ≤ length xs → length (cons_option o (filter_map f xs)) ≤ length (x ∷ xs)
+    by None rest = omega (arith, rest)
+    by (Some y) rest = omega (arith, rest)
+
+  -- where something is given just of those that pass, it is given of each of them in turn
+  pub zip_given : (test : X → Bool) (P : X → Type 0) (R : Y → X → Type 0)
+      → ((x : X) → P x → MatchOption (f x) (test x ≡ false) (λ y. (test x ≡ true) × R y x)) → (xs : List X) → AllByRecursion P xs
+      → AllZip R (filter_map f xs) (filter test xs)
+  zip_given test P R gives [] all = tt
+  zip_given test P R gives (x ∷ xs) all = by (f x) (test x) (gives x all.0) (zip_given test P R gives xs all.1) where
+    by : (o : Option Y) (b : Bool) → MatchOption o (b ≡ false) (λ y. (b ≡ true) × R y x) → AllZip R (filter_map f xs) (filter test xs)
+        → AllZip R (cons_option o (filter_map f xs)) (cond b (x ∷ filter test xs) (filter test xs))
+    by None false is rest = rest
+    by None true is rest = absurd (true≢false is)
+    by (Some y) true is rest = (is.1, rest)
+    by (Some y) false is rest = absurd (false≢true is.0)
+
+-- two lists of which the elements go together, item by item
+module _ {X Y : Type 0} (R : X → Y → Type 0) where
+  -- both are there, and go together, or neither is
+  abbrev pub AtBoth : Option X → Option Y → Type 0
+  AtBoth None None = Unit {0}
+  AtBoth None (Some y) = ⊥
+  AtBoth (Some x) None = ⊥
+  AtBoth (Some x) (Some y) = R x y
+
+  pub zip_at : (xs : List X) (ys : List Y) → AllZip R xs ys → (k : ℕ) → AtBoth (slice_get xs k) (slice_get ys k)
+  zip_at [] [] zip k = tt
+  zip_at [] (y ∷ ys) zip k = absurd zip
+  zip_at (x ∷ xs) [] zip k = absurd zip
+  zip_at (x ∷ xs) (y ∷ ys) zip zero = zip.0
+  zip_at (x ∷ xs) (y ∷ ys) zip (suc k) = zip_at xs ys zip.1 k
+
+  pub zip_chosen : (xs : List X) (ys : List Y) → AllZip R xs ys → (ks : List ℕ) → AllZip R (filter_map (slice_get xs) ks) (filter_map (slice_get ys) ks)
+  zip_chosen xs ys zip [] = tt
+  zip_chosen xs ys zip (k ∷ ks) = by (slice_get xs k) (slice_get ys k) (zip_at xs ys zip k) (zip_chosen xs ys zip ks) where
+    by : (o : Option X) (p : Option Y) → AtBoth o p → AllZip R (filter_map (slice_get xs) ks) (filter_map (slice_get ys) ks)
+        → AllZip R (cons_option o (filter_map (slice_get xs) ks)) (cons_option p (filter_map (slice_get ys) ks))
+    by None None at rest = rest
+    by None (Some y) at rest = absurd at
+    by (Some x) None at rest = absurd at
+    by (Some x) (Some y) at rest = (at, rest)
+
+  pub zip_sum : (f : X → ℕ) (g : Y → ℕ) → ((x : X) (y : Y) → R x y → f x ≡ g y) → (xs : List X) (ys : List Y) → AllZip R xs ys → sum_by f xs ≡ sum_by g ys
+  zip_sum f g same [] [] zip = refl
+  zip_sum f g same [] (y ∷ ys) zip = absurd zip
+  zip_sum f g same (x ∷ xs) [] zip = absurd zip
+  zip_sum f g same (x ∷ xs) (y ∷ ys) zip = omega (arith, sum_by-cons f x xs, sum_by-cons g y ys, same x y zip.0, zip_sum f g same xs ys zip.1)
+
+  pub zip_any : (p : X → Bool) (q : Y → Bool) → ((x : X) (y : Y) → R x y → p x ≡ q y) → (xs : List X) (ys : List Y) → AllZip R xs ys → list_any p xs ≡ list_any q ys
+  zip_any p q same [] [] zip = refl
+  zip_any p q same [] (y ∷ ys) zip = absurd zip
+  zip_any p q same (x ∷ xs) [] zip = absurd zip
+  zip_any p q same (x ∷ xs) (y ∷ ys) zip = rw (same x y zip.0, zip_any p q same xs ys zip.1) refl
+
+-- each offer of a row has a CPU
+some_cpu : (o : Offer) → has_some o ≡ true → o.cpus ≢ set.empty
+some_cpu o some none = true≢false (sym some ∙ ap (λ s. nat_lt 0 (set.len s)) none ∙ ap (nat_lt 0) (set.len-empty _))
+
+below_some : (m : Layout) (homes s : Ids) (n : ℕ) → All (λ (o : Offer). o.cpus ≢ set.empty) (offers_below m homes s n)
+below_some m homes s n =
+    All-weaker (λ o. has_some o ≡ true) (λ o. o.cpus ≢ set.empty) some_cpu (offers_below m homes s n)
+    (filter_passes has_some (map (offer_at m homes s) (range_with_len 0 n)))
+
+offers_some : (m : Layout) (homes s : Ids) → All (λ (o : Offer). o.cpus ≢ set.empty) (offers_of m homes s)
+unfolding offers_of
+offers_some m homes s = below_some m homes s 255
+
+-- the row of a demand, where there is one
+record IsMade (m : Layout) (online : Ids) (id : List ℕ) (d : Demand) (row : RowView) : Type 0 where
+  id_is : row.id ≡ id
+  demand_is : d.kind ≡ Pinned row.demand
+  offers_are : row.offers ≡ offers_of m d.homes (available online d)
+
+made : (m : Layout) (online : Ids) (id : List ℕ) (d : Demand) (row : RowView) → row_of m online id d ≡ Some row → IsMade m online id d row
+made m online id d row is = by d.kind refl is where
+  by : (kind : Kind) → d.kind ≡ kind → row_of_kind m online id d kind ≡ Some row → IsMade m online id d row
+  by (Pinned count) same e =
+      let row_is : record { id = id; demand = count; offers = offers_of m d.homes (available online d) } ≡ row = same_Some _ _ e in
+      record {
+        id_is = ap (λ (r : RowView). r.id) (sym row_is);
+        demand_is = same ∙ ap (λ (r : RowView). Pinned r.demand) row_is;
+        offers_are = ap (λ (r : RowView). r.offers) (sym row_is);
+      }
+  by Shared same e = absurd (none-some row e)
+
+module _ (k : KernelState) (m : Layout) where
+  -- a container with a row is live, and the row is that of its demand
+  pub row_made : (e : List ℕ × ContainerState) (row : RowView) → row_of_container k m e ≡ Some row → (is_live k e.1 ≡ true) × (row_of m k.tree.online e.0 e.1.demand ≡ Some row)
+  row_made e row is = by (is_live k e.1) refl is where
+    by : (b : Bool) → is_live k e.1 ≡ b → cond b (row_of m k.tree.online e.0 e.1.demand) None ≡ Some row
+        → (is_live k e.1 ≡ true) × (row_of m k.tree.online e.0 e.1.demand ≡ Some row)
+    by true live e = (live, e)
+    by false live e = absurd (none-some row e)
+
+  of_row : (e : List ℕ × ContainerState) (row : RowView) → row_of_container k m e ≡ Some row → IsMade m k.tree.online e.0 e.1.demand row
+  of_row e row is = made m k.tree.online e.0 e.1.demand row (row_made e row is).1
+
+  can_write : (e : List ℕ × ContainerState) (row : RowView) → IsAsked m e → row_of_container k m e ≡ Some row → CanWriteRow row
+  can_write e row a is =
+      let r = of_row e row is in
+      record {
+        id_is = subst IsId (sym r.id_is) a.id;
+        offers_some = subst (λ (offers : List Offer). All (λ o. o.cpus ≢ set.empty) offers) (sym r.offers_are) (offers_some m e.1.demand.homes (available k.tree.online e.1.demand));
+      }
+
+  other_ids : (a b : List ℕ × ContainerState) (r s : RowView) → HaveOtherIds (owner_of a) (owner_of b) → row_of_container k m a ≡ Some r → row_of_container k m b ≡ Some s → r.id ≢ s.id
+  other_ids a b r s other ra sb same =
+      true≢false (sym ((bytes_eq-Decides a.0 b.0).1 (sym (of_row a r ra).id_is ∙ same ∙ (of_row b s sb).id_is)) ∙ other)
+
+  module _ (containers : List (List ℕ × ContainerState)) where
+    -- the rows can be written
+    pub rows_can : AllByRecursion (IsAsked m) containers → All CanWriteRow (rows_in k m containers)
+    rows_can asked = All-from_recursion CanWriteRow (rows_in k m containers) (all_given (row_of_container k m) (IsAsked m) CanWriteRow can_write containers asked)
+
+    -- no two have one id
+    pub rows_apart : Pairwise HaveOtherIds (owners_of containers) → HaveOwnIds (rows_in k m containers)
+    rows_apart distinct =
+        pairs_given (row_of_container k m) (λ a b. HaveOtherIds (owner_of a) (owner_of b)) (λ r s. r.id ≢ s.id) other_ids containers
+        (of_pairs_map owner_of HaveOtherIds containers distinct)
+
+    -- they are not too many
+    pub rows_few : length containers ≤ CONTAINER_LIMIT → length (rows_in k m containers) ≤ MAX_ROWS
+    rows_few few = omega (arith, few, fewer_given (row_of_container k m) containers)
+
+both_pass : (a b : Bool) → a ≡ true → b ≡ true → (a && b) ≡ true
+both_pass a b e f = rw e f
+
+-- rows that fit one by one, and are not too many, fit
+pub all_fit : (rows : List RowView) → length rows ≤ MAX_ROWS → list_all row_fits rows ≡ true → rows_fit rows ≡ true
+unfolding rows_fit
+all_fit rows few each = both_pass (nat_le (length rows) MAX_ROWS) (list_all row_fits rows) (grind (arith, nat_tests)) each
+
+-- the rows made so far, and those of the containers that are left
+pub record IsSoFar (k : KernelState) (m : Layout) (all left : List (String Global × Container)) (rows : List RowView) : Type 0 where
+  pub are : rows ++ rows_in k m (all_seen left) ≡ rows_in k m (all_seen all)
+  pub asked : AllByRecursion (IsAsked m) (all_seen left)
+  pub fit : list_all row_fits rows ≡ true
+
+-- what holds of the problem of these containers
+pub record IsProblem (k : KernelState) (m : Layout) (containers : List (List ℕ × ContainerState)) (rows : List RowView) : Type 0 where
+  pub rows_are : rows ≡ rows_in k m containers
+  pub fit : rows_fit rows ≡ true
+  pub can : All CanWriteRow rows
+  pub apart : HaveOwnIds rows
+
+pub all_made : (k : KernelState) (m : Layout) (all left : List (String Global × Container)) (rows : List RowView) → AllByRecursion (IsAsked m) (all_seen all)
+    → length (all_seen all) ≤ CONTAINER_LIMIT → Pairwise HaveOtherIds (owners_of (all_seen all)) → IsSoFar k m all left rows → left ≡ [] → IsProblem k m (all_seen all) rows
+all_made k m all left rows asked few distinct so_far none =
+    let rows_are : rows ≡ rows_in k m (all_seen all) =
+    sym (append-nil rows) ∙ ap (λ (es : List (String Global × Container)). rows ++ rows_in k m (all_seen es)) (sym none) ∙ so_far.are in
+    let at_most : length (rows_in k m (all_seen all)) ≤ MAX_ROWS = rows_few k m (all_seen all) few in
+    record {
+      rows_are = rows_are;
+      fit = all_fit rows (subst (λ (rs : List RowView). length rs ≤ MAX_ROWS) (sym rows_are) at_most) so_far.fit;
+      can = subst (λ (rs : List RowView). All CanWriteRow rs) (sym rows_are) (rows_can k m (all_seen all) asked);
+      apart = subst HaveOwnIds (sym rows_are) (rows_apart k m (all_seen all) distinct);
+    }
+
+module _ (k : KernelState) (m : Layout) (weigh : RowsWeigh) where
+  some_where : {A : Type 0} (b : Bool) (x : A) → is_some (cond b (Some x) None) ≡ b
+  some_where true x = refl
+  some_where false x = refl
+
+  is_row_of : (e : List ℕ × ContainerState) (row : RowView) → FitsMachine m e.1.demand → row_of m k.tree.online e.0 e.1.demand ≡ Some row → IsRowOf k m row e
+  is_row_of e row fits is =
+      let r = made m k.tree.online e.0 e.1.demand row is in
+      record {
+        row_is = is;
+        id = r.id_is;
+        demand = sym (ap wanted_by r.demand_is);
+        offers = λ cpu. ap is_some (weigh m k.tree.online e.0 e.1.demand row fits is cpu) ∙ some_where (is_allowed k cpu e) _;
+      }
+
+  asking_row : (e : List ℕ × ContainerState) → FitsMachine m e.1.demand
+      → MatchOption (row_of_container k m e) (is_asking k e ≡ false) (λ row. (is_asking k e ≡ true) × IsRowOf k m row e)
+  asking_row e fits = by (is_live k e.1) e.1.demand.kind refl where
+    by : (b : Bool) (kind : Kind) → e.1.demand.kind ≡ kind
+        → MatchOption (cond b (row_of_kind m k.tree.online e.0 e.1.demand kind) None) ((b && is_pinned kind) ≡ false) (λ row. ((b && is_pinned kind) ≡ true) × IsRowOf k m row e)
+    by true (Pinned count) same = (refl, is_row_of e _ fits (ap (row_of_kind m k.tree.online e.0 e.1.demand) same))
+    by true Shared same = refl
+    by false kind same = refl
+
+  -- the rows are those of the live pinned containers, one after another
+  pub rows_with_asking : (containers : List (List ℕ × ContainerState)) → AllByRecursion (IsAsked m) containers
+      → AllZip (IsRowOf k m) (rows_in k m containers) (filter (is_asking k) containers)
+  rows_with_asking containers asked =
+      zip_given (row_of_container k m) (is_asking k) (IsAsked m) (IsRowOf k m) (λ e a. asking_row e a.fits) containers asked
+
+module _ (n : NodeState) (h : IsNode n) (weigh : RowsWeigh) where
+  pub rows_are_asking : AllZip (IsRowOf n.kernel n.machine) (rows_of n) (asking n)
+  rows_are_asking = rows_with_asking n.kernel n.machine weigh n.containers h.asked
+
+  -- the row of a number is that of the live pinned container of this number
+  pub row_at : (k : ℕ) → AtBoth (IsRowOf n.kernel n.machine) (slice_get (rows_of n) k) (slice_get (asking n) k)
+  row_at k = zip_at (IsRowOf n.kernel n.machine) (rows_of n) (asking n) rows_are_asking k
+
+  -- so are those of some numbers
+  pub chosen_are_asking : (ks : List ℕ) → AllZip (IsRowOf n.kernel n.machine) (chosen (rows_of n) ks) (filter_map (slice_get (asking n)) ks)
+  chosen_are_asking ks = zip_chosen (IsRowOf n.kernel n.machine) (rows_of n) (asking n) rows_are_asking ks
+
+  -- which ask together for what these containers ask for, and offer what one of them is allowed
+  pub asked_by_chosen : (ks : List ℕ) → asked (chosen (rows_of n) ks) ≡ sum_by (λ e. wanted_by e.1.demand.kind) (filter_map (slice_get (asking n)) ks)
+  asked_by_chosen ks =
+      zip_sum (IsRowOf n.kernel n.machine) (λ row. row.demand) (λ e. wanted_by e.1.demand.kind) (λ row e is. is.demand)
+      (chosen (rows_of n) ks) (filter_map (slice_get (asking n)) ks) (chosen_are_asking ks)
+
+  pub offered_by_chosen : (ks : List ℕ) (cpu : ℕ) → is_offered (chosen (rows_of n) ks) cpu ≡ list_any (is_allowed n.kernel cpu) (filter_map (slice_get (asking n)) ks)
+  offered_by_chosen ks cpu =
+      zip_any (IsRowOf n.kernel n.machine) (λ row. is_some (weight row cpu)) (is_allowed n.kernel cpu) (λ row e is. is.offers cpu)
+      (chosen (rows_of n) ks) (filter_map (slice_get (asking n)) ks) (chosen_are_asking ks)
+
+-- the set of what rows offer has as many CPUs as they offer
+offered_len : (allowed : Ids) (rows : List RowView) → InRange allowed → ((cpu : ℕ) → set.contains allowed cpu ≡ is_offered rows cpu) → set.len allowed ≡ length (offered rows)
+offered_len allowed rows in_range has = sym (length-members allowed in_range) ∙ ap length (filter_agree (set.contains allowed) (is_offered rows) has cpus)
+
+-- a shortage of the rows is one of the live pinned containers
+pub short_stands : (old : NodeState) → IsNode old → RowsWeigh → (wanted : ℕ) (allowed : Ids) (new : NodeState) → Lacks old wanted allowed new
+    → IsShort old wanted allowed new
+short_stands old h weigh wanted allowed new l =
+    let named : new.last ≡ Some (certificate.Short (rows_of old) l.members) = ap (λ (n : NodeState). n.last) l.is in
+    let as_many : set.len allowed ≡ length (offered (chosen (rows_of old) l.members)) = offered_len allowed (chosen (rows_of old) l.members) l.need.in_range l.need.has in
+    let short : length (offered (chosen (rows_of old) l.members)) < asked (chosen (rows_of old) l.members) = l.decides.shortage.short in
+    let asks : wanted ≡ asked (chosen (rows_of old) l.members) = l.need.asks in
+    record {
+      members = l.members;
+      named = named;
+      asks = asks ∙ asked_by_chosen old h weigh l.members;
+      has = λ cpu. l.need.has cpu ∙ offered_by_chosen old h weigh l.members cpu;
+      more = omega (arith, as_many, short, asks);
+      none = l.decides.none;
+      same = l.is ∙ ap (λ last. record old { last = last }) (sym named);
+    }

@@ -1,0 +1,266 @@
+-- What a step of the hand-over that is open leaves of what holds of a node.
+use Rattle.std.proofs.Common.{◌≡◌, inl, inr, ◌<◌, ◌+◌, false, List, Option, Some, None, refl, sym, ap, ◌∙◌, subst, arith}
+use Rattle.std.proofs.lemmas.Option.{none-some, same_Some}
+use Rattle.std.specs.Prelude.{is_none, map, Result, Ok, Err, OnErr}
+use Rattle.std.specs.List.{AllByRecursion, AllZip}
+use Rattle.cpu_set.specs.Ids.{Ids}
+use Rattle.cpuset_tree.specs.declared.Group.{Group}
+use Rattle.cpuset_tree.specs.Groups.{same_group, is_root_entry, cpus_in, mems_in}
+use Rattle.cpuset_tree.specs.Effective.{is_empty}
+use Rattle.kernel_model.specs.declared.KernelFault.{KernelFault}
+use Rattle.kernel_model.specs.KernelState.{KernelState}
+use Rattle.apply_plan.specs.declared.Entry.{Entry}
+use Rattle.apply_plan.specs.declared.Progress.{Progress}
+use Rattle.apply_plan.specs.declared.Progress.TheVariants.{More, Done}
+use Rattle.apply_plan.specs.Holders.{IsSafe}
+use Rattle.apply_plan.specs.Kept.{kept}
+use Rattle.apply_plan.specs.KeptLemmas.{kept_target, kept_again}
+use Rattle.apply_plan.specs.Targets.{Targets, holders_of}
+use Rattle.apply_plan.specs.Targets as plan
+use Rattle.apply_plan.specs.DueWrite.{Steps, writes_to_come, HaveTargets, IsBetween}
+use Rattle.apply_plan.specs.Leaves.{KeepsRest}
+use Rattle.apply_plan.specs.Runs.{IsOpen}
+use Rattle.apply_plan.specs.OneStep.{StepLeaves, StepsLeave}
+use Rattle.node.specs.declared.fault.NodeFault.{NodeFault}
+use Rattle.node.specs.declared.fault.NodeFault.TheVariants.{Busy, BadId, IdInUse, TooManyContainers, NoContainer, NotCreated, NotRunnable, BadSignal, NotLive, NotStopped, NoHandover, NoAnswer, Config, Demand, Kernel}
+use Rattle.node.specs.declared.phase.Phase.{Phase}
+use Rattle.node.specs.declared.phase.Phase.TheVariants.{Settled, Unsettled}
+use Rattle.node.specs.NodeState.{Ongoing, NodeState, is_underway}
+use Rattle.node.specs.Owners.{Owner, owners_of}
+use Rattle.node.specs.Ongoing.{AreOf, IsSince, IsOngoing, Stands, IsBroken}
+use Rattle.node.specs.IsNode.{IsHome, IsShallow, IsPlaced, IsFirst, Holds, IsNode}
+use Rattle.node.specs.Leaves.{rise_of}
+use Rattle.node.specs.Rebalance.{Stepped, StepsOn}
+use Rattle.node.proofs.ListLemmas.{all_of, all_map, all_map2, zip_map}
+use Rattle.node.proofs.HoldsLemmas.{same_owned}
+use Rattle.node.proofs.OngoingLemmas.{of_entries, entries_safe, owners_safe, same_of, none_open}
+use Rattle.node.proofs.LaunchLemmas.{Stays, child_differs, is_there}
+use Rattle.node.proofs.NodeLemmas.{kernel_node}
+
+-- what a group requests since the hand-over began, where a step leaves it between that and its target
+module _ (old new : KernelState) (reserved : Ids) (some : is_empty reserved ≡ false) (e : Entry) (found : Ids) (target : is_empty e.target ≡ false) where
+  since_on : IsBetween reserved old new e → IsSince old reserved e found → IsSince new reserved e found
+  since_on (inl x) (inl y) = inl (x ∙ y)
+  since_on (inl x) (inr (inl y)) = inr (inl (x ∙ y))
+  since_on (inl x) (inr (inr y)) = inr (inr (x ∙ y))
+  since_on (inr (inl x)) (inl y) = inr (inl (x ∙ ap (kept reserved e.target) y))
+  since_on (inr (inl x)) (inr (inl y)) = inr (inl (x ∙ ap (kept reserved e.target) y ∙ kept_again reserved e.target some found))
+  since_on (inr (inl x)) (inr (inr y)) = inr (inr (x ∙ ap (kept reserved e.target) y ∙ kept_target reserved e.target target))
+  since_on (inr (inr x)) s = inr (inr x)
+
+module _ (parent : Group) (owners : List Owner) where
+  -- what steps leave of the containers, of the hand-over and of the rest of the kernel
+  pub record Moved (o : Ongoing) (old new : KernelState) : Type 0 where
+    pub stays : Stays old new parent owners
+    pub ongoing : IsOngoing new owners o
+    pub rest : KeepsRest o.targets old new
+
+  -- the hand-over of a node's containers may go on
+  pub is_open : (k : KernelState) → Holds k parent owners → (o : Ongoing) → IsOngoing k owners o → IsOpen o.targets k
+  is_open k h o g = record {
+    handover = g.handover;
+    well_formed = h.kernel;
+    placed = of_entries k (λ x. plan.IsPlaced k x.group) o.targets.entries owners g.of
+        (all_map (IsPlaced k.tree parent) (λ w. plan.IsPlaced k w.holder.group)
+        (λ w c. record { there = is_there k.tree w.holder.group c.entry c.there; below = ap is_root_entry c.there ∙ ap is_none c.below }) owners h.placed);
+    given = of_entries k (λ x. x.pid < k.table.next_pid) o.targets.entries owners g.of
+        (all_map (λ w. IsFirst k.table w.holder) (λ w. w.holder.pid < k.table.next_pid) (λ w f. f.given) owners h.first);
+  }
+
+  module _ (o : Ongoing) (old new : KernelState) (h : Holds old parent owners) (g : IsOngoing old owners o) (r : Result Progress KernelFault)
+      (leaves : StepLeaves o.targets old r new) where
+    rest : KeepsRest o.targets old new
+    rest = leaves.rest
+
+    -- the containers' parent is no entry's group
+    apart : AllByRecursion (λ e. same_group e.group parent ≡ false) o.targets.entries
+    apart =
+        of_entries old (λ x. same_group x.group parent ≡ false) o.targets.entries owners g.of
+        (all_map (IsPlaced old.tree parent) (λ w. same_group w.holder.group parent ≡ false)
+        (λ w c. child_differs old.tree w.holder.group parent c.entry h.kernel.tree c.there c.below) owners h.placed)
+
+    home : IsHome new.tree parent
+    home =
+        let now = rest.alike.after parent h.home.entry h.home.there in
+        record {
+          entry = now.entry;
+          root = h.home.root;
+          there = now.there;
+          top = rest.alike.root ∙ h.home.top;
+          below = sym now.place.parent ∙ h.home.below;
+          free_cpus = sym (ap cpus_in now.there) ∙ rest.others parent apart ∙ ap cpus_in h.home.there ∙ h.home.free_cpus;
+          free_mems = sym (ap mems_in now.there) ∙ rest.mems parent ∙ ap mems_in h.home.there ∙ h.home.free_mems;
+        }
+
+    shallow : IsShallow new.tree parent
+    shallow p q e there below =
+        let was = rest.alike.before p e there in
+        elim (h.shallow p q was.entry was.there (sym was.place.parent ∙ below)) [ inl home ↦ inl home | inr root ↦ inr (rest.alike.root ∙ root) ]
+
+    placed : (w : Owner) → IsPlaced old.tree parent w → IsPlaced new.tree parent w
+    placed w c =
+        let now = rest.alike.after w.holder.group c.entry c.there in
+        record { entry = now.entry; there = now.there; below = sym now.place.parent ∙ c.below; named = sym now.place.name ∙ c.named }
+
+    of : AreOf new o.targets.entries owners
+    of = same_of old new rest.table o.targets.entries owners g.of
+
+    -- the reserved CPUs are the hand-over's
+    reserve : o.targets.reserved ≡ new.reserved
+    reserve = g.reserved ∙ sym rest.reserved
+
+    safe : IsSafe new new.reserved (map (λ w. w.holder) owners)
+    safe =
+        owners_safe new new.reserved o.targets.entries owners of
+        (subst (λ s. IsSafe new s (holders_of o.targets.entries)) reserve
+        (leaves.safe (subst (λ s. IsSafe old s (holders_of o.targets.entries)) (sym g.reserved) (entries_safe old old.reserved o.targets.entries owners g.of h.safe))))
+
+    since : AllZip (IsSince new new.reserved) o.targets.entries o.found
+    since =
+        subst (λ s. AllZip (IsSince new s) o.targets.entries o.found) reserve
+        (zip_map (λ e. (is_empty e.target ≡ false) × IsBetween o.targets.reserved old new e) (IsSince old o.targets.reserved) (IsSince new o.targets.reserved)
+        (λ e found p s. since_on old new o.targets.reserved g.handover.reserve e found p.0 p.1 s) o.targets.entries o.found
+        (all_map2 (λ e. is_empty e.target ≡ false) (IsBetween o.targets.reserved old new) (λ e. (is_empty e.target ≡ false) × IsBetween o.targets.reserved old new e)
+        (λ e t b. (t, b)) o.targets.entries g.handover.some
+        (leaves.between old (all_of (IsBetween o.targets.reserved old old) (λ e. inl refl) o.targets.entries)))
+        (subst (λ s. AllZip (IsSince old s) o.targets.entries o.found) (sym g.reserved) g.since))
+
+    pub moved : Moved o old new
+    moved = record {
+      stays = record {
+        holds = record {
+          kernel = leaves.kernel.well_formed;
+          home = home;
+          shallow = shallow;
+          distinct = h.distinct;
+          placed = all_map (IsPlaced old.tree parent) (IsPlaced new.tree parent) placed owners h.placed;
+          first = all_map (λ w. IsFirst old.table w.holder) (λ w. IsFirst new.table w.holder) (λ w f. subst (λ t. IsFirst t w.holder) (sym rest.table) f) owners h.first;
+          owned = same_owned old.table new.table owners h.owned rest.table;
+          safe = safe;
+        };
+        machine = leaves.kernel.machine;
+      };
+      ongoing = record { handover = g.handover; reserved = reserve; of = of; since = since };
+      rest = rest;
+    }
+
+-- what a step is of the hand-over that is open
+pub its_steps : (old : NodeState) (o : Ongoing) → old.ongoing ≡ Some o → (new : NodeState) (r : Result Progress KernelFault) (phase : Phase) (ongoing : Option Ongoing)
+    → Stepped old r phase ongoing new → Steps o.targets old.kernel r new.kernel
+its_steps old o was new r phase ongoing s = subst (λ (x : Ongoing). Steps x.targets old.kernel r new.kernel) (same_Some s.handover o (sym s.was ∙ was)) s.steps
+
+-- a node whose hand-over is open
+module _ (law : StepsLeave) (n : NodeState) (h : IsNode n) (o : Ongoing) (was : n.ongoing ≡ Some o) where
+  abbrev Owners : List Owner
+  Owners = owners_of n.containers
+
+  stands : Stands n.kernel Owners (is_underway n.phase) (Some o)
+  stands = subst (Stands n.kernel Owners (is_underway n.phase)) was h.stands
+
+  pub open_now : IsOpen o.targets n.kernel
+  open_now = is_open n.parent Owners n.kernel h.holds o stands.1
+
+  module _ (new : KernelState) (r : Result Progress KernelFault) (s : Steps o.targets n.kernel r new) where
+    pub leaves : StepLeaves o.targets n.kernel r new
+    leaves = law o.targets n.kernel r new open_now s
+
+    pub moved_on : Moved n.parent Owners o n.kernel new
+    moved_on = moved n.parent Owners o n.kernel new h.holds stands.1 r leaves
+
+    -- a step after which more are to come, and one that ends the hand-over
+    pub more_node : IsNode (record n { kernel = new })
+    more_node = kernel_node n h new moved_on.stays (subst (Stands new Owners (is_underway n.phase)) (sym was) (stands.0, moved_on.ongoing))
+
+    pub ended_node : (phase : Phase) → is_underway phase ≡ false → IsNode (record n { kernel = new; phase = phase; ongoing = None })
+    ended_node phase settled = record {
+      machine = more_node.machine;
+      holds = more_node.holds;
+      few = more_node.few;
+      asked = more_node.asked;
+      stands = settled;
+      written = more_node.written;
+    }
+
+    pub broken : IsBroken o n.kernel new
+    broken = record { since = moved_on.ongoing.since; rest = moved_on.rest }
+
+    -- the same of the node as the program keeps it
+    pub kept_open : (t : Targets) → t ≡ o.targets → IsNode (record n { kernel = new; ongoing = Some (record o { targets = t }) })
+    kept_open t same = subst (λ (x : Option Ongoing). IsNode (record n { kernel = new; ongoing = x })) (was ∙ ap (λ (x : Targets). Some (record o { targets = x })) (sym same)) more_node
+
+    pub closed : (phase : Phase) → is_underway phase ≡ false → (x : Option Ongoing) → x ≡ None → IsNode (record n { kernel = new; phase = phase; ongoing = x })
+    closed phase settled x none = subst (λ (y : Option Ongoing). IsNode (record n { kernel = new; phase = phase; ongoing = y })) (sym none) (ended_node phase settled)
+
+    module _ (now : NodeState) (is : n ≡ now) where
+      pub went_on : (t : Targets) → t ≡ o.targets → Stepped now r now.phase now.ongoing (record n { kernel = new; ongoing = Some (record o { targets = t }) })
+      went_on t same = subst (λ (m : NodeState). Stepped m r m.phase m.ongoing (record n { kernel = new; ongoing = Some (record o { targets = t }) })) is (record {
+        handover = o;
+        was = was;
+        steps = s;
+        is = ap (λ (x : Option Ongoing). record n { kernel = new; ongoing = x }) (ap (λ (x : Targets). Some (record o { targets = x })) same ∙ sym was);
+      })
+
+      pub came_to_end : (phase : Phase) (x : Option Ongoing) → x ≡ None → Stepped now r phase None (record n { kernel = new; phase = phase; ongoing = x })
+      came_to_end phase x none = subst (λ (m : NodeState). Stepped m r phase None (record n { kernel = new; phase = phase; ongoing = x })) is (record {
+        handover = o;
+        was = was;
+        steps = s;
+        is = ap (λ (y : Option Ongoing). record n { kernel = new; phase = phase; ongoing = y }) none;
+      })
+
+-- what is said of a step, by what it answers
+module _ (old : NodeState) (P : Result Progress NodeFault → NodeState → Type 0)
+    (more : (new : NodeState) → Stepped old (Ok More) old.phase old.ongoing new → P (Ok More) new)
+    (done : (new : NodeState) → Stepped old (Ok Done) Settled None new → P (Ok Done) new)
+    (failed : (fault : KernelFault) (new : NodeState) → Stepped old (Err fault) Unsettled None new → P (Err (Kernel fault)) new)
+    (none : (new : NodeState) → is_underway old.phase ≡ false → new ≡ old → P (Err NoHandover) new) where
+  by_answer : (r : Result Progress NodeFault) (new : NodeState) → StepsOn old r new → P r new
+  by_answer (Ok More) new s = more new s
+  by_answer (Ok Done) new s = done new s
+  by_answer (Err (Kernel fault)) new s = failed fault new s
+  by_answer (Err NoHandover) new s = none new s.0 s.1
+  by_answer (Err Busy) new s = absurd s
+  by_answer (Err BadId) new s = absurd s
+  by_answer (Err IdInUse) new s = absurd s
+  by_answer (Err TooManyContainers) new s = absurd s
+  by_answer (Err NoContainer) new s = absurd s
+  by_answer (Err NotCreated) new s = absurd s
+  by_answer (Err NotRunnable) new s = absurd s
+  by_answer (Err BadSignal) new s = absurd s
+  by_answer (Err NotLive) new s = absurd s
+  by_answer (Err NotStopped) new s = absurd s
+  by_answer (Err NoAnswer) new s = absurd s
+  by_answer (Err (Config fault)) new s = absurd s
+  by_answer (Err (Demand fault)) new s = absurd s
+
+-- what a step says of the hand-over that was open
+pub record Says (old : NodeState) (o : Ongoing) (r : Result Progress NodeFault) (new : NodeState) : Type 0 where
+  pub falls : r ≡ Ok More → writes_to_come o.targets old.kernel ≡ writes_to_come o.targets new.kernel + 1
+  pub done : r ≡ Ok Done → HaveTargets new.kernel o.targets.entries
+  pub broken : OnErr r (IsBroken o old.kernel new.kernel)
+
+module _ (law : StepsLeave) (old : NodeState) (h : IsNode old) where
+  -- where none was open, nothing is said
+  pub says : (o : Ongoing) → old.ongoing ≡ Some o → (r : Result Progress NodeFault) (new : NodeState) → StepsOn old r new → Says old o r new
+  says o was =
+      by_answer old (Says old o)
+      (λ new s. record { falls = λ _. (leaves law old h o was new.kernel (Ok More) (its_steps old o was new (Ok More) old.phase old.ongoing s)).falls refl; done = λ e. absurd (let x : ⊥ = cc e in x); broken = tt })
+      (λ new s. record { falls = λ e. absurd (let x : ⊥ = cc e in x); done = λ _. (leaves law old h o was new.kernel (Ok Done) (its_steps old o was new (Ok Done) Settled None s)).done refl; broken = tt })
+      (λ fault new s. record {
+        falls = λ e. absurd (let x : ⊥ = cc e in x);
+        done = λ e. absurd (let x : ⊥ = cc e in x);
+        broken = broken law old h o was new.kernel (Err fault) (its_steps old o was new (Err fault) Unsettled None s);
+      })
+      (λ new settled same. absurd (none-some o (sym (none_open old.kernel (owners_of old.containers) (is_underway old.phase) settled old.ongoing h.stands) ∙ was)))
+
+  pub counts : (r : Result Progress NodeFault) (new : NodeState) → StepsOn old r new → new.kernel.failures ≡ old.kernel.failures + rise_of r
+  counts =
+      by_answer old (λ r new. new.kernel.failures ≡ old.kernel.failures + rise_of r)
+      (λ new s. (leaves law old h s.handover s.was new.kernel (Ok More) s.steps).counted)
+      (λ new s. (leaves law old h s.handover s.was new.kernel (Ok Done) s.steps).counted)
+      (λ fault new s. (leaves law old h s.handover s.was new.kernel (Err fault) s.steps).counted)
+      (λ new settled same. let e : new.kernel.failures ≡ old.kernel.failures = ap (λ (n : NodeState). n.kernel.failures) same in omega (arith, e))
+
+  pub broken_off : (r : Result Progress NodeFault) (new : NodeState) → StepsOn old r new → OnErr r ((o : Ongoing) → old.ongoing ≡ Some o → IsBroken o old.kernel new.kernel)
+  broken_off (Ok progress) new s = tt
+  broken_off (Err fault) new s = λ o was. (says o was (Err fault) new s).broken

@@ -1,0 +1,77 @@
+//! What the live containers ask for.
+ghost use Rattle.std.specs.Prelude.{◌≡◌, ◌≤◌, All, IsTrue, IfOk, IfSome, length};
+ghost use Rattle.std.specs.List.{AllByRecursion};
+ghost use Rattle.demand.specs.FitsMachine.{FitsMachine};
+ghost use Rattle.certificate.specs.Limits.{row_fits, rows_fit};
+ghost use Rattle.certificate_text.specs.CertificateText.{HaveOwnIds};
+ghost use Rattle.certificate_text.specs.Written.{CanWriteRow};
+ghost use Rattle.apply_plan.specs.Holders.{Pairwise};
+ghost use Rattle.node.specs.IsNode.{HaveOtherIds, IsAsked};
+ghost use Rattle.node.specs.Owners.{owners_of};
+ghost use Rattle.node.specs.Rows.{row_of_container, rows_in, rows_of};
+ghost use Rattle.node.specs.Viewed.{seen, all_seen};
+
+use crate::container::Container;
+use crate::{CONTAINER_LIMIT, Node};
+use certificate::{Problem, Row};
+use indexmap::IndexMap;
+use kernel_model::Kernel;
+use machine::Machine;
+use rows::row_of;
+use std::alloc::{AllocError, Global};
+
+/// The row of a container over the CPUs that are online, if it is live and asks for CPUs of its own.
+fn row_in<K: Kernel>(
+    alloc: Global,
+    kernel: &K,
+    machine: &Machine,
+    id: &str,
+    container: &Container,
+) -> Result<Option<Row>, AllocError>
+    requires { FitsMachine machine.now container.now.demand }
+    ensures row { IfOk result (λ row. row ≡ row_of_container (K.state kernel.now) machine.now (id.now, seen container.now)) }
+    ensures fits { IfOk result (λ row. IfSome row (λ r. IsTrue (row_fits r))) }
+{
+    if !kernel.first_alive(container.pid) {
+        return Ok(None);
+    }
+    row_of(alloc, machine, &kernel.online(), id, &container.demand)
+}
+
+/// The live containers that ask for CPUs of their own, as a problem: a row for each over the CPUs that are online, in the
+/// order in which they were created.
+pub fn rows_in<K: Kernel>(
+    alloc: Global,
+    kernel: &K,
+    machine: &Machine,
+    containers: &IndexMap<String, Container>,
+) -> Result<Problem, AllocError>
+    requires asked { AllByRecursion (IsAsked machine.now) (all_seen containers.now.entries) }
+    requires few { length (all_seen containers.now.entries) ≤ CONTAINER_LIMIT }
+    requires distinct { Pairwise HaveOtherIds (owners_of (all_seen containers.now.entries)) }
+    ensures rows { IfOk result (λ p. p ≡ rows_in (K.state kernel.now) machine.now (all_seen containers.now.entries)) }
+    ensures fit { IfOk result (λ p. IsTrue (rows_fit p)) }
+    ensures can { IfOk result (All CanWriteRow) }
+    ensures apart { IfOk result HaveOwnIds }
+{
+    let mut rows = Vec::new(alloc);
+    for (id, container) in containers.iter() {
+        if let Some(row) = row_in(alloc, kernel, machine, id, container)? {
+            rows.push(row)?;
+        }
+    }
+    Ok(Problem { rows })
+}
+
+impl<K: Kernel + Drop> Node<K> {
+    /// The problem of its containers: a row for each live one that asks for CPUs of its own, in the order in which they
+    /// were created.
+    pub(crate) fn problem(&self) -> Result<Problem, AllocError>
+        ensures rows { IfOk result (λ p. p ≡ rows_of self.now) }
+        ensures fit { IfOk result (λ p. IsTrue (rows_fit p)) }
+        ensures can { IfOk result (All CanWriteRow) }
+        ensures apart { IfOk result HaveOwnIds }
+    {
+        rows_in(self.alloc, &self.kernel, &self.machine, &self.containers)
+    }
+}

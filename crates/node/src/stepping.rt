@@ -1,0 +1,70 @@
+//! The hand-over that is open, write by write.
+ghost use Rattle.std.specs.Prelude.{◌≡◌, ◌+◌, true, Some, OnErr};
+ghost use Rattle.apply_plan.specs.DueWrite.{writes_to_come, HaveTargets};
+ghost use Rattle.node.specs.NodeState.{Ongoing, is_underway};
+ghost use Rattle.node.specs.Ongoing.{IsBroken};
+ghost use Rattle.node.specs.Rebalance.{StepsOn, Finishes};
+ghost use Rattle.node.specs.Leaves.{rise_of};
+
+use crate::{Node, NodeFault, Phase, Progress};
+use kernel_model::{Kernel, KernelFault};
+
+impl<K: Kernel + Drop> Node<K> {
+    /// Makes the write that is due.
+    fn advance(&mut self) -> Result<Progress, NodeFault>
+        ensures { StepsOn self.old result self.new }
+    {
+        apply_plan::laws::steps();
+        let Some(mut ongoing) = self.ongoing.take() else {
+            return Err(NodeFault::NoHandover);
+        };
+        match ongoing.handover.step(&mut self.kernel) {
+            Ok(Progress::More) => {
+                self.ongoing = Some(ongoing);
+                Ok(Progress::More)
+            }
+            Ok(Progress::Done) => {
+                self.phase = Phase::Settled;
+                Ok(Progress::Done)
+            }
+            Err(fault) => {
+                self.phase = Phase::Unsettled;
+                Err(NodeFault::Kernel(fault))
+            }
+        }
+    }
+
+    /// Makes the write of the open hand-over that is due and no other, or none where none is due, and tells whether more
+    /// are to come. Where none is, the hand-over has ended, and each of its live containers has what the plan gave it.
+    ///
+    /// # Errors
+    /// `NoHandover`; or `Failed` of the kernel, which ends the hand-over: it is not tried again, and each container
+    /// requests what it did at first, or what it keeps of that, or its target.
+    pub fn step(&mut self) -> Result<Progress, NodeFault>
+        ensures steps { StepsOn self.old result self.new }
+        ensures falls { result ≡ Ok Progress.More → (o : Ongoing) → self.old.ongoing ≡ Some o
+            → writes_to_come o.targets self.old.kernel ≡ writes_to_come o.targets self.new.kernel + 1 }
+        ensures done { result ≡ Ok Progress.Done → (o : Ongoing) → self.old.ongoing ≡ Some o → HaveTargets self.new.kernel o.targets.entries }
+        ensures broken { OnErr result ((o : Ongoing) → self.old.ongoing ≡ Some o → IsBroken o self.old.kernel self.new.kernel) }
+        ensures counted { self.new.kernel.failures ≡ self.old.kernel.failures + rise_of result }
+    {
+        apply_plan::laws::steps();
+        self.holds();
+        self.advance()
+    }
+
+    /// Steps until the open hand-over ends.
+    pub(crate) fn finish(&mut self) -> Result<(), KernelFault>
+        requires { is_underway self.old.phase ≡ true }
+        ensures { Finishes self.old result self.new }
+    {
+        loop {
+            match self.step() {
+                Ok(Progress::More) => {}
+                Ok(Progress::Done) => return Ok(()),
+                Err(NodeFault::Kernel(fault)) => return Err(fault),
+                Err(_) => unreachable!(),
+            }
+        }
+    }
+}
