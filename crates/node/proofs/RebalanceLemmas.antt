@@ -1,7 +1,6 @@
 -- What was worked out, and the steps that follow a plan.
 use Rattle.std.proofs.Common.{◌≡◌, ℕ, refl, subst}
-use Rattle.std.specs.Prelude.{Result, Ok, Err}
-use Rattle.cpu_set.specs.Ids.{Ids}
+use Rattle.std.specs.Prelude.{Result, Ok}
 use Rattle.kernel_model.specs.declared.KernelFault.{KernelFault}
 use Rattle.node.specs.declared.outcome.Outcome.{Outcome}
 use Rattle.node.specs.declared.outcome.Outcome.TheVariants.{Plan, Short}

@@ -1,6 +1,5 @@
-use Rattle.std.proofs.Common.{◌≡◌, ℕ, List, length, refl, sym, ◌∙◌}
+use Rattle.std.proofs.Common.{◌≡◌, ℕ, length, refl, sym, ◌∙◌}
 use Rattle.std.specs.FinSet as set
-use Rattle.certificate.specs.RowView.{RowView}
 use Rattle.certificate.specs.IsShortage.{asked, chosen, offered, is_offered}
 use Rattle.certificate.specs.IsShown.{IsShown}
 use Rattle.node.proofs.AskingLemmas.{offered_len}
