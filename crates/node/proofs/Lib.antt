@@ -15,3 +15,4 @@ pub mod LeaveLemmas
 pub mod MachineLemmas
 pub mod PlanLemmas
 pub mod AskingLemmas
+pub mod HeadlineLemmas

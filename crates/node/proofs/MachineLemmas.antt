@@ -1,19 +1,28 @@
 -- What holds of a node holds after any list of calls and events.
-use Rattle.std.proofs.Common.{◌≡◌, inl, inr, ℕ, List, [], ◌∷◌, sym, subst}
+use Rattle.std.proofs.Common.{◌≡◌, inl, inr, ℕ, List, [], ◌∷◌, refl, sym, subst}
 use Rattle.std.specs.Prelude.{Result, Ok, Err}
 use Rattle.kernel_model.specs.declared.KernelFault.{KernelFault}
 use Rattle.kernel_model.specs.declared.KernelError.{KernelError}
 use Rattle.kernel_model.specs.declared.KernelError.TheVariants as kernel
 use Rattle.faults.specs.declared.OrMemory.{OrMemory}
 use Rattle.faults.specs.declared.OrMemory.TheVariants.{Memory, Fault}
+use Rattle.rows.specs.Weighs.{RowsWeigh}
+use Rattle.apply_plan.specs.declared.Progress.{Progress}
+use Rattle.apply_plan.specs.declared.Progress.TheVariants.{More, Done}
+use Rattle.apply_plan.specs.OneStep.{StepsLeave}
+use Rattle.apply_plan.specs.Effects.{TargetsTakeEffect}
 use Rattle.node.specs.declared.fault.NodeFault.{NodeFault}
 use Rattle.node.specs.declared.fault.NodeFault.TheVariants.{Busy, BadId, IdInUse, TooManyContainers, NoContainer, NotCreated, NotRunnable, BadSignal, NotLive, NotStopped, NoHandover, NoAnswer, Config, Demand, Kernel}
+use Rattle.node.specs.declared.phase.Phase.TheVariants.{Settled, Unsettled}
 use Rattle.node.specs.NodeState.{NodeState}
 use Rattle.node.specs.IsNode.{IsNode}
 use Rattle.node.specs.Calls.{NotLaunched, Ended, Creates, Starts, Kills, Deletes}
-use Rattle.node.specs.Machine.{Event, Step, RunsKeep}
-use Rattle.node.specs.Machine.Event.{Create, Start, Kill, Delete, Fork, Exit, Offline, Online}
+use Rattle.node.specs.Rebalance.{StepsOn}
+use Rattle.node.specs.Machine.{Event, Step, RunsKeep, RunsStaySafe, RunsRebalance}
+use Rattle.node.specs.Machine.Event.{Create, Start, Kill, Delete, Rebalance, Begin, StepOn, Fork, Exit, Offline, Online}
 use Rattle.node.proofs.NodeLemmas.{fork_node, exit_node, offline_node, online_node, end_node, remove_refused_node, created_node, not_created_node, deleted_node, started_node}
+use Rattle.node.proofs.StepLemmas.{more_node, ended_node}
+use Rattle.node.proofs.HeadlineLemmas.{begins_node, rebalances_node, headline}
 
 module _ (old : NodeState) (h : IsNode old) (new : NodeState) where
   moved : (other : NodeState) → new ≡ other → IsNode other → IsNode new
@@ -87,16 +96,33 @@ module _ (old : NodeState) (h : IsNode old) (new : NodeState) where
   delete_keeps id (Err (Config fault)) d = unchanged d.1
   delete_keeps id (Err (Demand fault)) d = unchanged d.1
 
-  step_keeps : (event : Event) → Step old event new → IsNode new
-  step_keeps (Create id bundle config answer) s = create_keeps id bundle config answer s
-  step_keeps (Start id answer) s = start_keeps id answer s
-  step_keeps (Kill id signal answer) s = kill_keeps id signal answer s
-  step_keeps (Delete id answer) s = delete_keeps id answer s
-  step_keeps (Fork parent answer) s = moved (record old { kernel = new.kernel }) s.1 (fork_node old h new.kernel parent answer s.0)
-  step_keeps (Exit pid answer) s = moved (record old { kernel = new.kernel }) s.1 (exit_node old h new.kernel pid answer s.0)
-  step_keeps (Offline cpu answer) s = moved (record old { kernel = new.kernel }) s.1 (offline_node old h new.kernel cpu answer s.0)
-  step_keeps (Online cpu answer) s = moved (record old { kernel = new.kernel }) s.1 (online_node old h new.kernel cpu answer s.0)
+  stepped : (law : StepsLeave) (r : Result Progress NodeFault) → StepsOn old r new → IsNode new
+  stepped law (Ok More) s = moved _ s.is (more_node law old h s.handover s.was new.kernel (Ok More) s.steps)
+  stepped law (Ok Done) s = moved _ s.is (ended_node law old h s.handover s.was new.kernel (Ok Done) s.steps Settled refl)
+  stepped law (Err (Kernel fault)) s = moved _ s.is (ended_node law old h s.handover s.was new.kernel (Err fault) s.steps Unsettled refl)
+  stepped law (Err NoHandover) s = unchanged s.1
+  stepped law (Err fault) s = absurd s
 
-pub runs_keep : RunsKeep
-runs_keep old [] new h r = subst (λ (n : NodeState). IsNode n) (sym r) h
-runs_keep old (event ∷ later) new h r = runs_keep r.0 later new (step_keeps old h r.0 event r.1) r.2
+  step_keeps : RowsWeigh → StepsLeave → (event : Event) → Step old event new → IsNode new
+  step_keeps weigh law (Create id bundle config answer) s = create_keeps id bundle config answer s
+  step_keeps weigh law (Start id answer) s = start_keeps id answer s
+  step_keeps weigh law (Kill id signal answer) s = kill_keeps id signal answer s
+  step_keeps weigh law (Delete id answer) s = delete_keeps id answer s
+  step_keeps weigh law (Rebalance answer) s = rebalances_node old h weigh law answer new s
+  step_keeps weigh law (Begin answer) s = begins_node old h weigh answer new s
+  step_keeps weigh law (StepOn answer) s = stepped law answer s
+  step_keeps weigh law (Fork parent answer) s = moved (record old { kernel = new.kernel }) s.1 (fork_node old h new.kernel parent answer s.0)
+  step_keeps weigh law (Exit pid answer) s = moved (record old { kernel = new.kernel }) s.1 (exit_node old h new.kernel pid answer s.0)
+  step_keeps weigh law (Offline cpu answer) s = moved (record old { kernel = new.kernel }) s.1 (offline_node old h new.kernel cpu answer s.0)
+  step_keeps weigh law (Online cpu answer) s = moved (record old { kernel = new.kernel }) s.1 (online_node old h new.kernel cpu answer s.0)
+
+module _ (weigh : RowsWeigh) (law : StepsLeave) where
+  pub runs_keep : RunsKeep
+  runs_keep old [] new h r = subst (λ (n : NodeState). IsNode n) (sym r) h
+  runs_keep old (event ∷ later) new h r = runs_keep r.0 later new (step_keeps old h r.0 weigh law event r.1) r.2
+
+  pub runs_stay_safe : RunsStaySafe
+  runs_stay_safe old events new h r = (runs_keep old events new h r).holds.safe
+
+  pub runs_rebalance : TargetsTakeEffect → RunsRebalance
+  runs_rebalance effects first events old answer new h r b = headline old (runs_keep first events old h r) weigh law effects answer new b

@@ -1,13 +1,23 @@
 -- The node machine: calls and events with their answers, one after another.
-use Rattle.std.specs.Prelude.{◌≡◌, ℕ, List, [], ◌∷◌, Result}
+use Rattle.std.specs.Prelude.{◌≡◌, ℕ, List, [], ◌∷◌, map, Result}
 use Rattle.kernel_model.specs.declared.KernelError.{KernelError}
 use Rattle.kernel_model.specs.declared.KernelFault.{KernelFault}
+use Rattle.kernel_model.specs.KernelState.{KernelState}
+use Rattle.kernel_model.specs.WellFormed.{IsWellFormed}
 use Rattle.kernel_model.specs.Cases.{Forks, Exits, GoesOffline, ComesOnline}
+use Rattle.machine.specs.Layout.{Layout}
 use Rattle.faults.specs.declared.OrMemory.{OrMemory}
+use Rattle.apply_plan.specs.declared.Progress.{Progress}
+use Rattle.apply_plan.specs.Holders.{IsSafe}
 use Rattle.node.specs.declared.fault.NodeFault.{NodeFault}
+use Rattle.node.specs.declared.outcome.Outcome.{Outcome}
 use Rattle.node.specs.NodeState.{NodeState}
-use Rattle.node.specs.IsNode.{IsNode}
-use Rattle.node.specs.Calls.{Creates, Starts, Kills, Deletes}
+use Rattle.node.specs.Owners.{owners_of}
+use Rattle.node.specs.IsNode.{IsOfMachine, IsNode}
+use Rattle.node.specs.Unused.{IsUnused}
+use Rattle.node.specs.Calls.{Opens, Creates, Starts, Kills, Deletes}
+use Rattle.node.specs.Rebalance.{Begins, StepsOn, Rebalances}
+use Rattle.node.specs.Headline.{Headline}
 
 -- a call with its answer, or an event of the kernel with its answer; a call that only reads changes nothing, and is none
 pub data Event : Type 0 where
@@ -15,6 +25,9 @@ pub data Event : Type 0 where
   Start : List ℕ → Result (Unit {0}) NodeFault → Event
   Kill : List ℕ → List ℕ → Result (Unit {0}) NodeFault → Event
   Delete : List ℕ → Result (Unit {0}) NodeFault → Event
+  Rebalance : Result Outcome (OrMemory NodeFault) → Event
+  Begin : Result Outcome (OrMemory NodeFault) → Event
+  StepOn : Result Progress NodeFault → Event
   Fork : ℕ → Result ℕ KernelError → Event
   Exit : ℕ → Result (Unit {0}) KernelFault → Event
   Offline : ℕ → Result (Unit {0}) KernelFault → Event
@@ -30,6 +43,9 @@ Step old (Create id bundle config answer) new = Creates old id bundle config ans
 Step old (Start id answer) new = Starts old id answer new
 Step old (Kill id signal answer) new = Kills old id signal answer new
 Step old (Delete id answer) new = Deletes old id answer new
+Step old (Rebalance answer) new = Rebalances old answer new
+Step old (Begin answer) new = Begins old answer new
+Step old (StepOn answer) new = StepsOn old answer new
 Step old (Fork parent answer) new = Forks old.kernel parent answer new.kernel × InKernel old new
 Step old (Exit pid answer) new = Exits old.kernel pid answer new.kernel × InKernel old new
 Step old (Offline cpu answer) new = GoesOffline old.kernel cpu answer new.kernel × InKernel old new
@@ -40,6 +56,23 @@ abbrev pub Run : NodeState → List Event → NodeState → Type 0
 Run old [] new = new ≡ old
 Run old (event ∷ later) new = (mid : NodeState) × Step old event mid × Run mid later new
 
+-- what `new` makes of a kernel that no node has used is a node
+abbrev pub FirstIsNode : Type 0
+FirstIsNode = (k : KernelState) (m : Layout) (n : NodeState) → IsWellFormed k → IsOfMachine k m → IsUnused k → Opens k m n → IsNode n
+
 -- what holds of a node holds after any list of calls and events, with all their refusals
 abbrev pub RunsKeep : Type 0
 RunsKeep = (old : NodeState) (events : List Event) (new : NodeState) → IsNode old → Run old events new → IsNode new
+
+-- so after each of them no live pinned container requests a CPU of another live one, but reserved ones, and each live one
+-- requests some
+abbrev pub RunsStaySafe : Type 0
+RunsStaySafe =
+    (old : NodeState) (events : List Event) (new : NodeState) → IsNode old → Run old events new
+    → IsSafe new.kernel new.kernel.reserved (map (λ o. o.holder) (owners_of new.containers))
+
+-- and after any list of them a rebalance leaves what the headline says of its answer
+abbrev pub RunsRebalance : Type 0
+RunsRebalance =
+    (first : NodeState) (events : List Event) (old : NodeState) (answer : Result Outcome (OrMemory NodeFault)) (new : NodeState)
+    → IsNode first → Run first events old → Rebalances old answer new → Headline old answer new

@@ -1,10 +1,11 @@
 //! Laws over the definitions alone: nothing here runs.
 ghost use Rattle.std.specs.Prelude.{◌≡◌};
 ghost use Rattle.node.specs.Asking.{RowsAreAsking, ShortStands};
-ghost use Rattle.node.specs.Machine.{RunsKeep};
+ghost use Rattle.node.specs.Machine.{FirstIsNode, RunsKeep, RunsStaySafe, RunsRebalance};
 ghost use Rattle.node.specs.UnusedLemmas.{FirstIsUnused, FirstIsOfMachine};
 
 use crate::CONTAINER_LIMIT;
+use apply_plan::laws::{effects, steps};
 use rows::rows_weigh;
 
 /// Which kernels a node can be made over: those of which nothing was asked yet, and which have the machine's CPUs and nodes.
@@ -13,10 +14,30 @@ pub fn first_kernels()
     ensures machine { FirstIsOfMachine }
 {}
 
-/// What holds of a node holds after any list of its calls and of the kernel's events, with all their refusals; nothing runs.
+/// What holds of a node holds of a new one, and after any list of its calls and of the kernel's events, with all their
+/// refusals. So after each of them no CPU but reserved ones is requested for a live pinned container and for another live
+/// one. Nothing runs.
 pub fn runs()
-    ensures { RunsKeep }
-{}
+    ensures first { FirstIsNode }
+    ensures keep { RunsKeep }
+    ensures safe { RunsStaySafe }
+{
+    rows_weigh();
+    steps();
+}
+
+/// The headline: what a rebalance leaves, after any list of calls and events; nothing runs.
+///
+/// After a plan each live container has exactly the CPUs that it asked for, all allowed and none shared, at a total
+/// distance to the home nodes that no plan undercuts, and what the kernel has in effect is that plan. A shortage names
+/// containers that together ask for more CPUs than they are allowed.
+pub fn each_rebalance()
+    ensures { RunsRebalance }
+{
+    rows_weigh();
+    steps();
+    effects();
+}
 
 /// Whose the rows of a node's problem are: each is a live pinned container's, in their order, so that a shortage of the
 /// rows is one of these containers; nothing runs.

@@ -1,0 +1,285 @@
+-- What a rebalance leaves: the headline.
+use Rattle.std.proofs.Common.{◌≡◌, ℕ, true, false, cond, ◌||◌, List, [], ◌∷◌, Option, Some, refl, sym, ap, ◌∙◌, subst}
+use Rattle.std.proofs.lemmas.Bool.{false≢true, and_from, and_left, and_right}
+use Rattle.std.proofs.lemmas.List.Elements.{recursion_from_All}
+use Rattle.std.specs.Prelude.{Result, Ok, Err}
+use Rattle.std.specs.List.{AllByRecursion}
+use Rattle.std.specs.FinSet as set
+use Rattle.cpu_set.specs.Ids.{Ids, IsDisjoint}
+use Rattle.cpuset_tree.specs.declared.Group.{Group}
+use Rattle.cpuset_tree.specs.Effective.{effective_cpus}
+use Rattle.proctable.specs.Processes.{is_alive}
+use Rattle.kernel_model.specs.KernelState.{KernelState}
+use Rattle.demand.specs.declared.Kind.{Kind}
+use Rattle.demand.specs.declared.Kind.TheVariants.{Pinned, Shared}
+use Rattle.demand.specs.declared.Demand.{Demand}
+use Rattle.certificate.specs.IsPlan.{IsPlan}
+use Rattle.certificate.specs.IsLeast.{IsLeast}
+use Rattle.certificate.specs.Cost.{cost}
+use Rattle.certificate_text.specs.declared.certificates.Certificate.{Certificate}
+use Rattle.certificate_text.specs.declared.certificates.Certificate.TheVariants as certificate
+use Rattle.certificate_text.specs.Written.{CanWrite}
+use Rattle.rows.specs.Weighs.{RowsWeigh}
+use Rattle.faults.specs.declared.OrMemory.{OrMemory}
+use Rattle.faults.specs.declared.OrMemory.TheVariants.{Memory, Fault}
+use Rattle.kernel_model.specs.declared.KernelFault.{KernelFault}
+use Rattle.apply_plan.specs.Holders.{Pairwise}
+use Rattle.apply_plan.specs.OneStep.{StepsLeave}
+use Rattle.apply_plan.specs.Effects.{HasFreeParent, TargetsTakeEffect}
+use Rattle.node.specs.declared.fault.NodeFault.{NodeFault}
+use Rattle.node.specs.declared.fault.NodeFault.TheVariants.{Busy, Kernel}
+use Rattle.node.specs.declared.outcome.Outcome.{Outcome}
+use Rattle.node.specs.declared.outcome.Outcome.TheVariants.{Plan, Short}
+use Rattle.node.specs.declared.phase.Phase.TheVariants.{Underway}
+use Rattle.node.specs.NodeState.{ContainerState, NodeState}
+use Rattle.node.specs.Owners.{Owner, is_pinned, owner_of, owners_of}
+use Rattle.node.specs.Status.{is_live}
+use Rattle.node.specs.IsNode.{IsHome, IsPlaced, IsNode}
+use Rattle.node.specs.Rows.{rows_of}
+use Rattle.node.specs.Entries.{Target, entry_of, plan_pool, plan_targets, plan_entries, opened}
+use Rattle.node.specs.Rebalance.{Begun, Lacks, Begins, Moves, Finishes, Rebalances}
+use Rattle.node.specs.Headline.{effective, HasItsCpus, IsServed, AreAlone, is_asking, effective_sets, IsRebalanced, Headline}
+use Rattle.node.proofs.ListLemmas.{all_map, all_map2, pairs_map, all_of_map, of_all_map}
+use Rattle.node.proofs.AskingLemmas.{short_stands}
+use Rattle.node.proofs.FinishLemmas.{Settles, Breaks, settles, breaks}
+use Rattle.node.proofs.PlanLemmas.{IsDealt, over_targets, plan_serves, plan_parts, plan_effects, opened_ongoing, effects_later}
+
+abbrev Container : Type 0
+Container = List ℕ × ContainerState
+
+-- the parent of a container's group requests nothing
+free_parent : (k : KernelState) (parent : Group) → IsHome k.tree parent → (o : Owner) → IsPlaced k.tree parent o → HasFreeParent k o.holder.group
+free_parent k parent home o placed = record {
+  entry = placed.entry;
+  above = home.entry;
+  below = record {
+    root = home.root;
+    parent = parent;
+    top = home.top;
+    there = placed.there;
+    below = placed.below;
+    parent_there = home.there;
+    parent_below = home.below;
+  };
+  free = home.free_cpus;
+}
+
+-- what a container has while the same CPUs are online
+still_its : (k new : KernelState) → new.tree.online ≡ k.tree.online → (pool : Ids) (d : Demand) (kind : Kind) (cpus : Ids) → HasItsCpus k pool d kind cpus
+    → HasItsCpus new pool d kind cpus
+still_its k new same pool d (Pinned count) cpus h = (h.0, λ cpu c. ((h.1 cpu c).0, ap (λ s. set.contains s cpu) same ∙ (h.1 cpu c).1))
+still_its k new same pool d Shared cpus h = h
+
+-- once the hand-over to a plan is open
+abbrev underway : NodeState → List Ids → Option Certificate → NodeState
+underway old sets last = record old { pool = plan_pool old sets; phase = Underway; ongoing = Some (opened old sets); last = last }
+
+-- and once it has ended
+module _ (old : NodeState) (h : IsNode old) (weigh : RowsWeigh) (effects : TargetsTakeEffect) (sets : List Ids) (plan : IsPlan (rows_of old) sets)
+    (last : Option Certificate) (new : NodeState) (s : Settles (opened old sets) (underway old sets last) new) where
+  still_live : (c : ContainerState) → is_live new.kernel c ≡ is_live old.kernel c
+  still_live c = ap (λ t. is_alive t c.pid) s.table
+
+  -- a fact on the containers, the sets and the targets, from the last container to the first
+  over_plan : (P : List Container → List Ids → List Target → Type 0) → P [] [] []
+      → ((e : Container) (later : List Container) (ss : List Ids) (ts : List Target) → is_live old.kernel e.1 ≡ false → P later ss ts → P (e ∷ later) ss ts)
+      → ((e : Container) (later : List Container) (ss : List Ids) (ts : List Target) → is_live old.kernel e.1 ≡ true → e.1.demand.kind ≡ Shared → P later ss ts
+      → P (e ∷ later) ss ((e, plan_pool old sets) ∷ ts))
+      → ((e : Container) (later : List Container) (c : Ids) (ss : List Ids) (ts : List Target) → IsDealt old.kernel old.machine e c → P later ss ts
+      → P (e ∷ later) (c ∷ ss) ((e, c) ∷ ts)) → P old.containers sets (plan_targets old sets)
+  over_plan P none dead shared pinned =
+      over_targets old.kernel old.machine (plan_pool old sets) weigh P none dead shared pinned old.containers h.asked sets plan.met
+
+  -- what holds of each container holds of those that get something
+  targets_all : (P : Container → Type 0) → AllByRecursion P old.containers → AllByRecursion (λ p. P p.0) (plan_targets old sets)
+  targets_all P = over_plan (λ es ss ts. AllByRecursion P es → AllByRecursion (λ p. P p.0) ts) (λ all. tt) (λ e later ss ts dead on all. on all.1)
+      (λ e later ss ts live kind on all. (all.0, on all.1)) (λ e later c ss ts dealt on all. (all.0, on all.1))
+
+  targets_live : AllByRecursion (λ p. is_live old.kernel p.0.1 ≡ true) (plan_targets old sets)
+  targets_live = over_plan (λ es ss ts. AllByRecursion (λ p. is_live old.kernel p.0.1 ≡ true) ts) tt (λ e later ss ts dead on. on)
+      (λ e later ss ts live kind on. (live, on)) (λ e later c ss ts dealt on. (dealt.live, on))
+
+  -- what holds of those that get something holds of each live container
+  live_all : (P : Container → Type 0) → AllByRecursion (λ p. P p.0) (plan_targets old sets) → AllByRecursion (λ e. is_live new.kernel e.1 ≡ true → P e) old.containers
+  live_all P = over_plan (λ es ss ts. AllByRecursion (λ p. P p.0) ts → AllByRecursion (λ e. is_live new.kernel e.1 ≡ true → P e) es) (λ all. tt)
+      (λ e later ss ts dead on all. (λ live. absurd (false≢true (sym dead ∙ sym (still_live e.1) ∙ live)), on all))
+      (λ e later ss ts live kind on all. (λ _. all.0, on all.1)) (λ e later c ss ts dealt on all. (λ _. all.0, on all.1))
+
+  -- each that gets something has it in effect
+  parents : AllByRecursion (λ e. HasFreeParent new.kernel e.1.group) old.containers
+  parents =
+      of_all_map owner_of (λ o. HasFreeParent new.kernel o.holder.group) old.containers
+      (all_map (IsPlaced new.kernel.tree new.parent) (λ o. HasFreeParent new.kernel o.holder.group) (free_parent new.kernel new.parent s.node.holds.home) (owners_of old.containers)
+      (subst (λ (es : List Container). AllByRecursion (IsPlaced new.kernel.tree new.parent) (owners_of es)) s.containers s.node.holds.placed))
+
+  take_effect : AllByRecursion (λ e. is_alive new.kernel.table e.pid ≡ true → effective_cpus new.kernel.tree e.group ≡ e.target) (plan_entries old sets)
+  take_effect =
+      effects new.kernel (plan_entries old sets) s.node.holds.kernel
+      (all_of_map entry_of (λ e. HasFreeParent new.kernel e.group) (plan_targets old sets) (targets_all (λ e. HasFreeParent new.kernel e.1.group) parents))
+      (effects_later old.kernel new.kernel s.online (plan_entries old sets) (plan_effects old h weigh sets plan)) s.targets
+
+  abbrev HasIt : Target → Type 0
+  HasIt p = effective new.kernel p.0 ≡ p.1
+
+  in_effect : AllByRecursion HasIt (plan_targets old sets)
+  in_effect =
+      all_map2 (λ p. is_live old.kernel p.0.1 ≡ true) (λ p. is_live new.kernel p.0.1 ≡ true → HasIt p) HasIt (λ p live has. has (still_live p.0.1 ∙ live))
+      (plan_targets old sets) targets_live
+      (of_all_map entry_of (λ e. is_alive new.kernel.table e.pid ≡ true → effective_cpus new.kernel.tree e.group ≡ e.target) (plan_targets old sets) take_effect)
+
+  -- which is what it asked for
+  abbrev HasIts : Container → Type 0
+  HasIts e = HasItsCpus new.kernel new.pool e.1.demand e.1.demand.kind (effective new.kernel e)
+
+  its : (p : Target) → HasIt p → HasItsCpus old.kernel (plan_pool old sets) p.0.1.demand p.0.1.demand.kind p.1 → HasIts p.0
+  its p is has =
+      subst (λ cpus. HasItsCpus new.kernel new.pool p.0.1.demand p.0.1.demand.kind cpus) (sym is)
+      (subst (λ pool. HasItsCpus new.kernel pool p.0.1.demand p.0.1.demand.kind p.1) (sym s.pool)
+      (still_its old.kernel new.kernel s.online (plan_pool old sets) p.0.1.demand p.0.1.demand.kind p.1 has))
+
+  served : AllByRecursion (IsServed new.kernel new.pool) old.containers
+  served = live_all HasIts
+      (all_map2 HasIt (λ p. HasItsCpus old.kernel (plan_pool old sets) p.0.1.demand p.0.1.demand.kind p.1) (λ p. HasIts p.0) its (plan_targets old sets) in_effect
+      (plan_serves old h weigh sets plan))
+
+  -- and nobody else has
+  abbrev AreDisjoint : Container → Container → Type 0
+  AreDisjoint a b = (is_pinned a.1.demand.kind || is_pinned b.1.demand.kind) ≡ true → IsDisjoint (effective new.kernel a) (effective new.kernel b)
+
+  disjoint : Pairwise (λ p q. AreDisjoint p.0 q.0) (plan_targets old sets)
+  disjoint =
+      pairs_map HasIt (λ p q. (is_pinned p.0.1.demand.kind || is_pinned q.0.1.demand.kind) ≡ true → IsDisjoint p.1 q.1) (λ p q. AreDisjoint p.0 q.0)
+      (λ p q p_is q_is apart pinned cpu in_p in_q.
+      apart pinned cpu (ap (λ t. set.contains t cpu) (sym p_is) ∙ in_p) (ap (λ t. set.contains t cpu) (sym q_is) ∙ in_q))
+      (plan_targets old sets) in_effect (plan_parts old h weigh sets plan)
+
+  -- what holds of each of those that get something with this one holds of each live container with it
+  record Beside (es : List Container) (ts : List Target) : Type 0 where
+    pairs : Pairwise (AreAlone new.kernel) es
+    with_one : (a : Container) → AllByRecursion (λ q. AreDisjoint a q.0) ts → AllByRecursion (AreAlone new.kernel a) es
+
+  beside : Pairwise (λ p q. AreDisjoint p.0 q.0) (plan_targets old sets) → Beside old.containers (plan_targets old sets)
+  beside = over_plan (λ es ss ts. Pairwise (λ p q. AreDisjoint p.0 q.0) ts → Beside es ts) (λ all. record { pairs = tt; with_one = λ a one. tt })
+      (λ e later ss ts dead on all.
+      let rest : Beside later ts = on all in
+      record {
+        pairs = (
+          recursion_from_All (AreAlone new.kernel e) later (λ i d below live. absurd (false≢true (sym dead ∙ sym (still_live e.1) ∙ live))),
+          rest.pairs,
+        );
+        with_one = λ a one. (λ live_a live_e. absurd (false≢true (sym dead ∙ sym (still_live e.1) ∙ live_e)), rest.with_one a one);
+      })
+      (λ e later ss ts live kind on all. more e (plan_pool old sets) later ts (on all.1) all.0)
+      (λ e later c ss ts dealt on all. more e c later ts (on all.1) all.0) where
+        more : (e : Container) (c : Ids) (later : List Container) (ts : List Target) → Beside later ts → AllByRecursion (λ q. AreDisjoint e q.0) ts
+            → Beside (e ∷ later) ((e, c) ∷ ts)
+        more e c later ts rest one = record {
+          pairs = (rest.with_one e one, rest.pairs);
+          with_one = λ a others. (λ live_a live_e. others.0, rest.with_one a others.1);
+        }
+
+  alone : Pairwise (AreAlone new.kernel) old.containers
+  alone = (beside disjoint).pairs
+
+  -- what the pinned ones have is the plan
+  skipped : (e : Container) (later : List Container) (ss : List Ids) → is_asking new.kernel e ≡ false → effective_sets new.kernel later ≡ ss
+      → effective_sets new.kernel (e ∷ later) ≡ ss
+  skipped e later ss asks on = ap (λ b. cond b (effective new.kernel e ∷ effective_sets new.kernel later) (effective_sets new.kernel later)) asks ∙ on
+
+  taken : (e : Container) (later : List Container) (c : Ids) (ss : List Ids) → IsDealt old.kernel old.machine e c → effective new.kernel e ≡ c
+      → effective_sets new.kernel later ≡ ss → effective_sets new.kernel (e ∷ later) ≡ c ∷ ss
+  taken e later c ss dealt is on =
+      ap (λ b. cond b (effective new.kernel e ∷ effective_sets new.kernel later) (effective_sets new.kernel later))
+      (and_from (is_live new.kernel e.1) (is_pinned e.1.demand.kind) (still_live e.1 ∙ dealt.live) (ap is_pinned dealt.kind))
+      ∙ ap (λ x. x ∷ effective_sets new.kernel later) is ∙ ap (λ xs. c ∷ xs) on
+
+  sets_in_effect : AllByRecursion HasIt (plan_targets old sets) → effective_sets new.kernel old.containers ≡ sets
+  sets_in_effect = over_plan (λ es ss ts. AllByRecursion HasIt ts → effective_sets new.kernel es ≡ ss) (λ all. refl)
+      (λ e later ss ts dead on all. skipped e later ss (and_left (is_live new.kernel e.1) (is_pinned e.1.demand.kind) (still_live e.1 ∙ dead)) (on all))
+      (λ e later ss ts live kind on all. skipped e later ss (and_right (is_live new.kernel e.1) (is_pinned e.1.demand.kind) (ap is_pinned kind)) (on all.1))
+      (λ e later c ss ts dealt on all. taken e later c ss dealt all.0 (on all.1))
+
+  same_sets : effective_sets new.kernel new.containers ≡ sets
+  same_sets = ap (λ (es : List Container). effective_sets new.kernel es) s.containers ∙ sets_in_effect in_effect
+
+  pub settled : (total : ℕ) → IsLeast (rows_of old) sets → cost (rows_of old) sets ≡ total → IsRebalanced old total new
+  settled total least costs = record {
+    served = subst (λ (es : List Container). AllByRecursion (IsServed new.kernel new.pool) es) (sym s.containers) served;
+    alone = subst (λ (es : List Container). Pairwise (AreAlone new.kernel) es) (sym s.containers) alone;
+    least = subst (λ (ss : List Ids). IsLeast (rows_of old) ss) (sym same_sets) least;
+    costs = sym costs ∙ ap (cost (rows_of old)) (sym same_sets);
+    same = s.containers;
+  }
+
+-- after each of the calls, whatever it answers
+module _ (old : NodeState) (h : IsNode old) (weigh : RowsWeigh) where
+  begun_as : (sets : List Ids) → IsPlan (rows_of old) sets → (c : Certificate) → CanWrite c → IsNode (underway old sets (Some c))
+  begun_as sets plan c can = record {
+    machine = h.machine;
+    holds = h.holds;
+    few = h.few;
+    asked = h.asked;
+    stands = (refl, opened_ongoing old h weigh sets plan);
+    written = can;
+  }
+
+  pub begun_node : (total : ℕ) (new : NodeState) → Begun old total new → IsNode new
+  begun_node total new b =
+      subst (λ (n : NodeState). IsNode n) (sym b.is) (begun_as b.sets b.decides.least.plan (certificate.Plan (rows_of old) b.sets b.prices total) b.can)
+
+  pub lacks_node : (wanted : ℕ) (allowed : Ids) (new : NodeState) → Lacks old wanted allowed new → IsNode new
+  lacks_node wanted allowed new l = subst (λ (n : NodeState). IsNode n) (sym l.is) (record {
+    machine = h.machine;
+    holds = h.holds;
+    few = h.few;
+    asked = h.asked;
+    stands = h.stands;
+    written = l.can;
+  })
+
+  pub begins_node : (r : Result Outcome (OrMemory NodeFault)) (new : NodeState) → Begins old r new → IsNode new
+  begins_node (Ok (Plan total)) new b = begun_node total new b
+  begins_node (Ok (Short wanted allowed)) new l = lacks_node wanted allowed new l
+  begins_node (Err Memory) new e = subst (λ (n : NodeState). IsNode n) (sym e.1) h
+  begins_node (Err (Fault Busy)) new e = subst (λ (n : NodeState). IsNode n) (sym e.1) h
+  begins_node (Err (Fault fault)) new e = absurd e
+
+  -- and after its steps
+  module _ (law : StepsLeave) where
+    abbrev after_begin : (total : ℕ) (mid : NodeState) → Begun old total mid → NodeState
+    after_begin total mid b = underway old b.sets (Some (certificate.Plan (rows_of old) b.sets b.prices total))
+
+    moved_settles : (total : ℕ) (new : NodeState) (m : Moves old total (Ok tt) new) → Settles (opened old m.begun.sets) (after_begin total m.mid m.begun) new
+    moved_settles total new m =
+        let b = m.begun in
+        settles law (opened old b.sets) (after_begin total m.mid b) new
+        (begun_as b.sets b.decides.least.plan (certificate.Plan (rows_of old) b.sets b.prices total) b.can) refl
+        (subst (λ (n : NodeState). Finishes n (Ok tt) new) b.is m.finishes)
+
+    moved_breaks : (total : ℕ) (fault : KernelFault) (new : NodeState) (m : Moves old total (Err fault) new)
+        → Breaks (opened old m.begun.sets) fault (after_begin total m.mid m.begun) new
+    moved_breaks total fault new m =
+        let b = m.begun in
+        breaks law (opened old b.sets) fault (after_begin total m.mid b) new
+        (begun_as b.sets b.decides.least.plan (certificate.Plan (rows_of old) b.sets b.prices total) b.can) refl
+        (subst (λ (n : NodeState). Finishes n (Err fault) new) b.is m.finishes)
+
+    pub rebalances_node : (r : Result Outcome (OrMemory NodeFault)) (new : NodeState) → Rebalances old r new → IsNode new
+    rebalances_node (Ok (Plan total)) new m = (moved_settles total new m).node
+    rebalances_node (Ok (Short wanted allowed)) new l = lacks_node wanted allowed new l
+    rebalances_node (Err Memory) new e = begins_node (Err Memory) new e
+    rebalances_node (Err (Fault (Kernel fault))) new m = (moved_breaks m.0 fault new m.1).node
+    rebalances_node (Err (Fault Busy)) new e = begins_node (Err (Fault Busy)) new e
+    rebalances_node (Err (Fault fault)) new e = absurd e
+
+    module _ (effects : TargetsTakeEffect) where
+      pub rebalanced : (total : ℕ) (new : NodeState) → Moves old total (Ok tt) new → IsRebalanced old total new
+      rebalanced total new m =
+          let b = m.begun in
+          settled old h weigh effects b.sets b.decides.least.plan (Some (certificate.Plan (rows_of old) b.sets b.prices total)) new (moved_settles total new m) total
+          b.decides.least b.decides.proved.costs
+
+      pub headline : (r : Result Outcome (OrMemory NodeFault)) (new : NodeState) → Rebalances old r new → Headline old r new
+      headline (Ok (Plan total)) new m = rebalanced total new m
+      headline (Ok (Short wanted allowed)) new l = short_stands old h weigh wanted allowed new l
+      headline (Err error) new e = tt
