@@ -1,5 +1,5 @@
 -- What a step of the hand-over that is open leaves of what holds of a node.
-use Rattle.std.proofs.Common.{◌≡◌, inl, inr, ◌<◌, ◌+◌, false, List, Option, Some, None, refl, sym, ap, ◌∙◌, subst, arith}
+use Rattle.std.proofs.Common.{◌≡◌, inl, inr, ◌<◌, ◌≤◌, ◌+◌, ◌*◌, length, false, List, Option, Some, None, refl, sym, ap, ◌∙◌, subst, arith}
 use Rattle.std.proofs.lemmas.Option.{none-some, same_Some}
 use Rattle.std.specs.Prelude.{is_none, map, Result, Ok, Err, OnErr}
 use Rattle.std.specs.List.{AllByRecursion, AllZip}
@@ -148,6 +148,13 @@ module _ (parent : Group) (owners : List Owner) where
 pub its_steps : (old : NodeState) (o : Ongoing) → old.ongoing ≡ Some o → (new : NodeState) (r : Result Progress KernelFault) (phase : Phase) (ongoing : Option Ongoing)
     → Stepped old r phase ongoing new → Steps o.targets old.kernel r new.kernel
 its_steps old o was new r phase ongoing s = subst (λ (x : Ongoing). Steps x.targets old.kernel r new.kernel) (same_Some s.handover o (sym s.was ∙ was)) s.steps
+
+-- how many writes are to come of the hand-over that is open, and of none where none is
+pub few_to_come : (n now : NodeState) → n ≡ now → (o : Ongoing) → n.ongoing ≡ Some o → writes_to_come o.targets n.kernel ≤ 2 * length o.targets.entries
+    → (x : Ongoing) → now.ongoing ≡ Some x → writes_to_come x.targets now.kernel ≤ 2 * length x.targets.entries
+few_to_come n now is o was few x now_is =
+    subst (λ (m : NodeState). writes_to_come x.targets m.kernel ≤ 2 * length x.targets.entries) is
+    (subst (λ (y : Ongoing). writes_to_come y.targets n.kernel ≤ 2 * length y.targets.entries) (same_Some o x (sym was ∙ ap (λ (m : NodeState). m.ongoing) is ∙ now_is)) few)
 
 -- a node whose hand-over is open
 module _ (law : StepsLeave) (n : NodeState) (h : IsNode n) (o : Ongoing) (was : n.ongoing ≡ Some o) where

@@ -1,5 +1,5 @@
 //! The hand-over that is open, write by write.
-ghost use Rattle.std.specs.Prelude.{◌≡◌, ◌+◌, true, Some, OnErr};
+ghost use Rattle.std.specs.Prelude.{◌≡◌, ◌+◌, ◌*◌, ◌≤◌, true, length, Some, OnErr};
 ghost use Rattle.apply_plan.specs.DueWrite.{writes_to_come, HaveTargets};
 ghost use Rattle.node.specs.NodeState.{Ongoing, is_underway};
 ghost use Rattle.node.specs.Ongoing.{IsBroken};
@@ -12,7 +12,8 @@ use kernel_model::{Kernel, KernelFault};
 impl<K: Kernel + Drop> Node<K> {
     /// Makes the write that is due.
     fn advance(&mut self) -> Result<Progress, NodeFault>
-        ensures { StepsOn self.old result self.new }
+        ensures steps { StepsOn self.old result self.new }
+        ensures few { (o : Ongoing) → self.old.ongoing ≡ Some o → writes_to_come o.targets self.old.kernel ≤ 2 * length o.targets.entries }
     {
         apply_plan::laws::steps();
         let Some(mut ongoing) = self.ongoing.take() else {
@@ -42,8 +43,11 @@ impl<K: Kernel + Drop> Node<K> {
     /// requests what it did at first, or what it keeps of that, or its target.
     pub fn step(&mut self) -> Result<Progress, NodeFault>
         ensures steps { StepsOn self.old result self.new }
+        // At most two writes for each container are to come, and each that succeeds is one less.
+        ensures few { (o : Ongoing) → self.old.ongoing ≡ Some o → writes_to_come o.targets self.old.kernel ≤ 2 * length o.targets.entries }
         ensures falls { result ≡ Ok Progress.More → (o : Ongoing) → self.old.ongoing ≡ Some o
             → writes_to_come o.targets self.old.kernel ≡ writes_to_come o.targets self.new.kernel + 1 }
+        // At the end each live container has its target.
         ensures done { result ≡ Ok Progress.Done → (o : Ongoing) → self.old.ongoing ≡ Some o → HaveTargets self.new.kernel o.targets.entries }
         ensures broken { OnErr result ((o : Ongoing) → self.old.ongoing ≡ Some o → IsBroken o self.old.kernel self.new.kernel) }
         ensures counted { self.new.kernel.failures ≡ self.old.kernel.failures + rise_of result }

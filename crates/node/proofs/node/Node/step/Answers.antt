@@ -7,9 +7,10 @@ returns g c =
     let old = c.args.self.now in
     let new = c.advance.new.self in
     let r = c.advance.result in
-    let done = c.advance.ensures in
+    let done = c.advance.ensures.steps in
     record {
       steps = done;
+      few = c.advance.ensures.few;
       falls = λ e o was. (says law old c.holds.ensures o was r new done).falls e;
       done = λ e o was. (says law old c.holds.ensures o was r new done).done e;
       broken = broken_off law old c.holds.ensures r new done;
