@@ -108,7 +108,6 @@ node_arguments fault = []
 abbrev pub title_of : Refusal → List ℕ
 title_of refusal.Memory = codes "E1 Memory"
 title_of (refusal.Node fault) = node_title fault
-title_of refusal.BadLine = codes "E110 BadLine"
 title_of refusal.NoBundle = codes "E111 NoBundle"
 
 abbrev pub arguments_of : Refusal → List ℕ

@@ -1,7 +1,7 @@
 //! The commands that change something, each with the answer that is written.
 ghost use Rattle.std.specs.Prelude.{◌≡◌, Some};
 ghost use Rattle.script.specs.Ends.{Replies};
-ghost use Rattle.runtime.specs.Answered.{AnswersCreate, AnswersDelete, AnswersFound, AnswersKill, AnswersStart, IsUnknown};
+ghost use Rattle.runtime.specs.Answered.{AnswersCreate, AnswersDelete, AnswersFound, AnswersKill, AnswersStart};
 
 use crate::answers::{put_done, put_pid};
 use crate::bundles::Bundles;
@@ -74,11 +74,4 @@ pub fn delete<K: Kernel + Drop, W: Write>(node: &mut Node<K>, id: &str, w: &mut 
         Ok(()) => put_done(w),
         Err(fault) => Refusal::Node(fault).write(w),
     }
-}
-
-/// Answers a command that can't be carried out yet.
-pub fn refuse<K: Kernel + Drop, W: Write>(node: &Node<K>, w: &mut W) -> io::Result<()>
-    ensures { Replies (IsUnknown node.now) (W.contents w.old) (W.contents w.new) result node.now }
-{
-    Refusal::BadLine.write(w)
 }

@@ -19,7 +19,10 @@ use std::io::Write;
 fn put_hold<W: Write>(row: &Row, cpus: &IdSet, w: &mut W) -> io::Result<()>
     ensures { Writes (W.contents w.old) (W.contents w.new) result (hold_line (row.now, cpus.now)) }
 {
-    put_all(&[b"hold ".as_slice(), row.id.as_bytes(), b" ".as_slice()], w)?;
+    put_all(
+        &[b"hold ".as_slice(), row.id.as_bytes(), b" ".as_slice()],
+        w,
+    )?;
     put_set(cpus, w)?;
     put(b"\n", w)
 }

@@ -21,8 +21,6 @@ pub enum Refusal {
     Memory,
     /// E40 to E67 and E90 to E101: the node or the kernel refuses the call, or a write of the kernel failed in it.
     Node(NodeFault),
-    /// E110: it can't be carried out yet.
-    BadLine,
     /// E111: there is no such bundle, or its config can't be read.
     NoBundle,
 }
@@ -35,7 +33,6 @@ impl Refusal {
         match self {
             Refusal::Memory => "E1 Memory",
             Refusal::Node(fault) => node_title(fault),
-            Refusal::BadLine => "E110 BadLine",
             Refusal::NoBundle => "E111 NoBundle",
         }
     }
@@ -46,7 +43,7 @@ impl Refusal {
     {
         match self {
             Refusal::Node(fault) => put_node_arguments(fault, w),
-            Refusal::Memory | Refusal::BadLine | Refusal::NoBundle => Ok(()),
+            Refusal::Memory | Refusal::NoBundle => Ok(()),
         }
     }
 

@@ -146,16 +146,32 @@ fn refusals(rt: HostRuntime) -> Result<(), Fail> {
 }
 
 #[test]
-fn not_yet(rt: HostRuntime) -> Result<(), Fail> {
+fn a_plan_at_once(rt: HostRuntime) -> Result<(), Fail> {
     run_on_two_nodes(
         &rt,
         rt.alloc(),
         &[
-            ("rebalance", "refused E110 BadLine"),
-            ("begin", "refused E110 BadLine"),
-            ("step", "refused E110 BadLine"),
-            ("certificate", "refused E110 BadLine"),
-            ("list", "end"),
+            ("certificate", "refused E101 NoAnswer"),
+            ("create a ba", "pid 2"),
+            ("rebalance", "plan total 10\nhold a 1\npool 0,2-7\nend"),
+            ("sets a", "cpus 1 effective 1 mems 0-1 effective 0-1"),
+            ("phase", "settled"),
+        ],
+    )
+}
+
+#[test]
+fn a_plan_by_steps(rt: HostRuntime) -> Result<(), Fail> {
+    run_on_two_nodes(
+        &rt,
+        rt.alloc(),
+        &[
+            ("step", "refused E100 NoHandover"),
+            ("create a ba", "pid 2"),
+            ("begin", "plan total 10\nhold a 1\npool 0,2-7\nend"),
+            ("begin", "refused E90 Busy"),
+            ("step", "done"),
+            ("step", "refused E100 NoHandover"),
         ],
     )
 }
