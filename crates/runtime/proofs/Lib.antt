@@ -1,4 +1,4 @@
 pub mod Listing
 pub mod SetTexts
 pub mod Entries
-pub mod Outcomes
+pub mod ContainerLines

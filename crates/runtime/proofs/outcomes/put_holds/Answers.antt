@@ -1,7 +1,7 @@
 use Rattle.std.proofs.Common.{◌<◌, length, arith}
 use Rattle.std.proofs.lemmas.Result.{err_from_is_err_and}
 use Rattle.cpu_list.specs.Sending.{HasSent-then, HasSent-fails}
-use Rattle.runtime.proofs.Outcomes.{hold_next}
+use Rattle.runtime.proofs.ContainerLines.{hold_next}
 use Rattle.runtime.proofs.outcomes.put_holds.Goals as goal
 
 pub returns-in_err-put_hold : goal.returns-in_err-put_hold
