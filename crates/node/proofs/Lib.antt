@@ -14,5 +14,6 @@ pub mod CountLemmas
 pub mod LeaveLemmas
 pub mod PlanLemmas
 pub mod AskingLemmas
+pub mod DistanceLemmas
 pub mod HeadlineLemmas
 pub mod MachineLemmas

@@ -1,13 +1,20 @@
 -- What a rebalance leaves, in the subject's own words.
-use Rattle.std.specs.Prelude.{◌≡◌, ◌<◌, ℕ, Bool, true, false, ◌&&◌, ◌||◌, cond, List, [], ◌∷◌, Some, Result, Ok, Err, filter, filter_map, slice_get}
-use Rattle.std.specs.List.{AllByRecursion, list_any, sum_by}
+use Rattle.std.specs.Prelude.{◌≡◌, ◌<◌, ◌≤◌, ℕ, Bool, true, false, ◌&&◌, ◌||◌, cond, List, [], ◌∷◌, Option, Some, Result, Ok, Err, All, AllPairs, filter, filter_map, length, slice_get, zip}
+use Rattle.std.specs.List.{AllByRecursion, AllZip, list_any, sum_by}
+use Rattle.std.specs.List.Sorted.{IsStrictlyIncreasing}
 use Rattle.std.specs.FinSet as set
 use Rattle.cpu_set.specs.Ids.{Ids, IsDisjoint}
+use Rattle.cpu_set.specs.Members.{InRange, members}
 use Rattle.cpuset_tree.specs.Effective.{is_empty, effective_cpus}
 use Rattle.kernel_model.specs.KernelState.{KernelState}
+use Rattle.machine.specs.Layout.{Layout}
+use Rattle.machine.specs.Weight.{weight}
+use Rattle.certificate.specs.RowView.{RowView}
+use Rattle.certificate.specs.PricesView.{PricesView}
 use Rattle.certificate.specs.IsLeast.{IsLeast}
 use Rattle.certificate.specs.IsShortage.{HasNoPlan}
 use Rattle.certificate.specs.Cost.{cost}
+use Rattle.certificate_text.specs.declared.certificates.Certificate.{Certificate}
 use Rattle.certificate_text.specs.declared.certificates.Certificate.TheVariants as certificate
 use Rattle.faults.specs.declared.OrMemory.{OrMemory}
 use Rattle.apply_plan.specs.Holders.{Pairwise}
@@ -26,10 +33,14 @@ use Rattle.node.specs.Rows.{rows_of}
 abbrev pub effective : KernelState → List ℕ × ContainerState → Ids
 effective k e = effective_cpus k.tree e.1.group
 
--- exactly as many CPUs as it asks for, all allowed and online; a shared one has the pool, which is not empty
-abbrev pub HasItsCpus : KernelState → Ids → Demand → Kind → Ids → Type 0
-HasItsCpus k pool d (Pinned count) cpus =
+-- exactly so many CPUs, all allowed and online
+abbrev pub AreOwn : KernelState → Demand → ℕ → Ids → Type 0
+AreOwn k d count cpus =
     (set.len cpus ≡ count) × ((cpu : ℕ) → set.contains cpus cpu ≡ true → (set.contains d.allowed cpu ≡ true) × (set.contains k.tree.online cpu ≡ true))
+
+-- as many as it asks for; a shared one has the pool, which is not empty
+abbrev pub HasItsCpus : KernelState → Ids → Demand → Kind → Ids → Type 0
+HasItsCpus k pool d (Pinned count) cpus = AreOwn k d count cpus
 HasItsCpus k pool d Shared cpus = (cpus ≡ pool) × (is_empty pool ≡ false)
 
 -- so has each live container in effect
@@ -54,32 +65,59 @@ abbrev pub effective_sets : KernelState → List (List ℕ × ContainerState) �
 effective_sets k [] = []
 effective_sets k (e ∷ later) = cond (is_asking k e) (effective k e ∷ effective_sets k later) (effective_sets k later)
 
--- after a plan of this total: each live container has exactly the CPUs that it asked for, all allowed and none shared, at a
--- total distance to the home nodes that no plan undercuts; and what the kernel has in effect is that plan
-pub record IsRebalanced (old : NodeState) (total : ℕ) (new : NodeState) : Type 0 where
-  pub served : AllByRecursion (IsServed new.kernel new.pool) new.containers
-  pub alone : Pairwise (AreAlone new.kernel) new.containers
-  pub least : IsLeast (rows_of old) (effective_sets new.kernel new.containers)
-  pub costs : total ≡ cost (rows_of old) (effective_sets new.kernel new.containers)
-  pub same : new.containers ≡ old.containers
-
--- how many CPUs a container asks for, and whether it is allowed this one, which is online
+-- how many CPUs of its own a container asks for
 abbrev pub wanted_by : Kind → ℕ
 wanted_by (Pinned count) = count
 wanted_by Shared = 0
 
+-- sets that the live pinned containers could have: for each exactly as many CPUs as it asks for, all allowed and none shared
+pub record CouldHave (n : NodeState) (sets : List Ids) : Type 0 where
+  pub numbers : AllByRecursion InRange sets
+  pub own : AllZip (λ e cpus. AreOwn n.kernel e.1.demand (wanted_by e.1.demand.kind) cpus) (asking n) sets
+  pub apart : AllPairs IsDisjoint sets
+
+-- how far these CPUs are from the nearest of a container's homes, all together; and the sets of all
+abbrev pub distance : Layout → List ℕ × ContainerState → Ids → ℕ
+distance m e cpus = sum_by (λ cpu. weight m e.1.demand.homes cpu) (members cpus)
+
+abbrev pub total_distance : NodeState → List Ids → ℕ
+total_distance n sets = sum_by (λ p. distance n.machine p.0 p.1) (zip (asking n) sets)
+
+-- what was worked out last is a plan of this total
+pub record IsTold (rows : List RowView) (sets : List Ids) (total : ℕ) (last : Option Certificate) : Type 0 where
+  pub prices : PricesView
+  pub is : last ≡ Some (certificate.Plan rows sets prices total)
+
+-- after a plan of this total: each live container has exactly the CPUs that it asked for, all allowed and none shared; the
+-- total is their distance to the home nodes, and no sets that the containers could have are nearer; what the kernel has in
+-- effect is that plan, which is of least cost in the certificate's rows too; and the same containers live as before
+pub record IsRebalanced (old : NodeState) (total : ℕ) (new : NodeState) : Type 0 where
+  pub served : AllByRecursion (IsServed new.kernel new.pool) new.containers
+  pub alone : Pairwise (AreAlone new.kernel) new.containers
+  pub far : total ≡ total_distance old (effective_sets new.kernel new.containers)
+  pub nearest : (others : List Ids) → CouldHave old others → total ≤ total_distance old others
+  pub told : IsTold (rows_of old) (effective_sets new.kernel new.containers) total new.last
+  pub least : IsLeast (rows_of old) (effective_sets new.kernel new.containers)
+  pub costs : total ≡ cost (rows_of old) (effective_sets new.kernel new.containers)
+  pub same : new.containers ≡ old.containers
+  pub lives : new.kernel.table ≡ old.kernel.table
+
+-- whether a container is allowed this CPU, which is online
 abbrev pub is_allowed : KernelState → ℕ → List ℕ × ContainerState → Bool
 is_allowed k cpu e = set.contains e.1.demand.allowed cpu && set.contains k.tree.online cpu
 
--- after a shortage: live pinned containers that together ask for more CPUs than they are allowed, so that there is no plan;
--- and the kernel is as before
+-- after a shortage: live pinned containers, each named once, that together ask for more CPUs than they are allowed, so that
+-- they could have no sets at all; and the kernel is as before
 pub record IsShort (old : NodeState) (wanted : ℕ) (allowed : Ids) (new : NodeState) : Type 0 where
   pub members : List ℕ
   pub named : new.last ≡ Some (certificate.Short (rows_of old) members)
+  pub rising : IsStrictlyIncreasing members
+  pub there : All (λ k. k < length (asking old)) members
   pub asks : wanted ≡ sum_by (λ e. wanted_by e.1.demand.kind) (filter_map (slice_get (asking old)) members)
   pub has : (cpu : ℕ) → set.contains allowed cpu ≡ list_any (is_allowed old.kernel cpu) (filter_map (slice_get (asking old)) members)
   pub more : set.len allowed < wanted
   pub none : HasNoPlan (rows_of old)
+  pub could_not : (sets : List Ids) → CouldHave old sets → ⊥
   pub same : new ≡ record old { last = new.last }
 
 -- what stands after a rebalance that answers this
