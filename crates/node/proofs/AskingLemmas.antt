@@ -1,10 +1,9 @@
 -- The rows of the live pinned containers: what holds of each, and whose it is.
-use Rattle.std.proofs.Common.{◌≡◌, ◌≢◌, ℕ, zero, suc, ◌<◌, ◌≤◌, Bool, true, false, cond, ◌&&◌, ◌||◌, nat_lt, nat_le, List, [], ◌∷◌, ◌++◌, length, map, Option, Some, None, is_some, refl, sym, ap, ◌∙◌, subst, sum_by, arith}
+use Rattle.std.proofs.Common.{◌≡◌, ◌≢◌, ℕ, zero, suc, ◌<◌, ◌≤◌, Bool, true, false, cond, ◌&&◌, nat_lt, nat_le, List, [], ◌∷◌, ◌++◌, length, map, Option, Some, None, is_some, refl, sym, ap, ◌∙◌, subst, sum_by, arith}
 use Rattle.std.proofs.lemmas.Bool.{true≢false, false≢true}
 use Rattle.std.proofs.lemmas.Bool.Decides.{nat_tests}
-use Rattle.std.proofs.lemmas.List.{append_assoc, append-nil}
+use Rattle.std.proofs.lemmas.List.{append-nil}
 use Rattle.std.proofs.lemmas.List.Elements.{All-from_recursion, All-weaker, filter_agree, filter_passes}
-use Rattle.std.proofs.lemmas.List.Folds.{list_all-append}
 use Rattle.std.proofs.lemmas.List.Kept.{AllPairs-cons}
 use Rattle.std.proofs.lemmas.List.Sums.{sum_by-cons}
 use Rattle.std.proofs.lemmas.Option.{none-some, same_Some}
@@ -12,10 +11,9 @@ use Rattle.std.proofs.lemmas.Slice.Eq.{bytes_eq-Decides}
 use Rattle.std.specs.Prelude.{MatchOption, filter, filter_map, slice_get, String}
 use Rattle.std.specs.declared.alloc.Global.{Global}
 use Rattle.std.specs.List.{All, AllPairs, AllByRecursion, AllZip, cons_option, list_all, list_any, range_with_len}
-use Rattle.std.specs.Str.{bytes_eq}
 use Rattle.std.specs.FinSet as set
 use Rattle.cpu_set.specs.Ids.{Ids}
-use Rattle.cpu_set.specs.Members.{InRange, cpus, members}
+use Rattle.cpu_set.specs.Members.{InRange, cpus}
 use Rattle.cpu_set.specs.SetLaws.{length-members}
 use Rattle.kernel_model.specs.KernelState.{KernelState}
 use Rattle.machine.specs.Layout.{Layout}
@@ -47,7 +45,7 @@ use Rattle.node.specs.Rows.{row_of_container, rows_in, rows_of}
 use Rattle.node.specs.Rebalance.{Lacks}
 use Rattle.node.specs.Headline.{is_asking, asking, wanted_by, is_allowed, IsShort}
 use Rattle.node.specs.Asking.{IsRowOf}
-use Rattle.node.specs.Viewed.{entry_seen, all_seen}
+use Rattle.node.specs.Viewed.{all_seen}
 use Rattle.node.proofs.DistanceLemmas.{could_plan}
 use Rattle.node.proofs.ListLemmas.{of_pairs_map}
 
@@ -296,11 +294,11 @@ offered_len : (allowed : Ids) (rows : List RowView) → InRange allowed → ((cp
 offered_len allowed rows in_range has = sym (length-members allowed in_range) ∙ ap length (filter_agree (set.contains allowed) (is_offered rows) has cpus)
 
 -- a shortage of the rows is one of the live pinned containers
-pub short_stands : (old : NodeState) → IsNode old → RowsWeigh → (wanted : ℕ) (allowed : Ids) (new : NodeState) → InRange allowed → Lacks old wanted allowed new
+pub short_stands : (old : NodeState) → IsNode old → RowsWeigh → (wanted : ℕ) (allowed : Ids) (new : NodeState) → Lacks old wanted allowed new
     → IsShort old wanted allowed new
-short_stands old h weigh wanted allowed new in_range l =
+short_stands old h weigh wanted allowed new l =
     let named : new.last ≡ Some (certificate.Short (rows_of old) l.members) = ap (λ (n : NodeState). n.last) l.is in
-    let as_many : set.len allowed ≡ length (offered (chosen (rows_of old) l.members)) = offered_len allowed (chosen (rows_of old) l.members) in_range l.need.has in
+    let as_many : set.len allowed ≡ length (offered (chosen (rows_of old) l.members)) = offered_len allowed (chosen (rows_of old) l.members) l.need.in_range l.need.has in
     let short : length (offered (chosen (rows_of old) l.members)) < asked (chosen (rows_of old) l.members) = l.decides.shortage.short in
     let asks : wanted ≡ asked (chosen (rows_of old) l.members) = l.need.asks in
     record {

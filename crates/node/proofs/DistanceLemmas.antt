@@ -69,8 +69,13 @@ module _ (k : KernelState) (m : Layout) where
     all_as_far (row ∷ rows) [] sets of asked meets = absurd of
     all_as_far (row ∷ rows) (e ∷ es) [] of asked meets = absurd meets
     all_as_far (row ∷ rows) (e ∷ es) (s ∷ sets) of asked meets =
-        omega (arith, sum_by-cons (λ p. row_cost p.0 p.1) (row, s) (zip rows sets), sum_by-cons (λ p. distance m p.0 p.1) (e, s) (zip es sets),
-        costs_as_far row e s of.0 asked.0 meets.0, all_as_far rows es sets of.1 asked.1 meets.1)
+        omega (
+          arith,
+          sum_by-cons (λ p. row_cost p.0 p.1) (row, s) (zip rows sets),
+          sum_by-cons (λ p. distance m p.0 p.1) (e, s) (zip es sets),
+          costs_as_far row e s of.0 asked.0 meets.0,
+          all_as_far rows es sets of.1 asked.1 meets.1,
+        )
 
 module _ (n : NodeState) (of : AllZip (IsRowOf n.kernel n.machine) (rows_of n) (asking n)) where
   pub could_plan : (sets : List Ids) → CouldHave n sets → IsPlan (rows_of n) sets

@@ -299,5 +299,5 @@ module _ (old : NodeState) (h : IsNode old) (weigh : RowsWeigh) where
 
       pub headline : (r : Result Outcome (OrMemory NodeFault)) (new : NodeState) → Rebalances old r new → Headline old r new
       headline (Ok (Plan total)) new m = rebalanced total new m
-      headline (Ok (Short wanted allowed)) new l = short_stands old h weigh wanted allowed new l.need.in_range l
+      headline (Ok (Short wanted allowed)) new l = short_stands old h weigh wanted allowed new l
       headline (Err error) new e = tt

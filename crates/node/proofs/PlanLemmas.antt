@@ -1,45 +1,44 @@
 -- What a plan gives to the live containers, and the hand-over to it.
-use Rattle.std.proofs.Common.{◌≡◌, ◌≢◌, ◌⊎◌, inl, inr, ℕ, suc, ◌≤◌, Bool, true, false, cond, not, ◌&&◌, ◌||◌, List, [], ◌∷◌, Option, Some, None, refl, sym, ap, ◌∙◌, subst, arith, length, get_or}
+use Rattle.std.proofs.Common.{◌≡◌, inl, inr, ℕ, suc, ◌≤◌, Bool, true, false, cond, not, ◌&&◌, ◌||◌, List, [], ◌∷◌, Option, Some, None, refl, sym, ap, ◌∙◌, subst, arith}
 use Rattle.std.proofs.lemmas.Bool.{false≢true, ne_eqb, eqb-true}
 use Rattle.std.proofs.lemmas.List.Elements.{recursion_from_All}
-use Rattle.std.specs.Prelude.{map, fold, drop, slice_index_or, is_some, IsSome, AllPairs}
+use Rattle.std.specs.Prelude.{map, drop, slice_index_or, is_some, is_none, IsSome, AllPairs}
 use Rattle.std.specs.List.{AllByRecursion, AllZip, cons_option}
 use Rattle.std.specs.FinSet as set
 use Rattle.cpu_set.specs.Ids.{Ids, IsDisjoint}
 use Rattle.cpu_set.specs.Pointwise.{contains-difference, is_subset-contains, contains-is_subset}
 use Rattle.cpu_set.specs.SetLaws.{empty_of_none, none_of_empty}
 use Rattle.cpuset_tree.specs.declared.Group.{Group}
-use Rattle.cpuset_tree.specs.Groups.{same_group}
+use Rattle.cpuset_tree.specs.Groups.{same_group, is_root_entry}
 use Rattle.cpuset_tree.specs.Effective.{is_empty}
-use Rattle.proctable.specs.Processes.{is_alive}
 use Rattle.kernel_model.specs.KernelState.{KernelState}
-use Rattle.kernel_model.specs.WellFormed.{IsWellFormed}
 use Rattle.machine.specs.Layout.{Layout}
 use Rattle.machine.specs.Weight.{weight as distance_home}
 use Rattle.demand.specs.declared.Kind.{Kind}
 use Rattle.demand.specs.declared.Kind.TheVariants.{Pinned, Shared}
-use Rattle.demand.specs.declared.Demand.{Demand}
-use Rattle.demand.specs.FitsMachine.{FitsKind, FitsMachine}
+use Rattle.demand.specs.FitsMachine.{FitsKind}
 use Rattle.certificate.specs.RowView.{RowView}
 use Rattle.certificate.specs.Weight.{weight}
 use Rattle.certificate.specs.IsPlan.{Meets, IsPlan}
-use Rattle.rows.specs.RowOf.{row_of, row_of_kind}
+use Rattle.rows.specs.Offers.{offers_of}
+use Rattle.rows.specs.RowOf.{available, row_of, row_of_kind}
 use Rattle.rows.specs.Weighs.{RowsWeigh}
 use Rattle.apply_plan.specs.declared.Entry.{Entry}
 use Rattle.apply_plan.specs.Holders.{Pairwise}
-use Rattle.apply_plan.specs.Targets.{HaveOtherGroups, AreTargetsApart, IsHandover}
+use Rattle.apply_plan.specs.KeptLemmas.{is_empty-empty, is_empty-some}
+use Rattle.apply_plan.specs.Targets.{IsPlaced as IsPlacedIn, ArePlaced, HaveOtherGroups, AreTargetsApart, IsHandover}
 use Rattle.apply_plan.specs.DueWrite.{held}
 use Rattle.apply_plan.specs.Effects.{CanTakeEffect}
-use Rattle.node.specs.NodeState.{ContainerState, NodeState}
+use Rattle.node.specs.NodeState.{ContainerState, Ongoing, NodeState}
 use Rattle.node.specs.Owners.{Owner, is_pinned, owner_of, owners_of}
 use Rattle.node.specs.Status.{is_live}
-use Rattle.node.specs.Rows.{row_of_container, rows_in, rows_of}
+use Rattle.node.specs.Rows.{rows_in, rows_of}
 use Rattle.node.specs.Entries.{pool_of, Target, targets_in, entry_of, entries_in, plan_pool, plan_targets, plan_entries, opened}
 use Rattle.node.specs.Headline.{HasItsCpus}
 use Rattle.node.specs.IsNode.{IsAsked, IsNode, HaveOtherIds, IsPlaced}
-use Rattle.node.specs.Ongoing.{Leads, AreOf, IsSince, IsOngoing}
-use Rattle.node.proofs.ListLemmas.{all_map, all_map2, pairs_map, all_of_map, of_all_map, pairs_of_map, of_pairs_map}
-use Rattle.node.proofs.LaunchLemmas.{names_apart}
+use Rattle.node.specs.Ongoing.{AreOf, IsSince, IsOngoing}
+use Rattle.node.proofs.ListLemmas.{all_map, pairs_map, all_of_map, of_all_map, pairs_of_map, of_pairs_map}
+use Rattle.node.proofs.LaunchLemmas.{names_apart, is_there}
 
 abbrev Container : Type 0
 Container = List ℕ × ContainerState
@@ -60,32 +59,35 @@ both_of true false w o e some = absurd (false≢true (ap is_some (sym e) ∙ som
 both_of false b w o e some = absurd (false≢true (ap is_some (sym e) ∙ some))
 
 -- a set that meets the row of a pinned container
+abbrev asked_row : KernelState → Layout → Container → ℕ → RowView
+asked_row k m e count = record { id = e.0; demand = count; offers = offers_of m e.1.demand.homes (available k.tree.online e.1.demand) }
+
 dealt : (k : KernelState) (m : Layout) → RowsWeigh → (e : Container) → IsAsked m e → (count : ℕ) → is_live k e.1 ≡ true → e.1.demand.kind ≡ Pinned count
-    → (row : RowView) → row_of_kind m k.tree.online e.0 e.1.demand (Pinned count) ≡ Some row → (s : Ids) → Meets row s → IsDealt k m e s
-dealt k m weigh e asked count live kind row is s meets =
-    let there : row_of m k.tree.online e.0 e.1.demand ≡ Some row = ap (row_of_kind m k.tree.online e.0 e.1.demand) kind ∙ is in
+    → (s : Ids) → Meets (asked_row k m e count) s → IsDealt k m e s
+dealt k m weigh e asked count live kind s meets =
+    let there : row_of m k.tree.online e.0 e.1.demand ≡ Some (asked_row k m e count) = ap (row_of_kind m k.tree.online e.0 e.1.demand) kind in
     let some_of : FitsKind (Pinned count) e.1.demand.allowed = subst (λ x. FitsKind x e.1.demand.allowed) kind asked.fits.kind in
-    let demand : row.demand ≡ count = cc in
     let each : (cpu : ℕ) → set.contains s cpu ≡ true → (set.contains e.1.demand.allowed cpu ≡ true) × (set.contains k.tree.online cpu ≡ true) =
-    λ cpu has. both_of _ _ (distance_home m e.1.demand.homes cpu) (weight row cpu) (weigh m k.tree.online e.0 e.1.demand row asked.fits there cpu) (meets.allowed cpu has) in
+    λ cpu has. both_of (set.contains e.1.demand.allowed cpu) (set.contains k.tree.online cpu) (distance_home m e.1.demand.homes cpu) (weight (asked_row k m e count) cpu)
+    (weigh m k.tree.online e.0 e.1.demand (asked_row k m e count) asked.fits there cpu) (meets.allowed cpu has) in
     record {
       count = count;
       live = live;
       kind = kind;
       some = some_of.0;
-      size = meets.size ∙ demand;
+      size = meets.size;
       cpus = each;
       unreserved = λ cpu has reserved. asked.fits.unreserved cpu (each cpu has).0 reserved;
     }
 
 -- what holds of containers, sets and targets side by side, if it holds of none and of one more of each case
 module _ (k : KernelState) (m : Layout) (pool : Ids) (weigh : RowsWeigh) (P : List Container → List Ids → List Target → Type 0)
-    (none : P [] [] [])
+    (start : P [] [] [])
     (dead : (e : Container) (later : List Container) (sets : List Ids) (ts : List Target) → is_live k e.1 ≡ false → P later sets ts → P (e ∷ later) sets ts)
     (shared : (e : Container) (later : List Container) (sets : List Ids) (ts : List Target) → is_live k e.1 ≡ true → e.1.demand.kind ≡ Shared
-      → P later sets ts → P (e ∷ later) sets ((e, pool) ∷ ts))
+    → P later sets ts → P (e ∷ later) sets ((e, pool) ∷ ts))
     (pinned : (e : Container) (later : List Container) (s : Ids) (sets : List Ids) (ts : List Target) → IsDealt k m e s
-      → P later sets ts → P (e ∷ later) (s ∷ sets) ((e, s) ∷ ts)) where
+    → P later sets ts → P (e ∷ later) (s ∷ sets) ((e, s) ∷ ts)) where
   over : (e : Container) (later : List Container) → IsAsked m e
       → ((sets : List Ids) → AllZip Meets (rows_in k m later) sets → P later sets (targets_in k pool later sets))
       → (live : Bool) (kind : Kind) → is_live k e.1 ≡ live → e.1.demand.kind ≡ kind → (sets : List Ids)
@@ -95,11 +97,11 @@ module _ (k : KernelState) (m : Layout) (pool : Ids) (weigh : RowsWeigh) (P : Li
   over e later asked on true Shared l q sets zip = shared e later sets _ l q (on sets zip)
   over e later asked on true (Pinned count) l q [] zip = absurd zip
   over e later asked on true (Pinned count) l q (s ∷ sets) zip =
-      pinned e later s sets _ (dealt k m weigh e asked count l q _ refl s zip.0) (on sets zip.1)
+      pinned e later s sets _ (dealt k m weigh e asked count l q s zip.0) (on sets zip.1)
 
   pub over_targets : (containers : List Container) → AllByRecursion (IsAsked m) containers → (sets : List Ids) → AllZip Meets (rows_in k m containers) sets
       → P containers sets (targets_in k pool containers sets)
-  over_targets [] asked [] zip = none
+  over_targets [] asked [] zip = start
   over_targets [] asked (s ∷ sets) zip = absurd zip
   over_targets (e ∷ later) asked sets zip = over e later asked.0 (over_targets later asked.1) (is_live k e.1) e.1.demand.kind refl refl sets zip
 
@@ -149,11 +151,7 @@ pool_disjoint online sets =
     (λ s out c in_pool in_s. false≢true (sym (out c in_pool) ∙ in_s)) sets
     (swapped (λ c. set.contains (pool_of online sets) c ≡ true) (λ c s. set.contains s c ≡ false) sets (pool_apart online sets))
 
--- a set of none is empty, and one that is not empty has some
-not_empty : (s : Ids) → s ≢ set.empty → is_empty s ≡ false
-not_empty s some = ne_eqb (set.len s) 0 (λ e. some (set.empty_of_len s e))
-
--- a set within one that is empty is empty
+-- what has all CPUs of a set that is not empty is not empty
 not_empty_above : (s t : Ids) → is_empty s ≡ false → ((c : ℕ) → set.contains s c ≡ true → set.contains t c ≡ true) → is_empty t ≡ false
 not_empty_above s t some within = by (is_empty t) refl where
   none : is_empty t ≡ true → (c : ℕ) (b : Bool) → set.contains s c ≡ b → set.contains s c ≡ false
@@ -164,9 +162,9 @@ not_empty_above s t some within = by (is_empty t) refl where
   by false is = is
   by true is =
       let nothing : s ≡ set.empty = empty_of_none s (λ c _. none is c (set.contains s c) refl) in
-      absurd (false≢true (sym some ∙ ap is_empty nothing))
+      absurd (false≢true (sym some ∙ is_empty-empty s nothing))
 
--- a container's groups: no two have one
+-- what holds of a plan of a node's rows
 module _ (n : NodeState) (h : IsNode n) where
   abbrev AreOther : Container → Container → Type 0
   AreOther a b = same_group a.1.group b.1.group ≡ false
@@ -200,7 +198,7 @@ module _ (n : NodeState) (h : IsNode n) where
         not_in false f = refl
 
     reserved_some : is_empty n.machine.reserved ≡ false
-    reserved_some = ap is_empty (sym h.machine.reserved) ∙ not_empty k.reserved h.holds.kernel.some_reserved
+    reserved_some = ap is_empty (sym h.machine.reserved) ∙ is_empty-some k.reserved h.holds.kernel.some_reserved
 
     pub plan_pool_some : is_empty pool ≡ false
     plan_pool_some = not_empty_above n.machine.reserved pool reserved_some reserved_in_pool
@@ -227,7 +225,7 @@ module _ (n : NodeState) (h : IsNode n) where
       from : (s : Ids) → IsDisjoint s pool → AllByRecursion (IsDisjoint s) ss → AllByRecursion (λ p. IsDisjoint s p.1) ts
       pinned : AllByRecursion (λ p. is_pinned p.0.1.demand.kind ≡ true → IsDisjoint pool p.1) ts
 
-    Parted : List Container → List Ids → List Target → Type 0
+    abbrev Parted : List Container → List Ids → List Target → Type 0
     Parted es ss ts = AllByRecursion (IsDisjoint pool) ss → Pairwise IsDisjoint ss → Parts ss ts
 
     parts_none : Parted [] [] []
@@ -241,7 +239,7 @@ module _ (n : NodeState) (h : IsNode n) where
         record {
           pairs = (
             all_map (λ p. is_pinned p.0.1.demand.kind ≡ true → IsDisjoint pool p.1) (AreParted (e, pool))
-            (λ q other either. other (ap (λ b. b || is_pinned q.0.1.demand.kind) (sym not_pinned) ∙ either)) ts rest.pinned,
+                (λ q other either. other (ap (λ b. b || is_pinned q.0.1.demand.kind) (sym not_pinned) ∙ either)) ts rest.pinned,
             rest.pairs,
           );
           from = λ s d all. (d, rest.from s d all);
@@ -250,11 +248,11 @@ module _ (n : NodeState) (h : IsNode n) where
 
     parts_pinned : (e : Container) (later : List Container) (s : Ids) (ss : List Ids) (ts : List Target) → IsDealt k n.machine e s
         → Parted later ss ts → Parted (e ∷ later) (s ∷ ss) ((e, s) ∷ ts)
-    parts_pinned e later s ss ts dealt on out apart =
+    parts_pinned e later s ss ts d on out apart =
         let rest : Parts ss ts = on out.1 apart.1 in
         record {
           pairs = (
-            all_map (λ p. IsDisjoint s p.1) (AreParted (e, s)) (λ q d either. d) ts (rest.from s (λ c in_s in_pool. out.0 c in_pool in_s) apart.0),
+            all_map (λ p. IsDisjoint s p.1) (AreParted (e, s)) (λ q other either. other) ts (rest.from s (λ c in_s in_pool. out.0 c in_pool in_s) apart.0),
             rest.pairs,
           );
           from = λ t d all. (all.0, rest.from t d all.1);
@@ -290,7 +288,7 @@ module _ (n : NodeState) (h : IsNode n) where
       pairs : Pairwise (λ p q. AreOther p.0 q.0) ts
       from : (P : Group → Bool) → AllByRecursion (λ e. P e.1.group ≡ false) es → AllByRecursion (λ p. P p.0.1.group ≡ false) ts
 
-    Grouped : List Container → List Ids → List Target → Type 0
+    abbrev Grouped : List Container → List Ids → List Target → Type 0
     Grouped es ss ts = Pairwise AreOther es → Groups es ts
 
     groups_dead : (e : Container) (later : List Container) (ss : List Ids) (ts : List Target) → is_live k e.1 ≡ false → Grouped later ss ts → Grouped (e ∷ later) ss ts
@@ -308,6 +306,18 @@ module _ (n : NodeState) (h : IsNode n) where
     plan_groups = over_targets k n.machine pool weigh Grouped (λ apart. record { pairs = tt; from = λ P all. tt }) groups_dead
         (λ e later ss ts live kind on. groups_more e later pool ts on) (λ e later s ss ts d on. groups_more e later s ts on)
         n.containers h.asked sets plan.met groups_apart
+
+    -- each entry's group is in the tree, and is not the root
+    placed_in : (o : Owner) → IsPlaced k.tree n.parent o → IsPlacedIn k o.holder.group
+    placed_in o p = record { there = is_there k.tree o.holder.group p.entry p.there; below = ap is_root_entry p.there ∙ ap is_none p.below }
+
+    pub plan_placed : ArePlaced k (plan_entries n sets)
+    plan_placed = all_of_map entry_of (λ e. IsPlacedIn k e.group) (plan_targets n sets)
+        (over_targets k n.machine pool weigh (λ es ss ts. AllByRecursion (λ e. IsPlacedIn k e.1.group) es → AllByRecursion (λ p. IsPlacedIn k p.0.1.group) ts) (λ all. tt)
+        (λ e later ss ts live on all. on all.1) (λ e later ss ts live kind on all. (all.0, on all.1)) (λ e later s ss ts d on all. (all.0, on all.1))
+        n.containers h.asked sets plan.met
+        (of_all_map owner_of (λ o. IsPlacedIn k o.holder.group) n.containers
+        (all_map (IsPlaced k.tree n.parent) (λ o. IsPlacedIn k o.holder.group) placed_in (owners_of n.containers) h.holds.placed)))
 
     -- each container that lives has its entry
     plan_of : AreOf k (plan_entries n sets) (owners_of n.containers)
@@ -337,3 +347,26 @@ module _ (n : NodeState) (h : IsNode n) where
 pub effects_later : (old new : KernelState) → new.tree.online ≡ old.tree.online → (es : List Entry) → AllByRecursion (CanTakeEffect old) es → AllByRecursion (CanTakeEffect new) es
 effects_later old new same es h =
     all_map (CanTakeEffect old) (CanTakeEffect new) (λ e c. record { some = c.some; online = ap (λ s. set.is_subset e.target s) same ∙ c.online }) es h
+
+-- the same of the values that the program has
+module _ (n now : NodeState) (is : n ≡ now) (h : IsNode n) (weigh : RowsWeigh) (sets : List Ids) (plan : IsPlan (rows_of now) sets) (pool : Ids)
+    (pool_is : pool ≡ plan_pool n sets) (es : List Entry) (es_are : es ≡ entries_in n.kernel pool n.containers sets) where
+  plan_before : IsPlan (rows_of n) sets
+  plan_before = subst (λ (m : NodeState). IsPlan (rows_of m) sets) (sym is) plan
+
+  entries_are : es ≡ plan_entries n sets
+  entries_are = es_are ∙ ap (λ s. entries_in n.kernel s n.containers sets) pool_is
+
+  pub entries_placed : ArePlaced n.kernel es
+  entries_placed = subst (ArePlaced n.kernel) (sym entries_are) (plan_placed n h weigh sets plan_before)
+
+  pub entries_handed : (reserved : Ids) → reserved ≡ n.machine.reserved → IsHandover (record { entries = es; reserved = reserved })
+  entries_handed reserved same =
+      subst (λ (s : Ids). IsHandover (record { entries = es; reserved = s })) (sym same)
+      (subst (λ (xs : List Entry). IsHandover (record { entries = xs; reserved = n.machine.reserved })) (sym entries_are) (plan_handover n h weigh sets plan_before))
+
+pub opened_stands : (n now : NodeState) → n ≡ now → IsNode n → RowsWeigh → (sets : List Ids) → IsPlan (rows_of now) sets → (o : Ongoing) → o ≡ opened now sets
+    → IsOngoing now.kernel (owners_of now.containers) o
+opened_stands n now is h weigh sets plan o o_is =
+    let there : IsNode now = subst (λ (m : NodeState). IsNode m) is h in
+    subst (λ (x : Ongoing). IsOngoing now.kernel (owners_of now.containers) x) (sym o_is) (opened_ongoing now there weigh sets plan)

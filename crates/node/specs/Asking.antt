@@ -2,7 +2,6 @@
 use Rattle.std.specs.Prelude.{◌≡◌, ℕ, List, Some, is_some}
 use Rattle.std.specs.List.{AllZip}
 use Rattle.cpu_set.specs.Ids.{Ids}
-use Rattle.cpu_set.specs.Members.{InRange}
 use Rattle.kernel_model.specs.KernelState.{KernelState}
 use Rattle.machine.specs.Layout.{Layout}
 use Rattle.certificate.specs.RowView.{RowView}
@@ -28,4 +27,4 @@ RowsAreAsking = (n : NodeState) → IsNode n → AllZip (IsRowOf n.kernel n.mach
 
 -- so a shortage of the rows is one of these containers
 abbrev pub ShortStands : Type 0
-ShortStands = (old : NodeState) (wanted : ℕ) (allowed : Ids) (new : NodeState) → IsNode old → InRange allowed → Lacks old wanted allowed new → IsShort old wanted allowed new
+ShortStands = (old : NodeState) (wanted : ℕ) (allowed : Ids) (new : NodeState) → IsNode old → Lacks old wanted allowed new → IsShort old wanted allowed new

@@ -13,6 +13,7 @@ mod lifecycle;
 mod list;
 mod node;
 mod ongoing;
+mod opening;
 mod outcome;
 mod phase;
 mod reads;

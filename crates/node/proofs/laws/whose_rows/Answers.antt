@@ -4,5 +4,5 @@ use Rattle.node.proofs.laws.whose_rows.Goals as goal
 pub returns : goal.returns
 returns c = record {
   rows = λ n h. rows_are_asking n h c.rows_weigh.ensures;
-  short = λ old wanted allowed new h in_range lacks. short_stands old h c.rows_weigh.ensures wanted allowed new in_range lacks;
+  short = λ old wanted allowed new h lacks. short_stands old h c.rows_weigh.ensures wanted allowed new lacks;
 }

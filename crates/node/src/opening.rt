@@ -1,0 +1,137 @@
+//! From the sets of a plan to the hand-over to them.
+ghost use Rattle.std.specs.Prelude.{◌≡◌, ◌++◌, ◌∷◌, List, ℕ, true, drop, map, slice_index_or, option_to_list, IfOk};
+ghost use Rattle.std.specs.FinSet as set;
+ghost use Rattle.std.specs.Slice.Iter.{iter_rest};
+ghost use Rattle.cpuset_tree.specs.Groups.{has_group, requested_cpus};
+ghost use Rattle.apply_plan.specs.Targets.{ArePlaced};
+ghost use Rattle.apply_plan.specs.DueWrite.{held};
+ghost use Rattle.node.specs.NodeState.{ContainerState};
+ghost use Rattle.node.specs.Entries.{pool_of, entries_in};
+ghost use Rattle.node.specs.Viewed.{seen, all_seen};
+
+use crate::Node;
+use crate::container::Container;
+use crate::ongoing::Ongoing;
+use apply_plan::{Entry, Handover};
+use cpu_set::IdSet;
+use demand::Kind;
+use indexmap::IndexMap;
+use kernel_model::{Group, Kernel};
+use rows::rows_weigh;
+use std::alloc::{AllocError, Global};
+use std::slice::Iter;
+
+/// The online CPUs that none of the sets has.
+pub fn pool_of(online: &IdSet, sets: &[IdSet]) -> IdSet
+    ensures { result ≡ pool_of online.now sets.now }
+{
+    sets.iter().fold(*online, |pool, set| pool.minus(set))
+}
+
+/// The next of the sets; the empty one where none is left.
+fn next_of(sets: &mut Iter<'_, IdSet>) -> IdSet
+    ensures set { result ≡ slice_index_or (iter_rest sets.old) 0 set.empty }
+    ensures rest { iter_rest sets.new ≡ drop 1 (iter_rest sets.old) }
+{
+    match sets.next() {
+        Some(set) => *set,
+        None => IdSet::empty(),
+    }
+}
+
+/// The entry of a container, if it lives: a pinned one is to have the next of the sets, a shared one the pool.
+fn entry_of<K: Kernel>(
+    kernel: &K,
+    container: &Container,
+    sets: &mut Iter<'_, IdSet>,
+    pool: &IdSet,
+) -> Option<Entry>
+    ensures { (id : List ℕ) (later : List (List ℕ × ContainerState))
+        → entries_in (K.state kernel.now) pool.now ((id, seen container.now) ∷ later) (iter_rest sets.old)
+        ≡ option_to_list result ++ entries_in (K.state kernel.now) pool.now later (iter_rest sets.new) }
+{
+    if !kernel.first_alive(container.pid) {
+        return None;
+    }
+    let (pinned, target) = match container.demand.kind {
+        Kind::Pinned(_) => (true, next_of(sets)),
+        Kind::Shared => (false, *pool),
+    };
+    Some(Entry {
+        group: container.group,
+        pid: container.pid,
+        pinned,
+        target,
+    })
+}
+
+/// The entries of the live containers, in their order.
+fn entries_in<K: Kernel>(
+    alloc: Global,
+    kernel: &K,
+    containers: &IndexMap<String, Container>,
+    sets: &[IdSet],
+    pool: &IdSet,
+) -> Result<Vec<Entry>, AllocError>
+    ensures { IfOk result (λ entries. entries.items ≡ entries_in (K.state kernel.now) pool.now (all_seen containers.now.entries) sets.now) }
+{
+    let mut entries = Vec::new(alloc);
+    let mut sets = sets.iter();
+    for (_, container) in containers.iter() {
+        if let Some(entry) = entry_of(kernel, container, &mut sets, pool) {
+            entries.push(entry)?;
+        }
+    }
+    Ok(entries)
+}
+
+/// What a group requests.
+fn requested<K: Kernel>(kernel: &K, group: Group) -> IdSet
+    requires { has_group (K.state kernel.now).tree group ≡ true }
+    ensures { result ≡ requested_cpus (K.state kernel.now).tree group }
+{
+    match kernel.requested_cpus(group) {
+        Ok(cpus) => cpus,
+        Err(_) => unreachable!(),
+    }
+}
+
+/// What the groups of the entries request.
+fn found_of<K: Kernel>(
+    alloc: Global,
+    kernel: &K,
+    entries: &[Entry],
+) -> Result<Vec<IdSet>, AllocError>
+    requires { ArePlaced (K.state kernel.now) entries.now }
+    ensures { IfOk result (λ found. found.items ≡ map (held (K.state kernel.now)) entries.now) }
+{
+    let mut found = Vec::new(alloc);
+    for entry in entries {
+        found.push(requested(kernel, entry.group))?;
+    }
+    Ok(found)
+}
+
+impl<K: Kernel + Drop> Node<K> {
+    ghost use Rattle.certificate.specs.IsPlan.{IsPlan};
+    ghost use Rattle.node.specs.Owners.{owners_of};
+    ghost use Rattle.node.specs.Rows.{rows_of};
+    ghost use Rattle.node.specs.Entries.{plan_pool, opened};
+    ghost use Rattle.node.specs.Ongoing.{IsOngoing};
+    ghost use Rattle.node.specs.Viewed.{seen_ongoing};
+
+    /// The pool that a plan leaves, and the hand-over to it.
+    pub(crate) fn opening(&self, sets: &[IdSet]) -> Result<(IdSet, Ongoing), AllocError>
+        requires { IsPlan (rows_of self.now) sets.now }
+        ensures pool { IfOk result (λ p. p.0 ≡ plan_pool self.now sets.now) }
+        ensures ongoing { IfOk result (λ p. seen_ongoing p.1 ≡ opened self.now sets.now) }
+        ensures stands { IfOk result (λ p. IsOngoing self.now.kernel (owners_of self.now.containers) (seen_ongoing p.1)) }
+    {
+        rows_weigh();
+        let pool = pool_of(&self.kernel.online(), sets);
+        let entries = entries_in(self.alloc, &self.kernel, &self.containers, sets, &pool)?;
+        let found = found_of(self.alloc, &self.kernel, &entries)?;
+        let handover = Handover::new(entries, self.machine.reserved());
+        Ok((pool, Ongoing { handover, found }))
+    }
+}
