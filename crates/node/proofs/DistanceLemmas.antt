@@ -1,9 +1,9 @@
 -- The sets that the live pinned containers could have, as plans of their rows, and how far they are.
-use Rattle.std.proofs.Common.{◌≡◌, ℕ, true, ◌&&◌, List, [], ◌∷◌, Some, None, is_some, refl, sym, ap, ◌∙◌, sum_by, arith}
-use Rattle.std.proofs.lemmas.Bool.{cond-true, and_from}
+use Rattle.std.proofs.Common.{◌≡◌, ℕ, true, List, [], ◌∷◌, Some, None, is_some, refl, sym, ap, ◌∙◌, sum_by, arith}
+use Rattle.std.proofs.lemmas.Bool.{cond-true, and_from, and_parts}
 use Rattle.std.proofs.lemmas.List.Elements.{All-filter, All-from_recursion, recursion_from_All, filter_passes}
 use Rattle.std.proofs.lemmas.List.Sums.{sum_by-cons}
-use Rattle.std.specs.Prelude.{cond, filter, unwrap_or, zip}
+use Rattle.std.specs.Prelude.{unwrap_or, zip}
 use Rattle.std.specs.List.{AllByRecursion, AllZip}
 use Rattle.std.specs.FinSet as set
 use Rattle.cpu_set.specs.Ids.{Ids}
@@ -48,6 +48,28 @@ module _ (k : KernelState) (m : Layout) where
   all_meet (row ∷ rows) (e ∷ es) [] of range own = absurd own
   all_meet (row ∷ rows) (e ∷ es) (s ∷ sets) of range own = (own_meets row e s of.0 range.0 own.0, all_meet rows es sets of.1 range.1 own.1)
 
+  -- and the other way round
+  meets_own : (row : RowView) (e : Container) (s : Ids) → IsRowOf k m row e → Meets row s → AreOwn k e.1.demand (wanted_by e.1.demand.kind) s
+  meets_own row e s of meets = (
+    meets.size ∙ of.demand,
+    λ cpu has. and_parts (set.contains e.1.demand.allowed cpu) (set.contains k.tree.online cpu) (sym (of.offers cpu) ∙ meets.allowed cpu has),
+  )
+
+  all_own : (rows : List RowView) (es : List Container) (sets : List Ids) → AllZip (IsRowOf k m) rows es → AllZip Meets rows sets
+      → AllZip (λ e s. AreOwn k e.1.demand (wanted_by e.1.demand.kind) s) es sets
+  all_own [] [] [] of meets = tt
+  all_own [] [] (s ∷ sets) of meets = absurd meets
+  all_own [] (e ∷ es) sets of meets = absurd of
+  all_own (row ∷ rows) [] sets of meets = absurd of
+  all_own (row ∷ rows) (e ∷ es) [] of meets = absurd meets
+  all_own (row ∷ rows) (e ∷ es) (s ∷ sets) of meets = (meets_own row e s of.0 meets.0, all_own rows es sets of.1 meets.1)
+
+  in_range : (rows : List RowView) (sets : List Ids) → AllZip Meets rows sets → AllByRecursion InRange sets
+  in_range [] [] meets = tt
+  in_range [] (s ∷ sets) meets = absurd meets
+  in_range (row ∷ rows) [] meets = absurd meets
+  in_range (row ∷ rows) (s ∷ sets) meets = (meets.0.in_range, in_range rows sets meets.1)
+
   -- what a set costs in a row is how far it is from the container's homes
   module _ (weigh : RowsWeigh) where
     weighs : (row : RowView) (e : Container) → IsRowOf k m row e → IsAsked m e → (cpu : ℕ) → is_some (weight row cpu) ≡ true
@@ -82,6 +104,13 @@ module _ (n : NodeState) (of : AllZip (IsRowOf n.kernel n.machine) (rows_of n) (
   could_plan sets c = record {
     met = all_meet n.kernel n.machine (rows_of n) (asking n) sets of c.numbers c.own;
     apart = c.apart;
+  }
+
+  pub plan_could : (sets : List Ids) → IsPlan (rows_of n) sets → CouldHave n sets
+  plan_could sets plan = record {
+    numbers = in_range n.kernel n.machine (rows_of n) sets plan.met;
+    own = all_own n.kernel n.machine (rows_of n) (asking n) sets of plan.met;
+    apart = plan.apart;
   }
 
   asking_asked : IsNode n → AllByRecursion (IsAsked n.machine) (asking n)

@@ -1,14 +1,10 @@
 -- What the steps of a hand-over leave, once it ended.
-use Rattle.std.proofs.Common.{◌≡◌, ℕ, zero, suc, ◌+◌, ◌≤◌, false, List, Option, Some, None, refl, sym, ap, ◌∙◌, subst, arith}
+use Rattle.std.proofs.Common.{◌≡◌, ℕ, zero, suc, ◌+◌, true, false, Some, None, refl, sym, ap, ◌∙◌, subst, arith}
 use Rattle.std.specs.Prelude.{Result, Ok, Err}
-use Rattle.std.proofs.lemmas.Option.{same_Some}
-use Rattle.cpu_set.specs.Ids.{Ids}
 use Rattle.cpuset_tree.specs.declared.Group.{Group}
 use Rattle.cpuset_tree.specs.TreeState.{GroupEntry, TreeState}
 use Rattle.cpuset_tree.specs.Groups.{entry_of}
 use Rattle.cpuset_tree.specs.TreeLaws.{StandsAs, StandAlike}
-use Rattle.machine.specs.Layout.{Layout}
-use Rattle.certificate_text.specs.declared.certificates.Certificate.{Certificate}
 use Rattle.kernel_model.specs.declared.KernelFault.{KernelFault}
 use Rattle.kernel_model.specs.declared.KernelFault.TheVariants.{Failed}
 use Rattle.kernel_model.specs.KernelState.{KernelState}
@@ -16,17 +12,19 @@ use Rattle.kernel_model.specs.Cases.{rise}
 use Rattle.apply_plan.specs.declared.Progress.{Progress}
 use Rattle.apply_plan.specs.declared.Progress.TheVariants.{More, Done}
 use Rattle.apply_plan.specs.Targets.{Targets}
-use Rattle.apply_plan.specs.DueWrite.{HaveTargets, writes_to_come}
+use Rattle.apply_plan.specs.DueWrite.{HaveTargets}
 use Rattle.apply_plan.specs.Leaves.{KeepsRest}
 use Rattle.apply_plan.specs.OneStep.{StepsLeave}
+use Rattle.node.specs.declared.fault.NodeFault.{NodeFault}
+use Rattle.node.specs.declared.fault.NodeFault.TheVariants.{Kernel}
 use Rattle.node.specs.declared.phase.Phase.{Phase}
 use Rattle.node.specs.declared.phase.Phase.TheVariants.{Settled, Unsettled}
-use Rattle.node.specs.NodeState.{ContainerState, Ongoing, NodeState, is_underway}
+use Rattle.node.specs.NodeState.{Ongoing, NodeState, is_underway}
 use Rattle.node.specs.Owners.{owners_of}
 use Rattle.node.specs.Ongoing.{IsOngoing, IsBroken}
 use Rattle.node.specs.IsNode.{IsNode}
-use Rattle.node.specs.Rebalance.{Stepped, StepsOn, StepsMore, Ends, Finishes}
-use Rattle.node.proofs.StepLemmas.{leaves, moved_on, more_node, ended_node}
+use Rattle.node.specs.Rebalance.{Stepped, StepsOn, StepsMore, Finishes}
+use Rattle.node.proofs.StepLemmas.{its_steps, leaves, moved_on, more_node, ended_node}
 
 -- what a hand-over leaves that came to its end: a node in which each of its live containers has its target; and nothing
 -- changed but what its groups request
@@ -115,15 +113,10 @@ record Ended (o : Ongoing) (old : NodeState) (r : Result Progress KernelFault) (
   is : new ≡ record old { kernel = new.kernel; phase = phase; ongoing = None }
 
 module _ (law : StepsLeave) (o : Ongoing) where
-  -- what a step is of the hand-over that is open
-  its_steps : (old new : NodeState) (r : Result Progress KernelFault) (phase : Phase) (ongoing : Option Ongoing) → old.ongoing ≡ Some o → (s : Stepped old r phase ongoing new)
-      → Steps o.targets old.kernel r new.kernel
-  its_steps old new r phase ongoing was s = subst (λ (x : Ongoing). Steps x.targets old.kernel r new.kernel) (same_Some s.handover o (sym s.was ∙ was)) s.steps
-
   module _ (r : Result Progress KernelFault) (phase : Phase) (settled : is_underway phase ≡ false) where
     last_step : (old new : NodeState) → IsNode old → old.ongoing ≡ Some o → Stepped old r phase None new → Ended o old r phase new
     last_step old new h was s =
-        let steps = its_steps old new r phase None was s in
+        let steps = its_steps old o was new r phase None s in
         let left = leaves law old h o was new.kernel r steps in
         record {
           node = subst (λ (n : NodeState). IsNode n) (sym s.is) (ended_node law old h o was new.kernel r steps phase settled);
@@ -137,7 +130,7 @@ module _ (law : StepsLeave) (o : Ongoing) where
     -- one step more before them
     earlier : (old mid new : NodeState) → IsNode old → old.ongoing ≡ Some o → StepsOn old (Ok More) mid → Ended o mid r phase new → Ended o old r phase new
     earlier old mid new h was s e =
-        let steps = its_steps old mid (Ok More) old.phase old.ongoing was s in
+        let steps = its_steps old o was mid (Ok More) old.phase old.ongoing s in
         let left = leaves law old h o was mid.kernel (Ok More) steps in
         let first : mid.kernel.failures ≡ old.kernel.failures + 0 = left.counted in
         let later : new.kernel.failures ≡ mid.kernel.failures + rise r = e.failures in
@@ -153,7 +146,7 @@ module _ (law : StepsLeave) (o : Ongoing) where
     all_steps : (count : ℕ) (old mid new : NodeState) → IsNode old → old.ongoing ≡ Some o → StepsMore count old mid → Stepped mid r phase None new → Ended o old r phase new
     all_steps zero old mid new h was more s = last_step old new h was (subst (λ (n : NodeState). Stepped n r phase None new) more s)
     all_steps (suc count) old mid new h was more s =
-        let steps = its_steps old more.0 (Ok More) old.phase old.ongoing was more.1 in
+        let steps = its_steps old o was more.0 (Ok More) old.phase old.ongoing more.1 in
         let node = subst (λ (n : NodeState). IsNode n) (sym more.1.is) (more_node law old h o was more.0.kernel (Ok More) steps) in
         earlier old more.0 new h was more.1 (all_steps count more.0 mid new node (ap (λ (n : NodeState). n.ongoing) more.1.is ∙ was) more.2 s)
 
@@ -198,5 +191,24 @@ module _ (law : StepsLeave) (o : Ongoing) where
 
 -- one step more after others
 pub more_then : (count : ℕ) (old mid new : NodeState) → StepsMore count old mid → StepsOn mid (Ok More) new → StepsMore (suc count) old new
-more_then zero old mid new more s = (new, (subst (λ (n : NodeState). StepsOn n (Ok More) new) more s, refl))
-more_then (suc count) old mid new more s = (more.0, (more.1, more_then count more.0 mid new more.2 s))
+more_then zero old mid new more s = (new, subst (λ (n : NodeState). StepsOn n (Ok More) new) more s, refl)
+more_then (suc count) old mid new more s = (more.0, more.1, more_then count more.0 mid new more.2 s)
+
+-- the steps that were made, and one more, by what it answers
+module _ (first old new : NodeState) (made : (count : ℕ) × StepsMore count first old) where
+  one_more : StepsOn old (Ok More) new → (count : ℕ) × StepsMore count first new
+  one_more s = (suc made.0, more_then made.0 first old new made.1 s)
+
+  pub goes_on : (answer : Progress) → answer ≡ More → StepsOn old (Ok answer) new → (count : ℕ) × StepsMore count first new
+  goes_on answer is s = one_more (subst (λ (a : Progress). StepsOn old (Ok a) new) is s)
+
+  pub still_underway : (answer : Progress) → answer ≡ More → StepsOn old (Ok answer) new → is_underway old.phase ≡ true → is_underway new.phase ≡ true
+  still_underway answer is s underway =
+      let more : StepsOn old (Ok More) new = subst (λ (a : Progress). StepsOn old (Ok a) new) is s in
+      ap (λ (n : NodeState). is_underway n.phase) more.is ∙ underway
+
+  pub finishes : (answer : Progress) → answer ≡ Done → StepsOn old (Ok answer) new → Finishes first (Ok tt) new
+  finishes answer is s = record { steps = made.0; mid = old; more = made.1; ends = subst (λ (a : Progress). StepsOn old (Ok a) new) is s }
+
+  pub fails : (fault : KernelFault) (error : NodeFault) → error ≡ Kernel fault → StepsOn old (Err error) new → Finishes first (Err fault) new
+  fails fault error is s = record { steps = made.0; mid = old; more = made.1; ends = subst (λ (e : NodeFault). StepsOn old (Err e) new) is s }

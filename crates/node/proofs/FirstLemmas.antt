@@ -1,7 +1,7 @@
 -- What holds of a node with no container.
 use Rattle.std.proofs.Common.{◌≡◌, inl, inr, ℕ, Bool, true, false, List, [], length, Option, Some, None, refl, sym, ap, ◌∙◌, subst, arith}
 use Rattle.std.proofs.lemmas.Option.{none-some}
-use Rattle.std.specs.Prelude.{is_some, Ok}
+use Rattle.std.specs.Prelude.{is_some, Ok, codes}
 use Rattle.std.specs.List.{AllByRecursion}
 use Rattle.cpu_set.specs.Ids.{Ids}
 use Rattle.cpuset_tree.specs.declared.Group.{Group}
@@ -20,11 +20,12 @@ use Rattle.kernel_model.specs.Laws.{StepKeeps}
 use Rattle.kernel_model.specs.KernelLemmas.{each_case_keeps, writes_leave_groups, writes_keep_processes}
 use Rattle.machine.specs.Layout.{Layout}
 use Rattle.node.specs.declared.phase.Phase.TheVariants.{Settled}
-use Rattle.node.specs.NodeState.{ContainerState}
+use Rattle.node.specs.NodeState.{ContainerState, NodeState}
 use Rattle.node.specs.Owners.{owners_of}
 use Rattle.node.specs.IsNode.{IsOfMachine, Holds, IsAsked, IsNode}
 use Rattle.node.specs.Unused.{IsUnused}
 use Rattle.node.specs.Launch.{FindsOr, FindsOrMakes}
+use Rattle.node.specs.Machine.{FirstIsNode}
 use Rattle.node.proofs.LaunchLemmas.{Stays}
 
 pub root_there : (k : KernelState) (root : Group) → IsWellFormed k → root_of k.tree ≡ Some root → has_group k.tree root ≡ true
@@ -113,3 +114,7 @@ module _ (old new : KernelState) (unused : IsUnused old) (well : IsWellFormed ol
         stands = refl;
         written = tt;
       }
+
+pub first_is_node : FirstIsNode
+first_is_node k m n well fits unused o =
+    subst (λ (x : NodeState). IsNode x) (sym o.3) (first_node k n.kernel unused well o.0 o.1 (codes "numarun") m fits n.parent m.reserved [] refl o.2)

@@ -26,13 +26,13 @@ use Rattle.faults.specs.declared.OrMemory.TheVariants.{Memory, Fault}
 use Rattle.kernel_model.specs.declared.KernelFault.{KernelFault}
 use Rattle.apply_plan.specs.Holders.{Pairwise}
 use Rattle.apply_plan.specs.OneStep.{StepsLeave}
-use Rattle.apply_plan.specs.Effects.{HasFreeParent, CanTakeEffect, TargetsTakeEffect}
+use Rattle.apply_plan.specs.Effects.{HasFreeParent, TargetsTakeEffect}
 use Rattle.node.specs.declared.fault.NodeFault.{NodeFault}
 use Rattle.node.specs.declared.fault.NodeFault.TheVariants.{Busy, Kernel}
 use Rattle.node.specs.declared.outcome.Outcome.{Outcome}
 use Rattle.node.specs.declared.outcome.Outcome.TheVariants.{Plan, Short}
-use Rattle.node.specs.declared.phase.Phase.TheVariants.{Settled, Underway}
-use Rattle.node.specs.NodeState.{ContainerState, Ongoing, NodeState}
+use Rattle.node.specs.declared.phase.Phase.TheVariants.{Underway}
+use Rattle.node.specs.NodeState.{ContainerState, NodeState}
 use Rattle.node.specs.Owners.{Owner, is_pinned, owner_of, owners_of}
 use Rattle.node.specs.Status.{is_live}
 use Rattle.node.specs.IsNode.{IsHome, IsPlaced, IsNode}
@@ -43,7 +43,7 @@ use Rattle.node.specs.Rebalance.{Begun, Lacks, Begins, Moves, Finishes, Rebalanc
 use Rattle.node.specs.Headline.{effective, HasItsCpus, IsServed, AreAlone, is_asking, effective_sets, asking, CouldHave, total_distance, IsRebalanced, Headline}
 use Rattle.node.proofs.ListLemmas.{all_map, all_map2, pairs_map, all_of_map, of_all_map}
 use Rattle.node.proofs.AskingLemmas.{rows_are_asking, short_stands}
-use Rattle.node.proofs.DistanceLemmas.{could_plan, cost_is_far}
+use Rattle.node.proofs.DistanceLemmas.{could_plan, plan_could, cost_is_far}
 use Rattle.node.proofs.FinishLemmas.{Settles, Breaks, settles, breaks}
 use Rattle.node.proofs.PlanLemmas.{IsDealt, over_targets, plan_serves, plan_parts, plan_effects, opened_ongoing, effects_later}
 
@@ -220,6 +220,7 @@ module _ (old : NodeState) (h : IsNode old) (weigh : RowsWeigh) (effects : Targe
   settled total prices told least costs = record {
     served = subst (λ (es : List Container). AllByRecursion (IsServed new.kernel new.pool) es) (sym s.containers) served;
     alone = subst (λ (es : List Container). Pairwise (AreAlone new.kernel) es) (sym s.containers) alone;
+    could = subst (λ (ss : List Ids). CouldHave old ss) (sym same_sets) (plan_could old of sets plan);
     far = sym costs ∙ cost_is_far old of h weigh sets plan ∙ ap (total_distance old) (sym same_sets);
     nearest = least_far total least costs;
     told = record { prices = prices; is = s.last ∙ told ∙ ap (λ (ss : List Ids). Some (certificate.Plan (rows_of old) ss prices total)) (sym same_sets) };

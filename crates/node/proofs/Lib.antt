@@ -12,8 +12,8 @@ pub mod FinishLemmas
 pub mod CallLemmas
 pub mod CountLemmas
 pub mod LeaveLemmas
+pub mod MachineLemmas
 pub mod PlanLemmas
 pub mod AskingLemmas
 pub mod DistanceLemmas
 pub mod HeadlineLemmas
-pub mod MachineLemmas

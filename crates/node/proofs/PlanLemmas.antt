@@ -37,7 +37,7 @@ use Rattle.node.specs.Entries.{pool_of, Target, targets_in, entry_of, entries_in
 use Rattle.node.specs.Headline.{HasItsCpus}
 use Rattle.node.specs.IsNode.{IsAsked, IsNode, HaveOtherIds, IsPlaced}
 use Rattle.node.specs.Ongoing.{AreOf, IsSince, IsOngoing}
-use Rattle.node.proofs.ListLemmas.{all_map, pairs_map, all_of_map, of_all_map, pairs_of_map, of_pairs_map}
+use Rattle.node.proofs.ListLemmas.{all_map, all_of, pairs_map, all_of_map, of_all_map, pairs_of_map, of_pairs_map}
 use Rattle.node.proofs.LaunchLemmas.{names_apart, is_there}
 
 abbrev Container : Type 0
@@ -116,10 +116,6 @@ pairs_by_recursion R (x ∷ xs) h = (
   recursion_from_All (R x) xs (λ k d within. h 0 (suc k) d (omega arith) (omega arith)),
   pairs_by_recursion R xs (λ i j d lt within. h (suc i) (suc j) d (omega arith) (omega arith)),
 )
-
-all_units : {X : Type 0} (xs : List X) → AllByRecursion (λ x. Unit {0}) xs
-all_units [] = tt
-all_units (x ∷ xs) = (tt, all_units xs)
 
 -- the pool: the online CPUs without those of all sets
 left_without : (a b : Bool) → (a && not b) ≡ true → (a ≡ true) × (b ≡ false)
@@ -332,7 +328,7 @@ module _ (n : NodeState) (h : IsNode n) where
       groups = pairs_of_map entry_of HaveOtherGroups (plan_targets n sets) plan_groups.pairs;
       apart = pairs_of_map entry_of (AreTargetsApart n.machine.reserved) (plan_targets n sets)
           (pairs_map (λ p. Unit {0}) AreParted (λ p q. AreTargetsApart n.machine.reserved (entry_of p) (entry_of q))
-          (λ p q _ _ parted either c in_p in_q. absurd (parted either c in_p in_q)) (plan_targets n sets) (all_units (plan_targets n sets)) plan_parts);
+          (λ p q _ _ parted either c in_p in_q. absurd (parted either c in_p in_q)) (plan_targets n sets) (all_of (λ p. Unit {0}) (λ p. tt) (plan_targets n sets)) plan_parts);
       some = all_map (CanTakeEffect k) (λ e. is_empty e.target ≡ false) (λ e takes. takes.some) (plan_entries n sets) plan_effects;
       reserve = reserved_some;
     }

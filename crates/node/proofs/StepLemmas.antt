@@ -1,33 +1,39 @@
 -- What a step of the hand-over that is open leaves of what holds of a node.
-use Rattle.std.proofs.Common.{◌≡◌, ◌⊎◌, inl, inr, ◌<◌, ◌+◌, true, false, List, Option, Some, None, refl, sym, ap, ◌∙◌, subst}
-use Rattle.std.specs.Prelude.{is_none, map, Result, Ok, Err}
+use Rattle.std.proofs.Common.{◌≡◌, inl, inr, ◌<◌, ◌+◌, false, List, Option, Some, None, refl, sym, ap, ◌∙◌, subst, arith}
+use Rattle.std.proofs.lemmas.Option.{none-some, same_Some}
+use Rattle.std.specs.Prelude.{is_none, map, Result, Ok, Err, OnErr}
 use Rattle.std.specs.List.{AllByRecursion, AllZip}
 use Rattle.cpu_set.specs.Ids.{Ids}
 use Rattle.cpuset_tree.specs.declared.Group.{Group}
-use Rattle.cpuset_tree.specs.TreeState.{GroupEntry}
-use Rattle.cpuset_tree.specs.Groups.{same_group, entry_of, root_of, is_root_entry, cpus_in, mems_in}
+use Rattle.cpuset_tree.specs.Groups.{same_group, is_root_entry, cpus_in, mems_in}
 use Rattle.cpuset_tree.specs.Effective.{is_empty}
 use Rattle.kernel_model.specs.declared.KernelFault.{KernelFault}
 use Rattle.kernel_model.specs.KernelState.{KernelState}
 use Rattle.apply_plan.specs.declared.Entry.{Entry}
 use Rattle.apply_plan.specs.declared.Progress.{Progress}
+use Rattle.apply_plan.specs.declared.Progress.TheVariants.{More, Done}
 use Rattle.apply_plan.specs.Holders.{IsSafe}
 use Rattle.apply_plan.specs.Kept.{kept}
 use Rattle.apply_plan.specs.KeptLemmas.{kept_target, kept_again}
-use Rattle.apply_plan.specs.Targets.{holders_of}
+use Rattle.apply_plan.specs.Targets.{Targets, holders_of}
 use Rattle.apply_plan.specs.Targets as plan
-use Rattle.apply_plan.specs.DueWrite.{held, Steps, IsBetween}
+use Rattle.apply_plan.specs.DueWrite.{Steps, writes_to_come, HaveTargets, IsBetween}
 use Rattle.apply_plan.specs.Leaves.{KeepsRest}
 use Rattle.apply_plan.specs.Runs.{IsOpen}
 use Rattle.apply_plan.specs.OneStep.{StepLeaves, StepsLeave}
+use Rattle.node.specs.declared.fault.NodeFault.{NodeFault}
+use Rattle.node.specs.declared.fault.NodeFault.TheVariants.{Busy, BadId, IdInUse, TooManyContainers, NoContainer, NotCreated, NotRunnable, BadSignal, NotLive, NotStopped, NoHandover, NoAnswer, Config, Demand, Kernel}
 use Rattle.node.specs.declared.phase.Phase.{Phase}
+use Rattle.node.specs.declared.phase.Phase.TheVariants.{Settled, Unsettled}
 use Rattle.node.specs.NodeState.{Ongoing, NodeState, is_underway}
 use Rattle.node.specs.Owners.{Owner, owners_of}
 use Rattle.node.specs.Ongoing.{AreOf, IsSince, IsOngoing, Stands, IsBroken}
 use Rattle.node.specs.IsNode.{IsHome, IsShallow, IsPlaced, IsFirst, Holds, IsNode}
+use Rattle.node.specs.Leaves.{rise_of}
+use Rattle.node.specs.Rebalance.{Stepped, StepsOn}
 use Rattle.node.proofs.ListLemmas.{all_of, all_map, all_map2, zip_map}
 use Rattle.node.proofs.HoldsLemmas.{same_owned}
-use Rattle.node.proofs.OngoingLemmas.{of_entries, entries_safe, owners_safe, same_of}
+use Rattle.node.proofs.OngoingLemmas.{of_entries, entries_safe, owners_safe, same_of, none_open}
 use Rattle.node.proofs.LaunchLemmas.{Stays, child_differs, is_there}
 use Rattle.node.proofs.NodeLemmas.{kernel_node}
 
@@ -138,6 +144,11 @@ module _ (parent : Group) (owners : List Owner) where
       rest = rest;
     }
 
+-- what a step is of the hand-over that is open
+pub its_steps : (old : NodeState) (o : Ongoing) → old.ongoing ≡ Some o → (new : NodeState) (r : Result Progress KernelFault) (phase : Phase) (ongoing : Option Ongoing)
+    → Stepped old r phase ongoing new → Steps o.targets old.kernel r new.kernel
+its_steps old o was new r phase ongoing s = subst (λ (x : Ongoing). Steps x.targets old.kernel r new.kernel) (same_Some s.handover o (sym s.was ∙ was)) s.steps
+
 -- a node whose hand-over is open
 module _ (law : StepsLeave) (n : NodeState) (h : IsNode n) (o : Ongoing) (was : n.ongoing ≡ Some o) where
   abbrev Owners : List Owner
@@ -172,3 +183,84 @@ module _ (law : StepsLeave) (n : NodeState) (h : IsNode n) (o : Ongoing) (was : 
 
     pub broken : IsBroken o n.kernel new
     broken = record { since = moved_on.ongoing.since; rest = moved_on.rest }
+
+    -- the same of the node as the program keeps it
+    pub kept_open : (t : Targets) → t ≡ o.targets → IsNode (record n { kernel = new; ongoing = Some (record o { targets = t }) })
+    kept_open t same = subst (λ (x : Option Ongoing). IsNode (record n { kernel = new; ongoing = x })) (was ∙ ap (λ (x : Targets). Some (record o { targets = x })) (sym same)) more_node
+
+    pub closed : (phase : Phase) → is_underway phase ≡ false → (x : Option Ongoing) → x ≡ None → IsNode (record n { kernel = new; phase = phase; ongoing = x })
+    closed phase settled x none = subst (λ (y : Option Ongoing). IsNode (record n { kernel = new; phase = phase; ongoing = y })) (sym none) (ended_node phase settled)
+
+    module _ (now : NodeState) (is : n ≡ now) where
+      pub went_on : (t : Targets) → t ≡ o.targets → Stepped now r now.phase now.ongoing (record n { kernel = new; ongoing = Some (record o { targets = t }) })
+      went_on t same = subst (λ (m : NodeState). Stepped m r m.phase m.ongoing (record n { kernel = new; ongoing = Some (record o { targets = t }) })) is (record {
+        handover = o;
+        was = was;
+        steps = s;
+        is = ap (λ (x : Option Ongoing). record n { kernel = new; ongoing = x }) (ap (λ (x : Targets). Some (record o { targets = x })) same ∙ sym was);
+      })
+
+      pub came_to_end : (phase : Phase) (x : Option Ongoing) → x ≡ None → Stepped now r phase None (record n { kernel = new; phase = phase; ongoing = x })
+      came_to_end phase x none = subst (λ (m : NodeState). Stepped m r phase None (record n { kernel = new; phase = phase; ongoing = x })) is (record {
+        handover = o;
+        was = was;
+        steps = s;
+        is = ap (λ (y : Option Ongoing). record n { kernel = new; phase = phase; ongoing = y }) none;
+      })
+
+-- what is said of a step, by what it answers
+module _ (old : NodeState) (P : Result Progress NodeFault → NodeState → Type 0)
+    (more : (new : NodeState) → Stepped old (Ok More) old.phase old.ongoing new → P (Ok More) new)
+    (done : (new : NodeState) → Stepped old (Ok Done) Settled None new → P (Ok Done) new)
+    (failed : (fault : KernelFault) (new : NodeState) → Stepped old (Err fault) Unsettled None new → P (Err (Kernel fault)) new)
+    (none : (new : NodeState) → is_underway old.phase ≡ false → new ≡ old → P (Err NoHandover) new) where
+  by_answer : (r : Result Progress NodeFault) (new : NodeState) → StepsOn old r new → P r new
+  by_answer (Ok More) new s = more new s
+  by_answer (Ok Done) new s = done new s
+  by_answer (Err (Kernel fault)) new s = failed fault new s
+  by_answer (Err NoHandover) new s = none new s.0 s.1
+  by_answer (Err Busy) new s = absurd s
+  by_answer (Err BadId) new s = absurd s
+  by_answer (Err IdInUse) new s = absurd s
+  by_answer (Err TooManyContainers) new s = absurd s
+  by_answer (Err NoContainer) new s = absurd s
+  by_answer (Err NotCreated) new s = absurd s
+  by_answer (Err NotRunnable) new s = absurd s
+  by_answer (Err BadSignal) new s = absurd s
+  by_answer (Err NotLive) new s = absurd s
+  by_answer (Err NotStopped) new s = absurd s
+  by_answer (Err NoAnswer) new s = absurd s
+  by_answer (Err (Config fault)) new s = absurd s
+  by_answer (Err (Demand fault)) new s = absurd s
+
+-- what a step says of the hand-over that was open
+pub record Says (old : NodeState) (o : Ongoing) (r : Result Progress NodeFault) (new : NodeState) : Type 0 where
+  pub falls : r ≡ Ok More → writes_to_come o.targets old.kernel ≡ writes_to_come o.targets new.kernel + 1
+  pub done : r ≡ Ok Done → HaveTargets new.kernel o.targets.entries
+  pub broken : OnErr r (IsBroken o old.kernel new.kernel)
+
+module _ (law : StepsLeave) (old : NodeState) (h : IsNode old) where
+  -- where none was open, nothing is said
+  pub says : (o : Ongoing) → old.ongoing ≡ Some o → (r : Result Progress NodeFault) (new : NodeState) → StepsOn old r new → Says old o r new
+  says o was =
+      by_answer old (Says old o)
+      (λ new s. record { falls = λ _. (leaves law old h o was new.kernel (Ok More) (its_steps old o was new (Ok More) old.phase old.ongoing s)).falls refl; done = λ e. absurd (let x : ⊥ = cc e in x); broken = tt })
+      (λ new s. record { falls = λ e. absurd (let x : ⊥ = cc e in x); done = λ _. (leaves law old h o was new.kernel (Ok Done) (its_steps old o was new (Ok Done) Settled None s)).done refl; broken = tt })
+      (λ fault new s. record {
+        falls = λ e. absurd (let x : ⊥ = cc e in x);
+        done = λ e. absurd (let x : ⊥ = cc e in x);
+        broken = broken law old h o was new.kernel (Err fault) (its_steps old o was new (Err fault) Unsettled None s);
+      })
+      (λ new settled same. absurd (none-some o (sym (none_open old.kernel (owners_of old.containers) (is_underway old.phase) settled old.ongoing h.stands) ∙ was)))
+
+  pub counts : (r : Result Progress NodeFault) (new : NodeState) → StepsOn old r new → new.kernel.failures ≡ old.kernel.failures + rise_of r
+  counts =
+      by_answer old (λ r new. new.kernel.failures ≡ old.kernel.failures + rise_of r)
+      (λ new s. (leaves law old h s.handover s.was new.kernel (Ok More) s.steps).counted)
+      (λ new s. (leaves law old h s.handover s.was new.kernel (Ok Done) s.steps).counted)
+      (λ fault new s. (leaves law old h s.handover s.was new.kernel (Err fault) s.steps).counted)
+      (λ new settled same. let e : new.kernel.failures ≡ old.kernel.failures = ap (λ (n : NodeState). n.kernel.failures) same in omega (arith, e))
+
+  pub broken_off : (r : Result Progress NodeFault) (new : NodeState) → StepsOn old r new → OnErr r ((o : Ongoing) → old.ongoing ≡ Some o → IsBroken o old.kernel new.kernel)
+  broken_off (Ok progress) new s = tt
+  broken_off (Err fault) new s = λ o was. (says o was (Err fault) new s).broken

@@ -83,17 +83,18 @@ distance m e cpus = sum_by (λ cpu. weight m e.1.demand.homes cpu) (members cpus
 abbrev pub total_distance : NodeState → List Ids → ℕ
 total_distance n sets = sum_by (λ p. distance n.machine p.0 p.1) (zip (asking n) sets)
 
--- what was worked out last is a plan of this total
+-- what was worked out last is this plan, of this total
 pub record IsTold (rows : List RowView) (sets : List Ids) (total : ℕ) (last : Option Certificate) : Type 0 where
   pub prices : PricesView
   pub is : last ≡ Some (certificate.Plan rows sets prices total)
 
 -- after a plan of this total: each live container has exactly the CPUs that it asked for, all allowed and none shared; the
--- total is their distance to the home nodes, and no sets that the containers could have are nearer; what the kernel has in
--- effect is that plan, which is of least cost in the certificate's rows too; and the same containers live as before
+-- total is their distance to the home nodes, and no sets that the containers could have are nearer; the certificate tells
+-- these very sets, as a plan of least cost of its rows; and the same containers live as before
 pub record IsRebalanced (old : NodeState) (total : ℕ) (new : NodeState) : Type 0 where
   pub served : AllByRecursion (IsServed new.kernel new.pool) new.containers
   pub alone : Pairwise (AreAlone new.kernel) new.containers
+  pub could : CouldHave old (effective_sets new.kernel new.containers)
   pub far : total ≡ total_distance old (effective_sets new.kernel new.containers)
   pub nearest : (others : List Ids) → CouldHave old others → total ≤ total_distance old others
   pub told : IsTold (rows_of old) (effective_sets new.kernel new.containers) total new.last

@@ -2,7 +2,10 @@
 use Rattle.std.specs.Prelude.{◌≡◌, ℕ, List, [], ◌∷◌, map, Result}
 use Rattle.kernel_model.specs.declared.KernelError.{KernelError}
 use Rattle.kernel_model.specs.declared.KernelFault.{KernelFault}
+use Rattle.kernel_model.specs.KernelState.{KernelState}
+use Rattle.kernel_model.specs.WellFormed.{IsWellFormed}
 use Rattle.kernel_model.specs.Cases.{Forks, Exits, GoesOffline, ComesOnline}
+use Rattle.machine.specs.Layout.{Layout}
 use Rattle.faults.specs.declared.OrMemory.{OrMemory}
 use Rattle.apply_plan.specs.declared.Progress.{Progress}
 use Rattle.apply_plan.specs.Holders.{IsSafe}
@@ -10,8 +13,9 @@ use Rattle.node.specs.declared.fault.NodeFault.{NodeFault}
 use Rattle.node.specs.declared.outcome.Outcome.{Outcome}
 use Rattle.node.specs.NodeState.{NodeState}
 use Rattle.node.specs.Owners.{owners_of}
-use Rattle.node.specs.IsNode.{IsNode}
-use Rattle.node.specs.Calls.{Creates, Starts, Kills, Deletes}
+use Rattle.node.specs.IsNode.{IsOfMachine, IsNode}
+use Rattle.node.specs.Unused.{IsUnused}
+use Rattle.node.specs.Calls.{Opens, Creates, Starts, Kills, Deletes}
 use Rattle.node.specs.Rebalance.{Begins, StepsOn, Rebalances}
 use Rattle.node.specs.Headline.{Headline}
 
@@ -51,6 +55,10 @@ Step old (Online cpu answer) new = ComesOnline old.kernel cpu answer new.kernel 
 abbrev pub Run : NodeState → List Event → NodeState → Type 0
 Run old [] new = new ≡ old
 Run old (event ∷ later) new = (mid : NodeState) × Step old event mid × Run mid later new
+
+-- what `new` makes of a kernel that no node has used is a node
+abbrev pub FirstIsNode : Type 0
+FirstIsNode = (k : KernelState) (m : Layout) (n : NodeState) → IsWellFormed k → IsOfMachine k m → IsUnused k → Opens k m n → IsNode n
 
 -- what holds of a node holds after any list of calls and events, with all their refusals
 abbrev pub RunsKeep : Type 0

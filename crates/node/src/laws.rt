@@ -1,7 +1,7 @@
 //! Laws over the definitions alone: nothing here runs.
 ghost use Rattle.std.specs.Prelude.{◌≡◌};
 ghost use Rattle.node.specs.Asking.{RowsAreAsking, ShortStands};
-ghost use Rattle.node.specs.Machine.{RunsKeep, RunsStaySafe, RunsRebalance};
+ghost use Rattle.node.specs.Machine.{FirstIsNode, RunsKeep, RunsStaySafe, RunsRebalance};
 ghost use Rattle.node.specs.UnusedLemmas.{FirstIsUnused, FirstIsOfMachine};
 
 use crate::CONTAINER_LIMIT;
@@ -14,8 +14,11 @@ pub fn first_kernels()
     ensures machine { FirstIsOfMachine }
 {}
 
-/// What holds of a node holds after any list of its calls and of the kernel's events, with all their refusals; nothing runs.
+/// What holds of a node holds of a new one, and after any list of its calls and of the kernel's events, with all their
+/// refusals. So after each of them no CPU but reserved ones is requested for a live pinned container and for another live
+/// one. Nothing runs.
 pub fn runs()
+    ensures first { FirstIsNode }
     ensures keep { RunsKeep }
     ensures safe { RunsStaySafe }
 {

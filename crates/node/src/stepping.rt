@@ -15,18 +15,19 @@ impl<K: Kernel + Drop> Node<K> {
         ensures { StepsOn self.old result self.new }
     {
         apply_plan::laws::steps();
-        let Some(ongoing) = &mut self.ongoing else {
+        let Some(mut ongoing) = self.ongoing.take() else {
             return Err(NodeFault::NoHandover);
         };
         match ongoing.handover.step(&mut self.kernel) {
-            Ok(Progress::More) => Ok(Progress::More),
+            Ok(Progress::More) => {
+                self.ongoing = Some(ongoing);
+                Ok(Progress::More)
+            }
             Ok(Progress::Done) => {
-                self.ongoing = None;
                 self.phase = Phase::Settled;
                 Ok(Progress::Done)
             }
             Err(fault) => {
-                self.ongoing = None;
                 self.phase = Phase::Unsettled;
                 Err(NodeFault::Kernel(fault))
             }

@@ -1,0 +1,17 @@
+use Rattle.node.proofs.StepLemmas.{says, broken_off, counts}
+use Rattle.node.proofs.node.Node.step.Goals as goal
+
+pub returns : goal.returns
+returns g c =
+    let law = c.steps.ensures in
+    let old = c.args.self.now in
+    let new = c.advance.new.self in
+    let r = c.advance.result in
+    let done = c.advance.ensures in
+    record {
+      steps = done;
+      falls = λ e o was. (says law old c.holds.ensures o was r new done).falls e;
+      done = λ e o was. (says law old c.holds.ensures o was r new done).done e;
+      broken = broken_off law old c.holds.ensures r new done;
+      counted = counts law old c.holds.ensures r new done;
+    }
