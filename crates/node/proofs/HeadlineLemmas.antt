@@ -40,7 +40,7 @@ use Rattle.node.specs.Rows.{rows_of}
 use Rattle.node.specs.Entries.{Target, entry_of, plan_pool, plan_targets, plan_entries, opened}
 use Rattle.node.specs.Asking.{IsRowOf}
 use Rattle.node.specs.Rebalance.{Begun, Lacks, Begins, Moves, Finishes, Rebalances}
-use Rattle.node.specs.Headline.{effective, HasItsCpus, IsServed, AreAlone, is_asking, effective_sets, asking, CouldHave, total_distance, IsRebalanced, Headline}
+use Rattle.node.specs.Headline.{effective, HasItsCpus, IsServed, AreAlone, is_asking, effective_sets, asking, CouldHave, total_distance, IsRebalanced, IsBrokenOff, Headline}
 use Rattle.node.proofs.ListLemmas.{all_map, all_map2, pairs_map, all_of_map, of_all_map}
 use Rattle.node.proofs.AskingLemmas.{rows_are_asking, short_stands}
 use Rattle.node.proofs.DistanceLemmas.{could_plan, plan_could, cost_is_far}
@@ -291,6 +291,23 @@ module _ (old : NodeState) (h : IsNode old) (weigh : RowsWeigh) where
     rebalances_node (Err (Fault Busy)) new e = begins_node (Err (Fault Busy)) new e
     rebalances_node (Err (Fault fault)) new e = absurd e
 
+    pub broken_off : (total : ℕ) (fault : KernelFault) (new : NodeState) → Moves old total (Err fault) new → IsBrokenOff old fault new
+    broken_off total fault new m =
+        let b = moved_breaks total fault new m in
+        record {
+          sets = m.begun.sets;
+          total = total;
+          least = m.begun.decides.least;
+          told = record { prices = m.begun.prices; is = b.last };
+          broken = b.broken;
+          failed = b.failed;
+          counted = b.failures;
+          safe = b.node.holds.safe;
+          phase = b.phase;
+          ongoing = b.ongoing;
+          same = b.containers;
+        }
+
     module _ (effects : TargetsTakeEffect) where
       pub rebalanced : (total : ℕ) (new : NodeState) → Moves old total (Ok tt) new → IsRebalanced old total new
       rebalanced total new m =
@@ -301,4 +318,7 @@ module _ (old : NodeState) (h : IsNode old) (weigh : RowsWeigh) where
       pub headline : (r : Result Outcome (OrMemory NodeFault)) (new : NodeState) → Rebalances old r new → Headline old r new
       headline (Ok (Plan total)) new m = rebalanced total new m
       headline (Ok (Short wanted allowed)) new l = short_stands old h weigh wanted allowed new l
-      headline (Err error) new e = tt
+      headline (Err (Fault (Kernel fault))) new m = broken_off m.0 fault new m.1
+      headline (Err (Fault Busy)) new e = e
+      headline (Err (Fault fault)) new e = absurd e
+      headline (Err Memory) new e = e.1

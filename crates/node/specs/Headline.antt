@@ -1,5 +1,5 @@
 -- What a rebalance leaves, in the subject's own words.
-use Rattle.std.specs.Prelude.{◌≡◌, ◌<◌, ◌≤◌, ℕ, Bool, true, false, ◌&&◌, ◌||◌, cond, List, [], ◌∷◌, Option, Some, Result, Ok, Err, All, AllPairs, filter, filter_map, length, slice_get, zip}
+use Rattle.std.specs.Prelude.{◌≡◌, ◌+◌, ◌<◌, ◌≤◌, ℕ, Bool, true, false, ◌&&◌, ◌||◌, cond, List, [], ◌∷◌, Option, Some, None, Result, Ok, Err, All, AllPairs, filter, filter_map, length, map, slice_get, zip}
 use Rattle.std.specs.List.{AllByRecursion, AllZip, list_any, sum_by}
 use Rattle.std.specs.List.Sorted.{IsStrictlyIncreasing}
 use Rattle.std.specs.FinSet as set
@@ -16,18 +16,25 @@ use Rattle.certificate.specs.IsShortage.{HasNoPlan}
 use Rattle.certificate.specs.Cost.{cost}
 use Rattle.certificate_text.specs.declared.certificates.Certificate.{Certificate}
 use Rattle.certificate_text.specs.declared.certificates.Certificate.TheVariants as certificate
+use Rattle.kernel_model.specs.declared.KernelFault.{KernelFault}
+use Rattle.kernel_model.specs.declared.KernelFault.TheVariants.{Failed}
 use Rattle.faults.specs.declared.OrMemory.{OrMemory}
-use Rattle.apply_plan.specs.Holders.{Pairwise}
+use Rattle.faults.specs.declared.OrMemory.TheVariants.{Memory, Fault}
+use Rattle.apply_plan.specs.Holders.{Pairwise, IsSafe}
 use Rattle.demand.specs.declared.Kind.{Kind}
 use Rattle.demand.specs.declared.Kind.TheVariants.{Pinned, Shared}
 use Rattle.demand.specs.declared.Demand.{Demand}
 use Rattle.node.specs.declared.fault.NodeFault.{NodeFault}
+use Rattle.node.specs.declared.fault.NodeFault.TheVariants.{Busy, Kernel}
 use Rattle.node.specs.declared.outcome.Outcome.{Outcome}
 use Rattle.node.specs.declared.outcome.Outcome.TheVariants.{Plan, Short}
-use Rattle.node.specs.NodeState.{ContainerState, NodeState}
-use Rattle.node.specs.Owners.{is_pinned}
+use Rattle.node.specs.declared.phase.Phase.TheVariants.{Unsettled}
+use Rattle.node.specs.NodeState.{ContainerState, NodeState, is_underway}
+use Rattle.node.specs.Owners.{is_pinned, owners_of}
 use Rattle.node.specs.Status.{is_live}
+use Rattle.node.specs.Ongoing.{IsBroken}
 use Rattle.node.specs.Rows.{rows_of}
+use Rattle.node.specs.Entries.{opened}
 
 -- the CPUs that a container has in effect
 abbrev pub effective : KernelState → List ℕ × ContainerState → Ids
@@ -121,8 +128,27 @@ pub record IsShort (old : NodeState) (wanted : ℕ) (allowed : Ids) (new : NodeS
   pub could_not : (sets : List Ids) → CouldHave old sets → ⊥
   pub same : new ≡ record old { last = new.last }
 
--- what stands after a rebalance that answers this
+-- after a write that failed: what each container of the hand-over requests is what it did before, or what it keeps of that, or
+-- what the plan gives it; nothing else changed in the kernel but the count of failures; what is requested is safe; and no
+-- hand-over is open
+pub record IsBrokenOff (old : NodeState) (fault : KernelFault) (new : NodeState) : Type 0 where
+  pub sets : List Ids
+  pub total : ℕ
+  pub least : IsLeast (rows_of old) sets
+  pub told : IsTold (rows_of old) sets total new.last
+  pub broken : IsBroken (opened old sets) old.kernel new.kernel
+  pub failed : fault ≡ Failed
+  pub counted : new.kernel.failures ≡ old.kernel.failures + 1
+  pub safe : IsSafe new.kernel new.kernel.reserved (map (λ o. o.holder) (owners_of new.containers))
+  pub phase : new.phase ≡ Unsettled
+  pub ongoing : new.ongoing ≡ None
+  pub same : new.containers ≡ old.containers
+
+-- what stands after a rebalance that answers this; of its other refusals each has its cause, and nothing changed
 abbrev pub Headline : NodeState → Result Outcome (OrMemory NodeFault) → NodeState → Type 0
 Headline old (Ok (Plan total)) new = IsRebalanced old total new
 Headline old (Ok (Short wanted allowed)) new = IsShort old wanted allowed new
-Headline old (Err error) new = Unit {0}
+Headline old (Err (Fault (Kernel fault))) new = IsBrokenOff old fault new
+Headline old (Err (Fault Busy)) new = (is_underway old.phase ≡ true) × (new ≡ old)
+Headline old (Err (Fault fault)) new = ⊥
+Headline old (Err Memory) new = new ≡ old
