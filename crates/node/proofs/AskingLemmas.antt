@@ -46,6 +46,7 @@ use Rattle.node.specs.Rebalance.{Lacks}
 use Rattle.node.specs.Headline.{is_asking, asking, wanted_by, is_allowed, IsShort}
 use Rattle.node.specs.Asking.{IsRowOf}
 use Rattle.node.specs.Viewed.{all_seen}
+use Rattle.node.proofs.DistanceLemmas.{could_plan}
 use Rattle.node.proofs.ListLemmas.{of_pairs_map}
 
 -- what is given of the elements of a list
@@ -112,6 +113,12 @@ module _ {X Y : Type 0} (R : X → Y → Type 0) where
     by None (Some y) at rest = absurd at
     by (Some x) None at rest = absurd at
     by (Some x) (Some y) at rest = (at, rest)
+
+  pub zip_length : (xs : List X) (ys : List Y) → AllZip R xs ys → length xs ≡ length ys
+  zip_length [] [] zip = refl
+  zip_length [] (y ∷ ys) zip = absurd zip
+  zip_length (x ∷ xs) [] zip = absurd zip
+  zip_length (x ∷ xs) (y ∷ ys) zip = ap suc (zip_length xs ys zip.1)
 
   pub zip_sum : (f : X → ℕ) (g : Y → ℕ) → ((x : X) (y : Y) → R x y → f x ≡ g y) → (xs : List X) (ys : List Y) → AllZip R xs ys → sum_by f xs ≡ sum_by g ys
   zip_sum f g same [] [] zip = refl
@@ -300,6 +307,10 @@ short_stands old h weigh wanted allowed new l =
       asks = asks ∙ asked_by_chosen old h weigh l.members;
       has = λ cpu. l.need.has cpu ∙ offered_by_chosen old h weigh l.members cpu;
       more = omega (arith, as_many, short, asks);
+      rising = l.decides.shortage.rising;
+      there = subst (λ count. All (λ k. k < count) l.members) (zip_length (IsRowOf old.kernel old.machine) (rows_of old) (asking old) (rows_are_asking old h weigh))
+          l.decides.shortage.there;
       none = l.decides.none;
+      could_not = λ sets could. l.decides.none sets (could_plan old (rows_are_asking old h weigh) sets could);
       same = l.is ∙ ap (λ last. record old { last = last }) (sym named);
     }

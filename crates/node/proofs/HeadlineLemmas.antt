@@ -1,9 +1,9 @@
 -- What a rebalance leaves: the headline.
-use Rattle.std.proofs.Common.{◌≡◌, ℕ, ◌+◌, true, false, cond, ◌||◌, List, [], ◌∷◌, Option, Some, refl, sym, ap, ◌∙◌, subst, arith}
+use Rattle.std.proofs.Common.{◌≡◌, ℕ, ◌+◌, ◌≤◌, true, false, cond, ◌||◌, List, [], ◌∷◌, Option, Some, refl, sym, ap, ◌∙◌, subst, arith}
 use Rattle.std.proofs.lemmas.Bool.{false≢true, and_from, and_left, and_right}
 use Rattle.std.proofs.lemmas.List.Elements.{recursion_from_All}
 use Rattle.std.specs.Prelude.{Result, Ok, Err}
-use Rattle.std.specs.List.{AllByRecursion}
+use Rattle.std.specs.List.{AllByRecursion, AllZip}
 use Rattle.std.specs.FinSet as set
 use Rattle.cpu_set.specs.Ids.{Ids, IsDisjoint}
 use Rattle.cpuset_tree.specs.declared.Group.{Group}
@@ -13,6 +13,7 @@ use Rattle.kernel_model.specs.KernelState.{KernelState}
 use Rattle.demand.specs.declared.Kind.{Kind}
 use Rattle.demand.specs.declared.Kind.TheVariants.{Pinned, Shared}
 use Rattle.demand.specs.declared.Demand.{Demand}
+use Rattle.certificate.specs.PricesView.{PricesView}
 use Rattle.certificate.specs.IsPlan.{IsPlan}
 use Rattle.certificate.specs.IsLeast.{IsLeast}
 use Rattle.certificate.specs.Cost.{cost}
@@ -37,11 +38,13 @@ use Rattle.node.specs.Status.{is_live}
 use Rattle.node.specs.IsNode.{IsHome, IsPlaced, IsNode}
 use Rattle.node.specs.Rows.{rows_of}
 use Rattle.node.specs.Entries.{Target, entry_of, plan_pool, plan_targets, plan_entries, opened}
+use Rattle.node.specs.Asking.{IsRowOf}
 use Rattle.node.specs.Rebalance.{Begun, Lacks, Begins, Moves, Finishes, Rebalances}
 use Rattle.node.specs.Leaves.{fault_rise, rise_or_memory}
-use Rattle.node.specs.Headline.{effective, HasItsCpus, IsServed, AreAlone, is_asking, effective_sets, IsRebalanced, IsBrokenOff, Headline}
+use Rattle.node.specs.Headline.{effective, HasItsCpus, IsServed, AreAlone, is_asking, effective_sets, asking, CouldHave, total_distance, IsRebalanced, IsBrokenOff, Headline}
 use Rattle.node.proofs.ListLemmas.{all_map, all_map2, pairs_map, all_of_map, of_all_map}
-use Rattle.node.proofs.AskingLemmas.{short_stands}
+use Rattle.node.proofs.AskingLemmas.{rows_are_asking, short_stands}
+use Rattle.node.proofs.DistanceLemmas.{could_plan, plan_could, cost_is_far}
 use Rattle.node.proofs.FinishLemmas.{Settles, Breaks, settles, breaks}
 use Rattle.node.proofs.PlanLemmas.{IsDealt, over_targets, plan_serves, plan_parts, plan_effects, opened_ongoing, effects_later}
 
@@ -203,13 +206,29 @@ module _ (old : NodeState) (h : IsNode old) (weigh : RowsWeigh) (effects : Targe
   same_sets : effective_sets new.kernel new.containers ≡ sets
   same_sets = ap (λ (es : List Container). effective_sets new.kernel es) s.containers ∙ sets_in_effect in_effect
 
-  pub settled : (total : ℕ) → IsLeast (rows_of old) sets → cost (rows_of old) sets ≡ total → IsRebalanced old total new
-  settled total least costs = record {
+  -- which no other sets undercut
+  of : AllZip (IsRowOf old.kernel old.machine) (rows_of old) (asking old)
+  of = rows_are_asking old h weigh
+
+  least_far : (total : ℕ) → IsLeast (rows_of old) sets → cost (rows_of old) sets ≡ total → (others : List Ids) → CouldHave old others
+      → total ≤ total_distance old others
+  least_far total least costs others could =
+      let other : IsPlan (rows_of old) others = could_plan old of others could in
+      omega (arith, costs, cost_is_far old of h weigh others other, least.least others other)
+
+  pub settled : (total : ℕ) (prices : PricesView) → last ≡ Some (certificate.Plan (rows_of old) sets prices total) → IsLeast (rows_of old) sets
+      → cost (rows_of old) sets ≡ total → IsRebalanced old total new
+  settled total prices told least costs = record {
     served = subst (λ (es : List Container). AllByRecursion (IsServed new.kernel new.pool) es) (sym s.containers) served;
     alone = subst (λ (es : List Container). Pairwise (AreAlone new.kernel) es) (sym s.containers) alone;
+    could = subst (λ (ss : List Ids). CouldHave old ss) (sym same_sets) (plan_could old of sets plan);
+    far = sym costs ∙ cost_is_far old of h weigh sets plan ∙ ap (total_distance old) (sym same_sets);
+    nearest = least_far total least costs;
+    told = record { prices = prices; is = s.last ∙ told ∙ ap (λ (ss : List Ids). Some (certificate.Plan (rows_of old) ss prices total)) (sym same_sets) };
     least = subst (λ (ss : List Ids). IsLeast (rows_of old) ss) (sym same_sets) least;
     costs = sym costs ∙ ap (cost (rows_of old)) (sym same_sets);
     same = s.containers;
+    lives = s.table;
   }
 
 -- after each of the calls, whatever it answers
@@ -273,10 +292,22 @@ module _ (old : NodeState) (h : IsNode old) (weigh : RowsWeigh) where
     rebalances_node (Err (Fault Busy)) new e = begins_node (Err (Fault Busy)) new e
     rebalances_node (Err (Fault fault)) new e = absurd e
 
-    pub broken_off : (total : ℕ) (fault : KernelFault) (new : NodeState) → Moves old total (Err fault) new → IsBrokenOff old new
+    pub broken_off : (total : ℕ) (fault : KernelFault) (new : NodeState) → Moves old total (Err fault) new → IsBrokenOff old fault new
     broken_off total fault new m =
-        let left = moved_breaks total fault new m in
-        record { sets = m.begun.sets; least = m.begun.decides.least; broken = left.broken; phase = left.phase; same = left.containers }
+        let b = moved_breaks total fault new m in
+        record {
+          sets = m.begun.sets;
+          total = total;
+          least = m.begun.decides.least;
+          told = record { prices = m.begun.prices; is = b.last };
+          broken = b.broken;
+          failed = b.failed;
+          counted = b.failures;
+          safe = b.node.holds.safe;
+          phase = b.phase;
+          ongoing = b.ongoing;
+          same = b.containers;
+        }
 
     -- a failure is counted, and nothing else is
     pub rebalance_counts : (r : Result Outcome (OrMemory NodeFault)) (new : NodeState) → Rebalances old r new → new.kernel.failures ≡ old.kernel.failures + rise_or_memory r
@@ -294,12 +325,12 @@ module _ (old : NodeState) (h : IsNode old) (weigh : RowsWeigh) where
       rebalanced total new m =
           let b = m.begun in
           settled old h weigh effects b.sets b.decides.least.plan (Some (certificate.Plan (rows_of old) b.sets b.prices total)) new (moved_settles total new m) total
-          b.decides.least b.decides.proved.costs
+          b.prices refl b.decides.least b.decides.proved.costs
 
       pub headline : (r : Result Outcome (OrMemory NodeFault)) (new : NodeState) → Rebalances old r new → Headline old r new
       headline (Ok (Plan total)) new m = rebalanced total new m
       headline (Ok (Short wanted allowed)) new l = short_stands old h weigh wanted allowed new l
-      headline (Err Memory) new e = e.1
       headline (Err (Fault (Kernel fault))) new m = broken_off m.0 fault new m.1
-      headline (Err (Fault Busy)) new e = e.1
+      headline (Err (Fault Busy)) new e = e
       headline (Err (Fault fault)) new e = absurd e
+      headline (Err Memory) new e = e.1

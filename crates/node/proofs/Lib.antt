@@ -14,6 +14,7 @@ pub mod CountLemmas
 pub mod LeaveLemmas
 pub mod PlanLemmas
 pub mod AskingLemmas
+pub mod DistanceLemmas
 pub mod HeadlineLemmas
 pub mod RebalanceLemmas
 pub mod MachineLemmas

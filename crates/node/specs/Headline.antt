@@ -1,40 +1,53 @@
 -- What a rebalance leaves, in the subject's own words.
-use Rattle.std.specs.Prelude.{◌≡◌, ◌<◌, ℕ, Bool, true, false, ◌&&◌, ◌||◌, cond, List, [], ◌∷◌, Some, Result, Ok, Err, filter, filter_map, slice_get}
-use Rattle.std.specs.List.{AllByRecursion, list_any, sum_by}
+use Rattle.std.specs.Prelude.{◌≡◌, ◌+◌, ◌<◌, ◌≤◌, ℕ, Bool, true, false, ◌&&◌, ◌||◌, cond, List, [], ◌∷◌, Option, Some, None, Result, Ok, Err, All, AllPairs, filter, filter_map, length, map, slice_get, zip}
+use Rattle.std.specs.List.{AllByRecursion, AllZip, list_any, sum_by}
+use Rattle.std.specs.List.Sorted.{IsStrictlyIncreasing}
 use Rattle.std.specs.FinSet as set
 use Rattle.cpu_set.specs.Ids.{Ids, IsDisjoint}
+use Rattle.cpu_set.specs.Members.{InRange, members}
 use Rattle.cpuset_tree.specs.Effective.{is_empty, effective_cpus}
 use Rattle.kernel_model.specs.KernelState.{KernelState}
+use Rattle.machine.specs.Layout.{Layout}
+use Rattle.machine.specs.Weight.{weight}
+use Rattle.certificate.specs.RowView.{RowView}
+use Rattle.certificate.specs.PricesView.{PricesView}
 use Rattle.certificate.specs.IsLeast.{IsLeast}
 use Rattle.certificate.specs.IsShortage.{HasNoPlan}
 use Rattle.certificate.specs.Cost.{cost}
+use Rattle.certificate_text.specs.declared.certificates.Certificate.{Certificate}
 use Rattle.certificate_text.specs.declared.certificates.Certificate.TheVariants as certificate
+use Rattle.kernel_model.specs.declared.KernelFault.{KernelFault}
+use Rattle.kernel_model.specs.declared.KernelFault.TheVariants.{Failed}
 use Rattle.faults.specs.declared.OrMemory.{OrMemory}
 use Rattle.faults.specs.declared.OrMemory.TheVariants.{Memory, Fault}
-use Rattle.apply_plan.specs.Holders.{Pairwise}
+use Rattle.apply_plan.specs.Holders.{Pairwise, IsSafe}
 use Rattle.demand.specs.declared.Kind.{Kind}
 use Rattle.demand.specs.declared.Kind.TheVariants.{Pinned, Shared}
 use Rattle.demand.specs.declared.Demand.{Demand}
 use Rattle.node.specs.declared.fault.NodeFault.{NodeFault}
-use Rattle.node.specs.declared.fault.NodeFault.TheVariants.{Kernel}
-use Rattle.node.specs.declared.phase.Phase.TheVariants.{Unsettled}
+use Rattle.node.specs.declared.fault.NodeFault.TheVariants.{Busy, Kernel}
 use Rattle.node.specs.declared.outcome.Outcome.{Outcome}
 use Rattle.node.specs.declared.outcome.Outcome.TheVariants.{Plan, Short}
-use Rattle.node.specs.NodeState.{ContainerState, NodeState}
-use Rattle.node.specs.Owners.{is_pinned}
+use Rattle.node.specs.declared.phase.Phase.TheVariants.{Unsettled}
+use Rattle.node.specs.NodeState.{ContainerState, NodeState, is_underway}
+use Rattle.node.specs.Owners.{is_pinned, owners_of}
 use Rattle.node.specs.Status.{is_live}
+use Rattle.node.specs.Ongoing.{IsBroken}
 use Rattle.node.specs.Rows.{rows_of}
 use Rattle.node.specs.Entries.{opened}
-use Rattle.node.specs.Ongoing.{IsBroken}
 
 -- the CPUs that a container has in effect
 abbrev pub effective : KernelState → List ℕ × ContainerState → Ids
 effective k e = effective_cpus k.tree e.1.group
 
--- exactly as many CPUs as it asks for, all allowed and online; a shared one has the pool, which is not empty
-abbrev pub HasItsCpus : KernelState → Ids → Demand → Kind → Ids → Type 0
-HasItsCpus k pool d (Pinned count) cpus =
+-- exactly so many CPUs, all allowed and online
+abbrev pub AreOwn : KernelState → Demand → ℕ → Ids → Type 0
+AreOwn k d count cpus =
     (set.len cpus ≡ count) × ((cpu : ℕ) → set.contains cpus cpu ≡ true → (set.contains d.allowed cpu ≡ true) × (set.contains k.tree.online cpu ≡ true))
+
+-- as many as it asks for; a shared one has the pool, which is not empty
+abbrev pub HasItsCpus : KernelState → Ids → Demand → Kind → Ids → Type 0
+HasItsCpus k pool d (Pinned count) cpus = AreOwn k d count cpus
 HasItsCpus k pool d Shared cpus = (cpus ≡ pool) × (is_empty pool ≡ false)
 
 -- so has each live container in effect
@@ -59,47 +72,83 @@ abbrev pub effective_sets : KernelState → List (List ℕ × ContainerState) �
 effective_sets k [] = []
 effective_sets k (e ∷ later) = cond (is_asking k e) (effective k e ∷ effective_sets k later) (effective_sets k later)
 
--- after a plan of this total: each live container has exactly the CPUs that it asked for, all allowed and none shared, at a
--- total distance to the home nodes that no plan undercuts; and what the kernel has in effect is that plan
-pub record IsRebalanced (old : NodeState) (total : ℕ) (new : NodeState) : Type 0 where
-  pub served : AllByRecursion (IsServed new.kernel new.pool) new.containers
-  pub alone : Pairwise (AreAlone new.kernel) new.containers
-  pub least : IsLeast (rows_of old) (effective_sets new.kernel new.containers)
-  pub costs : total ≡ cost (rows_of old) (effective_sets new.kernel new.containers)
-  pub same : new.containers ≡ old.containers
-
--- how many CPUs a container asks for, and whether it is allowed this one, which is online
+-- how many CPUs of its own a container asks for
 abbrev pub wanted_by : Kind → ℕ
 wanted_by (Pinned count) = count
 wanted_by Shared = 0
 
+-- sets that the live pinned containers could have: for each exactly as many CPUs as it asks for, all allowed and none shared
+pub record CouldHave (n : NodeState) (sets : List Ids) : Type 0 where
+  pub numbers : AllByRecursion InRange sets
+  pub own : AllZip (λ e cpus. AreOwn n.kernel e.1.demand (wanted_by e.1.demand.kind) cpus) (asking n) sets
+  pub apart : AllPairs IsDisjoint sets
+
+-- how far these CPUs are from the nearest of a container's homes, all together; and the sets of all
+abbrev pub distance : Layout → List ℕ × ContainerState → Ids → ℕ
+distance m e cpus = sum_by (λ cpu. weight m e.1.demand.homes cpu) (members cpus)
+
+abbrev pub total_distance : NodeState → List Ids → ℕ
+total_distance n sets = sum_by (λ p. distance n.machine p.0 p.1) (zip (asking n) sets)
+
+-- what was worked out last is this plan, of this total
+pub record IsTold (rows : List RowView) (sets : List Ids) (total : ℕ) (last : Option Certificate) : Type 0 where
+  pub prices : PricesView
+  pub is : last ≡ Some (certificate.Plan rows sets prices total)
+
+-- after a plan of this total: each live container has exactly the CPUs that it asked for, all allowed and none shared; the
+-- total is their distance to the home nodes, and no sets that the containers could have are nearer; the certificate tells
+-- these very sets, as a plan of least cost of its rows; and the same containers live as before
+pub record IsRebalanced (old : NodeState) (total : ℕ) (new : NodeState) : Type 0 where
+  pub served : AllByRecursion (IsServed new.kernel new.pool) new.containers
+  pub alone : Pairwise (AreAlone new.kernel) new.containers
+  pub could : CouldHave old (effective_sets new.kernel new.containers)
+  pub far : total ≡ total_distance old (effective_sets new.kernel new.containers)
+  pub nearest : (others : List Ids) → CouldHave old others → total ≤ total_distance old others
+  pub told : IsTold (rows_of old) (effective_sets new.kernel new.containers) total new.last
+  pub least : IsLeast (rows_of old) (effective_sets new.kernel new.containers)
+  pub costs : total ≡ cost (rows_of old) (effective_sets new.kernel new.containers)
+  pub same : new.containers ≡ old.containers
+  pub lives : new.kernel.table ≡ old.kernel.table
+
+-- whether a container is allowed this CPU, which is online
 abbrev pub is_allowed : KernelState → ℕ → List ℕ × ContainerState → Bool
 is_allowed k cpu e = set.contains e.1.demand.allowed cpu && set.contains k.tree.online cpu
 
--- after a shortage: live pinned containers that together ask for more CPUs than they are allowed, so that there is no plan;
--- and the kernel is as before
+-- after a shortage: live pinned containers, each named once, that together ask for more CPUs than they are allowed, so that
+-- they could have no sets at all; and the kernel is as before
 pub record IsShort (old : NodeState) (wanted : ℕ) (allowed : Ids) (new : NodeState) : Type 0 where
   pub members : List ℕ
   pub named : new.last ≡ Some (certificate.Short (rows_of old) members)
+  pub rising : IsStrictlyIncreasing members
+  pub there : All (λ k. k < length (asking old)) members
   pub asks : wanted ≡ sum_by (λ e. wanted_by e.1.demand.kind) (filter_map (slice_get (asking old)) members)
   pub has : (cpu : ℕ) → set.contains allowed cpu ≡ list_any (is_allowed old.kernel cpu) (filter_map (slice_get (asking old)) members)
   pub more : set.len allowed < wanted
   pub none : HasNoPlan (rows_of old)
+  pub could_not : (sets : List Ids) → CouldHave old sets → ⊥
   pub same : new ≡ record old { last = new.last }
 
--- after a write that failed: the hand-over to a least plan is over; each of its containers requests what it did before, or
--- what it keeps of that, or what the plan gives it; and nothing else changed in the kernel but its count of failures
-pub record IsBrokenOff (old new : NodeState) : Type 0 where
+-- after a write that failed: what each container of the hand-over requests is what it did before, or what it keeps of that, or
+-- what the plan gives it; nothing else changed in the kernel but the count of failures; what is requested is safe; and no
+-- hand-over is open
+pub record IsBrokenOff (old : NodeState) (fault : KernelFault) (new : NodeState) : Type 0 where
   pub sets : List Ids
+  pub total : ℕ
   pub least : IsLeast (rows_of old) sets
+  pub told : IsTold (rows_of old) sets total new.last
   pub broken : IsBroken (opened old sets) old.kernel new.kernel
+  pub failed : fault ≡ Failed
+  pub counted : new.kernel.failures ≡ old.kernel.failures + 1
+  pub safe : IsSafe new.kernel new.kernel.reserved (map (λ o. o.holder) (owners_of new.containers))
   pub phase : new.phase ≡ Unsettled
+  pub ongoing : new.ongoing ≡ None
   pub same : new.containers ≡ old.containers
 
--- what stands after a rebalance that answers this
+-- what stands after a rebalance that answers this; of its other refusals each has its cause, and nothing changed
 abbrev pub Headline : NodeState → Result Outcome (OrMemory NodeFault) → NodeState → Type 0
 Headline old (Ok (Plan total)) new = IsRebalanced old total new
 Headline old (Ok (Short wanted allowed)) new = IsShort old wanted allowed new
+Headline old (Err (Fault (Kernel fault))) new = IsBrokenOff old fault new
+Headline old (Err (Fault Busy)) new = (is_underway old.phase ≡ true) × (new ≡ old)
+Headline old (Err (Fault fault)) new = ⊥
 Headline old (Err Memory) new = new ≡ old
-Headline old (Err (Fault (Kernel fault))) new = IsBrokenOff old new
-Headline old (Err (Fault fault)) new = new ≡ old
