@@ -3,7 +3,7 @@ use Rattle.std.specs.Prelude.{◌≡◌, ◌⊎◌, ℕ, List, ◌++◌, Option,
 use Rattle.std.specs.declared.alloc.Global.{Global}
 use Rattle.certificate_text.specs.Written.{text_of}
 use Rattle.certificate_text.specs.declared.certificates.Certificate.{Certificate}
-use Rattle.apply_plan.specs.declared.handover.Progress.{Progress}
+use Rattle.apply_plan.specs.declared.Progress.{Progress}
 use Rattle.faults.specs.declared.or_memory.OrMemory.{OrMemory}
 use Rattle.kernel_model.specs.declared.faults.KernelError.{KernelError}
 use Rattle.kernel_model.specs.declared.faults.KernelFault.{KernelFault}

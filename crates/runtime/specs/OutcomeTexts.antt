@@ -6,8 +6,8 @@ use Rattle.certificate.specs.RowView.{RowView}
 use Rattle.certificate_text.specs.CertificateText.{id_at}
 use Rattle.certificate_text.specs.declared.certificates.Certificate.{Certificate}
 use Rattle.certificate_text.specs.declared.certificates.Certificate.TheVariants as certificate
-use Rattle.apply_plan.specs.declared.handover.Progress.{Progress}
-use Rattle.apply_plan.specs.declared.handover.Progress.TheVariants.{More, Done}
+use Rattle.apply_plan.specs.declared.Progress.{Progress}
+use Rattle.apply_plan.specs.declared.Progress.TheVariants.{More, Done}
 use Rattle.node.specs.declared.outcome.Outcome.{Outcome}
 use Rattle.node.specs.declared.outcome.Outcome.TheVariants.{Plan, Short}
 use Rattle.node.specs.NodeState.{NodeState}
@@ -15,7 +15,7 @@ use Rattle.runtime.specs.AnswerTexts.{set_text}
 
 -- what a plan gives a container
 abbrev pub hold_line : RowView × Ids → List ℕ
-hold_line p = codes "hold " ++ (p.0.id ++ (codes " " ++ (set_text p.1 ++ codes "\n")))
+hold_line p = (codes "hold " ++ (p.0.id ++ codes " ")) ++ (set_text p.1 ++ codes "\n")
 
 -- a container that is short
 abbrev pub member_line : List RowView → ℕ → List ℕ
@@ -31,13 +31,22 @@ last_lines (Some c) = container_lines c
 last_lines None = []
 
 -- the total; or what is asked for, and what is allowed
+abbrev pub total_line : ℕ → List ℕ
+total_line total = codes "plan total " ++ (decimal total ++ codes "\n")
+
+abbrev pub need_line : ℕ → Ids → List ℕ
+need_line wanted allowed = (codes "short demand " ++ (decimal wanted ++ codes " allowed ")) ++ (set_text allowed ++ codes "\n")
+
 abbrev pub first_line : Outcome → List ℕ
-first_line (Plan total) = codes "plan total " ++ (decimal total ++ codes "\n")
-first_line (Short wanted allowed) = (codes "short demand " ++ (decimal wanted ++ codes " allowed ")) ++ (set_text allowed ++ codes "\n")
+first_line (Plan total) = total_line total
+first_line (Short wanted allowed) = need_line wanted allowed
 
 -- the pool that a plan leaves, and the end
+abbrev pub pool_lines : Ids → List ℕ
+pool_lines pool = (codes "pool " ++ set_text pool) ++ codes "\nend\n"
+
 abbrev pub end_lines : Ids → Outcome → List ℕ
-end_lines pool (Plan total) = (codes "pool " ++ set_text pool) ++ codes "\nend\n"
+end_lines pool (Plan total) = pool_lines pool
 end_lines pool (Short wanted allowed) = codes "end\n"
 
 -- an outcome, with the containers of the last certificate and the pool

@@ -3,7 +3,7 @@ ghost use Rattle.std.specs.Prelude.{◌≡◌, ◌<◌, ◌++◌, All, length, z
 ghost use Rattle.std.specs.List.{flat_map};
 ghost use Rattle.cpu_list.specs.Output.{Writes};
 ghost use Rattle.certificate_text.specs.Written.{CanWrite};
-ghost use Rattle.runtime.specs.OutcomeTexts.{container_lines, end_lines, first_line, hold_line, member_line, outcome_text, progress_line};
+ghost use Rattle.runtime.specs.OutcomeTexts.{container_lines, end_lines, first_line, hold_line, member_line, need_line, outcome_text, pool_lines, progress_line, total_line};
 
 use crate::answers::{put_labelled, put_set};
 use certificate::Row;
@@ -71,35 +71,48 @@ fn put_containers<W: Write>(certificate: &Certificate, w: &mut W) -> io::Result<
     }
 }
 
+fn put_total<W: Write>(total: u64, w: &mut W) -> io::Result<()>
+    ensures { Writes (W.contents w.old) (W.contents w.new) result (total_line total) }
+{
+    let mut digits = Buffer::new();
+    let total = digits.format(total).as_bytes();
+    put_all(&[b"plan total ".as_slice(), total, b"\n".as_slice()], w)
+}
+
+fn put_need<W: Write>(asked: u64, allowed: &IdSet, w: &mut W) -> io::Result<()>
+    ensures { Writes (W.contents w.old) (W.contents w.new) result (need_line asked allowed.now) }
+{
+    let mut digits = Buffer::new();
+    let asked = digits.format(asked).as_bytes();
+    put_all(
+        &[b"short demand ".as_slice(), asked, b" allowed ".as_slice()],
+        w,
+    )?;
+    put_set(allowed, w)?;
+    put(b"\n", w)
+}
+
 fn put_first<W: Write>(outcome: &Outcome, w: &mut W) -> io::Result<()>
     ensures { Writes (W.contents w.old) (W.contents w.new) result (first_line outcome.now) }
 {
-    let mut digits = Buffer::new();
     match outcome {
-        Outcome::Plan(total) => {
-            let total = digits.format(*total).as_bytes();
-            put_all(&[b"plan total ".as_slice(), total, b"\n".as_slice()], w)
-        }
-        Outcome::Short { asked, allowed } => {
-            let asked = digits.format(*asked).as_bytes();
-            put_all(
-                &[b"short demand ".as_slice(), asked, b" allowed ".as_slice()],
-                w,
-            )?;
-            put_set(allowed, w)?;
-            put(b"\n", w)
-        }
+        Outcome::Plan(total) => put_total(*total, w),
+        Outcome::Short { asked, allowed } => put_need(*asked, allowed, w),
     }
+}
+
+fn put_pool<W: Write>(pool: &IdSet, w: &mut W) -> io::Result<()>
+    ensures { Writes (W.contents w.old) (W.contents w.new) result (pool_lines pool.now) }
+{
+    put_labelled(b"pool ", pool, w)?;
+    put(b"\nend\n", w)
 }
 
 fn put_last<W: Write>(outcome: &Outcome, pool: &IdSet, w: &mut W) -> io::Result<()>
     ensures { Writes (W.contents w.old) (W.contents w.new) result (end_lines pool.now outcome.now) }
 {
     match outcome {
-        Outcome::Plan(_) => {
-            put_labelled(b"pool ", pool, w)?;
-            put(b"\nend\n", w)
-        }
+        Outcome::Plan(_) => put_pool(pool, w),
         Outcome::Short { .. } => put(b"end\n", w),
     }
 }
