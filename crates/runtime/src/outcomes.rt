@@ -3,7 +3,7 @@ ghost use Rattle.std.specs.Prelude.{◌≡◌, ◌<◌, ◌++◌, All, length, z
 ghost use Rattle.std.specs.List.{flat_map};
 ghost use Rattle.cpu_list.specs.Output.{Writes};
 ghost use Rattle.certificate_text.specs.Written.{CanWrite};
-ghost use Rattle.runtime.specs.OutcomeTexts.{container_lines, end_lines, first_line, hold_line, member_line, need_line, outcome_text, pool_lines, progress_line, total_line};
+ghost use Rattle.runtime.specs.OutcomeTexts.{container_lines, end_lines, first_line, hold_line, last_lines, member_line, need_line, outcome_text, pool_lines, progress_line, total_line};
 
 use crate::answers::{put_labelled, put_set};
 use certificate::Row;
@@ -117,6 +117,16 @@ fn put_last<W: Write>(outcome: &Outcome, pool: &IdSet, w: &mut W) -> io::Result<
     }
 }
 
+/// Writes a line for each container that the last certificate names.
+fn put_named<K: Kernel + Drop, W: Write>(node: &Node<K>, w: &mut W) -> io::Result<()>
+    ensures { Writes (W.contents w.old) (W.contents w.new) result (last_lines node.now.last) }
+{
+    match node.certificate() {
+        Ok(certificate) => put_containers(certificate, w),
+        Err(_) => Ok(()),
+    }
+}
+
 /// Writes an outcome with the containers that its certificate names.
 pub fn put_outcome<K: Kernel + Drop, W: Write>(
     outcome: &Outcome,
@@ -126,9 +136,7 @@ pub fn put_outcome<K: Kernel + Drop, W: Write>(
     ensures { Writes (W.contents w.old) (W.contents w.new) result (outcome_text node.now outcome.now) }
 {
     put_first(outcome, w)?;
-    if let Ok(certificate) = node.certificate() {
-        put_containers(certificate, w)?;
-    }
+    put_named(node, w)?;
     put_last(outcome, &node.pool(), w)
 }
 
