@@ -1,5 +1,5 @@
 //! The texts of plans and shortages.
-ghost use Rattle.std.specs.Prelude.{◌≡◌, ◌<◌, ◌++◌, All, length, zip};
+ghost use Rattle.std.specs.Prelude.{◌≡◌, ◌<◌, ◌++◌, All, codes, length, zip};
 ghost use Rattle.std.specs.List.{flat_map};
 ghost use Rattle.cpu_list.specs.Output.{Writes};
 ghost use Rattle.certificate_text.specs.Written.{CanWrite};

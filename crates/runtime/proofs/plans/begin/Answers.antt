@@ -8,7 +8,7 @@ use Rattle.runtime.proofs.plans.begin.Goals as goal
 
 pub returns-in-Ok : goal.returns-in-Ok
 returns-in-Ok g c =
-    Replies-written (AnswersBegin c.args.node.now) _ _ _ _ (outcome_text _ c.in-Ok.outcome) (Ok c.in-Ok.outcome, c.in-Ok.ensures, refl) c.put_outcome.ensures
+    Replies-written (AnswersBegin c.args.node.now) _ _ _ _ (outcome_text c.begin.new.self c.in-Ok.outcome) (Ok c.in-Ok.outcome, c.in-Ok.ensures, refl) c.put_outcome.ensures
 
 pub returns-in-Err : goal.returns-in-Err
 returns-in-Err g c =

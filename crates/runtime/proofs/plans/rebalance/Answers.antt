@@ -8,7 +8,7 @@ use Rattle.runtime.proofs.plans.rebalance.Goals as goal
 
 pub returns-in-Ok : goal.returns-in-Ok
 returns-in-Ok g c =
-    Replies-written (AnswersRebalance c.args.node.now) _ _ _ _ (outcome_text _ c.in-Ok.outcome) (Ok c.in-Ok.outcome, c.in-Ok.ensures.rebalances, refl) c.put_outcome.ensures
+    Replies-written (AnswersRebalance c.args.node.now) _ _ _ _ (outcome_text c.rebalance.new.self c.in-Ok.outcome) (Ok c.in-Ok.outcome, c.in-Ok.ensures.rebalances, refl) c.put_outcome.ensures
 
 pub returns-in-Err : goal.returns-in-Err
 returns-in-Err g c =
