@@ -35,87 +35,70 @@ const CONFIGS: &[(&str, &[u8])] = &[
     ("shared", br#"{"ociVersion":"1.0.2","root":{"path":"r"}}"#),
 ];
 
-/// `a` comes and has its plan, then `b` comes.
+/// The plan of both, which takes three writes.
+pub const PLAN_OF_BOTH: &str = "plan total 103\nhold a 1-3\nhold b 4-7\npool 0\nend";
+
+const FAULT: &str = "refused E50 KernelFault";
+
+/// `a` comes and has its plan, and `b` comes.
 pub const BOTH_COME: &[Case] = &[
     ("create a ba", "pid 2"),
     ("rebalance", "plan total 30\nhold a 4-6\npool 0-3,7\nend"),
     ("create b bb", "pid 3"),
 ];
 
-/// The plan of both, to be carried out by steps.
-pub const BEGIN: &[Case] = &[(
-    "begin",
-    "plan total 103\nhold a 1-3\nhold b 4-7\npool 0\nend",
-)];
-
-/// The same at once.
-const REBALANCE: &[Case] = &[(
-    "rebalance",
-    "plan total 103\nhold a 1-3\nhold b 4-7\npool 0\nend",
-)];
-
-/// The same at once, where a write of it fails.
-const REBALANCE_FAILS: &[Case] = &[("rebalance", "refused E50 KernelFault")];
-
-/// A step after which another write is due.
-pub const MORE: &[Case] = &[("step", "more")];
-
-/// The last step, and none after it.
-pub const DONE: &[Case] = &[("step", "done"), ("step", "refused E100 NoHandover")];
-
-/// A step whose write fails.
-const FAILS: &[Case] = &[
-    ("step", "refused E50 KernelFault"),
-    ("step", "refused E100 NoHandover"),
+/// The same, and the hand-over to their plan is begun.
+pub const BOTH_BEGIN: &[Case] = &[
+    ("create a ba", "pid 2"),
+    ("rebalance", "plan total 30\nhold a 4-6\npool 0-3,7\nend"),
+    ("create b bb", "pid 3"),
+    ("begin", PLAN_OF_BOTH),
 ];
 
-/// Both have what the plan gives them.
-pub const SETTLED: &[Case] = &[
+/// All its steps.
+const STEPS: &[Case] = &[
+    ("begin", PLAN_OF_BOTH),
+    ("step", "more"),
+    ("step", "more"),
+    ("step", "done"),
     ("sets a", "cpus 1-3 effective 1-3 mems 1 effective 1"),
     ("sets b", "cpus 4-7 effective 4-7 mems 1 effective 1"),
     ("phase", "settled"),
 ];
 
-/// What stands where the first, the second or the third write of the hand-over failed.
-const FIRST_FAILED: &[Case] = &[
-    ("sets a", "cpus 4-6 effective 4-6 mems 1 effective 1"),
-    ("sets b", "cpus 0 effective 0 mems 1 effective 1"),
-    ("phase", "unsettled"),
-];
-
-const SECOND_FAILED: &[Case] = &[
-    ("sets a", "cpus 0 effective 0 mems 1 effective 1"),
-    ("sets b", "cpus 0 effective 0 mems 1 effective 1"),
-    ("phase", "unsettled"),
-];
-
-const THIRD_FAILED: &[Case] = &[
+/// The plan is carried out at once.
+const AT_ONCE: &[Case] = &[
+    ("rebalance", PLAN_OF_BOTH),
     ("sets a", "cpus 1-3 effective 1-3 mems 1 effective 1"),
-    ("sets b", "cpus 0 effective 0 mems 1 effective 1"),
-    ("phase", "unsettled"),
+    ("sets b", "cpus 4-7 effective 4-7 mems 1 effective 1"),
+    ("phase", "settled"),
 ];
 
 /// Runs these scripts as one over two nodes and a kernel whose nth write fails.
-pub fn run_failing(rt: &impl Abort, alloc: Global, n: u64, parts: &[&[Case]]) -> Result<(), Fail> {
+pub fn run_failing(
+    rt: &impl Abort,
+    alloc: Global,
+    n: u64,
+    first: &[Case],
+    then: &[Case],
+    last: &[Case],
+) -> Result<(), Fail> {
     let machine = two_nodes(rt, alloc);
     let kernel = kernel_of(alloc, &machine)?;
     let Ok(node) = Node::new(alloc, FusedKernel::new(kernel, n), machine) else {
         panic!(rt; "the node is refused")
     };
     let mut cases = Vec::new(alloc);
-    for part in parts {
-        cases.extend_from_slice(part)?;
-    }
+    cases.extend_from_slice(first)?;
+    cases.extend_from_slice(then)?;
+    cases.extend_from_slice(last)?;
     run(rt, alloc, node, CONFIGS, cases.as_slice())
 }
 
 #[test]
 fn no_write_of_thirteen_fails(rt: HostRuntime) -> Result<(), Fail> {
-    for n in [0, 14] {
-        let parts = [BOTH_COME, BEGIN, MORE, MORE, DONE, SETTLED];
-        run_failing(&rt, rt.alloc(), n, &parts)?;
-    }
-    Ok(())
+    run_failing(&rt, rt.alloc(), 0, BOTH_COME, STEPS, &[])?;
+    run_failing(&rt, rt.alloc(), 14, BOTH_COME, STEPS, &[])
 }
 
 #[test]
@@ -129,146 +112,220 @@ fn the_node_s_group_fails(rt: HostRuntime) -> Result<(), Fail> {
     let root = refused.kernel.root();
     assert!(&rt; refused.error == KernelError::Fault(KernelFault::Failed));
     assert!(&rt; refused.kernel.find_group(root, GROUP_NAME) == Ok(None));
-    assert!(&rt; refused.machine.present() == present && refused.machine.reserved() == reserved);
+    assert!(&rt; refused.machine.present() == present);
+    assert!(&rt; refused.machine.reserved() == reserved);
     Ok(())
 }
 
 #[test]
 fn a_write_of_the_first_create_fails(rt: HostRuntime) -> Result<(), Fail> {
+    let fails: &[Case] = &[
+        ("create a ba", FAULT),
+        ("list", "end"),
+        ("sets a", "refused E94 NoContainer"),
+        ("phase", "settled"),
+    ];
     for n in [2, 3, 4, 5] {
-        let first: &[Case] = &[
-            ("create a ba", "refused E50 KernelFault"),
-            ("list", "end"),
-            ("sets a", "refused E94 NoContainer"),
-            ("phase", "settled"),
-        ];
-        let parts = [first, BOTH_COME, BEGIN, MORE, MORE, DONE, SETTLED];
-        run_failing(&rt, rt.alloc(), n, &parts)?;
+        run_failing(&rt, rt.alloc(), n, fails, BOTH_COME, STEPS)?;
     }
     Ok(())
 }
 
 #[test]
 fn the_write_of_the_first_plan_fails(rt: HostRuntime) -> Result<(), Fail> {
-    let first: &[Case] = &[
-        ("create a ba", "pid 2"),
-        ("rebalance", "refused E50 KernelFault"),
-        ("sets a", "cpus 0 effective 0 mems 1 effective 1"),
-        ("phase", "unsettled"),
-        ("step", "refused E100 NoHandover"),
-        (
-            "certificate",
-            "numarun-certificate 1\nrow a 3 10:4-7 21:1-3\nhold a 4-6 10\ntotal 30\nend",
-        ),
-        ("rebalance", "plan total 30\nhold a 4-6\npool 0-3,7\nend"),
-        ("phase", "settled"),
-        ("create b bb", "pid 3"),
-    ];
-    let parts = [first, BEGIN, MORE, MORE, DONE, SETTLED];
-    run_failing(&rt, rt.alloc(), 6, &parts)
+    run_failing(
+        &rt,
+        rt.alloc(),
+        6,
+        &[
+            ("create a ba", "pid 2"),
+            ("rebalance", FAULT),
+            ("sets a", "cpus 0 effective 0 mems 1 effective 1"),
+            ("phase", "unsettled"),
+            (
+                "certificate",
+                "numarun-certificate 1\nrow a 3 10:4-7 21:1-3\nhold a 4-6 10\ntotal 30\nend",
+            ),
+        ],
+        &[
+            ("rebalance", "plan total 30\nhold a 4-6\npool 0-3,7\nend"),
+            ("phase", "settled"),
+            ("create b bb", "pid 3"),
+        ],
+        STEPS,
+    )
 }
 
 #[test]
 fn a_write_of_the_second_create_fails(rt: HostRuntime) -> Result<(), Fail> {
+    let fails: &[Case] = &[
+        ("create a ba", "pid 2"),
+        ("rebalance", "plan total 30\nhold a 4-6\npool 0-3,7\nend"),
+        ("create b bb", FAULT),
+        ("list", "a created\nend"),
+        ("sets a", "cpus 4-6 effective 4-6 mems 1 effective 1"),
+        ("sets b", "refused E94 NoContainer"),
+        ("phase", "settled"),
+    ];
     for n in [7, 8, 9, 10] {
-        let first: &[Case] = &[
-            ("create a ba", "pid 2"),
-            ("rebalance", "plan total 30\nhold a 4-6\npool 0-3,7\nend"),
-            ("create b bb", "refused E50 KernelFault"),
-            ("list", "a created\nend"),
-            ("sets a", "cpus 4-6 effective 4-6 mems 1 effective 1"),
-            ("sets b", "refused E94 NoContainer"),
-            ("phase", "settled"),
-            ("create b bb", "pid 3"),
-        ];
-        let parts = [first, BEGIN, MORE, MORE, DONE, SETTLED];
-        run_failing(&rt, rt.alloc(), n, &parts)?;
+        run_failing(
+            &rt,
+            rt.alloc(),
+            n,
+            fails,
+            &[("create b bb", "pid 3")],
+            STEPS,
+        )?;
     }
     Ok(())
 }
 
 #[test]
-fn the_write_of_a_step_fails(rt: HostRuntime) -> Result<(), Fail> {
-    let alloc = rt.alloc();
-    let first = [BOTH_COME, BEGIN, FAILS, FIRST_FAILED, REBALANCE, SETTLED];
-    run_failing(&rt, alloc, 11, &first)?;
-    let second = [
-        BOTH_COME,
-        BEGIN,
-        MORE,
-        FAILS,
-        SECOND_FAILED,
-        REBALANCE,
-        SETTLED,
-    ];
-    run_failing(&rt, alloc, 12, &second)?;
-    let third = [
-        BOTH_COME,
-        BEGIN,
-        MORE,
-        MORE,
-        FAILS,
-        THIRD_FAILED,
-        REBALANCE,
-        SETTLED,
-    ];
-    run_failing(&rt, alloc, 13, &third)
+fn the_first_step_fails(rt: HostRuntime) -> Result<(), Fail> {
+    run_failing(
+        &rt,
+        rt.alloc(),
+        11,
+        BOTH_BEGIN,
+        &[
+            ("step", FAULT),
+            ("sets a", "cpus 4-6 effective 4-6 mems 1 effective 1"),
+            ("sets b", "cpus 0 effective 0 mems 1 effective 1"),
+            ("phase", "unsettled"),
+            ("step", "refused E100 NoHandover"),
+        ],
+        AT_ONCE,
+    )
 }
 
-/// The next hand-over has only those writes to make that are still due.
 #[test]
-fn a_write_within_rebalance_fails(rt: HostRuntime) -> Result<(), Fail> {
-    let alloc = rt.alloc();
-    let first = [
+fn the_second_step_fails(rt: HostRuntime) -> Result<(), Fail> {
+    run_failing(
+        &rt,
+        rt.alloc(),
+        12,
+        BOTH_BEGIN,
+        &[
+            ("step", "more"),
+            ("step", FAULT),
+            ("sets a", "cpus 0 effective 0 mems 1 effective 1"),
+            ("sets b", "cpus 0 effective 0 mems 1 effective 1"),
+            ("phase", "unsettled"),
+            ("step", "refused E100 NoHandover"),
+        ],
+        AT_ONCE,
+    )
+}
+
+#[test]
+fn the_third_step_fails(rt: HostRuntime) -> Result<(), Fail> {
+    run_failing(
+        &rt,
+        rt.alloc(),
+        13,
+        BOTH_BEGIN,
+        &[
+            ("step", "more"),
+            ("step", "more"),
+            ("step", FAULT),
+            ("sets a", "cpus 1-3 effective 1-3 mems 1 effective 1"),
+            ("sets b", "cpus 0 effective 0 mems 1 effective 1"),
+            ("phase", "unsettled"),
+            ("step", "refused E100 NoHandover"),
+        ],
+        AT_ONCE,
+    )
+}
+
+/// The next hand-over makes those writes alone that are still due.
+#[test]
+fn the_first_write_within_rebalance_fails(rt: HostRuntime) -> Result<(), Fail> {
+    run_failing(
+        &rt,
+        rt.alloc(),
+        11,
         BOTH_COME,
-        REBALANCE_FAILS,
-        FIRST_FAILED,
-        BEGIN,
-        MORE,
-        MORE,
-        DONE,
-        SETTLED,
-    ];
-    run_failing(&rt, alloc, 11, &first)?;
-    let second = [
+        &[
+            ("rebalance", FAULT),
+            ("sets a", "cpus 4-6 effective 4-6 mems 1 effective 1"),
+            ("sets b", "cpus 0 effective 0 mems 1 effective 1"),
+            ("phase", "unsettled"),
+        ],
+        &[
+            ("begin", PLAN_OF_BOTH),
+            ("step", "more"),
+            ("step", "more"),
+            ("step", "done"),
+            ("sets a", "cpus 1-3 effective 1-3 mems 1 effective 1"),
+            ("sets b", "cpus 4-7 effective 4-7 mems 1 effective 1"),
+            ("phase", "settled"),
+        ],
+    )
+}
+
+#[test]
+fn the_second_write_within_rebalance_fails(rt: HostRuntime) -> Result<(), Fail> {
+    run_failing(
+        &rt,
+        rt.alloc(),
+        12,
         BOTH_COME,
-        REBALANCE_FAILS,
-        SECOND_FAILED,
-        BEGIN,
-        MORE,
-        DONE,
-        SETTLED,
-    ];
-    run_failing(&rt, alloc, 12, &second)?;
-    let third = [
+        &[
+            ("rebalance", FAULT),
+            ("sets a", "cpus 0 effective 0 mems 1 effective 1"),
+            ("sets b", "cpus 0 effective 0 mems 1 effective 1"),
+            ("phase", "unsettled"),
+        ],
+        &[
+            ("begin", PLAN_OF_BOTH),
+            ("step", "more"),
+            ("step", "done"),
+            ("sets a", "cpus 1-3 effective 1-3 mems 1 effective 1"),
+            ("sets b", "cpus 4-7 effective 4-7 mems 1 effective 1"),
+            ("phase", "settled"),
+        ],
+    )
+}
+
+#[test]
+fn the_third_write_within_rebalance_fails(rt: HostRuntime) -> Result<(), Fail> {
+    run_failing(
+        &rt,
+        rt.alloc(),
+        13,
         BOTH_COME,
-        REBALANCE_FAILS,
-        THIRD_FAILED,
-        BEGIN,
-        DONE,
-        SETTLED,
-    ];
-    run_failing(&rt, alloc, 13, &third)
+        &[
+            ("rebalance", FAULT),
+            ("sets a", "cpus 1-3 effective 1-3 mems 1 effective 1"),
+            ("sets b", "cpus 0 effective 0 mems 1 effective 1"),
+            ("phase", "unsettled"),
+        ],
+        &[
+            ("begin", PLAN_OF_BOTH),
+            ("step", "done"),
+            ("sets a", "cpus 1-3 effective 1-3 mems 1 effective 1"),
+            ("sets b", "cpus 4-7 effective 4-7 mems 1 effective 1"),
+            ("phase", "settled"),
+        ],
+    )
 }
 
 #[test]
 fn another_comes_after_a_write_failed(rt: HostRuntime) -> Result<(), Fail> {
-    let comes: &[Case] = &[
-        ("create c shared", "pid 4"),
-        ("phase", "unsettled"),
-        ("sets c", "cpus 0 effective 0 mems 0-1 effective 0-1"),
-    ];
-    let parts = [
-        BOTH_COME,
-        BEGIN,
-        MORE,
-        FAILS,
-        SECOND_FAILED,
-        comes,
-        REBALANCE,
-        SETTLED,
-    ];
-    run_failing(&rt, rt.alloc(), 12, &parts)
+    run_failing(
+        &rt,
+        rt.alloc(),
+        12,
+        BOTH_BEGIN,
+        &[
+            ("step", "more"),
+            ("step", FAULT),
+            ("create c shared", "pid 4"),
+            ("phase", "unsettled"),
+            ("sets c", "cpus 0 effective 0 mems 0-1 effective 0-1"),
+        ],
+        AT_ONCE,
+    )
 }
 
 /// Of its CPUs 1-3 the container keeps 1-2 until it has 4 too.
@@ -278,7 +335,7 @@ fn what_a_container_keeps(rt: HostRuntime) -> Result<(), Fail> {
         ("create a near", "pid 2"),
         ("rebalance", "plan total 30\nhold a 1-3\npool 0,4-7\nend"),
         ("offline 3", "ok"),
-        ("rebalance", "refused E50 KernelFault"),
+        ("rebalance", FAULT),
         ("phase", "unsettled"),
     ];
     let after: &[Case] = &[
@@ -287,11 +344,12 @@ fn what_a_container_keeps(rt: HostRuntime) -> Result<(), Fail> {
         ("phase", "settled"),
     ];
     let all: &[Case] = &[("sets a", "cpus 1-3 effective 1-2 mems 0 effective 0")];
-    run_failing(&rt, rt.alloc(), 7, &[before, all, after])?;
+    run_failing(&rt, rt.alloc(), 7, before, all, after)?;
     let kept: &[Case] = &[("sets a", "cpus 1-2 effective 1-2 mems 0 effective 0")];
-    run_failing(&rt, rt.alloc(), 8, &[before, kept, after])
+    run_failing(&rt, rt.alloc(), 8, before, kept, after)
 }
 
+/// The shared container gives CPU 3 back before `b` has it.
 #[test]
 fn a_shared_container_that_makes_room(rt: HostRuntime) -> Result<(), Fail> {
     let before: &[Case] = &[
@@ -299,19 +357,14 @@ fn a_shared_container_that_makes_room(rt: HostRuntime) -> Result<(), Fail> {
         ("create a two", "pid 3"),
         ("rebalance", "plan total 20\nhold a 1-2\npool 0,3-7\nend"),
         ("create b third", "pid 4"),
-        ("rebalance", "refused E50 KernelFault"),
+        ("rebalance", FAULT),
         ("phase", "unsettled"),
-        ("sets a", "cpus 1-2 effective 1-2 mems 0 effective 0"),
         ("sets b", "cpus 0 effective 0 mems 0-1 effective 0-1"),
     ];
     let after: &[Case] = &[
         (
             "rebalance",
             "plan total 30\nhold a 1-2\nhold b 3\npool 0,4-7\nend",
-        ),
-        (
-            "sets s",
-            "cpus 0,4-7 effective 0,4-7 mems 0-1 effective 0-1",
         ),
         ("sets b", "cpus 3 effective 3 mems 0-1 effective 0-1"),
         ("phase", "settled"),
@@ -320,32 +373,38 @@ fn a_shared_container_that_makes_room(rt: HostRuntime) -> Result<(), Fail> {
         "sets s",
         "cpus 0,3-7 effective 0,3-7 mems 0-1 effective 0-1",
     )];
-    run_failing(&rt, rt.alloc(), 16, &[before, all, after])?;
+    run_failing(&rt, rt.alloc(), 16, before, all, after)?;
     let kept: &[Case] = &[(
         "sets s",
         "cpus 0,4-7 effective 0,4-7 mems 0-1 effective 0-1",
     )];
-    run_failing(&rt, rt.alloc(), 17, &[before, kept, after])
+    run_failing(&rt, rt.alloc(), 17, before, kept, after)
 }
 
 #[test]
-fn the_write_of_an_end_fails(rt: HostRuntime) -> Result<(), Fail> {
-    let kill: &[Case] = &[
-        ("create a ba", "pid 2"),
-        ("kill a 9", "refused E50 KernelFault"),
-        ("list", "a created\nend"),
-        ("kill a 9", "ok"),
-        ("delete a", "ok"),
-        ("list", "end"),
-    ];
-    run_failing(&rt, rt.alloc(), 6, &[kill])?;
-    let delete: &[Case] = &[
-        ("create a ba", "pid 2"),
-        ("kill a 9", "ok"),
-        ("delete a", "refused E50 KernelFault"),
-        ("list", "a stopped\nend"),
-        ("delete a", "ok"),
-        ("list", "end"),
-    ];
-    run_failing(&rt, rt.alloc(), 7, &[delete])
+fn the_write_of_a_kill_fails(rt: HostRuntime) -> Result<(), Fail> {
+    run_failing(
+        &rt,
+        rt.alloc(),
+        6,
+        &[
+            ("create a ba", "pid 2"),
+            ("kill a 9", FAULT),
+            ("list", "a created\nend"),
+        ],
+        &[("kill a 9", "ok"), ("delete a", "ok"), ("list", "end")],
+        &[],
+    )
+}
+
+#[test]
+fn the_write_of_a_delete_fails(rt: HostRuntime) -> Result<(), Fail> {
+    run_failing(
+        &rt,
+        rt.alloc(),
+        7,
+        &[("create a ba", "pid 2"), ("kill a 9", "ok")],
+        &[("delete a", FAULT), ("list", "a stopped\nend")],
+        &[("delete a", "ok"), ("list", "end")],
+    )
 }
