@@ -109,11 +109,13 @@ fn the_node_s_group_fails(rt: HostRuntime) -> Result<(), Fail> {
     let Err(refused) = Node::new(rt.alloc(), FusedKernel::new(kernel, 1), machine) else {
         panic!(&rt; "the node is made")
     };
-    let root = refused.kernel.root();
     assert!(&rt; refused.error == KernelError::Fault(KernelFault::Failed));
-    assert!(&rt; refused.kernel.find_group(root, GROUP_NAME) == Ok(None));
     assert!(&rt; refused.machine.present() == present);
     assert!(&rt; refused.machine.reserved() == reserved);
+    let mut kernel = refused.kernel;
+    let root = kernel.root();
+    assert!(&rt; kernel.find_group(root, GROUP_NAME) == Ok(None));
+    assert!(&rt; kernel.make_group(root, GROUP_NAME).is_ok());
     Ok(())
 }
 
