@@ -301,3 +301,6 @@ fn a_write_that_fails(rt: HostRuntime) -> Result<(), Fail> {
         ],
     )
 }
+
+mod failing;
+mod interleaved;
