@@ -1,4 +1,4 @@
-use Rattle.std.proofs.Common.{◌<◌, length, arith}
+use Rattle.std.proofs.Common.{arith}
 use Rattle.std.proofs.lemmas.Result.{err_from_is_err_and}
 use Rattle.cpu_list.specs.Sending.{HasSent-then, HasSent-fails}
 use Rattle.runtime.proofs.ContainerLines.{hold_next}
