@@ -1,5 +1,6 @@
 -- What holds of a node holds after any list of calls and events.
-use Rattle.std.proofs.Common.{◌≡◌, inl, inr, ℕ, List, [], ◌∷◌, refl, sym, subst}
+use Rattle.std.proofs.Common.{◌≡◌, inl, inr, ℕ, zero, suc, List, [], ◌∷◌, refl, sym, subst}
+use Rattle.std.specs.List.{AllByRecursion}
 use Rattle.std.specs.Prelude.{Result, Ok, Err}
 use Rattle.kernel_model.specs.declared.KernelFault.{KernelFault}
 use Rattle.kernel_model.specs.declared.KernelError.{KernelError}
@@ -17,8 +18,9 @@ use Rattle.node.specs.declared.phase.Phase.TheVariants.{Settled, Unsettled}
 use Rattle.node.specs.NodeState.{NodeState}
 use Rattle.node.specs.IsNode.{IsNode}
 use Rattle.node.specs.Calls.{NotLaunched, Ended, Creates, Starts, Kills, Deletes}
-use Rattle.node.specs.Rebalance.{StepsOn}
-use Rattle.node.specs.Machine.{Event, Step, RunsKeep, RunsStaySafe, RunsRebalance}
+use Rattle.node.specs.declared.outcome.Outcome.TheVariants.{Plan}
+use Rattle.node.specs.Rebalance.{StepsOn, StepsMore, Ends}
+use Rattle.node.specs.Machine.{Event, Step, IsSingle, Run, RunsKeep, RunsStaySafe, RebalancesAreSteps, RunsRebalance}
 use Rattle.node.specs.Machine.Event.{Create, Start, Kill, Delete, Rebalance, Begin, StepOn, Fork, Exit, Offline, Online}
 use Rattle.node.proofs.NodeLemmas.{fork_node, exit_node, offline_node, online_node, end_node, remove_refused_node, created_node, not_created_node, deleted_node, started_node}
 use Rattle.node.proofs.StepLemmas.{more_node, ended_node}
@@ -126,3 +128,17 @@ module _ (weigh : RowsWeigh) (law : StepsLeave) where
 
   pub runs_rebalance : TargetsTakeEffect → RunsRebalance
   runs_rebalance effects first events old answer new h r b = headline old (runs_keep first events old h r) weigh law effects answer new b
+
+-- the steps to the end of a hand-over, as events
+steps_run : (count : ℕ) (old mid new : NodeState) (answer : Result (Unit {0}) KernelFault) → StepsMore count old mid → Ends mid answer new
+    → (events : List Event) × AllByRecursion IsSingle events × Run old events new
+steps_run zero old mid new (Ok done) more ends = (StepOn (Ok Done) ∷ [], (tt, tt), (new, subst (λ (n : NodeState). StepsOn n (Ok Done) new) more ends, refl))
+steps_run zero old mid new (Err fault) more ends =
+    (StepOn (Err (Kernel fault)) ∷ [], (tt, tt), (new, subst (λ (n : NodeState). StepsOn n (Err (Kernel fault)) new) more ends, refl))
+steps_run (suc count) old mid new answer more ends =
+    let later = steps_run count more.0 mid new answer more.2 ends in (StepOn (Ok More) ∷ later.0, (tt, later.1), (more.0, more.1, later.2))
+
+pub rebalances_are_steps : RebalancesAreSteps
+rebalances_are_steps old total answer new m =
+    let steps = steps_run m.finishes.steps m.mid m.finishes.mid new answer m.finishes.more m.finishes.ends in
+    (Begin (Ok (Plan total)) ∷ steps.0, (tt, steps.1), (m.mid, m.begun, steps.2))

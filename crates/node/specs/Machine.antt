@@ -1,5 +1,6 @@
 -- The node machine: calls and events with their answers, one after another.
 use Rattle.std.specs.Prelude.{◌≡◌, ℕ, List, [], ◌∷◌, map, Result}
+use Rattle.std.specs.List.{AllByRecursion}
 use Rattle.kernel_model.specs.declared.KernelError.{KernelError}
 use Rattle.kernel_model.specs.declared.KernelFault.{KernelFault}
 use Rattle.kernel_model.specs.KernelState.{KernelState}
@@ -16,7 +17,7 @@ use Rattle.node.specs.Owners.{owners_of}
 use Rattle.node.specs.IsNode.{IsOfMachine, IsNode}
 use Rattle.node.specs.Unused.{IsUnused}
 use Rattle.node.specs.Calls.{Opens, Creates, Starts, Kills, Deletes}
-use Rattle.node.specs.Rebalance.{Begins, StepsOn, Rebalances}
+use Rattle.node.specs.Rebalance.{Begins, StepsOn, Rebalances, Moves}
 use Rattle.node.specs.Headline.{Headline}
 
 -- a call with its answer, or an event of the kernel with its answer; a call that only reads changes nothing, and is none
@@ -70,6 +71,18 @@ abbrev pub RunsStaySafe : Type 0
 RunsStaySafe =
     (old : NodeState) (events : List Event) (new : NodeState) → IsNode old → Run old events new
     → IsSafe new.kernel new.kernel.reserved (map (λ o. o.holder) (owners_of new.containers))
+
+-- `begin` and `step`, each of which makes at most one write
+abbrev pub IsSingle : Event → Type 0
+IsSingle (Begin answer) = Unit {0}
+IsSingle (StepOn answer) = Unit {0}
+IsSingle event = ⊥
+
+-- a rebalance that hands over is a run of these, so that what holds after each state of a run holds after each of its writes
+abbrev pub RebalancesAreSteps : Type 0
+RebalancesAreSteps =
+    (old : NodeState) (total : ℕ) (answer : Result (Unit {0}) KernelFault) (new : NodeState) → Moves old total answer new
+    → (events : List Event) × AllByRecursion IsSingle events × Run old events new
 
 -- and after any list of them a rebalance leaves what the headline says of its answer
 abbrev pub RunsRebalance : Type 0

@@ -1,7 +1,7 @@
 //! Laws over the definitions alone: nothing here runs.
 ghost use Rattle.std.specs.Prelude.{◌≡◌};
 ghost use Rattle.node.specs.Asking.{RowsAreAsking, ShortStands};
-ghost use Rattle.node.specs.Machine.{FirstIsNode, RunsKeep, RunsStaySafe, RunsRebalance};
+ghost use Rattle.node.specs.Machine.{FirstIsNode, RunsKeep, RunsStaySafe, RebalancesAreSteps, RunsRebalance};
 ghost use Rattle.node.specs.UnusedLemmas.{FirstIsUnused, FirstIsOfMachine};
 
 use crate::CONTAINER_LIMIT;
@@ -21,6 +21,7 @@ pub fn runs()
     ensures first { FirstIsNode }
     ensures keep { RunsKeep }
     ensures safe { RunsStaySafe }
+    ensures single { RebalancesAreSteps }
 {
     rows_weigh();
     steps();
