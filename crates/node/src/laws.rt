@@ -17,6 +17,9 @@ pub fn first_kernels()
 /// What holds of a node holds of a new one, and after any list of its calls and of the kernel's events, with all their
 /// refusals. So after each of them no CPU but reserved ones is requested for a live pinned container and for another live
 /// one. Nothing runs.
+///
+/// A rebalance that hands over is `begin` and single steps, each of which makes at most one write: so this holds after each
+/// of its writes, too.
 pub fn runs()
     ensures first { FirstIsNode }
     ensures keep { RunsKeep }
