@@ -1,5 +1,5 @@
-ghost use Rattle.std.specs.Prelude.{IfOk};
-ghost use Rattle.runtime.specs.Boots.{Boots, IsKernelOf};
+ghost use Rattle.std.specs.Prelude.{IfErr, IfOk};
+ghost use Rattle.runtime.specs.Boots.{Boots, BootsNot, IsKernelOf};
 
 use crate::refusal::Refusal;
 use kernel_model::ModelKernel;
@@ -29,7 +29,8 @@ pub fn kernel_of(alloc: Global, machine: &Machine) -> Result<ModelKernel, AllocE
 /// # Errors
 /// `Memory`, or what the kernel refuses as the node's group is made.
 pub fn boot(alloc: Global, machine: Machine) -> Result<Node<ModelKernel>, Refusal>
-    ensures { IfOk result (Boots machine) }
+    ensures booted { IfOk result (Boots machine) }
+    ensures refused { IfErr result (BootsNot machine) }
 {
     let Ok(kernel) = kernel_of(alloc, &machine) else {
         return Err(Refusal::Memory);
