@@ -1,7 +1,7 @@
 #!/usr/bin/env bash
 # Runs the built program on the worked transcripts and on some hundreds of random scripts, beside a second runtime that is
-# written in another language from docs/formats.md alone. PROGRAM in the environment is run in place of the one that this
-# builds.
+# written in another language from docs/formats.md alone, and on a script that uses up all pids. PROGRAM in the environment
+# is run in place of the one that this builds.
 set -eu
 top=$(cd "$(dirname "$0")/.." && pwd)
 . "$top/tests/build-program.sh"
@@ -10,3 +10,4 @@ for script in "$top"/examples/scripts/*.answers; do
 done
 python3 -B "$top/tests/scripts/worked.py" "$program"
 python3 -B "$top/tests/scripts/compare.py" "$program"
+python3 -B "$top/tests/scripts/last_pid.py" "$program"

@@ -1,0 +1,41 @@
+"""Runs a script that forks until every pid was given, and then asks for more of them: `last_pid.py PROGRAM`. What is to be
+answered is counted here; a second runtime would take minutes over it."""
+
+import os
+import sys
+import tempfile
+
+from transcripts import config, place, run
+
+LAST = 4_194_303
+MACHINE = b'{"nodes":["0-3"],"distances":[[10]],"reserved":"0"}'
+BEFORE = [("create a ba", "pid 2")]
+GIVEN = [("fork 2", f"pid {pid}") for pid in range(3, LAST + 1)]
+AFTER = [
+    ("fork 2", "refused E45 NoPids"),
+    ("fork 1", "refused E46 NoProcess"),
+    ("create b ba", "refused E45 NoPids"),
+    ("list", "a created\nend"),
+    ("exit 2", "ok"),
+    ("fork 2", "refused E46 NoProcess"),
+    ("delete a", "ok"),
+    ("create a ba", "refused E45 NoPids"),
+    ("list", "end"),
+]
+
+
+def main(program):
+    program = os.path.abspath(program)
+    lines = BEFORE + GIVEN + AFTER
+    with tempfile.TemporaryDirectory() as folder:
+        os.chdir(folder)
+        words = place(MACHINE, None, {"ba": config({"quota": 100000})})
+        done = run(program, words, b"".join(line.encode() + b"\n" for line, _ in lines))
+        os.chdir("/")
+    expected = "".join(answer + "\n" for _, answer in lines).encode()
+    if (done.returncode, done.stdout, done.stderr) != (0, expected, b""):
+        sys.exit(f"last pid: status {done.returncode}, the last answers {done.stdout[-300:]}, error {done.stderr[:300]}")
+    print(f"last pid: {len(lines)} lines")
+
+
+main(*sys.argv[1:])
