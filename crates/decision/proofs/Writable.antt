@@ -54,6 +54,8 @@ can_write rows (answer.Plan sets prices total turns) means each apart proved pri
 can_write rows (answer.Short members turns) means each apart short priced = (short_text rows members.items apart short, each)
 
 -- what the solver answers decides the problem
-pub decides : (rows : List RowView) (a : Answer) → IsRight rows a → IsDecided rows a → AreTwinsDealt rows a → Decides rows (answered rows a)
-decides rows (answer.Plan sets prices total turns) right decided dealt = (refl, record { least = decided; proved = right; dealt = dealt })
-decides rows (answer.Short members turns) right decided dealt = (refl, record { shortage = right; none = decided })
+pub decides : (rows : List RowView) (a : Answer) → IsRight rows a → IsDecided rows a → AreTwinsDealt rows a → ArePricesOfClasses rows a
+    → Decides rows (answered rows a)
+decides rows (answer.Plan sets prices total turns) right decided dealt priced =
+    (refl, record { least = decided; proved = right; dealt = dealt; by_class = priced.0; some = priced.1 })
+decides rows (answer.Short members turns) right decided dealt priced = (refl, record { shortage = right; none = decided })

@@ -1,5 +1,6 @@
 -- What a problem comes to.
-use Rattle.std.specs.Prelude.{◌≡◌, ℕ, List}
+use Rattle.std.specs.Prelude.{◌≡◌, ℕ, ◌<◌, List, All}
+use Rattle.std.specs.FinSet as set
 use Rattle.cpu_set.specs.Ids.{Ids}
 use Rattle.certificate.specs.RowView.{RowView}
 use Rattle.certificate.specs.PricesView.{PricesView}
@@ -11,12 +12,16 @@ use Rattle.certificate_text.specs.declared.certificates.Certificate.{Certificate
 use Rattle.certificate_text.specs.declared.certificates.Certificate.TheVariants.{Plan, Short}
 use Rattle.transport.specs.declared.answers.Answer.{Answer}
 use Rattle.transport.specs.declared.answers.Answer.TheVariants as answer
+use Rattle.transport.specs.Solved.{IsPricedByClass}
 
--- a plan of the rows that no plan undercuts, as its values and prices prove, and of twins the lower one to the earlier row
+-- a plan of the rows that no plan undercuts, as its values and prices prove, and of twins the lower one to the earlier row;
+-- there is a price above 0 for each class of twins whose price is not 0, and no other
 pub record DecidesPlan (rows : List RowView) (sets : List Ids) (prices : PricesView) (total : ℕ) : Type 0 where
   pub least : IsLeast rows sets
   pub proved : IsProved rows sets prices total
   pub dealt : IsDealt rows sets
+  pub by_class : IsPricedByClass rows prices.of_cpu
+  pub some : All (λ p. (0 < p.amount) × (0 < set.len p.cpus)) prices.of_cpu
 
 -- rows that ask for more than they may have, so that there is no plan
 pub record DecidesShort (rows : List RowView) (members : List ℕ) : Type 0 where
