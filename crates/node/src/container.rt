@@ -1,3 +1,5 @@
+ghost use Rattle.std.specs.Prelude.{◌≡◌};
+
 use demand::Demand;
 use kernel_model::Group;
 
@@ -10,6 +12,21 @@ pub enum Status {
     Running,
     /// Its first process has ended.
     Stopped,
+}
+
+impl Status {
+    ghost use Rattle.node.specs.Shown.{status_text};
+
+    /// The status as a word.
+    pub fn word(self) -> &'static str
+        ensures { result.now ≡ status_text self }
+    {
+        match self {
+            Status::Created => "created",
+            Status::Running => "running",
+            Status::Stopped => "stopped",
+        }
+    }
 }
 
 /// A container; its id is its key among the others.

@@ -2,7 +2,7 @@
 ghost use Rattle.std.specs.Prelude.{◌≡◌, IfOk, string_bytes};
 ghost use Rattle.serde_json.specs.View.{view};
 ghost use Rattle.serde_json.specs.Written.{compact_text};
-ghost use Rattle.node.specs.Shown.{status_text, live_data, stopped_data, state_of, Shows};
+ghost use Rattle.node.specs.Shown.{live_data, stopped_data, state_of, Shows};
 ghost use Rattle.node.specs.Viewed.{seen};
 
 use crate::container::{Container, Status};
@@ -13,17 +13,6 @@ use faults::OrMemory;
 use kernel_model::Kernel;
 use serde_json::{Value, json};
 use std::alloc::{AllocError, Global};
-
-/// The status as a word.
-fn status_word(status: Status) -> &'static str
-    ensures { result.now ≡ status_text status }
-{
-    match status {
-        Status::Created => "created",
-        Status::Running => "running",
-        Status::Stopped => "stopped",
-    }
-}
 
 /// The state of a live container.
 fn live_state(
@@ -79,13 +68,13 @@ fn state_text<K: Kernel>(
     let bundle = container.bundle.as_str();
     let status = status(kernel, container);
     match status {
-        Status::Stopped => stopped_text(alloc, id, bundle, status_word(status)),
+        Status::Stopped => stopped_text(alloc, id, bundle, status.word()),
         _ => live_text(
             alloc,
             id,
             bundle,
             u64::from(container.pid),
-            status_word(status),
+            status.word(),
         ),
     }
 }

@@ -2,7 +2,6 @@
 ghost use Rattle.std.specs.Prelude.{◌≡◌, ◌++◌, codes};
 ghost use Rattle.cpu_list.specs.Output.{Writes};
 ghost use Rattle.node.specs.Listed.{listed};
-ghost use Rattle.node.specs.Shown.{status_text};
 ghost use Rattle.runtime.specs.AnswerTexts.{both_text, done_line, listing_text, phase_line, pid_line, set_text, sets_line};
 ghost use Rattle.runtime.specs.Answered.{state_line};
 
@@ -10,7 +9,7 @@ use cpu_list::{put, put_all, write_list};
 use cpu_set::IdSet;
 use itoa::Buffer;
 use kernel_model::Kernel;
-use node::{Node, Phase, Sets, Status};
+use node::{Node, Phase, Sets};
 use std::io;
 use std::io::Write;
 
@@ -70,16 +69,6 @@ pub fn put_sets<W: Write>(sets: &Sets, w: &mut W) -> io::Result<()>
     put(b"\n", w)
 }
 
-fn status_word(status: Status) -> &'static str
-    ensures { result.now ≡ status_text status }
-{
-    match status {
-        Status::Created => "created",
-        Status::Running => "running",
-        Status::Stopped => "stopped",
-    }
-}
-
 /// Writes a container's id and its status.
 fn put_entry<'a, W: Write>(id: &'a str, status: &'a str, w: &mut W) -> io::Result<()>
     ensures { Writes (W.contents w.old) (W.contents w.new) result (id.now ++ (codes " " ++ (status.now ++ codes "\n"))) }
@@ -99,7 +88,7 @@ pub fn put_listing<K: Kernel + Drop, W: Write>(node: &Node<K>, w: &mut W) -> io:
     ensures { Writes (W.contents w.old) (W.contents w.new) result (listing_text (listed node.now)) }
 {
     for (id, status) in node.list() {
-        put_entry(id, status_word(status), w)?;
+        put_entry(id, status.word(), w)?;
     }
     put(b"end\n", w)
 }
