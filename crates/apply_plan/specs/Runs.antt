@@ -1,5 +1,5 @@
 -- What may happen while a hand-over is open, one event after another.
-use Rattle.std.specs.Prelude.{◌≡◌, ℕ, ◌+◌, ◌<◌, ◌≤◌, false, cond, List, [], ◌∷◌, is_some, Result, Ok, Err}
+use Rattle.std.specs.Prelude.{◌≡◌, ℕ, ◌+◌, ◌*◌, ◌<◌, ◌≤◌, false, cond, List, [], ◌∷◌, length, is_some, Result, Ok, Err}
 use Rattle.std.specs.List.{AllByRecursion}
 use Rattle.cpuset_tree.specs.declared.Group.{Group}
 use Rattle.cpuset_tree.specs.Groups.{same_group}
@@ -81,3 +81,7 @@ abbrev pub EndsWithin : Type 0
 EndsWithin =
     (h : Targets) (k : KernelState) (run : List (Event × KernelState)) → IsOpen h k → AllHappen h k run
     → writes_in h k run + writes_to_come h (last_of k run) ≤ writes_to_come h k
+
+-- and at most two for each entry are to come
+abbrev pub FewToCome : Type 0
+FewToCome = (h : Targets) (k : KernelState) → writes_to_come h k ≤ 2 * length h.entries

@@ -1,5 +1,5 @@
 //! Laws over the definitions alone: nothing here runs.
-ghost use Rattle.apply_plan.specs.Runs.{StaysSafe, StaysBetween, EndsWithin};
+ghost use Rattle.apply_plan.specs.Runs.{StaysSafe, StaysBetween, EndsWithin, FewToCome};
 ghost use Rattle.apply_plan.specs.OneStep.{StepsLeave};
 ghost use Rattle.apply_plan.specs.Effects.{TargetsTakeEffect, SafeInEffect};
 
@@ -7,11 +7,12 @@ ghost use Rattle.apply_plan.specs.Effects.{TargetsTakeEffect, SafeInEffect};
 /// CPUs that go and come, and writes of other groups.
 ///
 /// What was safe stays safe after each single event; each container requests what it did at first, or what it keeps of
-/// that, or its target; and each write that succeeds is one less to come.
+/// that, or its target; and at most two writes for each entry are to come, of which each that succeeds is one less.
 pub fn runs()
     ensures safe { StaysSafe }
     ensures between { StaysBetween }
     ensures ends { EndsWithin }
+    ensures few { FewToCome }
 {}
 
 /// What one step leaves while a hand-over is open: what [`crate::Handover::step`] says, of plain states.

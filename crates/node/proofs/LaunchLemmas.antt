@@ -198,7 +198,7 @@ module _ (parent : Group) (name : List ℕ) (owners : List Owner) (new_id : AllB
           ready = ready new holds g (record { entry = moved.entry; there = moved.there; below = sym moved.place.parent ∙ w.child.below; named = sym moved.place.name ∙ w.child.named });
         }
 
-    cpus_written : (old new : KernelState) → Holds old parent owners → IsReady old parent name owners g → (cpus : Ids) (r : Result (Unit {0}) KernelFault)
+    pub cpus_written : (old new : KernelState) → Holds old parent owners → IsReady old parent name owners g → (cpus : Ids) (r : Result (Unit {0}) KernelFault)
         → WritesCpus old g cpus r new → Written old new
     cpus_written old new h w cpus r s =
         let leaves = writes_leave_groups.cpus old new g cpus r s in

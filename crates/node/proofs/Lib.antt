@@ -18,3 +18,5 @@ pub mod DistanceLemmas
 pub mod HeadlineLemmas
 pub mod RebalanceLemmas
 pub mod MachineLemmas
+pub mod EndingLemmas
+pub mod MakingLemmas

@@ -18,6 +18,11 @@ module _ {X : Type 0} where
   all_of P f [] = tt
   all_of P f (x ∷ xs) = (f x, all_of P f xs)
 
+  -- of those of two lists
+  pub all_append : (P : X → Type 0) (xs ys : List X) → AllByRecursion P xs → AllByRecursion P ys → AllByRecursion P (xs ++ ys)
+  all_append P [] ys h i = i
+  all_append P (x ∷ xs) ys h i = (h.0, all_append P xs ys h.1 i)
+
   -- of each two that R holds of, and that P holds of one by one, S holds
   pub pairs_map : (P : X → Type 0) (R S : X → X → Type 0) → ((x y : X) → P x → P y → R x y → S x y) → (xs : List X) → AllByRecursion P xs → Pairwise R xs
       → Pairwise S xs

@@ -16,6 +16,8 @@ pub mod Rebalance
 pub mod Headline
 pub mod Asking
 pub mod Machine
+pub mod Ending
+pub mod Making
 pub mod Reads
 pub mod Listed
 pub mod Shown

@@ -1,7 +1,9 @@
 //! Laws over the definitions alone: nothing here runs.
 ghost use Rattle.std.specs.Prelude.{◌≡◌};
 ghost use Rattle.node.specs.Asking.{RowsAreAsking, ShortStands};
+ghost use Rattle.node.specs.Ending.{HandoversEnd};
 ghost use Rattle.node.specs.Machine.{FirstIsNode, RunsKeep, RunsStaySafe, RebalancesAreSteps, RunsRebalance};
+ghost use Rattle.node.specs.Making.{CreatesAreCalls, CreatesStaySafe};
 ghost use Rattle.node.specs.UnusedLemmas.{FirstIsUnused, FirstIsOfMachine};
 
 use crate::CONTAINER_LIMIT;
@@ -19,7 +21,7 @@ pub fn first_kernels()
 /// one. Nothing runs.
 ///
 /// A rebalance that hands over is `begin` and single steps, each of which makes at most one write: so this holds after each
-/// of its writes, too.
+/// of its writes, too. After each of those of `create` it holds by [`each_create`]; each other call makes at most one.
 pub fn runs()
     ensures first { FirstIsNode }
     ensures keep { RunsKeep }
@@ -29,6 +31,25 @@ pub fn runs()
     rows_weigh();
     steps();
 }
+
+/// How long a hand-over lasts that is stepped: at most two steps for each of its containers answer that more are to come,
+/// whatever calls and events fall between them, and none of these ends it or lets another begin. Nothing runs.
+pub fn each_handover()
+    ensures { HandoversEnd }
+{
+    rows_weigh();
+    steps();
+    apply_plan::laws::runs();
+}
+
+/// What the kernel is in the midst of `create`, whatever that answers: nothing runs.
+///
+/// From the kernel before it to the one that it leaves it is single calls, and after each of them no CPU but reserved ones
+/// is requested for a live pinned container and for another live one, and each live one requests some.
+pub fn each_create()
+    ensures single { CreatesAreCalls }
+    ensures safe { CreatesStaySafe }
+{}
 
 /// The headline: what a rebalance leaves, after any list of calls and events; nothing runs.
 ///

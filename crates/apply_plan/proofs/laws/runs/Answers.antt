@@ -1,5 +1,6 @@
+use Rattle.apply_plan.proofs.HandoverLemmas.{at_most_two}
 use Rattle.apply_plan.proofs.RunLemmas.{stays_safe, stays_between, ends_within}
 use Rattle.apply_plan.proofs.laws.runs.Goals as goal
 
 pub returns : goal.returns
-returns c = record { safe = stays_safe; between = stays_between; ends = ends_within }
+returns c = record { safe = stays_safe; between = stays_between; ends = ends_within; few = at_most_two }

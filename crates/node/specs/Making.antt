@@ -1,0 +1,91 @@
+-- The kernel in the midst of `create`: its states, one after each single call that is made.
+use Rattle.std.specs.Prelude.{◌≡◌, ◌⊎◌, ℕ, List, [], ◌∷◌, ◌++◌, map, Option, Some, None, Result, Ok, Err}
+use Rattle.std.proofs.Common.{inl, inr}
+use Rattle.std.specs.List.{AllByRecursion}
+use Rattle.cpu_set.specs.Ids.{Ids}
+use Rattle.cpuset_tree.specs.declared.Group.{Group}
+use Rattle.cpuset_tree.specs.Groups.{child_of}
+use Rattle.kernel_model.specs.declared.KernelFault.{KernelFault}
+use Rattle.kernel_model.specs.declared.KernelError.{KernelError}
+use Rattle.kernel_model.specs.declared.KernelError.TheVariants as kernel
+use Rattle.kernel_model.specs.KernelState.{KernelState}
+use Rattle.kernel_model.specs.Cases.{MakesGroup, WritesCpus, WritesMems, Spawns}
+use Rattle.faults.specs.declared.OrMemory.{OrMemory}
+use Rattle.faults.specs.declared.OrMemory.TheVariants.{Memory, Fault}
+use Rattle.apply_plan.specs.Holders.{IsSafe}
+use Rattle.node.specs.declared.fault.NodeFault.{NodeFault}
+use Rattle.node.specs.declared.fault.NodeFault.TheVariants.{Kernel}
+use Rattle.node.specs.NodeState.{NodeState}
+use Rattle.node.specs.Owners.{owners_of}
+use Rattle.node.specs.IsNode.{IsNode}
+use Rattle.node.specs.Launch.{AtOnce, FindsOr, WritesSets, StartsIn, Launches}
+use Rattle.node.specs.Calls.{Creates}
+
+-- after a group is made; where it is there nothing is written
+abbrev pub found_states : (found : Option Group) (old : KernelState) (parent : Group) (name : List ℕ) (r : Result Group KernelError) (new : KernelState)
+    → FindsOr found old parent name r new → List KernelState
+found_states (Some g) old parent name r new finds = []
+found_states None old parent name r new makes = new ∷ []
+
+-- after its CPUs are written, and then after its memory nodes are
+abbrev pub set_states : (old : KernelState) (g : Group) (cpus mems : Ids) (r : Result (Unit {0}) KernelFault) (new : KernelState)
+    → WritesSets old g cpus mems r new → List KernelState
+set_states old g cpus mems r new (inl refused) = new ∷ []
+set_states old g cpus mems r new (inr (done, mid, first, second)) = mid ∷ new ∷ []
+
+abbrev pub set_states_at_once : (old : KernelState) (g : Group) (cpus mems : Ids) (r : Result (Unit {0}) KernelError) (new : KernelState)
+    → AtOnce (WritesSets old g cpus mems) r new → List KernelState
+set_states_at_once old g cpus mems (Ok done) new writes = set_states old g cpus mems (Ok done) new writes
+set_states_at_once old g cpus mems (Err kernel.Memory) new never = absurd never
+set_states_at_once old g cpus mems (Err (kernel.Fault fault)) new writes = set_states old g cpus mems (Err fault) new writes
+
+-- and then after a first process is made in it
+abbrev pub start_states : (old : KernelState) (g : Group) (cpus mems : Ids) (r : Result ℕ KernelError) (new : KernelState)
+    → StartsIn old g cpus mems r new → List KernelState
+start_states old g cpus mems r new (inl (fault, refused, is)) = set_states_at_once old g cpus mems (Err fault) new refused
+start_states old g cpus mems r new (inr (done, mid, writes, spawns)) = set_states_at_once old g cpus mems (Ok done) mid writes ++ new ∷ []
+
+-- all of these
+abbrev pub launch_states : (old : KernelState) (parent : Group) (name : List ℕ) (cpus mems : Ids) (r : Result (Group × ℕ) KernelError) (new : KernelState)
+    → Launches old parent name cpus mems r new → List KernelState
+launch_states old parent name cpus mems (Ok made) new (mid, found, starts) =
+    found_states (child_of old.tree parent name) old parent name (Ok made.0) mid found ++ start_states mid made.0 cpus mems (Ok made.1) new starts
+launch_states old parent name cpus mems (Err error) new (inl refused) = found_states (child_of old.tree parent name) old parent name (Err error) new refused
+launch_states old parent name cpus mems (Err error) new (inr (g, mid, found, starts)) =
+    found_states (child_of old.tree parent name) old parent name (Ok g) mid found ++ start_states mid g cpus mems (Err error) new starts
+
+-- and none where `create` is refused before it calls the kernel
+abbrev pub create_states : (old : NodeState) (id bundle config : List ℕ) (r : Result ℕ (OrMemory NodeFault)) (new : NodeState)
+    → Creates old id bundle config r new → List KernelState
+create_states old id bundle config (Ok pid) new c =
+    launch_states old.kernel old.parent id old.machine.reserved c.asked.homes (Ok (c.group, pid)) new.kernel c.launched
+create_states old id bundle config (Err Memory) new (inl n) =
+    launch_states old.kernel old.parent id old.machine.reserved n.asked.homes (Err kernel.Memory) new.kernel n.refused
+create_states old id bundle config (Err Memory) new (inr same) = []
+create_states old id bundle config (Err (Fault (Kernel fault))) new n =
+    launch_states old.kernel old.parent id old.machine.reserved n.asked.homes (Err (kernel.Fault fault)) new.kernel n.refused
+create_states old id bundle config (Err (Fault fault)) new same = []
+
+-- one call of the kernel, whatever it answers
+pub data IsOneCall (old new : KernelState) : Type 0 where
+  Makes : (parent : Group) (name : List ℕ) (r : Result Group KernelError) → MakesGroup old parent name r new → IsOneCall old new
+  Cpus : (g : Group) (cpus : Ids) (r : Result (Unit {0}) KernelFault) → WritesCpus old g cpus r new → IsOneCall old new
+  Mems : (g : Group) (mems : Ids) (r : Result (Unit {0}) KernelFault) → WritesMems old g mems r new → IsOneCall old new
+  Process : (g : Group) (r : Result ℕ KernelError) → Spawns old g r new → IsOneCall old new
+
+-- each of the states is what one call leaves of the state before it, from the first kernel to the last
+abbrev pub AreCalls : KernelState → List KernelState → KernelState → Type 0
+AreCalls old [] new = new ≡ old
+AreCalls old (k ∷ later) new = IsOneCall old k × AreCalls k later new
+
+-- so nothing is written between the states of a `create`
+abbrev pub CreatesAreCalls : Type 0
+CreatesAreCalls =
+    (old : NodeState) (id bundle config : List ℕ) (r : Result ℕ (OrMemory NodeFault)) (new : NodeState) (made : Creates old id bundle config r new)
+    → AreCalls old.kernel (create_states old id bundle config r new made) new.kernel
+
+-- and in each of them what the containers request is safe
+abbrev pub CreatesStaySafe : Type 0
+CreatesStaySafe =
+    (old : NodeState) (id bundle config : List ℕ) (r : Result ℕ (OrMemory NodeFault)) (new : NodeState) (made : Creates old id bundle config r new) → IsNode old
+    → AllByRecursion (λ k. IsSafe k k.reserved (map (λ o. o.holder) (owners_of old.containers))) (create_states old id bundle config r new made)
