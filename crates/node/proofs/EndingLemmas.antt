@@ -1,5 +1,5 @@
 -- How long a hand-over lasts that is stepped.
-use Rattle.std.proofs.Common.{◌≡◌, inl, inr, ℕ, ◌+◌, ◌≤◌, true, false, List, [], ◌∷◌, Some, refl, sym, ap, ◌∙◌, subst, arith}
+use Rattle.std.proofs.Common.{◌≡◌, inl, inr, ℕ, ◌+◌, ◌*◌, ◌≤◌, true, false, List, [], ◌∷◌, length, Some, None, refl, sym, ap, ◌∙◌, subst, arith}
 use Rattle.std.proofs.lemmas.Bool.{false≢true}
 use Rattle.std.specs.Prelude.{Option, Result, Ok, Err}
 use Rattle.std.specs.List.{AllByRecursion}
@@ -33,77 +33,78 @@ use Rattle.node.specs.Calls.{Ended, Creates, Starts, Kills, Deletes}
 use Rattle.node.specs.Rebalance.{Begins, StepsOn, Rebalances}
 use Rattle.node.specs.Machine.{Event, Step, Run}
 use Rattle.node.specs.Machine.Event.{Create, Start, Kill, Delete, Rebalance, Begin, StepOn, Fork, Exit, Offline, Online}
-use Rattle.node.specs.Ending.{step_in, steps_in, IsMore, GoesOn, HandoversEnd}
+use Rattle.node.specs.Ending.{step_in, steps_in, IsMore, HandoversEnd}
 use Rattle.node.proofs.StepLemmas.{its_steps, open_now, leaves}
 use Rattle.node.proofs.MachineLemmas.{runs_keep}
 
+-- what so many steps leave of the hand-over
+record Lasts (o : Ongoing) (old : NodeState) (steps : ℕ) (new : NodeState) : Type 0 where
+  pub still : new.ongoing ≡ Some o
+  pub falls : steps + writes_to_come o.targets new.kernel ≤ writes_to_come o.targets old.kernel
+
 module _ (law : StepsLeave) (ends : EndsWithin) (o : Ongoing) (old : NodeState) (h : IsNode old) (was : old.ongoing ≡ Some o) where
-  -- no call that wants none open is made
+  -- so no call is made that wants none open
   underway : is_underway old.phase ≡ true
   underway = (subst (Stands old.kernel (owners_of old.containers) (is_underway old.phase)) was h.stands).0
 
-  -- what so many steps leave of the hand-over
-  record Goes (steps : ℕ) (new : NodeState) : Type 0 where
-    pub still : new.ongoing ≡ Some o
-    pub falls : steps + writes_to_come o.targets new.kernel ≤ writes_to_come o.targets old.kernel
-
   module _ (new : NodeState) where
-    open_already : is_underway old.phase ≡ false → Goes 0 new
+    open_already : is_underway old.phase ≡ false → Lasts o old 0 new
     open_already settled = absurd (false≢true (sym settled ∙ underway))
 
-    same_kernel : new.ongoing ≡ old.ongoing → new.kernel ≡ old.kernel → Goes 0 new
+    same_kernel : new.ongoing ≡ old.ongoing → new.kernel ≡ old.kernel → Lasts o old 0 new
     same_kernel still same =
         let e : writes_to_come o.targets new.kernel ≡ writes_to_come o.targets old.kernel = ap (writes_to_come o.targets) same in
         record { still = still ∙ was; falls = omega (arith, e) }
 
-    unchanged : new ≡ old → Goes 0 new
+    unchanged : new ≡ old → Lasts o old 0 new
     unchanged same = same_kernel (ap (λ (n : NodeState). n.ongoing) same) (ap (λ (n : NodeState). n.kernel) same)
 
-    called : new.ongoing ≡ old.ongoing → (c : Call) → LeavesEntries o.targets.entries c → (r : Result Reply KernelError) → kernel.Step old.kernel c r new.kernel → Goes 0 new
+    called : new.ongoing ≡ old.ongoing → (c : Call) → LeavesEntries o.targets.entries c → (r : Result Reply KernelError)
+        → kernel.Step old.kernel c r new.kernel → Lasts o old 0 new
     called still c apart r step =
         let e : 0 + 0 + writes_to_come o.targets new.kernel ≤ writes_to_come o.targets old.kernel =
         ends o.targets old.kernel ((Called c r, new.kernel) ∷ []) (open_now law old h o was) ((apart, step), tt) in
         record { still = still ∙ was; falls = omega (arith, e) }
 
-    stepped : StepsOn old (Ok More) new → Goes 1 new
+    stepped : StepsOn old (Ok More) new → Lasts o old 1 new
     stepped s =
         let e : writes_to_come o.targets old.kernel ≡ writes_to_come o.targets new.kernel + 1 =
         (leaves law old h o was new.kernel (Ok More) (its_steps old o was new (Ok More) old.phase old.ongoing s)).falls refl in
         record { still = ap (λ (n : NodeState). n.ongoing) s.is ∙ was; falls = omega (arith, e) }
 
-    create_goes : (id bundle config : List ℕ) (r : Result ℕ (OrMemory NodeFault)) → Creates old id bundle config r new → Goes 0 new
+    create_goes : (id bundle config : List ℕ) (r : Result ℕ (OrMemory NodeFault)) → Creates old id bundle config r new → Lasts o old 0 new
     create_goes id bundle config (Ok pid) c = open_already c.free.settled
     create_goes id bundle config (Err Memory) (inl n) = open_already n.free.settled
     create_goes id bundle config (Err Memory) (inr same) = unchanged same.1
     create_goes id bundle config (Err (Fault (Kernel fault))) n = open_already n.free.settled
     create_goes id bundle config (Err (Fault fault)) same = unchanged same.1
 
-    start_goes : (id : List ℕ) (r : Result (Unit {0}) NodeFault) → Starts old id r new → Goes 0 new
+    start_goes : (id : List ℕ) (r : Result (Unit {0}) NodeFault) → Starts old id r new → Lasts o old 0 new
     start_goes id (Ok done) s = same_kernel (ap (λ (n : NodeState). n.ongoing) s.4) (ap (λ (n : NodeState). n.kernel) s.4)
     start_goes id (Err fault) s = unchanged s.1
 
-    ended : (id signal : List ℕ) (r : Result (Unit {0}) KernelFault) → Ended old id signal r new → Goes 0 new
+    ended : (id signal : List ℕ) (r : Result (Unit {0}) KernelFault) → Ended old id signal r new → Lasts o old 0 new
     ended id signal r e =
         called (ap (λ (n : NodeState). n.ongoing) e.is) (call.EndGroup e.container.group) tt (reply_at_once (λ _. reply.Done) r) (r, refl, e.ended)
 
-    kill_goes : (id signal : List ℕ) (r : Result (Unit {0}) NodeFault) → Kills old id signal r new → Goes 0 new
+    kill_goes : (id signal : List ℕ) (r : Result (Unit {0}) NodeFault) → Kills old id signal r new → Lasts o old 0 new
     kill_goes id signal (Ok done) k = ended id signal (Ok tt) k
     kill_goes id signal (Err (Kernel fault)) k = ended id signal (Err fault) k.1
     kill_goes id signal (Err fault) k = unchanged k.1
 
-    delete_goes : (id : List ℕ) (r : Result (Unit {0}) NodeFault) → Deletes old id r new → Goes 0 new
+    delete_goes : (id : List ℕ) (r : Result (Unit {0}) NodeFault) → Deletes old id r new → Lasts o old 0 new
     delete_goes id (Ok done) d = open_already d.settled
     delete_goes id (Err (Kernel fault)) d = open_already d.1.settled
     delete_goes id (Err fault) d = unchanged d.1
 
-    begin_goes : (r : Result Outcome (OrMemory NodeFault)) → Begins old r new → Goes 0 new
+    begin_goes : (r : Result Outcome (OrMemory NodeFault)) → Begins old r new → Lasts o old 0 new
     begin_goes (Ok (Plan total)) b = open_already b.settled
     begin_goes (Ok (Short wanted allowed)) b = open_already b.settled
     begin_goes (Err Memory) b = open_already b.0
     begin_goes (Err (Fault Busy)) b = unchanged b.1
     begin_goes (Err (Fault fault)) b = absurd b
 
-    rebalance_goes : (r : Result Outcome (OrMemory NodeFault)) → Rebalances old r new → Goes 0 new
+    rebalance_goes : (r : Result Outcome (OrMemory NodeFault)) → Rebalances old r new → Lasts o old 0 new
     rebalance_goes (Ok (Plan total)) m = open_already m.begun.settled
     rebalance_goes (Ok (Short wanted allowed)) b = open_already b.settled
     rebalance_goes (Err (Fault (Kernel fault))) m = open_already m.1.begun.settled
@@ -111,7 +112,7 @@ module _ (law : StepsLeave) (ends : EndsWithin) (o : Ongoing) (old : NodeState) 
     rebalance_goes (Err (Fault Busy)) b = unchanged b.1
     rebalance_goes (Err (Fault fault)) b = absurd b
 
-    goes : (event : Event) → Step old event new → IsMore event → Goes (step_in event) new
+    goes : (event : Event) → Step old event new → IsMore event → Lasts o old (step_in event) new
     goes (Create id bundle config answer) s more = create_goes id bundle config answer s
     goes (Start id answer) s more = start_goes id answer s
     goes (Kill id signal answer) s more = kill_goes id signal answer s
@@ -120,18 +121,42 @@ module _ (law : StepsLeave) (ends : EndsWithin) (o : Ongoing) (old : NodeState) 
     goes (Begin answer) s more = begin_goes answer s
     goes (StepOn answer) s more = stepped (subst (λ (r : Result Progress NodeFault). StepsOn old r new) more s)
     goes (Fork parent answer) s more = called (ap (λ (n : NodeState). n.ongoing) s.1) (call.Fork parent) tt (reply_of reply.Pid answer) (answer, refl, s.0)
-    goes (Exit pid answer) s more = called (ap (λ (n : NodeState). n.ongoing) s.1) (call.Exit pid) tt (reply_at_once (λ _. reply.Done) answer) (answer, refl, s.0)
-    goes (Offline cpu answer) s more = called (ap (λ (n : NodeState). n.ongoing) s.1) (call.Offline cpu) tt (reply_at_once (λ _. reply.Done) answer) (answer, refl, s.0)
-    goes (Online cpu answer) s more = called (ap (λ (n : NodeState). n.ongoing) s.1) (call.OnlineCpu cpu) tt (reply_at_once (λ _. reply.Done) answer) (answer, refl, s.0)
+    goes (Exit pid answer) s more =
+        called (ap (λ (n : NodeState). n.ongoing) s.1) (call.Exit pid) tt (reply_at_once (λ _. reply.Done) answer) (answer, refl, s.0)
+    goes (Offline cpu answer) s more =
+        called (ap (λ (n : NodeState). n.ongoing) s.1) (call.Offline cpu) tt (reply_at_once (λ _. reply.Done) answer) (answer, refl, s.0)
+    goes (Online cpu answer) s more =
+        called (ap (λ (n : NodeState). n.ongoing) s.1) (call.OnlineCpu cpu) tt (reply_at_once (λ _. reply.Done) answer) (answer, refl, s.0)
 
-module _ (weigh : RowsWeigh) (law : StepsLeave) (ends : EndsWithin) (few : FewToCome) where
-  pub handovers_end : HandoversEnd
-  handovers_end old o [] new h was r more =
-      let e : writes_to_come o.targets new.kernel ≡ writes_to_come o.targets old.kernel = ap (λ (n : NodeState). writes_to_come o.targets n.kernel) r in
-      record { still = ap (λ (n : NodeState). n.ongoing) r ∙ was; falls = omega (arith, e); few = few o.targets old.kernel }
-  handovers_end old o (event ∷ later) new h was (mid, step, run) more =
+  -- where no write is to come, a step ends it
+  last_ends : writes_to_come o.targets old.kernel ≤ 0 → (r : Result Progress NodeFault) (after : NodeState) → StepsOn old r after → after.ongoing ≡ None
+  last_ends none (Ok More) after s =
+      let e : 1 + writes_to_come o.targets after.kernel ≤ writes_to_come o.targets old.kernel = (stepped after s).falls in
+      absurd (omega (arith, none, e))
+  last_ends none (Ok Done) after s = ap (λ (n : NodeState). n.ongoing) s.is
+  last_ends none (Err (Kernel fault)) after s = ap (λ (n : NodeState). n.ongoing) s.is
+  last_ends none (Err NoHandover) after s = absurd (false≢true (sym s.0 ∙ underway))
+  last_ends none (Err fault) after s = absurd s
+
+module _ (weigh : RowsWeigh) (law : StepsLeave) (ends : EndsWithin) (o : Ongoing) where
+  lasts : (old : NodeState) (events : List Event) (new : NodeState) → IsNode old → old.ongoing ≡ Some o → Run old events new → AllByRecursion IsMore events
+      → Lasts o old (steps_in events) new
+  lasts old [] new h was r more = unchanged law ends o old h was new r
+  lasts old (event ∷ later) new h was (mid, step, run) more =
       let first = goes law ends o old h was mid event step more.0 in
-      let rest = handovers_end mid o later new (runs_keep weigh law old (event ∷ []) mid h (mid, step, refl)) first.still run more.1 in
+      let rest = lasts mid later new (runs_keep weigh law old (event ∷ []) mid h (mid, step, refl)) first.still run more.1 in
       let a : step_in event + writes_to_come o.targets mid.kernel ≤ writes_to_come o.targets old.kernel = first.falls in
       let b : steps_in later + writes_to_come o.targets new.kernel ≤ writes_to_come o.targets mid.kernel = rest.falls in
-      record { still = rest.still; falls = omega (arith, a, b); few = few o.targets old.kernel }
+      record { still = rest.still; falls = omega (arith, a, b) }
+
+pub handovers_end : RowsWeigh → StepsLeave → EndsWithin → FewToCome → HandoversEnd
+handovers_end weigh law ends few old o events new h was run more =
+    let last = lasts weigh law ends o old events new h was run more in
+    let falls : steps_in events + writes_to_come o.targets new.kernel ≤ writes_to_come o.targets old.kernel = last.falls in
+    let at_most : writes_to_come o.targets old.kernel ≤ 2 * length o.targets.entries = few o.targets old.kernel in
+    record {
+      still = last.still;
+      falls = falls;
+      few = at_most;
+      ends = λ all. last_ends law ends o new (runs_keep weigh law old events new h run) last.still (omega (arith, falls, at_most, all));
+    }

@@ -1,36 +1,40 @@
 -- How long a hand-over lasts that is stepped, whatever else happens.
-use Rattle.std.specs.Prelude.{◌≡◌, ℕ, ◌+◌, ◌*◌, ◌≤◌, List, [], ◌∷◌, length, Some, Ok}
+use Rattle.std.specs.Prelude.{◌≡◌, ℕ, ◌+◌, ◌*◌, ◌≤◌, List, [], ◌∷◌, length, Some, None, Result, Ok}
 use Rattle.std.specs.List.{AllByRecursion}
+use Rattle.apply_plan.specs.declared.Progress.{Progress}
 use Rattle.apply_plan.specs.declared.Progress.TheVariants.{More}
 use Rattle.apply_plan.specs.DueWrite.{writes_to_come}
+use Rattle.node.specs.declared.fault.NodeFault.{NodeFault}
 use Rattle.node.specs.NodeState.{Ongoing, NodeState}
 use Rattle.node.specs.IsNode.{IsNode}
+use Rattle.node.specs.Rebalance.{StepsOn}
 use Rattle.node.specs.Machine.{Event, Run}
 use Rattle.node.specs.Machine.Event.{StepOn}
 
--- how many of the events are steps of the hand-over
+-- one for a step of a hand-over, and none for any other event
 abbrev pub step_in : Event → ℕ
 step_in (StepOn answer) = 1
 step_in event = 0
 
+-- how many of the events are steps
 abbrev pub steps_in : List Event → ℕ
 steps_in [] = 0
 steps_in (event ∷ later) = step_in event + steps_in later
 
--- if it is a step, it answers that more are to come
+-- a step answers that more are to come
 abbrev pub IsMore : Event → Type 0
 IsMore (StepOn answer) = answer ≡ Ok More
 IsMore event = Unit {0}
 
--- the hand-over is still open; each step was one write less to come, and nothing was one more; and at first at most two
--- for each container were to come
+-- the hand-over is still open; each step made one write less to come, and nothing one more; at first at most two for each
+-- container were to come; and after as many steps the next one ends it
 pub record GoesOn (o : Ongoing) (old : NodeState) (events : List Event) (new : NodeState) : Type 0 where
   pub still : new.ongoing ≡ Some o
   pub falls : steps_in events + writes_to_come o.targets new.kernel ≤ writes_to_come o.targets old.kernel
   pub few : writes_to_come o.targets old.kernel ≤ 2 * length o.targets.entries
+  pub ends : 2 * length o.targets.entries ≤ steps_in events → (r : Result Progress NodeFault) (after : NodeState) → StepsOn new r after → after.ongoing ≡ None
 
--- so a hand-over goes on for at most two steps for each container, whatever calls and events fall between them: of more
--- steps one answers that it has ended
+-- so a hand-over ends within two steps for each container and one more, whatever calls and events fall between them
 abbrev pub HandoversEnd : Type 0
 HandoversEnd =
     (old : NodeState) (o : Ongoing) (events : List Event) (new : NodeState) → IsNode old → old.ongoing ≡ Some o → Run old events new

@@ -21,31 +21,32 @@ use Rattle.node.specs.IsNode.{IsNode}
 use Rattle.node.specs.Launch.{AtOnce, FindsOr, WritesSets, StartsIn, Launches}
 use Rattle.node.specs.Calls.{Creates}
 
--- after a group is made; where it is there nothing is written
+-- the state after a group is made, and none where it is there already
 abbrev pub found_states : (found : Option Group) (old : KernelState) (parent : Group) (name : List ℕ) (r : Result Group KernelError) (new : KernelState)
     → FindsOr found old parent name r new → List KernelState
 found_states (Some g) old parent name r new finds = []
 found_states None old parent name r new makes = new ∷ []
 
--- after its CPUs are written, and then after its memory nodes are
+-- the states after a group's CPUs are written and after its memory nodes are; the first alone where it is refused
 abbrev pub set_states : (old : KernelState) (g : Group) (cpus mems : Ids) (r : Result (Unit {0}) KernelFault) (new : KernelState)
     → WritesSets old g cpus mems r new → List KernelState
 set_states old g cpus mems r new (inl refused) = new ∷ []
 set_states old g cpus mems r new (inr (done, mid, first, second)) = mid ∷ new ∷ []
 
+-- the same among calls that may want memory
 abbrev pub set_states_at_once : (old : KernelState) (g : Group) (cpus mems : Ids) (r : Result (Unit {0}) KernelError) (new : KernelState)
     → AtOnce (WritesSets old g cpus mems) r new → List KernelState
 set_states_at_once old g cpus mems (Ok done) new writes = set_states old g cpus mems (Ok done) new writes
 set_states_at_once old g cpus mems (Err kernel.Memory) new never = absurd never
 set_states_at_once old g cpus mems (Err (kernel.Fault fault)) new writes = set_states old g cpus mems (Err fault) new writes
 
--- and then after a first process is made in it
+-- these, and where none is refused the state after a first process is made in the group
 abbrev pub start_states : (old : KernelState) (g : Group) (cpus mems : Ids) (r : Result ℕ KernelError) (new : KernelState)
     → StartsIn old g cpus mems r new → List KernelState
 start_states old g cpus mems r new (inl (fault, refused, is)) = set_states_at_once old g cpus mems (Err fault) new refused
 start_states old g cpus mems r new (inr (done, mid, writes, spawns)) = set_states_at_once old g cpus mems (Ok done) mid writes ++ new ∷ []
 
--- all of these
+-- the states after all calls by which a container's group and first process are made
 abbrev pub launch_states : (old : KernelState) (parent : Group) (name : List ℕ) (cpus mems : Ids) (r : Result (Group × ℕ) KernelError) (new : KernelState)
     → Launches old parent name cpus mems r new → List KernelState
 launch_states old parent name cpus mems (Ok made) new (mid, found, starts) =
@@ -54,7 +55,7 @@ launch_states old parent name cpus mems (Err error) new (inl refused) = found_st
 launch_states old parent name cpus mems (Err error) new (inr (g, mid, found, starts)) =
     found_states (child_of old.tree parent name) old parent name (Ok g) mid found ++ start_states mid g cpus mems (Err error) new starts
 
--- and none where `create` is refused before it calls the kernel
+-- the states of a `create`; none where it is refused before it calls the kernel
 abbrev pub create_states : (old : NodeState) (id bundle config : List ℕ) (r : Result ℕ (OrMemory NodeFault)) (new : NodeState)
     → Creates old id bundle config r new → List KernelState
 create_states old id bundle config (Ok pid) new c =
@@ -78,14 +79,14 @@ abbrev pub AreCalls : KernelState → List KernelState → KernelState → Type 
 AreCalls old [] new = new ≡ old
 AreCalls old (k ∷ later) new = IsOneCall old k × AreCalls k later new
 
--- so nothing is written between the states of a `create`
+-- a `create` goes through its states call by call, so that none is left out
 abbrev pub CreatesAreCalls : Type 0
 CreatesAreCalls =
     (old : NodeState) (id bundle config : List ℕ) (r : Result ℕ (OrMemory NodeFault)) (new : NodeState) (made : Creates old id bundle config r new)
     → AreCalls old.kernel (create_states old id bundle config r new made) new.kernel
 
--- and in each of them what the containers request is safe
+-- and in each of them what is requested is safe, of all containers that are there after it: also of the one that it makes
 abbrev pub CreatesStaySafe : Type 0
 CreatesStaySafe =
     (old : NodeState) (id bundle config : List ℕ) (r : Result ℕ (OrMemory NodeFault)) (new : NodeState) (made : Creates old id bundle config r new) → IsNode old
-    → AllByRecursion (λ k. IsSafe k k.reserved (map (λ o. o.holder) (owners_of old.containers))) (create_states old id bundle config r new made)
+    → AllByRecursion (λ k. IsSafe k k.reserved (map (λ o. o.holder) (owners_of new.containers))) (create_states old id bundle config r new made)

@@ -32,8 +32,10 @@ pub fn runs()
     steps();
 }
 
-/// How long a hand-over lasts that is stepped: at most two steps for each of its containers answer that more are to come,
-/// whatever calls and events fall between them, and none of these ends it or lets another begin. Nothing runs.
+/// How long a hand-over lasts that is stepped, whatever calls and events fall between its steps: nothing runs.
+///
+/// It stays open while they answer that more are to come, and at most two steps for each of its containers do; one more
+/// ends it.
 pub fn each_handover()
     ensures { HandoversEnd }
 {
@@ -42,10 +44,10 @@ pub fn each_handover()
     apply_plan::laws::runs();
 }
 
-/// What the kernel is in the midst of `create`, whatever that answers: nothing runs.
+/// The kernel in the midst of `create`, whatever that answers: nothing runs.
 ///
-/// From the kernel before it to the one that it leaves it is single calls, and after each of them no CPU but reserved ones
-/// is requested for a live pinned container and for another live one, and each live one requests some.
+/// From the kernel before it to the one that it leaves there are single calls alone, and after each of them no CPU but
+/// reserved ones is requested for a live pinned container and for another live one, and each live one requests some.
 pub fn each_create()
     ensures single { CreatesAreCalls }
     ensures safe { CreatesStaySafe }
