@@ -1,9 +1,8 @@
 -- How long a hand-over lasts that is stepped.
 use Rattle.std.proofs.Common.{◌≡◌, inl, inr, ℕ, ◌+◌, ◌*◌, ◌≤◌, true, false, List, [], ◌∷◌, length, Some, None, refl, sym, ap, ◌∙◌, subst, arith}
 use Rattle.std.proofs.lemmas.Bool.{false≢true}
-use Rattle.std.specs.Prelude.{Option, Result, Ok, Err}
+use Rattle.std.specs.Prelude.{Result, Ok, Err}
 use Rattle.std.specs.List.{AllByRecursion}
-use Rattle.cpuset_tree.specs.declared.Group.{Group}
 use Rattle.faults.specs.declared.OrMemory.{OrMemory}
 use Rattle.faults.specs.declared.OrMemory.TheVariants.{Memory, Fault}
 use Rattle.kernel_model.specs.declared.KernelError.{KernelError}
@@ -12,7 +11,6 @@ use Rattle.kernel_model.specs.declared.Call.{Call}
 use Rattle.kernel_model.specs.declared.Call.TheVariants as call
 use Rattle.kernel_model.specs.declared.Reply.{Reply}
 use Rattle.kernel_model.specs.declared.Reply.TheVariants as reply
-use Rattle.kernel_model.specs.Cases.{EndsGroup}
 use Rattle.kernel_model.specs.Runs.{reply_of, reply_at_once}
 use Rattle.kernel_model.specs.Runs as kernel
 use Rattle.rows.specs.Weighs.{RowsWeigh}

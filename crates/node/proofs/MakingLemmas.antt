@@ -10,7 +10,6 @@ use Rattle.cpuset_tree.specs.declared.Group.{Group}
 use Rattle.cpuset_tree.specs.Groups.{child_of, requested_cpus}
 use Rattle.proctable.specs.TableState.{TableState}
 use Rattle.proctable.specs.Processes.{is_alive}
-use Rattle.faults.specs.declared.OrMemory.{OrMemory}
 use Rattle.faults.specs.declared.OrMemory.TheVariants.{Memory, Fault}
 use Rattle.kernel_model.specs.declared.KernelFault.{KernelFault}
 use Rattle.kernel_model.specs.declared.KernelError.{KernelError}
@@ -18,13 +17,12 @@ use Rattle.kernel_model.specs.declared.KernelError.TheVariants as kernel
 use Rattle.kernel_model.specs.KernelState.{KernelState}
 use Rattle.kernel_model.specs.KernelLemmas.{writes_keep_processes}
 use Rattle.apply_plan.specs.Holders.{AreApart, HasSome, IsSafe}
-use Rattle.node.specs.declared.fault.NodeFault.{NodeFault}
 use Rattle.node.specs.declared.fault.NodeFault.TheVariants.{Kernel}
 use Rattle.node.specs.NodeState.{ContainerState, NodeState, container_of}
 use Rattle.node.specs.Owners.{Owner, is_pinned, owner_of, owners_of}
 use Rattle.node.specs.IsNode.{Holds, IsNode}
 use Rattle.node.specs.Launch.{AtOnce, FindsOr, WritesSets, StartsIn, Launches}
-use Rattle.node.specs.Calls.{new_container, Created, NotLaunched, Creates}
+use Rattle.node.specs.Calls.{new_container, Created, NotLaunched}
 use Rattle.node.specs.Making.{found_states, set_states, set_states_at_once, start_states, launch_states, AreCalls, CreatesAreCalls, CreatesStaySafe}
 use Rattle.node.specs.Making.IsOneCall.{Makes, Cpus, Mems, Process}
 use Rattle.node.proofs.ListLemmas.{all_map, all_map2, all_of, all_append, all_push, pairs_push}

@@ -27,7 +27,7 @@ IsMore (StepOn answer) = answer ≡ Ok More
 IsMore event = Unit {0}
 
 -- the hand-over is still open; each step made one write less to come, and nothing one more; at first at most two for each
--- container were to come; and after as many steps the next one ends it
+-- container were to come; and after that many steps the next one ends it
 pub record GoesOn (o : Ongoing) (old : NodeState) (events : List Event) (new : NodeState) : Type 0 where
   pub still : new.ongoing ≡ Some o
   pub falls : steps_in events + writes_to_come o.targets new.kernel ≤ writes_to_come o.targets old.kernel
