@@ -80,6 +80,18 @@ alike_itself s = record {
   next_serial = refl;
 }
 
+pub keeps_itself : (h : Targets) (k : KernelState) → KeepsRest h k k
+keeps_itself h k = record {
+  table = refl;
+  present = refl;
+  reserved = refl;
+  online = refl;
+  nodes = refl;
+  alike = alike_itself k.tree;
+  mems = λ g. refl;
+  others = λ g o. refl;
+}
+
 module _ (h : Targets) (valid : IsHandover h) (old : KernelState) (placed : ArePlaced old h.entries) where
   write_keeps : (e : Entry) (cpus : Ids) (test : Entry → Bool) → find test h.entries ≡ Some e → KeepsRest h old (with_request old e.group cpus)
   write_keeps e cpus test found = record {
@@ -96,16 +108,7 @@ module _ (h : Targets) (valid : IsHandover h) (old : KernelState) (placed : AreP
   written_keeps : (d : Option Write) → Due old h.reserved h.entries d → KeepsRest h old (written old d)
   written_keeps d (Releases e found) = write_keeps e (kept_of old h.reserved e) (must_release old h.reserved) found
   written_keeps d (Moves e none found) = write_keeps e e.target (must_move old) found
-  written_keeps d (Rests r m) = record {
-    table = refl;
-    present = refl;
-    reserved = refl;
-    online = refl;
-    nodes = refl;
-    alike = alike_itself old.tree;
-    mems = λ g. refl;
-    others = λ g o. refl;
-  }
+  written_keeps d (Rests r m) = keeps_itself h old
 
 pub at_most_two : (h : Targets) (k : KernelState) → writes_to_come h k ≤ 2 * length h.entries
 at_most_two h k = sum_bounded (writes_of k h.reserved) 2 h.entries (λ e. waits_at_most h.reserved (is_alive k.table e.pid) (held k e) e)

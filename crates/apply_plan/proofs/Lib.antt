@@ -7,3 +7,5 @@ pub mod HandoverLemmas
 pub mod EventLemmas
 pub mod RunLemmas
 pub mod EffectLemmas
+pub mod WalkLemmas
+pub mod FinishLemmas

@@ -68,7 +68,7 @@ waits_alike : (old new : KernelState) (reserved : Ids) (a : Entry) → new.table
 waits_alike old new reserved a table same =
     ap (λ t. waits reserved (is_alive t a.pid) (held old a) a) (sym table) ∙ ap (λ s. waits reserved (is_alive new.table a.pid) s a) (sym same)
 
-is_same_itself : (s : Ids) → is_same s s ≡ true
+pub is_same_itself : (s : Ids) → is_same s s ≡ true
 is_same_itself s = (is_same_decides s s).1 refl
 
 pub waits_at_most : (reserved : Ids) (live : Bool) (h : Ids) (a : Entry) → waits reserved live h a ≤ 2

@@ -4,7 +4,10 @@ pub mod KeptLemmas
 pub mod Targets
 pub mod DueWrite
 pub mod Leaves
+pub mod LeavesLemmas
 pub mod Wants
 pub mod Runs
 pub mod OneStep
+pub mod Finishes
+pub mod Walks
 pub mod Effects

@@ -1,13 +1,15 @@
-ghost use Rattle.std.specs.Prelude.{◌≡◌, ◌+◌, ◌*◌, ◌≤◌, length};
+ghost use Rattle.std.specs.Prelude.{◌≡◌, ◌+◌, ◌*◌, ◌≤◌, length, IsOk};
 ghost use Rattle.kernel_model.specs.KernelState.{KernelState};
 ghost use Rattle.kernel_model.specs.Cases.{rise};
 ghost use Rattle.apply_plan.specs.Holders.{IsSafe};
 ghost use Rattle.apply_plan.specs.Targets.{Targets, holders_of, IsHandover, ArePlaced};
 ghost use Rattle.apply_plan.specs.Leaves.{KeepsRest};
 ghost use Rattle.apply_plan.specs.DueWrite.{Steps, HaveTargets, writes_to_come, Lowers, Between};
+ghost use Rattle.apply_plan.specs.Finishes.{Finishes};
 
 use crate::Entry;
 use crate::scan::{due, make_due};
+use crate::walks::{let_all_go, take_all_targets};
 use cpu_set::IdSet;
 use kernel_model::{Kernel, KernelFault};
 use std::marker::Model;
@@ -101,5 +103,43 @@ impl Handover {
         ensures placed { ArePlaced (K.state kernel.new) self.old.entries }
     {
         self.advance(kernel)
+    }
+
+    /// Makes all writes, in two walks.
+    fn run_out<K: Kernel>(&self, kernel: &mut K) -> Result<(), KernelFault>
+        requires { ArePlaced (K.state kernel.old) self.now.entries }
+        ensures finishes { Finishes self.now (K.state kernel.old) result (K.state kernel.new) }
+        ensures valid { IsHandover self.now }
+    {
+        let all = self.entries();
+        let_all_go(kernel, &self.reserved, all)?;
+        take_all_targets(kernel, &self.reserved, all)
+    }
+
+    /// Makes all writes that are to come, up to the first that fails: what [`step`](Handover::step) leaves, called until
+    /// nothing is due.
+    ///
+    /// Looks each entry through twice, where single steps look all of them through for each write. Takes no memory.
+    ///
+    /// # Errors
+    /// `Failed` where a write failed: it is counted, and no other was made after it; the hand-over may go on.
+    pub fn finish<K: Kernel>(&mut self, kernel: &mut K) -> Result<(), KernelFault>
+        requires { ArePlaced (K.state kernel.old) self.old.entries }
+        ensures same { self.new ≡ self.old }
+        // Single steps, up to the first after which nothing is due or that fails.
+        ensures finishes { Finishes self.old (K.state kernel.old) result (K.state kernel.new) }
+        // What was safe stays so.
+        ensures safe { IsSafe (K.state kernel.old) self.old.reserved (holders_of self.old.entries)
+            → IsSafe (K.state kernel.new) self.old.reserved (holders_of self.old.entries) }
+        // At the end each live container has its target.
+        ensures done { IsOk result → HaveTargets (K.state kernel.new) self.old.entries }
+        // Each container requests what it did at first, or what it keeps of that, or its target.
+        ensures between { (first : KernelState) → Between self.old first (K.state kernel.old) → Between self.old first (K.state kernel.new) }
+        // A failure is counted, and nothing else in the kernel changes.
+        ensures counted { (K.state kernel.new).failures ≡ (K.state kernel.old).failures + rise result }
+        ensures rest { KeepsRest self.old (K.state kernel.old) (K.state kernel.new) }
+        ensures placed { ArePlaced (K.state kernel.new) self.old.entries }
+    {
+        self.run_out(kernel)
     }
 }

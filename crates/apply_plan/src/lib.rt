@@ -9,6 +9,7 @@ mod entry;
 mod handover;
 pub mod laws;
 mod scan;
+mod walks;
 
 pub use entry::Entry;
 pub use handover::{Handover, Progress};

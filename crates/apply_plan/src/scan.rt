@@ -38,14 +38,14 @@ fn requested<K: Kernel>(kernel: &K, group: Group) -> IdSet
 }
 
 /// What one entry waits for.
-enum Want {
+pub enum Want {
     Release(Write),
     Move(Write),
     Nothing,
 }
 
 /// What an entry waits for: to let go of what it is not to have, else to take its target.
-fn wanted<K: Kernel>(kernel: &K, reserved: &IdSet, entry: &Entry) -> Want
+pub fn wanted<K: Kernel>(kernel: &K, reserved: &IdSet, entry: &Entry) -> Want
     requires { has_group (K.state kernel.now).tree entry.now.group ≡ true }
     ensures { Wants (K.state kernel.now) reserved.now entry.now result }
 {

@@ -1,0 +1,20 @@
+use Rattle.std.proofs.Common.{refl}
+use Rattle.apply_plan.proofs.FinishLemmas.{finish_safe, finish_done, finish_between, finish_counts, finish_keeps, finish_places}
+use Rattle.apply_plan.proofs.handover.Handover.finish.Goals as goal
+
+pub returns : goal.returns
+returns g c =
+    let old = g.K.Kernel.state c.args.kernel.now in
+    let new = g.K.Kernel.state c.run_out.new.kernel in
+    let h = c.args.self.now in
+    let a = c.run_out.ensures in
+    record {
+      same = refl;
+      finishes = a.finishes;
+      safe = finish_safe h a.valid old new c.requires c.run_out.result a.finishes;
+      done = finish_done h a.valid old new c.requires c.run_out.result a.finishes;
+      between = finish_between h a.valid old new c.requires c.run_out.result a.finishes;
+      counted = finish_counts h a.valid old new c.requires c.run_out.result a.finishes;
+      rest = finish_keeps h a.valid old new c.requires c.run_out.result a.finishes;
+      placed = finish_places h a.valid old new c.requires c.run_out.result a.finishes;
+    }
