@@ -3,6 +3,7 @@
 //!
 //! A [`Handover`] keeps an [`Entry`] for each container with the CPUs that it is to have, and [`Handover::step`] makes
 //! the one write that is due: containers first let go of what is not theirs any more, then take what is.
+//! [`Handover::finish`] makes all of them.
 #![tactic(auto)]
 
 mod entry;

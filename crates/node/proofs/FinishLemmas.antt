@@ -1,27 +1,23 @@
 -- What the steps of a hand-over leave, once it ended.
 use Rattle.std.proofs.Common.{◌≡◌, ℕ, zero, suc, ◌+◌, true, false, Some, None, refl, sym, ap, ◌∙◌, subst, arith}
-use Rattle.std.specs.Prelude.{Result, Ok, Err}
-use Rattle.cpuset_tree.specs.declared.Group.{Group}
-use Rattle.cpuset_tree.specs.TreeState.{GroupEntry, TreeState}
-use Rattle.cpuset_tree.specs.Groups.{entry_of}
-use Rattle.cpuset_tree.specs.TreeLaws.{StandsAs, StandAlike}
+use Rattle.std.proofs.lemmas.Bool.{false≢true}
+use Rattle.std.specs.Prelude.{Option, Result, Ok, Err}
 use Rattle.kernel_model.specs.declared.KernelFault.{KernelFault}
 use Rattle.kernel_model.specs.declared.KernelFault.TheVariants.{Failed}
 use Rattle.kernel_model.specs.KernelState.{KernelState}
 use Rattle.kernel_model.specs.Cases.{rise}
 use Rattle.apply_plan.specs.declared.Progress.{Progress}
 use Rattle.apply_plan.specs.declared.Progress.TheVariants.{More, Done}
-use Rattle.apply_plan.specs.Targets.{Targets}
 use Rattle.apply_plan.specs.DueWrite.{HaveTargets}
 use Rattle.apply_plan.specs.Leaves.{KeepsRest}
+use Rattle.apply_plan.specs.LeavesLemmas.{rest_then}
+use Rattle.apply_plan.specs.Finishes as plan
 use Rattle.apply_plan.specs.OneStep.{StepsLeave}
-use Rattle.node.specs.declared.fault.NodeFault.{NodeFault}
-use Rattle.node.specs.declared.fault.NodeFault.TheVariants.{Kernel}
 use Rattle.node.specs.declared.phase.Phase.{Phase}
 use Rattle.node.specs.declared.phase.Phase.TheVariants.{Settled, Unsettled}
 use Rattle.node.specs.NodeState.{Ongoing, NodeState, is_underway}
 use Rattle.node.specs.Owners.{owners_of}
-use Rattle.node.specs.Ongoing.{IsOngoing, IsBroken}
+use Rattle.node.specs.Ongoing.{IsOngoing, Stands, IsBroken}
 use Rattle.node.specs.IsNode.{IsNode}
 use Rattle.node.specs.Rebalance.{Stepped, StepsOn, StepsMore, Finishes}
 use Rattle.node.proofs.StepLemmas.{its_steps, leaves, moved_on, more_node, ended_node}
@@ -56,52 +52,6 @@ pub record Breaks (o : Ongoing) (fault : KernelFault) (old new : NodeState) : Ty
   pub phase : new.phase ≡ Unsettled
   pub ongoing : new.ongoing ≡ None
   pub last : new.last ≡ old.last
-
--- trees that stand alike, one after another
-module _ (a b c : TreeState) (x : StandAlike a b) (y : StandAlike b c) where
-  before : (p : Group) (e : GroupEntry) → entry_of c p ≡ Some e → StandsAs a p e
-  before p e at =
-      let f = y.before p e at in
-      let g = x.before p f.entry f.there in
-      record {
-        entry = g.entry;
-        there = g.there;
-        place = record { group = f.place.group ∙ g.place.group; parent = f.place.parent ∙ g.place.parent; name = f.place.name ∙ g.place.name };
-      }
-
-  after : (p : Group) (e : GroupEntry) → entry_of a p ≡ Some e → StandsAs c p e
-  after p e at =
-      let f = x.after p e at in
-      let g = y.after p f.entry f.there in
-      record {
-        entry = g.entry;
-        there = g.there;
-        place = record { group = f.place.group ∙ g.place.group; parent = f.place.parent ∙ g.place.parent; name = f.place.name ∙ g.place.name };
-      }
-
-  alike_then : StandAlike a c
-  alike_then = record {
-    before = before;
-    after = after;
-    there = λ p. y.there p ∙ x.there p;
-    rootness = λ p. y.rootness p ∙ x.rootness p;
-    child = λ p name. y.child p name ∙ x.child p name;
-    children = λ p. y.children p ∙ x.children p;
-    root = y.root ∙ x.root;
-    next_serial = y.next_serial ∙ x.next_serial;
-  }
-
-rest_then : (h : Targets) (old mid new : KernelState) → KeepsRest h old mid → KeepsRest h mid new → KeepsRest h old new
-rest_then h old mid new a b = record {
-  table = b.table ∙ a.table;
-  present = b.present ∙ a.present;
-  reserved = b.reserved ∙ a.reserved;
-  online = b.online ∙ a.online;
-  nodes = b.nodes ∙ a.nodes;
-  alike = alike_then old.tree mid.tree new.tree a.alike b.alike;
-  mems = λ g. b.mems g ∙ a.mems g;
-  others = λ g apart. b.others g apart ∙ a.others g apart;
-}
 
 -- what steps leave of which the last answers this and ends the hand-over
 record Ended (o : Ongoing) (old : NodeState) (r : Result Progress KernelFault) (phase : Phase) (new : NodeState) : Type 0 where
@@ -189,26 +139,48 @@ module _ (law : StepsLeave) (o : Ongoing) where
         last = ap (λ (n : NodeState). n.last) e.is;
       }
 
--- one step more after others
-pub more_then : (count : ℕ) (old mid new : NodeState) → StepsMore count old mid → StepsOn mid (Ok More) new → StepsMore (suc count) old new
-more_then zero old mid new more s = (new, subst (λ (n : NodeState). StepsOn n (Ok More) new) more s, refl)
-more_then (suc count) old mid new more s = (more.0, more.1, more_then count more.0 mid new more.2 s)
+-- how a hand-over stands after its writes
+abbrev pub phase_after : Result (Unit {0}) KernelFault → Phase
+phase_after (Ok _) = Settled
+phase_after (Err fault) = Unsettled
 
--- the steps that were made, and one more, by what it answers
-module _ (first old new : NodeState) (made : (count : ℕ) × StepsMore count first old) where
-  one_more : StepsOn old (Ok More) new → (count : ℕ) × StepsMore count first new
-  one_more s = (suc made.0, more_then made.0 first old new made.1 s)
+-- the writes of the open hand-over, made to its end, as steps of the node
+module _ (o : Ongoing) where
+  more_of : (count : ℕ) (old : NodeState) (k : KernelState) → old.ongoing ≡ Some o → plan.StepsMore o.targets count old.kernel k → StepsMore count old (record old { kernel = k })
+  more_of zero old k was same = ap (λ (x : KernelState). record old { kernel = x }) same
+  more_of (suc count) old k was (mid, steps, more) =
+      (record old { kernel = mid }, record { handover = o; was = was; steps = steps; is = refl }, more_of count (record old { kernel = mid }) k was more)
 
-  pub goes_on : (answer : Progress) → answer ≡ More → StepsOn old (Ok answer) new → (count : ℕ) × StepsMore count first new
-  goes_on answer is s = one_more (subst (λ (a : Progress). StepsOn old (Ok a) new) is s)
+  all_of : (old : NodeState) (k : KernelState) (r : Result (Unit {0}) KernelFault) → old.ongoing ≡ Some o → plan.Finishes o.targets old.kernel r k
+      → Finishes old r (record old { kernel = k; phase = phase_after r; ongoing = None })
+  all_of old k (Ok _) was f = record {
+    steps = f.steps;
+    mid = record old { kernel = f.mid };
+    more = more_of f.steps old f.mid was f.more;
+    ends = record { handover = o; was = was; steps = f.ends; is = refl };
+  }
+  all_of old k (Err fault) was f = record {
+    steps = f.steps;
+    mid = record old { kernel = f.mid };
+    more = more_of f.steps old f.mid was f.more;
+    ends = record { handover = o; was = was; steps = f.ends; is = refl };
+  }
 
-  pub still_underway : (answer : Progress) → answer ≡ More → StepsOn old (Ok answer) new → is_underway old.phase ≡ true → is_underway new.phase ≡ true
-  still_underway answer is s underway =
-      let more : StepsOn old (Ok More) new = subst (λ (a : Progress). StepsOn old (Ok a) new) is s in
-      ap (λ (n : NodeState). is_underway n.phase) more.is ∙ underway
+-- the same of the node as the program keeps it
+module _ (law : StepsLeave) (n : NodeState) (h : IsNode n) (o : Ongoing) (was : n.ongoing ≡ Some o) (k : KernelState) (r : Result (Unit {0}) KernelFault)
+    (f : plan.Finishes o.targets n.kernel r k) (x : Option Ongoing) (none : x ≡ None) where
+  pub finished : (now : NodeState) → n ≡ now → Finishes now r (record n { kernel = k; phase = phase_after r; ongoing = x })
+  finished now is =
+      subst (λ (y : Option Ongoing). Finishes now r (record n { kernel = k; phase = phase_after r; ongoing = y })) (sym none)
+      (subst (λ (m : NodeState). Finishes m r (record n { kernel = k; phase = phase_after r; ongoing = None })) is (all_of o n k r was f))
 
-  pub finishes : (answer : Progress) → answer ≡ Done → StepsOn old (Ok answer) new → Finishes first (Ok tt) new
-  finishes answer is s = record { steps = made.0; mid = old; more = made.1; ends = subst (λ (a : Progress). StepsOn old (Ok a) new) is s }
+  node_after : (a : Result (Unit {0}) KernelFault) (new : NodeState) → Finishes n a new → IsNode new
+  node_after (Ok _) new g = (settles law o n new h was g).node
+  node_after (Err fault) new g = (breaks law o fault n new h was g).node
 
-  pub fails : (fault : KernelFault) (error : NodeFault) → error ≡ Kernel fault → StepsOn old (Err error) new → Finishes first (Err fault) new
-  fails fault error is s = record { steps = made.0; mid = old; more = made.1; ends = subst (λ (e : NodeFault). StepsOn old (Err e) new) is s }
+  pub finished_node : IsNode (record n { kernel = k; phase = phase_after r; ongoing = x })
+  finished_node = node_after r (record n { kernel = k; phase = phase_after r; ongoing = x }) (finished n refl)
+
+-- a hand-over that is underway is there
+pub none_is_not_underway : (n : NodeState) → IsNode n → n.ongoing ≡ None → is_underway n.phase ≡ true → ⊥
+none_is_not_underway n h none underway = false≢true (sym (subst (Stands n.kernel (owners_of n.containers) (is_underway n.phase)) none h.stands) ∙ underway)

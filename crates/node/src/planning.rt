@@ -1,5 +1,5 @@
 //! Plans, and the hand-overs to them.
-ghost use Rattle.std.specs.Prelude.{◌≡◌, ◌+◌, false, Some, IsTrue, IfOk};
+ghost use Rattle.std.specs.Prelude.{◌≡◌, ◌+◌, true, false, Some, IsTrue, IfOk};
 ghost use Rattle.std.specs.Result.{result_map_both};
 ghost use Rattle.certificate.specs.Limits.{rows_fit};
 ghost use Rattle.certificate.specs.IsShortage.{IsShortage};
@@ -11,7 +11,7 @@ ghost use Rattle.node.specs.Ongoing.{IsOngoing};
 ghost use Rattle.node.specs.Viewed.{seen_ongoing};
 ghost use Rattle.node.specs.declared.phase.Phase.TheVariants.{Underway};
 ghost use Rattle.node.specs.Headline.{Headline};
-ghost use Rattle.node.specs.Rebalance.{Begins, Rebalances, WorksOut, IsNeed, ShowsCertificate};
+ghost use Rattle.node.specs.Rebalance.{Begins, Finishes, Rebalances, WorksOut, IsNeed, ShowsCertificate};
 
 use crate::ongoing::Ongoing;
 use crate::{Node, NodeFault, Outcome, Phase};
@@ -21,7 +21,7 @@ use certificate_text::Certificate;
 use cpu_set::IdSet;
 use decision::decide;
 use faults::OrMemory;
-use kernel_model::Kernel;
+use kernel_model::{Kernel, KernelFault};
 use rows::rows_weigh;
 use std::alloc::AllocError;
 
@@ -94,6 +94,27 @@ impl<K: Kernel + Drop> Node<K> {
         match self.work_out() {
             Ok(outcome) => Ok(outcome),
             Err(_) => Err(OrMemory::Memory),
+        }
+    }
+
+    /// Makes all writes of the open hand-over, up to the first that fails; either ends it.
+    fn finish(&mut self) -> Result<(), KernelFault>
+        requires { is_underway self.old.phase ≡ true }
+        ensures { Finishes self.old result self.new }
+    {
+        steps();
+        let Some(mut ongoing) = self.ongoing.take() else {
+            unreachable!()
+        };
+        match ongoing.handover.finish(&mut self.kernel) {
+            Ok(()) => {
+                self.phase = Phase::Settled;
+                Ok(())
+            }
+            Err(fault) => {
+                self.phase = Phase::Unsettled;
+                Err(fault)
+            }
         }
     }
 

@@ -1,13 +1,13 @@
 //! The hand-over that is open, write by write.
-ghost use Rattle.std.specs.Prelude.{◌≡◌, ◌+◌, ◌*◌, ◌≤◌, true, length, Some, OnErr};
+ghost use Rattle.std.specs.Prelude.{◌≡◌, ◌+◌, ◌*◌, ◌≤◌, length, Some, OnErr};
 ghost use Rattle.apply_plan.specs.DueWrite.{writes_to_come, HaveTargets};
-ghost use Rattle.node.specs.NodeState.{Ongoing, is_underway};
+ghost use Rattle.node.specs.NodeState.{Ongoing};
 ghost use Rattle.node.specs.Ongoing.{IsBroken};
-ghost use Rattle.node.specs.Rebalance.{StepsOn, Finishes};
+ghost use Rattle.node.specs.Rebalance.{StepsOn};
 ghost use Rattle.node.specs.Leaves.{rise_of};
 
 use crate::{Node, NodeFault, Phase, Progress};
-use kernel_model::{Kernel, KernelFault};
+use kernel_model::Kernel;
 
 impl<K: Kernel + Drop> Node<K> {
     /// Makes the write that is due.
@@ -56,20 +56,5 @@ impl<K: Kernel + Drop> Node<K> {
         apply_plan::laws::steps();
         self.holds();
         self.advance()
-    }
-
-    /// Steps until the open hand-over ends.
-    pub(crate) fn finish(&mut self) -> Result<(), KernelFault>
-        requires { is_underway self.old.phase ≡ true }
-        ensures { Finishes self.old result self.new }
-    {
-        loop {
-            match self.step() {
-                Ok(Progress::More) => {}
-                Ok(Progress::Done) => return Ok(()),
-                Err(NodeFault::Kernel(fault)) => return Err(fault),
-                Err(_) => unreachable!(),
-            }
-        }
     }
 }

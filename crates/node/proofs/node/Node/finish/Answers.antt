@@ -1,15 +1,32 @@
-use Rattle.node.proofs.FinishLemmas.{goes_on, still_underway, finishes, fails}
+use Rattle.std.proofs.Common.{sym, ap}
+use Rattle.std.specs.Prelude.{Ok, Err, option_map}
+use Rattle.node.specs.Viewed.{seen_ongoing}
+use Rattle.node.proofs.StepLemmas.{open_now}
+use Rattle.node.proofs.FinishLemmas.{finished, finished_node}
 use Rattle.node.proofs.node.Node.finish.Goals as goal
 
-pub loop-fault-preserved : goal.loop-fault-preserved
-loop-fault-preserved g c = record {
-  made = goes_on c.args.self.now c.loop-fault.self c.step.new.self c.loop-fault.invariant.made c.in-Ok-More.field-0 c.in-Ok-More.field-0-is c.in-Ok-More.ensures.steps;
-  underway = still_underway c.args.self.now c.loop-fault.self c.step.new.self c.loop-fault.invariant.made c.in-Ok-More.field-0 c.in-Ok-More.field-0-is c.in-Ok-More.ensures.steps c.loop-fault.invariant.underway;
-}
+pub finish-requires : goal.finish-requires
+finish-requires g c =
+    (open_now c.steps.ensures _ c.self.invariant (seen_ongoing c.in-Some.ongoing) (sym (ap (option_map seen_ongoing) c.in-Some.ensures.value))).placed
 
-pub returns-in-Ok-Done : goal.returns-in-Ok-Done
-returns-in-Ok-Done g c = finishes c.args.self.now c.loop-fault.self c.step.new.self c.loop-fault.invariant.made c.in-Ok-Done.field-0 c.in-Ok-Done.field-0-is c.in-Ok-Done.ensures.steps
+pub invariant_of-self : goal.invariant_of-self
+invariant_of-self g c =
+    finished_node c.steps.ensures _ c.self.invariant (seen_ongoing c.in-Some.ongoing) (sym (ap (option_map seen_ongoing) c.in-Some.ensures.value))
+    (g.K.Kernel.state c.finish.new.kernel) (Ok tt) c.in-Ok.ensures.finishes (option_map seen_ongoing c.take.new.self) (ap (option_map seen_ongoing) c.take.ensures.after)
 
-pub returns-in-Err-Kernel : goal.returns-in-Err-Kernel
-returns-in-Err-Kernel g c =
-    fails c.args.self.now c.loop-fault.self c.step.new.self c.loop-fault.invariant.made c.in-Err-Kernel.fault c.in-Err-Kernel.field-0 c.in-Err-Kernel.field-0-is c.in-Err-Kernel.ensures.steps
+pub invariant_of-self-in-Err : goal.invariant_of-self-in-Err
+invariant_of-self-in-Err g c =
+    finished_node c.steps.ensures _ c.self.invariant (seen_ongoing c.in-Some.ongoing) (sym (ap (option_map seen_ongoing) c.in-Some.ensures.value))
+    (g.K.Kernel.state c.finish.new.kernel) (Err c.in-Err.fault) c.in-Err.ensures.finishes (option_map seen_ongoing c.take.new.self) (ap (option_map seen_ongoing) c.take.ensures.after)
+
+pub returns-in-Ok : goal.returns-in-Ok
+returns-in-Ok g c =
+    finished c.steps.ensures _ c.self.invariant (seen_ongoing c.in-Some.ongoing) (sym (ap (option_map seen_ongoing) c.in-Some.ensures.value))
+    (g.K.Kernel.state c.finish.new.kernel) (Ok tt) c.in-Ok.ensures.finishes (option_map seen_ongoing c.take.new.self) (ap (option_map seen_ongoing) c.take.ensures.after)
+    _ c.self.view_is
+
+pub returns : goal.returns
+returns g c =
+    finished c.steps.ensures _ c.self.invariant (seen_ongoing c.in-Some.ongoing) (sym (ap (option_map seen_ongoing) c.in-Some.ensures.value))
+    (g.K.Kernel.state c.finish.new.kernel) (Err c.in-Err.fault) c.in-Err.ensures.finishes (option_map seen_ongoing c.take.new.self) (ap (option_map seen_ongoing) c.take.ensures.after)
+    _ c.self.view_is
