@@ -3,12 +3,13 @@ use Rattle.std.proofs.Common.{◌≡◌, ℕ, ◌<◌, ◌≤◌, true, false, L
 use Rattle.std.proofs.lemmas.Bool.{false≢true}
 use Rattle.std.specs.Prelude.{Option, Some, None, is_some, Result, Ok, Err}
 use Rattle.std.specs.List.{AllByRecursion}
+use Rattle.faults.specs.declared.OrMemory.{OrMemory}
 use Rattle.cpuset_tree.specs.declared.Group.{Group}
 use Rattle.cpuset_tree.specs.Groups.{same_group, entry_among, entry_of, is_root_entry}
 use Rattle.cpuset_tree.specs.GroupLemmas.{same_group_sym}
 use Rattle.proctable.specs.declared.Process.{Process}
 use Rattle.proctable.specs.Processes.{process_of, is_alive}
-use Rattle.kernel_model.specs.declared.KernelError.{KernelError}
+use Rattle.kernel_model.specs.declared.KernelFault.{KernelFault}
 use Rattle.kernel_model.specs.declared.Call.{Call}
 use Rattle.kernel_model.specs.declared.Call.TheVariants.{MakeGroup, RemoveGroup, WriteCpus, WriteMems, Spawn, EndGroup, Root, FindGroup, RequestedCpus, EffectiveCpus, RequestedMems, EffectiveMems, Online, Nodes, FirstAlive, Fork, Exit, Offline, OnlineCpu}
 use Rattle.kernel_model.specs.declared.Reply.{Reply}
@@ -29,7 +30,8 @@ same_tree : (old new : KernelState) → new.tree ≡ old.tree → (e : Entry) �
 same_tree old new same e placed = ap (λ t. entry_of t e.group) same
 
 -- a group that is made is another
-made : (old new : KernelState) (parent : Group) (name : List ℕ) (r : Result Group KernelError) → MakeLeaves old parent name r new → (e : Entry) → IsPlaced old e.group
+made : (old new : KernelState) (parent : Group) (name : List ℕ) (r : Result Group (OrMemory KernelFault)) → MakeLeaves old parent name r new → (e : Entry)
+    → IsPlaced old e.group
     → GroupStays old new e
 made old new parent name (Ok g) leaves e placed = leaves.made.others e.group (leaves.made.differs e.group placed.there)
 made old new parent name (Err error) leaves e placed = same_tree old new leaves.refused e placed
@@ -46,7 +48,8 @@ module _ (entries : List Entry) (old new : KernelState) (placed : ArePlaced old 
   unchanged same = each (same_tree old new (ap (λ k. k.tree) same))
 
   -- whatever others call, the entries' groups stay as they are
-  pub groups_stay : (call : Call) (r : Result Reply KernelError) → LeavesEntries entries call → Step old call r new → AllByRecursion (GroupStays old new) entries
+  pub groups_stay : (call : Call) (r : Result Reply (OrMemory KernelFault)) → LeavesEntries entries call → Step old call r new
+      → AllByRecursion (GroupStays old new) entries
   groups_stay (MakeGroup parent name) r l s = each (made old new parent _ s.0 (writes_leave_groups.make old new parent _ s.0 s.2))
   groups_stay (RemoveGroup g) r l s = apart g (writes_leave_groups.remove old new g s.0 s.2).apart l
   groups_stay (WriteCpus g cpus) r l s = apart g (writes_leave_groups.cpus old new g cpus s.0 s.2).apart l
@@ -73,7 +76,8 @@ pub record IsCalm (old new : KernelState) (e : Entry) : Type 0 where
   pub dies : is_alive new.table e.pid ≡ true → is_alive old.table e.pid ≡ true
   pub given : e.pid < new.table.next_pid
 
-module _ (h : Targets) (old new : KernelState) (open_before : IsOpen h old) (call : Call) (r : Result Reply KernelError) (l : LeavesEntries h.entries call)
+module _ (h : Targets) (old new : KernelState) (open_before : IsOpen h old) (call : Call) (r : Result Reply (OrMemory KernelFault))
+    (l : LeavesEntries h.entries call)
     (s : Step old call r new) where
   some_of : (o : Option Process) → is_some o ≡ true → (p : Process) × (o ≡ Some p)
   some_of (Some p) e = (p, refl)

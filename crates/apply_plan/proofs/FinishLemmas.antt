@@ -4,8 +4,8 @@ use Rattle.std.proofs.lemmas.Bool.{false≢true}
 use Rattle.std.proofs.lemmas.List.{take_all}
 use Rattle.std.specs.Prelude.{find, Option, Some, None, is_some, Result, Ok, Err, IsOk}
 use Rattle.cpu_set.specs.Ids.{Ids}
-use Rattle.kernel_model.specs.declared.faults.KernelFault.{KernelFault}
-use Rattle.kernel_model.specs.declared.faults.KernelFault.TheVariants.{Failed}
+use Rattle.kernel_model.specs.declared.fault.KernelFault.{KernelFault}
+use Rattle.kernel_model.specs.declared.fault.KernelFault.TheVariants.{Failed}
 use Rattle.kernel_model.specs.KernelState.{KernelState, failed}
 use Rattle.kernel_model.specs.Cases.{rise}
 use Rattle.apply_plan.specs.declared.entry.Entry.{Entry}

@@ -9,7 +9,7 @@ use Rattle.cpuset_tree.specs.TreeState.{TreeState}
 use Rattle.cpuset_tree.specs.TreeLaws.{StandAlike}
 use Rattle.cpuset_tree.specs.TreeLemmas.{writes_request, stands_itself}
 use Rattle.proctable.specs.Processes.{is_alive}
-use Rattle.kernel_model.specs.declared.faults.KernelFault.{KernelFault}
+use Rattle.kernel_model.specs.declared.fault.KernelFault.{KernelFault}
 use Rattle.kernel_model.specs.KernelState.{KernelState}
 use Rattle.kernel_model.specs.Cases.{rise}
 use Rattle.apply_plan.specs.declared.entry.Entry.{Entry}

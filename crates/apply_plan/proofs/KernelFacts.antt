@@ -8,8 +8,8 @@ use Rattle.cpuset_tree.specs.Groups.{has_group, is_root}
 use Rattle.cpuset_tree.specs.TreeChanges.{with_cpus}
 use Rattle.cpuset_tree.specs.TreeLaws.{StandAlike}
 use Rattle.cpuset_tree.specs.TreeLemmas.{writes_request, writes_leave_places}
-use Rattle.kernel_model.specs.declared.faults.KernelFault.{KernelFault}
-use Rattle.kernel_model.specs.declared.faults.KernelFault.TheVariants.{NoGroup, Exists, HasChildren, HasProcesses, IsRoot, NoPids, NoProcess, NoSerials, Failed, Reserved, NoCpu}
+use Rattle.kernel_model.specs.declared.fault.KernelFault.{KernelFault}
+use Rattle.kernel_model.specs.declared.fault.KernelFault.TheVariants.{NoGroup, Exists, HasChildren, HasProcesses, IsRoot, NoPids, NoProcess, NoSerials, Failed, Reserved, NoCpu}
 use Rattle.kernel_model.specs.KernelState.{KernelState, failed}
 use Rattle.kernel_model.specs.Refusals.{write_refusal}
 use Rattle.kernel_model.specs.Cases.{WritesCpus}

@@ -8,7 +8,7 @@ use Rattle.cpu_set.specs.Ids.{Ids, is_same}
 use Rattle.cpuset_tree.specs.Effective.{is_empty}
 use Rattle.proctable.specs.TableState.{TableState}
 use Rattle.proctable.specs.Processes.{is_alive}
-use Rattle.kernel_model.specs.declared.faults.KernelFault.{KernelFault}
+use Rattle.kernel_model.specs.declared.fault.KernelFault.{KernelFault}
 use Rattle.kernel_model.specs.KernelState.{KernelState}
 use Rattle.apply_plan.specs.declared.entry.Entry.{Entry}
 use Rattle.apply_plan.specs.declared.scan.Write.{Write}

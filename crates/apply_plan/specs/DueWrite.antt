@@ -5,8 +5,8 @@ use Rattle.cpu_set.specs.Ids.{Ids, is_same}
 use Rattle.cpuset_tree.specs.Groups.{requested_cpus}
 use Rattle.cpuset_tree.specs.TreeChanges.{with_cpus}
 use Rattle.proctable.specs.Processes.{is_alive}
-use Rattle.kernel_model.specs.declared.faults.KernelFault.{KernelFault}
-use Rattle.kernel_model.specs.declared.faults.KernelFault.TheVariants.{Failed}
+use Rattle.kernel_model.specs.declared.fault.KernelFault.{KernelFault}
+use Rattle.kernel_model.specs.declared.fault.KernelFault.TheVariants.{Failed}
 use Rattle.kernel_model.specs.KernelState.{KernelState, failed}
 use Rattle.apply_plan.specs.declared.entry.Entry.{Entry}
 use Rattle.apply_plan.specs.declared.scan.Write.{Write}

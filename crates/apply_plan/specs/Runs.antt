@@ -1,10 +1,10 @@
 -- What may happen while a hand-over is open, one event after another.
 use Rattle.std.specs.Prelude.{◌≡◌, ℕ, ◌+◌, ◌*◌, ◌<◌, ◌≤◌, false, cond, List, [], ◌∷◌, length, is_some, Result, Ok, Err}
 use Rattle.std.specs.List.{AllByRecursion}
+use Rattle.faults.specs.declared.OrMemory.{OrMemory}
 use Rattle.cpuset_tree.specs.declared.Group.{Group}
 use Rattle.cpuset_tree.specs.Groups.{same_group}
 use Rattle.kernel_model.specs.declared.KernelFault.{KernelFault}
-use Rattle.kernel_model.specs.declared.KernelError.{KernelError}
 use Rattle.kernel_model.specs.declared.Call.{Call}
 use Rattle.kernel_model.specs.declared.Call.TheVariants.{RemoveGroup, WriteCpus, WriteMems}
 use Rattle.kernel_model.specs.declared.Reply.{Reply}
@@ -20,7 +20,7 @@ use Rattle.apply_plan.specs.DueWrite.{due, Steps, writes_to_come, Between}
 -- a step of the hand-over with its answer, or a call of somebody else with its reply
 pub data Event : Type 0 where
   Stepped : Result Progress KernelFault → Event
-  Called : Call → Result Reply KernelError → Event
+  Called : Call → Result Reply (OrMemory KernelFault) → Event
 
 -- the group is none of the entries'
 abbrev pub IsNoEntrys : List Entry → Group → Type 0

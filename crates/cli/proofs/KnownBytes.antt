@@ -3,11 +3,12 @@ use Rattle.std.proofs.Common.{◌≡◌, ℕ, ◌+◌, ◌≤◌, List, ◌++◌
 use Rattle.std.proofs.KnownBytes.{Consumes-trans}
 use Rattle.std.specs.Io.KnownBytes.{Consumes, Keeps}
 use Rattle.std.specs.declared.io.ErrorKind.{ErrorKind}
-use Rattle.cli.specs.StoppedReads.{ConsumesUpTo, IsSystemFault, PassesBound, StopsWith}
-use Rattle.cli.specs.declared.read_error.ReadError.{ReadError}
-use Rattle.cli.specs.declared.read_error.ReadError.TheVariants.{Memory, Fault}
+use Rattle.cli.specs.ReadFaults.{IsTold}
+use Rattle.cli.specs.StoppedReads.{ConsumesUpTo, PassesBound, StopsWith}
+use Rattle.cli.specs.declared.read_fault.ReadFault.{ReadFault}
 use Rattle.cli.specs.declared.read_fault.ReadFault.TheVariants.{NoSuchFile, Directory, Forbidden, Failed, TooManyBytes, TooManyReads}
 use Rattle.cli.specs.declared.reading.TheConstants.{MOST_BYTES}
+use Rattle.faults.specs.declared.or_memory.OrMemory.TheVariants.{Fault}
 
 -- what was given before, and one piece more
 pub ConsumesUpTo-more : (most : ℕ) (a b c : Option (List ℕ)) (bs cs : List ℕ) (n : ℕ) → length bs + n ≤ most → Consumes a b bs → Consumes b c (take n cs) → ConsumesUpTo most a c
@@ -25,11 +26,10 @@ Consumes-kept (Some xs) (Some ys) None bs p k = absurd k
 Consumes-kept (Some xs) (Some ys) (Some zs) bs p k = rw k p
 
 -- at a fault that the system told no bound was passed
-pub StopsWith-told : (a c : Option (List ℕ)) (kind : ErrorKind) (e : ReadError) → IsSystemFault kind e → ConsumesUpTo MOST_BYTES a c → StopsWith a c e
-StopsWith-told a c kind Memory told within = absurd told
-StopsWith-told a c kind (Fault NoSuchFile) told within = within
-StopsWith-told a c kind (Fault Directory) told within = within
-StopsWith-told a c kind (Fault Forbidden) told within = within
-StopsWith-told a c kind (Fault Failed) told within = within
-StopsWith-told a c kind (Fault TooManyBytes) told within = absurd told
-StopsWith-told a c kind (Fault TooManyReads) told within = absurd told
+pub StopsWith-told : (a c : Option (List ℕ)) (kind : ErrorKind) (fault : ReadFault) → IsTold kind fault → ConsumesUpTo MOST_BYTES a c → StopsWith a c (Fault fault)
+StopsWith-told a c kind NoSuchFile told within = within
+StopsWith-told a c kind Directory told within = within
+StopsWith-told a c kind Forbidden told within = within
+StopsWith-told a c kind Failed told within = within
+StopsWith-told a c kind TooManyBytes told within = absurd told
+StopsWith-told a c kind TooManyReads told within = absurd told

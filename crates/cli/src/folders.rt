@@ -1,7 +1,7 @@
 //! Bundles that are folders.
 use crate::opens::Opens;
-use crate::read_error::ReadError;
 use crate::reading::read_all;
+use faults::OrMemory;
 use runtime::Bundles;
 use std::alloc::{AllocError, Global};
 
@@ -30,8 +30,8 @@ impl<F: Opens> Bundles for Folders<'_, F> {
         };
         match read_all(self.alloc, &mut file) {
             Ok(bytes) => Ok(Some(bytes)),
-            Err(ReadError::Memory) => Err(AllocError),
-            Err(ReadError::Fault(_)) => Ok(None),
+            Err(OrMemory::Memory) => Err(AllocError),
+            Err(OrMemory::Fault(_)) => Ok(None),
         }
     }
 }

@@ -8,7 +8,7 @@ use crate::folders::Folders;
 use crate::note::{Note, STANDARD_INPUT};
 use crate::opens::Opens;
 use crate::program::{REFUSED, UNWRITTEN, complain, say};
-use crate::read_error::ReadError;
+use crate::read_fault::ReadFault;
 use crate::refusal::Refusal;
 use crate::scripts::{play, set_up, unread};
 use crate::unready::Unready;
@@ -64,13 +64,13 @@ fn set_up_named<F: Opens>(
 {
     let machine = match files.open(machine) {
         Ok(file) => file,
-        Err(error) => return Err(Unready::Machine(Refusal::from(ReadError::from(error)))),
+        Err(error) => return Err(Unready::Machine(Refusal::ReadFault(ReadFault::from(error)))),
     };
     let table = match table {
         None => None,
         Some(name) => match files.open(name) {
             Ok(file) => Some(file),
-            Err(error) => return Err(Unready::Slit(Refusal::from(ReadError::from(error)))),
+            Err(error) => return Err(Unready::Slit(Refusal::ReadFault(ReadFault::from(error)))),
         },
     };
     set_up(alloc, machine, table)

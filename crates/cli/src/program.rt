@@ -21,12 +21,13 @@ use crate::note::{Note, shown};
 use crate::opens::Opens;
 use crate::page::Page;
 use crate::parse_fault::ParseFault;
-use crate::read_error::ReadError;
+use crate::read_fault::ReadFault;
 use crate::reading::{MOST_BYTES, read_all};
 use crate::refusal::Refusal;
 use crate::words::{Words, parse};
 use certificate_text::{Verdict, check_text};
 use clap::Error;
+use faults::OrMemory;
 use slit::Slit;
 use std::alloc::Global;
 use std::io;
@@ -119,14 +120,14 @@ fn read_named<F: Opens, R: Read>(
     name: &str,
     files: &F,
     input: &mut R,
-) -> Result<Vec<u8>, ReadError>
+) -> Result<Vec<u8>, OrMemory<ReadFault>>
     ensures { IfSome (input_of (F.bytes files.now) (R.remaining input.old) name.now) (λ bytes.
         MatchResult result (λ found. (vec_len found ≤ MOST_BYTES) × (found.items ≡ bytes)) (IsReadErrorOf bytes)) }
 {
     if name == "-" {
         return read_all(alloc, input);
     }
-    let mut file = files.open(name)?;
+    let mut file = files.open(name).map_err(ReadFault::from)?;
     read_all(alloc, &mut file)
 }
 

@@ -2,6 +2,7 @@ ghost use Rattle.std.specs.Prelude.{◌≡◌};
 ghost use Rattle.std.specs.IoError.{error_kind};
 ghost use Rattle.cli.specs.ReadFaults.{IsTold, reason_of};
 
+use faults::Fault;
 use std::io::{Error, ErrorKind};
 
 /// E113: why an input can't be opened or read to its end, as far as the system tells.
@@ -48,6 +49,8 @@ impl ReadFault {
         }
     }
 }
+
+impl Fault for ReadFault {}
 
 impl From<Error> for ReadFault {
     ghost from_gives = { λ error fault. IsTold (error_kind error) fault };

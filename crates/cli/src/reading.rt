@@ -2,8 +2,8 @@ ghost use Rattle.std.specs.Prelude.{◌≡◌, ◌≤◌, IfErr, IfOk, IfSome, O
 ghost use Rattle.std.specs.Io.KnownBytes.{IsAtEnd};
 ghost use Rattle.cli.specs.StoppedReads.{StopsWith};
 
-use crate::read_error::ReadError;
 use crate::read_fault::ReadFault;
+use faults::OrMemory;
 use std::alloc::Global;
 use std::io::Read;
 
@@ -22,7 +22,7 @@ const PIECE: usize = 65_536;
 /// `Fault` where a read fails, where [`MOST_READS`] reads haven't come to the end, or where there are more
 /// than [`MOST_BYTES`] bytes; `Memory` where there is none for them. The reader then gave what was read so far,
 /// at most [`MOST_BYTES`] bytes, and one more where there are too many.
-pub fn read_all<R: Read>(alloc: Global, reader: &mut R) -> Result<Vec<u8>, ReadError>
+pub fn read_all<R: Read>(alloc: Global, reader: &mut R) -> Result<Vec<u8>, OrMemory<ReadFault>>
     ensures bytes { IfOk result (λ bytes. IfSome (R.remaining reader.old) (λ all. bytes.items ≡ all)) }
     ensures end { OnOk result (IsAtEnd (R.remaining reader.new)) }
     ensures size { IfOk result (λ bytes. vec_len bytes ≤ MOST_BYTES) }
@@ -32,16 +32,19 @@ pub fn read_all<R: Read>(alloc: Global, reader: &mut R) -> Result<Vec<u8>, ReadE
     let mut buffer = [0u8; PIECE];
     for _ in 0..MOST_READS {
         let room = buffer.len().min(MOST_BYTES + 1 - bytes.len());
-        let count = reader.read(&mut buffer[..room])?;
+        let count = match reader.read(&mut buffer[..room]) {
+            Ok(count) => count,
+            Err(error) => return Err(OrMemory::Fault(ReadFault::from(error))),
+        };
         if count == 0 {
             return Ok(bytes);
         }
         if count > MOST_BYTES - bytes.len() {
-            return Err(ReadError::Fault(ReadFault::TooManyBytes));
+            return Err(OrMemory::Fault(ReadFault::TooManyBytes));
         }
         bytes.extend_from_slice(&buffer[..count])?;
     }
-    Err(ReadError::Fault(ReadFault::TooManyReads))
+    Err(OrMemory::Fault(ReadFault::TooManyReads))
 }
 
 #[cfg(test)]

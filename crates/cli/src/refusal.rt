@@ -6,7 +6,6 @@ ghost use Rattle.cpu_list.specs.Output.{Writes};
 
 use crate::answer::Printed;
 use crate::output::{put_argument, put_word};
-use crate::read_error::ReadError;
 use crate::read_fault::ReadFault;
 use certificate::CheckFault;
 use certificate_text::VerdictFault;
@@ -211,13 +210,13 @@ fn check_arguments(fault: CheckFault) -> Arguments
     }
 }
 
-impl From<ReadError> for Refusal {
+impl From<OrMemory<ReadFault>> for Refusal {
     ghost from_gives = { λ error refusal. refusal ≡ read_refusal error };
 
-    fn from(error: ReadError) -> Refusal {
+    fn from(error: OrMemory<ReadFault>) -> Refusal {
         match error {
-            ReadError::Memory => Refusal::Memory,
-            ReadError::Fault(fault) => Refusal::ReadFault(fault),
+            OrMemory::Memory => Refusal::Memory,
+            OrMemory::Fault(fault) => Refusal::ReadFault(fault),
         }
     }
 }

@@ -1,11 +1,11 @@
 -- What each call of a tree answers: the first thing that stands against it, in the order written here, or what it is for.
 use Rattle.std.specs.Prelude.{◌≡◌, ℕ, false, not, ◌==◌, if◌then◌else◌, List, Option, Some, None, is_some, Result, Ok, Err}
+use Rattle.faults.specs.declared.or_memory.OrMemory.{OrMemory}
+use Rattle.faults.specs.declared.or_memory.OrMemory.TheVariants.{Memory, Fault}
 use Rattle.cpuset_tree.specs.declared.TheConstants.{SERIAL_LIMIT}
 use Rattle.cpuset_tree.specs.declared.groups.Group.{Group}
-use Rattle.cpuset_tree.specs.declared.faults.TreeFault.{TreeFault}
-use Rattle.cpuset_tree.specs.declared.faults.TreeFault.TheVariants.{NoGroup, Exists, HasChildren, IsRoot, NoSerials}
-use Rattle.cpuset_tree.specs.declared.faults.TreeError.{TreeError}
-use Rattle.cpuset_tree.specs.declared.faults.TreeError.TheVariants.{Memory, Fault}
+use Rattle.cpuset_tree.specs.declared.fault.TreeFault.{TreeFault}
+use Rattle.cpuset_tree.specs.declared.fault.TreeFault.TheVariants.{NoGroup, Exists, HasChildren, IsRoot, NoSerials}
 use Rattle.cpuset_tree.specs.TreeState.{TreeState}
 use Rattle.cpuset_tree.specs.Groups.{has_group, has_children, child_of, is_root}
 use Rattle.cpuset_tree.specs.TreeChanges.{with_group}
@@ -46,7 +46,7 @@ pub record AddsGroup (old : TreeState) (parent : Group) (name : List ℕ) (g : G
   pub added : new ≡ with_group old g parent name
 
 -- a group is made, unless something stands against it; memory is asked for only once nothing does
-abbrev pub Makes : TreeState → Group → List ℕ → Result Group TreeError → TreeState → Type 0
+abbrev pub Makes : TreeState → Group → List ℕ → Result Group (OrMemory TreeFault) → TreeState → Type 0
 Makes old parent name (Ok g) new = (make_refusal old parent name ≡ None) × AddsGroup old parent name g new
 Makes old parent name (Err Memory) new = (make_refusal old parent name ≡ None) × (new ≡ old)
 Makes old parent name (Err (Fault fault)) new = (make_refusal old parent name ≡ Some fault) × (new ≡ old)

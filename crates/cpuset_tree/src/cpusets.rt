@@ -9,8 +9,9 @@ ghost use Rattle.cpuset_tree.specs.TreeLaws.{RunsUpThePath};
 
 use crate::groups::{Cgroup, Resource, Share, request_at};
 use crate::refresh::refresh;
-use crate::{Group, SERIAL_LIMIT, TreeError, TreeFault};
+use crate::{Group, SERIAL_LIMIT, TreeFault};
 use cpu_set::IdSet;
+use faults::OrMemory;
 use slab::Slab;
 use std::alloc::{AllocError, Global};
 use std::collections::VecDeque;
@@ -161,18 +162,18 @@ impl Tree {
     /// Makes a group below the parent, which requests nothing and so has all of its parent's in effect.
     ///
     /// Refused, in this order: [`TreeFault::NoGroup`], [`TreeFault::Exists`], [`TreeFault::NoSerials`].
-    pub fn make(&mut self, parent: Group, name: &str) -> Result<Group, TreeError>
+    pub fn make(&mut self, parent: Group, name: &str) -> Result<Group, OrMemory<TreeFault>>
         ensures { Makes self.old parent name.now result self.new }
     {
         let Some(above) = self.node(parent) else {
-            return Err(TreeError::Fault(TreeFault::NoGroup));
+            return Err(OrMemory::Fault(TreeFault::NoGroup));
         };
         let (cpus, mems) = (above.cpus.effective, above.mems.effective);
         if self.child(parent, name).is_some() {
-            return Err(TreeError::Fault(TreeFault::Exists));
+            return Err(OrMemory::Fault(TreeFault::Exists));
         }
         if self.next_serial == SERIAL_LIMIT {
-            return Err(TreeError::Fault(TreeFault::NoSerials));
+            return Err(OrMemory::Fault(TreeFault::NoSerials));
         }
         let name = String::from_str(self.alloc, name)?;
         Ok(self.add(parent, name, cpus, mems)?)

@@ -4,7 +4,7 @@
 #![tactic(auto)]
 
 mod cpusets;
-mod faults;
+mod fault;
 mod groups;
 pub mod laws;
 mod refresh;
@@ -12,7 +12,7 @@ mod refresh;
 mod tests;
 
 pub use cpusets::Tree;
-pub use faults::{TreeError, TreeFault};
+pub use fault::TreeFault;
 pub use groups::Group;
 
 /// Each serial is below this one, which is never given.

@@ -1,5 +1,6 @@
-use crate::{Group, Tree, TreeError, TreeFault};
+use crate::{Group, Tree, TreeFault};
 use cpu_set::IdSet;
+use faults::OrMemory;
 use std::process::Abort;
 use std::test::Fail;
 
@@ -16,7 +17,7 @@ fn ids(bits: u64) -> IdSet {
 
 // The tree's calls without their contracts, so that a test of many calls is proved in little time.
 
-fn make(tree: &mut Tree, parent: Group, name: &str) -> Result<Group, TreeError> {
+fn make(tree: &mut Tree, parent: Group, name: &str) -> Result<Group, OrMemory<TreeFault>> {
     tree.make(parent, name)
 }
 
@@ -74,7 +75,7 @@ fn refusals_come_in_their_order(rt: HostRuntime) -> Result<(), Fail> {
     let x = make(&mut tree, root, "x")?;
     let y = make(&mut tree, x, "y")?;
     let twice = make(&mut tree, x, "y");
-    assert_eq!(rt; twice, Err(TreeError::Fault(TreeFault::Exists)));
+    assert_eq!(rt; twice, Err(OrMemory::Fault(TreeFault::Exists)));
     for (group, wanted) in [
         (x, Err(TreeFault::HasChildren)),
         (y, Ok(())),
@@ -125,7 +126,7 @@ fn the_last_serial_is_given_once(rt: HostRuntime) -> Result<(), Fail> {
     assert_eq!(rt; root.serial, u64::MAX - 1);
     assert_eq!(rt;
         make(&mut tree, root, "x"),
-        Err(TreeError::Fault(TreeFault::NoSerials))
+        Err(OrMemory::Fault(TreeFault::NoSerials))
     );
     Ok(())
 }

@@ -1,11 +1,11 @@
 -- What holds of an answer and of the state after a call.
 use Rattle.std.proofs.Common.{◌≡◌, false, refl, sym, subst}
 use Rattle.std.specs.Prelude.{Option, Some, None, Result, Ok, Err}
+use Rattle.faults.specs.declared.or_memory.OrMemory.{OrMemory}
+use Rattle.faults.specs.declared.or_memory.OrMemory.TheVariants.{Memory, Fault}
 use Rattle.cpuset_tree.specs.TreeAnswers.{Decides}
-use Rattle.kernel_model.specs.declared.faults.KernelFault.{KernelFault}
-use Rattle.kernel_model.specs.declared.faults.KernelFault.TheVariants.{Failed}
-use Rattle.kernel_model.specs.declared.faults.KernelError.{KernelError}
-use Rattle.kernel_model.specs.declared.faults.KernelError.TheVariants.{Memory, Fault}
+use Rattle.kernel_model.specs.declared.fault.KernelFault.{KernelFault}
+use Rattle.kernel_model.specs.declared.fault.KernelFault.TheVariants.{Failed}
 use Rattle.kernel_model.specs.KernelState.{KernelState, failed}
 use Rattle.kernel_model.specs.Cases.{Writes, Grows, GrowingWrites, is_failed}
 
@@ -26,18 +26,18 @@ module _ {A : Type 0} (refusal : Option KernelFault) (Does : A → KernelState �
     Decides-answers (Err fault) new h = subst (λ (k : KernelState). P (Err fault) k) (sym h.1) (kept fault h.0)
 
   -- the same where memory is asked for, and of want of it
-  module _ (P : Result A KernelError → KernelState → Type 0)
+  module _ (P : Result A (OrMemory KernelFault) → KernelState → Type 0)
       (does : (value : A) (new : KernelState) → refusal ≡ None → Does value new → P (Ok value) new) (wants : P (Err Memory) old)
       (kept : (fault : KernelFault) → refusal ≡ Some fault → P (Err (Fault fault)) old) where
-    pub Grows-answers : (answer : Result A KernelError) (new : KernelState) → Grows refusal Does old answer new → P answer new
+    pub Grows-answers : (answer : Result A (OrMemory KernelFault)) (new : KernelState) → Grows refusal Does old answer new → P answer new
     Grows-answers (Ok value) new h = does value new h.0 h.1
     Grows-answers (Err Memory) new h = subst (λ (k : KernelState). P (Err Memory) k) (sym h.1) wants
     Grows-answers (Err (Fault fault)) new h = subst (λ (k : KernelState). P (Err (Fault fault)) k) (sym h.1) (kept fault h.0)
 
-  module _ (P : Result A KernelError → KernelState → Type 0)
+  module _ (P : Result A (OrMemory KernelFault) → KernelState → Type 0)
       (does : (value : A) (new : KernelState) → refusal ≡ None → Does value new → P (Ok value) new) (wants : P (Err Memory) old)
       (fails : P (Err (Fault Failed)) (failed old)) (kept : (fault : KernelFault) → is_failed fault ≡ false → refusal ≡ Some fault → P (Err (Fault fault)) old) where
-    pub GrowingWrites-answers : (answer : Result A KernelError) (new : KernelState) → GrowingWrites refusal Does old answer new → P answer new
+    pub GrowingWrites-answers : (answer : Result A (OrMemory KernelFault)) (new : KernelState) → GrowingWrites refusal Does old answer new → P answer new
     GrowingWrites-answers (Ok value) new h = does value new h.0 h.1
     GrowingWrites-answers (Err Memory) new h = subst (λ (k : KernelState). P (Err Memory) k) (sym h.1) wants
     GrowingWrites-answers (Err (Fault Failed)) new h = subst (λ (k : KernelState). P (Err (Fault Failed)) k) (sym h) fails
@@ -49,12 +49,12 @@ module _ {A : Type 0} (P : KernelState → Type 0) (refusal : Option KernelFault
   pub Decides-keeps : (answer : Result A KernelFault) (new : KernelState) → Decides refusal Does old answer new → P new
   Decides-keeps = Decides-answers refusal Does old (λ _. P) does (λ fault against. kept)
 
-  pub Grows-keeps : (answer : Result A KernelError) (new : KernelState) → Grows refusal Does old answer new → P new
+  pub Grows-keeps : (answer : Result A (OrMemory KernelFault)) (new : KernelState) → Grows refusal Does old answer new → P new
   Grows-keeps = Grows-answers refusal Does old (λ _. P) does kept (λ fault against. kept)
 
   module _ (fails : P (failed old)) where
     pub Writes-keeps : (answer : Result A KernelFault) (new : KernelState) → Writes refusal Does old answer new → P new
     Writes-keeps = Writes-answers refusal Does old (λ _. P) does fails (λ fault other against. kept)
 
-    pub GrowingWrites-keeps : (answer : Result A KernelError) (new : KernelState) → GrowingWrites refusal Does old answer new → P new
+    pub GrowingWrites-keeps : (answer : Result A (OrMemory KernelFault)) (new : KernelState) → GrowingWrites refusal Does old answer new → P new
     GrowingWrites-keeps = GrowingWrites-answers refusal Does old (λ _. P) does kept fails (λ fault other against. kept)

@@ -1,6 +1,8 @@
 -- One case for each call of a kernel: what it answers, and what it changes.
 use Rattle.std.specs.Prelude.{◌≡◌, ℕ, Bool, true, false, cond, if◌then◌else◌, List, Option, None, Result, Ok, Err}
 use Rattle.std.specs.FinSet as set
+use Rattle.faults.specs.declared.or_memory.OrMemory.{OrMemory}
+use Rattle.faults.specs.declared.or_memory.OrMemory.TheVariants.{Memory, Fault}
 use Rattle.cpu_set.specs.Ids.{Ids}
 use Rattle.cpuset_tree.specs.declared.Group.{Group}
 use Rattle.cpuset_tree.specs.Groups.{has_group}
@@ -10,10 +12,8 @@ use Rattle.cpuset_tree.specs.TreeAnswers.{Decides, AddsGroup}
 use Rattle.proctable.specs.TableState.{TableState}
 use Rattle.proctable.specs.TableChanges.{exited, ended_in}
 use Rattle.proctable.specs.TableAnswers.{AddsProcess, ForksOf}
-use Rattle.kernel_model.specs.declared.faults.KernelFault.{KernelFault}
-use Rattle.kernel_model.specs.declared.faults.KernelFault.TheVariants.{NoGroup, Failed}
-use Rattle.kernel_model.specs.declared.faults.KernelError.{KernelError}
-use Rattle.kernel_model.specs.declared.faults.KernelError.TheVariants.{Memory, Fault}
+use Rattle.kernel_model.specs.declared.fault.KernelFault.{KernelFault}
+use Rattle.kernel_model.specs.declared.fault.KernelFault.TheVariants.{NoGroup, Failed}
 use Rattle.kernel_model.specs.KernelState.{KernelState, failed}
 use Rattle.kernel_model.specs.Refusals.{make_refusal, remove_refusal, write_refusal, spawn_refusal, end_refusal, fork_refusal, exit_refusal, offline_refusal, online_refusal}
 
@@ -27,7 +27,7 @@ abbrev pub rise : {A : Type 0} → Result A KernelFault → ℕ
 rise (Ok value) = 0
 rise (Err fault) = cond (is_failed fault) 1 0
 
-abbrev pub rise_or_memory : {A : Type 0} → Result A KernelError → ℕ
+abbrev pub rise_or_memory : {A : Type 0} → Result A (OrMemory KernelFault) → ℕ
 rise_or_memory (Ok value) = 0
 rise_or_memory (Err Memory) = 0
 rise_or_memory (Err (Fault fault)) = cond (is_failed fault) 1 0
@@ -41,13 +41,13 @@ module _ {A : Type 0} (refusal : Option KernelFault) (Does : A → KernelState �
   Writes (Err fault) new = Decides refusal Does old (Err fault) new
 
   -- an event that needs memory: the same as one that needs none, or want of it, once nothing stands against the event
-  abbrev pub Grows : Result A KernelError → KernelState → Type 0
+  abbrev pub Grows : Result A (OrMemory KernelFault) → KernelState → Type 0
   Grows (Ok value) new = Decides refusal Does old (Ok value) new
   Grows (Err Memory) new = (refusal ≡ None) × (new ≡ old)
   Grows (Err (Fault fault)) new = Decides refusal Does old (Err fault) new
 
   -- a write that needs memory
-  abbrev pub GrowingWrites : Result A KernelError → KernelState → Type 0
+  abbrev pub GrowingWrites : Result A (OrMemory KernelFault) → KernelState → Type 0
   GrowingWrites (Ok value) new = Decides refusal Does old (Ok value) new
   GrowingWrites (Err Memory) new = (refusal ≡ None) × (new ≡ old)
   GrowingWrites (Err (Fault fault)) new = Writes (Err fault) new
@@ -65,7 +65,7 @@ pub record InTable (Does : TableState → Type 0) (old new : KernelState) : Type
 abbrev pub MakesGroupOf : KernelState → Group → List ℕ → Group → KernelState → Type 0
 MakesGroupOf old parent name g = InTree (AddsGroup old.tree parent name g) old
 
-abbrev pub MakesGroup : KernelState → Group → List ℕ → Result Group KernelError → KernelState → Type 0
+abbrev pub MakesGroup : KernelState → Group → List ℕ → Result Group (OrMemory KernelFault) → KernelState → Type 0
 MakesGroup old parent name = GrowingWrites (make_refusal old parent name) (MakesGroupOf old parent name) old
 
 -- a group is removed
@@ -83,7 +83,7 @@ WritesMems old g mems = Writes (write_refusal old g) (λ _ new. new ≡ record o
 abbrev pub SpawnsIn : KernelState → Group → ℕ → KernelState → Type 0
 SpawnsIn old g pid = InTable (AddsProcess old.table g pid pid) old
 
-abbrev pub Spawns : KernelState → Group → Result ℕ KernelError → KernelState → Type 0
+abbrev pub Spawns : KernelState → Group → Result ℕ (OrMemory KernelFault) → KernelState → Type 0
 Spawns old g = GrowingWrites (spawn_refusal old g) (SpawnsIn old g) old
 
 -- all processes of a group end
@@ -94,7 +94,7 @@ EndsGroup old g = Writes (end_refusal old g) (λ _ new. new ≡ record old { tab
 abbrev pub ForksIn : KernelState → ℕ → ℕ → KernelState → Type 0
 ForksIn old parent pid = InTable (ForksOf old.table parent pid) old
 
-abbrev pub Forks : KernelState → ℕ → Result ℕ KernelError → KernelState → Type 0
+abbrev pub Forks : KernelState → ℕ → Result ℕ (OrMemory KernelFault) → KernelState → Type 0
 Forks old parent = Grows (fork_refusal old parent) (ForksIn old parent) old
 
 -- a process ends, and all that belong to it if it is a first one

@@ -1,16 +1,12 @@
 -- The refusals of a tree and of a table as a kernel's.
+use Rattle.faults.specs.declared.or_memory.OrMemory.{OrMemory}
+use Rattle.faults.specs.declared.or_memory.OrMemory.TheVariants.{Memory, Fault}
 use Rattle.cpuset_tree.specs.declared.TreeFault.{TreeFault}
 use Rattle.cpuset_tree.specs.declared.TreeFault.TheVariants as tree
-use Rattle.cpuset_tree.specs.declared.TreeError.{TreeError}
-use Rattle.cpuset_tree.specs.declared.TreeError.TheVariants as tree_error
 use Rattle.proctable.specs.declared.ProcFault.{ProcFault}
 use Rattle.proctable.specs.declared.ProcFault.TheVariants as proc
-use Rattle.proctable.specs.declared.ProcError.{ProcError}
-use Rattle.proctable.specs.declared.ProcError.TheVariants as proc_error
-use Rattle.kernel_model.specs.declared.faults.KernelFault.{KernelFault}
-use Rattle.kernel_model.specs.declared.faults.KernelFault.TheVariants.{NoGroup, Exists, HasChildren, IsRoot, NoSerials, NoPids, NoProcess}
-use Rattle.kernel_model.specs.declared.faults.KernelError.{KernelError}
-use Rattle.kernel_model.specs.declared.faults.KernelError.TheVariants.{Memory, Fault}
+use Rattle.kernel_model.specs.declared.fault.KernelFault.{KernelFault}
+use Rattle.kernel_model.specs.declared.fault.KernelFault.TheVariants.{NoGroup, Exists, HasChildren, IsRoot, NoSerials, NoPids, NoProcess}
 
 -- a refusal of the tree
 abbrev pub of_tree : TreeFault → KernelFault
@@ -20,15 +16,15 @@ of_tree tree.HasChildren = HasChildren
 of_tree tree.IsRoot = IsRoot
 of_tree tree.NoSerials = NoSerials
 
-abbrev pub of_tree_error : TreeError → KernelError
-of_tree_error tree_error.Memory = Memory
-of_tree_error (tree_error.Fault fault) = Fault (of_tree fault)
+abbrev pub of_tree_error : OrMemory TreeFault → OrMemory KernelFault
+of_tree_error Memory = Memory
+of_tree_error (Fault fault) = Fault (of_tree fault)
 
 -- a refusal of the table
 abbrev pub of_proc : ProcFault → KernelFault
 of_proc proc.NoPids = NoPids
 of_proc proc.NoProcess = NoProcess
 
-abbrev pub of_proc_error : ProcError → KernelError
-of_proc_error proc_error.Memory = Memory
-of_proc_error (proc_error.Fault fault) = Fault (of_proc fault)
+abbrev pub of_proc_error : OrMemory ProcFault → OrMemory KernelFault
+of_proc_error Memory = Memory
+of_proc_error (Fault fault) = Fault (of_proc fault)

@@ -4,6 +4,7 @@ use Rattle.std.proofs.lemmas.Bool.{both_ways}
 use Rattle.std.proofs.lemmas.Option.{same_Some, none-some}
 use Rattle.std.specs.Prelude.{Option, Some, None, Result, Ok, is_some, ◌==◌}
 use Rattle.std.specs.FinSet as set
+use Rattle.faults.specs.declared.or_memory.OrMemory.{OrMemory}
 use Rattle.cpu_set.specs.Ids.{Ids}
 use Rattle.cpu_set.specs.Pointwise.{contains-insert, contains-remove, is_subset-contains, contains-is_subset}
 use Rattle.cpuset_tree.specs.declared.Group.{Group}
@@ -22,8 +23,7 @@ use Rattle.proctable.specs.TableAnswers.{AddsProcess}
 use Rattle.proctable.specs.TableLaws.{ProcessAdded, SomeEnd}
 use Rattle.proctable.specs.TableWellFormed as table_formed
 use Rattle.proctable.specs.TableLemmas as table
-use Rattle.kernel_model.specs.declared.faults.KernelFault.{KernelFault}
-use Rattle.kernel_model.specs.declared.faults.KernelError.{KernelError}
+use Rattle.kernel_model.specs.declared.fault.KernelFault.{KernelFault}
 use Rattle.kernel_model.specs.declared.call.Call.TheVariants.{MakeGroup, RemoveGroup, WriteCpus, WriteMems, Spawn, EndGroup, Root, FindGroup, RequestedCpus, EffectiveCpus, RequestedMems, EffectiveMems, Online, Nodes, FirstAlive, Fork, Exit, Offline, OnlineCpu}
 use Rattle.kernel_model.specs.KernelState.{KernelState, failed}
 use Rattle.kernel_model.specs.Refusals.{make_refusal, remove_refusal, write_refusal, spawn_refusal, end_refusal, fork_refusal, exit_refusal, offline_refusal, online_refusal}
@@ -184,7 +184,8 @@ module _ (old : KernelState) where
         keeps_with_table t well (λ q p at. w.placed q p (left_after_end t ends some q p at))
         (record { rise = omega arith; same = λ q p _. left_after_end t ends some q p })
 
-    pub MakesGroup-keeps : (parent : Group) (name : List ℕ) (r : Result Group KernelError) (new : KernelState) → MakesGroup old parent name r new → StepKeeps old new
+    pub MakesGroup-keeps : (parent : Group) (name : List ℕ) (r : Result Group (OrMemory KernelFault)) (new : KernelState) → MakesGroup old parent name r new
+        → StepKeeps old new
     MakesGroup-keeps parent name =
         GrowingWrites-keeps (StepKeeps old) (make_refusal old parent name) (MakesGroupOf old parent name) old
         (λ g new none does. subst (λ (k : KernelState). StepKeeps old k) (sym does.rest) (
@@ -225,7 +226,7 @@ module _ (old : KernelState) where
         (λ q p at there. (tree.writes_request.1 old.tree g mems).there p.group ∙ there) refl refl ((tree.serials_given_once old.tree).mems g mems)))
         (keeps_itself w) (keeps_failed w)
 
-    pub Spawns-keeps : (g : Group) (r : Result ℕ KernelError) (new : KernelState) → Spawns old g r new → StepKeeps old new
+    pub Spawns-keeps : (g : Group) (r : Result ℕ (OrMemory KernelFault)) (new : KernelState) → Spawns old g r new → StepKeeps old new
     Spawns-keeps g =
         GrowingWrites-keeps (StepKeeps old) (spawn_refusal old g) (SpawnsIn old g) old
         (λ pid new none does. subst (λ (k : KernelState). StepKeeps old k) (sym does.rest)
@@ -240,7 +241,7 @@ module _ (old : KernelState) where
         (keeps_with_fewer (ended_in old.table g) (λ p. same_group p.group g) (table.ended_leaves old.table g w.table) ((table.stays_well_formed old.table w.table).ended g) refl))
         (keeps_itself w) (keeps_failed w)
 
-    pub Forks-keeps : (parent : ℕ) (r : Result ℕ KernelError) (new : KernelState) → Forks old parent r new → StepKeeps old new
+    pub Forks-keeps : (parent : ℕ) (r : Result ℕ (OrMemory KernelFault)) (new : KernelState) → Forks old parent r new → StepKeeps old new
     Forks-keeps parent =
         Grows-keeps (StepKeeps old) (fork_refusal old parent) (ForksIn old parent) old
         (λ pid new none does. subst (λ (k : KernelState). StepKeeps old k) (sym does.rest) (
@@ -496,7 +497,8 @@ module _ {A : Type 0} (refusal : Option KernelFault) (Does : A → KernelState �
   Writes-count = Writes-answers refusal Does old (λ r k. k.failures ≡ old.failures + rise r)
       (λ value new _ d. let same : new.failures ≡ old.failures = does value new d in omega arith) refl (λ fault other _. not_risen fault other)
 
-  GrowingWrites-count : (r : Result A KernelError) (new : KernelState) → GrowingWrites refusal Does old r new → new.failures ≡ old.failures + rise_or_memory r
+  GrowingWrites-count : (r : Result A (OrMemory KernelFault)) (new : KernelState) → GrowingWrites refusal Does old r new
+      → new.failures ≡ old.failures + rise_or_memory r
   GrowingWrites-count = GrowingWrites-answers refusal Does old (λ r k. k.failures ≡ old.failures + rise_or_memory r)
       (λ value new _ d. let same : new.failures ≡ old.failures = does value new d in omega arith) (omega arith) refl (λ fault other _. not_risen fault other)
 

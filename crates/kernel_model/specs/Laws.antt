@@ -1,6 +1,7 @@
 -- What each case leaves of a kernel, for those that stand on the trait alone.
 use Rattle.std.specs.Prelude.{◌≡◌, ◌≢◌, ◌↔◌, ℕ, ◌+◌, ◌<◌, ◌≤◌, true, false, List, Some, None, is_some, Result, IfOk, OnErr}
 use Rattle.std.specs.FinSet as set
+use Rattle.faults.specs.declared.or_memory.OrMemory.{OrMemory}
 use Rattle.cpu_set.specs.Ids.{Ids}
 use Rattle.cpuset_tree.specs.declared.Group.{Group}
 use Rattle.cpuset_tree.specs.declared.TheConstants.{SERIAL_LIMIT}
@@ -11,9 +12,8 @@ use Rattle.proctable.specs.declared.TheConstants.{LAST_PID}
 use Rattle.proctable.specs.Processes.{process_of, is_alive, count_in}
 use Rattle.proctable.specs.TableChanges.{ends_with}
 use Rattle.proctable.specs.TableLaws.{ProcessAdded, SomeEnd}
-use Rattle.kernel_model.specs.declared.faults.KernelFault.{KernelFault}
-use Rattle.kernel_model.specs.declared.faults.KernelFault.TheVariants.{NoGroup, Exists, HasChildren, HasProcesses, IsRoot, NoPids, NoProcess, NoSerials, Reserved, NoCpu}
-use Rattle.kernel_model.specs.declared.faults.KernelError.{KernelError}
+use Rattle.kernel_model.specs.declared.fault.KernelFault.{KernelFault}
+use Rattle.kernel_model.specs.declared.fault.KernelFault.TheVariants.{NoGroup, Exists, HasChildren, HasProcesses, IsRoot, NoPids, NoProcess, NoSerials, Reserved, NoCpu}
 use Rattle.kernel_model.specs.declared.call.Call.{Call}
 use Rattle.kernel_model.specs.declared.call.Reply.{Reply}
 use Rattle.kernel_model.specs.KernelState.{KernelState, IsFirstKernel}
@@ -41,14 +41,15 @@ pub record KeepsPids (old new : KernelState) : Type 0 where
 
 -- a fork, an end of a process, a CPU that goes and one that comes leave what every group requests
 pub record EventsKeepGroups : Type 0 where
-  pub fork : (old new : KernelState) (parent : ℕ) (r : Result ℕ KernelError) → Forks old parent r new → KeepsGroups old new × (new.tree.online ≡ old.tree.online)
+  pub fork : (old new : KernelState) (parent : ℕ) (r : Result ℕ (OrMemory KernelFault)) → Forks old parent r new
+      → KeepsGroups old new × (new.tree.online ≡ old.tree.online)
   pub exit : (old new : KernelState) (pid : ℕ) (r : Result (Unit {0}) KernelFault) → Exits old pid r new → KeepsGroups old new × (new.tree.online ≡ old.tree.online)
   pub offline : (old new : KernelState) (cpu : ℕ) (r : Result (Unit {0}) KernelFault) → GoesOffline old cpu r new → KeepsGroups old new × (new.table ≡ old.table)
   pub online : (old new : KernelState) (cpu : ℕ) (r : Result (Unit {0}) KernelFault) → ComesOnline old cpu r new → KeepsGroups old new × (new.table ≡ old.table)
 
 -- a write of groups leaves the processes and the online CPUs
 pub record WritesKeepProcesses : Type 0 where
-  pub make : (old new : KernelState) (parent : Group) (name : List ℕ) (r : Result Group KernelError) → MakesGroup old parent name r new
+  pub make : (old new : KernelState) (parent : Group) (name : List ℕ) (r : Result Group (OrMemory KernelFault)) → MakesGroup old parent name r new
       → (new.table ≡ old.table) × (new.tree.online ≡ old.tree.online)
   pub remove : (old new : KernelState) (g : Group) (r : Result (Unit {0}) KernelFault) → RemovesGroup old g r new
       → (new.table ≡ old.table) × (new.tree.online ≡ old.tree.online)
@@ -59,7 +60,7 @@ pub record WritesKeepProcesses : Type 0 where
 
 -- a write of processes leaves the tree
 pub record WritesKeepTree : Type 0 where
-  pub spawn : (old new : KernelState) (g : Group) (r : Result ℕ KernelError) → Spawns old g r new → new.tree ≡ old.tree
+  pub spawn : (old new : KernelState) (g : Group) (r : Result ℕ (OrMemory KernelFault)) → Spawns old g r new → new.tree ≡ old.tree
   pub end : (old new : KernelState) (g : Group) (r : Result (Unit {0}) KernelFault) → EndsGroup old g r new → new.tree ≡ old.tree
 
 -- what a write of a group's CPUs leaves, whatever it answers: they are what the group requests where it is Ok, the tree is
@@ -82,7 +83,7 @@ pub record MemsWriteLeaves (old : KernelState) (g : Group) (mems : Ids) (r : Res
   pub places : StandAlike old.tree new.tree
 
 -- a new group is the only one that differs, and it requests nothing
-pub record MakeLeaves (old : KernelState) (parent : Group) (name : List ℕ) (r : Result Group KernelError) (new : KernelState) : Type 0 where
+pub record MakeLeaves (old : KernelState) (parent : Group) (name : List ℕ) (r : Result Group (OrMemory KernelFault)) (new : KernelState) : Type 0 where
   pub made : IfOk r (λ g. GroupAdded old.tree new.tree parent name g)
   pub refused : OnErr r (new.tree ≡ old.tree)
   pub cpus : (p : Group) → requested_cpus new.tree p ≡ requested_cpus old.tree p
@@ -95,13 +96,14 @@ pub record RemoveLeaves (old : KernelState) (g : Group) (r : Result (Unit {0}) K
   pub apart : (p : Group) → same_group g p ≡ false → entry_of new.tree p ≡ entry_of old.tree p
 
 pub record WritesLeaveGroups : Type 0 where
-  pub make : (old new : KernelState) (parent : Group) (name : List ℕ) (r : Result Group KernelError) → MakesGroup old parent name r new → MakeLeaves old parent name r new
+  pub make : (old new : KernelState) (parent : Group) (name : List ℕ) (r : Result Group (OrMemory KernelFault)) → MakesGroup old parent name r new
+      → MakeLeaves old parent name r new
   pub remove : (old new : KernelState) (g : Group) (r : Result (Unit {0}) KernelFault) → RemovesGroup old g r new → RemoveLeaves old g r new
   pub cpus : (old new : KernelState) (g : Group) (cpus : Ids) (r : Result (Unit {0}) KernelFault) → WritesCpus old g cpus r new → CpusWriteLeaves old g cpus r new
   pub mems : (old new : KernelState) (g : Group) (mems : Ids) (r : Result (Unit {0}) KernelFault) → WritesMems old g mems r new → MemsWriteLeaves old g mems r new
 
 -- a new process is the only one that differs
-pub record SpawnLeaves (old : KernelState) (g : Group) (r : Result ℕ KernelError) (new : KernelState) : Type 0 where
+pub record SpawnLeaves (old : KernelState) (g : Group) (r : Result ℕ (OrMemory KernelFault)) (new : KernelState) : Type 0 where
   pub made : IfOk r (λ pid. ProcessAdded old.table new.table g pid pid)
   pub refused : OnErr r (new.table ≡ old.table)
 
@@ -111,7 +113,7 @@ pub record ForkAdds (old new : KernelState) (parent pid : ℕ) : Type 0 where
   pub there : process_of old.table parent ≡ Some process
   pub added : ProcessAdded old.table new.table process.group process.first pid
 
-pub record ForkLeaves (old : KernelState) (parent : ℕ) (r : Result ℕ KernelError) (new : KernelState) : Type 0 where
+pub record ForkLeaves (old : KernelState) (parent : ℕ) (r : Result ℕ (OrMemory KernelFault)) (new : KernelState) : Type 0 where
   pub made : IfOk r (ForkAdds old new parent)
   pub refused : OnErr r (new.table ≡ old.table)
 
@@ -127,18 +129,19 @@ pub record ExitLeaves (old : KernelState) (pid : ℕ) (r : Result (Unit {0}) Ker
   pub refused : OnErr r (new.table ≡ old.table)
 
 pub record CallsLeaveProcesses : Type 0 where
-  pub spawn : (old new : KernelState) (g : Group) (r : Result ℕ KernelError) → Spawns old g r new → SpawnLeaves old g r new
+  pub spawn : (old new : KernelState) (g : Group) (r : Result ℕ (OrMemory KernelFault)) → Spawns old g r new → SpawnLeaves old g r new
   pub end : (old new : KernelState) (g : Group) (r : Result (Unit {0}) KernelFault) → IsWellFormed old → EndsGroup old g r new → EndLeaves old g r new
-  pub fork : (old new : KernelState) (parent : ℕ) (r : Result ℕ KernelError) → Forks old parent r new → ForkLeaves old parent r new
+  pub fork : (old new : KernelState) (parent : ℕ) (r : Result ℕ (OrMemory KernelFault)) → Forks old parent r new → ForkLeaves old parent r new
   pub exit : (old new : KernelState) (pid : ℕ) (r : Result (Unit {0}) KernelFault) → IsWellFormed old → Exits old pid r new → ExitLeaves old pid r new
 
 -- a write that fails is counted, and no other
 pub record WritesCount : Type 0 where
-  pub make : (old new : KernelState) (parent : Group) (name : List ℕ) (r : Result Group KernelError) → MakesGroup old parent name r new → new.failures ≡ old.failures + rise_or_memory r
+  pub make : (old new : KernelState) (parent : Group) (name : List ℕ) (r : Result Group (OrMemory KernelFault)) → MakesGroup old parent name r new
+      → new.failures ≡ old.failures + rise_or_memory r
   pub remove : (old new : KernelState) (g : Group) (r : Result (Unit {0}) KernelFault) → RemovesGroup old g r new → new.failures ≡ old.failures + rise r
   pub cpus : (old new : KernelState) (g : Group) (cpus : Ids) (r : Result (Unit {0}) KernelFault) → WritesCpus old g cpus r new → new.failures ≡ old.failures + rise r
   pub mems : (old new : KernelState) (g : Group) (mems : Ids) (r : Result (Unit {0}) KernelFault) → WritesMems old g mems r new → new.failures ≡ old.failures + rise r
-  pub spawn : (old new : KernelState) (g : Group) (r : Result ℕ KernelError) → Spawns old g r new → new.failures ≡ old.failures + rise_or_memory r
+  pub spawn : (old new : KernelState) (g : Group) (r : Result ℕ (OrMemory KernelFault)) → Spawns old g r new → new.failures ≡ old.failures + rise_or_memory r
   pub end : (old new : KernelState) (g : Group) (r : Result (Unit {0}) KernelFault) → EndsGroup old g r new → new.failures ≡ old.failures + rise r
 
 -- when nothing stands against a call
@@ -227,13 +230,13 @@ pub record StepKeeps (old new : KernelState) : Type 0 where
 
 -- the same of each case
 pub record CasesKeep (old new : KernelState) : Type 0 where
-  pub make : (parent : Group) (name : List ℕ) (r : Result Group KernelError) → MakesGroup old parent name r new → StepKeeps old new
+  pub make : (parent : Group) (name : List ℕ) (r : Result Group (OrMemory KernelFault)) → MakesGroup old parent name r new → StepKeeps old new
   pub remove : (g : Group) (r : Result (Unit {0}) KernelFault) → RemovesGroup old g r new → StepKeeps old new
   pub cpus : (g : Group) (cpus : Ids) (r : Result (Unit {0}) KernelFault) → WritesCpus old g cpus r new → StepKeeps old new
   pub mems : (g : Group) (mems : Ids) (r : Result (Unit {0}) KernelFault) → WritesMems old g mems r new → StepKeeps old new
-  pub spawn : (g : Group) (r : Result ℕ KernelError) → Spawns old g r new → StepKeeps old new
+  pub spawn : (g : Group) (r : Result ℕ (OrMemory KernelFault)) → Spawns old g r new → StepKeeps old new
   pub end : (g : Group) (r : Result (Unit {0}) KernelFault) → EndsGroup old g r new → StepKeeps old new
-  pub fork : (parent : ℕ) (r : Result ℕ KernelError) → Forks old parent r new → StepKeeps old new
+  pub fork : (parent : ℕ) (r : Result ℕ (OrMemory KernelFault)) → Forks old parent r new → StepKeeps old new
   pub exit : (pid : ℕ) (r : Result (Unit {0}) KernelFault) → Exits old pid r new → StepKeeps old new
   pub offline : (cpu : ℕ) (r : Result (Unit {0}) KernelFault) → GoesOffline old cpu r new → StepKeeps old new
   pub online : (cpu : ℕ) (r : Result (Unit {0}) KernelFault) → ComesOnline old cpu r new → StepKeeps old new
@@ -242,11 +245,12 @@ abbrev pub EachCaseKeeps : Type 0
 EachCaseKeeps = (old new : KernelState) → IsWellFormed old → CasesKeep old new
 
 abbrev pub StepsKeep : Type 0
-StepsKeep = (old new : KernelState) (call : Call) (r : Result Reply KernelError) → IsWellFormed old → Step old call r new → StepKeeps old new
+StepsKeep = (old new : KernelState) (call : Call) (r : Result Reply (OrMemory KernelFault)) → IsWellFormed old → Step old call r new → StepKeeps old new
 
 -- and so does each list of calls
 abbrev pub RunsKeep : Type 0
-RunsKeep = (old new : KernelState) (calls : List Call) (replies : List (Result Reply KernelError)) → IsWellFormed old → Run old calls replies new → StepKeeps old new
+RunsKeep = (old new : KernelState) (calls : List Call) (replies : List (Result Reply (OrMemory KernelFault))) → IsWellFormed old → Run old calls replies new
+    → StepKeeps old new
 
 -- a group that is not there has no process, and so a new one has none
 abbrev pub EmptyWhereNoGroup : Type 0

@@ -12,8 +12,8 @@ use Rattle.cpuset_tree.specs.Groups.{has_group, has_children, child_of, is_root}
 use Rattle.proctable.specs.declared.TheConstants.{LAST_PID}
 use Rattle.proctable.specs.declared.ProcFault.TheVariants as proc
 use Rattle.proctable.specs.Processes.{is_alive, count_in}
-use Rattle.kernel_model.specs.declared.faults.KernelFault.{KernelFault}
-use Rattle.kernel_model.specs.declared.faults.KernelFault.TheVariants.{NoGroup, Exists, HasChildren, HasProcesses, IsRoot, NoPids, NoProcess, NoSerials, Reserved, NoCpu}
+use Rattle.kernel_model.specs.declared.fault.KernelFault.{KernelFault}
+use Rattle.kernel_model.specs.declared.fault.KernelFault.TheVariants.{NoGroup, Exists, HasChildren, HasProcesses, IsRoot, NoPids, NoProcess, NoSerials, Reserved, NoCpu}
 use Rattle.kernel_model.specs.Faults.{of_tree, of_proc}
 use Rattle.kernel_model.specs.KernelState.{KernelState}
 use Rattle.kernel_model.specs.Refusals.{or_then, make_refusal, remove_refusal, write_refusal, spawn_refusal, fork_refusal}

@@ -6,8 +6,8 @@ use Rattle.cpuset_tree.specs.Groups.{has_group}
 use Rattle.cpuset_tree.specs.TreeAnswers as tree
 use Rattle.proctable.specs.Processes.{count_in}
 use Rattle.proctable.specs.TableAnswers as table
-use Rattle.kernel_model.specs.declared.faults.KernelFault.{KernelFault}
-use Rattle.kernel_model.specs.declared.faults.KernelFault.TheVariants.{NoGroup, HasProcesses, Reserved, NoCpu}
+use Rattle.kernel_model.specs.declared.fault.KernelFault.{KernelFault}
+use Rattle.kernel_model.specs.declared.fault.KernelFault.TheVariants.{NoGroup, HasProcesses, Reserved, NoCpu}
 use Rattle.kernel_model.specs.Faults.{of_tree, of_proc}
 use Rattle.kernel_model.specs.KernelState.{KernelState}
 

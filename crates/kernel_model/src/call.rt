@@ -1,9 +1,10 @@
 ghost use Rattle.std.specs.Prelude.{◌≡◌, IfOk, OnErr};
 ghost use Rattle.kernel_model.specs.Runs.{Step, Run, reply_at_once};
 
-use crate::{Kernel, KernelError, KernelFault};
+use crate::{Kernel, KernelFault};
 use cpu_set::IdSet;
 use cpuset_tree::Group;
+use faults::OrMemory;
 use std::alloc::{AllocError, Global};
 
 /// A call of a kernel, as a value.
@@ -42,7 +43,7 @@ pub enum Reply {
 }
 
 /// Makes one call of a kernel.
-pub fn make_call<K: Kernel>(kernel: &mut K, call: &Call) -> Result<Reply, KernelError>
+pub fn make_call<K: Kernel>(kernel: &mut K, call: &Call) -> Result<Reply, OrMemory<KernelFault>>
     ensures { Step (K.state kernel.old) call.now result (K.state kernel.new) }
 {
     match call {
@@ -58,7 +59,7 @@ pub fn make_call<K: Kernel>(kernel: &mut K, call: &Call) -> Result<Reply, Kernel
         Call::FindGroup(parent, name) => kernel
             .find_group(*parent, name.as_str())
             .map(Reply::Found)
-            .map_err(KernelError::Fault),
+            .map_err(OrMemory::Fault),
         Call::RequestedCpus(group) => ids(kernel.requested_cpus(*group)),
         Call::EffectiveCpus(group) => ids(kernel.effective_cpus(*group)),
         Call::RequestedMems(group) => ids(kernel.requested_mems(*group)),
@@ -74,17 +75,17 @@ pub fn make_call<K: Kernel>(kernel: &mut K, call: &Call) -> Result<Reply, Kernel
 }
 
 /// The reply of a call that answers nothing.
-fn done(answer: Result<(), KernelFault>) -> Result<Reply, KernelError>
+fn done(answer: Result<(), KernelFault>) -> Result<Reply, OrMemory<KernelFault>>
     ensures { result ≡ reply_at_once (λ _. Reply.Done) answer }
 {
-    answer.map(|_| Reply::Done).map_err(KernelError::Fault)
+    answer.map(|_| Reply::Done).map_err(OrMemory::Fault)
 }
 
 /// The reply of a call that answers a set.
-fn ids(answer: Result<IdSet, KernelFault>) -> Result<Reply, KernelError>
+fn ids(answer: Result<IdSet, KernelFault>) -> Result<Reply, OrMemory<KernelFault>>
     ensures { result ≡ reply_at_once Reply.Ids answer }
 {
-    answer.map(Reply::Ids).map_err(KernelError::Fault)
+    answer.map(Reply::Ids).map_err(OrMemory::Fault)
 }
 
 /// Makes calls of a kernel, one after another, and keeps what they answered.
@@ -94,7 +95,7 @@ pub fn make_calls<K: Kernel>(
     alloc: Global,
     kernel: &mut K,
     calls: &[Call],
-) -> Result<Vec<Result<Reply, KernelError>>, AllocError>
+) -> Result<Vec<Result<Reply, OrMemory<KernelFault>>>, AllocError>
     ensures ok { IfOk result (λ replies. Run (K.state kernel.old) calls.now replies.items (K.state kernel.new)) }
     ensures err { OnErr result (K.state kernel.new ≡ K.state kernel.old) }
 {

@@ -1,13 +1,14 @@
 ghost use Rattle.std.specs.Prelude.{◌≡◌, true, false, IfErr, OnOk};
-ghost use Rattle.kernel_model.specs.declared.faults.KernelFault.TheVariants.{Failed};
-ghost use Rattle.kernel_model.specs.declared.faults.KernelError.TheVariants.{Fault};
+ghost use Rattle.kernel_model.specs.declared.fault.KernelFault.TheVariants.{Failed};
+ghost use Rattle.faults.specs.declared.or_memory.OrMemory.TheVariants.{Fault};
 ghost use Rattle.kernel_model.specs.Fuse.{fuse_after, fused, CountsAWrite, FailsAtTheNth};
 ghost use Rattle.kernel_model.specs.Burning.{burnt, is_due};
 ghost use Rattle.kernel_model.specs.Cases.{MakesGroup, RemovesGroup, WritesCpus, WritesMems, Spawns, EndsGroup, Forks, Exits, GoesOffline, ComesOnline};
 
-use crate::{Kernel, KernelError, KernelFault};
+use crate::{Kernel, KernelFault};
 use cpu_set::IdSet;
 use cpuset_tree::Group;
+use faults::OrMemory;
 
 /// How many writes are made until the one that fails.
 #[derive(Clone, Copy, Debug, PartialEq, Eq)]
@@ -76,7 +77,7 @@ impl<K: Kernel> FusedKernel<K> {
 impl<K: Kernel> Kernel for FusedKernel<K> {
     ghost state = { λ k. fused k.fuse (K.state k.inner) };
 
-    fn make_group(&mut self, parent: Group, name: &str) -> Result<Group, KernelError>
+    fn make_group(&mut self, parent: Group, name: &str) -> Result<Group, OrMemory<KernelFault>>
         ensures case { MakesGroup (fused self.old.fuse (K.state self.old.inner)) parent name.now result (fused self.new.fuse (K.state self.new.inner)) }
         ensures fuse { CountsAWrite self.old.fuse self.new.fuse }
         ensures inner { FailsAtTheNth (Fault Failed) self.old.fuse (K.state self.old.inner) (MakesGroup (K.state self.old.inner) parent name.now) result (K.state self.new.inner) }
@@ -112,7 +113,7 @@ impl<K: Kernel> Kernel for FusedKernel<K> {
         self.inner.write_mems(group, mems)
     }
 
-    fn spawn(&mut self, group: Group) -> Result<u32, KernelError>
+    fn spawn(&mut self, group: Group) -> Result<u32, OrMemory<KernelFault>>
         ensures case { Spawns (fused self.old.fuse (K.state self.old.inner)) group result (fused self.new.fuse (K.state self.new.inner)) }
         ensures fuse { CountsAWrite self.old.fuse self.new.fuse }
         ensures inner { FailsAtTheNth (Fault Failed) self.old.fuse (K.state self.old.inner) (Spawns (K.state self.old.inner) group) result (K.state self.new.inner) }
@@ -166,7 +167,7 @@ impl<K: Kernel> Kernel for FusedKernel<K> {
         self.inner.first_alive(pid)
     }
 
-    fn fork(&mut self, parent: u32) -> Result<u32, KernelError>
+    fn fork(&mut self, parent: u32) -> Result<u32, OrMemory<KernelFault>>
         ensures case { Forks (fused self.old.fuse (K.state self.old.inner)) parent result (fused self.new.fuse (K.state self.new.inner)) }
         ensures fuse { self.new.fuse ≡ self.old.fuse }
         ensures inner { Forks (K.state self.old.inner) parent result (K.state self.new.inner) }

@@ -6,9 +6,10 @@ ghost use Rattle.kernel_model.specs.KernelState.{KernelState};
 ghost use Rattle.kernel_model.specs.Cases.{MakesGroup, RemovesGroup, WritesCpus, WritesMems, Spawns, EndsGroup, Forks, Exits, GoesOffline, ComesOnline, read_of};
 ghost use Rattle.kernel_model.specs.WellFormed.{IsWellFormed};
 
-use crate::{KernelError, KernelFault};
+use crate::KernelFault;
 use cpu_set::IdSet;
 use cpuset_tree::Group;
+use faults::OrMemory;
 
 /// The kernel that a runtime pins containers on.
 ///
@@ -24,7 +25,7 @@ pub trait Kernel {
     /// Makes a group below the parent, which requests nothing.
     ///
     /// Refused, in this order: `NoGroup`, `Exists`, `NoSerials`.
-    fn make_group(&mut self, parent: Group, name: &str) -> Result<Group, KernelError>
+    fn make_group(&mut self, parent: Group, name: &str) -> Result<Group, OrMemory<KernelFault>>
         ensures { MakesGroup (state self.old) parent name.now result (state self.new) };
 
     /// Removes a group.
@@ -48,7 +49,7 @@ pub trait Kernel {
     /// Makes a first process in a group.
     ///
     /// Refused, in this order: `NoGroup`, `NoPids`.
-    fn spawn(&mut self, group: Group) -> Result<u32, KernelError>
+    fn spawn(&mut self, group: Group) -> Result<u32, OrMemory<KernelFault>>
         ensures { Spawns (state self.old) group result (state self.new) };
 
     /// Ends all processes of a group.
@@ -109,7 +110,7 @@ pub trait Kernel {
     /// A process forks: the new one is in its group and belongs to its first process.
     ///
     /// Refused, in this order: `NoProcess`, `NoPids`.
-    fn fork(&mut self, parent: u32) -> Result<u32, KernelError>
+    fn fork(&mut self, parent: u32) -> Result<u32, OrMemory<KernelFault>>
         ensures { Forks (state self.old) parent result (state self.new) };
 
     /// A process ends, and all that belong to it if it is a first one.

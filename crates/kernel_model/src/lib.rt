@@ -3,7 +3,7 @@
 #![tactic(auto)]
 
 mod call;
-mod faults;
+mod fault;
 mod fused_kernel;
 mod interface;
 pub mod laws;
@@ -13,7 +13,7 @@ mod tests;
 
 pub use call::{Call, Reply, make_call, make_calls};
 pub use cpuset_tree::Group;
-pub use faults::{KernelError, KernelFault};
+pub use fault::KernelFault;
 pub use fused_kernel::{Fuse, FusedKernel};
 pub use interface::Kernel;
 pub use model_kernel::ModelKernel;

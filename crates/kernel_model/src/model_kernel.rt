@@ -4,9 +4,11 @@ ghost use Rattle.cpu_set.specs.Members.{IsCpu};
 ghost use Rattle.proctable.specs.declared.TheConstants.{LAST_PID};
 ghost use Rattle.kernel_model.specs.KernelState.{IsFirstKernel};
 
-use crate::{Kernel, KernelError, KernelFault};
+use crate::fault::{of_proc, of_tree};
+use crate::{Kernel, KernelFault};
 use cpu_set::{CPU_LIMIT, IdSet};
 use cpuset_tree::{Group, Tree};
+use faults::OrMemory;
 use proctable::ProcTable;
 use std::alloc::{AllocError, Global};
 use std::marker::Model;
@@ -88,8 +90,8 @@ fn present_cpu(present: &IdSet, cpu: u32) -> Option<u16>
 impl Kernel for ModelKernel {
     ghost state = { λ k. k };
 
-    fn make_group(&mut self, parent: Group, name: &str) -> Result<Group, KernelError> {
-        Ok(self.tree.make(parent, name)?)
+    fn make_group(&mut self, parent: Group, name: &str) -> Result<Group, OrMemory<KernelFault>> {
+        self.tree.make(parent, name).map_err(of_tree)
     }
 
     fn remove_group(&mut self, group: Group) -> Result<(), KernelFault> {
@@ -108,11 +110,11 @@ impl Kernel for ModelKernel {
         Ok(self.tree.write_mems(group, mems)?)
     }
 
-    fn spawn(&mut self, group: Group) -> Result<u32, KernelError> {
+    fn spawn(&mut self, group: Group) -> Result<u32, OrMemory<KernelFault>> {
         if !self.tree.contains(group) {
-            return Err(KernelError::Fault(KernelFault::NoGroup));
+            return Err(OrMemory::Fault(KernelFault::NoGroup));
         }
-        Ok(self.table.spawn(group)?)
+        self.table.spawn(group).map_err(of_proc)
     }
 
     fn end_group(&mut self, group: Group) -> Result<(), KernelFault> {
@@ -159,8 +161,8 @@ impl Kernel for ModelKernel {
         self.table.alive(pid)
     }
 
-    fn fork(&mut self, parent: u32) -> Result<u32, KernelError> {
-        Ok(self.table.fork(parent)?)
+    fn fork(&mut self, parent: u32) -> Result<u32, OrMemory<KernelFault>> {
+        self.table.fork(parent).map_err(of_proc)
     }
 
     fn exit(&mut self, pid: u32) -> Result<(), KernelFault> {

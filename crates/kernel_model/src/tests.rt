@@ -1,8 +1,7 @@
-use crate::{
-    Call, FusedKernel, Kernel, KernelError, KernelFault, ModelKernel, Reply, make_call, make_calls,
-};
+use crate::{Call, FusedKernel, Kernel, KernelFault, ModelKernel, Reply, make_call, make_calls};
 use cpu_set::IdSet;
 use cpuset_tree::Group;
+use faults::OrMemory;
 use std::alloc::{AllocError, Global};
 use std::process::Abort;
 use std::test::Fail;
@@ -12,7 +11,7 @@ const ROOT: Group = Group { key: 0, serial: 0 };
 /// The group that is made first.
 const G: Group = Group { key: 1, serial: 1 };
 
-type Answer = Result<Reply, KernelError>;
+type Answer = Result<Reply, OrMemory<KernelFault>>;
 
 /// The numbers from the first to the last, of those below 8.
 fn range(first: u16, last: u16) -> IdSet {
@@ -44,7 +43,7 @@ fn ids(set: IdSet) -> Answer {
 }
 
 fn refused(fault: KernelFault) -> Answer {
-    Err(KernelError::Fault(fault))
+    Err(OrMemory::Fault(fault))
 }
 
 /// Makes each call, and compares what it answers.

@@ -9,8 +9,6 @@ use Rattle.cpu_set.specs.Ids.{Ids}
 use Rattle.cpuset_tree.specs.declared.Group.{Group}
 use Rattle.cpuset_tree.specs.Groups.{has_group}
 use Rattle.kernel_model.specs.declared.KernelFault.{KernelFault}
-use Rattle.kernel_model.specs.declared.KernelError.{KernelError}
-use Rattle.kernel_model.specs.declared.KernelError.TheVariants as kernel
 use Rattle.kernel_model.specs.KernelState.{KernelState}
 use Rattle.kernel_model.specs.Refusals.{end_refusal}
 use Rattle.kernel_model.specs.RefusalLemmas.{calls_are_free}
@@ -18,6 +16,7 @@ use Rattle.kernel_model.specs.Cases.{EndsGroup, RemovesGroup}
 use Rattle.proctable.specs.TableChanges.{ended_in}
 use Rattle.demand.specs.declared.Demand.{Demand as Asked}
 use Rattle.faults.specs.declared.OrMemory.{OrMemory}
+use Rattle.faults.specs.declared.OrMemory.TheVariants.{Memory, Fault}
 use Rattle.node.specs.declared.fault.NodeFault.{NodeFault}
 use Rattle.node.specs.declared.fault.NodeFault.TheVariants.{NotCreated, NotRunnable, NotLive, NotStopped, Kernel}
 use Rattle.node.specs.declared.reads.Sets.{Sets}
@@ -123,7 +122,7 @@ module _ (n now : NodeState) (is : n ≡ now) (id : List ℕ) where
 
   module _ (bundle config : List ℕ) (free : IsFree now id) (runnable : Bool) (asked : Asked) (reads : Reads n.machine config (Ok (runnable, asked))) (reserved : Ids)
       (reserve : reserved ≡ n.machine.reserved) (new : KernelState) (cs : Containers) where
-    create_refused : (e : KernelError) → Launches n.kernel n.parent id reserved asked.homes (Err e) new → cs ≡ n.containers
+    create_refused : (e : OrMemory KernelFault) → Launches n.kernel n.parent id reserved asked.homes (Err e) new → cs ≡ n.containers
         → NotLaunched now id config e (record n { kernel = new; containers = cs })
     create_refused e l same =
         subst (λ (m : NodeState). NotLaunched m id config e (record n { kernel = new; containers = cs })) is
@@ -136,16 +135,18 @@ module _ (n now : NodeState) (is : n ≡ now) (id : List ℕ) where
           is = ap (λ (xs : Containers). record n { kernel = new; containers = xs }) same;
         })
 
-    late : (e : KernelError) → NotLaunched now id config e (record n { kernel = new; containers = cs }) → Creates now id bundle config (Err (late_answer e)) (record n { kernel = new; containers = cs })
-    late kernel.Memory x = inl x
-    late (kernel.Fault fault) x = x
+    late : (e : OrMemory KernelFault) → NotLaunched now id config e (record n { kernel = new; containers = cs })
+        → Creates now id bundle config (Err (late_answer e)) (record n { kernel = new; containers = cs })
+    late Memory x = inl x
+    late (Fault fault) x = x
 
-    pub create_late : (e : KernelError) → Launches n.kernel n.parent id reserved asked.homes (Err e) new → cs ≡ n.containers → (answer : OrMemory NodeFault) → answer ≡ late_answer e
+    pub create_late : (e : OrMemory KernelFault) → Launches n.kernel n.parent id reserved asked.homes (Err e) new → cs ≡ n.containers
+        → (answer : OrMemory NodeFault) → answer ≡ late_answer e
         → Creates now id bundle config (Err answer) (record n { kernel = new; containers = cs })
     create_late e l same answer a =
         subst (λ (x : OrMemory NodeFault). Creates now id bundle config (Err x) (record n { kernel = new; containers = cs })) (sym a) (late e (create_refused e l same))
 
-    pub refused_node : IsNode n → (e : KernelError) → Launches n.kernel n.parent id reserved asked.homes (Err e) new → cs ≡ n.containers
+    pub refused_node : IsNode n → (e : OrMemory KernelFault) → Launches n.kernel n.parent id reserved asked.homes (Err e) new → cs ≡ n.containers
         → IsNode (record n { kernel = new; containers = cs })
     refused_node h e l same =
         subst (λ (xs : Containers). IsNode (record n { kernel = new; containers = xs })) (sym same)

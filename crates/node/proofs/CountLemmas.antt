@@ -5,8 +5,6 @@ use Rattle.cpu_set.specs.Ids.{Ids}
 use Rattle.cpuset_tree.specs.declared.Group.{Group}
 use Rattle.cpuset_tree.specs.Groups.{child_of}
 use Rattle.kernel_model.specs.declared.KernelFault.{KernelFault}
-use Rattle.kernel_model.specs.declared.KernelError.{KernelError}
-use Rattle.kernel_model.specs.declared.KernelError.TheVariants as kernel
 use Rattle.kernel_model.specs.KernelState.{KernelState}
 use Rattle.kernel_model.specs.Cases.{rise, rise_or_memory as kernel_rise}
 use Rattle.kernel_model.specs.KernelLemmas.{writes_count}
@@ -19,11 +17,12 @@ use Rattle.node.specs.Launch.{FindsOr, FindsOrMakes, AtOnce, WritesSets, StartsI
 use Rattle.node.specs.Calls.{Creates, Kills, Deletes}
 use Rattle.node.specs.Leaves.{rise_of, rise_or_memory}
 
-find_counts : (o : Option Group) (old : KernelState) (parent : Group) (name : List ℕ) (r : Result Group KernelError) (new : KernelState) → FindsOr o old parent name r new
+find_counts : (o : Option Group) (old : KernelState) (parent : Group) (name : List ℕ) (r : Result Group (OrMemory KernelFault)) (new : KernelState)
+    → FindsOr o old parent name r new
     → new.failures ≡ old.failures + kernel_rise r
 find_counts (Some g) old parent name r new f =
     let same : new.failures ≡ old.failures = ap (λ (k : KernelState). k.failures) f.1 in
-    let none : kernel_rise r ≡ 0 = ap (λ (x : Result Group KernelError). kernel_rise x) f.0 in
+    let none : kernel_rise r ≡ 0 = ap (λ (x : Result Group (OrMemory KernelFault)). kernel_rise x) f.0 in
     omega (arith, same, none)
 find_counts None old parent name r new f = writes_count.make old new parent name r f
 
@@ -38,13 +37,14 @@ sets_count old g cpus mems r new s =
           omega (arith, first, second)
     ]
 
-at_once_counts : (old : KernelState) (g : Group) (cpus mems : Ids) (r : Result (Unit {0}) KernelError) (new : KernelState) → AtOnce (WritesSets old g cpus mems) r new
+at_once_counts : (old : KernelState) (g : Group) (cpus mems : Ids) (r : Result (Unit {0}) (OrMemory KernelFault)) (new : KernelState)
+    → AtOnce (WritesSets old g cpus mems) r new
     → new.failures ≡ old.failures + kernel_rise r
 at_once_counts old g cpus mems (Ok value) new s = sets_count old g cpus mems (Ok value) new s
-at_once_counts old g cpus mems (Err kernel.Memory) new s = absurd s
-at_once_counts old g cpus mems (Err (kernel.Fault fault)) new s = sets_count old g cpus mems (Err fault) new s
+at_once_counts old g cpus mems (Err Memory) new s = absurd s
+at_once_counts old g cpus mems (Err (Fault fault)) new s = sets_count old g cpus mems (Err fault) new s
 
-start_counts : (old : KernelState) (g : Group) (cpus mems : Ids) (r : Result ℕ KernelError) (new : KernelState) → StartsIn old g cpus mems r new
+start_counts : (old : KernelState) (g : Group) (cpus mems : Ids) (r : Result ℕ (OrMemory KernelFault)) (new : KernelState) → StartsIn old g cpus mems r new
     → new.failures ≡ old.failures + kernel_rise r
 start_counts old g cpus mems r new s =
     elim s [
@@ -54,15 +54,16 @@ start_counts old g cpus mems r new s =
           let second : new.failures ≡ done.1.failures + kernel_rise r = writes_count.spawn done.1 new g r done.3 in
           omega (arith, first, second)
     ] where
-      by : (e : KernelError) → AtOnce (WritesSets old g cpus mems) (Err e) new → new.failures ≡ old.failures + kernel_rise {A = ℕ} (Err e)
-      by kernel.Memory f = absurd f
-      by (kernel.Fault fault) f = at_once_counts old g cpus mems (Err (kernel.Fault fault)) new f
+      by : (e : OrMemory KernelFault) → AtOnce (WritesSets old g cpus mems) (Err e) new → new.failures ≡ old.failures + kernel_rise {A = ℕ} (Err e)
+      by Memory f = absurd f
+      by (Fault fault) f = at_once_counts old g cpus mems (Err (Fault fault)) new f
 
-      error_count : (e : KernelError) → AtOnce (WritesSets old g cpus mems) (Err e) new → r ≡ Err e → new.failures ≡ old.failures + kernel_rise r
-      error_count e f is = by e f ∙ ap (λ (x : Result ℕ KernelError). old.failures + kernel_rise x) (sym is)
+      error_count : (e : OrMemory KernelFault) → AtOnce (WritesSets old g cpus mems) (Err e) new → r ≡ Err e → new.failures ≡ old.failures + kernel_rise r
+      error_count e f is = by e f ∙ ap (λ (x : Result ℕ (OrMemory KernelFault)). old.failures + kernel_rise x) (sym is)
 
 -- what an error of a launch adds
-launch_error : (old : KernelState) (parent : Group) (name : List ℕ) (cpus mems : Ids) (e : KernelError) (new : KernelState) → Launches old parent name cpus mems (Err e) new
+launch_error : (old : KernelState) (parent : Group) (name : List ℕ) (cpus mems : Ids) (e : OrMemory KernelFault) (new : KernelState)
+    → Launches old parent name cpus mems (Err e) new
     → new.failures ≡ old.failures + kernel_rise {A = ℕ} (Err e)
 launch_error old parent name cpus mems e new l =
     elim l [
@@ -72,9 +73,9 @@ launch_error old parent name cpus mems e new l =
           let second : new.failures ≡ made.1.failures + kernel_rise {A = ℕ} (Err e) = start_counts made.1 made.0 cpus mems (Err e) new made.3 in
           omega (arith, first, second)
     ] where
-      found : (e : KernelError) → FindsOrMakes old parent name (Err e) new → new.failures ≡ old.failures + kernel_rise {A = ℕ} (Err e)
-      found kernel.Memory f = find_counts (child_of old.tree parent name) old parent name (Err kernel.Memory) new f
-      found (kernel.Fault fault) f = find_counts (child_of old.tree parent name) old parent name (Err (kernel.Fault fault)) new f
+      found : (e : OrMemory KernelFault) → FindsOrMakes old parent name (Err e) new → new.failures ≡ old.failures + kernel_rise {A = ℕ} (Err e)
+      found Memory f = find_counts (child_of old.tree parent name) old parent name (Err Memory) new f
+      found (Fault fault) f = find_counts (child_of old.tree parent name) old parent name (Err (Fault fault)) new f
 
 launch_done : (old : KernelState) (parent : Group) (name : List ℕ) (cpus mems : Ids) (made : Group × ℕ) (new : KernelState) → Launches old parent name cpus mems (Ok made) new
     → new.failures ≡ old.failures + 0
@@ -91,9 +92,9 @@ pub create_counts : (old : NodeState) (id bundle config : List ℕ) (r : Result 
     → new.kernel.failures ≡ old.kernel.failures + rise_or_memory r
 create_counts old id bundle config (Ok pid) new h = launch_done old.kernel old.parent id old.machine.reserved h.asked.homes (h.group, pid) new.kernel h.launched
 create_counts old id bundle config (Err Memory) new h =
-    elim h [ inl late ↦ launch_error old.kernel old.parent id old.machine.reserved late.asked.homes kernel.Memory new.kernel late.refused | inr early ↦ kept_count old new early.1 ]
+    elim h [ inl late ↦ launch_error old.kernel old.parent id old.machine.reserved late.asked.homes Memory new.kernel late.refused | inr early ↦ kept_count old new early.1 ]
 create_counts old id bundle config (Err (Fault (Kernel fault))) new h =
-    launch_error old.kernel old.parent id old.machine.reserved h.asked.homes (kernel.Fault fault) new.kernel h.refused
+    launch_error old.kernel old.parent id old.machine.reserved h.asked.homes (Fault fault) new.kernel h.refused
 create_counts old id bundle config (Err (Fault Busy)) new h = kept_count old new h.1
 create_counts old id bundle config (Err (Fault BadId)) new h = kept_count old new h.1
 create_counts old id bundle config (Err (Fault IdInUse)) new h = kept_count old new h.1

@@ -5,7 +5,6 @@ use Rattle.std.specs.Prelude.{Result, Ok, Err}
 use Rattle.std.specs.List.{AllByRecursion}
 use Rattle.faults.specs.declared.OrMemory.{OrMemory}
 use Rattle.faults.specs.declared.OrMemory.TheVariants.{Memory, Fault}
-use Rattle.kernel_model.specs.declared.KernelError.{KernelError}
 use Rattle.kernel_model.specs.declared.KernelFault.{KernelFault}
 use Rattle.kernel_model.specs.declared.Call.{Call}
 use Rattle.kernel_model.specs.declared.Call.TheVariants as call
@@ -57,7 +56,7 @@ module _ (law : StepsLeave) (ends : EndsWithin) (o : Ongoing) (old : NodeState) 
     unchanged : new ≡ old → Lasts o old 0 new
     unchanged same = same_kernel (ap (λ (n : NodeState). n.ongoing) same) (ap (λ (n : NodeState). n.kernel) same)
 
-    called : new.ongoing ≡ old.ongoing → (c : Call) → LeavesEntries o.targets.entries c → (r : Result Reply KernelError)
+    called : new.ongoing ≡ old.ongoing → (c : Call) → LeavesEntries o.targets.entries c → (r : Result Reply (OrMemory KernelFault))
         → kernel.Step old.kernel c r new.kernel → Lasts o old 0 new
     called still c apart r step =
         let e : 0 + 0 + writes_to_come o.targets new.kernel ≤ writes_to_come o.targets old.kernel =

@@ -2,11 +2,11 @@
 use Rattle.std.proofs.Common.{◌≡◌, ℕ, List, refl, ap, sym, ◌∙◌}
 use Rattle.std.specs.Prelude.{Option, Some, None, Result, Ok, Err}
 use Rattle.std.specs.List.{AllByRecursion}
+use Rattle.faults.specs.declared.OrMemory.{OrMemory}
 use Rattle.cpuset_tree.specs.declared.Group.{Group}
 use Rattle.cpuset_tree.specs.TreeState.{TreeState}
 use Rattle.cpuset_tree.specs.Groups.{same_group}
 use Rattle.proctable.specs.TableChanges.{ends_with}
-use Rattle.kernel_model.specs.declared.KernelError.{KernelError}
 use Rattle.kernel_model.specs.declared.KernelFault.{KernelFault}
 use Rattle.kernel_model.specs.declared.KernelFault.TheVariants.{Failed}
 use Rattle.kernel_model.specs.KernelState.{KernelState}
@@ -33,13 +33,13 @@ module _ (parent : Group) (owners : List Owner) (old new : KernelState) (h : Hol
         each = each_kept old new keeps parent owners h places;
       }
 
-  fork_owned : (pid : ℕ) (r : Result ℕ KernelError) → Forks old pid r new → AreOwned new.table owners
+  fork_owned : (pid : ℕ) (r : Result ℕ (OrMemory KernelFault)) → Forks old pid r new → AreOwned new.table owners
   fork_owned pid (Ok q) f =
       let made = (calls_leave_processes.fork old new pid (Ok q) f).made in
       added_owned old.table new.table owners h.owned made.process.group made.process.first q made.added (λ p a b. owned_alike p made.process owners a b (h.owned pid made.process made.there))
   fork_owned pid (Err e) f = same_owned old.table new.table owners h.owned (calls_leave_processes.fork old new pid (Err e) f).refused
 
-  pub fork_passes : (pid : ℕ) (r : Result ℕ KernelError) → Forks old pid r new → Passes old new parent owners
+  pub fork_passes : (pid : ℕ) (r : Result ℕ (OrMemory KernelFault)) → Forks old pid r new → Passes old new parent owners
   fork_passes pid r f = passes ((each_case_keeps old new h.kernel).fork pid r f) (events_keep_groups.fork old new pid r f).0.groups (fork_owned pid r f)
 
   exit_owned : (pid : ℕ) (r : Result (Unit {0}) KernelFault) → Exits old pid r new → AreOwned new.table owners

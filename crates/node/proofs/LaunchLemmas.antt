@@ -6,6 +6,8 @@ use Rattle.std.specs.Prelude.{is_some, Result, Ok, Err}
 use Rattle.std.specs.List.{AllByRecursion}
 use Rattle.std.specs.Str.{bytes_eq}
 use Rattle.std.specs.FinSet as set
+use Rattle.faults.specs.declared.OrMemory.{OrMemory}
+use Rattle.faults.specs.declared.OrMemory.TheVariants.{Memory, Fault}
 use Rattle.cpu_set.specs.Ids.{Ids}
 use Rattle.cpuset_tree.specs.declared.Group.{Group}
 use Rattle.cpuset_tree.specs.TreeState.{GroupEntry, TreeState}
@@ -20,8 +22,6 @@ use Rattle.proctable.specs.declared.Process.{Process}
 use Rattle.proctable.specs.TableState.{TableState}
 use Rattle.proctable.specs.Processes.{process_of}
 use Rattle.proctable.specs.TableLaws.{ProcessAdded}
-use Rattle.kernel_model.specs.declared.KernelError.{KernelError}
-use Rattle.kernel_model.specs.declared.KernelError.TheVariants.{Memory, Fault}
 use Rattle.kernel_model.specs.declared.KernelFault.{KernelFault}
 use Rattle.kernel_model.specs.KernelState.{KernelState}
 use Rattle.kernel_model.specs.Cases.{MakesGroup, WritesCpus, WritesMems, Spawns}
@@ -123,13 +123,13 @@ module _ (parent : Group) (name : List ℕ) (owners : List Owner) (new_id : AllB
           shallow_at p q e there below false t =
               elim (h.shallow p q e (sym (a.others p t) ∙ there) below) [ inl home ↦ inl home | inr root ↦ inr (ap root_of m.1.does.added ∙ root) ]
 
-    make_keeps : (r : Result Group KernelError) → MakesGroup old parent name r new → StepKeeps old new
+    make_keeps : (r : Result Group (OrMemory KernelFault)) → MakesGroup old parent name r new → StepKeeps old new
     make_keeps r m = (each_case_keeps old new h.kernel).make parent name r m
 
-    make_owned : (r : Result Group KernelError) → MakesGroup old parent name r new → AreOwned new.table owners
+    make_owned : (r : Result Group (OrMemory KernelFault)) → MakesGroup old parent name r new → AreOwned new.table owners
     make_owned r m = same_owned old.table new.table owners h.owned (writes_keep_processes.make old new parent name r m).0
 
-    pub make_stays : (r : Result Group KernelError) → MakesGroup old parent name r new → Stays old new parent owners
+    pub make_stays : (r : Result Group (OrMemory KernelFault)) → MakesGroup old parent name r new → Stays old new parent owners
     make_stays (Ok g) m = record {
       holds = kept old new (make_keeps (Ok g) m) parent owners h (added_places g m (writes_leave_groups.make old new parent name (Ok g) m).made) (make_owned (Ok g) m);
       machine = (make_keeps (Ok g) m).machine;
@@ -145,7 +145,8 @@ module _ (parent : Group) (name : List ℕ) (owners : List Owner) (new_id : AllB
         (record { entry = new_entry g (Some parent) name; there = (writes_leave_groups.make old new parent name (Ok g) m).made.there; below = refl; named = refl })
 
     -- or the one that is there
-    find_by : (o : Option Group) → child_of old.tree parent name ≡ o → (r : Result Group KernelError) → FindsOr o old parent name r new → Stays old new parent owners
+    find_by : (o : Option Group) → child_of old.tree parent name ≡ o → (r : Result Group (OrMemory KernelFault)) → FindsOr o old parent name r new
+        → Stays old new parent owners
     find_by (Some g) was r f = subst (λ k. Stays old k parent owners) (sym f.1) (record { holds = h; machine = record { nodes = refl; present = refl; reserved = refl } })
     find_by None was r f = make_stays r f
 
@@ -155,7 +156,7 @@ module _ (parent : Group) (name : List ℕ) (owners : List Owner) (new_id : AllB
         subst (λ k. IsReady k parent name owners g) (sym f.1) (ready old h g (found_is_child old.tree parent name g h.kernel.tree (was ∙ ap Some same)))
     ready_by None was g f = made_ready g f
 
-    pub find_stays : (r : Result Group KernelError) → FindsOrMakes old parent name r new → Stays old new parent owners
+    pub find_stays : (r : Result Group (OrMemory KernelFault)) → FindsOrMakes old parent name r new → Stays old new parent owners
     find_stays r f = find_by (child_of old.tree parent name) refl r f
 
     pub find_ready : (g : Group) → FindsOrMakes old parent name (Ok g) new → IsReady new parent name owners g
@@ -232,14 +233,14 @@ module _ (parent : Group) (name : List ℕ) (owners : List Owner) (new_id : AllB
 
   -- a first process in a group that has none, which requests the reserved CPUs
   module _ (g : Group) (pinned : Bool) (old new : KernelState) (h : Holds old parent owners) (w : IsReady old parent name owners g) where
-    spawn_keeps : (r : Result ℕ KernelError) → Spawns old g r new → StepKeeps old new
+    spawn_keeps : (r : Result ℕ (OrMemory KernelFault)) → Spawns old g r new → StepKeeps old new
     spawn_keeps r s = (each_case_keeps old new h.kernel).spawn g r s
 
-    spawn_places : (r : Result ℕ KernelError) → Spawns old g r new → KeepsPlaces old.tree new.tree parent owners
+    spawn_places : (r : Result ℕ (OrMemory KernelFault)) → Spawns old g r new → KeepsPlaces old.tree new.tree parent owners
     spawn_places r s =
         same_places old.tree new.tree (ap (λ (t : TreeState). t.groups) (writes_keep_tree.spawn old new g r s)) parent owners h.home h.shallow h.placed
 
-    pub not_spawned : (e : KernelError) → Spawns old g (Err e) new → Stays old new parent owners
+    pub not_spawned : (e : OrMemory KernelFault) → Spawns old g (Err e) new → Stays old new parent owners
     not_spawned e s = record {
       holds = kept old new (spawn_keeps (Err e) s) parent owners h (spawn_places (Err e) s)
           (same_owned old.table new.table owners h.owned (calls_leave_processes.spawn old new g (Err e) s).refused);
@@ -324,13 +325,14 @@ module _ (parent : Group) (name : List ℕ) (owners : List Owner) (new_id : AllB
 
   -- all of it
   module _ (pinned : Bool) (cpus mems : Ids) where
-    sets_at_once : (g : Group) (old new : KernelState) → Holds old parent owners → IsReady old parent name owners g → (r : Result (Unit {0}) KernelError)
+    sets_at_once : (g : Group) (old new : KernelState) → Holds old parent owners → IsReady old parent name owners g
+        → (r : Result (Unit {0}) (OrMemory KernelFault))
         → AtOnce (WritesSets old g cpus mems) r new → Written g old new
     sets_at_once g old new h w (Ok value) s = sets_written g old new h w cpus mems (Ok value) s
     sets_at_once g old new h w (Err Memory) s = absurd s
     sets_at_once g old new h w (Err (Fault fault)) s = sets_written g old new h w cpus mems (Err fault) s
 
-    start_refused : (g : Group) (old new : KernelState) → Holds old parent owners → IsReady old parent name owners g → (e : KernelError)
+    start_refused : (g : Group) (old new : KernelState) → Holds old parent owners → IsReady old parent name owners g → (e : OrMemory KernelFault)
         → StartsIn old g cpus mems (Err e) new → Stays old new parent owners
     start_refused g old new h w e s =
         elim s [
@@ -361,7 +363,8 @@ module _ (parent : Group) (name : List ℕ) (owners : List Owner) (new_id : AllB
         stays_then old s.0 new parent (owners ++ record { id = name; holder = record { group = g; pid = pid; pinned = pinned } } ∷ []) found.machine
         (started_in g pid s.0 new found.holds (find_ready old s.0 h g s.1) (reserve ∙ sym found.machine.reserved) s.2)
 
-    pub not_launched : (e : KernelError) (old new : KernelState) → Holds old parent owners → Launches old parent name cpus mems (Err e) new → Stays old new parent owners
+    pub not_launched : (e : OrMemory KernelFault) (old new : KernelState) → Holds old parent owners → Launches old parent name cpus mems (Err e) new
+        → Stays old new parent owners
     not_launched e old new h s =
         elim s [
           | inl refused ↦ find_stays old new h (Err e) refused

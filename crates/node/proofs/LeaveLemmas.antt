@@ -12,8 +12,6 @@ use Rattle.cpuset_tree.specs.TreeLemmas.{found_is_child}
 use Rattle.proctable.specs.Processes.{count_in}
 use Rattle.proctable.specs.TableLemmas.{none_counted_where_none}
 use Rattle.kernel_model.specs.declared.KernelFault.{KernelFault}
-use Rattle.kernel_model.specs.declared.KernelError.{KernelError}
-use Rattle.kernel_model.specs.declared.KernelError.TheVariants as kernel
 use Rattle.kernel_model.specs.KernelState.{KernelState}
 use Rattle.kernel_model.specs.Cases.{WritesCpus, WritesMems, Spawns}
 use Rattle.kernel_model.specs.KernelLemmas.{writes_leave_groups, writes_keep_processes, writes_keep_tree, calls_leave_processes}
@@ -60,7 +58,7 @@ module _ (parent : Group) (name : List ℕ) where
       let made = (writes_leave_groups.make old new parent name (Ok g) f).made in
       record { table = (writes_keep_processes.make old new parent name (Ok g) f).0; apart = made.others; child = made.child }
 
-  find_refused : (o : Option Group) (old : KernelState) (e : KernelError) (new : KernelState) → FindsOr o old parent name (Err e) new → Leaves old new
+  find_refused : (o : Option Group) (old : KernelState) (e : OrMemory KernelFault) (new : KernelState) → FindsOr o old parent name (Err e) new → Leaves old new
   find_refused (Some c) old e new f = absurd (let is : Err e ≡ Ok c = f.0 in let no : ⊥ = cc is in no)
   find_refused None old e new f = record {
     table = (writes_keep_processes.make old new parent name (Err e) f).0;
@@ -90,13 +88,15 @@ module _ (parent : Group) (name : List ℕ) where
               touches_then old done.1 new g first (mems_touch done.1 first.child mems r new done.3)
         ]
 
-    at_once_touch : (old : KernelState) → child_of old.tree parent name ≡ Some g → (cpus mems : Ids) (r : Result (Unit {0}) KernelError) (new : KernelState)
+    at_once_touch : (old : KernelState) → child_of old.tree parent name ≡ Some g
+        → (cpus mems : Ids) (r : Result (Unit {0}) (OrMemory KernelFault)) (new : KernelState)
         → AtOnce (WritesSets old g cpus mems) r new → Touches old new g
     at_once_touch old child cpus mems (Ok value) new s = sets_touch old child cpus mems (Ok value) new s
-    at_once_touch old child cpus mems (Err kernel.Memory) new s = absurd s
-    at_once_touch old child cpus mems (Err (kernel.Fault fault)) new s = sets_touch old child cpus mems (Err fault) new s
+    at_once_touch old child cpus mems (Err Memory) new s = absurd s
+    at_once_touch old child cpus mems (Err (Fault fault)) new s = sets_touch old child cpus mems (Err fault) new s
 
-    spawn_refused : (old : KernelState) → child_of old.tree parent name ≡ Some g → (e : KernelError) (new : KernelState) → Spawns old g (Err e) new → Touches old new g
+    spawn_refused : (old : KernelState) → child_of old.tree parent name ≡ Some g → (e : OrMemory KernelFault) (new : KernelState) → Spawns old g (Err e) new
+        → Touches old new g
     spawn_refused old child e new s =
         let same = writes_keep_tree.spawn old new g (Err e) s in
         record {
@@ -105,7 +105,8 @@ module _ (parent : Group) (name : List ℕ) where
           child = ap (λ (t : TreeState). child_of t parent name) same ∙ child;
         }
 
-    start_touch : (old : KernelState) → child_of old.tree parent name ≡ Some g → (cpus mems : Ids) (e : KernelError) (new : KernelState) → StartsIn old g cpus mems (Err e) new
+    start_touch : (old : KernelState) → child_of old.tree parent name ≡ Some g → (cpus mems : Ids) (e : OrMemory KernelFault) (new : KernelState)
+        → StartsIn old g cpus mems (Err e) new
         → Touches old new g
     start_touch old child cpus mems e new s =
         elim s [
@@ -115,7 +116,8 @@ module _ (parent : Group) (name : List ℕ) where
               touches_then old done.1 new g first (spawn_refused done.1 first.child e new done.3)
         ]
 
-  launch_leaves : (old : KernelState) (cpus mems : Ids) (e : KernelError) (new : KernelState) → Launches old parent name cpus mems (Err e) new → Leaves old new
+  launch_leaves : (old : KernelState) (cpus mems : Ids) (e : OrMemory KernelFault) (new : KernelState) → Launches old parent name cpus mems (Err e) new
+      → Leaves old new
   launch_leaves old cpus mems e new l =
       elim l [
         | inl refused ↦ find_refused (child_of old.tree parent name) old e new refused
@@ -131,7 +133,8 @@ module _ (parent : Group) (name : List ℕ) where
       none_counted_where_none k.table g h.kernel.table w.empty
 
 module _ (old : NodeState) (h : IsNode old) (id config : List ℕ) where
-  late : (e : KernelError) (new : NodeState) → NotLaunched old id config e new → LeavesAtMostAGroup old.kernel old.parent id new.kernel × (new ≡ record old { kernel = new.kernel })
+  late : (e : OrMemory KernelFault) (new : NodeState) → NotLaunched old id config e new
+      → LeavesAtMostAGroup old.kernel old.parent id new.kernel × (new ≡ record old { kernel = new.kernel })
   late e new n =
       let new_id = other_ids id old.containers n.free.new in
       let left = launch_leaves old.parent id old.kernel old.machine.reserved n.asked.homes e new.kernel n.refused in
@@ -151,8 +154,8 @@ module _ (old : NodeState) (h : IsNode old) (id config : List ℕ) where
 
   pub create_leaves : (bundle : List ℕ) (r : Result ℕ (OrMemory NodeFault)) (new : NodeState) → Creates old id bundle config r new → CreateLeaves old id r new
   create_leaves bundle (Ok pid) new c = tt
-  create_leaves bundle (Err Memory) new c = elim c [ inl n ↦ late kernel.Memory new n | inr e ↦ early new e.0 e.1 ]
-  create_leaves bundle (Err (Fault (Kernel fault))) new c = late (kernel.Fault fault) new c
+  create_leaves bundle (Err Memory) new c = elim c [ inl n ↦ late Memory new n | inr e ↦ early new e.0 e.1 ]
+  create_leaves bundle (Err (Fault (Kernel fault))) new c = late (Fault fault) new c
   create_leaves bundle (Err (Fault Busy)) new c = c.1
   create_leaves bundle (Err (Fault BadId)) new c = c.1
   create_leaves bundle (Err (Fault IdInUse)) new c = c.1

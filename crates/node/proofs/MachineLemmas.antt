@@ -3,8 +3,6 @@ use Rattle.std.proofs.Common.{◌≡◌, inl, inr, ℕ, zero, suc, List, [], ◌
 use Rattle.std.specs.List.{AllByRecursion}
 use Rattle.std.specs.Prelude.{Result, Ok, Err}
 use Rattle.kernel_model.specs.declared.KernelFault.{KernelFault}
-use Rattle.kernel_model.specs.declared.KernelError.{KernelError}
-use Rattle.kernel_model.specs.declared.KernelError.TheVariants as kernel
 use Rattle.faults.specs.declared.OrMemory.{OrMemory}
 use Rattle.faults.specs.declared.OrMemory.TheVariants.{Memory, Fault}
 use Rattle.rows.specs.Weighs.{RowsWeigh}
@@ -33,13 +31,13 @@ module _ (old : NodeState) (h : IsNode old) (new : NodeState) where
   unchanged : new ≡ old → IsNode new
   unchanged same = moved old same h
 
-  not_launched : (id config : List ℕ) (e : KernelError) → NotLaunched old id config e new → IsNode new
+  not_launched : (id config : List ℕ) (e : OrMemory KernelFault) → NotLaunched old id config e new → IsNode new
   not_launched id config e n = moved (record old { kernel = new.kernel }) n.is (not_created_node old h new.kernel id n.asked e n.free n.refused)
 
   create_keeps : (id bundle config : List ℕ) (r : Result ℕ (OrMemory NodeFault)) → Creates old id bundle config r new → IsNode new
   create_keeps id bundle config (Ok pid) c = moved _ c.is (created_node old h new.kernel id bundle c.said c.asked c.group pid c.free c.says.fits c.launched)
-  create_keeps id bundle config (Err Memory) c = elim c [ inl n ↦ not_launched id config kernel.Memory n | inr e ↦ unchanged e.1 ]
-  create_keeps id bundle config (Err (Fault (Kernel fault))) c = not_launched id config (kernel.Fault fault) c
+  create_keeps id bundle config (Err Memory) c = elim c [ inl n ↦ not_launched id config Memory n | inr e ↦ unchanged e.1 ]
+  create_keeps id bundle config (Err (Fault (Kernel fault))) c = not_launched id config (Fault fault) c
   create_keeps id bundle config (Err (Fault Busy)) c = unchanged c.1
   create_keeps id bundle config (Err (Fault BadId)) c = unchanged c.1
   create_keeps id bundle config (Err (Fault IdInUse)) c = unchanged c.1

@@ -5,15 +5,14 @@ use Rattle.std.proofs.lemmas.List.{map-append}
 use Rattle.std.specs.Prelude.{map, Option, Some, None, Result, Ok, Err}
 use Rattle.std.specs.List.{AllByRecursion}
 use Rattle.std.specs.Str.{bytes_eq}
+use Rattle.faults.specs.declared.OrMemory.{OrMemory}
+use Rattle.faults.specs.declared.OrMemory.TheVariants.{Memory, Fault}
 use Rattle.cpu_set.specs.Ids.{Ids}
 use Rattle.cpuset_tree.specs.declared.Group.{Group}
 use Rattle.cpuset_tree.specs.Groups.{child_of, requested_cpus}
 use Rattle.proctable.specs.TableState.{TableState}
 use Rattle.proctable.specs.Processes.{is_alive}
-use Rattle.faults.specs.declared.OrMemory.TheVariants.{Memory, Fault}
 use Rattle.kernel_model.specs.declared.KernelFault.{KernelFault}
-use Rattle.kernel_model.specs.declared.KernelError.{KernelError}
-use Rattle.kernel_model.specs.declared.KernelError.TheVariants as kernel
 use Rattle.kernel_model.specs.KernelState.{KernelState}
 use Rattle.kernel_model.specs.KernelLemmas.{writes_keep_processes}
 use Rattle.apply_plan.specs.Holders.{AreApart, HasSome, IsSafe}
@@ -36,7 +35,7 @@ calls_then : (old : KernelState) (xs : List KernelState) (mid : KernelState) (ys
 calls_then old [] mid ys new a b = subst (λ (k : KernelState). AreCalls k ys new) a b
 calls_then old (x ∷ xs) mid ys new a b = (a.0, calls_then x xs mid ys new a.1 b)
 
-found_calls : (found : Option Group) (old : KernelState) (parent : Group) (name : List ℕ) (r : Result Group KernelError) (new : KernelState)
+found_calls : (found : Option Group) (old : KernelState) (parent : Group) (name : List ℕ) (r : Result Group (OrMemory KernelFault)) (new : KernelState)
     (f : FindsOr found old parent name r new) → AreCalls old (found_states found old parent name r new f) new
 found_calls (Some g) old parent name r new f = f.1
 found_calls None old parent name r new f = (Makes parent name r f, refl)
@@ -47,20 +46,20 @@ module _ (g : Group) (cpus mems : Ids) where
   set_calls old r new (inl (fault, refused, is)) = (Cpus g cpus (Err fault) refused, refl)
   set_calls old r new (inr (done, mid, first, second)) = (Cpus g cpus (Ok done) first, (Mems g mems r second, refl))
 
-  set_calls_at_once : (old : KernelState) (r : Result (Unit {0}) KernelError) (new : KernelState) (s : AtOnce (WritesSets old g cpus mems) r new)
+  set_calls_at_once : (old : KernelState) (r : Result (Unit {0}) (OrMemory KernelFault)) (new : KernelState) (s : AtOnce (WritesSets old g cpus mems) r new)
       → AreCalls old (set_states_at_once old g cpus mems r new s) new
   set_calls_at_once old (Ok done) new s = set_calls old (Ok done) new s
-  set_calls_at_once old (Err kernel.Memory) new s = absurd s
-  set_calls_at_once old (Err (kernel.Fault fault)) new s = set_calls old (Err fault) new s
+  set_calls_at_once old (Err Memory) new s = absurd s
+  set_calls_at_once old (Err (Fault fault)) new s = set_calls old (Err fault) new s
 
-  start_calls : (old : KernelState) (r : Result ℕ KernelError) (new : KernelState) (s : StartsIn old g cpus mems r new)
+  start_calls : (old : KernelState) (r : Result ℕ (OrMemory KernelFault)) (new : KernelState) (s : StartsIn old g cpus mems r new)
       → AreCalls old (start_states old g cpus mems r new s) new
   start_calls old r new (inl (fault, refused, is)) = set_calls_at_once old (Err fault) new refused
   start_calls old r new (inr (done, mid, writes, spawns)) =
       calls_then old (set_states_at_once old g cpus mems (Ok done) mid writes) mid (new ∷ []) new
       (set_calls_at_once old (Ok done) mid writes) (Process g r spawns, refl)
 
-launch_calls : (old : KernelState) (parent : Group) (name : List ℕ) (cpus mems : Ids) (r : Result (Group × ℕ) KernelError) (new : KernelState)
+launch_calls : (old : KernelState) (parent : Group) (name : List ℕ) (cpus mems : Ids) (r : Result (Group × ℕ) (OrMemory KernelFault)) (new : KernelState)
     (l : Launches old parent name cpus mems r new) → AreCalls old (launch_states old parent name cpus mems r new l) new
 launch_calls old parent name cpus mems (Ok made) new (mid, found, starts) =
     calls_then old (found_states (child_of old.tree parent name) old parent name (Ok made.0) mid found) mid
@@ -76,19 +75,19 @@ pub creates_are_calls : CreatesAreCalls
 creates_are_calls old id bundle config (Ok pid) new c =
     launch_calls old.kernel old.parent id old.machine.reserved c.asked.homes (Ok (c.group, pid)) new.kernel c.launched
 creates_are_calls old id bundle config (Err Memory) new (inl n) =
-    launch_calls old.kernel old.parent id old.machine.reserved n.asked.homes (Err kernel.Memory) new.kernel n.refused
+    launch_calls old.kernel old.parent id old.machine.reserved n.asked.homes (Err Memory) new.kernel n.refused
 creates_are_calls old id bundle config (Err Memory) new (inr same) = ap (λ (n : NodeState). n.kernel) same.1
 creates_are_calls old id bundle config (Err (Fault (Kernel fault))) new n =
-    launch_calls old.kernel old.parent id old.machine.reserved n.asked.homes (Err (kernel.Fault fault)) new.kernel n.refused
+    launch_calls old.kernel old.parent id old.machine.reserved n.asked.homes (Err (Fault fault)) new.kernel n.refused
 creates_are_calls old id bundle config (Err (Fault fault)) new same = ap (λ (n : NodeState). n.kernel) same.1
 
 -- a group that is found or made, and its sets that are written, leave the processes
-found_table : (found : Option Group) (old : KernelState) (parent : Group) (name : List ℕ) (r : Result Group KernelError) (new : KernelState)
+found_table : (found : Option Group) (old : KernelState) (parent : Group) (name : List ℕ) (r : Result Group (OrMemory KernelFault)) (new : KernelState)
     → FindsOr found old parent name r new → new.table ≡ old.table
 found_table (Some g) old parent name r new f = ap (λ (k : KernelState). k.table) f.1
 found_table None old parent name r new f = (writes_keep_processes.make old new parent name r f).0
 
-found_tables : (found : Option Group) (old : KernelState) (parent : Group) (name : List ℕ) (r : Result Group KernelError) (new : KernelState)
+found_tables : (found : Option Group) (old : KernelState) (parent : Group) (name : List ℕ) (r : Result Group (OrMemory KernelFault)) (new : KernelState)
     (f : FindsOr found old parent name r new) → AllByRecursion (λ k. k.table ≡ old.table) (found_states found old parent name r new f)
 found_tables (Some g) old parent name r new f = tt
 found_tables None old parent name r new f = (found_table None old parent name r new f, tt)
@@ -123,7 +122,8 @@ with_dead owners own k dead h =
     })
 
 module _ (parent : Group) (name : List ℕ) (owners : List Owner) (new_id : AllByRecursion (λ o. bytes_eq name o.id ≡ false) owners) where
-  found_safe : (found : Option Group) (old : KernelState) (r : Result Group KernelError) (new : KernelState) (f : FindsOr found old parent name r new)
+  found_safe : (found : Option Group) (old : KernelState) (r : Result Group (OrMemory KernelFault)) (new : KernelState)
+      (f : FindsOr found old parent name r new)
       → Holds old parent owners → AllSafe owners (found_states found old parent name r new f)
   found_safe (Some g) old r new f h = tt
   found_safe None old r new f h = ((make_stays parent name owners new_id old new h r f).holds.safe, tt)
@@ -137,13 +137,13 @@ module _ (parent : Group) (name : List ℕ) (owners : List Owner) (new_id : AllB
       ((sets_written parent name owners new_id g old new h ready cpus mems r (inr (done, mid, first, second))).holds.safe, tt),
     )
 
-    set_safe_at_once : (e : KernelError) (new : KernelState) (s : AtOnce (WritesSets old g cpus mems) (Err e) new)
+    set_safe_at_once : (e : OrMemory KernelFault) (new : KernelState) (s : AtOnce (WritesSets old g cpus mems) (Err e) new)
         → AllSafe owners (set_states_at_once old g cpus mems (Err e) new s)
-    set_safe_at_once kernel.Memory new s = absurd s
-    set_safe_at_once (kernel.Fault fault) new s = set_safe (Err fault) new s
+    set_safe_at_once Memory new s = absurd s
+    set_safe_at_once (Fault fault) new s = set_safe (Err fault) new s
 
     -- where no first process is made
-    start_safe : (e : KernelError) (new : KernelState) (s : StartsIn old g cpus mems (Err e) new)
+    start_safe : (e : OrMemory KernelFault) (new : KernelState) (s : StartsIn old g cpus mems (Err e) new)
         → AllSafe owners (start_states old g cpus mems (Err e) new s)
     start_safe e new (inl (fault, refused, is)) = set_safe_at_once fault new refused
     start_safe e new (inr (done, mid, writes, spawns)) =
@@ -152,7 +152,7 @@ module _ (parent : Group) (name : List ℕ) (owners : List Owner) (new_id : AllB
         ((not_spawned parent name owners new_id g false mid new there.holds there.ready e spawns).holds.safe, tt)
 
   module _ (cpus mems : Ids) (old new : KernelState) (h : Holds old parent owners) where
-    refused_safe : (e : KernelError) (l : Launches old parent name cpus mems (Err e) new)
+    refused_safe : (e : OrMemory KernelFault) (l : Launches old parent name cpus mems (Err e) new)
         → AllSafe owners (launch_states old parent name cpus mems (Err e) new l)
     refused_safe e (inl refused) = found_safe (child_of old.tree parent name) old (Err e) new refused h
     refused_safe e (inr (g, mid, found, starts)) =
@@ -200,7 +200,7 @@ module _ (old new : NodeState) (id : List ℕ) (h : IsNode old) where
   new_id = other_ids id old.containers
 
   -- of a refused one the containers are those before it
-  not_launched_safe : (config : List ℕ) (e : KernelError) (n : NotLaunched old id config e new)
+  not_launched_safe : (config : List ℕ) (e : OrMemory KernelFault) (n : NotLaunched old id config e new)
       → AllSafe (owners_of new.containers)
       (launch_states old.kernel old.parent id old.machine.reserved n.asked.homes (Err e) new.kernel n.refused)
   not_launched_safe config e n =
@@ -223,7 +223,7 @@ module _ (old new : NodeState) (id : List ℕ) (h : IsNode old) where
 
 pub creates_stay_safe : CreatesStaySafe
 creates_stay_safe old id bundle config (Ok pid) new c h = created_safe old new id h bundle config pid c
-creates_stay_safe old id bundle config (Err Memory) new (inl n) h = not_launched_safe old new id h config kernel.Memory n
+creates_stay_safe old id bundle config (Err Memory) new (inl n) h = not_launched_safe old new id h config Memory n
 creates_stay_safe old id bundle config (Err Memory) new (inr same) h = tt
-creates_stay_safe old id bundle config (Err (Fault (Kernel fault))) new n h = not_launched_safe old new id h config (kernel.Fault fault) n
+creates_stay_safe old id bundle config (Err (Fault (Kernel fault))) new n h = not_launched_safe old new id h config (Fault fault) n
 creates_stay_safe old id bundle config (Err (Fault fault)) new same h = tt

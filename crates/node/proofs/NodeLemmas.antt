@@ -5,8 +5,8 @@ use Rattle.std.proofs.lemmas.Map.{length-set_value}
 use Rattle.std.specs.Prelude.{cond, Result, Ok, Err}
 use Rattle.std.specs.Map.{set_value, remove_entry}
 use Rattle.std.specs.Str.{bytes_eq}
+use Rattle.faults.specs.declared.OrMemory.{OrMemory}
 use Rattle.cpuset_tree.specs.declared.Group.{Group}
-use Rattle.kernel_model.specs.declared.KernelError.{KernelError}
 use Rattle.kernel_model.specs.declared.KernelFault.{KernelFault}
 use Rattle.kernel_model.specs.KernelState.{KernelState}
 use Rattle.kernel_model.specs.Cases.{EndsGroup, RemovesGroup, Forks, Exits, GoesOffline, ComesOnline}
@@ -51,7 +51,7 @@ module _ (n : NodeState) (h : IsNode n) (new : KernelState) where
   passed : Passes n.kernel new n.parent (owners_of n.containers) → IsNode (record n { kernel = new })
   passed p = kernel_node p.stays (still_stands n.kernel new (owners_of n.containers) p.stays.machine.reserved p.each (is_underway n.phase) n.ongoing h.stands)
 
-  pub fork_node : (pid : ℕ) (r : Result ℕ KernelError) → Forks n.kernel pid r new → IsNode (record n { kernel = new })
+  pub fork_node : (pid : ℕ) (r : Result ℕ (OrMemory KernelFault)) → Forks n.kernel pid r new → IsNode (record n { kernel = new })
   fork_node pid r f = passed (fork_passes n.parent (owners_of n.containers) n.kernel new h.holds pid r f)
 
   pub exit_node : (pid : ℕ) (r : Result (Unit {0}) KernelFault) → Exits n.kernel pid r new → IsNode (record n { kernel = new })
@@ -90,7 +90,7 @@ module _ (n : NodeState) (h : IsNode n) (new : KernelState) where
         written = h.written;
       }
 
-  pub not_created_node : (id : List ℕ) (asked : Asked) (e : KernelError) → IsFree n id
+  pub not_created_node : (id : List ℕ) (asked : Asked) (e : OrMemory KernelFault) → IsFree n id
       → Launches n.kernel n.parent id n.machine.reserved asked.homes (Err e) new → IsNode (record n { kernel = new })
   not_created_node id asked e free l =
       kernel_node (not_launched n.parent id (owners_of n.containers) (other_ids id n.containers free.new) false n.machine.reserved asked.homes e n.kernel new h.holds l)

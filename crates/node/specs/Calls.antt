@@ -6,8 +6,6 @@ use Rattle.cpuset_tree.specs.declared.Group.{Group}
 use Rattle.cpuset_tree.specs.Groups.{root_of}
 use Rattle.kernel_model.specs.declared.KernelFault.{KernelFault}
 use Rattle.kernel_model.specs.declared.KernelFault.TheVariants.{Failed}
-use Rattle.kernel_model.specs.declared.KernelError.{KernelError}
-use Rattle.kernel_model.specs.declared.KernelError.TheVariants as kernel
 use Rattle.kernel_model.specs.KernelState.{KernelState}
 use Rattle.kernel_model.specs.Cases.{EndsGroup, RemovesGroup}
 use Rattle.machine.specs.Layout.{Layout}
@@ -30,7 +28,7 @@ Opens old machine n =
     (root : Group) × (root_of old.tree ≡ Some root) × FindsOrMakes old root (codes "numarun") (Ok n.parent) n.kernel
     × (n ≡ record { kernel = n.kernel; machine = machine; parent = n.parent; containers = []; pool = machine.reserved; phase = Settled; ongoing = None; last = None })
 
-abbrev pub OpensNot : KernelState → KernelError → KernelState → Type 0
+abbrev pub OpensNot : KernelState → OrMemory KernelFault → KernelState → Type 0
 OpensNot old error new = (root : Group) × (root_of old.tree ≡ Some root) × FindsOrMakes old root (codes "numarun") (Err error) new
 
 -- a new container, which is not started
@@ -49,7 +47,7 @@ pub record Created (old : NodeState) (id bundle config : List ℕ) (pid : ℕ) (
   pub is : new ≡ record old { kernel = new.kernel; containers = old.containers ++ (id, new_container bundle said asked group pid) ∷ [] }
 
 -- the kernel refused one of its calls, and the container is not there
-pub record NotLaunched (old : NodeState) (id config : List ℕ) (error : KernelError) (new : NodeState) : Type 0 where
+pub record NotLaunched (old : NodeState) (id config : List ℕ) (error : OrMemory KernelFault) (new : NodeState) : Type 0 where
   pub said : Said
   pub asked : Asked
   pub free : IsFree old id
@@ -58,15 +56,15 @@ pub record NotLaunched (old : NodeState) (id config : List ℕ) (error : KernelE
   pub is : new ≡ record old { kernel = new.kernel }
 
 -- what `create` answers where the kernel refuses
-abbrev pub late_answer : KernelError → OrMemory NodeFault
-late_answer kernel.Memory = Memory
-late_answer (kernel.Fault fault) = Fault (Kernel fault)
+abbrev pub late_answer : OrMemory KernelFault → OrMemory NodeFault
+late_answer Memory = Memory
+late_answer (Fault fault) = Fault (Kernel fault)
 
 -- `create`
 abbrev pub Creates : NodeState → List ℕ → List ℕ → List ℕ → Result ℕ (OrMemory NodeFault) → NodeState → Type 0
 Creates old id bundle config (Ok pid) new = Created old id bundle config pid new
-Creates old id bundle config (Err Memory) new = NotLaunched old id config kernel.Memory new ⊎ (IsFree old id × (new ≡ old))
-Creates old id bundle config (Err (Fault (Kernel fault))) new = NotLaunched old id config (kernel.Fault fault) new
+Creates old id bundle config (Err Memory) new = NotLaunched old id config Memory new ⊎ (IsFree old id × (new ≡ old))
+Creates old id bundle config (Err (Fault (Kernel fault))) new = NotLaunched old id config (Fault fault) new
 Creates old id bundle config (Err (Fault fault)) new = CreateCause old id config fault × (new ≡ old)
 
 -- it is live, and was not started

@@ -1,7 +1,6 @@
 -- The node machine: calls and events with their answers, one after another.
 use Rattle.std.specs.Prelude.{◌≡◌, ℕ, List, [], ◌∷◌, map, Result}
 use Rattle.std.specs.List.{AllByRecursion}
-use Rattle.kernel_model.specs.declared.KernelError.{KernelError}
 use Rattle.kernel_model.specs.declared.KernelFault.{KernelFault}
 use Rattle.kernel_model.specs.KernelState.{KernelState}
 use Rattle.kernel_model.specs.WellFormed.{IsWellFormed}
@@ -29,7 +28,7 @@ pub data Event : Type 0 where
   Rebalance : Result Outcome (OrMemory NodeFault) → Event
   Begin : Result Outcome (OrMemory NodeFault) → Event
   StepOn : Result Progress NodeFault → Event
-  Fork : ℕ → Result ℕ KernelError → Event
+  Fork : ℕ → Result ℕ (OrMemory KernelFault) → Event
   Exit : ℕ → Result (Unit {0}) KernelFault → Event
   Offline : ℕ → Result (Unit {0}) KernelFault → Event
   Online : ℕ → Result (Unit {0}) KernelFault → Event

@@ -6,8 +6,6 @@ use Rattle.cpu_set.specs.Ids.{Ids}
 use Rattle.cpuset_tree.specs.declared.Group.{Group}
 use Rattle.cpuset_tree.specs.Groups.{child_of}
 use Rattle.kernel_model.specs.declared.KernelFault.{KernelFault}
-use Rattle.kernel_model.specs.declared.KernelError.{KernelError}
-use Rattle.kernel_model.specs.declared.KernelError.TheVariants as kernel
 use Rattle.kernel_model.specs.KernelState.{KernelState}
 use Rattle.kernel_model.specs.Cases.{MakesGroup, WritesCpus, WritesMems, Spawns}
 use Rattle.faults.specs.declared.OrMemory.{OrMemory}
@@ -22,7 +20,8 @@ use Rattle.node.specs.Launch.{AtOnce, FindsOr, WritesSets, StartsIn, Launches}
 use Rattle.node.specs.Calls.{Creates}
 
 -- the state after a group is made, and none where it is there already
-abbrev pub found_states : (found : Option Group) (old : KernelState) (parent : Group) (name : List ℕ) (r : Result Group KernelError) (new : KernelState)
+abbrev pub found_states : (found : Option Group) (old : KernelState) (parent : Group) (name : List ℕ) (r : Result Group (OrMemory KernelFault))
+    (new : KernelState)
     → FindsOr found old parent name r new → List KernelState
 found_states (Some g) old parent name r new finds = []
 found_states None old parent name r new makes = new ∷ []
@@ -34,20 +33,21 @@ set_states old g cpus mems r new (inl refused) = new ∷ []
 set_states old g cpus mems r new (inr (done, mid, first, second)) = mid ∷ new ∷ []
 
 -- the same among calls that may want memory
-abbrev pub set_states_at_once : (old : KernelState) (g : Group) (cpus mems : Ids) (r : Result (Unit {0}) KernelError) (new : KernelState)
+abbrev pub set_states_at_once : (old : KernelState) (g : Group) (cpus mems : Ids) (r : Result (Unit {0}) (OrMemory KernelFault)) (new : KernelState)
     → AtOnce (WritesSets old g cpus mems) r new → List KernelState
 set_states_at_once old g cpus mems (Ok done) new writes = set_states old g cpus mems (Ok done) new writes
-set_states_at_once old g cpus mems (Err kernel.Memory) new never = absurd never
-set_states_at_once old g cpus mems (Err (kernel.Fault fault)) new writes = set_states old g cpus mems (Err fault) new writes
+set_states_at_once old g cpus mems (Err Memory) new never = absurd never
+set_states_at_once old g cpus mems (Err (Fault fault)) new writes = set_states old g cpus mems (Err fault) new writes
 
 -- these, and where none is refused the state after a first process is made in the group
-abbrev pub start_states : (old : KernelState) (g : Group) (cpus mems : Ids) (r : Result ℕ KernelError) (new : KernelState)
+abbrev pub start_states : (old : KernelState) (g : Group) (cpus mems : Ids) (r : Result ℕ (OrMemory KernelFault)) (new : KernelState)
     → StartsIn old g cpus mems r new → List KernelState
 start_states old g cpus mems r new (inl (fault, refused, is)) = set_states_at_once old g cpus mems (Err fault) new refused
 start_states old g cpus mems r new (inr (done, mid, writes, spawns)) = set_states_at_once old g cpus mems (Ok done) mid writes ++ new ∷ []
 
 -- the states after all calls by which a container's group and first process are made
-abbrev pub launch_states : (old : KernelState) (parent : Group) (name : List ℕ) (cpus mems : Ids) (r : Result (Group × ℕ) KernelError) (new : KernelState)
+abbrev pub launch_states : (old : KernelState) (parent : Group) (name : List ℕ) (cpus mems : Ids) (r : Result (Group × ℕ) (OrMemory KernelFault))
+    (new : KernelState)
     → Launches old parent name cpus mems r new → List KernelState
 launch_states old parent name cpus mems (Ok made) new (mid, found, starts) =
     found_states (child_of old.tree parent name) old parent name (Ok made.0) mid found ++ start_states mid made.0 cpus mems (Ok made.1) new starts
@@ -61,18 +61,18 @@ abbrev pub create_states : (old : NodeState) (id bundle config : List ℕ) (r : 
 create_states old id bundle config (Ok pid) new c =
     launch_states old.kernel old.parent id old.machine.reserved c.asked.homes (Ok (c.group, pid)) new.kernel c.launched
 create_states old id bundle config (Err Memory) new (inl n) =
-    launch_states old.kernel old.parent id old.machine.reserved n.asked.homes (Err kernel.Memory) new.kernel n.refused
+    launch_states old.kernel old.parent id old.machine.reserved n.asked.homes (Err Memory) new.kernel n.refused
 create_states old id bundle config (Err Memory) new (inr same) = []
 create_states old id bundle config (Err (Fault (Kernel fault))) new n =
-    launch_states old.kernel old.parent id old.machine.reserved n.asked.homes (Err (kernel.Fault fault)) new.kernel n.refused
+    launch_states old.kernel old.parent id old.machine.reserved n.asked.homes (Err (Fault fault)) new.kernel n.refused
 create_states old id bundle config (Err (Fault fault)) new same = []
 
 -- one call of the kernel, whatever it answers
 pub data IsOneCall (old new : KernelState) : Type 0 where
-  Makes : (parent : Group) (name : List ℕ) (r : Result Group KernelError) → MakesGroup old parent name r new → IsOneCall old new
+  Makes : (parent : Group) (name : List ℕ) (r : Result Group (OrMemory KernelFault)) → MakesGroup old parent name r new → IsOneCall old new
   Cpus : (g : Group) (cpus : Ids) (r : Result (Unit {0}) KernelFault) → WritesCpus old g cpus r new → IsOneCall old new
   Mems : (g : Group) (mems : Ids) (r : Result (Unit {0}) KernelFault) → WritesMems old g mems r new → IsOneCall old new
-  Process : (g : Group) (r : Result ℕ KernelError) → Spawns old g r new → IsOneCall old new
+  Process : (g : Group) (r : Result ℕ (OrMemory KernelFault)) → Spawns old g r new → IsOneCall old new
 
 -- each of the states is what one call leaves of the state before it, from the first kernel to the last
 abbrev pub AreCalls : KernelState → List KernelState → KernelState → Type 0

@@ -13,7 +13,7 @@ use certificate_text::is_id;
 use config_json::Config;
 use demand::Demand;
 use faults::OrMemory;
-use kernel_model::{Kernel, KernelError};
+use kernel_model::{Kernel, KernelFault};
 use machine::Machine;
 use std::alloc::Global;
 
@@ -37,12 +37,12 @@ fn read_config(
 }
 
 /// What `create` answers where the kernel refuses.
-fn late_answer(error: KernelError) -> OrMemory<NodeFault>
+fn late_answer(error: OrMemory<KernelFault>) -> OrMemory<NodeFault>
     ensures { result ≡ late_answer error }
 {
     match error {
-        KernelError::Memory => OrMemory::Memory,
-        KernelError::Fault(fault) => OrMemory::Fault(NodeFault::Kernel(fault)),
+        OrMemory::Memory => OrMemory::Memory,
+        OrMemory::Fault(fault) => OrMemory::Fault(NodeFault::Kernel(fault)),
     }
 }
 

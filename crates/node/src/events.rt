@@ -3,14 +3,15 @@ ghost use Rattle.std.specs.Prelude.{◌≡◌};
 ghost use Rattle.kernel_model.specs.Cases.{Forks, Exits, GoesOffline, ComesOnline};
 
 use crate::Node;
-use kernel_model::{Kernel, KernelError, KernelFault};
+use faults::OrMemory;
+use kernel_model::{Kernel, KernelFault};
 
 impl<K: Kernel + Drop> Node<K> {
     /// A process forks.
     ///
     /// # Errors
     /// `NoProcess`, `NoPids`, or want of memory.
-    pub fn fork(&mut self, parent: u32) -> Result<u32, KernelError>
+    pub fn fork(&mut self, parent: u32) -> Result<u32, OrMemory<KernelFault>>
         ensures event { Forks self.old.kernel parent result self.new.kernel }
         ensures rest { self.new ≡ record self.old { kernel = self.new.kernel } }
     {

@@ -4,14 +4,15 @@ ghost use Rattle.cpuset_tree.specs.Groups.{has_group};
 ghost use Rattle.node.specs.Launch.{FindsOrMakes, WritesSets, StartsIn, Launches};
 
 use cpu_set::IdSet;
-use kernel_model::{Group, Kernel, KernelError, KernelFault};
+use faults::OrMemory;
+use kernel_model::{Group, Kernel, KernelFault};
 
 /// The child of this name, which is made if there is none.
 pub fn find_or_make<K: Kernel>(
     kernel: &mut K,
     parent: Group,
     name: &str,
-) -> Result<Group, KernelError>
+) -> Result<Group, OrMemory<KernelFault>>
     requires { has_group (K.state kernel.old).tree parent ≡ true }
     ensures { FindsOrMakes (K.state kernel.old) parent name.now result (K.state kernel.new) }
 {
@@ -43,11 +44,11 @@ fn start_in<K: Kernel>(
     group: Group,
     cpus: IdSet,
     mems: IdSet,
-) -> Result<u32, KernelError>
+) -> Result<u32, OrMemory<KernelFault>>
     ensures { StartsIn (K.state kernel.old) group cpus mems result (K.state kernel.new) }
 {
     if let Err(fault) = write_sets(kernel, group, cpus, mems) {
-        return Err(KernelError::Fault(fault));
+        return Err(OrMemory::Fault(fault));
     }
     kernel.spawn(group)
 }
@@ -59,7 +60,7 @@ pub fn launch<K: Kernel>(
     name: &str,
     cpus: IdSet,
     mems: IdSet,
-) -> Result<(Group, u32), KernelError>
+) -> Result<(Group, u32), OrMemory<KernelFault>>
     requires { has_group (K.state kernel.old).tree parent ≡ true }
     ensures { Launches (K.state kernel.old) parent name.now cpus mems result (K.state kernel.new) }
 {

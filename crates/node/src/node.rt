@@ -8,8 +8,9 @@ use crate::ongoing::Ongoing;
 use crate::phase::Phase;
 use certificate_text::Certificate;
 use cpu_set::IdSet;
+use faults::OrMemory;
 use indexmap::IndexMap;
-use kernel_model::{Group, Kernel, KernelError};
+use kernel_model::{Group, Kernel, KernelFault};
 use machine::Machine;
 use std::alloc::Global;
 use std::marker::Model;
@@ -73,7 +74,7 @@ pub struct NotOpened<K: Kernel + Drop> {
     /// The machine.
     pub machine: Machine,
     /// What the kernel answered: that memory or serials ran out, or that the write failed.
-    pub error: KernelError,
+    pub error: OrMemory<KernelFault>,
 }
 
 impl<K: Kernel + Drop> Node<K> {

@@ -69,13 +69,7 @@ fn state_text<K: Kernel>(
     let status = status(kernel, container);
     match status {
         Status::Stopped => stopped_text(alloc, id, bundle, status.word()),
-        _ => live_text(
-            alloc,
-            id,
-            bundle,
-            u64::from(container.pid),
-            status.word(),
-        ),
+        _ => live_text(alloc, id, bundle, u64::from(container.pid), status.word()),
     }
 }
 

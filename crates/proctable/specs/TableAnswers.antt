@@ -1,11 +1,11 @@
 -- What each call of a table answers: the first thing that stands against it, in the order written here, or what it is for.
 use Rattle.std.specs.Prelude.{◌≡◌, ℕ, false, nat_lt, if◌then◌else◌, not, Option, Some, None, Result, Ok, Err}
+use Rattle.faults.specs.declared.or_memory.OrMemory.{OrMemory}
+use Rattle.faults.specs.declared.or_memory.OrMemory.TheVariants.{Memory, Fault}
 use Rattle.cpuset_tree.specs.declared.Group.{Group}
 use Rattle.proctable.specs.declared.TheConstants.{LAST_PID}
-use Rattle.proctable.specs.declared.faults.ProcFault.{ProcFault}
-use Rattle.proctable.specs.declared.faults.ProcFault.TheVariants.{NoPids, NoProcess}
-use Rattle.proctable.specs.declared.faults.ProcError.{ProcError}
-use Rattle.proctable.specs.declared.faults.ProcError.TheVariants.{Memory, Fault}
+use Rattle.proctable.specs.declared.fault.ProcFault.{ProcFault}
+use Rattle.proctable.specs.declared.fault.ProcFault.TheVariants.{NoPids, NoProcess}
 use Rattle.proctable.specs.declared.processes.Process.{Process}
 use Rattle.proctable.specs.TableState.{TableState}
 use Rattle.proctable.specs.Processes.{process_of, is_alive}
@@ -32,18 +32,18 @@ pub record AddsProcess (old : TableState) (g : Group) (first pid : ℕ) (new : T
 module _ (refusal : Option ProcFault) (Does : ℕ → TableState → Type 0) (old : TableState) where
   -- a call that grows the table answers the first thing that stands against it and changes nothing, or does what it is for;
   -- memory is asked for only once nothing does
-  abbrev pub Grows : Result ℕ ProcError → TableState → Type 0
+  abbrev pub Grows : Result ℕ (OrMemory ProcFault) → TableState → Type 0
   Grows (Ok pid) new = (refusal ≡ None) × Does pid new
   Grows (Err Memory) new = (refusal ≡ None) × (new ≡ old)
   Grows (Err (Fault fault)) new = (refusal ≡ Some fault) × (new ≡ old)
 
 -- a first process is made, which belongs to itself
-abbrev pub Spawns : TableState → Group → Result ℕ ProcError → TableState → Type 0
+abbrev pub Spawns : TableState → Group → Result ℕ (OrMemory ProcFault) → TableState → Type 0
 Spawns old g = Grows (spawn_refusal old) (λ pid new. AddsProcess old g pid pid new) old
 
 -- a new process is in its parent's group, and belongs to its parent's first process
 abbrev pub ForksOf : TableState → ℕ → ℕ → TableState → Type 0
 ForksOf old parent pid new = (p : Process) × (process_of old parent ≡ Some p) × AddsProcess old p.group p.first pid new
 
-abbrev pub Forks : TableState → ℕ → Result ℕ ProcError → TableState → Type 0
+abbrev pub Forks : TableState → ℕ → Result ℕ (OrMemory ProcFault) → TableState → Type 0
 Forks old parent = Grows (fork_refusal old parent) (ForksOf old parent) old

@@ -1,13 +1,13 @@
 //! The live processes of a modelled kernel: each has a pid, a group, and the first process that it belongs to.
 #![tactic(auto)]
 
-mod faults;
+mod fault;
 pub mod laws;
 mod processes;
 #[cfg(test)]
 mod tests;
 
-pub use faults::{ProcError, ProcFault};
+pub use fault::ProcFault;
 pub use processes::{ProcTable, Process};
 
 /// The greatest pid; once it was given, no process can be made.

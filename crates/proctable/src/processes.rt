@@ -6,8 +6,9 @@ ghost use Rattle.proctable.specs.TableAnswers.{exit_refusal, AddsProcess, Spawns
 ghost use Rattle.proctable.specs.TableWellFormed.{IsWellFormed};
 ghost use Rattle.proctable.specs.Kept.{BelongsNext, IsAt, nobody};
 
-use crate::{LAST_PID, ProcError, ProcFault};
+use crate::{LAST_PID, ProcFault};
 use cpuset_tree::Group;
+use faults::OrMemory;
 use std::alloc::{AllocError, Global};
 use std::marker::Model;
 
@@ -110,11 +111,11 @@ impl ProcTable {
     /// Makes a first process in a group.
     ///
     /// Refused: [`ProcFault::NoPids`].
-    pub fn spawn(&mut self, group: Group) -> Result<u32, ProcError>
+    pub fn spawn(&mut self, group: Group) -> Result<u32, OrMemory<ProcFault>>
         ensures { Spawns self.old group result self.new }
     {
         if self.next_pid > LAST_PID {
-            return Err(ProcError::Fault(ProcFault::NoPids));
+            return Err(OrMemory::Fault(ProcFault::NoPids));
         }
         Ok(self.add(group, self.next_pid)?)
     }
@@ -122,14 +123,14 @@ impl ProcTable {
     /// Makes a process in its parent's group, which belongs to its parent's first process.
     ///
     /// Refused, in this order: [`ProcFault::NoProcess`], [`ProcFault::NoPids`].
-    pub fn fork(&mut self, parent: u32) -> Result<u32, ProcError>
+    pub fn fork(&mut self, parent: u32) -> Result<u32, OrMemory<ProcFault>>
         ensures { Forks self.old parent result self.new }
     {
         let Some(process) = self.process(parent) else {
-            return Err(ProcError::Fault(ProcFault::NoProcess));
+            return Err(OrMemory::Fault(ProcFault::NoProcess));
         };
         if self.next_pid > LAST_PID {
-            return Err(ProcError::Fault(ProcFault::NoPids));
+            return Err(OrMemory::Fault(ProcFault::NoPids));
         }
         Ok(self.add(process.group, process.first)?)
     }

@@ -1,5 +1,6 @@
-use crate::{LAST_PID, ProcError, ProcFault, ProcTable};
+use crate::{LAST_PID, ProcFault, ProcTable};
 use cpuset_tree::Group;
+use faults::OrMemory;
 use std::test::Fail;
 
 const HERE: Group = Group { key: 0, serial: 0 };
@@ -23,7 +24,7 @@ fn a_first_process_ends_all_that_belong_to_it(rt: HostRuntime) -> Result<(), Fai
     assert_eq!(rt; (table.alive(2), table.alive(4)), (false, false));
     assert_eq!(rt; table.count_in(HERE), 0);
     assert_eq!(rt; table.exit(2), Err(ProcFault::NoProcess));
-    assert_eq!(rt; table.fork(2), Err(ProcError::Fault(ProcFault::NoProcess)));
+    assert_eq!(rt; table.fork(2), Err(OrMemory::Fault(ProcFault::NoProcess)));
     Ok(())
 }
 
@@ -41,10 +42,10 @@ fn a_group_ends_alone(rt: HostRuntime) -> Result<(), Fail> {
 fn the_last_pid_is_given_once(rt: HostRuntime) -> Result<(), Fail> {
     let mut table = ProcTable::new(rt.alloc(), LAST_PID);
     assert_eq!(rt; table.spawn(HERE), Ok(4_194_303));
-    assert_eq!(rt; table.spawn(HERE), Err(ProcError::Fault(ProcFault::NoPids)));
+    assert_eq!(rt; table.spawn(HERE), Err(OrMemory::Fault(ProcFault::NoPids)));
     assert_eq!(rt;
         table.fork(4_194_303),
-        Err(ProcError::Fault(ProcFault::NoPids))
+        Err(OrMemory::Fault(ProcFault::NoPids))
     );
     Ok(())
 }

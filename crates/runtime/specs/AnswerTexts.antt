@@ -6,9 +6,7 @@ use Rattle.cpu_set.specs.Ids.{Ids}
 use Rattle.cpu_list.specs.CanonicalList.{list_text}
 use Rattle.faults.specs.declared.or_memory.OrMemory.{OrMemory}
 use Rattle.faults.specs.declared.or_memory.OrMemory.TheVariants as either
-use Rattle.kernel_model.specs.declared.faults.KernelError.{KernelError}
-use Rattle.kernel_model.specs.declared.faults.KernelError.TheVariants as kernel
-use Rattle.kernel_model.specs.declared.faults.KernelFault.{KernelFault}
+use Rattle.kernel_model.specs.declared.fault.KernelFault.{KernelFault}
 use Rattle.node.specs.declared.fault.NodeFault.{NodeFault}
 use Rattle.node.specs.declared.fault.NodeFault.TheVariants.{Kernel}
 use Rattle.node.specs.declared.container.Status.{Status}
@@ -28,9 +26,9 @@ of_either (either.Fault fault) = Node fault
 abbrev pub of_kernel_fault : KernelFault → Refusal
 of_kernel_fault fault = Node (Kernel fault)
 
-abbrev pub of_kernel : KernelError → Refusal
-of_kernel kernel.Memory = Memory
-of_kernel (kernel.Fault fault) = of_kernel_fault fault
+abbrev pub of_kernel : OrMemory KernelFault → Refusal
+of_kernel either.Memory = Memory
+of_kernel (either.Fault fault) = of_kernel_fault fault
 
 -- the text of what a call gave, or the refusal's line
 abbrev pub answer_text : {A E : Type 0} → (A → List ℕ) → (E → Refusal) → Result A E → List ℕ

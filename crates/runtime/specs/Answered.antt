@@ -5,8 +5,7 @@ use Rattle.certificate_text.specs.Written.{text_of}
 use Rattle.certificate_text.specs.declared.certificates.Certificate.{Certificate}
 use Rattle.apply_plan.specs.declared.Progress.{Progress}
 use Rattle.faults.specs.declared.or_memory.OrMemory.{OrMemory}
-use Rattle.kernel_model.specs.declared.faults.KernelError.{KernelError}
-use Rattle.kernel_model.specs.declared.faults.KernelFault.{KernelFault}
+use Rattle.kernel_model.specs.declared.fault.KernelFault.{KernelFault}
 use Rattle.kernel_model.specs.Cases.{Forks, Exits, GoesOffline, ComesOnline}
 use Rattle.node.specs.declared.fault.NodeFault.{NodeFault}
 use Rattle.node.specs.declared.reads.Sets.{Sets}
@@ -68,7 +67,7 @@ abbrev pub AnswersPhase : NodeState → List ℕ → NodeState → Type 0
 AnswersPhase old text new = (text ≡ phase_line old.phase) × (new ≡ old)
 
 abbrev pub AnswersFork : NodeState → ℕ → List ℕ → NodeState → Type 0
-AnswersFork old pid text new = (r : Result ℕ KernelError)
+AnswersFork old pid text new = (r : Result ℕ (OrMemory KernelFault))
     × Forks old.kernel pid r new.kernel × InKernel old new × (text ≡ answer_text pid_line of_kernel r)
 
 abbrev pub AnswersExit : NodeState → ℕ → List ℕ → NodeState → Type 0

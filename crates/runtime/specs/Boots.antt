@@ -1,6 +1,7 @@
 -- A node from the beginning.
 use Rattle.std.specs.Prelude.{◌≡◌, ◌⊎◌}
-use Rattle.kernel_model.specs.declared.faults.KernelError.{KernelError}
+use Rattle.faults.specs.declared.or_memory.OrMemory.{OrMemory}
+use Rattle.kernel_model.specs.declared.fault.KernelFault.{KernelFault}
 use Rattle.kernel_model.specs.KernelState.{KernelState, IsFirstKernel}
 use Rattle.machine.specs.Layout.{Layout}
 use Rattle.machine.specs.Present.{present}
@@ -24,4 +25,4 @@ Boots m n = (k : KernelState) × IsKernelOf m k × Opens k m n
 abbrev pub BootsNot : Layout → Refusal → Type 0
 BootsNot m refusal =
     (refusal ≡ Memory)
-    ⊎ ((k : KernelState) × (error : KernelError) × (new : KernelState) × IsKernelOf m k × OpensNot k error new × (refusal ≡ of_kernel error))
+    ⊎ ((k : KernelState) × (error : OrMemory KernelFault) × (new : KernelState) × IsKernelOf m k × OpensNot k error new × (refusal ≡ of_kernel error))

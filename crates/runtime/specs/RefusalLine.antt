@@ -8,8 +8,8 @@ use Rattle.config_json.specs.declared.fault.ConfigFault.{ConfigFault}
 use Rattle.config_json.specs.declared.fault.ConfigFault.TheVariants as config
 use Rattle.demand.specs.declared.demand_fault.DemandFault.{DemandFault}
 use Rattle.demand.specs.declared.demand_fault.DemandFault.TheVariants as demand
-use Rattle.kernel_model.specs.declared.faults.KernelFault.{KernelFault}
-use Rattle.kernel_model.specs.declared.faults.KernelFault.TheVariants as kernel
+use Rattle.kernel_model.specs.declared.fault.KernelFault.{KernelFault}
+use Rattle.kernel_model.specs.declared.fault.KernelFault.TheVariants as kernel
 use Rattle.node.specs.declared.fault.NodeFault.{NodeFault}
 use Rattle.node.specs.declared.fault.NodeFault.TheVariants as node
 use Rattle.runtime.specs.declared.refusal.Refusal.{Refusal}

@@ -9,7 +9,7 @@ use cpu_list::{ListError, ListErrorKind, put, put_all};
 use demand::DemandFault;
 use faults::OrMemory;
 use itoa::Buffer;
-use kernel_model::{KernelError, KernelFault};
+use kernel_model::KernelFault;
 use node::NodeFault;
 use std::io;
 use std::io::Write;
@@ -89,13 +89,13 @@ impl From<KernelFault> for Refusal {
     }
 }
 
-impl From<KernelError> for Refusal {
+impl From<OrMemory<KernelFault>> for Refusal {
     ghost from_gives = { λ error refusal. refusal ≡ of_kernel error };
 
-    fn from(error: KernelError) -> Refusal {
+    fn from(error: OrMemory<KernelFault>) -> Refusal {
         match error {
-            KernelError::Memory => Refusal::Memory,
-            KernelError::Fault(fault) => Refusal::from(fault),
+            OrMemory::Memory => Refusal::Memory,
+            OrMemory::Fault(fault) => Refusal::from(fault),
         }
     }
 }

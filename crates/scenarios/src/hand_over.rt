@@ -3,7 +3,8 @@ use crate::{handover, step};
 use apply_plan::{Entry, Handover, Progress};
 use cpu_list::read;
 use cpu_set::{CPU_LIMIT, IdSet};
-use kernel_model::{FusedKernel, Group, Kernel, KernelError, KernelFault, ModelKernel};
+use faults::OrMemory;
+use kernel_model::{FusedKernel, Group, Kernel, KernelFault, ModelKernel};
 use std::alloc::{AllocError, Global};
 use std::test::Fail;
 
@@ -44,7 +45,7 @@ fn launch<K: Kernel>(
     alloc: Global,
     kernel: &mut K,
     moves: &[Move],
-) -> Result<Vec<Entry>, KernelError> {
+) -> Result<Vec<Entry>, OrMemory<KernelFault>> {
     let names = ["a", "b", "c"];
     let mut entries = Vec::new(alloc);
     let above = kernel.make_group(kernel.root(), "numarun")?;

@@ -17,7 +17,7 @@ fn failing_reads(rt: HostRuntime) {
         let mut tape = Tape::new(b"abcdef", 2);
         tape.fails = fails;
         assert!(rt;
-            read_all(rt.alloc(), &mut tape).err() == Some(ReadError::Fault(ReadFault::Failed))
+            read_all(rt.alloc(), &mut tape).err() == Some(OrMemory::Fault(ReadFault::Failed))
         );
         assert_eq!(rt; tape.calls, fails);
     }
@@ -27,7 +27,7 @@ fn failing_reads(rt: HostRuntime) {
 fn bound_on_reads(rt: HostRuntime) -> Result<(), Fail> {
     let mut endless = Flood::new(usize::MAX, 1);
     assert!(rt;
-        read_all(rt.alloc(), &mut endless).err() == Some(ReadError::Fault(ReadFault::TooManyReads))
+        read_all(rt.alloc(), &mut endless).err() == Some(OrMemory::Fault(ReadFault::TooManyReads))
     );
     assert_eq!(rt; endless.calls, 1_000_000);
     let bytes = read_all(rt.alloc(), &mut Flood::new(999_999, 1))?;
@@ -41,7 +41,7 @@ fn bound_on_bytes(rt: HostRuntime) -> Result<(), Fail> {
     assert_eq!(rt; bytes.len(), 67_108_864);
     let mut flood = Flood::new(usize::MAX, usize::MAX);
     assert!(rt;
-        read_all(rt.alloc(), &mut flood).err() == Some(ReadError::Fault(ReadFault::TooManyBytes))
+        read_all(rt.alloc(), &mut flood).err() == Some(OrMemory::Fault(ReadFault::TooManyBytes))
     );
     assert_eq!(rt; flood.left, usize::MAX - 67_108_865);
     Ok(())

@@ -1,7 +1,8 @@
 use Rattle.std.proofs.Common.{List, [], ◌∷◌, ◌++◌, take, refl, subst, arith}
 use Rattle.std.proofs.lemmas.List.{take_more}
 use Rattle.std.specs.Prelude.{Result}
-use Rattle.kernel_model.specs.declared.faults.KernelError.{KernelError}
+use Rattle.faults.specs.declared.or_memory.OrMemory.{OrMemory}
+use Rattle.kernel_model.specs.declared.fault.KernelFault.{KernelFault}
 use Rattle.kernel_model.specs.declared.call.Call.{Call}
 use Rattle.kernel_model.specs.declared.call.Reply.{Reply}
 use Rattle.kernel_model.specs.KernelState.{KernelState}
@@ -9,7 +10,8 @@ use Rattle.kernel_model.specs.Runs.{Step, Run}
 use Rattle.kernel_model.proofs.call.make_calls.Goals as goal
 
 -- one call more
-Run-push : (old mid new : KernelState) (calls : List Call) (replies : List (Result Reply KernelError)) (call : Call) (r : Result Reply KernelError)
+Run-push : (old mid new : KernelState) (calls : List Call) (replies : List (Result Reply (OrMemory KernelFault))) (call : Call)
+    (r : Result Reply (OrMemory KernelFault))
     → Run old calls replies mid → Step mid call r new → Run old (calls ++ call ∷ []) (replies ++ r ∷ []) new
 Run-push old mid new [] [] call r h step = (new, subst (λ (k : KernelState). Step k call r new) h step, refl)
 Run-push old mid new [] (first ∷ replies) call r h step = absurd h

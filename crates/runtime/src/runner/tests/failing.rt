@@ -4,7 +4,8 @@
 //! Up to `b` in its place the kernel is written thirteen times: once for the node's group, four times for each container,
 //! once for the plan of `a` alone, and three times to make room.
 use super::{Case, Fail, FusedKernel, Kernel, Node, kernel_of, run, two_nodes};
-use kernel_model::{KernelError, KernelFault};
+use faults::OrMemory;
+use kernel_model::KernelFault;
 use node::GROUP_NAME;
 use std::alloc::Global;
 use std::process::Abort;
@@ -109,7 +110,7 @@ fn the_node_s_group_fails(rt: HostRuntime) -> Result<(), Fail> {
     let Err(refused) = Node::new(rt.alloc(), FusedKernel::new(kernel, 1), machine) else {
         panic!(&rt; "the node is made")
     };
-    assert!(&rt; refused.error == KernelError::Fault(KernelFault::Failed));
+    assert!(&rt; refused.error == OrMemory::Fault(KernelFault::Failed));
     assert!(&rt; refused.machine.present() == present);
     assert!(&rt; refused.machine.reserved() == reserved);
     let mut kernel = refused.kernel;

@@ -1,7 +1,7 @@
 use Rattle.std.proofs.Common.{Bool, not, sym, ap}
 use Rattle.std.specs.Prelude.{Some, None, Ok, if◌then◌else◌}
 use Rattle.proctable.specs.TableState.{TableState}
-use Rattle.kernel_model.specs.declared.faults.KernelFault.TheVariants.{NoGroup}
+use Rattle.kernel_model.specs.declared.fault.KernelFault.TheVariants.{NoGroup}
 use Rattle.kernel_model.specs.KernelState.{KernelState}
 use Rattle.kernel_model.specs.KernelLemmas.{each_case_keeps}
 use Rattle.kernel_model.proofs.model_kernel.ModelKernelKernel.end_group.Goals as goal

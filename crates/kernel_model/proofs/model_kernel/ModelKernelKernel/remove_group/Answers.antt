@@ -3,7 +3,7 @@ use Rattle.std.specs.Prelude.{Option, Some, None, Ok, option_map, nat_lt, if◌t
 use Rattle.cpuset_tree.specs.declared.TreeFault.{TreeFault}
 use Rattle.cpuset_tree.specs.TreeState.{TreeState}
 use Rattle.proctable.specs.Processes.{count_in}
-use Rattle.kernel_model.specs.declared.faults.KernelFault.TheVariants.{HasProcesses}
+use Rattle.kernel_model.specs.declared.fault.KernelFault.TheVariants.{HasProcesses}
 use Rattle.kernel_model.specs.Faults.{of_tree}
 use Rattle.kernel_model.specs.Refusals.{or_then}
 use Rattle.kernel_model.specs.RefusalLemmas.{nobody}

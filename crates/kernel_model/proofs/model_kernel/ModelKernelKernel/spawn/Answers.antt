@@ -1,19 +1,33 @@
-use Rattle.std.proofs.Common.{Bool, not, refl, sym, ap, ◌∙◌}
-use Rattle.std.specs.Prelude.{Some, None, Ok, option_map, if◌then◌else◌}
-use Rattle.proctable.specs.TableAnswers.{spawn_refusal}
-use Rattle.kernel_model.specs.declared.faults.KernelFault.TheVariants.{NoGroup}
+use Rattle.std.proofs.Common.{◌≡◌, ℕ, Bool, true, not, refl, sym, ap, ◌∙◌, subst}
+use Rattle.std.specs.Prelude.{Some, None, Result, Ok, Err, option_map, if◌then◌else◌}
+use Rattle.faults.specs.declared.or_memory.OrMemory.{OrMemory}
+use Rattle.faults.specs.declared.or_memory.OrMemory.TheVariants.{Memory, Fault}
+use Rattle.cpuset_tree.specs.declared.Group.{Group}
+use Rattle.cpuset_tree.specs.Groups.{has_group}
+use Rattle.proctable.specs.declared.ProcFault.{ProcFault}
+use Rattle.proctable.specs.TableState.{TableState}
+use Rattle.proctable.specs.TableAnswers.{spawn_refusal, Spawns}
+use Rattle.kernel_model.specs.declared.fault.KernelFault.TheVariants.{NoGroup}
 use Rattle.kernel_model.specs.Faults.{of_proc}
 use Rattle.kernel_model.specs.Refusals.{or_then}
 use Rattle.kernel_model.specs.KernelState.{KernelState}
 use Rattle.kernel_model.specs.KernelLemmas.{each_case_keeps}
+use Rattle.kernel_model.specs.WellFormed.{IsWellFormed}
 use Rattle.kernel_model.proofs.model_kernel.ModelKernelKernel.spawn.Goals as goal
 
-pub invariant_of-self-2 : goal.invariant_of-self-2
-invariant_of-self-2 c =
+-- whatever the table answers
+module _ (old : KernelState) (well_formed : IsWellFormed old) (g : Group) (there : has_group old.tree g ≡ true) (new : TableState) where
+  spawned : (r : Result ℕ (OrMemory ProcFault)) → Spawns old.table g r new → IsWellFormed (record old { table = new })
+  spawned (Ok pid) h = ((each_case_keeps old (record old { table = new }) well_formed).spawn g (Ok pid) (
+    ap (λ (b : Bool). or_then (if not b then Some NoGroup else None) (option_map of_proc (spawn_refusal old.table))) there
+        ∙ ap (option_map of_proc) h.0,
+    record { does = h.1; rest = refl },
+  )).well_formed
+  spawned (Err Memory) h = subst (λ (t : TableState). IsWellFormed (record old { table = t })) (sym h.1) well_formed
+  spawned (Err (Fault fault)) h = subst (λ (t : TableState). IsWellFormed (record old { table = t })) (sym h.1) well_formed
+
+pub invariant_of-self : goal.invariant_of-self
+invariant_of-self c =
     let i = c.self.inside in
     let old : KernelState = record { tree = i.tree; table = i.table; present = i.present; reserved = i.reserved; failures = 0 } in
-    ((each_case_keeps old (record old { table = c.spawn.new.self }) c.self.invariant).spawn c.args.group (Ok c.in_ok-spawn.field-0) (
-      ap (λ (b : Bool). or_then (if not b then Some NoGroup else None) (option_map of_proc (spawn_refusal i.table))) (sym c.if-not-contains.ensures)
-          ∙ ap (option_map of_proc) c.in_ok-spawn.ensures.0,
-      record { does = c.in_ok-spawn.ensures.1; rest = refl },
-    )).well_formed
+    spawned old c.self.invariant c.args.group (sym c.if-not-contains.ensures) c.spawn.new.self c.spawn.result c.spawn.ensures

@@ -1,10 +1,9 @@
 ghost use Rattle.std.specs.Prelude.{◌≡◌};
-ghost use Rattle.kernel_model.specs.declared.faults.KernelError.TheVariants.{Memory, Fault};
 ghost use Rattle.kernel_model.specs.Faults.{of_tree, of_tree_error, of_proc, of_proc_error};
 
-use cpuset_tree::{TreeError, TreeFault};
-use proctable::{ProcError, ProcFault};
-use std::alloc::AllocError;
+use cpuset_tree::TreeFault;
+use faults::{Fault, OrMemory};
+use proctable::ProcFault;
 
 /// Why a kernel refuses a call, or that a write failed.
 #[derive(Clone, Copy, Debug, PartialEq, Eq)]
@@ -33,30 +32,7 @@ pub enum KernelFault {
     NoCpu,
 }
 
-/// Why a call of a kernel that needs memory did nothing.
-#[derive(Clone, Copy, Debug, PartialEq, Eq)]
-pub enum KernelError {
-    /// A growth was refused.
-    Memory,
-    /// The call was refused, or failed.
-    Fault(KernelFault),
-}
-
-impl From<AllocError> for KernelError {
-    ghost from_gives = { λ _ r. r ≡ Memory };
-
-    fn from(_: AllocError) -> KernelError {
-        KernelError::Memory
-    }
-}
-
-impl From<KernelFault> for KernelError {
-    ghost from_gives = { λ fault r. r ≡ Fault fault };
-
-    fn from(fault: KernelFault) -> KernelError {
-        KernelError::Fault(fault)
-    }
-}
+impl Fault for KernelFault {}
 
 impl From<TreeFault> for KernelFault {
     ghost from_gives = { λ fault r. r ≡ of_tree fault };
@@ -72,17 +48,6 @@ impl From<TreeFault> for KernelFault {
     }
 }
 
-impl From<TreeError> for KernelError {
-    ghost from_gives = { λ error r. r ≡ of_tree_error error };
-
-    fn from(error: TreeError) -> KernelError {
-        match error {
-            TreeError::Memory => KernelError::Memory,
-            TreeError::Fault(fault) => KernelError::Fault(fault.into()),
-        }
-    }
-}
-
 impl From<ProcFault> for KernelFault {
     ghost from_gives = { λ fault r. r ≡ of_proc fault };
 
@@ -94,13 +59,22 @@ impl From<ProcFault> for KernelFault {
     }
 }
 
-impl From<ProcError> for KernelError {
-    ghost from_gives = { λ error r. r ≡ of_proc_error error };
+/// A tree's error as a kernel's.
+pub fn of_tree(error: OrMemory<TreeFault>) -> OrMemory<KernelFault>
+    ensures { result ≡ of_tree_error error }
+{
+    match error {
+        OrMemory::Memory => OrMemory::Memory,
+        OrMemory::Fault(fault) => OrMemory::Fault(fault.into()),
+    }
+}
 
-    fn from(error: ProcError) -> KernelError {
-        match error {
-            ProcError::Memory => KernelError::Memory,
-            ProcError::Fault(fault) => KernelError::Fault(fault.into()),
-        }
+/// A table's error as a kernel's.
+pub fn of_proc(error: OrMemory<ProcFault>) -> OrMemory<KernelFault>
+    ensures { result ≡ of_proc_error error }
+{
+    match error {
+        OrMemory::Memory => OrMemory::Memory,
+        OrMemory::Fault(fault) => OrMemory::Fault(fault.into()),
     }
 }
