@@ -77,6 +77,10 @@ module _ (ws : ℕ → ℕ → Option ℕ) (s : State) (t new : Tree) (k : ℕ) 
       let same : arc.weight ≡ y = omega (arith, now) in
       subst (λ z. IsScanned (ws k) l (Some z)) same f.scanned
 
+-- a better tree has the same rows
+pub reached_still : (ws : ℕ → ℕ → Option ℕ) (s : State) (old new : Tree) (k : ℕ) → IsBetter ws s old new → is_reached old.queue k ≡ true → is_reached new.queue k ≡ true
+reached_still ws s old new k b on = subst (λ q. is_reached q k ≡ true) (sym b.queue) on
+
 -- the arcs before the cursor
 pub arcs_can : (ws : ℕ → ℕ → Option ℕ) (s : State) (t : Tree) (k : ℕ) (offers : List Offer) (firsts : List ℕ) (l : Line) → IsRunning ws s t → is_reached t.queue k ≡ true → IsLine (ws k) offers firsts s.free.items l
     → CanNoteArcs ws s t k l.arcs.items l.cursor

@@ -15,6 +15,7 @@
 #![tactic(auto)]
 
 mod answers;
+mod exits;
 mod fills;
 mod firsts;
 mod lines;

@@ -1,15 +1,13 @@
-ghost use Rattle.std.specs.Prelude.{◌≡◌, ℕ, ◌+◌, ◌<◌, ◌≤◌, Option, length, OnOk};
-ghost use Rattle.transport.specs.Numbers.{number};
-ghost use Rattle.transport.specs.Searches.{top};
-ghost use Rattle.std.specs.Prelude.{true, IfOk};
+ghost use Rattle.std.specs.Prelude.{◌≡◌, ℕ, ◌<◌, ◌≤◌, true, Option, length, OnOk};
 ghost use Rattle.transport.specs.Queues.{is_reached};
 ghost use Rattle.transport.specs.States.{IsRunning, HasLooked};
-ghost use Rattle.transport.specs.Lines.{IsLine, IsFoundExit};
+ghost use Rattle.transport.specs.Lines.{IsLine};
 ghost use Rattle.transport.specs.Weights.{weights, offers_of, AreLines};
-ghost use Rattle.transport.specs.Looks.{IsLimit, CanLimit, CanNoteArc, CanNoteArcs, IsArcNoted, HasNoted, AreRising, IsBetter, IsSeen, IsExitNoted};
+ghost use Rattle.transport.specs.Looks.{IsLimit, CanNoteArc, CanNoteArcs, IsArcNoted, HasNoted, AreRising, IsBetter, IsSeen};
 
+use crate::exits::{limit_of, seek_exit};
 use crate::lines::{Arc, Line, is_past};
-use crate::notes::{Exit, Near, Notes};
+use crate::notes::Near;
 use crate::trees::Tree;
 use crate::{State, Table};
 use std::alloc::AllocError;
@@ -53,44 +51,9 @@ pub(crate) fn look(
     ensures line { OnOk result (IsLine (weights table.now row) (offers_of table.now.rows.now row) table.now.firsts state.now.free.items line.new) }
     ensures seen { OnOk result (IsSeen (weights table.now) state.now row tree.old tree.new) }
 {
-    let limit = limit_of(&state.values, tree.notes.exit, row);
-    let found = find_exit(table, state, line, row, limit)?;
-    note_exit(&mut tree.notes, found, row);
+    seek_exit(table, state, line, tree, row)?;
     let limit = limit_of(&state.values, tree.notes.exit, row);
     note_arcs(state, &line.arcs, line.cursor, tree, row, limit)
-}
-
-/// The nearest class with a free CPU that a row has a weight for, below the limit.
-fn find_exit(
-    table: &Table,
-    state: &State,
-    line: &mut Line,
-    row: usize,
-    limit: Option<u64>,
-) -> Result<Option<Arc>, AllocError>
-    requires row { row < length table.now.rows.now }
-    requires line { IsLine (weights table.now row) (offers_of table.now.rows.now row) table.now.firsts state.now.free.items line.old }
-    ensures line { OnOk result (IsLine (weights table.now row) (offers_of table.now.rows.now row) table.now.firsts state.now.free.items line.new) }
-    ensures found { IfOk result (λ found. IsFoundExit (weights table.now row) state.now.free.items limit line.new found) }
-{
-    let asked = &table.rows[row];
-    let found = line.find_exit(asked.offers.as_slice(), &table.firsts, &state.free, limit)?;
-    Ok(found)
-}
-
-/// Notes the exit, where one was found from the row.
-fn note_exit(notes: &mut Notes, found: Option<Arc>, row: usize)
-    ensures { IsExitNoted notes.old notes.new row found }
-{
-    if let Some(arc) = found {
-        notes.exit = Some(Exit {
-            class: arc.class,
-            near: Near {
-                row,
-                weight: arc.weight,
-            },
-        });
-    }
 }
 
 /// Notes the first arcs of a row that are nearer than the exit.
@@ -141,15 +104,4 @@ fn note_arc(
         weight: arc.weight,
     };
     tree.notes.note(arc.class, near, &state.values)
-}
-
-/// A class lies no nearer to the row than the exit where its weight is this or more.
-pub(crate) fn limit_of(values: &[u64], exit: Option<Exit>, row: usize) -> Option<u64>
-    requires { CanLimit values.now row exit }
-    ensures { IsLimit values.now row exit result }
-{
-    match exit {
-        Some(exit) => Some(values[row] + (exit.near.weight as u64 - values[exit.near.row])),
-        None => None,
-    }
 }

@@ -1,10 +1,11 @@
 ghost use Rattle.std.specs.Prelude.{◌≡◌, ℕ, ◌+◌, ◌<◌, ◌≤◌, ◌^◌, Option, [], ◌∷◌, length, OnOk};
 ghost use Rattle.transport.specs.Numbers.{number, IsRaised, IsEachOnce};
-ghost use Rattle.std.specs.Prelude.{MatchOption, IfOk};
+ghost use Rattle.std.specs.Prelude.{IfOk};
 ghost use Rattle.transport.specs.States.{IsRunning, HasTaken, IsSameRoot};
 ghost use Rattle.transport.specs.Weights.{weights, AreLines};
-ghost use Rattle.transport.specs.Answers.{IsAnswer, IsSameRest, IsNoExitAt0, IsExitAt0};
+ghost use Rattle.transport.specs.Answers.{IsAnswer, IsSameRest};
 
+use crate::exits::{nearest_exit, seek_exits};
 use crate::lines::Line;
 use crate::looks::look_on;
 use crate::nearest::{least_slack, slack};
@@ -33,6 +34,9 @@ pub(crate) fn search(
 {
     let mut looked = 0;
     'steps: loop {
+        if let Some(exit) = seek_exits(table, state, lines, tree, looked)? {
+            return Ok(Some(exit));
+        }
         look_on(table, state, lines, tree, looked)?;
         looked = tree.queue.order.len();
         let Some(least) = least_slack(state, tree) else {
@@ -43,17 +47,6 @@ pub(crate) fn search(
             return Ok(Some(exit));
         }
         take_nearest(state, tree)?;
-    }
-}
-
-/// The exit, where it is at slack 0.
-fn nearest_exit(state: &State, tree: &Tree) -> Option<Exit>
-    requires { (ws : ℕ → ℕ → Option ℕ) × IsRunning ws state.now tree.now }
-    ensures { MatchOption result (IsNoExitAt0 state.now tree.now) (IsExitAt0 state.now tree.now) }
-{
-    match tree.notes.exit {
-        Some(exit) if slack(state, exit.class, exit.near) == 0 => Some(exit),
-        _ => None,
     }
 }
 

@@ -1,9 +1,11 @@
 use Rattle.std.proofs.Common.{◌≡◌, length, refl, sym, ◌∙◌, subst, arith}
 use Rattle.transport.specs.States.{IsRunning, HasLooked}
+use Rattle.transport.specs.Looks.{IsBetter}
 use Rattle.transport.specs.Weights.{weights}
-use Rattle.transport.proofs.Steps.{closed, raise_values_fit, raise_prices_fit, step_raised, step_running, step_looked_on, step_root, step_smaller}
+use Rattle.transport.proofs.Noting.{better_more, looked_better}
+use Rattle.transport.proofs.Steps.{closed, raise_rows, raise_classes, raise_values_fit, raise_prices_fit, step_raised, step_running, step_looked_on, step_root, step_smaller}
 use Rattle.transport.proofs.searches.search.Goals as goal
-use Rattle.transport.proofs.searches.search.Goals.{After-raise_all}
+use Rattle.transport.proofs.searches.search.Goals.{After-least_slack, After-raise_all}
 
 pub steps-init : goal.steps-init
 steps-init c = record {
@@ -16,20 +18,42 @@ steps-init c = record {
   root = record { row = refl; rooms = refl };
 }
 
-pub returns-in_default-clause-answer : goal.returns-in_default-clause-answer
-returns-in_default-clause-answer c = closed _ _ _ c.in_ok-look_on.ensures.better.running c.in_ok-look_on.ensures.looked c.in_default.ensures
+better : (c : After-least_slack) → IsBetter (weights c.args.table.now) c.steps.state c.steps.tree c.look_on.new.tree
+better c = better_more _ _ _ _ _ c.in_ok-exit.ensures.better c.in_ok-look_on.ensures.better
+
+pub look_on-requires : goal.look_on-requires
+look_on-requires c =
+    let b = c.in_ok-exit.ensures.better in
+    record {
+      running = b.running;
+      rows = c.steps.invariant.rows;
+      lines = c.in_ok-exit.ensures.lines;
+      from = rw b.queue c.steps.invariant.from;
+      looked = looked_better _ _ _ _ _ b c.steps.invariant.looked;
+    }
+
+pub returns-in_default-least_slack-clause-answer : goal.returns-in_default-least_slack-clause-answer
+returns-in_default-least_slack-clause-answer c = closed _ _ _ c.in_ok-look_on.ensures.better.running c.in_ok-look_on.ensures.looked c.in_default-least_slack.ensures
+
+pub raise_all-requires-clause-rows : goal.raise_all-requires-clause-rows
+raise_all-requires-clause-rows c =
+    raise_rows _ _ c.steps.state _ _ _ (better (goal.at.raise_all-requires-clause-rows c).After-least_slack) c.in_ok-look_on.ensures.looked c.in-Some-least_slack.ensures
+
+pub raise_all-requires-clause-classes : goal.raise_all-requires-clause-classes
+raise_all-requires-clause-classes c =
+    raise_classes _ _ c.steps.state _ _ _ (better (goal.at.raise_all-requires-clause-classes c).After-least_slack) c.in_ok-look_on.ensures.looked c.in-Some-least_slack.ensures
 
 pub raise_all-requires-clause-values_fit : goal.raise_all-requires-clause-values_fit
 raise_all-requires-clause-values_fit c =
-    raise_values_fit _ _ c.steps.state _ _ _ c.in_ok-look_on.ensures.better c.in_ok-look_on.ensures.looked c.in-Some.ensures
+    raise_values_fit _ _ c.steps.state _ _ _ (better (goal.at.raise_all-requires-clause-values_fit c).After-least_slack) c.in_ok-look_on.ensures.looked c.in-Some-least_slack.ensures
 
 pub raise_all-requires-clause-prices_fit : goal.raise_all-requires-clause-prices_fit
 raise_all-requires-clause-prices_fit c =
-    raise_prices_fit _ _ c.steps.state _ _ _ c.in_ok-look_on.ensures.better c.in_ok-look_on.ensures.looked c.in-Some.ensures
+    raise_prices_fit _ _ c.steps.state _ _ _ (better (goal.at.raise_all-requires-clause-prices_fit c).After-least_slack) c.in_ok-look_on.ensures.looked c.in-Some-least_slack.ensures
 
 raised : (c : After-raise_all) → IsRunning (weights c.args.table.now) c.raise_all.new.state c.look_on.new.tree
 raised c =
-    step_raised _ _ c.raise_all.new.state _ _ _ c.in_ok-look_on.ensures.better c.in_ok-look_on.ensures.looked c.in-Some.ensures
+    step_raised _ _ c.raise_all.new.state _ _ _ (better_more _ _ _ _ _ c.in_ok-exit.ensures.better c.in_ok-look_on.ensures.better) c.in_ok-look_on.ensures.looked c.in-Some-least_slack.ensures
     c.raise_all.ensures.values c.raise_all.ensures.prices c.raise_all.ensures.free c.raise_all.ensures.holdings
 
 pub nearest_exit-requires : goal.nearest_exit-requires
@@ -47,9 +71,9 @@ returns-in-Some-nearest_exit-clause-answer c = record {
 
 pub steps-preserved : goal.steps-preserved
 steps-preserved c =
-    let b = c.in_ok-look_on.ensures.better in
+    let b = better (goal.at.steps-preserved c).After-least_slack in
     let all = c.in_ok-look_on.ensures.looked in
-    let l = c.in-Some.ensures in
+    let l = c.in-Some-least_slack.ensures in
     let r = c.raise_all.ensures in
     let e : c.len-looked.result ≡ length c.look_on.new.tree.queue.order.items = omega (arith, c.len-looked.ensures, c.look_on.new.tree.queue.order.ok.0) in
     record {
@@ -66,5 +90,5 @@ steps-preserved c =
 pub steps-smaller : goal.steps-smaller
 steps-smaller c =
     let r = c.raise_all.ensures in
-    step_smaller _ _ c.raise_all.new.state _ _ _ c.in_ok-look_on.ensures.better c.in_ok-look_on.ensures.looked c.in-Some.ensures r.values r.prices r.free r.holdings _
+    step_smaller _ _ c.raise_all.new.state _ _ _ (better (goal.at.steps-smaller c).After-least_slack) c.in_ok-look_on.ensures.looked c.in-Some-least_slack.ensures r.values r.prices r.free r.holdings _
     c.in_ok-take_nearest.ensures c.in_default-nearest_exit.ensures

@@ -3,8 +3,8 @@ use Rattle.certificate.specs.RowView.{RowView}
 use Rattle.transport.specs.Lines.{IsFoundExit}
 use Rattle.transport.specs.Weights.{weights, offers_of}
 use Rattle.transport.proofs.Looking.{offers_read, line_as, line_back}
-use Rattle.transport.proofs.looks.find_exit.Goals as goal
-use Rattle.transport.proofs.looks.find_exit.Goals.{After-as_slice}
+use Rattle.transport.proofs.exits.find_exit.Goals as goal
+use Rattle.transport.proofs.exits.find_exit.Goals.{After-as_slice}
 
 offers_are : (c : After-as_slice) → c.as_slice.result.now ≡ offers_of c.args.table.now.rows.now c.args.row
 offers_are c =

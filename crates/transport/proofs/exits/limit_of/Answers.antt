@@ -1,7 +1,7 @@
 use Rattle.std.proofs.Common.{◌≡◌, ℕ, ◌+◌, ◌-◌, ◌≤◌, Some, None, sym, subst, arith}
 use Rattle.transport.specs.Numbers.{number}
 use Rattle.transport.specs.Looks.{IsLimit}
-use Rattle.transport.proofs.looks.limit_of.Goals as goal
+use Rattle.transport.proofs.exits.limit_of.Goals as goal
 
 pub bounds-values-row : goal.bounds-values-row
 bounds-values-row c = c.requires.row

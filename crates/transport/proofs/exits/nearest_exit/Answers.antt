@@ -2,7 +2,7 @@ use Rattle.std.proofs.Common.{◌≡◌, ◌+◌, Some, None, sym, ◌∙◌, su
 use Rattle.transport.specs.Numbers.{number}
 use Rattle.transport.specs.declared.notes.Exit.{Exit}
 use Rattle.transport.proofs.Running.{exit_in_reach}
-use Rattle.transport.proofs.searches.nearest_exit.Goals as goal
+use Rattle.transport.proofs.exits.nearest_exit.Goals as goal
 
 same_exit : (e f : Exit) → Some e ≡ Some f → e ≡ f
 same_exit e f h = cc
