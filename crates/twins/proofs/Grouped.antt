@@ -14,6 +14,7 @@ use Rattle.certificate.specs.IsShortage.{is_offered}
 use Rattle.twins.specs.IsGrouping.{IsGrouping}
 use Rattle.twins.specs.IsPart.{IsPart, IsUnsplit, ArePieces, IsSplit, times_in}
 use Rattle.twins.proofs.Sets.{there, empty_contains}
+use Rattle.twins.proofs.Splitting.{twins_before}
 use Rattle.twins.proofs.Times.{apart_of_times, is_held_of_times, in_times}
 
 -- twins have a weight in the same rows
@@ -110,6 +111,23 @@ grouping_more rows k parts alone parts_new alone_new so_far pieces = record {
   open_parts = pieces.parts;
   lone = pieces.lone;
   once = λ c. omega (arith, pieces.same c, so_far.once c);
+}
+
+-- a row that tells no more CPUs apart splits no set
+pub grouping_repeated :
+    (rows : List RowView) (k : ℕ) (parts alone : List Ids) → ((a b : ℕ) → AreTwins (take k rows) a b → AreTwins (take (k + 1) rows) a b)
+    → Grouping rows k parts alone → Grouping rows (k + 1) parts alone
+grouping_repeated rows k parts alone still so_far = record {
+  open_parts = λ j d lt.
+      let part : IsPart rows k (get_or parts j d) = so_far.open_parts j d lt in
+      record {
+        in_range = part.in_range;
+        some = part.some;
+        alike = λ a b in_a in_b. still a b (part.alike a b in_a in_b);
+        whole = λ a b in_a twins offered. part.whole a b in_a (twins_before rows k (k + 1) a b (omega arith) twins) offered;
+      };
+  lone = so_far.lone;
+  once = so_far.once;
 }
 
 -- both lists together are the classes

@@ -11,3 +11,4 @@ pub mod ClassPrices
 pub mod Paying
 pub mod Closing
 pub mod Few
+pub mod SameOffers

@@ -24,7 +24,7 @@ twins_before rows k n a b le twins =
     let few : All (λ (row : RowView). weight row a ≡ weight row b) (take k (take n rows)) = All-take (λ (row : RowView). weight row a ≡ weight row b) k (take n rows) twins in
     rw (take-take k n rows le) at few
 
-twins_more :
+pub twins_more :
     (rows : List RowView) (k a b : ℕ) (row : RowView) → k < length rows → row ≡ get_or rows k row
     → AreTwins (take k rows) a b → weight row a ≡ weight row b → AreTwins (take (k + 1) rows) a b
 twins_more rows k a b row lt is twins same =

@@ -9,13 +9,15 @@ ghost use Rattle.twins.specs.IsPart.{IsPart, IsUnsplit, ArePieces, IsSplit, IsPu
 
 use crate::Classes;
 use crate::alike::{alike, are_in_one, cpus_of};
+use crate::repeats::{first_offered, is_repeat};
 use certificate::{Problem, Row};
 use cpu_set::{CPU_LIMIT, IdSet};
 use std::alloc::{AllocError, Global};
 
 /// The CPUs with a weight in some row, in classes of twins. A CPU with none is in no class.
 ///
-/// Each row splits the sets that are left of the rows before it; one CPU by itself needs no more looks.
+/// Each row splits the sets that are left of the rows before it; one CPU by itself needs no more looks. A row
+/// with the offers of an earlier one splits none: the latest whose first offer begins with the same CPU is compared.
 pub fn group(alloc: Global, problem: &Problem) -> Result<Classes, AllocError>
     requires { IsTrue (list_all row_fits problem.now) }
     ensures grouped { IfOk result (λ classes. IsGrouping problem.now classes) }
@@ -31,8 +33,13 @@ fn grouped(alloc: Global, rows: &[Row]) -> Result<Vec<IdSet>, AllocError>
 {
     let mut alone = Vec::new(alloc);
     let mut parts = unsplit(alloc, rows)?;
+    let mut latest = vec![in alloc; 0usize; CPU_LIMIT as usize]?;
     for k in 0..rows.len() {
-        parts = split_all(alloc, rows, k, parts.as_slice(), &mut alone)?;
+        let first = first_offered(&rows[k]) as usize;
+        if !is_repeat(rows, k, latest[first]) {
+            parts = split_all(alloc, rows, k, parts.as_slice(), &mut alone)?;
+        }
+        latest[first] = k;
     }
     for part in &parts {
         alone.push(*part)?;

@@ -12,6 +12,7 @@ mod grouping;
 mod holders;
 mod laws;
 mod pricing;
+mod repeats;
 #[cfg(test)]
 mod tests;
 
