@@ -10,6 +10,7 @@ ghost use Rattle.node.specs.IsNode.{HaveOtherIds, IsAsked};
 ghost use Rattle.node.specs.Owners.{owners_of};
 ghost use Rattle.node.specs.Rows.{row_of_container, rows_in, rows_of};
 ghost use Rattle.node.specs.Viewed.{seen, all_seen};
+ghost use Rattle.rows.specs.Weighed.{IsWeighed};
 
 use crate::container::Container;
 use crate::{CONTAINER_LIMIT, Node};
@@ -17,7 +18,7 @@ use certificate::{Problem, Row};
 use indexmap::IndexMap;
 use kernel_model::Kernel;
 use machine::Machine;
-use rows::row_of;
+use rows::{Weighed, row_of};
 use std::alloc::{AllocError, Global};
 
 /// The row of a container over the CPUs that are online, if it is live and asks for CPUs of its own.
@@ -27,15 +28,19 @@ fn row_in<K: Kernel>(
     machine: &Machine,
     id: &str,
     container: &Container,
+    known: &mut Vec<Weighed>,
 ) -> Result<Option<Row>, AllocError>
-    requires { FitsMachine machine.now container.now.demand }
+    requires fits { FitsMachine machine.now container.now.demand }
+    requires known { All (IsWeighed machine.now) known.old.items }
     ensures row { IfOk result (λ row. row ≡ row_of_container (K.state kernel.now) machine.now (id.now, seen container.now)) }
     ensures fits { IfOk result (λ row. IfSome row (λ r. IsTrue (row_fits r))) }
+    ensures known { All (IsWeighed machine.now) known.new.items }
 {
     if !kernel.first_alive(container.pid) {
         return Ok(None);
     }
-    row_of(alloc, machine, &kernel.online(), id, &container.demand)
+    let online = kernel.online();
+    row_of(alloc, machine, &online, id, &container.demand, known)
 }
 
 /// The live containers that ask for CPUs of their own, as a problem: a row for each over the CPUs that are online, in the
@@ -55,8 +60,9 @@ pub fn rows_in<K: Kernel>(
     ensures apart { IfOk result HaveOwnIds }
 {
     let mut rows = Vec::new(alloc);
+    let mut known = Vec::new(alloc);
     for (id, container) in containers.iter() {
-        if let Some(row) = row_in(alloc, kernel, machine, id, container)? {
+        if let Some(row) = row_in(alloc, kernel, machine, id, container, &mut known)? {
             rows.push(row)?;
         }
     }

@@ -6,6 +6,8 @@
 mod laws;
 mod offers;
 mod row;
+mod weighed;
 
 pub use laws::rows_weigh;
 pub use row::row_of;
+pub use weighed::Weighed;

@@ -59,7 +59,7 @@ fn row_text(
 ) -> Result<String, AllocError>
     requires { FitsMachine machine.now demand.now }
 {
-    let Some(row) = row_of(alloc, machine, online, "a", demand)? else {
+    let Some(row) = row_of(alloc, machine, online, "a", demand, &mut Vec::new(alloc))? else {
         return Ok(String::new(alloc));
     };
     let mut text = format!(in alloc; "{} {}", row.id.as_str(), row.demand)?;

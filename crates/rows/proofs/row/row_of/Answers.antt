@@ -1,9 +1,9 @@
 use Rattle.rows.proofs.LimitLemmas.{allowed_part, pinned_row_fits}
 use Rattle.rows.proofs.row.row_of.Goals as goal
 
-pub offers_of-requires-clause-reach : goal.offers_of-requires-clause-reach
-offers_of-requires-clause-reach c = λ cpu has.
-    let allowed = allowed_part _ _ _ cpu c.meet-cpus.ensures has in (c.requires.present cpu allowed, c.requires.in_reach cpu allowed)
+pub offers_among-requires-clause-reach : goal.offers_among-requires-clause-reach
+offers_among-requires-clause-reach c = λ cpu has.
+    let allowed = allowed_part _ _ _ cpu c.meet-cpus.ensures has in (c.requires.fits.present cpu allowed, c.requires.fits.in_reach cpu allowed)
 
 pub returns-clause-fits : goal.returns-clause-fits
-returns-clause-fits c = pinned_row_fits c.args.machine.now _ c.args.demand.now c.in-Pinned.count _ _ c.requires c.in-Pinned.is c.in_ok-offers_of.ensures
+returns-clause-fits c = pinned_row_fits c.args.machine.now _ c.args.demand.now c.in-Pinned.count _ _ c.requires.fits c.in-Pinned.is c.in_ok-offers_among.ensures.offers
