@@ -1,4 +1,4 @@
-//! What the readers share: the words with which definitions say which of several faults decides, the
+//! What the crates above share: the words with which definitions say which of several faults decides, the
 //! first in a written order, and the error of a call that may want memory.
 //!
 //! The readers' definitions are lists of checks made of these words, and the laws below say in plain

@@ -1,14 +1,14 @@
 use std::alloc::AllocError;
 
-/// What a reader turns its input down for; `?` makes an [`OrMemory`] of it.
+/// What a call is refused for; `?` makes an [`OrMemory`] of it.
 pub trait Fault {}
 
-/// Why a call gave no value: its input is at fault, or there was no memory for the value.
+/// Why a call was refused: for a fault, or since there was no memory for what it was to make.
 #[derive(Clone, Copy, Debug, PartialEq, Eq, Drop)]
 pub enum OrMemory<F> {
     /// A growth was refused.
     Memory,
-    /// The first fault in the order of the call's checks.
+    /// The first fault in the order of the call's checks, or a write that failed.
     Fault(F),
 }
 
