@@ -97,6 +97,7 @@ done
 online=$(cat "$sys/cpu/online")
 reserved=${reserved:-${online%%[-,]*}}
 last=$(members "$present" | sort -n | tail -n 1)
+[ -n "$last" ] || fail "no node has CPUs"
 [ "$last" -lt 1024 ] || fail "CPU $last: a machine file has CPUs 0 to 1023"
 stray=$(without "$reserved" "$online")
 [ -z "$stray" ] || fail "reserved CPUs that are not online: $stray"

@@ -1,6 +1,6 @@
 #!/usr/bin/env bash
 # Everything: the proofs from nothing, the wrong bodies, the tests and the programs; then, with the programs that this
-# built, a machine file made of recorded hosts, a table of command lines, a second checker, a second runtime, a solver that
+# built, machine files made of recorded hosts, a table of command lines, a second checker, a second runtime, a solver that
 # tries every plan, and each of the program's growths refused in turn.
 set -eu
 cd "$(dirname "$0")/.."

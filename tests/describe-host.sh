@@ -1,11 +1,14 @@
 #!/usr/bin/env bash
 # Compares what examples/describe-host.sh writes of trees of files, as Linux has them under /sys/devices/system, with the
-# machine file that stands beside each.
+# machine file that stands beside each; and of two recorded machines with those in examples/machines, which were read off the
+# same records by hand. What it writes of these is run, too. PROGRAM in the environment is run in place of the one that this
+# builds.
 set -eu
 top=$(cd "$(dirname "$0")/.." && pwd)
 scratch=$(mktemp -d)
 trap 'rm -rf "$scratch"' EXIT
 failed=0
+. "$top/tests/build-program.sh"
 
 # tree NAME PRESENT ONLINE begins a tree, and node NUMBER DISTANCES CPU.. adds a node to it.
 tree() {
@@ -97,6 +100,31 @@ says '{
 # More CPUs than a machine file may have.
 tree large 0-1024 0-1024
 says 'describe-host.sh: CPU 1024: a machine file has CPUs 0 to 1023' refused
+
+# Nodes without CPUs alone.
+tree empty 0 0
+node 0 "10"
+nodes 0
+says 'describe-host.sh: no node has CPUs' refused
+
+# recorded NAME RESERVED lays out a recorded machine: a line has a file and what stands in it, or a folder alone.
+recorded() {
+    local path text
+    name=$1
+    grep -v '^#' "$top/tests/describe-host/$name" | while read -r path text; do
+        mkdir -p "$scratch/$name/$(dirname "$path")"
+        if [ -n "$text" ]; then echo "$text" > "$scratch/$name/$path"; else mkdir "$scratch/$name/$path"; fi
+    done
+    bash "$top/examples/describe-host.sh" --sys "$scratch/$name" --reserved "$2" > "$scratch/$name.json"
+    if ! python3 -B "$top/tests/describe-host/same.py" "$top/examples/machines/$name.json" "$scratch/$name.json"; then
+        failed=1
+    elif [ "$(echo list | "$program" run "$scratch/$name.json")" != end ]; then
+        echo "$name: the written machine file is not run"
+        failed=1
+    fi
+}
+recorded two-socket 0,16
+recorded two-nodes-a-socket 0-1,64-65
 
 [ "$failed" = 0 ] && echo "describe-host.sh: all machine files as expected"
 exit "$failed"
