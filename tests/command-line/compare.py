@@ -31,6 +31,7 @@ def make_files(certificate):
         "far": FAR,
         "machine": FAR.replace(b"}", b',"distances":[[10,21],[21,10]]}'),
         "script": b"create a bundle\nstart a\ncreate b no\nstate a\nlist",
+        "unreadable": b"create a hollow\ncreate b endless\ncreate c bundle/config.json\ncreate d bundle\nlist",
     }
     for name, content in files.items():
         open(name, "wb").write(content)
@@ -38,6 +39,9 @@ def make_files(certificate):
     os.mkdir("folder")
     os.mkdir("bundle")
     open("bundle/config.json", "wb").write(CONFIG)
+    os.makedirs("hollow/config.json")
+    os.mkdir("endless")
+    open("endless/config.json", "wb").truncate(67_108_865)
 
 
 def cases(table):

@@ -1,5 +1,6 @@
 """Compares what the program answers to random scripts with what the second runtime answers: `compare.py PROGRAM`.
-Machines, bundles and lines are made at random, faulty ones among them. Each kind of answer has to be seen."""
+Machines, bundles and lines are made at random, faulty ones among them. Each kind of answer has to be seen. Each certificate
+is given to the program's own check, which has to answer the outcome that it is of."""
 
 import json
 import os
@@ -9,7 +10,7 @@ import tempfile
 from collections import Counter
 
 from second_runtime import Machine, Runtime, config_of, print_list, read_slit
-from transcripts import config, difference, place, run
+from transcripts import config, difference, doubted, place, run
 
 SCRIPTS = 400
 IDS = ["a", "b", "c", "d", "e", "web-1", "db.2", "x" * 64]
@@ -131,7 +132,7 @@ def compared(program, seen, machine, slit, bundles, script):
     end = random.choice([b"", b"\n"])
     done = run(program, words, b"\n".join(script) + end)
     runtime = Runtime(Machine(machine, None if slit is None else read_slit(slit)), config_of)
-    wrong = difference(runtime, script, done.stdout)
+    wrong = difference(runtime, script, done.stdout) or doubted(program, done.stdout)
     if wrong or done.returncode or done.stderr:
         sys.exit(f"compare: {machine!r}\n{bundles}\n{script}\n{wrong}\nstatus {done.returncode}, {done.stderr!r}")
     for line in done.stdout.decode("utf-8", "backslashreplace").split("\n"):

@@ -9,6 +9,8 @@ import os
 import re
 import subprocess
 
+from second_runtime import numbers
+
 
 def config(section):
     told = {"ociVersion": "1.0.2", "root": {"path": "rootfs"}, "process": {"args": ["run"]}}
@@ -71,3 +73,27 @@ def difference(runtime, script, output):
             return f"{line[:100]!r}: expected {expected}, found {found[: len(expected) + 1]}"
         found = found[len(expected) :]
     return f"more than was asked for: {found}" if found else None
+
+
+def answer_to(outcome):
+    """What a check answers to the certificate of an outcome, by the outcome's first line."""
+    words = outcome.split(" ")
+    return outcome if words[0] == "plan" else f"short demand {words[2]} cpus {len(numbers(words[4]))}"
+
+
+def doubted(program, output):
+    """The first certificate in the output to which the program's own check answers anything but the outcome before it."""
+    outcome, certificate = None, None
+    for line in output.decode("utf-8", "backslashreplace").split("\n"):
+        if line.startswith(("plan total ", "short demand ")):
+            outcome = line
+        elif line == "numarun-certificate 1":
+            certificate = []
+        if certificate is not None:
+            certificate.append(line + "\n")
+            if line == "end":
+                done = run(program, ["check"], "".join(certificate).encode())
+                if (done.returncode, done.stdout.decode()) != (0, answer_to(outcome) + "\n"):
+                    return f"{outcome}: its certificate is answered by {done}: {certificate}"
+                certificate = None
+    return None

@@ -1,5 +1,6 @@
 """Runs the worked transcripts by the second runtime and by the program: `worked.py PROGRAM`. Each answer has to be the
-written one, and each transcript is also typed: a line is sent once the one before has been answered."""
+written one, and each transcript is also typed: a line is sent once the one before has been answered. Each certificate is
+given to the program's own check, which has to answer the outcome that it is of."""
 
 import os
 import subprocess
@@ -7,7 +8,7 @@ import sys
 import tempfile
 
 from second_runtime import Machine, Runtime, config_of, read_slit
-from transcripts import Transcript, run
+from transcripts import Transcript, doubted, run
 
 WORKED = os.path.join(os.path.dirname(os.path.abspath(__file__)), "worked")
 
@@ -41,6 +42,9 @@ def check(program, name, told):
         done = run(program, words, b"\n".join(told.script))
         if (done.returncode, done.stdout, done.stderr) != (0, expected, b""):
             sys.exit(f"worked: {name}: expected {expected.decode()}\nfound {done}")
+        wrong = doubted(program, done.stdout)
+        if wrong:
+            sys.exit(f"worked: {name}: {wrong}")
         if typed(program, words, told) != told.answers:
             sys.exit(f"worked: {name}: typed, its answers are others")
         os.chdir("/")
