@@ -91,8 +91,20 @@ pub fn step<K: Kernel>(
     }
 }
 
+/// All writes of a hand-over at once, where its groups are in the tree.
+pub fn finish<K: Kernel>(
+    handover: &mut Handover,
+    kernel: &mut K,
+) -> Option<Result<(), KernelFault>> {
+    if are_placed(&*kernel, handover.entries()) {
+        Some(handover.finish(kernel))
+    } else {
+        None
+    }
+}
+
 /// Steps of a hand-over until nothing is due, where its groups are in the tree; none where a write fails.
-pub fn finish<K: Kernel>(handover: &mut Handover, kernel: &mut K) -> Option<usize> {
+pub fn step_out<K: Kernel>(handover: &mut Handover, kernel: &mut K) -> Option<usize> {
     if !are_placed(&*kernel, handover.entries()) {
         return None;
     }

@@ -1,5 +1,5 @@
 //! Hand-overs over both kernels, with every event put between every two steps and every write failed in turn.
-use crate::{handover, step};
+use crate::{finish, handover, step};
 use apply_plan::{Entry, Handover, Progress};
 use cpu_list::read;
 use cpu_set::{CPU_LIMIT, IdSet};
@@ -12,20 +12,26 @@ use std::test::Fail;
 type Move = (bool, &'static str, &'static str);
 
 /// Two nodes of four CPUs each, of which CPU 0 is reserved: two containers swap their CPUs, three hand theirs on in a
-/// chain, a shared one makes room, and one gives way to another.
-const MOVES: [&[Move]; 4] = [
-    &[(true, "1-2", "3-4"), (true, "3-4", "1-2")],
-    &[
-        (true, "5-6", "7"),
-        (true, "3-4", "5-6"),
-        (true, "1-2", "3-4"),
-    ],
-    &[
-        (false, "0,3-7", "0,4-7"),
-        (true, "1-2", "1-2"),
-        (true, "0", "3"),
-    ],
-    &[(true, "4-6", "1-3"), (true, "0", "4-7")],
+/// chain, a shared one makes room, and one gives way to another. Behind each stands how many writes it takes.
+const MOVES: [(&[Move], usize); 4] = [
+    (&[(true, "1-2", "3-4"), (true, "3-4", "1-2")], 4),
+    (
+        &[
+            (true, "5-6", "7"),
+            (true, "3-4", "5-6"),
+            (true, "1-2", "3-4"),
+        ],
+        6,
+    ),
+    (
+        &[
+            (false, "0,3-7", "0,4-7"),
+            (true, "1-2", "1-2"),
+            (true, "0", "3"),
+        ],
+        2,
+    ),
+    (&[(true, "4-6", "1-3"), (true, "0", "4-7")], 3),
 ];
 
 fn set(text: &str) -> IdSet {
@@ -120,7 +126,7 @@ fn run<K: Kernel>(
     at: usize,
     event: u32,
 ) -> Option<usize> {
-    for taken in 0..2 * MOVES.len() {
+    for taken in 0..2 * entries.len() + 1 {
         if taken == at {
             happen(kernel, event);
         }
@@ -141,21 +147,20 @@ fn run<K: Kernel>(
 
 #[test]
 fn steps_are_the_releases_and_then_the_moves(rt: HostRuntime) -> Result<(), Fail> {
-    let wanted = [4usize, 6, 2, 3];
-    for (moves, wanted) in MOVES.iter().zip(wanted.iter()) {
+    for (moves, writes) in MOVES {
         let mut kernel = two_nodes(rt.alloc())?.ok_or("no machine")?;
         let entries = launch(rt.alloc(), &mut kernel, moves)?;
         let mut over = handover(entries.to_vec(rt.alloc())?, set("0")).ok_or("no hand-over")?;
         let taken = run(&mut kernel, &mut over, entries.as_slice(), 99, 0);
-        assert_eq!(rt; taken, Some(*wanted));
+        assert_eq!(rt; taken, Some(writes));
     }
     Ok(())
 }
 
 #[test]
 fn every_event_between_every_two_steps(rt: HostRuntime) -> Result<(), Fail> {
-    for moves in MOVES {
-        for at in 0..4 {
+    for (moves, writes) in MOVES {
+        for at in 0..writes {
             for event in 0..EVENTS {
                 let mut kernel = two_nodes(rt.alloc())?.ok_or("no machine")?;
                 let entries = launch(rt.alloc(), &mut kernel, moves)?;
@@ -163,26 +168,74 @@ fn every_event_between_every_two_steps(rt: HostRuntime) -> Result<(), Fail> {
                     "no hand-over",
                 )?;
                 let taken = run(&mut kernel, &mut over, entries.as_slice(), at, event);
-                assert!(rt; taken.is_some(), "event {event} before step {at}");
+                assert!(rt;
+                    taken.unwrap_or(99) <= 2 * entries.len(),
+                    "event {event} before step {at}"
+                );
             }
         }
     }
     Ok(())
 }
 
+/// The containers on a kernel of which so many writes of their hand-over succeed before one fails.
+fn failing(
+    alloc: Global,
+    moves: &[Move],
+    after: usize,
+) -> Result<(FusedKernel<ModelKernel>, Vec<Entry>), Fail> {
+    let before = 1 + 3 * moves.len() as u64;
+    let kernel = two_nodes(alloc)?.ok_or("no machine")?;
+    let mut kernel = FusedKernel::new(kernel, before + after as u64 + 1);
+    let entries = launch(alloc, &mut kernel, moves)?;
+    Ok((kernel, entries))
+}
+
 #[test]
 fn every_write_failed_in_turn(rt: HostRuntime) -> Result<(), Fail> {
-    for moves in MOVES {
-        let before = 1 + 3 * moves.len() as u64;
-        for n in 0..4 {
-            let mut kernel = FusedKernel::new(
-                two_nodes(rt.alloc())?.ok_or("no machine")?,
-                before + n + 1,
-            );
-            let entries = launch(rt.alloc(), &mut kernel, moves)?;
+    for (moves, writes) in MOVES {
+        for after in 0..writes {
+            let (mut kernel, entries) = failing(rt.alloc(), moves, after)?;
             let mut over = handover(entries.to_vec(rt.alloc())?, set("0")).ok_or("no hand-over")?;
             let taken = run(&mut kernel, &mut over, entries.as_slice(), 99, 0);
-            assert!(rt; taken.is_some(), "write {n} failed");
+            assert_eq!(rt; taken, Some(writes + 1), "write {after} failed");
+        }
+    }
+    Ok(())
+}
+
+/// Steps until Done, or until a write fails.
+fn steps<K: Kernel>(
+    kernel: &mut K,
+    handover: &mut Handover,
+    most: usize,
+) -> Option<Result<(), KernelFault>> {
+    for _ in 0..most {
+        match step(handover, kernel)? {
+            Ok(Progress::More) => {}
+            Ok(Progress::Done) => return Some(Ok(())),
+            Err(fault) => return Some(Err(fault)),
+        }
+    }
+    None
+}
+
+#[test]
+fn all_at_once_as_by_steps(rt: HostRuntime) -> Result<(), Fail> {
+    for (moves, writes) in MOVES {
+        for after in 0..writes + 1 {
+            let (mut kernel, entries) = failing(rt.alloc(), moves, after)?;
+            let (mut other, _) = failing(rt.alloc(), moves, after)?;
+            let mut over = handover(entries.to_vec(rt.alloc())?, set("0")).ok_or("no hand-over")?;
+            let answer = steps(&mut other, &mut over, writes);
+            assert_eq!(rt; finish(&mut over, &mut kernel), answer);
+            assert_eq!(rt; answer == Some(Ok(())), after == writes);
+            for entry in &entries {
+                assert_eq!(rt;
+                    kernel.requested_cpus(entry.group),
+                    other.requested_cpus(entry.group)
+                );
+            }
         }
     }
     Ok(())

@@ -5,4 +5,4 @@ mod conditions;
 #[cfg(test)]
 mod hand_over;
 
-pub use conditions::{finish, handover, step};
+pub use conditions::{finish, handover, step, step_out};

@@ -3,7 +3,7 @@
 use apply_plan::Entry;
 use cpu_set::IdSet;
 use kernel_model::{Group, Kernel, ModelKernel};
-use scenarios::{finish, handover};
+use scenarios::{handover, step_out};
 use std::alloc::Global;
 
 const CONTAINERS: u16 = 256;
@@ -53,7 +53,7 @@ pub fn hand_overs(alloc: Global, count: u32) -> Option<u64> {
             entries.push(launch(alloc, &mut kernel, above, n)?).ok()?;
         }
         let mut over = handover(entries, reserved)?;
-        steps = steps.saturating_add(finish(&mut over, &mut kernel)? as u64);
+        steps = steps.saturating_add(step_out(&mut over, &mut kernel)? as u64);
     }
     Some(steps)
 }
