@@ -1,7 +1,7 @@
 -- How long a hand-over lasts that is stepped.
-use Rattle.std.proofs.Common.{◌≡◌, inl, inr, ℕ, ◌+◌, ◌*◌, ◌≤◌, true, false, List, [], ◌∷◌, length, Some, None, refl, sym, ap, ◌∙◌, subst, arith}
+use Rattle.std.proofs.Common.{◌≡◌, inl, inr, ℕ, ◌+◌, ◌*◌, ◌≤◌, true, false, cond, List, [], ◌∷◌, length, Some, None, refl, sym, ap, ◌∙◌, subst, arith}
 use Rattle.std.proofs.lemmas.Bool.{false≢true}
-use Rattle.std.specs.Prelude.{Result, Ok, Err}
+use Rattle.std.specs.Prelude.{Option, is_some, Result, Ok, Err}
 use Rattle.std.specs.List.{AllByRecursion}
 use Rattle.faults.specs.declared.OrMemory.{OrMemory}
 use Rattle.faults.specs.declared.OrMemory.TheVariants.{Memory, Fault}
@@ -10,14 +10,16 @@ use Rattle.kernel_model.specs.declared.Call.{Call}
 use Rattle.kernel_model.specs.declared.Call.TheVariants as call
 use Rattle.kernel_model.specs.declared.Reply.{Reply}
 use Rattle.kernel_model.specs.declared.Reply.TheVariants as reply
+use Rattle.kernel_model.specs.KernelState.{KernelState}
 use Rattle.kernel_model.specs.Runs.{reply_of, reply_at_once}
 use Rattle.kernel_model.specs.Runs as kernel
 use Rattle.rows.specs.Weighs.{RowsWeigh}
 use Rattle.apply_plan.specs.declared.Progress.{Progress}
 use Rattle.apply_plan.specs.declared.Progress.TheVariants.{More, Done}
-use Rattle.apply_plan.specs.DueWrite.{writes_to_come}
+use Rattle.apply_plan.specs.declared.scan.Write.{Write}
+use Rattle.apply_plan.specs.DueWrite.{due, written, progress_of, writes_to_come}
 use Rattle.apply_plan.specs.OneStep.{StepsLeave}
-use Rattle.apply_plan.specs.Runs.{Called, LeavesEntries, EndsWithin, FewToCome}
+use Rattle.apply_plan.specs.Runs.{IsOpen, Called, LeavesEntries, EndsWithin, FewToCome}
 use Rattle.node.specs.declared.fault.NodeFault.{NodeFault}
 use Rattle.node.specs.declared.fault.NodeFault.TheVariants.{Busy, NoHandover, Kernel}
 use Rattle.node.specs.declared.outcome.Outcome.{Outcome}
@@ -38,6 +40,20 @@ use Rattle.node.proofs.MachineLemmas.{runs_keep}
 record Lasts (o : Ongoing) (old : NodeState) (steps : ℕ) (new : NodeState) : Type 0 where
   pub still : new.ongoing ≡ Some o
   pub falls : steps + writes_to_come o.targets new.kernel ≤ writes_to_come o.targets old.kernel
+
+-- where a step answers that more are to come, one write is due
+one_due : (w : Option Write) → More ≡ progress_of w → 1 ≤ cond (is_some w) 1 0
+one_due (Some w) more = omega arith
+one_due None more = absurd (let no : ⊥ = cc more in no)
+
+-- so that one is to come
+one_to_come : StepsLeave → (o : Ongoing) (k : KernelState) → IsOpen o.targets k → More ≡ progress_of (due o.targets k) → 1 ≤ writes_to_come o.targets k
+one_to_come law o k opened more =
+    let next = written k (due o.targets k) in
+    let lowers : writes_to_come o.targets k ≡ writes_to_come o.targets next + cond (is_some (due o.targets k)) 1 0 =
+    (law o.targets k (Ok (progress_of (due o.targets next))) next opened (refl, refl)).lowers in
+    let one : 1 ≤ cond (is_some (due o.targets k)) 1 0 = one_due (due o.targets k) more in
+    omega (arith, lowers, one)
 
 module _ (law : StepsLeave) (ends : EndsWithin) (o : Ongoing) (old : NodeState) (h : IsNode old) (was : old.ongoing ≡ Some o) where
   -- so no call is made that wants none open
@@ -125,15 +141,18 @@ module _ (law : StepsLeave) (ends : EndsWithin) (o : Ongoing) (old : NodeState) 
     goes (Online cpu answer) s more =
         called (ap (λ (n : NodeState). n.ongoing) s.1) (call.OnlineCpu cpu) tt (reply_at_once (λ _. reply.Done) answer) (answer, refl, s.0)
 
-  -- where no write is to come, a step ends it
-  last_ends : writes_to_come o.targets old.kernel ≤ 0 → (r : Result Progress NodeFault) (after : NodeState) → StepsOn old r after → after.ongoing ≡ None
-  last_ends none (Ok More) after s =
-      let e : 1 + writes_to_come o.targets after.kernel ≤ writes_to_come o.targets old.kernel = (stepped after s).falls in
-      absurd (omega (arith, none, e))
-  last_ends none (Ok Done) after s = ap (λ (n : NodeState). n.ongoing) s.is
-  last_ends none (Err (Kernel fault)) after s = ap (λ (n : NodeState). n.ongoing) s.is
-  last_ends none (Err NoHandover) after s = absurd (false≢true (sym s.0 ∙ underway))
-  last_ends none (Err fault) after s = absurd s
+  -- where at most one write is to come, a step ends it
+  last_ends : writes_to_come o.targets old.kernel ≤ 1 → (r : Result Progress NodeFault) (after : NodeState) → StepsOn old r after → after.ongoing ≡ None
+  last_ends few (Ok More) after s =
+      let steps = its_steps old o was after (Ok More) old.phase old.ongoing s in
+      let left = leaves law old h o was after.kernel (Ok More) steps in
+      let falls : writes_to_come o.targets old.kernel ≡ writes_to_come o.targets after.kernel + 1 = left.falls refl in
+      let one : 1 ≤ writes_to_come o.targets after.kernel = one_to_come law o after.kernel left.open_still steps.1 in
+      absurd (omega (arith, few, falls, one))
+  last_ends few (Ok Done) after s = ap (λ (n : NodeState). n.ongoing) s.is
+  last_ends few (Err (Kernel fault)) after s = ap (λ (n : NodeState). n.ongoing) s.is
+  last_ends few (Err NoHandover) after s = absurd (false≢true (sym s.0 ∙ underway))
+  last_ends few (Err fault) after s = absurd s
 
 module _ (weigh : RowsWeigh) (law : StepsLeave) (ends : EndsWithin) (o : Ongoing) where
   lasts : (old : NodeState) (events : List Event) (new : NodeState) → IsNode old → old.ongoing ≡ Some o → Run old events new → AllByRecursion IsMore events

@@ -34,8 +34,8 @@ pub fn runs()
 
 /// How long a hand-over lasts that is stepped, whatever calls and events fall between its steps: nothing runs.
 ///
-/// It stays open while they answer that more are to come, and at most two steps for each of its containers do; one more
-/// ends it.
+/// It stays open while they answer that more are to come, and it ends within two steps for each of its containers; one that
+/// has none ends with its first step.
 pub fn each_handover()
     ensures { HandoversEnd }
 {
