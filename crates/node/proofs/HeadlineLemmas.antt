@@ -35,7 +35,7 @@ use Rattle.node.specs.declared.phase.Phase.TheVariants.{Underway}
 use Rattle.node.specs.NodeState.{ContainerState, NodeState}
 use Rattle.node.specs.Owners.{Owner, is_pinned, owner_of, owners_of}
 use Rattle.node.specs.Status.{is_live}
-use Rattle.node.specs.IsNode.{IsHome, IsPlaced, IsNode}
+use Rattle.node.specs.IsNode.{IsHome, IsPlaced, Holds, IsNode}
 use Rattle.node.specs.Rows.{rows_of}
 use Rattle.node.specs.Entries.{Target, entry_of, plan_pool, plan_targets, plan_entries, opened}
 use Rattle.node.specs.Asking.{IsRowOf}
@@ -67,6 +67,9 @@ free_parent k parent home o placed = record {
   };
   free = home.free_cpus;
 }
+
+pub free_parents : (k : KernelState) (parent : Group) (owners : List Owner) → Holds k parent owners → AllByRecursion (λ o. HasFreeParent k o.holder.group) owners
+free_parents k parent owners h = all_map (IsPlaced k.tree parent) (λ o. HasFreeParent k o.holder.group) (free_parent k parent h.home) owners h.placed
 
 -- what a container has while the same CPUs are online
 still_its : (k new : KernelState) → new.tree.online ≡ k.tree.online → (pool : Ids) (d : Demand) (kind : Kind) (cpus : Ids) → HasItsCpus k pool d kind cpus
@@ -113,8 +116,8 @@ module _ (old : NodeState) (h : IsNode old) (weigh : RowsWeigh) (effects : Targe
   parents : AllByRecursion (λ e. HasFreeParent new.kernel e.1.group) old.containers
   parents =
       of_all_map owner_of (λ o. HasFreeParent new.kernel o.holder.group) old.containers
-      (all_map (IsPlaced new.kernel.tree new.parent) (λ o. HasFreeParent new.kernel o.holder.group) (free_parent new.kernel new.parent s.node.holds.home) (owners_of old.containers)
-      (subst (λ (es : List Container). AllByRecursion (IsPlaced new.kernel.tree new.parent) (owners_of es)) s.containers s.node.holds.placed))
+      (subst (λ (es : List Container). AllByRecursion (λ o. HasFreeParent new.kernel o.holder.group) (owners_of es)) s.containers
+      (free_parents new.kernel new.parent (owners_of new.containers) s.node.holds))
 
   take_effect : AllByRecursion (λ e. is_alive new.kernel.table e.pid ≡ true → effective_cpus new.kernel.tree e.group ≡ e.target) (plan_entries old sets)
   take_effect =

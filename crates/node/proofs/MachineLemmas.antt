@@ -1,7 +1,7 @@
 -- What holds of a node holds after any list of calls and events.
 use Rattle.std.proofs.Common.{◌≡◌, inl, inr, ℕ, zero, suc, List, [], ◌∷◌, refl, sym, subst}
 use Rattle.std.specs.List.{AllByRecursion}
-use Rattle.std.specs.Prelude.{Result, Ok, Err}
+use Rattle.std.specs.Prelude.{map, Result, Ok, Err}
 use Rattle.kernel_model.specs.declared.KernelFault.{KernelFault}
 use Rattle.faults.specs.declared.OrMemory.{OrMemory}
 use Rattle.faults.specs.declared.OrMemory.TheVariants.{Memory, Fault}
@@ -9,20 +9,22 @@ use Rattle.rows.specs.Weighs.{RowsWeigh}
 use Rattle.apply_plan.specs.declared.Progress.{Progress}
 use Rattle.apply_plan.specs.declared.Progress.TheVariants.{More, Done}
 use Rattle.apply_plan.specs.OneStep.{StepsLeave}
-use Rattle.apply_plan.specs.Effects.{TargetsTakeEffect}
+use Rattle.apply_plan.specs.Effects.{HasFreeParent, TargetsTakeEffect, SafeInEffect}
 use Rattle.node.specs.declared.fault.NodeFault.{NodeFault}
 use Rattle.node.specs.declared.fault.NodeFault.TheVariants.{Busy, BadId, IdInUse, TooManyContainers, NoContainer, NotCreated, NotRunnable, BadSignal, NotLive, NotStopped, NoHandover, NoAnswer, Config, Demand, Kernel}
 use Rattle.node.specs.declared.phase.Phase.TheVariants.{Settled, Unsettled}
 use Rattle.node.specs.NodeState.{NodeState}
+use Rattle.node.specs.Owners.{owners_of}
 use Rattle.node.specs.IsNode.{IsNode}
 use Rattle.node.specs.Calls.{NotLaunched, Ended, Creates, Starts, Kills, Deletes}
 use Rattle.node.specs.declared.outcome.Outcome.TheVariants.{Plan}
 use Rattle.node.specs.Rebalance.{StepsOn, StepsMore, Ends}
-use Rattle.node.specs.Machine.{Event, Step, IsSingle, Run, RunsKeep, RunsStaySafe, RebalancesAreSteps, RunsRebalance}
+use Rattle.node.specs.Machine.{Event, Step, IsSingle, Run, RunsKeep, RunsStaySafe, RunsStayApart, RebalancesAreSteps, RunsRebalance}
 use Rattle.node.specs.Machine.Event.{Create, Start, Kill, Delete, Rebalance, Begin, StepOn, Fork, Exit, Offline, Online}
 use Rattle.node.proofs.NodeLemmas.{fork_node, exit_node, offline_node, online_node, end_node, remove_refused_node, created_node, not_created_node, deleted_node, started_node}
 use Rattle.node.proofs.StepLemmas.{more_node, ended_node}
-use Rattle.node.proofs.HeadlineLemmas.{begins_node, rebalances_node, headline}
+use Rattle.node.proofs.HeadlineLemmas.{free_parents, begins_node, rebalances_node, headline}
+use Rattle.node.proofs.ListLemmas.{all_of_map}
 
 module _ (old : NodeState) (h : IsNode old) (new : NodeState) where
   moved : (other : NodeState) → new ≡ other → IsNode other → IsNode new
@@ -123,6 +125,13 @@ module _ (weigh : RowsWeigh) (law : StepsLeave) where
 
   pub runs_stay_safe : RunsStaySafe
   runs_stay_safe old events new h r = (runs_keep old events new h r).holds.safe
+
+  pub runs_stay_apart : SafeInEffect → RunsStayApart
+  runs_stay_apart in_effect old events new h r online =
+      let holds = (runs_keep old events new h r).holds in
+      let owners = owners_of new.containers in
+      in_effect new.kernel new.kernel.reserved (map (λ o. o.holder) owners) holds.kernel
+      (all_of_map (λ o. o.holder) (λ a. HasFreeParent new.kernel a.group) owners (free_parents new.kernel new.parent owners holds)) online holds.safe
 
   pub runs_rebalance : TargetsTakeEffect → RunsRebalance
   runs_rebalance effects first events old answer new h r b = headline old (runs_keep first events old h r) weigh law effects answer new b

@@ -1,6 +1,7 @@
 -- The node machine: calls and events with their answers, one after another.
 use Rattle.std.specs.Prelude.{◌≡◌, ℕ, List, [], ◌∷◌, map, Result}
 use Rattle.std.specs.List.{AllByRecursion}
+use Rattle.cpuset_tree.specs.Effective.{effective_cpus}
 use Rattle.kernel_model.specs.declared.KernelFault.{KernelFault}
 use Rattle.kernel_model.specs.KernelState.{KernelState}
 use Rattle.kernel_model.specs.WellFormed.{IsWellFormed}
@@ -8,7 +9,8 @@ use Rattle.kernel_model.specs.Cases.{Forks, Exits, GoesOffline, ComesOnline}
 use Rattle.machine.specs.Layout.{Layout}
 use Rattle.faults.specs.declared.OrMemory.{OrMemory}
 use Rattle.apply_plan.specs.declared.Progress.{Progress}
-use Rattle.apply_plan.specs.Holders.{IsSafe}
+use Rattle.apply_plan.specs.Holders.{AreSafe, IsSafe}
+use Rattle.apply_plan.specs.Effects.{HasOnline}
 use Rattle.node.specs.declared.fault.NodeFault.{NodeFault}
 use Rattle.node.specs.declared.outcome.Outcome.{Outcome}
 use Rattle.node.specs.NodeState.{NodeState}
@@ -70,6 +72,13 @@ abbrev pub RunsStaySafe : Type 0
 RunsStaySafe =
     (old : NodeState) (events : List Event) (new : NodeState) → IsNode old → Run old events new
     → IsSafe new.kernel new.kernel.reserved (map (λ o. o.holder) (owners_of new.containers))
+
+-- and where each live one then requests a CPU that is online, the same holds of the CPUs that are in effect for them
+abbrev pub RunsStayApart : Type 0
+RunsStayApart =
+    (old : NodeState) (events : List Event) (new : NodeState) → IsNode old → Run old events new
+    → AllByRecursion (HasOnline new.kernel) (map (λ o. o.holder) (owners_of new.containers))
+    → AreSafe new.kernel new.kernel.reserved (effective_cpus new.kernel.tree) (map (λ o. o.holder) (owners_of new.containers))
 
 -- `begin` and `step`, each of which makes at most one write
 abbrev pub IsSingle : Event → Type 0

@@ -2,7 +2,7 @@
 ghost use Rattle.std.specs.Prelude.{◌≡◌};
 ghost use Rattle.node.specs.Asking.{RowsAreAsking, ShortStands};
 ghost use Rattle.node.specs.Ending.{HandoversEnd};
-ghost use Rattle.node.specs.Machine.{FirstIsNode, RunsKeep, RunsStaySafe, RebalancesAreSteps, RunsRebalance};
+ghost use Rattle.node.specs.Machine.{FirstIsNode, RunsKeep, RunsStaySafe, RunsStayApart, RebalancesAreSteps, RunsRebalance};
 ghost use Rattle.node.specs.Making.{CreatesAreCalls, CreatesStaySafe};
 ghost use Rattle.node.specs.UnusedLemmas.{FirstIsUnused, FirstIsOfMachine};
 
@@ -22,14 +22,19 @@ pub fn first_kernels()
 ///
 /// A rebalance that hands over is `begin` and single steps, each of which makes at most one write: so this holds after each
 /// of its writes, too. After each of those of `create` it holds by [`each_create`]; each other call makes at most one.
+///
+/// Where after such a list each live container requests a CPU that is online, the same holds of the CPUs that are in effect
+/// for them.
 pub fn runs()
     ensures first { FirstIsNode }
     ensures keep { RunsKeep }
     ensures safe { RunsStaySafe }
+    ensures apart { RunsStayApart }
     ensures single { RebalancesAreSteps }
 {
     rows_weigh();
     steps();
+    effects();
 }
 
 /// How long a hand-over lasts that is stepped, whatever calls and events fall between its steps: nothing runs.
