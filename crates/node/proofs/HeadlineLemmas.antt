@@ -1,5 +1,5 @@
 -- What a rebalance leaves: the headline.
-use Rattle.std.proofs.Common.{◌≡◌, ℕ, ◌+◌, ◌≤◌, true, false, cond, ◌||◌, List, [], ◌∷◌, Option, Some, refl, sym, ap, ◌∙◌, subst, arith}
+use Rattle.std.proofs.Common.{◌≡◌, ℕ, ◌+◌, ◌≤◌, true, false, not, cond, ◌&&◌, ◌||◌, List, [], ◌∷◌, Option, Some, refl, sym, ap, ◌∙◌, subst, arith}
 use Rattle.std.proofs.lemmas.Bool.{false≢true, and_from, and_left, and_right}
 use Rattle.std.proofs.lemmas.List.Elements.{recursion_from_All}
 use Rattle.std.specs.Prelude.{Result, Ok, Err}
@@ -41,12 +41,12 @@ use Rattle.node.specs.Entries.{Target, entry_of, plan_pool, plan_targets, plan_e
 use Rattle.node.specs.Asking.{IsRowOf}
 use Rattle.node.specs.Rebalance.{Begun, Lacks, Begins, Moves, Finishes, Rebalances}
 use Rattle.node.specs.Leaves.{fault_rise, rise_or_memory}
-use Rattle.node.specs.Headline.{effective, HasItsCpus, IsServed, AreAlone, is_asking, effective_sets, asking, CouldHave, total_distance, IsRebalanced, IsBrokenOff, Headline}
+use Rattle.node.specs.Headline.{effective, HasItsCpus, IsServed, AreAlone, is_asking, effective_sets, asking, CouldHave, total_distance, is_in_any, IsRebalanced, IsBrokenOff, Headline}
 use Rattle.node.proofs.ListLemmas.{all_map, all_map2, pairs_map, all_of_map, of_all_map}
 use Rattle.node.proofs.AskingLemmas.{rows_are_asking, short_stands}
 use Rattle.node.proofs.DistanceLemmas.{could_plan, plan_could, cost_is_far}
 use Rattle.node.proofs.FinishLemmas.{Settles, Breaks, settles, breaks}
-use Rattle.node.proofs.PlanLemmas.{IsDealt, over_targets, plan_serves, plan_parts, plan_effects, opened_ongoing, effects_later}
+use Rattle.node.proofs.PlanLemmas.{IsDealt, over_targets, pool_has_rest, plan_serves, plan_parts, plan_effects, opened_ongoing, effects_later}
 
 abbrev Container : Type 0
 Container = List ℕ × ContainerState
@@ -209,6 +209,13 @@ module _ (old : NodeState) (h : IsNode old) (weigh : RowsWeigh) (effects : Targe
   same_sets : effective_sets new.kernel new.containers ≡ sets
   same_sets = ap (λ (es : List Container). effective_sets new.kernel es) s.containers ∙ sets_in_effect in_effect
 
+  -- and the pool is what the plan leaves
+  pool_rest : (cpu : ℕ) → set.contains new.pool cpu ≡ (set.contains new.kernel.tree.online cpu && not (is_in_any (effective_sets new.kernel new.containers) cpu))
+  pool_rest cpu =
+      ap (λ pool. set.contains pool cpu) s.pool ∙ pool_has_rest old.kernel.tree.online sets cpu
+      ∙ ap (λ online. set.contains online cpu && not (is_in_any sets cpu)) (sym s.online)
+      ∙ ap (λ ss. set.contains new.kernel.tree.online cpu && not (is_in_any ss cpu)) (sym same_sets)
+
   -- which no other sets undercut
   of : AllZip (IsRowOf old.kernel old.machine) (rows_of old) (asking old)
   of = rows_are_asking old h weigh
@@ -230,6 +237,7 @@ module _ (old : NodeState) (h : IsNode old) (weigh : RowsWeigh) (effects : Targe
     told = record { prices = prices; is = s.last ∙ told ∙ ap (λ (ss : List Ids). Some (certificate.Plan (rows_of old) ss prices total)) (sym same_sets) };
     least = subst (λ (ss : List Ids). IsLeast (rows_of old) ss) (sym same_sets) least;
     costs = sym costs ∙ ap (cost (rows_of old)) (sym same_sets);
+    pool = pool_rest;
     same = s.containers;
     lives = s.table;
   }

@@ -34,7 +34,7 @@ use Rattle.node.specs.Owners.{Owner, is_pinned, owner_of, owners_of}
 use Rattle.node.specs.Status.{is_live}
 use Rattle.node.specs.Rows.{rows_in, rows_of}
 use Rattle.node.specs.Entries.{pool_of, Target, targets_in, entry_of, entries_in, plan_pool, plan_targets, plan_entries, opened}
-use Rattle.node.specs.Headline.{HasItsCpus}
+use Rattle.node.specs.Headline.{HasItsCpus, is_in_any}
 use Rattle.node.specs.IsNode.{IsAsked, IsNode, HaveOtherIds, IsPlaced}
 use Rattle.node.specs.Ongoing.{AreOf, IsSince, IsOngoing}
 use Rattle.node.proofs.ListLemmas.{all_map, all_of, pairs_map, all_of_map, of_all_map, pairs_of_map, of_pairs_map}
@@ -139,6 +139,22 @@ pub pool_has : (online : Ids) (sets : List Ids) (c : ℕ) → set.contains onlin
 pool_has online [] c e all = e
 pool_has online (s ∷ sets) c e all =
     pool_has (set.difference online s) sets c (contains-difference online s c ∙ ap (λ b. b && not (set.contains s c)) e ∙ ap not all.0) all.1
+
+-- a CPU is in the pool where it is online and in none of the sets
+neither : (a b c : Bool) → ((a && not b) && not c) ≡ (a && not (b || c))
+neither true true c = refl
+neither true false c = refl
+neither false b c = refl
+
+nor_none : (a : Bool) → a ≡ (a && not false)
+nor_none true = refl
+nor_none false = refl
+
+pub pool_has_rest : (online : Ids) (sets : List Ids) (c : ℕ) → set.contains (pool_of online sets) c ≡ (set.contains online c && not (is_in_any sets c))
+pool_has_rest online [] c = nor_none (set.contains online c)
+pool_has_rest online (s ∷ sets) c =
+    pool_has_rest (set.difference online s) sets c ∙ ap (λ b. b && not (is_in_any sets c)) (contains-difference online s c)
+    ∙ neither (set.contains online c) (set.contains s c) (is_in_any sets c)
 
 -- no set meets the pool
 pool_disjoint : (online : Ids) (sets : List Ids) → AllByRecursion (IsDisjoint (pool_of online sets)) sets

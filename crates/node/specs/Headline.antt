@@ -1,5 +1,5 @@
 -- What a rebalance leaves, in the subject's own words.
-use Rattle.std.specs.Prelude.{◌≡◌, ◌+◌, ◌<◌, ◌≤◌, ℕ, Bool, true, false, ◌&&◌, ◌||◌, cond, List, [], ◌∷◌, Option, Some, None, Result, Ok, Err, All, AllPairs, filter, filter_map, length, map, slice_get, zip}
+use Rattle.std.specs.Prelude.{◌≡◌, ◌+◌, ◌<◌, ◌≤◌, ℕ, Bool, true, false, not, ◌&&◌, ◌||◌, cond, List, [], ◌∷◌, Option, Some, None, Result, Ok, Err, All, AllPairs, filter, filter_map, length, map, slice_get, zip}
 use Rattle.std.specs.List.{AllByRecursion, AllZip, list_any, sum_by}
 use Rattle.std.specs.List.Sorted.{IsStrictlyIncreasing}
 use Rattle.std.specs.FinSet as set
@@ -95,9 +95,14 @@ pub record IsTold (rows : List RowView) (sets : List Ids) (total : ℕ) (last : 
   pub prices : PricesView
   pub is : last ≡ Some (certificate.Plan rows sets prices total)
 
+-- one of these sets has the CPU
+abbrev pub is_in_any : List Ids → ℕ → Bool
+is_in_any sets cpu = list_any (λ cpus. set.contains cpus cpu) sets
+
 -- after a plan of this total: each live container has exactly the CPUs that it asked for, all allowed and none shared; the
 -- total is their distance to the home nodes, and no sets that the containers could have are nearer; the certificate tells
--- these very sets, as a plan of least cost of its rows; and the same containers live as before
+-- these very sets, as a plan of least cost of its rows; the pool is the online CPUs that are in none of these sets; and the
+-- same containers live as before
 pub record IsRebalanced (old : NodeState) (total : ℕ) (new : NodeState) : Type 0 where
   pub served : AllByRecursion (IsServed new.kernel new.pool) new.containers
   pub alone : Pairwise (AreAlone new.kernel) new.containers
@@ -107,6 +112,7 @@ pub record IsRebalanced (old : NodeState) (total : ℕ) (new : NodeState) : Type
   pub told : IsTold (rows_of old) (effective_sets new.kernel new.containers) total new.last
   pub least : IsLeast (rows_of old) (effective_sets new.kernel new.containers)
   pub costs : total ≡ cost (rows_of old) (effective_sets new.kernel new.containers)
+  pub pool : (cpu : ℕ) → set.contains new.pool cpu ≡ (set.contains new.kernel.tree.online cpu && not (is_in_any (effective_sets new.kernel new.containers) cpu))
   pub same : new.containers ≡ old.containers
   pub lives : new.kernel.table ≡ old.kernel.table
 
