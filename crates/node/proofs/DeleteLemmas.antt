@@ -127,6 +127,7 @@ module _ (parent : Group) (id : List ℕ) (xs : List (List ℕ × ContainerState
           there = leaves.apart parent alone ∙ h.home.there;
           top = top ∙ h.home.top;
           below = h.home.below;
+          name = h.home.name;
           free_cpus = h.home.free_cpus;
           free_mems = h.home.free_mems;
         };

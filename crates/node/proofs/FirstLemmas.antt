@@ -31,7 +31,11 @@ use Rattle.node.proofs.LaunchLemmas.{Stays}
 pub root_there : (k : KernelState) (root : Group) → IsWellFormed k → root_of k.tree ≡ Some root → has_group k.tree root ≡ true
 root_there k root well top = ap is_some (root_is_there k.tree root well.tree top).there
 
-module _ (old new : KernelState) (unused : IsUnused old) (well : IsWellFormed old) (root : Group) (top : root_of old.tree ≡ Some root) (name : List ℕ) where
+-- the name of the containers' parent
+abbrev name : List ℕ
+name = codes "numarun"
+
+module _ (old new : KernelState) (unused : IsUnused old) (well : IsWellFormed old) (root : Group) (top : root_of old.tree ≡ Some root) where
   no_process : (q : ℕ) (p : Process) → process_of old.table q ≡ Some p → ⊥
   no_process q p e = none-some p (sym (ap (λ live. process_among live q) unused.processes) ∙ e)
 
@@ -45,7 +49,7 @@ module _ (old new : KernelState) (unused : IsUnused old) (well : IsWellFormed ol
         kernel = well;
         home = elim (unused.groups g child.entry child.there) [
           | inl none ↦ absurd (none-some root (sym none ∙ child.below))
-          | inr free ↦ record { entry = child.entry; root = root; there = child.there; top = top; below = child.below; free_cpus = free.cpus; free_mems = free.mems }
+          | inr free ↦ record { entry = child.entry; root = root; there = child.there; top = top; below = child.below; name = child.named; free_cpus = free.cpus; free_mems = free.mems }
         ];
         shallow = λ p q e at below. inr (below_root p q e at below);
         distinct = tt;
@@ -80,6 +84,7 @@ module _ (old new : KernelState) (unused : IsUnused old) (well : IsWellFormed ol
         there = (writes_leave_groups.make old new root name (Ok g) m).made.there;
         top = new_top ∙ top;
         below = refl;
+        name = refl;
         free_cpus = refl;
         free_mems = refl;
       };
@@ -117,4 +122,4 @@ module _ (old new : KernelState) (unused : IsUnused old) (well : IsWellFormed ol
 
 pub first_is_node : FirstIsNode
 first_is_node k m n well fits unused o =
-    subst (λ (x : NodeState). IsNode x) (sym o.3) (first_node k n.kernel unused well o.0 o.1 (codes "numarun") m fits n.parent m.reserved [] refl o.2)
+    subst (λ (x : NodeState). IsNode x) (sym o.3) (first_node k n.kernel unused well o.0 o.1 m fits n.parent m.reserved [] refl o.2)

@@ -83,6 +83,7 @@ module _ (old new : TreeState) (same : new.groups ≡ old.groups) where
     there = entries parent ∙ h.there;
     top = ap root_among same ∙ h.top;
     below = h.below;
+    name = h.name;
     free_cpus = h.free_cpus;
     free_mems = h.free_mems;
   }

@@ -106,6 +106,7 @@ module _ (parent : Group) (name : List ℕ) (owners : List Owner) (new_id : AllB
             there = stay parent h.home.entry h.home.there ∙ h.home.there;
             top = top ∙ h.home.top;
             below = h.home.below;
+            name = h.home.name;
             free_cpus = h.home.free_cpus;
             free_mems = h.home.free_mems;
           };
@@ -181,6 +182,7 @@ module _ (parent : Group) (name : List ℕ) (owners : List Owner) (new_id : AllB
             there = apart parent apart_home ∙ h.home.there;
             top = stand.root ∙ h.home.top;
             below = h.home.below;
+            name = h.home.name;
             free_cpus = h.home.free_cpus;
             free_mems = h.home.free_mems;
           };

@@ -88,6 +88,7 @@ module _ (parent : Group) (owners : List Owner) where
           there = now.there;
           top = rest.alike.root ∙ h.home.top;
           below = sym now.place.parent ∙ h.home.below;
+          name = sym now.place.name ∙ h.home.name;
           free_cpus = sym (ap cpus_in now.there) ∙ rest.others parent apart ∙ ap cpus_in h.home.there ∙ h.home.free_cpus;
           free_mems = sym (ap mems_in now.there) ∙ rest.mems parent ∙ ap mems_in h.home.there ∙ h.home.free_mems;
         }

@@ -1,5 +1,5 @@
 -- What holds of each node, after each of its calls.
-use Rattle.std.specs.Prelude.{◌≡◌, ℕ, ◌<◌, ◌≤◌, ◌⊎◌, false, List, [], ◌∷◌, length, Some, IfSome, map}
+use Rattle.std.specs.Prelude.{◌≡◌, ℕ, ◌<◌, ◌≤◌, ◌⊎◌, false, List, [], ◌∷◌, length, Some, IfSome, codes, map}
 use Rattle.std.specs.List.{AllByRecursion}
 use Rattle.std.specs.Str.{bytes_eq}
 use Rattle.std.specs.FinSet as set
@@ -30,13 +30,14 @@ pub record IsOfMachine (k : KernelState) (m : Layout) : Type 0 where
   pub reserved : k.reserved ≡ m.reserved
   pub nodes : k.tree.nodes ≡ nodes_of m
 
--- the containers' parent is a child of the root, and requests nothing
+-- the containers' parent is the group `numarun` below the root, and requests nothing
 pub record IsHome (s : TreeState) (parent : Group) : Type 0 where
   pub entry : GroupEntry
   pub root : Group
   pub there : entry_of s parent ≡ Some entry
   pub top : root_of s ≡ Some root
   pub below : entry.parent ≡ Some root
+  pub name : entry.name ≡ codes "numarun"
   pub free_cpus : entry.cpus ≡ set.empty
   pub free_mems : entry.mems ≡ set.empty
 

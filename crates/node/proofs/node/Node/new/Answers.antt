@@ -8,5 +8,5 @@ find_or_make-requires g c = root_there (g.K.Kernel.state c.args.kernel) c.root-r
 
 pub invariant_of-result : goal.invariant_of-result
 invariant_of-result g c =
-    first_node (g.K.Kernel.state c.args.kernel) (g.K.Kernel.state c.find_or_make.new.kernel) c.requires.unused c.root-root.ensures.well_formed c.root-root.result c.root-root.ensures.root _
+    first_node (g.K.Kernel.state c.args.kernel) (g.K.Kernel.state c.find_or_make.new.kernel) c.requires.unused c.root-root.ensures.well_formed c.root-root.result c.root-root.ensures.root
     c.args.machine c.requires.machine c.in-Ok.parent c.reserved.result _ (ap all_seen c.new.ensures.empty) c.in-Ok.ensures
