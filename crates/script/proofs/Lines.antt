@@ -12,7 +12,6 @@ use Rattle.script.specs.Lines.{is_feed, kept, lines_of, with_piece}
 use Rattle.script.specs.Runs.{AnswersLine, Runs}
 use Rattle.script.specs.Underway.{Extends, Feeds, StopsIn, Underway}
 use Rattle.script.proofs.Feeds.{HasFeed, HasNoFeed}
-use Rattle.script.proofs.Replying.{SendsPart-then}
 
 -- a line with a piece behind it
 pub with_piece-kept : (line piece : List ℕ) → with_piece (kept line) piece ≡ kept (line ++ piece)
@@ -113,10 +112,12 @@ module _ {S : Type 0} (Answers : S → Asked → List ℕ → S → Type 0) wher
   pub HasFed-none : (out : Option (List ℕ)) (bytes : List ℕ) (mid : S) (held : Option (List ℕ)) → HasFed out out bytes bytes mid held mid held
   HasFed-none out bytes mid held = record { fed = []; text = []; cut = refl; extends = Extends-none mid held; went_out = Appends-nil out }
 
-  -- the bytes up to the end of a line
+  -- the bytes up to a line feed, and through it
+  up_to : (bytes fed rest : List ℕ) (at : ℕ) → bytes ≡ fed ++ rest → HasFeed rest at → bytes ≡ (fed ++ take at rest) ++ 10 ∷ drop (at + 1) rest
+  up_to bytes fed rest at cut f = cut ∙ ap (λ r. fed ++ r) f.cut ∙ sym (append_assoc fed (take at rest) (10 ∷ drop (at + 1) rest))
+
   through : (bytes fed rest : List ℕ) (at : ℕ) → bytes ≡ fed ++ rest → HasFeed rest at → bytes ≡ ((fed ++ take at rest) ++ 10 ∷ []) ++ drop (at + 1) rest
-  through bytes fed rest at cut f =
-      cut ∙ ap (λ r. fed ++ r) f.cut ∙ sym (append_assoc fed (take at rest) (10 ∷ drop (at + 1) rest)) ∙ sym (append_assoc (fed ++ take at rest) (10 ∷ []) (drop (at + 1) rest))
+  through bytes fed rest at cut f = up_to bytes fed rest at cut f ∙ sym (append_assoc (fed ++ take at rest) (10 ∷ []) (drop (at + 1) rest))
 
   pub HasFed-line : (out out' out'' : Option (List ℕ)) (bytes rest : List ℕ) (at : ℕ) (mid new newer : S) (held held' line cleared : Option (List ℕ)) (more : List ℕ)
       → HasFed out out' bytes rest mid held new held' → HasFeed rest at → line ≡ with_piece held' (take at rest) → AnswersLine Answers new line more newer → Appends out' out'' more
@@ -134,12 +135,16 @@ module _ {S : Type 0} (Answers : S → Asked → List ℕ → S → Type 0) wher
       → HasFed out out' bytes rest mid held new held' → HasFeed rest at → line ≡ with_piece held' (take at rest) → AnswersLine Answers new line more newer → SendsPart out' out'' more
       → StopsIn Answers out out'' bytes mid held newer
   HasFed-stops out out' out'' bytes rest at mid new newer held held' line more h f pushed answered part = record {
-    fed = (h.fed ++ take at rest) ++ 10 ∷ [];
+    fed = h.fed ++ take at rest;
     rest = drop (at + 1) rest;
-    text = h.text ++ more;
-    cut = through bytes h.fed rest at h.cut f;
-    extends = Extends-line h.fed h.text (take at rest) more mid new newer held held' h.extends f.first (let P : Option (List ℕ) → Type 0 = λ l. AnswersLine Answers new l more newer in subst P pushed answered);
-    part = SendsPart-then out out' out'' h.text more h.went_out part;
+    text = h.text;
+    answer = more;
+    last = new;
+    line = with_piece held' (take at rest);
+    cut = up_to bytes h.fed rest at h.cut f;
+    extends = Extends-piece h.fed h.text (take at rest) mid new held held' h.extends f.first;
+    answered = (let P : Option (List ℕ) → Type 0 = λ l. AnswersLine Answers new l more newer in subst P pushed answered);
+    written = record { mid = out'; went_out = h.went_out; part = part };
   }
 
   -- no line feed is left
@@ -215,28 +220,37 @@ module _ {S : Type 0} (Answers : S → Asked → List ℕ → S → Type 0) wher
       → EndsUnwritten Answers read read'' out out'' old newer
   IsRunning-end_unwritten read read' read'' out out' out'' old new newer held more r (taken, ended) answered part = record {
     input = r.input;
-    lines = lines_of r.input;
+    before = r.underway.lines;
+    line = r.underway.rest;
     others = [];
-    text = r.text ++ more;
+    text = r.text;
+    answer = more;
+    mid = new;
     taken = Consumes-nothing read read' read'' r.input r.taken taken;
-    cut = sym (append-nil (lines_of r.input));
+    cut = lines-left old new r.input r.text held r.underway;
     whole = λ e. ended;
-    run = last-run old new newer r.input r.text more held r.underway answered;
-    part = SendsPart-then out out' out'' r.text more r.went_out part;
+    run = r.underway.run;
+    answered = (let P : Option (List ℕ) → Type 0 = λ h. AnswersLine Answers new h more newer in subst P r.underway.held_is answered);
+    written = record { mid = out'; went_out = r.went_out; part = part };
   }
 
   pub IsRunning-unwritten : (read read' read'' out out' out'' : Option (List ℕ)) (old new newer : S) (held : Option (List ℕ)) (piece : List ℕ)
       → IsRunning read read' out out' old new held → Consumes read' read'' piece → StopsIn Answers out' out'' piece new held newer → EndsUnwritten Answers read read'' out out'' old newer
   IsRunning-unwritten read read' read'' out out' out'' old new newer held piece r taken s =
-      let u : Underway Answers old (r.input ++ s.fed) (r.text ++ s.text) newer (Some []) = s.extends old r.input r.text r.underway in
+      let u : Underway Answers old (r.input ++ s.fed) (r.text ++ s.text) s.last s.line = s.extends old r.input r.text r.underway in
       record {
         input = r.input ++ piece;
-        lines = u.lines;
-        others = lines_of (u.rest ++ s.rest);
+        before = u.lines;
+        line = u.rest;
+        others = lines_of s.rest;
         text = r.text ++ s.text;
+        answer = s.answer;
+        mid = s.last;
         taken = Consumes-trans read read' read'' r.input piece r.taken taken;
-        cut = ap (λ b. lines_of (r.input ++ b)) s.cut ∙ ap lines_of (sym (append_assoc r.input s.fed s.rest)) ∙ u.cut s.rest;
-        whole = λ e. absurd (omega (arith, length-slice_split is_feed (u.rest ++ s.rest), ap length e));
+        cut = ap (λ b. lines_of (r.input ++ b)) s.cut ∙ ap lines_of (sym (append_assoc r.input s.fed (10 ∷ s.rest))) ∙ u.cut (10 ∷ s.rest)
+            ∙ ap (λ ls. u.lines ++ ls) (slice_split_at is_feed u.rest 10 s.rest u.partial refl);
+        whole = λ e. absurd (omega (arith, length-slice_split is_feed s.rest, ap length e));
         run = u.run;
-        part = SendsPart-then out out' out'' r.text s.text r.went_out s.part;
+        answered = (let P : Option (List ℕ) → Type 0 = λ h. AnswersLine Answers s.last h s.answer newer in subst P u.held_is s.answered);
+        written = record { mid = s.written.mid; went_out = Appends-trans out out' s.written.mid r.text s.text r.went_out s.written.went_out; part = s.written.part };
       }

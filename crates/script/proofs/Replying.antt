@@ -1,6 +1,5 @@
 -- Answers that were written, and what a flush behind them leaves.
-use Rattle.std.proofs.Common.{ℕ, List, [], ◌++◌, Option, Some, None, Result, Ok, Err, sym, ap, ◌∙◌, append-nil, append_assoc}
-use Rattle.std.proofs.KnownBytes.{Appends-trans}
+use Rattle.std.proofs.Common.{ℕ, List, [], Option, Some, None, Result, Ok, Err, sym, ◌∙◌, append-nil}
 use Rattle.std.specs.Io.KnownBytes.{Appends, Keeps}
 use Rattle.script.specs.Ends.{Replies, SendsPart, WritesPart}
 
@@ -13,15 +12,6 @@ Appends-kept (Some xs) (Some ys) (Some zs) bytes p k = k ∙ p
 -- all of the bytes are a front of them
 pub SendsPart-all : (old new : Option (List ℕ)) (bytes : List ℕ) → Appends old new bytes → SendsPart old new bytes
 SendsPart-all old new bytes all = record { sent = bytes; unsent = []; cut = sym (append-nil bytes); went_out = all }
-
--- what went out before, and a front of the rest
-pub SendsPart-then : (old mid new : Option (List ℕ)) (before bytes : List ℕ) → Appends old mid before → SendsPart mid new bytes → SendsPart old new (before ++ bytes)
-SendsPart-then old mid new before bytes first part = record {
-  sent = before ++ part.sent;
-  unsent = part.unsent;
-  cut = ap (λ bytes. before ++ bytes) part.cut ∙ sym (append_assoc before part.sent part.unsent);
-  went_out = Appends-trans old mid new before part.sent first part.went_out;
-}
 
 -- after a flush, whether or not it failed, the bytes are where they were
 pub WritesPart-flushed : {E : Type 0} (old mid new : Option (List ℕ)) (r : Result (Unit {0}) E) (bytes : List ℕ) → Appends old mid bytes → Keeps mid new → WritesPart old new r bytes

@@ -2,8 +2,8 @@
 use Rattle.std.specs.Prelude.{◌≡◌, ℕ, List, [], ◌∷◌, ◌++◌, Option, Result, Ok, Err}
 use Rattle.std.specs.Io.KnownBytes.{Appends, Consumes, IsAtEnd}
 use Rattle.script.specs.Commands.{Asked}
-use Rattle.script.specs.Lines.{lines_of}
-use Rattle.script.specs.Runs.{Runs}
+use Rattle.script.specs.Lines.{kept, lines_of}
+use Rattle.script.specs.Runs.{AnswersLine, Runs}
 use Rattle.script.specs.declared.script_fault.ScriptFault.{ScriptFault}
 use Rattle.script.specs.declared.script_fault.ScriptFault.TheVariants.{Read, TooManyReads, Write}
 
@@ -13,6 +13,12 @@ pub record SendsPart (old new : Option (List ℕ)) (bytes : List ℕ) : Type 0 w
   pub unsent : List ℕ
   pub cut : bytes ≡ sent ++ unsent
   pub went_out : Appends old new sent
+
+-- all of the text went out, and then a front of the last answer, perhaps all of it
+pub record SendsLast (old new : Option (List ℕ)) (text last : List ℕ) : Type 0 where
+  pub mid : Option (List ℕ)
+  pub went_out : Appends old mid text
+  pub part : SendsPart mid new last
 
 -- all of the bytes went out, or at an error a front of them
 abbrev pub WritesPart : {E : Type 0} → Option (List ℕ) → Option (List ℕ) → Result (Unit {0}) E → List ℕ → Type 0
@@ -45,17 +51,21 @@ pub record EndsUnread {S : Type 0} (Answers : S → Asked → List ℕ → S →
   pub run : Runs Answers old lines text new
   pub went_out : Appends out out' text
 
--- some lines of what was read were run, the last of the input only where it ended, and a front of their answers went out
+-- all lines before one were answered; that one was run, as the last of the input only where it ended, and of its answer a front went out
 pub record EndsUnwritten {S : Type 0} (Answers : S → Asked → List ℕ → S → Type 0) (read read' out out' : Option (List ℕ)) (old new : S) : Type 0 where
   pub input : List ℕ
-  pub lines : List (List ℕ)
+  pub before : List (List ℕ)
+  pub line : List ℕ
   pub others : List (List ℕ)
   pub text : List ℕ
+  pub answer : List ℕ
+  pub mid : S
   pub taken : Consumes read read' input
-  pub cut : lines_of input ≡ lines ++ others
+  pub cut : lines_of input ≡ before ++ line ∷ others
   pub whole : others ≡ [] → IsAtEnd read'
-  pub run : Runs Answers old lines text new
-  pub part : SendsPart out out' text
+  pub run : Runs Answers old before text mid
+  pub answered : AnswersLine Answers mid (kept line) answer new
+  pub written : SendsLast out out' text answer
 
 abbrev pub EndsBy : {S : Type 0} → (S → Asked → List ℕ → S → Type 0) → Option (List ℕ) → Option (List ℕ) → Option (List ℕ) → Option (List ℕ) → S → Result (Unit {0}) ScriptFault → S → Type 0
 EndsBy Answers read read' out out' old (Ok done) new = Ends Answers read read' out out' old new

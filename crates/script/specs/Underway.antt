@@ -1,11 +1,11 @@
 -- A script that is underway: some of its bytes were read, and the lines that ended were answered.
-use Rattle.std.specs.Prelude.{◌≡◌, ℕ, false, List, [], ◌++◌, Option, Some, Result, Ok, Err}
+use Rattle.std.specs.Prelude.{◌≡◌, ℕ, false, List, ◌∷◌, ◌++◌, Option, Result, Ok, Err}
 use Rattle.std.specs.Io.KnownBytes.{Appends}
 use Rattle.std.specs.List.{All}
 use Rattle.script.specs.Commands.{Asked}
-use Rattle.script.specs.Ends.{SendsPart}
+use Rattle.script.specs.Ends.{SendsLast}
 use Rattle.script.specs.Lines.{is_feed, kept, lines_of}
-use Rattle.script.specs.Runs.{Runs}
+use Rattle.script.specs.Runs.{AnswersLine, Runs}
 
 -- the lines that ended in this input were answered by this text, and this is held of the line that has not ended
 pub record Underway {S : Type 0} (Answers : S → Asked → List ℕ → S → Type 0) (old : S) (input text : List ℕ) (new : S) (held : Option (List ℕ)) : Type 0 where
@@ -21,14 +21,18 @@ abbrev pub Extends : {S : Type 0} → (S → Asked → List ℕ → S → Type 0
 Extends Answers bytes text mid held new held' = (old : _) (input before : List ℕ)
     → Underway Answers old input before mid held → Underway Answers old (input ++ bytes) (before ++ text) new held'
 
--- of these bytes a front that ends a line was taken, and of its answers a front went out
+-- of these bytes a front that ends a line was taken; what it ended before was answered, and of the answer to this line a front went out
 pub record StopsIn {S : Type 0} (Answers : S → Asked → List ℕ → S → Type 0) (out out' : Option (List ℕ)) (bytes : List ℕ) (mid : S) (held : Option (List ℕ)) (new : S) : Type 0 where
   pub fed : List ℕ
   pub rest : List ℕ
   pub text : List ℕ
-  pub cut : bytes ≡ fed ++ rest
-  pub extends : Extends Answers fed text mid held new (Some [])
-  pub part : SendsPart out out' text
+  pub answer : List ℕ
+  pub last : S
+  pub line : Option (List ℕ)
+  pub cut : bytes ≡ fed ++ 10 ∷ rest
+  pub extends : Extends Answers fed text mid held last line
+  pub answered : AnswersLine Answers last line answer new
+  pub written : SendsLast out out' text answer
 
 -- the bytes were taken and what they end was answered
 pub record Feeds {S : Type 0} (Answers : S → Asked → List ℕ → S → Type 0) (out out' : Option (List ℕ)) (bytes : List ℕ) (mid : S) (held : Option (List ℕ)) (new : S) (held' : Option (List ℕ)) : Type 0 where
