@@ -5,5 +5,4 @@ pub mod Requests
 pub mod Runs
 pub mod TextLaws
 pub mod Underway
-pub mod Views
 pub mod Written
