@@ -1,14 +1,22 @@
 -- What a script does to the node: a list of its calls and events.
-use Rattle.std.proofs.Common.{◌≡◌, ℕ, ◌≤◌, List, [], ◌∷◌, ◌++◌, length, length-append, Option, Some, None, inl, inr, refl, ap, subst, ◌∙◌, arith}
+use Rattle.std.proofs.Common.{◌≡◌, ℕ, ◌≤◌, List, [], ◌∷◌, ◌++◌, length, length-append, Option, Some, None, Result, Ok, Err, inl, inr, codes, get_or, refl, ap, subst, ◌∙◌, arith}
+use Rattle.faults.specs.declared.or_memory.OrMemory.{OrMemory}
+use Rattle.node.specs.declared.fault.NodeFault.{NodeFault}
+use Rattle.node.specs.declared.outcome.Outcome.{Outcome}
+use Rattle.node.specs.declared.outcome.Outcome.TheVariants.{Plan, Short}
+use Rattle.node.specs.Headline.{Headline, IsRebalanced}
+use Rattle.node.specs.IsNode.{IsNode}
 use Rattle.node.specs.NodeState.{NodeState}
-use Rattle.node.specs.Machine.{Event, Create, Start, Kill, Delete, Rebalance, Begin, StepOn, Fork, Exit, Offline, Online, Step, Run}
+use Rattle.node.specs.Machine.{Event, Create, Start, Kill, Delete, Rebalance, Begin, StepOn, Fork, Exit, Offline, Online, Step, Run, RunsRebalance}
 use Rattle.script.specs.Commands.{Asked}
 use Rattle.script.specs.Commands as ask
 use Rattle.script.specs.Lines.{kept, words_of}
 use Rattle.script.specs.Requests.{Wanted, nothing, bad, asks, request_of}
 use Rattle.script.specs.Runs.{AnswersLine, AnswersRequest, Runs}
-use Rattle.runtime.specs.RuntimeState.{RuntimeState, Told}
+use Rattle.runtime.specs.AnswerTexts.{answer_text, of_either}
 use Rattle.runtime.specs.Answered.{Answered, AnswersBy}
+use Rattle.runtime.specs.OutcomeTexts.{outcome_text}
+use Rattle.runtime.specs.RuntimeState.{RuntimeState, Told}
 
 -- at most so many calls and events lead from the one node to the other
 abbrev pub AreWithin : ℕ → NodeState → NodeState → Type 0
@@ -18,6 +26,19 @@ AreWithin most old new = (events : List Event) × (length events ≤ most) × Ru
 abbrev pub LinesAreCalls : Type 0
 LinesAreCalls = (old new : RuntimeState) (lines : List (List ℕ)) (text : List ℕ) → Runs Answered old lines text new
     → AreWithin (length lines) old.node new.node × (new.told ≡ old.told)
+
+-- whatever lines of a script over a node were answered before, a rebalance leaves what the headline says of an outcome or a
+-- refusal, and its answer is the text of that
+abbrev pub RebalancesAreTold : Type 0
+RebalancesAreTold = (first old new : RuntimeState) (lines : List (List ℕ)) (text answer : List ℕ)
+    → IsNode first.node → Runs Answered first lines text old → Answered old ask.rebalance answer new
+    → (r : Result Outcome (OrMemory NodeFault)) × Headline old.node r new.node × (answer ≡ answer_text (outcome_text new.node) of_either r)
+
+-- so an answer that begins as a plan's does is the text of a plan, of which the headline holds
+abbrev pub PlansAreTold : Type 0
+PlansAreTold = (first old new : RuntimeState) (lines : List (List ℕ)) (text more : List ℕ)
+    → IsNode first.node → Runs Answered first lines text old → Answered old ask.rebalance (codes "plan total " ++ more) new
+    → (total : ℕ) × IsRebalanced old.node total new.node × (codes "plan total " ++ more ≡ outcome_text new.node (Plan total))
 
 none : (old new : NodeState) → new ≡ old → AreWithin 1 old new
 none old new e = ([], omega arith, e)
@@ -68,3 +89,20 @@ lines_are_calls old new (line ∷ lines) text (mid, first, more, answered, run, 
       (here.0.0 ++ later.0.0, omega (arith, length-append here.0.0 later.0.0, few, fewer), Run-append old.node mid.node new.node here.0.0 later.0.0 here.0.2 later.0.2),
       later.1 ∙ here.1,
     )
+
+pub rebalances_are_told : RunsRebalance → RebalancesAreTold
+rebalances_are_told leaves first old new lines text answer node run ((r, h, e), same) =
+    let before = lines_are_calls first old lines text run in
+    (r, leaves first.node before.0.0 old.node r new.node node before.0.2 h, e)
+
+-- no other text begins so
+plan_told : (old new : NodeState) (more : List ℕ) (r : Result Outcome (OrMemory NodeFault)) → Headline old r new → codes "plan total " ++ more ≡ answer_text (outcome_text new) of_either r
+    → (total : ℕ) × IsRebalanced old total new × (codes "plan total " ++ more ≡ outcome_text new (Plan total))
+plan_told old new more (Ok (Plan total)) h e = (total, h, e)
+plan_told old new more (Ok (Short wanted allowed)) h e = absurd (let same : 112 ≡ 115 = ap (λ t. get_or t 0 0) e in let f : ⊥ = omega (arith, same) in f)
+plan_told old new more (Err error) h e = absurd (let same : 112 ≡ 114 = ap (λ t. get_or t 0 0) e in let f : ⊥ = omega (arith, same) in f)
+
+pub plans_are_told : RunsRebalance → PlansAreTold
+plans_are_told leaves first old new lines text more node run answered =
+    let told = rebalances_are_told leaves first old new lines text (codes "plan total " ++ more) node run answered in
+    plan_told old.node new.node more told.0 told.1 told.2

@@ -1,0 +1,8 @@
+use Rattle.runtime.specs.ScriptLaws.{plans_are_told, rebalances_are_told}
+use Rattle.runtime.proofs.laws.rebalances_are_told.Goals as goal
+
+pub returns-clause-told : goal.returns-clause-told
+returns-clause-told c = rebalances_are_told c.each_rebalance.ensures
+
+pub returns-clause-plans : goal.returns-clause-plans
+returns-clause-plans c = plans_are_told c.each_rebalance.ensures
