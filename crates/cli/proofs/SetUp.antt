@@ -23,6 +23,10 @@ leads_to (Some bytes) slit table items text answer all same small there ready = 
       (subst (λ (b : List ℕ). (length b ≤ MOST_BYTES) × IsReady table b answer) same (small, ready)),
 )
 
+pub was_read : (read : Option (List ℕ)) (items : List ℕ) → IfSome read (λ all. items ≡ all) → length items ≤ MOST_BYTES → IfSome read (λ text. length text ≤ MOST_BYTES)
+was_read None items all small = tt
+was_read (Some bytes) items all small = subst (λ (b : List ℕ). length b ≤ MOST_BYTES) all small
+
 -- what a reader has left is the file, where the file is known
 abbrev Told : Option (List ℕ) → Option (List ℕ) → Type 0
 Told file read = IfSome file (λ all. read ≡ Some all)
@@ -57,7 +61,7 @@ module _ (file read : Option (List ℕ)) (is : Told file read) (slit left : Opti
 
   pub sets_up : (answer : Result NodeState Unready) → SetsUp read left answer → SetsUp file slit answer
   sets_up (Ok n) h = leads_told (Ok n) h
-  sets_up (Err (unready.Slit why)) h = bad_told slit left are why h
+  sets_up (Err (unready.Slit why)) h = ((λ e. told (λ text. length text ≤ MOST_BYTES) file read is (h.0 e)), bad_told slit left are why h.1)
   sets_up (Err (unready.Machine refusal.Memory)) h = tt
   sets_up (Err (unready.Machine (refusal.List error))) h = leads_told (Err (refusal.List error)) h
   sets_up (Err (unready.Machine (refusal.Slit fault))) h = leads_told (Err (refusal.Slit fault)) h

@@ -1,5 +1,5 @@
 -- What is ready before a script begins: the node of a machine file, perhaps with a distance table beside it.
-use Rattle.std.specs.Prelude.{◌≡◌, ℕ, ◌≤◌, List, length, Option, Some, None, Result, Ok, Err, ⊤, IfSome}
+use Rattle.std.specs.Prelude.{◌≡◌, ℕ, ◌≤◌, Bool, true, false, List, length, Option, Some, None, Result, Ok, Err, ⊤, IfSome}
 use Rattle.machine.specs.Layout.{Layout}
 use Rattle.machine.specs.MachineOf.{machine_of}
 use Rattle.node.specs.NodeState.{NodeState}
@@ -40,11 +40,16 @@ abbrev pub IsBadTable : Option (Option (List ℕ)) → Refusal → Type 0
 IsBadTable None why = ⊥
 IsBadTable (Some read) why = IfSome read (λ bytes. IsTableOrRefusal bytes (Err why))
 
+-- whether this says that an input can't be opened or read, or passes a bound
+abbrev pub is_read_fault : Refusal → Bool
+is_read_fault (refusal.ReadFault fault) = true
+is_read_fault _ = false
+
 -- the node that the two readers lead to, or why there is none: the machine file can't be read, the table is refused, or
--- then the machine
+-- then the machine; a table is not refused for what stands in it before the machine file was read whole
 abbrev pub SetsUp : Option (List ℕ) → Option (Option (List ℕ)) → Result NodeState Unready → Type 0
 SetsUp read slit (Ok n) = LeadsTo read slit (Ok n)
-SetsUp read slit (Err (unready.Slit why)) = IsBadTable slit why
+SetsUp read slit (Err (unready.Slit why)) = (is_read_fault why ≡ false → IfSome read (λ text. length text ≤ MOST_BYTES)) × IsBadTable slit why
 SetsUp read slit (Err (unready.Machine (refusal.ReadFault fault))) = IfSome read (λ text. IsReadFaultOf text fault)
 SetsUp read slit (Err (unready.Machine refusal.Memory)) = ⊤
 SetsUp read slit (Err (unready.Machine why)) = LeadsTo read slit (Err why)

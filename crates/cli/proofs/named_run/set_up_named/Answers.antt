@@ -1,7 +1,11 @@
 -- What the opened files lead to.
+use Rattle.std.proofs.Common.{rules}
 use Rattle.cli.proofs.SetUp.{sets_up}
 use Rattle.cli.proofs.named_run.set_up_named.Goals.{in-None, in-Some+in-Ok-open}
 use Rattle.cli.proofs.named_run.set_up_named.Goals as goal
+
+pub returns-in-Err-open : goal.returns-in-Err-open
+returns-in-Err-open g c = ((λ e. absurd (let f : ⊥ = cc in f)), search rules)
 
 pub returns : goal.returns
 returns g c =

@@ -1,8 +1,13 @@
 -- What the text and the table lead to.
 use Rattle.std.proofs.Common.{◌≤◌, length, arith, Ok}
 use Rattle.cli.specs.declared.reading.TheConstants.{MOST_BYTES}
-use Rattle.cli.proofs.SetUp.{leads_to}
+use Rattle.cli.proofs.SetUp.{leads_to, was_read}
 use Rattle.cli.proofs.scripts.set_up.Goals as goal
+
+pub returns-in-Err-table_in : goal.returns-in-Err-table_in
+returns-in-Err-table_in g c =
+    let small : length c.in-Ok.text.items ≤ MOST_BYTES = omega (arith, c.in-Ok.text.ok.0, c.in-Ok.ensures.size) in
+    ((λ _. was_read _ c.in-Ok.text.items c.in-Ok.ensures.bytes small), c.in-Err-table_in.ensures.refused)
 
 pub returns-in-Ok-start_up : goal.returns-in-Ok-start_up
 returns-in-Ok-start_up g c =
