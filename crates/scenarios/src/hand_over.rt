@@ -184,9 +184,9 @@ fn failing(
     moves: &[Move],
     after: usize,
 ) -> Result<(FusedKernel<ModelKernel>, Vec<Entry>), Fail> {
-    let before = 1 + 3 * moves.len() as u64;
+    let before = 2 + 3 * moves.len() as u64;
     let kernel = two_nodes(alloc)?.ok_or("no machine")?;
-    let mut kernel = FusedKernel::new(kernel, before + after as u64 + 1);
+    let mut kernel = FusedKernel::new(kernel, before.saturating_add(after as u64));
     let entries = launch(alloc, &mut kernel, moves)?;
     Ok((kernel, entries))
 }
@@ -198,7 +198,11 @@ fn every_write_failed_in_turn(rt: HostRuntime) -> Result<(), Fail> {
             let (mut kernel, entries) = failing(rt.alloc(), moves, after)?;
             let mut over = handover(entries.to_vec(rt.alloc())?, set("0")).ok_or("no hand-over")?;
             let taken = run(&mut kernel, &mut over, entries.as_slice(), 99, 0);
-            assert_eq!(rt; taken, Some(writes + 1), "write {after} failed");
+            assert_eq!(rt;
+                taken,
+                Some(writes.saturating_add(1)),
+                "write {after} failed"
+            );
         }
     }
     Ok(())
@@ -223,7 +227,7 @@ fn steps<K: Kernel>(
 #[test]
 fn all_at_once_as_by_steps(rt: HostRuntime) -> Result<(), Fail> {
     for (moves, writes) in MOVES {
-        for after in 0..writes + 1 {
+        for after in 0..=writes {
             let (mut kernel, entries) = failing(rt.alloc(), moves, after)?;
             let (mut other, _) = failing(rt.alloc(), moves, after)?;
             let mut over = handover(entries.to_vec(rt.alloc())?, set("0")).ok_or("no hand-over")?;
