@@ -92,7 +92,7 @@ pub create_counts : (old : NodeState) (id bundle config : List ℕ) (r : Result 
     → new.kernel.failures ≡ old.kernel.failures + rise_or_memory r
 create_counts old id bundle config (Ok pid) new h = launch_done old.kernel old.parent id old.machine.reserved h.asked.homes (h.group, pid) new.kernel h.launched
 create_counts old id bundle config (Err Memory) new h =
-    elim h [ inl late ↦ launch_error old.kernel old.parent id old.machine.reserved late.asked.homes Memory new.kernel late.refused | inr early ↦ kept_count old new early.1 ]
+    elim h [ inl late ↦ launch_error old.kernel old.parent id old.machine.reserved late.asked.homes Memory new.kernel late.refused | inr early ↦ kept_count old new early.2 ]
 create_counts old id bundle config (Err (Fault (Kernel fault))) new h =
     launch_error old.kernel old.parent id old.machine.reserved h.asked.homes (Fault fault) new.kernel h.refused
 create_counts old id bundle config (Err (Fault Busy)) new h = kept_count old new h.1

@@ -88,7 +88,7 @@ module _ (law : StepsLeave) (ends : EndsWithin) (o : Ongoing) (old : NodeState) 
     create_goes : (id bundle config : List ℕ) (r : Result ℕ (OrMemory NodeFault)) → Creates old id bundle config r new → Lasts o old 0 new
     create_goes id bundle config (Ok pid) c = open_already c.free.settled
     create_goes id bundle config (Err Memory) (inl n) = open_already n.free.settled
-    create_goes id bundle config (Err Memory) (inr same) = unchanged same.1
+    create_goes id bundle config (Err Memory) (inr same) = unchanged same.2
     create_goes id bundle config (Err (Fault (Kernel fault))) n = open_already n.free.settled
     create_goes id bundle config (Err (Fault fault)) same = unchanged same.1
 

@@ -154,7 +154,7 @@ module _ (old : NodeState) (h : IsNode old) (id config : List ℕ) where
 
   pub create_leaves : (bundle : List ℕ) (r : Result ℕ (OrMemory NodeFault)) (new : NodeState) → Creates old id bundle config r new → CreateLeaves old id r new
   create_leaves bundle (Ok pid) new c = tt
-  create_leaves bundle (Err Memory) new c = elim c [ inl n ↦ late Memory new n | inr e ↦ early new e.0 e.1 ]
+  create_leaves bundle (Err Memory) new c = elim c [ inl n ↦ late Memory new n | inr e ↦ early new e.0 e.2 ]
   create_leaves bundle (Err (Fault (Kernel fault))) new c = late (Fault fault) new c
   create_leaves bundle (Err (Fault Busy)) new c = c.1
   create_leaves bundle (Err (Fault BadId)) new c = c.1

@@ -38,7 +38,7 @@ module _ (old : NodeState) (h : IsNode old) (new : NodeState) where
 
   create_keeps : (id bundle config : List ℕ) (r : Result ℕ (OrMemory NodeFault)) → Creates old id bundle config r new → IsNode new
   create_keeps id bundle config (Ok pid) c = moved _ c.is (created_node old h new.kernel id bundle c.said c.asked c.group pid c.free c.says.fits c.launched)
-  create_keeps id bundle config (Err Memory) c = elim c [ inl n ↦ not_launched id config Memory n | inr e ↦ unchanged e.1 ]
+  create_keeps id bundle config (Err Memory) c = elim c [ inl n ↦ not_launched id config Memory n | inr e ↦ unchanged e.2 ]
   create_keeps id bundle config (Err (Fault (Kernel fault))) c = not_launched id config (Fault fault) c
   create_keeps id bundle config (Err (Fault Busy)) c = unchanged c.1
   create_keeps id bundle config (Err (Fault BadId)) c = unchanged c.1

@@ -76,7 +76,7 @@ creates_are_calls old id bundle config (Ok pid) new c =
     launch_calls old.kernel old.parent id old.machine.reserved c.asked.homes (Ok (c.group, pid)) new.kernel c.launched
 creates_are_calls old id bundle config (Err Memory) new (inl n) =
     launch_calls old.kernel old.parent id old.machine.reserved n.asked.homes (Err Memory) new.kernel n.refused
-creates_are_calls old id bundle config (Err Memory) new (inr same) = ap (λ (n : NodeState). n.kernel) same.1
+creates_are_calls old id bundle config (Err Memory) new (inr same) = ap (λ (n : NodeState). n.kernel) same.2
 creates_are_calls old id bundle config (Err (Fault (Kernel fault))) new n =
     launch_calls old.kernel old.parent id old.machine.reserved n.asked.homes (Err (Fault fault)) new.kernel n.refused
 creates_are_calls old id bundle config (Err (Fault fault)) new same = ap (λ (n : NodeState). n.kernel) same.1

@@ -10,6 +10,7 @@ use Rattle.kernel_model.specs.KernelState.{KernelState}
 use Rattle.kernel_model.specs.Cases.{EndsGroup, RemovesGroup}
 use Rattle.machine.specs.Layout.{Layout}
 use Rattle.config_json.specs.declared.Config.{Config as Said}
+use Rattle.config_json.specs.ConfigOf.{bytes_fault}
 use Rattle.demand.specs.declared.Demand.{Demand as Asked}
 use Rattle.faults.specs.declared.OrMemory.{OrMemory}
 use Rattle.faults.specs.declared.OrMemory.TheVariants.{Memory, Fault}
@@ -63,7 +64,7 @@ late_answer (Fault fault) = Fault (Kernel fault)
 -- `create`
 abbrev pub Creates : NodeState → List ℕ → List ℕ → List ℕ → Result ℕ (OrMemory NodeFault) → NodeState → Type 0
 Creates old id bundle config (Ok pid) new = Created old id bundle config pid new
-Creates old id bundle config (Err Memory) new = NotLaunched old id config Memory new ⊎ (IsFree old id × (new ≡ old))
+Creates old id bundle config (Err Memory) new = NotLaunched old id config Memory new ⊎ (IsFree old id × (bytes_fault config ≡ None) × (new ≡ old))
 Creates old id bundle config (Err (Fault (Kernel fault))) new = NotLaunched old id config (Fault fault) new
 Creates old id bundle config (Err (Fault fault)) new = CreateCause old id config fault × (new ≡ old)
 

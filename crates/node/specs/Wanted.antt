@@ -1,10 +1,11 @@
 -- What a container's config says and asks for.
-use Rattle.std.specs.Prelude.{◌≡◌, ℕ, Bool, List, Some, Result, Ok, Err}
+use Rattle.std.specs.Prelude.{◌≡◌, ℕ, Bool, List, Some, None, Result, Ok, Err}
 use Rattle.faults.specs.declared.OrMemory.{OrMemory}
 use Rattle.faults.specs.declared.OrMemory.TheVariants as or
 use Rattle.machine.specs.Layout.{Layout}
 use Rattle.config_json.specs.declared.Config.{Config as Said}
-use Rattle.config_json.specs.ConfigOf.{config_of}
+use Rattle.config_json.specs.declared.fault.ConfigFault.{ConfigFault}
+use Rattle.config_json.specs.ConfigOf.{config_of, bytes_fault}
 use Rattle.demand.specs.declared.Demand.{Demand as Asked}
 use Rattle.demand.specs.DemandFaultOf.{demand_fault}
 use Rattle.demand.specs.IsDemand.{IsDemand}
@@ -24,8 +25,22 @@ ConfigCause m config (Config fault) = config_of config ≡ Err fault
 ConfigCause m config (Demand fault) = (said : Said) × (config_of config ≡ Ok said) × (demand_fault m said.cpu ≡ Some fault)
 ConfigCause m config fault = ⊥
 
--- whether it can be started, and what it asks for
+-- what a config that was read asks for
+abbrev pub Asks : Layout → Said → Result Asked NodeFault → Type 0
+Asks m said (Ok asked) = IsDemand m said.cpu asked × FitsMachine m asked
+Asks m said (Err (Demand fault)) = demand_fault m said.cpu ≡ Some fault
+Asks m said (Err fault) = ⊥
+
+-- whether it can be started, and what it asks for, given how it was read: the reading alone may want memory
+abbrev pub Wants : Layout → Result Said (OrMemory ConfigFault) → Result (Bool × Asked) (OrMemory NodeFault) → Type 0
+Wants m (Ok said) (Ok wanted) = (wanted.0 ≡ said.runnable) × Asks m said (Ok wanted.1)
+Wants m (Ok said) (Err (or.Fault fault)) = Asks m said (Err fault)
+Wants m (Ok said) (Err or.Memory) = ⊥
+Wants m (Err or.Memory) answer = answer ≡ Err or.Memory
+Wants m (Err (or.Fault fault)) answer = answer ≡ Err (or.Fault (Config fault))
+
+-- the same of the bytes: want of memory is no answer where a fault shows in them
 abbrev pub Reads : Layout → List ℕ → Result (Bool × Asked) (OrMemory NodeFault) → Type 0
-Reads m config (Ok wanted) = (said : Said) × (wanted.0 ≡ said.runnable) × Says m config said wanted.1
-Reads m config (Err or.Memory) = Unit {0}
+Reads m config (Ok wanted) = (said : Said) × (wanted.0 ≡ said.runnable) × Says m config said wanted.1 × (bytes_fault config ≡ None)
+Reads m config (Err or.Memory) = bytes_fault config ≡ None
 Reads m config (Err (or.Fault fault)) = ConfigCause m config fault

@@ -1,6 +1,6 @@
 //! `create` (OCI Runtime Specification 1.0.2, runtime.md, "Create").
 ghost use Rattle.std.specs.Prelude.{◌≡◌, ◌+◌};
-ghost use Rattle.node.specs.Wanted.{Reads};
+ghost use Rattle.node.specs.Wanted.{Asks, Wants, Reads};
 ghost use Rattle.node.specs.Refusals.{Checks};
 ghost use Rattle.node.specs.Calls.{late_answer, Creates};
 ghost use Rattle.node.specs.Leaves.{CreateLeaves, rise_or_memory};
@@ -10,12 +10,40 @@ use crate::entries::{append, find, prepare};
 use crate::launch::launch;
 use crate::{CONTAINER_LIMIT, Node, NodeFault};
 use certificate_text::is_id;
-use config_json::Config;
+use config_json::{Config, ConfigFault};
 use demand::Demand;
 use faults::OrMemory;
 use kernel_model::{Kernel, KernelFault};
 use machine::Machine;
 use std::alloc::Global;
+
+/// What a config that was read asks for on a machine.
+fn demand_of(config: &Config, machine: &Machine) -> Result<Demand, NodeFault>
+    ensures { Asks machine.now config.now result }
+{
+    match Demand::of(&config.cpu, machine) {
+        Ok(demand) => Ok(demand),
+        Err(fault) => Err(NodeFault::Demand(fault)),
+    }
+}
+
+/// What a config says on a machine, given how it was read.
+fn wanted(
+    read: Result<Config, OrMemory<ConfigFault>>,
+    machine: &Machine,
+) -> Result<(bool, Demand), OrMemory<NodeFault>>
+    ensures { Wants machine.now read result }
+{
+    let config = match read {
+        Ok(config) => config,
+        Err(OrMemory::Memory) => return Err(OrMemory::Memory),
+        Err(OrMemory::Fault(fault)) => return Err(OrMemory::Fault(NodeFault::Config(fault))),
+    };
+    match demand_of(&config, machine) {
+        Ok(demand) => Ok((config.runnable, demand)),
+        Err(fault) => Err(OrMemory::Fault(fault)),
+    }
+}
 
 /// What a config says on a machine: whether the container can be started, and what it asks for.
 fn read_config(
@@ -25,15 +53,7 @@ fn read_config(
 ) -> Result<(bool, Demand), OrMemory<NodeFault>>
     ensures { Reads machine.now config.now result }
 {
-    let config = match Config::read(alloc, config) {
-        Ok(config) => config,
-        Err(OrMemory::Memory) => return Err(OrMemory::Memory),
-        Err(OrMemory::Fault(fault)) => return Err(OrMemory::Fault(NodeFault::Config(fault))),
-    };
-    match Demand::of(&config.cpu, machine) {
-        Ok(demand) => Ok((config.runnable, demand)),
-        Err(fault) => Err(OrMemory::Fault(NodeFault::Demand(fault))),
-    }
+    wanted(Config::read(alloc, config), machine)
 }
 
 /// What `create` answers where the kernel refuses.
@@ -107,7 +127,8 @@ impl<K: Kernel + Drop> Node<K> {
     ///
     /// # Errors
     /// In this order: `Busy`, `BadId`, `IdInUse`, `TooManyContainers`, `Config`, `Demand`; and then of the kernel
-    /// `NoSerials`, `NoPids` or `Failed`. Want of memory or a refusal of the kernel leaves at most an empty group of this
+    /// `NoSerials`, `NoPids` or `Failed`. Before memory is asked for, it is known whether the config has too many bytes or
+    /// none, and whether they are UTF-8. Want of memory or a refusal of the kernel leaves at most an empty group of this
     /// id, which a later `create` uses.
     pub fn create(
         &mut self,
