@@ -86,7 +86,8 @@ IsSingle (Begin answer) = Unit {0}
 IsSingle (StepOn answer) = Unit {0}
 IsSingle event = ⊥
 
--- a rebalance that hands over is a run of these, so that what holds after each state of a run holds after each of its writes
+-- a rebalance that hands over leaves what a run of these leaves, so that what holds after each of these holds of what it
+-- leaves, wherever a write fails
 abbrev pub RebalancesAreSteps : Type 0
 RebalancesAreSteps =
     (old : NodeState) (total : ℕ) (answer : Result (Unit {0}) KernelFault) (new : NodeState) → Moves old total answer new

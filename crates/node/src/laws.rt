@@ -20,8 +20,9 @@ pub fn first_kernels()
 /// refusals. So after each of them no CPU but reserved ones is requested for a live pinned container and for another live
 /// one. Nothing runs.
 ///
-/// A rebalance that hands over is `begin` and single steps, each of which makes at most one write: so this holds after each
-/// of its writes, too. After each of those of `create` it holds by [`each_create`]; each other call makes at most one.
+/// A rebalance that hands over leaves what `begin` and single steps leave, each of which makes at most one write; this holds
+/// after each of them, and so of what is left wherever a write fails. After each write of `create` it holds by
+/// [`each_create`]; each other call makes at most one.
 ///
 /// Where after such a list each live container requests a CPU that is online, the same holds of the CPUs that are in effect
 /// for them.
