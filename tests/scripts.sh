@@ -8,6 +8,9 @@ top=$(cd "$(dirname "$0")/.." && pwd)
 for script in "$top"/examples/scripts/*.answers; do
     (cd "$top" && "$program" run examples/machines/two-socket.json <"${script%.answers}") | diff "$script" -
 done
+shown=$(awk '/^```/ { open = !open; plain = open && $0 == "```"; next } plain' "$top/README.md")
+diff <(sed -n 's/^> //p' <<<"$shown") "$top/examples/scripts/a-cpu-goes"
+diff <(grep -v '^> ' <<<"$shown") "$top/examples/scripts/a-cpu-goes.answers"
 python3 -B "$top/tests/scripts/worked.py" "$program"
 python3 -B "$top/tests/scripts/compare.py" "$program"
 python3 -B "$top/tests/scripts/last_pid.py" "$program"

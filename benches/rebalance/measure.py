@@ -1,8 +1,10 @@
 """Prints how long `rebalance` takes in microseconds, the least of some: `measure.py PROGRAM TOOLS`.
 
-A script is typed, and the time is from the line to the `end` of its answer, with what the pipe takes. `begin` is without the
-writes, and the solver's time is that of the same rows, as the node's certificate tells them. The containers are 256 with homes on one
-of 8 nodes: seven of eight ask for 1 to 7 of its CPUs or any, the others for none of their own."""
+`typed` is the time from the line to the `end` of its answer, with what the pipe takes. The others are of scripts read from a
+file, each the time that one line more takes: `all` a rebalance, `writes` what it takes more than one that has nothing to write
+since it comes right behind it, `solver` the solver on the same rows, as the node's certificate tells them, and `rest` what is
+left: rows, certificate, entries and the text of the answer. The containers are 256 with homes on one of 8 nodes: seven of eight
+ask for 1 to 7 of its CPUs or any, the others for none of their own."""
 
 import json
 import os
@@ -12,7 +14,7 @@ import sys
 import tempfile
 import time
 
-ROUNDS, TIMES = 5, 20
+ROUNDS, TIMES, RUNS = 5, 20, 40
 NODES, CPUS, CONTAINERS = 8, 1024, 256
 
 
@@ -50,22 +52,38 @@ def place():
         json.dump(told, open(f"b{k}/config.json", "w"))
 
 
-def rounds(program, word, before):
-    """The least time of `word` as the last line, for each number of lines of `before` that come first."""
+def typed(program, before):
+    """The least time of a typed `rebalance`, for each number of lines of `before` that come first."""
     least = [float("inf")] * len(before)
     for _ in range(ROUNDS):
         shell = Shell(program)
         for k, lines in enumerate(before):
             for line in lines:
                 shell.ask(line)
-            answer, took = shell.ask(word)
+            answer, took = shell.ask("rebalance")
             if not answer[0].startswith(b"plan"):
-                sys.exit(f"rebalance: {word}: {answer}")
+                sys.exit(f"rebalance: {answer}")
             least[k] = min(least[k], took)
-            while word == "begin" and shell.ask("step")[0] != [b"done\n"]:
-                pass
         shell.close()
     return least
+
+
+def run(program, lines):
+    """The least time of a whole script in microseconds."""
+    open("script", "w").write("\n".join(lines) + "\n")
+    least = float("inf")
+    for _ in range(RUNS):
+        with open("script") as script:
+            start = time.perf_counter()
+            subprocess.run([program, "run", "machine.json"], stdin=script, stdout=subprocess.DEVNULL, check=True)
+            least = min(least, time.perf_counter() - start)
+    return least * 1e6
+
+
+def parts(program, before):
+    """What a rebalance takes behind these lines, and what one takes right behind it."""
+    none, one, more = (run(program, before + ["rebalance"] * count) for count in (0, 1, TIMES + 1))
+    return one - none, (more - one) / TIMES
 
 
 def solver(tools, certificate):
@@ -84,14 +102,16 @@ def main(program, tools):
         os.chdir(folder)
         place()
         before = [[f"create c{k} b{k}" for k in range(CONTAINERS)], ["kill c100 KILL", "delete c100"], ["offline 500"]]
-        whole, begun = (rounds(program, word, before) for word in ("rebalance", "begin"))
-        shell = Shell(program)
-        print(f"{'':24} {'rebalance':>10} {'begin':>10} {'solver':>10}")
+        whole, told, shell = typed(program, before), [], Shell(program)
+        print(f"{'':24} {'typed':>8} {'all':>8} {'writes':>8} {'rest':>8} {'solver':>8}")
         for k, name in enumerate(["from nothing", "after a container went", "after a CPU went off"]):
+            told += before[k]
+            one, again = parts(program, told)
+            told += ["rebalance"]
             for line in before[k] + ["rebalance"]:
                 shell.ask(line)
-            certificate = b"".join(shell.ask("certificate")[0])
-            print(f"{name:24} {whole[k]:10.0f} {begun[k]:10.0f} {solver(tools, certificate):10.0f}")
+            alone = solver(tools, b"".join(shell.ask("certificate")[0]))
+            print(f"{name:24} {whole[k]:8.0f} {one:8.0f} {one - again:8.0f} {again - alone:8.0f} {alone:8.0f}")
         shell.close()
         os.chdir("/")
 

@@ -1,5 +1,6 @@
 """Writes a machine of 1,024 CPUs, a bundle, and a script of so many lines over 256 containers: `lines.py FOLDER COUNT`. Behind the
-creations come forks and ends of the forked processes, the sets and states of containers, and CPUs that go and come back."""
+creations come forks and ends of the forked processes, the sets and states of containers, CPUs that go and come back, and now and
+then a container that is killed, deleted and created again."""
 
 import json
 import os
@@ -8,14 +9,21 @@ import sys
 
 CONTAINERS = 256
 
+# after so many rounds a container is killed, deleted and created again
+ROUNDS = 50
+
 
 def lines(count):
     told = [f"create c{k} bundle" for k in range(CONTAINERS)]
+    first = [k + 2 for k in range(CONTAINERS)]
     pid = CONTAINERS + 2
     while len(told) < count:
         name, cpu = random.randrange(CONTAINERS), random.randrange(1, 1024)
-        told += [f"fork {name + 2}", f"sets c{name}", f"state c{name}", f"offline {cpu}", f"exit {pid}", f"online {cpu}"]
+        told += [f"fork {first[name]}", f"sets c{name}", f"state c{name}", f"offline {cpu}", f"exit {pid}", f"online {cpu}"]
         pid += 1
+        if pid % ROUNDS == 0:
+            told += [f"kill c{name} KILL", f"delete c{name}", f"create c{name} bundle"]
+            first[name], pid = pid, pid + 1
     return told[:count]
 
 

@@ -3,11 +3,11 @@ use Rattle.std.proofs.Common.{◌≡◌, ℕ, Bool, true, false, ◌&&◌, refl,
 use Rattle.std.proofs.lemmas.Bool.{false≢true, cond-false}
 use Rattle.std.specs.List.{AllByRecursion}
 use Rattle.std.specs.FinSet as set
-use Rattle.cpu_set.specs.Ids.{Ids}
+use Rattle.cpu_set.specs.Ids.{Ids, is_empty}
 use Rattle.cpu_set.specs.Pointwise.{contains-intersection}
 use Rattle.cpuset_tree.specs.declared.Group.{Group}
 use Rattle.cpuset_tree.specs.Groups.{cpus_in, requested_cpus}
-use Rattle.cpuset_tree.specs.Effective.{is_empty, granted, effective_cpus}
+use Rattle.cpuset_tree.specs.Effective.{granted, effective_cpus}
 use Rattle.cpuset_tree.specs.TreeLemmas.{two_below_root, grants_within}
 use Rattle.proctable.specs.Processes.{is_alive}
 use Rattle.kernel_model.specs.KernelState.{KernelState}

@@ -4,10 +4,9 @@ use Rattle.std.proofs.lemmas.Bool.{false≢true}
 use Rattle.std.specs.Prelude.{◌⊎◌, cond, find, Some, None}
 use Rattle.std.specs.List.{AllByRecursion}
 use Rattle.std.specs.FinSet as set
-use Rattle.cpu_set.specs.Ids.{Ids, is_same}
+use Rattle.cpu_set.specs.Ids.{Ids, is_same, is_empty}
 use Rattle.cpu_set.specs.Pointwise.{is_same_decides}
 use Rattle.cpuset_tree.specs.Groups.{same_group, requested_cpus}
-use Rattle.cpuset_tree.specs.Effective.{is_empty}
 use Rattle.cpuset_tree.specs.GroupLemmas.{same_group_sym}
 use Rattle.proctable.specs.Processes.{is_alive}
 use Rattle.kernel_model.specs.KernelState.{KernelState}
@@ -18,7 +17,7 @@ use Rattle.apply_plan.specs.Targets.{Targets, holder_of, holders_of, HaveOtherGr
 use Rattle.apply_plan.specs.DueWrite.{held, kept_of, must_release, must_move, writes_of, writes_to_come, IsBetween}
 use Rattle.apply_plan.specs.KeptLemmas.{kept_is_some, kept_within, kept_target, kept_again}
 use Rattle.apply_plan.proofs.ListLemmas.{all_map, all_map2, all_of, all_of_map, of_all_map, pairs_map, pairs_both, pairs_of_map, of_pairs_map, find_passes, find_among, find_none, sum_lowered}
-use Rattle.apply_plan.proofs.WriteLemmas.{IsWrite, Left, ApartAs, apart_swap, targets_swap, all_left, stays_apart, Meets, by_test, keeps_all}
+use Rattle.apply_plan.proofs.WriteLemmas.{IsWrite, Left, ApartAs, apart_swap, targets_swap, all_left, stays_apart, MeetsNothing, by_test, keeps_all}
 
 module _ (old new : KernelState) (reserved : Ids) (entries : List Entry) (e : Entry) (cpus : Ids) (w : IsWrite old new e.group cpus)
     (test : Entry → Bool) (found : find test entries ≡ Some e) (groups : Pairwise HaveOtherGroups entries) where
@@ -26,16 +25,16 @@ module _ (old new : KernelState) (reserved : Ids) (entries : List Entry) (e : En
   all_are_left = all_left old new e cpus w test entries groups found
 
   -- each two are apart after the write, where what is written meets no other entry's set
-  pub apart_after : (Known : Entry → Entry → Type 0) → AllByRecursion (Meets old new e cpus w reserved Known) entries
+  pub apart_after : (Known : Entry → Entry → Type 0) → AllByRecursion (MeetsNothing old new e cpus w reserved Known) entries
       → Pairwise (λ a b. Known a b × Known b a) entries → Pairwise (ApartAs old reserved) entries → Pairwise (ApartAs new reserved) entries
   apart_after Known meets known apart =
       pairs_map
-      (λ a. Left old new e cpus a × Meets old new e cpus w reserved Known a)
+      (λ a. Left old new e cpus a × MeetsNothing old new e cpus w reserved Known a)
       (λ a b. HaveOtherGroups a b × ((Known a b × Known b a) × ApartAs old reserved a b))
       (ApartAs new reserved)
       (λ a b la lb both. stays_apart old new e cpus w reserved Known a b la.0 lb.0 both.0 la.1 lb.1 both.1.0.0 both.1.0.1 both.1.1)
       entries
-      (all_map2 (Left old new e cpus) (Meets old new e cpus w reserved Known) (λ a. Left old new e cpus a × Meets old new e cpus w reserved Known a) (λ a l m. (l, m)) entries
+      (all_map2 (Left old new e cpus) (MeetsNothing old new e cpus w reserved Known) (λ a. Left old new e cpus a × MeetsNothing old new e cpus w reserved Known a) (λ a l m. (l, m)) entries
       all_are_left meets)
       (pairs_both HaveOtherGroups (λ a b. (Known a b × Known b a) × ApartAs old reserved a b) (λ a b. HaveOtherGroups a b × ((Known a b × Known b a) × ApartAs old reserved a b))
       (λ a b g k. (g, k)) entries groups
@@ -49,7 +48,7 @@ module _ (old new : KernelState) (reserved : Ids) (entries : List Entry) (e : En
     one a (inl p) h = λ l. ap is_empty p.1 ∙ some
     one a (inr p) h = λ l. ap is_empty p ∙ h (ap (λ t. is_alive t a.pid) (sym w.table) ∙ l)
 
-  pub safe_after : (Known : Entry → Entry → Type 0) → AllByRecursion (Meets old new e cpus w reserved Known) entries
+  pub safe_after : (Known : Entry → Entry → Type 0) → AllByRecursion (MeetsNothing old new e cpus w reserved Known) entries
       → Pairwise (λ a b. Known a b × Known b a) entries → is_empty cpus ≡ false
       → IsSafe old reserved (holders_of entries) → IsSafe new reserved (holders_of entries)
   safe_after Known meets known some safe = record {
@@ -82,7 +81,7 @@ waits_at_most reserved live h a = bound (live && not (is_same (kept reserved a.t
 -- the entries that must let go come first
 module _ (old new : KernelState) (h : Targets) (valid : IsHandover h) (e : Entry) (found : find (must_release old h.reserved) h.entries ≡ Some e)
     (w : IsWrite old new e.group (kept_of old h.reserved e)) where
-  released_meets : (b : Entry) → Meets old new e (kept_of old h.reserved e) w h.reserved (ApartAs old h.reserved) b
+  released_meets : (b : Entry) → MeetsNothing old new e (kept_of old h.reserved e) w h.reserved (ApartAs old h.reserved) b
   released_meets b =
       λ a is apart la lb pinned cpu ina inb.
       by_test (set.contains h.reserved cpu) (λ r. r)
@@ -92,7 +91,7 @@ module _ (old new : KernelState) (h : Targets) (valid : IsHandover h) (e : Entry
   released_safe safe =
       safe_after old new h.reserved h.entries e (kept_of old h.reserved e) w (must_release old h.reserved) found valid.groups
       (ApartAs old h.reserved)
-      (all_of (Meets old new e (kept_of old h.reserved e) w h.reserved (ApartAs old h.reserved)) released_meets h.entries)
+      (all_of (MeetsNothing old new e (kept_of old h.reserved e) w h.reserved (ApartAs old h.reserved)) released_meets h.entries)
       (all_pairs h.entries (of_pairs_map holder_of (AreApart old h.reserved (requested_cpus old.tree)) h.entries safe.apart))
       (kept_is_some h.reserved e.target (held old e) valid.reserve) safe where
         all_pairs : (xs : List Entry) → Pairwise (ApartAs old h.reserved) xs → Pairwise (λ a b. ApartAs old h.reserved a b × ApartAs old h.reserved b a) xs
@@ -120,7 +119,7 @@ module _ (old new : KernelState) (h : Targets) (valid : IsHandover h) (e : Entry
 -- then those that do not hold their targets
 module _ (old new : KernelState) (h : Targets) (valid : IsHandover h) (e : Entry) (none : find (must_release old h.reserved) h.entries ≡ None)
     (found : find (must_move old) h.entries ≡ Some e) (w : IsWrite old new e.group e.target) where
-  moved_meets : (b : Entry) → must_release old h.reserved b ≡ false → Meets old new e e.target w h.reserved (AreTargetsApart h.reserved) b
+  moved_meets : (b : Entry) → must_release old h.reserved b ≡ false → MeetsNothing old new e e.target w h.reserved (AreTargetsApart h.reserved) b
   moved_meets b keeps =
       λ a is apart la lb pinned cpu ina inb.
       by_test (set.contains h.reserved cpu) (λ r. r)
@@ -134,7 +133,7 @@ module _ (old new : KernelState) (h : Targets) (valid : IsHandover h) (e : Entry
   moved_safe safe =
       safe_after old new h.reserved h.entries e e.target w (must_move old) found valid.groups
       (AreTargetsApart h.reserved)
-      (all_map (λ b. must_release old h.reserved b ≡ false) (Meets old new e e.target w h.reserved (AreTargetsApart h.reserved)) moved_meets h.entries
+      (all_map (λ b. must_release old h.reserved b ≡ false) (MeetsNothing old new e e.target w h.reserved (AreTargetsApart h.reserved)) moved_meets h.entries
       (find_none (must_release old h.reserved) h.entries none))
       (pairs_both (AreTargetsApart h.reserved) (AreTargetsApart h.reserved) (λ a b. AreTargetsApart h.reserved a b × AreTargetsApart h.reserved b a)
       (λ a b r s. (r, targets_swap h.reserved a b r)) h.entries valid.apart valid.apart)

@@ -4,8 +4,7 @@ use Rattle.std.proofs.lemmas.Bool.{false≢true}
 use Rattle.std.proofs.lemmas.List.{take-append-drop, take_more, drop_more}
 use Rattle.std.specs.Prelude.{cond, find, Some, None, is_some, Ok, Err}
 use Rattle.std.specs.List.{AllByRecursion}
-use Rattle.cpu_set.specs.Ids.{Ids, is_same}
-use Rattle.cpuset_tree.specs.Effective.{is_empty}
+use Rattle.cpu_set.specs.Ids.{Ids, is_same, is_empty}
 use Rattle.proctable.specs.TableState.{TableState}
 use Rattle.proctable.specs.Processes.{is_alive}
 use Rattle.kernel_model.specs.declared.fault.KernelFault.{KernelFault}

@@ -76,12 +76,12 @@ module _ (old new : KernelState) (e : Entry) (cpus : Ids) (w : IsWrite old new e
   -- what is known of two entries where one of them is written
   module _ (reserved : Ids) (Known : Entry → Entry → Type 0) where
     -- outside the reserved CPUs, what is written meets nothing that this other entry holds
-    abbrev pub Meets : Entry → Type 0
-    Meets b =
+    abbrev pub MeetsNothing : Entry → Type 0
+    MeetsNothing b =
         (a : Entry) → a ≡ e → Known a b → is_alive old.table a.pid ≡ true → is_alive old.table b.pid ≡ true → (a.pinned || b.pinned) ≡ true
         → (cpu : ℕ) → set.contains cpus cpu ≡ true → set.contains (held old b) cpu ≡ true → set.contains reserved cpu ≡ true
 
-    pub stays_apart : (a b : Entry) → Left old new e cpus a → Left old new e cpus b → same_group a.group b.group ≡ false → Meets a → Meets b → Known a b → Known b a
+    pub stays_apart : (a b : Entry) → Left old new e cpus a → Left old new e cpus b → same_group a.group b.group ≡ false → MeetsNothing a → MeetsNothing b → Known a b → Known b a
         → ApartAs old reserved a b → ApartAs new reserved a b
     stays_apart a b (inl p) (inl q) other ma mb ab ba apart =
         absurd (false≢true (sym other ∙ ap (λ x. same_group x.group b.group) (p.0 ∙ sym q.0) ∙ same_group_itself b.group))

@@ -2,10 +2,9 @@
 use Rattle.std.specs.Prelude.{◌≡◌, ℕ, Bool, true, false, ◌||◌, List, [], ◌∷◌}
 use Rattle.std.specs.List.{AllByRecursion}
 use Rattle.std.specs.FinSet as set
-use Rattle.cpu_set.specs.Ids.{Ids}
+use Rattle.cpu_set.specs.Ids.{Ids, is_empty}
 use Rattle.cpuset_tree.specs.declared.Group.{Group}
 use Rattle.cpuset_tree.specs.Groups.{requested_cpus}
-use Rattle.cpuset_tree.specs.Effective.{is_empty}
 use Rattle.proctable.specs.Processes.{is_alive}
 use Rattle.kernel_model.specs.KernelState.{KernelState}
 

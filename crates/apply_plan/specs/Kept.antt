@@ -1,8 +1,7 @@
 -- What a container keeps while it lets go of CPUs that it is not to have.
 use Rattle.std.specs.Prelude.{if◌then◌else◌}
 use Rattle.std.specs.FinSet as set
-use Rattle.cpu_set.specs.Ids.{Ids}
-use Rattle.cpuset_tree.specs.Effective.{is_empty}
+use Rattle.cpu_set.specs.Ids.{Ids, is_empty}
 
 -- the CPUs of a set that are in the target or reserved
 abbrev pub within : Ids → Ids → Ids → Ids

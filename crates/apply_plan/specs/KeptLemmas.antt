@@ -3,9 +3,8 @@ use Rattle.std.proofs.Common.{◌≡◌, ℕ, Bool, true, false, ◌&&◌, ◌||
 use Rattle.std.proofs.lemmas.Bool.{ne_eqb, cond-true, cond-false, false≢true}
 use Rattle.std.specs.Ordering.{nat_cmp}
 use Rattle.std.specs.FinSet as set
-use Rattle.cpu_set.specs.Ids.{Ids}
+use Rattle.cpu_set.specs.Ids.{Ids, is_empty}
 use Rattle.cpu_set.specs.Pointwise.{same_members, contains-union, contains-intersection}
-use Rattle.cpuset_tree.specs.Effective.{is_empty}
 use Rattle.apply_plan.specs.Kept.{within, kept}
 
 pub is_empty-empty : (s : Ids) → s ≡ set.empty → is_empty s ≡ true

@@ -4,11 +4,10 @@ use Rattle.std.specs.List.{AllByRecursion}
 use Rattle.std.specs.FinSet as set
 use Rattle.std.specs.Coded.{Coded, code_by, coded×, coded_ℕ, coded_bool, coded_list}
 use Rattle.std.specs.Prelude.{refl, Bool}
-use Rattle.cpu_set.specs.Ids.{Ids, ids_code}
+use Rattle.cpu_set.specs.Ids.{Ids, ids_code, is_empty}
 use Rattle.cpuset_tree.specs.declared.Group.{Group}
 use Rattle.cpuset_tree.specs.TreeState.{group_code}
 use Rattle.cpuset_tree.specs.Groups.{same_group, has_group, is_root}
-use Rattle.cpuset_tree.specs.Effective.{is_empty}
 use Rattle.kernel_model.specs.KernelState.{KernelState}
 use Rattle.apply_plan.specs.declared.entry.Entry.{Entry}
 use Rattle.apply_plan.specs.Holders.{Holder, Pairwise}

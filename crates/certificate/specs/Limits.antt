@@ -2,7 +2,7 @@
 use Rattle.std.specs.Prelude.{ℕ, Bool, true, ◌&&◌, ◌==◌, nat_le, nat_lt, List, [], ◌∷◌, length}
 use Rattle.std.specs.List.{list_all}
 use Rattle.std.specs.FinSet as set
-use Rattle.cpu_set.specs.Ids.{Ids}
+use Rattle.cpu_set.specs.Ids.{Ids, is_empty}
 use Rattle.certificate.specs.RowView.{RowView}
 use Rattle.certificate.specs.PricesView.{PricesView}
 use Rattle.certificate.specs.declared.rows.Offer.{Offer}
@@ -11,7 +11,7 @@ use Rattle.certificate.specs.declared.limits.TheConstants.{MAX_ROWS, MAX_DEMAND,
 
 -- no number is in both
 abbrev pub is_disjoint : Ids → Ids → Bool
-is_disjoint s t = set.len (set.intersection s t) == 0
+is_disjoint s t = is_empty (set.intersection s t)
 
 -- no number is in the sets of two of these
 abbrev pub are_apart : {A : Type 0} → (A → Ids) → List A → Bool

@@ -2,8 +2,9 @@
 use Rattle.std.specs.Prelude.{◌≡◌, Some, None, Result, Ok, Err, IsSome}
 use Rattle.certificate_text.specs.Line.{LineView, HeaderLine, TotalLine, EndLine}
 use Rattle.certificate_text.specs.DraftView.{DraftView, next}
-use Rattle.certificate_text.specs.declared.line_fault.LineFault.{LineFault}
-use Rattle.certificate_text.specs.declared.line_fault.LineFault.TheVariants.{Memory, Bad}
+use Rattle.faults.specs.declared.or_memory.OrMemory.{OrMemory}
+use Rattle.faults.specs.declared.or_memory.OrMemory.TheVariants.{Memory, Fault}
+use Rattle.certificate_text.specs.declared.bad_line.BadLine.{BadLine}
 
 -- what the line says is kept in a list
 abbrev pub TakesRoom : LineView → Type 0
@@ -13,7 +14,7 @@ TakesRoom EndLine = ⊥
 TakesRoom _ = Unit {0}
 
 -- the line was taken; or it can't follow, or it can and there is no room for it, and then nothing has changed
-abbrev pub Takes : Result (Unit {0}) LineFault → DraftView → LineView → DraftView → Type 0
+abbrev pub Takes : Result (Unit {0}) (OrMemory BadLine) → DraftView → LineView → DraftView → Type 0
 Takes (Ok done) old line new = next old line ≡ Some new
-Takes (Err Bad) old line new = (next old line ≡ None) × (new ≡ old)
+Takes (Err (Fault bad)) old line new = (next old line ≡ None) × (new ≡ old)
 Takes (Err Memory) old line new = TakesRoom line × IsSome (next old line) × (new ≡ old)

@@ -3,13 +3,14 @@ ghost use Rattle.certificate_text.specs.Line.{HeaderLine, RowLine, HoldLine, Pri
 ghost use Rattle.certificate_text.specs.LineRead.{line_view};
 ghost use Rattle.certificate_text.specs.Takes.{Takes};
 
+use crate::bad_line::BadLine;
 use crate::line::Line;
-use crate::line_fault::LineFault;
 use crate::line_words::Hold;
 use crate::stage::Stage;
 use crate::{Certificate, Members};
 use certificate::{Plan, Price, Prices, Problem, Row};
 use cpu_set::IdSet;
+use faults::OrMemory;
 use std::alloc::Global;
 use std::collections::BTreeSet;
 use std::marker::Model;
@@ -65,7 +66,7 @@ impl Draft {
     }
 
     /// Adds what the next line of the text says, if that line can follow the lines before it.
-    pub fn take(&mut self, line: Line<'_>) -> Result<(), LineFault>
+    pub fn take(&mut self, line: Line<'_>) -> Result<(), OrMemory<BadLine>>
         ensures { Takes result self.old (line_view line.entry) self.new }
     {
         match line {
@@ -79,7 +80,7 @@ impl Draft {
         }
     }
 
-    fn begin(&mut self) -> Result<(), LineFault>
+    fn begin(&mut self) -> Result<(), OrMemory<BadLine>>
         ensures { Takes result self.old HeaderLine self.new }
     {
         match self.stage {
@@ -87,7 +88,7 @@ impl Draft {
                 self.stage = Stage::Body;
                 Ok(())
             }
-            _ => Err(LineFault::Bad),
+            _ => Err(OrMemory::Fault(BadLine)),
         }
     }
 
@@ -98,17 +99,17 @@ impl Draft {
     }
 
     /// Rows come before all sets, prices and members, and no two have one id.
-    fn add_row(&mut self, row: Row) -> Result<(), LineFault>
+    fn add_row(&mut self, row: Row) -> Result<(), OrMemory<BadLine>>
         ensures { Takes result self.old (RowLine row) self.new }
     {
         let Stage::Body = self.stage else {
-            return Err(LineFault::Bad);
+            return Err(OrMemory::Fault(BadLine));
         };
         if !self.has_no_plan() {
-            return Err(LineFault::Bad);
+            return Err(OrMemory::Fault(BadLine));
         }
         if self.ids.contains(row.id.as_str()) {
-            return Err(LineFault::Bad);
+            return Err(OrMemory::Fault(BadLine));
         }
         let id = row.id.clone()?;
         self.rows.reserve(1)?;
@@ -128,14 +129,14 @@ impl Draft {
     }
 
     /// A set and a value are those of the first row that has none yet, and of this id.
-    fn add_hold(&mut self, hold: Hold<'_>) -> Result<(), LineFault>
+    fn add_hold(&mut self, hold: Hold<'_>) -> Result<(), OrMemory<BadLine>>
         ensures { Takes result self.old (HoldLine hold.entry.id.now hold.entry.cpus hold.entry.value) self.new }
     {
         let Stage::Body = self.stage else {
-            return Err(LineFault::Bad);
+            return Err(OrMemory::Fault(BadLine));
         };
         if !self.awaits(hold.id) {
-            return Err(LineFault::Bad);
+            return Err(OrMemory::Fault(BadLine));
         }
         self.sets.reserve(1)?;
         self.values.push(hold.value)?;
@@ -151,28 +152,28 @@ impl Draft {
     }
 
     /// Prices come once each row has its set.
-    fn add_price(&mut self, price: Price) -> Result<(), LineFault>
+    fn add_price(&mut self, price: Price) -> Result<(), OrMemory<BadLine>>
         ensures { Takes result self.old (PriceLine price) self.new }
     {
         let Stage::Body = self.stage else {
-            return Err(LineFault::Bad);
+            return Err(OrMemory::Fault(BadLine));
         };
         if !self.is_held() {
-            return Err(LineFault::Bad);
+            return Err(OrMemory::Fault(BadLine));
         }
         self.prices.push(price)?;
         Ok(())
     }
 
     /// The total comes once each row has its set.
-    fn add_total(&mut self, total: u64) -> Result<(), LineFault>
+    fn add_total(&mut self, total: u64) -> Result<(), OrMemory<BadLine>>
         ensures { Takes result self.old (TotalLine total) self.new }
     {
         let Stage::Body = self.stage else {
-            return Err(LineFault::Bad);
+            return Err(OrMemory::Fault(BadLine));
         };
         if !self.is_held() {
-            return Err(LineFault::Bad);
+            return Err(OrMemory::Fault(BadLine));
         }
         self.total = total;
         self.stage = Stage::Totalled;
@@ -207,14 +208,14 @@ impl Draft {
     }
 
     /// Members come after the rows, in the rows' order.
-    fn add_member(&mut self, id: &[u8]) -> Result<(), LineFault>
+    fn add_member(&mut self, id: &[u8]) -> Result<(), OrMemory<BadLine>>
         ensures { Takes result self.old (ShortLine id.now) self.new }
     {
         if !self.takes_members() {
-            return Err(LineFault::Bad);
+            return Err(OrMemory::Fault(BadLine));
         }
         let Some(number) = self.number_of(id) else {
-            return Err(LineFault::Bad);
+            return Err(OrMemory::Fault(BadLine));
         };
         self.members.push(number)?;
         self.stage = Stage::Named;
@@ -222,7 +223,7 @@ impl Draft {
         Ok(())
     }
 
-    fn end(&mut self) -> Result<(), LineFault>
+    fn end(&mut self) -> Result<(), OrMemory<BadLine>>
         ensures { Takes result self.old EndLine self.new }
     {
         match self.stage {
@@ -234,7 +235,7 @@ impl Draft {
                 self.stage = Stage::Shown;
                 Ok(())
             }
-            _ => Err(LineFault::Bad),
+            _ => Err(OrMemory::Fault(BadLine)),
         }
     }
 

@@ -1,10 +1,11 @@
 ghost use Rattle.std.specs.Prelude.{◌≡◌, ◌↔◌, IsTrue, IfOk, IfErr, string_bytes};
 ghost use Rattle.std.specs.List.{list_all};
+ghost use Rattle.faults.specs.declared.or_memory.OrMemory.TheVariants.{Memory};
 ghost use Rattle.certificate_text.specs.IdWord.{is_id_letter, IsId};
 ghost use Rattle.certificate_text.specs.OnBad.{OnBad};
-ghost use Rattle.certificate_text.specs.declared.line_fault.LineFault.TheVariants.{Memory};
 
-use crate::line_fault::LineFault;
+use crate::bad_line::BadLine;
+use faults::OrMemory;
 use std::alloc::Global;
 
 /// How many bytes an id has at most.
@@ -36,16 +37,16 @@ fn is_letter(byte: u8) -> bool
 }
 
 /// The id that the word is.
-pub fn read_id(alloc: Global, word: &[u8]) -> Result<String, LineFault>
+pub fn read_id(alloc: Global, word: &[u8]) -> Result<String, OrMemory<BadLine>>
     ensures ok { IfOk result (λ id. IsId word.now × (string_bytes id ≡ word.now)) }
     ensures bad { OnBad result (IsId word.now → ⊥) }
     ensures memory { IfErr result (λ fault. fault ≡ Memory → IsId word.now) }
 {
     if !is_id(word) {
-        return Err(LineFault::Bad);
+        return Err(OrMemory::Fault(BadLine));
     }
     let Ok(text) = str::from_utf8(word) else {
-        return Err(LineFault::Bad);
+        return Err(OrMemory::Fault(BadLine));
     };
     Ok(String::from_str(alloc, text)?)
 }

@@ -3,6 +3,7 @@
 //! The grammar is in [`read_text`]'s words; the check itself is the crate `certificate`'s.
 #![tactic(auto)]
 
+mod bad_line;
 mod certificates;
 mod checking;
 mod cut;
@@ -11,7 +12,6 @@ mod draft;
 mod id;
 mod laws;
 mod line;
-mod line_fault;
 mod line_words;
 mod list_word;
 mod members;

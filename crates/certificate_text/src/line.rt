@@ -1,14 +1,15 @@
 ghost use Rattle.std.specs.Prelude.{◌≡◌, IfOk, IfErr};
+ghost use Rattle.faults.specs.declared.or_memory.OrMemory.TheVariants.{Memory};
 ghost use Rattle.certificate_text.specs.Line.{LineView, Spells};
 ghost use Rattle.certificate_text.specs.LineRead.{line_view};
 ghost use Rattle.certificate_text.specs.RowStart.{IsRowStart};
 ghost use Rattle.certificate_text.specs.OnBad.{OnBad};
-ghost use Rattle.certificate_text.specs.declared.line_fault.LineFault.TheVariants.{Memory};
 
+use crate::bad_line::BadLine;
 use crate::cut::cut;
-use crate::line_fault::LineFault;
 use crate::line_words::{Hold, read_hold, read_price, read_row, read_short, read_total};
 use certificate::{Price, Row};
+use faults::OrMemory;
 use std::alloc::Global;
 
 /// What a line of a certificate says.
@@ -25,7 +26,7 @@ pub enum Line<'a> {
 }
 
 /// Reads a line, which has no line feed in it.
-pub fn read_line(alloc: Global, line: &[u8]) -> Result<Line<'_>, LineFault>
+pub fn read_line(alloc: Global, line: &[u8]) -> Result<Line<'_>, OrMemory<BadLine>>
     ensures ok { IfOk result (λ l. Spells line.now (line_view l)) }
     ensures bad { OnBad result ((l : LineView) → Spells line.now l → ⊥) }
     // The words before the offers are looked at first.
@@ -38,7 +39,7 @@ pub fn read_line(alloc: Global, line: &[u8]) -> Result<Line<'_>, LineFault>
         return Ok(Line::End);
     }
     let Some((kind, text)) = cut(line, b' ') else {
-        return Err(LineFault::Bad);
+        return Err(OrMemory::Fault(BadLine));
     };
     if kind == b"row".as_slice() {
         return Ok(Line::Row(read_row(alloc, text)?));
@@ -46,26 +47,26 @@ pub fn read_line(alloc: Global, line: &[u8]) -> Result<Line<'_>, LineFault>
     if kind == b"hold".as_slice() {
         return match read_hold(text) {
             Some(hold) => Ok(Line::Hold(hold)),
-            None => Err(LineFault::Bad),
+            None => Err(OrMemory::Fault(BadLine)),
         };
     }
     if kind == b"price".as_slice() {
         return match read_price(text) {
             Some(price) => Ok(Line::Price(price)),
-            None => Err(LineFault::Bad),
+            None => Err(OrMemory::Fault(BadLine)),
         };
     }
     if kind == b"total".as_slice() {
         return match read_total(text) {
             Some(total) => Ok(Line::Total(total)),
-            None => Err(LineFault::Bad),
+            None => Err(OrMemory::Fault(BadLine)),
         };
     }
     if kind == b"short".as_slice() {
         return match read_short(text) {
             Some(id) => Ok(Line::Short(id)),
-            None => Err(LineFault::Bad),
+            None => Err(OrMemory::Fault(BadLine)),
         };
     }
-    Err(LineFault::Bad)
+    Err(OrMemory::Fault(BadLine))
 }

@@ -2,40 +2,41 @@ ghost use Rattle.std.specs.Prelude.{◌≡◌, ℕ, List, [], ◌∷◌, MatchOp
 ghost use Rattle.cpu_set.specs.Ids.{Ids};
 ghost use Rattle.certificate.specs.RowView.{RowView};
 ghost use Rattle.certificate.specs.declared.price_lists.Price.{Price};
+ghost use Rattle.faults.specs.declared.or_memory.OrMemory.TheVariants.{Memory};
 ghost use Rattle.certificate_text.specs.Line.{words, AreRowWords, AreHoldWords, ArePriceWords, AreTotalWords};
 ghost use Rattle.certificate_text.specs.RowStart.{AreRowStart};
 ghost use Rattle.certificate_text.specs.OnBad.{OnBad};
-ghost use Rattle.certificate_text.specs.declared.line_fault.LineFault.TheVariants.{Memory};
 
+use crate::bad_line::BadLine;
 use crate::cut::cut;
 use crate::decimal::{read_u32, read_u64};
 use crate::id::read_id;
-use crate::line_fault::LineFault;
 use crate::list_word::read_cpus;
 use crate::offer::read_offers;
 use crate::word_pairs::{three, two};
 use certificate::{Price, Row};
 use cpu_set::IdSet;
+use faults::OrMemory;
 use std::alloc::Global;
 
 /// ID DEMAND, and offers.
-pub fn read_row(alloc: Global, text: &[u8]) -> Result<Row, LineFault>
+pub fn read_row(alloc: Global, text: &[u8]) -> Result<Row, OrMemory<BadLine>>
     ensures ok { IfOk result (λ row. AreRowWords (words text.now) row) }
     ensures bad { OnBad result ((row : RowView) → AreRowWords (words text.now) row → ⊥) }
     ensures memory { IfErr result (λ fault. fault ≡ Memory → AreRowStart (words text.now)) }
 {
     let Some((id, rest)) = cut(text, b' ') else {
-        return Err(LineFault::Bad);
+        return Err(OrMemory::Fault(BadLine));
     };
     match cut(rest, b' ') {
         Some((demand, offers)) => {
-            let demand = read_u32(demand).ok_or(LineFault::Bad)?;
+            let demand = read_u32(demand).ok_or(BadLine)?;
             let id = read_id(alloc, id)?;
             let offers = read_offers(alloc, offers)?;
             Ok(Row { id, demand, offers })
         }
         None => {
-            let demand = read_u32(rest).ok_or(LineFault::Bad)?;
+            let demand = read_u32(rest).ok_or(BadLine)?;
             let id = read_id(alloc, id)?;
             let offers = Vec::new(alloc);
             Ok(Row { id, demand, offers })

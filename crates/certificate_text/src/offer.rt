@@ -4,12 +4,13 @@ ghost use Rattle.certificate.specs.declared.rows.Offer.{Offer};
 ghost use Rattle.certificate_text.specs.Line.{IsOfferWord, words};
 ghost use Rattle.certificate_text.specs.OnBad.{OnBad};
 
+use crate::bad_line::BadLine;
 use crate::cut::cut;
 use crate::decimal::read_u32;
-use crate::line_fault::LineFault;
 use crate::list_word::read_cpus;
 use crate::word_pairs::two;
 use certificate::Offer;
+use faults::OrMemory;
 use std::alloc::Global;
 
 /// The offer that the word WEIGHT:LIST spells.
@@ -24,7 +25,7 @@ fn read_offer(word: &[u8]) -> Option<Offer>
 }
 
 /// The offers that the words of the text spell, one each.
-pub fn read_offers(alloc: Global, text: &[u8]) -> Result<Vec<Offer>, LineFault>
+pub fn read_offers(alloc: Global, text: &[u8]) -> Result<Vec<Offer>, OrMemory<BadLine>>
     ensures ok { IfOk result (λ offers. AllZip IsOfferWord (words text.now) offers.items) }
     ensures bad { OnBad result ((os : List Offer) → AllZip IsOfferWord (words text.now) os → ⊥) }
 {
@@ -32,13 +33,13 @@ pub fn read_offers(alloc: Global, text: &[u8]) -> Result<Vec<Offer>, LineFault>
     let mut rest = text;
     while let Some((word, after)) = cut(rest, b' ') {
         let Some(offer) = read_offer(word) else {
-            return Err(LineFault::Bad);
+            return Err(OrMemory::Fault(BadLine));
         };
         offers.push(offer)?;
         rest = after;
     }
     let Some(offer) = read_offer(rest) else {
-        return Err(LineFault::Bad);
+        return Err(OrMemory::Fault(BadLine));
     };
     offers.push(offer)?;
     Ok(offers)

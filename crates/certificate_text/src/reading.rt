@@ -5,10 +5,10 @@ ghost use Rattle.certificate_text.specs.LineTaken.{TakesLine};
 ghost use Rattle.certificate_text.specs.TextError.{IsTextError, IsRead};
 
 use crate::Certificate;
+use crate::bad_line::BadLine;
 use crate::cut::cut;
 use crate::draft::Draft;
 use crate::line::read_line;
-use crate::line_fault::LineFault;
 use faults::{Fault, OrMemory};
 use std::alloc::Global;
 
@@ -51,8 +51,8 @@ fn read_lines(alloc: Global, text: &[u8]) -> Result<Certificate, OrMemory<BadTex
     while let Some((line, after)) = cut(rest, b'\n') {
         match take_line(alloc, &mut draft, line) {
             Ok(()) => {}
-            Err(LineFault::Memory) => return Err(OrMemory::Memory),
-            Err(LineFault::Bad) => return Err(OrMemory::Fault(BadText { line: number })),
+            Err(OrMemory::Memory) => return Err(OrMemory::Memory),
+            Err(OrMemory::Fault(BadLine)) => return Err(OrMemory::Fault(BadText { line: number })),
         }
         rest = after;
         number += 1;
@@ -67,7 +67,7 @@ fn read_lines(alloc: Global, text: &[u8]) -> Result<Certificate, OrMemory<BadTex
 }
 
 /// Adds what the next line of the text says.
-fn take_line(alloc: Global, draft: &mut Draft, line: &[u8]) -> Result<(), LineFault>
+fn take_line(alloc: Global, draft: &mut Draft, line: &[u8]) -> Result<(), OrMemory<BadLine>>
     ensures { TakesLine result draft.old line.now draft.new }
 {
     draft.take(read_line(alloc, line)?)

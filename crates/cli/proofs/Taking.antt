@@ -1,10 +1,12 @@
 -- What a page takes of a text that is written to it.
-use Rattle.std.proofs.Common.{ℕ, List, length, arith, length-append, take_all, Option, Result, Ok, Err}
+use Rattle.std.proofs.Common.{◌≡◌, ℕ, ◌+◌, ◌-◌, ◌≤◌, List, length, take, drop, min, arith, length-append, length-drop, subst, sym, ◌∙◌, take_all, take-add, Option, Result, Ok, Err}
 use Rattle.std.proofs.Math.Seq.{take-append_seam}
-use Rattle.std.proofs.KnownBytes.{Appends-nil}
-use Rattle.std.specs.Io.KnownBytes.{Appends}
+use Rattle.std.proofs.KnownBytes.{Appends-kept, Appends-nil, Appends-trans}
+use Rattle.std.specs.Io.KnownBytes.{Appends, Keeps}
 use Rattle.cpu_list.specs.Output.{SendsFront, Writes}
-use Rattle.cli.specs.Pages.{TakesFront}
+use Rattle.cli.specs.Pages.{TakesFront, TakesIfRoom, contents_of}
+use Rattle.cli.specs.declared.page.Page.{Page}
+use Rattle.cli.specs.declared.page.TheConstants.{ROOM}
 
 -- all of it
 pub TakesFront-all : (old new : Option (List ℕ)) (bytes : List ℕ) → Appends old new bytes → TakesFront old new bytes
@@ -25,3 +27,24 @@ TakesFront-some old new bytes front = (
 pub TakesFront-written : {E : Type 0} (old new : Option (List ℕ)) (r : Result (Unit {0}) E) (bytes : List ℕ) → Writes old new r bytes → TakesFront old new bytes
 TakesFront-written old new (Ok done) bytes all = TakesFront-all old new bytes all
 TakesFront-written old new (Err e) bytes front = TakesFront-some old new bytes front
+
+-- a front of them, and then a front of the others
+pub TakesFront-more : (a b c : Option (List ℕ)) (bytes : List ℕ) (k : ℕ) → k ≤ length bytes → Appends a b (take k bytes) → TakesFront b c (drop k bytes) → TakesFront a c bytes
+TakesFront-more a b c bytes k within first (n, rest, then) =
+    (k + n, omega (arith, length-drop k bytes), rw (take-add k n bytes) (Appends-trans a b c _ _ first then))
+
+pub TakesFront-kept : (a b c : Option (List ℕ)) (bytes : List ℕ) → TakesFront a b bytes → Keeps b c → TakesFront a c bytes
+TakesFront-kept a b c bytes (n, within, front) kept = (n, within, Appends-kept a b c _ front kept)
+
+-- nothing was left to take
+pub TakesFront-done : (a b c : Option (List ℕ)) (bytes : List ℕ) (k : ℕ) → k ≡ length bytes → Appends a b (take k bytes) → TakesFront b c (drop k bytes) → Appends a c bytes
+TakesFront-done a b c bytes k all first (n, rest, then) =
+    subst (Appends a c) (sym (take-add k n bytes) ∙ take_all (k + n) bytes (omega (arith, all))) (Appends-trans a b c _ _ first then)
+
+-- first there was room, and then the rest was taken as it came
+pub TakesIfRoom-of : {W : Type 0} (contents : W → Option (List ℕ)) (old mid new : Page W) (bytes : List ℕ) (k : ℕ) → k ≡ min (ROOM - length old.waiting.items) (length bytes)
+    → Appends (contents_of contents old) (contents_of contents mid) (take k bytes) → TakesFront (contents_of contents mid) (contents_of contents new) (drop k bytes) → TakesIfRoom contents old new bytes
+TakesIfRoom-of contents old mid new bytes k fits first rest = (
+  TakesFront-more _ _ _ bytes k (omega (arith, fits)) first rest,
+  λ room. TakesFront-done _ _ _ bytes k (omega (arith, fits, room)) first rest,
+)

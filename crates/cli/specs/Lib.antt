@@ -18,3 +18,4 @@ pub mod SlitAnswer
 pub mod Spellings
 pub mod Start
 pub mod StoppedReads
+pub mod Wants

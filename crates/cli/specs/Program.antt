@@ -14,7 +14,7 @@ use Rattle.cli.specs.CheckAnswer.{IsAnswerTo, verdict_line}
 use Rattle.cli.specs.ListAnswer.{IsSetOrRefusal, set_line}
 use Rattle.cli.specs.Mistakes.{mistakes}
 use Rattle.cli.specs.Notes.{note_of, note_on, shown, standard_input, unread_line, unwritten_line}
-use Rattle.cli.specs.Pages.{Takes, contents_of}
+use Rattle.cli.specs.Pages.{TakesIfRoom, contents_of}
 use Rattle.cli.specs.Ready.{SetsUp, refusal_of}
 use Rattle.cli.specs.RefusalLine.{refusal_line}
 use Rattle.cli.specs.RunAnswer.{Plays, is_unread}
@@ -53,7 +53,7 @@ module _ {W E : Type 0} (out : W → Option (List ℕ)) (err : E → Option (Lis
   Finishes (Ok done) = Says out err mid new status [] 0 []
   Finishes (Err end) =
       ((why : ReadFault) × is_unread end (Some why) × Says out err mid new status (refusal_line (refusal.ReadFault why)) 1 (unread_line standard_input why))
-      ⊎ (is_unread end None × (status ≡ 1) × (new.out ≡ mid.out) × Takes err mid.err new.err unwritten_line)
+      ⊎ (is_unread end None × (status ≡ 1) × (new.out ≡ mid.out) × TakesIfRoom err mid.err new.err unwritten_line)
 
 -- the two streams before and after, as far as their bytes are known, and the exit status
 module _ {W E : Type 0} (out : W → Option (List ℕ)) (err : E → Option (List ℕ)) (old new : Console W E) (status : ℕ) where

@@ -5,7 +5,7 @@ ghost use Rattle.cli.specs.Start.{RunsOrLacks, Stops};
 
 use crate::console::Console;
 use crate::opens::Opens;
-use crate::program::{MISUSED, REFUSED, complain, run, say};
+use crate::program::{MISUSED, REFUSED, run, say};
 use crate::refusal::Refusal;
 use std::alloc::{AllocError, Global};
 use std::io;
@@ -33,7 +33,7 @@ pub fn start<F: Opens, R: Read, W: Write, E: Write>(
         Err(error) => match error.kind() {
             ErrorKind::OutOfMemory => say(&Refusal::Memory, REFUSED, &None, console),
             _ => {
-                complain(&NO_TEXT, &mut console.err);
+                console.err.tell(NO_TEXT.as_bytes());
                 MISUSED
             }
         },

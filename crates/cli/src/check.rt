@@ -1,6 +1,9 @@
 //! `numarun check`.
-ghost use Rattle.std.specs.Prelude.{IfSome};
+ghost use Rattle.std.specs.Prelude.{◌≤◌, IfSome, length};
+ghost use Rattle.certificate_text.specs.TextError.{AsksForMemory};
 ghost use Rattle.cli.specs.CheckAnswer.{CheckAnswers, IsAnswerTo, verdict_line};
+ghost use Rattle.cli.specs.Wants.{WantsOnlyWhere};
+ghost use Rattle.cli.specs.declared.reading.TheConstants.{MOST_BYTES};
 ghost use Rattle.cpu_list.specs.Output.{Writes};
 ghost use Rattle.certificate_text.specs.declared.checking.Verdict.TheVariants.{Short};
 
@@ -36,7 +39,15 @@ pub fn judge<R: Read>(alloc: Global, reader: &mut R) -> Result<Verdict, Refusal>
     ensures { IfSome (R.remaining reader.old) (λ bytes. IsAnswerTo bytes result) }
 {
     let bytes = read_all(alloc, reader)?;
-    Ok(check_text(alloc, bytes.as_slice())?)
+    judge_text(alloc, bytes.as_slice())
+}
+
+/// What the check finds in a text that was read. Memory is wanted only at a line of it, after lines that are in order.
+pub fn judge_text(alloc: Global, text: &[u8]) -> Result<Verdict, Refusal>
+    ensures answer { length text.now ≤ MOST_BYTES → IsAnswerTo text.now result }
+    ensures memory { WantsOnlyWhere (AsksForMemory text.now) result }
+{
+    Ok(check_text(alloc, text)?)
 }
 
 impl Printed for Verdict {

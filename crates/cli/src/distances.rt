@@ -1,8 +1,11 @@
 //! `numarun slit`.
-ghost use Rattle.std.specs.Prelude.{◌++◌, ◌<◌, IfSome, codes};
+ghost use Rattle.std.specs.Prelude.{◌≡◌, ◌++◌, ◌<◌, ◌≤◌, IfSome, None, codes, length};
 ghost use Rattle.std.specs.List.{flat_map, range_with_len};
 ghost use Rattle.slit.specs.Table.{distance};
+ghost use Rattle.slit.specs.SlitFaultOf.{slit_fault};
 ghost use Rattle.cli.specs.SlitAnswer.{IsTableOrRefusal, SlitAnswers, entry_text, row_text, table_text};
+ghost use Rattle.cli.specs.Wants.{WantsOnlyWhere};
+ghost use Rattle.cli.specs.declared.reading.TheConstants.{MOST_BYTES};
 ghost use Rattle.cpu_list.specs.Output.{Writes};
 
 use crate::answer::{Printed, tell};
@@ -37,7 +40,15 @@ pub fn read_table<R: Read>(alloc: Global, reader: &mut R) -> Result<Slit, Refusa
     ensures { IfSome (R.remaining reader.old) (λ bytes. IsTableOrRefusal bytes result) }
 {
     let bytes = read_all(alloc, reader)?;
-    Ok(Slit::read(alloc, bytes.as_slice())?)
+    table_of(alloc, bytes.as_slice())
+}
+
+/// The table that bytes which were read describe. Memory is wanted only where they describe one.
+pub fn table_of(alloc: Global, bytes: &[u8]) -> Result<Slit, Refusal>
+    ensures answer { length bytes.now ≤ MOST_BYTES → IsTableOrRefusal bytes.now result }
+    ensures memory { WantsOnlyWhere (slit_fault bytes.now ≡ None) result }
+{
+    Ok(Slit::read(alloc, bytes)?)
 }
 
 impl Printed for Slit {

@@ -7,7 +7,7 @@ use crate::console::Console;
 use crate::folders::Folders;
 use crate::note::{Note, STANDARD_INPUT};
 use crate::opens::Opens;
-use crate::program::{REFUSED, UNWRITTEN, complain, say};
+use crate::program::{REFUSED, UNWRITTEN, say};
 use crate::read_fault::ReadFault;
 use crate::refusal::Refusal;
 use crate::scripts::{play, set_up, unread};
@@ -90,7 +90,7 @@ fn finish<W: Write, E: Write>(end: Result<(), ScriptFault>, console: &mut Consol
             say(&refusal, REFUSED, &note, console)
         }
         None => {
-            complain(&UNWRITTEN, &mut console.err);
+            console.err.tell(UNWRITTEN.as_bytes());
             REFUSED
         }
     }

@@ -1,8 +1,9 @@
-ghost use Rattle.std.specs.Prelude.{◌≡◌, ◌≤◌, [], OnOk, drop, length};
-ghost use Rattle.std.specs.Io.KnownBytes.{Keeps, WriteAppends};
-ghost use Rattle.cli.specs.Pages.{contents_of};
+ghost use Rattle.std.specs.Prelude.{◌≡◌, ◌-◌, ◌≤◌, [], OnOk, drop, length, min, take};
+ghost use Rattle.std.specs.Io.KnownBytes.{Appends, Keeps, WriteAppends};
+ghost use Rattle.cli.specs.Pages.{TakesIfRoom, contents_of};
 
 use arrayvec::ArrayVec;
+use cpu_list::put;
 use std::io;
 use std::io::{ErrorKind, Write};
 
@@ -31,6 +32,26 @@ impl<W> Page<W> {
 }
 
 impl<W: Write> Page<W> {
+    /// Takes a text and sends on what waits. What there is room for is taken before anything is sent.
+    pub fn tell(&mut self, text: &[u8])
+        ensures { TakesIfRoom W.contents self.old self.new text.now }
+    {
+        let kept = self.keep(text);
+        if put(&text[kept..], self).is_ok() {
+            let _sent = self.flush();
+        }
+    }
+
+    /// Takes as many of the bytes as there is room for; how many they were.
+    fn keep(&mut self, bytes: &[u8]) -> usize
+        ensures count { result ≡ min (ROOM - length self.old.waiting.items) (length bytes.now) }
+        ensures bytes { Appends (contents_of W.contents self.old) (contents_of W.contents self.new) (take result bytes.now) }
+    {
+        let kept = self.waiting.remaining_capacity().min(bytes.len());
+        let _all_fits = self.waiting.write(bytes);
+        kept
+    }
+
     /// Sends what waits on to the writer. After a fault what was not sent still waits.
     fn send(&mut self) -> io::Result<()>
         ensures ok { OnOk result (self.new.waiting.items ≡ []) }

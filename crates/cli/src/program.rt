@@ -14,18 +14,19 @@ ghost use Rattle.cli.specs.SlitAnswer.{IsTableOrRefusal};
 ghost use Rattle.cli.specs.StoppedReads.{IsReadErrorOf};
 
 use crate::answer::Printed;
+use crate::check::judge_text;
 use crate::console::Console;
+use crate::distances::table_of;
 use crate::list::set_of;
 use crate::named_run::run_named;
 use crate::note::{Note, shown};
 use crate::opens::Opens;
 use crate::page::Page;
-use crate::parse_fault::ParseFault;
 use crate::read_fault::ReadFault;
 use crate::reading::{MOST_BYTES, read_all};
 use crate::refusal::Refusal;
 use crate::words::{Words, parse};
-use certificate_text::{Verdict, check_text};
+use certificate_text::Verdict;
 use clap::Error;
 use faults::OrMemory;
 use slit::Slit;
@@ -56,8 +57,8 @@ pub fn run<F: Opens, R: Read, W: Write, E: Write>(
 {
     match parse(alloc, words) {
         Ok(asked) => obey(alloc, &asked, files, input, console),
-        Err(ParseFault::Memory) => say(&Refusal::Memory, MISUSED, &None, console),
-        Err(ParseFault::Line(error)) => explain(alloc, &error, console),
+        Err(OrMemory::Memory) => say(&Refusal::Memory, MISUSED, &None, console),
+        Err(OrMemory::Fault(error)) => explain(alloc, &error, console),
     }
 }
 
@@ -98,7 +99,7 @@ fn verdict<F: Opens, R: Read>(
     ensures { IfSome (input_of (F.bytes files.now) (R.remaining input.old) name.now) (λ bytes. IsAnswerTo bytes result) }
 {
     let bytes = read_named(alloc, name, files, input)?;
-    Ok(check_text(alloc, bytes.as_slice())?)
+    judge_text(alloc, bytes.as_slice())
 }
 
 /// The distance table of this name.
@@ -111,7 +112,7 @@ fn table<F: Opens, R: Read>(
     ensures { IfSome (input_of (F.bytes files.now) (R.remaining input.old) name.now) (λ bytes. IsTableOrRefusal bytes result) }
 {
     let bytes = read_named(alloc, name, files, input)?;
-    Ok(Slit::read(alloc, bytes.as_slice())?)
+    table_of(alloc, bytes.as_slice())
 }
 
 /// All bytes of the file of this name; `-` is standard input.
@@ -154,7 +155,7 @@ fn explain<W: Write, E: Write>(alloc: Global, error: &Error, console: &mut Conso
         return say(&Refusal::Memory, MISUSED, &None, console);
     };
     if error.use_stderr() {
-        complain(&text, &mut console.err);
+        console.err.tell(text.as_bytes());
         MISUSED
     } else {
         say(&text, 0, &None, console)
@@ -176,7 +177,7 @@ pub fn say<T: Printed, W: Write, E: Write>(
             status
         }
         Err(_) => {
-            complain(&UNWRITTEN, &mut console.err);
+            console.err.tell(UNWRITTEN.as_bytes());
             REFUSED
         }
     }
@@ -192,7 +193,7 @@ fn send<T: Printed, W: Write>(said: &T, out: &mut Page<W>) -> io::Result<()>
 }
 
 /// Sends this to standard error, as far as that can be written.
-pub fn complain<T: Printed, E: Write>(said: &T, err: &mut Page<E>)
+fn complain<T: Printed, E: Write>(said: &T, err: &mut Page<E>)
     ensures { Takes E.contents err.old err.new (T.text said.now) }
 {
     if said.print(err).is_ok() {

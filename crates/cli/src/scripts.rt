@@ -1,7 +1,9 @@
 //! `numarun run`.
-ghost use Rattle.std.specs.Prelude.{IfErr, IfOk, option_map};
+ghost use Rattle.std.specs.Prelude.{◌≡◌, IfErr, IfOk, None, option_map};
+ghost use Rattle.machine.specs.MachineOf.{text_fault};
 ghost use Rattle.cli.specs.Ready.{IsBadTable, IsReady, IsTableIn, SetsUp};
 ghost use Rattle.cli.specs.RunAnswer.{Closes, Plays, RunAnswers, is_unread};
+ghost use Rattle.cli.specs.Wants.{WantsOnlyWhere};
 
 use crate::distances::read_table;
 use crate::read_fault::ReadFault;
@@ -15,7 +17,7 @@ use node::Node;
 use runtime::{Bundles, Runner, boot};
 use script::{ScriptFault, run_script};
 use slit::Slit;
-use std::alloc::Global;
+use std::alloc::{AllocError, Global};
 use std::io::{Read, Write};
 
 /// Runs the script that the reader has left over the machine that `machine` has left, with the distances that `slit` has
@@ -120,14 +122,16 @@ fn table_in<S: Read + Drop>(alloc: Global, slit: Option<S>) -> Result<Option<Sli
     }
 }
 
-/// The node of the machine that a text describes, with a table beside it or without.
+/// The node of the machine that a text describes, with a table beside it or without. Memory is wanted only where there are
+/// neither too many bytes nor none, and where they are UTF-8.
 fn start_up(alloc: Global, text: &[u8], table: Option<&Slit>) -> Result<Node<ModelKernel>, Refusal>
-    ensures { IsReady (option_map (λ t. t.now) table.entry) text.now result }
+    ensures ready { IsReady (option_map (λ t. t.now) table.entry) text.now result }
+    ensures memory { WantsOnlyWhere (text_fault text.now ≡ None) result }
 {
     let machine = Machine::read(alloc, text, table)?;
     match boot(alloc, machine) {
         Ok(node) => Ok(node),
-        Err(_) => Err(Refusal::Memory),
+        Err(AllocError) => Err(Refusal::Memory),
     }
 }
 

@@ -5,9 +5,9 @@ ghost use Rattle.cli.specs.Asked.{asked, asked_by, asked_for, asked_in, value};
 ghost use Rattle.cli.specs.Mistakes.{HasCause, mistakes, IsFaultOf};
 
 use crate::command_line::matches_of;
-use crate::parse_fault::ParseFault;
 use clap::error::ErrorKind;
 use clap::{ArgMatches, Error};
+use faults::OrMemory;
 use std::alloc::{AllocError, Global};
 
 /// What numarun is asked to do.
@@ -35,9 +35,9 @@ pub enum Words {
 /// What the words after the program's name ask for; no words ask for a check of standard input.
 ///
 /// # Errors
-/// `Line` has the mistake in the words, or their request for the help. `Memory` comes where there is none for the
+/// `Fault` has the mistake in the words, or their request for the help. `Memory` comes where there is none for the
 /// parse.
-pub fn parse(alloc: Global, words: &[&str]) -> Result<Words, ParseFault>
+pub fn parse(alloc: Global, words: &[&str]) -> Result<Words, OrMemory<Error>>
     ensures ok { IfOk result (λ asks. asked asks ≡ asked_for (texts words.now)) }
     ensures accepted { OnOk result (mistakes (texts words.now) ≡ []) }
     ensures err { IfErr result (HasCause (texts words.now)) }
@@ -51,12 +51,12 @@ pub fn parse(alloc: Global, words: &[&str]) -> Result<Words, ParseFault>
     }
 }
 
-fn fault(error: Error) -> ParseFault
+fn fault(error: Error) -> OrMemory<Error>
     ensures { IsFaultOf error result }
 {
     match error.kind() {
-        ErrorKind::OutOfMemory => ParseFault::Memory,
-        _ => ParseFault::Line(error),
+        ErrorKind::OutOfMemory => OrMemory::Memory,
+        _ => OrMemory::Fault(error),
     }
 }
 

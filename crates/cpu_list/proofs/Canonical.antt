@@ -6,12 +6,13 @@ use Rattle.std.proofs.lemmas.Bool.Decides.{nat_tests}
 use Rattle.cpu_set.specs.Ids.{Ids}
 use Rattle.cpu_set.specs.Members.{InRange}
 use Rattle.cpu_set.specs.declared.TheConstants.{CPU_LIMIT}
-use Rattle.cpu_list.specs.CanonicalList.{ranges_text, list_text, AreRuns, in_ranges, IsCanonical}
+use Rattle.cpu_set.specs.Ranges.{AreRuns, in_ranges}
+use Rattle.cpu_list.specs.CanonicalList.{ranges_text, list_text, IsCanonical}
 use Rattle.cpu_list.specs.CanonicalLaws.{TextIsCanonical, OneCanonicalText}
-use Rattle.cpu_list.specs.RangesFrom.{ranges_from}
-use Rattle.cpu_list.proofs.RangesAmong.{ranges_among, AreRuns-ranges_among, in_ranges-among}
+use Rattle.cpu_set.specs.RangesFrom.{ranges_from}
+use Rattle.cpu_set.specs.RangeLaws.{ranges_among, AreRuns-ranges_among, in_ranges-among, ranges_from-is}
 use Rattle.cpu_list.proofs.RangeText.{text_after-nil}
-use Rattle.cpu_list.proofs.SetRanges.{ranges_from-is, list_text-is}
+use Rattle.cpu_list.proofs.SetTexts.{list_text-is}
 
 within : (q n : ℕ) (v : Bool) → (v ≡ true → q < n) → v ≡ ((nat_le 0 q && nat_lt q (0 + n)) && v)
 within q n true below = let lt = below refl in grind (arith, nat_tests)

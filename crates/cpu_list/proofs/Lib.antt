@@ -7,8 +7,7 @@ pub mod PlainText
 pub mod Printed
 pub mod RangeReads
 pub mod RangeText
-pub mod RangesAmong
 pub mod ReadSteps
 pub mod RoundTrip
-pub mod SetRanges
+pub mod SetTexts
 pub mod TextBytes

@@ -9,13 +9,15 @@ use Rattle.std.proofs.lemmas.List.Folds.{list_all-append}
 use Rattle.cpu_set.specs.Ids.{Ids}
 use Rattle.cpu_set.specs.Members.{IsCpu}
 use Rattle.cpu_set.specs.declared.TheConstants.{CPU_LIMIT}
-use Rattle.cpu_list.specs.CanonicalList.{range_text, list_text, AreRuns, in_ranges}
+use Rattle.cpu_set.specs.Ranges.{AreRuns, in_ranges}
+use Rattle.cpu_list.specs.CanonicalList.{range_text, list_text}
 use Rattle.cpu_list.specs.CanonicalLaws.{is_list_byte, TextIsPlain, TextLacks, TextIsEmpty}
-use Rattle.cpu_list.specs.RangesFrom.{ranges_from, text_after}
-use Rattle.cpu_list.proofs.RangesAmong.{ranges_among, AreRuns-ranges_among, in_ranges-among, ranges_none_among}
+use Rattle.cpu_set.specs.RangesFrom.{ranges_from}
+use Rattle.cpu_list.specs.TextAfter.{text_after}
+use Rattle.cpu_set.specs.RangeLaws.{ranges_among, AreRuns-ranges_among, in_ranges-among, ranges_none_among, ranges_from-is}
 use Rattle.cpu_list.proofs.RangeText.{range_text-apart}
 use Rattle.cpu_list.proofs.RoundTrip.{AreBelow, AreBelow-from_runs}
-use Rattle.cpu_list.proofs.SetRanges.{ranges_from-is, list_text-is}
+use Rattle.cpu_list.proofs.SetTexts.{list_text-is}
 use Rattle.cpu_list.proofs.TextBytes.{all_pass_weaker, none_pass, is_range_byte, range_byte-is_list_byte, range_bytes}
 
 low : (q n : ℕ) (v : Bool) → ((nat_le 0 q && nat_lt q (0 + n)) && v) ≡ true → q < n

@@ -2,7 +2,7 @@
 use Rattle.std.proofs.Common.{◌≡◌, ℕ, List, [], ◌∷◌, ◌++◌, decimal, refl, sym, ap, append-nil}
 use Rattle.std.proofs.lemmas.Bool.{cond-false, ne_eqb}
 use Rattle.cpu_list.specs.CanonicalList.{range_text, ranges_text}
-use Rattle.cpu_list.specs.RangesFrom.{text_after}
+use Rattle.cpu_list.specs.TextAfter.{text_after}
 
 pub range_text-apart : (first last : ℕ) → (first ≡ last → ⊥) → range_text (first, last) ≡ decimal first ++ 45 ∷ decimal last
 range_text-apart first last apart = cond-false _ _ _ (ne_eqb first last apart)

@@ -5,9 +5,10 @@ use Rattle.std.proofs.lemmas.Bool.{and_from, or_left, or_right, le-leb}
 use Rattle.std.proofs.lemmas.List.Splits.{slice_split_none, slice_split_at}
 use Rattle.cpu_set.specs.Pointwise.{same_members}
 use Rattle.cpu_list.specs.ListText.{is_comma, pieces, item_of, IsItem, IsList, range_names, piece_names, names, IsSetOf}
-use Rattle.cpu_list.specs.CanonicalList.{range_text, ranges_text, AreRuns, in_ranges}
+use Rattle.cpu_set.specs.Ranges.{AreRuns, in_ranges}
+use Rattle.cpu_list.specs.CanonicalList.{range_text, ranges_text}
 use Rattle.cpu_list.specs.CanonicalLaws.{CanonicalReadsAgain}
-use Rattle.cpu_list.specs.RangesFrom.{text_after}
+use Rattle.cpu_list.specs.TextAfter.{text_after}
 use Rattle.cpu_list.proofs.Pieces.{nothing_named}
 use Rattle.cpu_list.proofs.RangeReads.{item_of-whole, range_of-item}
 use Rattle.cpu_list.proofs.RangeText.{after_comma}

@@ -7,5 +7,5 @@ pub mod ListText
 pub mod Output
 pub mod Parts
 pub mod Plain
-pub mod RangesFrom
 pub mod Sending
+pub mod TextAfter

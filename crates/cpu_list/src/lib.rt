@@ -6,7 +6,6 @@ mod laws;
 mod list_error;
 mod output;
 mod printing;
-mod ranges;
 mod reading;
 mod writing;
 

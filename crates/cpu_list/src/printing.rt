@@ -2,8 +2,7 @@
 ghost use Rattle.std.specs.Prelude.{◌≡◌, ◌++◌, IfOk, OnOk, decimal, string_bytes};
 ghost use Rattle.cpu_list.specs.CanonicalList.{range_text, list_text};
 
-use crate::ranges::Ranges;
-use cpu_set::IdSet;
+use cpu_set::{IdSet, Ranges};
 use std::alloc::{AllocError, Global};
 
 fn push_number(text: &mut String, n: u16) -> Result<(), AllocError>

@@ -4,8 +4,7 @@ ghost use Rattle.cpu_list.specs.CanonicalList.{range_text, list_text};
 ghost use Rattle.cpu_list.specs.Output.{Writes};
 
 use crate::output::put;
-use crate::ranges::Ranges;
-use cpu_set::IdSet;
+use cpu_set::{IdSet, Ranges};
 use std::io;
 use std::io::Write;
 

@@ -2,3 +2,4 @@ pub mod Bits
 pub mod Combined
 pub mod Finding
 pub mod Counted
+pub mod SetRanges

@@ -1,5 +1,5 @@
 -- A set of CPU or node numbers, as contracts see it: a finite set of numbers.
-use Rattle.std.specs.Prelude.{◌≡◌, ℕ, ◌<◌, ◌≤◌, Bool, true, false, ◌&&◌}
+use Rattle.std.specs.Prelude.{◌≡◌, ℕ, ◌<◌, ◌≤◌, Bool, true, false, ◌==◌, ◌&&◌}
 use Rattle.std.specs.Ordering.{nat_cmp}
 use Rattle.std.specs.FinSet as set
 use Rattle.std.specs.Coded.{Coded, coded_ℕ}
@@ -9,6 +9,10 @@ Ids = set.FinSet nat_cmp
 
 abbrev pub ids_code : Coded Ids
 ids_code = set.code coded_ℕ
+
+-- whether a set has no number
+abbrev pub is_empty : Ids → Bool
+is_empty s = set.len s == 0
 
 -- no number is in both
 abbrev pub IsDisjoint : Ids → Ids → Type 0

@@ -8,3 +8,6 @@ pub mod LeastLaws
 pub mod Word
 pub mod Words
 pub mod WordLaws
+pub mod Ranges
+pub mod RangesFrom
+pub mod RangeLaws

@@ -5,6 +5,7 @@ ghost use Rattle.cpu_set.specs.Members.{IsCpu, InRange, IsComplement, members};
 ghost use Rattle.cpu_set.specs.Words.{AreWords, set_of_words};
 
 use crate::CPU_LIMIT;
+use crate::ranges::Ranges;
 use crate::word::{bits_between, bits_of_range, first_bit};
 use std::fmt;
 use std::marker::Model;
@@ -219,18 +220,14 @@ fn has_none(lanes: Simd<u64, WORDS>) -> bool
 // As a list, `{0-2,7}`.
 impl fmt::Debug for IdSet {
     fn fmt<W: fmt::Write>(&self, f: &mut fmt::Formatter<W>) -> fmt::Result {
-        let absent = self.complement();
         let mut separator = '{';
-        let mut next = self.first();
-        while let Some(first) = next {
-            let last = absent.next_after(first).unwrap_or(CPU_LIMIT) - 1;
+        for (first, last) in Ranges::of(self) {
             if first == last {
                 write!(f, "{separator}{first}")?;
             } else {
                 write!(f, "{separator}{first}-{last}")?;
             }
             separator = ',';
-            next = self.next_after(last);
         }
         f.write_str(if self.is_empty() { "{}" } else { "}" })
     }

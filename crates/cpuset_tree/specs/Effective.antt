@@ -1,14 +1,10 @@
 -- What a group has in effect (cgroup v2: `cpuset.cpus.effective`, `cpuset.mems.effective`): a recursion up the path.
-use Rattle.std.specs.Prelude.{Bool, ◌==◌, if◌then◌else◌, List, [], ◌∷◌, Option, Some, None}
+use Rattle.std.specs.Prelude.{if◌then◌else◌, List, [], ◌∷◌, Option, Some, None}
 use Rattle.std.specs.FinSet as set
-use Rattle.cpu_set.specs.Ids.{Ids}
+use Rattle.cpu_set.specs.Ids.{Ids, is_empty}
 use Rattle.cpuset_tree.specs.declared.groups.Group.{Group}
 use Rattle.cpuset_tree.specs.TreeState.{GroupEntry, TreeState}
 use Rattle.cpuset_tree.specs.Groups.{same_group}
-
--- whether a set has no number
-abbrev pub is_empty : Ids → Bool
-is_empty s = set.len s == 0
 
 -- what a group is granted of its parent's: what it requests of it, or all of it where that is nothing
 abbrev pub granted : Ids → Ids → Ids

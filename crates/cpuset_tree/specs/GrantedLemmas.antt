@@ -4,8 +4,8 @@ use Rattle.std.proofs.lemmas.Bool.{ne_eqb, cond-true, cond-false}
 use Rattle.std.specs.Ordering.{nat_cmp}
 use Rattle.std.specs.Cmp.{nat_cmp_total}
 use Rattle.std.specs.FinSet as set
-use Rattle.cpu_set.specs.Ids.{Ids}
-use Rattle.cpuset_tree.specs.Effective.{is_empty, granted}
+use Rattle.cpu_set.specs.Ids.{Ids, is_empty}
+use Rattle.cpuset_tree.specs.Effective.{granted}
 
 pub is_empty-empty : is_empty set.empty ≡ true
 is_empty-empty = eq-eqb _ _ (set.len-empty nat_cmp)

@@ -1,7 +1,8 @@
 -- What each call of a tree answers: the first thing that stands against it, in the order written here, or what it is for.
 use Rattle.std.specs.Prelude.{◌≡◌, ℕ, false, not, ◌==◌, if◌then◌else◌, List, Option, Some, None, is_some, Result, Ok, Err}
 use Rattle.faults.specs.declared.or_memory.OrMemory.{OrMemory}
-use Rattle.faults.specs.declared.or_memory.OrMemory.TheVariants.{Memory, Fault}
+use Rattle.faults.specs.Calls.{Grows}
+use Rattle.faults.specs.First.{value_where}
 use Rattle.cpuset_tree.specs.declared.TheConstants.{SERIAL_LIMIT}
 use Rattle.cpuset_tree.specs.declared.groups.Group.{Group}
 use Rattle.cpuset_tree.specs.declared.fault.TreeFault.{TreeFault}
@@ -9,12 +10,6 @@ use Rattle.cpuset_tree.specs.declared.fault.TreeFault.TheVariants.{NoGroup, Exis
 use Rattle.cpuset_tree.specs.TreeState.{TreeState}
 use Rattle.cpuset_tree.specs.Groups.{has_group, has_children, child_of, is_root}
 use Rattle.cpuset_tree.specs.TreeChanges.{with_group}
-
--- a call answers the first thing that stands against it and changes nothing, or does what it is for
-module _ {S A F : Type 0} (refusal : Option F) (Does : A → S → Type 0) (old : S) where
-  abbrev pub Decides : Result A F → S → Type 0
-  Decides (Ok value) new = (refusal ≡ None) × Does value new
-  Decides (Err fault) new = (refusal ≡ Some fault) × (new ≡ old)
 
 -- what stands against making a group
 abbrev pub make_refusal : TreeState → Group → List ℕ → Option TreeFault
@@ -45,12 +40,10 @@ pub record AddsGroup (old : TreeState) (parent : Group) (name : List ℕ) (g : G
   pub fresh : has_group old g ≡ false
   pub added : new ≡ with_group old g parent name
 
--- a group is made, unless something stands against it; memory is asked for only once nothing does
+-- a group is made, unless something stands against it
 abbrev pub Makes : TreeState → Group → List ℕ → Result Group (OrMemory TreeFault) → TreeState → Type 0
-Makes old parent name (Ok g) new = (make_refusal old parent name ≡ None) × AddsGroup old parent name g new
-Makes old parent name (Err Memory) new = (make_refusal old parent name ≡ None) × (new ≡ old)
-Makes old parent name (Err (Fault fault)) new = (make_refusal old parent name ≡ Some fault) × (new ≡ old)
+Makes old parent name = Grows (make_refusal old parent name) (AddsGroup old parent name) old
 
 -- a read of a group: this value, or that there is no such group
 abbrev pub read_of : {A : Type 0} → TreeState → Group → A → Result A TreeFault
-read_of s g value = if has_group s g then Ok value else Err NoGroup
+read_of s g = value_where (has_group s g) NoGroup

@@ -3,7 +3,8 @@ ghost use Rattle.std.specs.Option.{option_copied};
 ghost use Rattle.cpuset_tree.specs.Groups.{root_of, has_group, is_root, child_of, has_children, requested_cpus, requested_mems};
 ghost use Rattle.cpuset_tree.specs.Effective.{effective_cpus, effective_mems};
 ghost use Rattle.cpuset_tree.specs.TreeChanges.{IsFirstTree, without_group, with_cpus, with_mems, with_online};
-ghost use Rattle.cpuset_tree.specs.TreeAnswers.{Decides, Makes, AddsGroup, remove_refusal, write_refusal, read_of};
+ghost use Rattle.faults.specs.Calls.{Decides};
+ghost use Rattle.cpuset_tree.specs.TreeAnswers.{Makes, AddsGroup, remove_refusal, write_refusal, read_of};
 ghost use Rattle.cpuset_tree.specs.TreeWellFormed.{IsWellFormed};
 ghost use Rattle.cpuset_tree.specs.TreeLaws.{RunsUpThePath};
 

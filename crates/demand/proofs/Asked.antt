@@ -18,7 +18,7 @@ use Rattle.demand.specs.Allowed.{allowed_by, allowed_of}
 use Rattle.demand.specs.DemandFaultOf.{is_pinned, allowed_fault}
 use Rattle.demand.specs.IsDemand.{IsKind, IsDemand}
 use Rattle.demand.specs.FitsMachine.{FitsKind, FitsMachine}
-use Rattle.demand.proofs.HomeNodes.{is_same-empty, is_same-some}
+use Rattle.demand.proofs.HomeNodes.{is_empty-none, is_empty-some}
 use Rattle.demand.proofs.FreeCpus.{IsGiven, allowed_is_given}
 
 -- a shared container has no fault left
@@ -29,12 +29,12 @@ shared_has_no_fault m s shared = rw shared refl
 -- a pinned one has where nothing is allowed
 pub nothing_is_a_fault : (m : Layout) (s : Section) → is_pinned s ≡ true → allowed_of m s ≡ set.empty → allowed_fault m s ≡ Some NothingAllowed
 unfolding allowed_fault
-nothing_is_a_fault m s pinned none = rw (pinned, is_same-empty (allowed_of m s) none) refl
+nothing_is_a_fault m s pinned none = rw (pinned, is_empty-none (allowed_of m s) none) refl
 
 -- and has not where something is
 pub something_is_none : (m : Layout) (s : Section) → is_pinned s ≡ true → (allowed_of m s ≡ set.empty → ⊥) → allowed_fault m s ≡ None
 unfolding allowed_fault
-something_is_none m s pinned some = rw (pinned, is_same-some (allowed_of m s) some) refl
+something_is_none m s pinned some = rw (pinned, is_empty-some (allowed_of m s) some) refl
 
 shared_kind : (limit : Option ℕ) (period : ℕ) (allowed : Ids) (s : Section) → is_some limit ≡ false → is_pinned s ≡ false → IsKind limit period allowed s Shared
 shared_kind None period allowed s none shared = shared

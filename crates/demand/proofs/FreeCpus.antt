@@ -3,7 +3,7 @@ use Rattle.std.proofs.Common.{◌≡◌, ℕ, suc, ◌+◌, ◌<◌, Bool, true,
 use Rattle.std.proofs.lemmas.Bool.{false≢true}
 use Rattle.std.proofs.lemmas.Bool.Decides.{nat_tests}
 use Rattle.std.specs.FinSet as set
-use Rattle.cpu_set.specs.Ids.{Ids, is_same}
+use Rattle.cpu_set.specs.Ids.{Ids, is_empty}
 use Rattle.cpu_set.specs.Those.{those}
 use Rattle.cpu_set.specs.Pointwise.{contains-intersection, contains-difference}
 use Rattle.machine.specs.Layout.{Layout}
@@ -12,7 +12,7 @@ use Rattle.cpu_set.specs.declared.TheConstants.{CPU_LIMIT}
 use Rattle.machine.specs.Weight.{weight}
 use Rattle.cpu_set.specs.Those.{contains-those}
 use Rattle.demand.specs.Allowed.{is_free, is_allowed, allowed_by}
-use Rattle.demand.proofs.HomeNodes.{is_same-empty, is_same-some}
+use Rattle.demand.proofs.HomeNodes.{is_empty-none, is_empty-some}
 
 among_all : (p r h n : Bool) → h ≡ true → (p && not r) ≡ (p && (h || n) && not r)
 among_all true r true n is = refl
@@ -32,7 +32,7 @@ pub free_of_all :
     (m : Layout) (cpus : Ids) → cpus ≡ set.empty → (c : ℕ) → set.contains (set.difference (present m) m.reserved) c ≡ is_free m cpus c
 free_of_all m cpus none c =
     contains-difference (present m) m.reserved c
-    ∙ among_all (set.contains (present m) c) (set.contains m.reserved c) (is_same cpus set.empty) (set.contains cpus c) (is_same-empty cpus none)
+    ∙ among_all (set.contains (present m) c) (set.contains m.reserved c) (is_empty cpus) (set.contains cpus c) (is_empty-none cpus none)
 
 -- where one is
 pub free_of_named :
@@ -41,7 +41,7 @@ pub free_of_named :
 free_of_named m cpus some c =
     contains-intersection (set.difference (present m) m.reserved) cpus c
     ∙ ap (λ b. b && set.contains cpus c) (contains-difference (present m) m.reserved c)
-    ∙ among_named (set.contains (present m) c) (set.contains m.reserved c) (is_same cpus set.empty) (set.contains cpus c) (is_same-some cpus some)
+    ∙ among_named (set.contains (present m) c) (set.contains m.reserved c) (is_empty cpus) (set.contains cpus c) (is_empty-some cpus some)
 
 pub ruleset free_cpus = (free_of_all, free_of_named)
 

@@ -1,7 +1,7 @@
 -- Which CPUs a container may get.
 use Rattle.std.specs.Prelude.{ℕ, Bool, not, ◌&&◌, ◌||◌, nat_lt}
 use Rattle.std.specs.FinSet as set
-use Rattle.cpu_set.specs.Ids.{Ids, is_same}
+use Rattle.cpu_set.specs.Ids.{Ids, is_empty}
 use Rattle.cpu_set.specs.Those.{those}
 use Rattle.cpu_set.specs.declared.TheConstants.{CPU_LIMIT}
 use Rattle.config_json.specs.SectionOf.{Section}
@@ -14,7 +14,7 @@ use Rattle.demand.specs.Homes.{homes_of}
 -- a CPU that is present, among the named ones where any is named, and not reserved
 abbrev pub is_free : Layout → Ids → ℕ → Bool
 is_free m cpus c =
-    set.contains (present m) c && (is_same cpus set.empty || set.contains cpus c) && not (set.contains m.reserved c)
+    set.contains (present m) c && (is_empty cpus || set.contains cpus c) && not (set.contains m.reserved c)
 
 -- one with a way to a home
 abbrev pub is_allowed : Layout → Ids → Ids → ℕ → Bool

@@ -2,7 +2,7 @@
 use Rattle.std.specs.Prelude.{ℕ, ℤ, ◌*◌, Bool, not, ◌&&◌, ◌||◌, nat_lt, List, [], ◌∷◌, Option, Some, None, is_some, option_map}
 use Rattle.std.specs.FinSet as set
 use Rattle.faults.specs.First.{when, first_of}
-use Rattle.cpu_set.specs.Ids.{Ids, is_same}
+use Rattle.cpu_set.specs.Ids.{Ids, is_empty}
 use Rattle.cpu_set.specs.Least.{least_that}
 use Rattle.cpu_set.specs.declared.TheConstants.{CPU_LIMIT}
 use Rattle.cpu_list.specs.declared.list_error.ListError.{ListError}
@@ -52,11 +52,11 @@ quota_fault quota period = limit_fault (limit_of quota) (period_of period)
 
 -- a container gets CPUs of its own where its quota is a limit or it names a CPU
 abbrev pub is_pinned : Section → Bool
-is_pinned s = is_some (limit_of s.quota) || not (is_same (named s.cpus) set.empty)
+is_pinned s = is_some (limit_of s.quota) || not (is_empty (named s.cpus))
 
 -- one that gets CPUs of its own is allowed one
 unfoldable pub allowed_fault : Layout → Section → Option DemandFault
-allowed_fault m s = when (is_pinned s && is_same (allowed_of m s) set.empty) NothingAllowed
+allowed_fault m s = when (is_pinned s && is_empty (allowed_of m s)) NothingAllowed
 
 -- the first fault
 abbrev pub demand_fault : Layout → Section → Option DemandFault

@@ -1,7 +1,7 @@
 ghost use Rattle.std.specs.Prelude.{◌≡◌, ◌||◌, IfOk, is_some, not};
 ghost use Rattle.demand.specs.AsksFor.{IsOneCount};
 ghost use Rattle.std.specs.FinSet as set;
-ghost use Rattle.cpu_set.specs.Ids.{is_same};
+ghost use Rattle.cpu_set.specs.Ids.{is_empty};
 ghost use Rattle.demand.specs.DemandFaultOf.{demand_fault};
 ghost use Rattle.std.specs.Result.{result_err};
 
@@ -78,7 +78,7 @@ impl Demand {
 /// Whether a container gets CPUs of its own: its quota is a limit, or it names a CPU.
 #[tactic(auto, using(crate::proofs::HomeNodes::home_nodes))]
 fn is_pinned(count: Option<u32>, cpus: &IdSet) -> bool
-    ensures { result ≡ (is_some count || not (is_same cpus.now set.empty)) }
+    ensures { result ≡ (is_some count || not (is_empty cpus.now)) }
 {
     count.is_some() || !cpus.is_empty()
 }

@@ -1,6 +1,6 @@
 ghost use Rattle.std.specs.Prelude.{◌≡◌, ℕ, ◌≤◌, true, IfOk, if◌then◌else◌};
 ghost use Rattle.std.specs.FinSet as set;
-ghost use Rattle.cpu_set.specs.Ids.{is_same};
+ghost use Rattle.cpu_set.specs.Ids.{is_empty};
 ghost use Rattle.cpu_set.specs.declared.TheConstants.{CPU_LIMIT};
 ghost use Rattle.machine.specs.Present.{present};
 ghost use Rattle.machine.specs.Nodes.{nodes_of};
@@ -66,7 +66,7 @@ pub fn nodes(list: Option<&str>, machine: &Machine) -> Result<IdSet, DemandFault
 #[tactic(auto, using(crate::proofs::HomeNodes::home_nodes))]
 pub fn homes(named: &IdSet, machine: &Machine) -> IdSet
     requires { (n : ℕ) → set.contains named.now n ≡ true → set.contains (nodes_of machine.now) n ≡ true }
-    ensures set { result ≡ (if is_same named.now set.empty then nodes_of machine.now else named.now) }
+    ensures set { result ≡ (if is_empty named.now then nodes_of machine.now else named.now) }
     ensures homes { AreHomes machine.now result }
     ensures sound { IsSound machine.now }
 {

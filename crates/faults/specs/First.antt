@@ -16,6 +16,10 @@ unfoldable pub first_below : {A : Type 0} → ℕ → (ℕ → Option A) → Opt
 first_below zero f = None
 first_below (suc n) f = option_or (first_below n f) (f n)
 
+-- the value where a test says so, else the fault
+abbrev pub value_where : {A F : Type 0} → Bool → F → A → Result A F
+value_where test fault x = cond test (Ok x) (Err fault)
+
 -- the fault where there is one, else the value
 abbrev pub unless : {A F : Type 0} → Option F → A → Result A F
 unless None x = Ok x

@@ -1,3 +1,4 @@
 pub mod First
 pub mod FirstLaws
 pub mod Answers
+pub mod Calls

@@ -1,4 +1,4 @@
-use std::alloc::AllocError;
+use std::alloc::{AllocError, AllocFailed};
 
 /// What a call is refused for; `?` makes an [`OrMemory`] of it.
 pub trait Fault {}
@@ -30,6 +30,17 @@ impl<F> From<AllocError> for OrMemory<F> {
     ghost from_gives = { λ _ e. e ≡ Memory };
 
     fn from(_: AllocError) -> OrMemory<F> {
+        OrMemory::Memory
+    }
+}
+
+impl<F, T: Drop> From<AllocFailed<T>> for OrMemory<F> {
+    ghost use Rattle.std.specs.Prelude.{◌≡◌};
+    ghost use Rattle.faults.specs.declared.or_memory.OrMemory.TheVariants.{Memory};
+
+    ghost from_gives = { λ _ e. e ≡ Memory };
+
+    fn from(_: AllocFailed<T>) -> OrMemory<F> {
         OrMemory::Memory
     }
 }

@@ -3,11 +3,11 @@ use Rattle.std.proofs.Common.{◌≡◌, false, refl, sym, subst}
 use Rattle.std.specs.Prelude.{Option, Some, None, Result, Ok, Err}
 use Rattle.faults.specs.declared.or_memory.OrMemory.{OrMemory}
 use Rattle.faults.specs.declared.or_memory.OrMemory.TheVariants.{Memory, Fault}
-use Rattle.cpuset_tree.specs.TreeAnswers.{Decides}
+use Rattle.faults.specs.Calls.{Decides, Grows}
 use Rattle.kernel_model.specs.declared.fault.KernelFault.{KernelFault}
 use Rattle.kernel_model.specs.declared.fault.KernelFault.TheVariants.{Failed}
 use Rattle.kernel_model.specs.KernelState.{KernelState, failed}
-use Rattle.kernel_model.specs.Cases.{Writes, Grows, GrowingWrites, is_failed}
+use Rattle.kernel_model.specs.Cases.{Writes, GrowingWrites, is_failed}
 
 module _ {A : Type 0} (refusal : Option KernelFault) (Does : A → KernelState → Type 0) (old : KernelState) where
   -- what holds of an answer and of what the call makes of the state, of a refusal and the state before, and of a failure

@@ -1,14 +1,16 @@
 -- One case for each call of a kernel: what it answers, and what it changes.
-use Rattle.std.specs.Prelude.{◌≡◌, ℕ, Bool, true, false, cond, if◌then◌else◌, List, Option, None, Result, Ok, Err}
+use Rattle.std.specs.Prelude.{◌≡◌, ℕ, Bool, true, false, cond, List, Option, None, Result, Ok, Err}
 use Rattle.std.specs.FinSet as set
 use Rattle.faults.specs.declared.or_memory.OrMemory.{OrMemory}
 use Rattle.faults.specs.declared.or_memory.OrMemory.TheVariants.{Memory, Fault}
+use Rattle.faults.specs.Calls.{Decides, Grows}
+use Rattle.faults.specs.First.{value_where}
 use Rattle.cpu_set.specs.Ids.{Ids}
 use Rattle.cpuset_tree.specs.declared.Group.{Group}
 use Rattle.cpuset_tree.specs.Groups.{has_group}
 use Rattle.cpuset_tree.specs.TreeState.{TreeState}
 use Rattle.cpuset_tree.specs.TreeChanges.{without_group, with_cpus, with_mems, with_online}
-use Rattle.cpuset_tree.specs.TreeAnswers.{Decides, AddsGroup}
+use Rattle.cpuset_tree.specs.TreeAnswers.{AddsGroup}
 use Rattle.proctable.specs.TableState.{TableState}
 use Rattle.proctable.specs.TableChanges.{exited, ended_in}
 use Rattle.proctable.specs.TableAnswers.{AddsProcess, ForksOf}
@@ -40,16 +42,10 @@ module _ {A : Type 0} (refusal : Option KernelFault) (Does : A → KernelState �
   Writes (Err Failed) new = new ≡ failed old
   Writes (Err fault) new = Decides refusal Does old (Err fault) new
 
-  -- an event that needs memory: the same as one that needs none, or want of it, once nothing stands against the event
-  abbrev pub Grows : Result A (OrMemory KernelFault) → KernelState → Type 0
-  Grows (Ok value) new = Decides refusal Does old (Ok value) new
-  Grows (Err Memory) new = (refusal ≡ None) × (new ≡ old)
-  Grows (Err (Fault fault)) new = Decides refusal Does old (Err fault) new
-
   -- a write that needs memory
   abbrev pub GrowingWrites : Result A (OrMemory KernelFault) → KernelState → Type 0
-  GrowingWrites (Ok value) new = Decides refusal Does old (Ok value) new
-  GrowingWrites (Err Memory) new = (refusal ≡ None) × (new ≡ old)
+  GrowingWrites (Ok value) new = Grows refusal Does old (Ok value) new
+  GrowingWrites (Err Memory) new = Grows refusal Does old (Err Memory) new
   GrowingWrites (Err (Fault fault)) new = Writes (Err fault) new
 
 -- a change of the tree alone, and of the table alone
@@ -113,4 +109,4 @@ ComesOnline old cpu =
 
 -- a read of a group: this value, or that there is no such group
 abbrev pub read_of : {A : Type 0} → KernelState → Group → A → Result A KernelFault
-read_of k g value = if has_group k.tree g then Ok value else Err NoGroup
+read_of k g = value_where (has_group k.tree g) NoGroup

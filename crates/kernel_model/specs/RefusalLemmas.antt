@@ -12,11 +12,12 @@ use Rattle.cpuset_tree.specs.Groups.{has_group, has_children, child_of, is_root}
 use Rattle.proctable.specs.declared.TheConstants.{LAST_PID}
 use Rattle.proctable.specs.declared.ProcFault.TheVariants as proc
 use Rattle.proctable.specs.Processes.{is_alive, count_in}
+use Rattle.std.specs.Option.{option_or}
 use Rattle.kernel_model.specs.declared.fault.KernelFault.{KernelFault}
 use Rattle.kernel_model.specs.declared.fault.KernelFault.TheVariants.{NoGroup, Exists, HasChildren, HasProcesses, IsRoot, NoPids, NoProcess, NoSerials, Reserved, NoCpu}
 use Rattle.kernel_model.specs.Faults.{of_tree, of_proc}
 use Rattle.kernel_model.specs.KernelState.{KernelState}
-use Rattle.kernel_model.specs.Refusals.{or_then, make_refusal, remove_refusal, write_refusal, spawn_refusal, fork_refusal}
+use Rattle.kernel_model.specs.Refusals.{make_refusal, remove_refusal, write_refusal, spawn_refusal, fork_refusal}
 use Rattle.kernel_model.specs.Laws.{MakeCause, RemoveCause, WriteCause, SpawnCause, EndCause, ForkCause, ExitCause, OfflineCause, OnlineCause, RefusalsHaveCauses, CallsAreFree}
 
 -- a chain of refusals gives none where no test of it holds
@@ -72,7 +73,7 @@ remove_chain there root children processes =
     if not there then Some NoGroup else if root then Some IsRoot else if children then Some HasChildren else if processes then Some HasProcesses else None
 
 remove_of : (there root children processes : Bool)
-    → or_then (option_map of_tree (if not there then Some tree.NoGroup else if root then Some tree.IsRoot else if children then Some tree.HasChildren else None)) (if processes then Some HasProcesses else None)
+    → option_or (option_map of_tree (if not there then Some tree.NoGroup else if root then Some tree.IsRoot else if children then Some tree.HasChildren else None)) (if processes then Some HasProcesses else None)
     ≡ remove_chain there root children processes
 remove_of false root children processes = refl
 remove_of true true children processes = refl
@@ -98,7 +99,7 @@ abbrev spawn_chain : Bool → Bool → Option KernelFault
 spawn_chain there last = if not there then Some NoGroup else if last then Some NoPids else None
 
 spawn_of : (there last : Bool)
-    → or_then (if not there then Some NoGroup else None) (option_map of_proc (if last then Some proc.NoPids else None)) ≡ spawn_chain there last
+    → option_or (if not there then Some NoGroup else None) (option_map of_proc (if last then Some proc.NoPids else None)) ≡ spawn_chain there last
 spawn_of false last = refl
 spawn_of true true = refl
 spawn_of true false = refl

@@ -1,6 +1,7 @@
 -- What stands against each call of a kernel: the first of these that holds, in the order written here.
 use Rattle.std.specs.Prelude.{ℕ, not, nat_lt, if◌then◌else◌, List, Option, Some, None, option_map}
 use Rattle.std.specs.FinSet as set
+use Rattle.std.specs.Option.{option_or}
 use Rattle.cpuset_tree.specs.declared.Group.{Group}
 use Rattle.cpuset_tree.specs.Groups.{has_group}
 use Rattle.cpuset_tree.specs.TreeAnswers as tree
@@ -10,11 +11,6 @@ use Rattle.kernel_model.specs.declared.fault.KernelFault.{KernelFault}
 use Rattle.kernel_model.specs.declared.fault.KernelFault.TheVariants.{NoGroup, HasProcesses, Reserved, NoCpu}
 use Rattle.kernel_model.specs.Faults.{of_tree, of_proc}
 use Rattle.kernel_model.specs.KernelState.{KernelState}
-
--- the first of two refusals
-abbrev pub or_then : Option KernelFault → Option KernelFault → Option KernelFault
-or_then None later = later
-or_then (Some fault) later = Some fault
 
 -- against a call for a group that is not there
 abbrev pub no_group : KernelState → Group → Option KernelFault
@@ -27,7 +23,7 @@ make_refusal k parent name = option_map of_tree (tree.make_refusal k.tree parent
 -- against removing a group: the tree's refusal, or that it has processes
 abbrev pub remove_refusal : KernelState → Group → Option KernelFault
 remove_refusal k g =
-    or_then (option_map of_tree (tree.remove_refusal k.tree g)) (if nat_lt 0 (count_in k.table g) then Some HasProcesses else None)
+    option_or (option_map of_tree (tree.remove_refusal k.tree g)) (if nat_lt 0 (count_in k.table g) then Some HasProcesses else None)
 
 -- against writing what a group requests: the tree's refusal
 abbrev pub write_refusal : KernelState → Group → Option KernelFault
@@ -35,7 +31,7 @@ write_refusal k g = option_map of_tree (tree.write_refusal k.tree g)
 
 -- against a first process in a group: that there is no such group, or the table's refusal
 abbrev pub spawn_refusal : KernelState → Group → Option KernelFault
-spawn_refusal k g = or_then (no_group k g) (option_map of_proc (table.spawn_refusal k.table))
+spawn_refusal k g = option_or (no_group k g) (option_map of_proc (table.spawn_refusal k.table))
 
 -- against ending the processes of a group
 abbrev pub end_refusal : KernelState → Group → Option KernelFault

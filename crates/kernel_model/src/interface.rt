@@ -103,7 +103,7 @@ pub trait Kernel {
     fn nodes(&self) -> IdSet
         ensures { result ≡ (state self.now).tree.nodes };
 
-    /// Whether a process of this pid is alive, as a container's first process.
+    /// Whether a process of this pid is alive. Callers ask it of first pids.
     fn first_alive(&self, pid: u32) -> bool
         ensures { result ≡ is_alive (state self.now).table pid };
 

@@ -74,6 +74,13 @@ impl ModelKernel {
             reserved,
         })
     }
+
+    /// No write of this kernel has failed; nothing runs.
+    pub fn never_fails(&self)
+        ensures { self.now.failures ≡ 0 }
+    {
+        let _ = &self.tree;
+    }
 }
 
 /// The number as one of a present CPU, if it is that.

@@ -3,7 +3,7 @@ use Rattle.std.proofs.Common.{◌≡◌, Bool, true, false, Option, Some, None, 
 use Rattle.std.specs.Prelude.{◌||◌}
 use Rattle.std.specs.FinSet as set
 use Rattle.serde_json.specs.Data.{Data}
-use Rattle.cpu_set.specs.Ids.{Ids, is_same}
+use Rattle.cpu_set.specs.Ids.{Ids, is_empty}
 use Rattle.machine.specs.BootFaults.{required_fault, reserved_fault}
 use Rattle.machine.specs.Listed.{listed_in}
 use Rattle.machine.specs.declared.fault.MachineFault.TheVariants.{BadReserved}
@@ -15,7 +15,7 @@ or_true false = refl
 
 pub reserved_fault-empty :
     (found : Option Data) (reserved present : Ids) → required_fault Reserved found ≡ None → reserved ≡ listed_in found
-    → is_same reserved set.empty ≡ true → reserved_fault found present ≡ Some BadReserved
+    → is_empty reserved ≡ true → reserved_fault found present ≡ Some BadReserved
 unfolding reserved_fault
 reserved_fault-empty found reserved present none is empty = rw (none, ← is, empty) refl
 
@@ -24,10 +24,10 @@ pub reserved_fault-outside :
     → set.is_subset reserved present ≡ false → reserved_fault found present ≡ Some BadReserved
 unfolding reserved_fault
 reserved_fault-outside found reserved present none is outside =
-    rw (none, ← is, outside, or_true (is_same reserved set.empty)) refl
+    rw (none, ← is, outside, or_true (is_empty reserved)) refl
 
 pub reserved_fault-none :
     (found : Option Data) (reserved present : Ids) → required_fault Reserved found ≡ None → reserved ≡ listed_in found
-    → is_same reserved set.empty ≡ false → set.is_subset reserved present ≡ true → reserved_fault found present ≡ None
+    → is_empty reserved ≡ false → set.is_subset reserved present ≡ true → reserved_fault found present ≡ None
 unfolding reserved_fault
 reserved_fault-none found reserved present none is some within = rw (none, ← is, some, within) refl

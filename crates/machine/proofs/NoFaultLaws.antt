@@ -2,7 +2,7 @@
 use Rattle.std.proofs.Common.{◌≡◌, ℕ, suc, ◌<◌, ◌≤◌, Bool, true, false, ◌&&◌, List, [], ◌∷◌, length, get_or, map, take, Option, Some, None, refl, sym, ap, ◌∙◌, nat_lt, arith}
 use Rattle.std.specs.Prelude.{◌||◌, ◌==◌, AllPairs, is_some, unwrap_or, option_map}
 use Rattle.std.specs.List.{list_all, flat_map}
-use Rattle.std.proofs.lemmas.Bool.{false≢true, false_from_ne_true}
+use Rattle.std.proofs.lemmas.Bool.{false≢true}
 use Rattle.std.proofs.lemmas.Bool.Decides.{nat_tests}
 use Rattle.std.proofs.lemmas.Grind.{common_steps}
 use Rattle.std.proofs.lemmas.List.{get_or-map, get_or-take, length-map, length-take, take-map}
@@ -12,7 +12,6 @@ use Rattle.serde_json.specs.Data.{Data, null}
 use Rattle.serde_json.specs.Find.{as_array}
 use Rattle.cpu_set.specs.Ids.{Ids, IsDisjoint}
 use Rattle.cpu_set.specs.LeastLaws.{least-none}
-use Rattle.cpu_set.specs.Pointwise.{is_same_decides}
 use Rattle.slit.specs.AreDistances.{IsEntry}
 use Rattle.slit.specs.Table.{Table}
 use Rattle.machine.specs.BootFaults.{required_fault, optional_fault, offline_fault}
@@ -35,7 +34,7 @@ use Rattle.machine.specs.SoundIsRead.{SoundIsRead}
 use Rattle.machine.proofs.BootLaws.{reserved_fault-none}
 use Rattle.machine.proofs.NodeLaws.{IsPresent-IsOfNode}
 use Rattle.machine.proofs.RowSteps.{entry_at}
-use Rattle.machine.proofs.SubsetLaws.{is_subset-trans, is_subset-left}
+use Rattle.machine.proofs.SubsetLaws.{is_empty-some, is_subset-trans, is_subset-left}
 
 list_fault-none : (field : Field) (d : Data) → is_list d ≡ true → list_fault field d ≡ None
 list_fault-none field d is = rw is refl
@@ -161,7 +160,7 @@ value_fault-none slit d h sound =
     let distances = distances_fault-none slit (distances_member d) (length items) h.distances (rw count at sound.distances) in
     let reserved = reserved_fault-none (reserved_member d) (listed_in (reserved_member d)) (present (said_by slit d))
     (required_fault-none _ h.reserved.0 h.reserved.1 h.reserved.2) refl
-    (false_from_ne_true _ (λ same. sound.reserved_some ((is_same_decides _ _).0 same)))
+    (is_empty-some _ sound.reserved_some)
     (is_subset-trans _ _ _ sound.reserved_online sound.online_present) in
     let offline = offline_fault-none (offline_member d) (present (said_by slit d)) (listed_in (reserved_member d)) h.offline
     (is_subset-left _ _ _ h.offline_present sound.reserved_online) in

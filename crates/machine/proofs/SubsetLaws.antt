@@ -1,9 +1,10 @@
 -- Which sets are within which.
-use Rattle.std.proofs.Common.{◌≡◌, Bool, true, false, ◌&&◌, ◌↔◌, not, refl, sym, ap, ◌∙◌}
-use Rattle.std.proofs.lemmas.Bool.{true≢false, false≢true, false_from_ne_true}
+use Rattle.std.proofs.Common.{◌≡◌, Bool, true, false, ◌&&◌, ◌↔◌, ◌≢◌, not, refl, sym, ap, ◌∙◌, eq-eqb}
+use Rattle.std.proofs.lemmas.Bool.{true≢false, false≢true, false_from_ne_true, ne_eqb}
+use Rattle.std.specs.Ordering.{nat_cmp}
 use Rattle.std.specs.FinSet as set
-use Rattle.cpu_set.specs.Ids.{Ids, is_same}
-use Rattle.cpu_set.specs.Pointwise.{contains-difference, is_subset-contains, contains-is_subset, is_same_decides}
+use Rattle.cpu_set.specs.Ids.{Ids, is_empty}
+use Rattle.cpu_set.specs.Pointwise.{contains-difference, is_subset-contains, contains-is_subset}
 
 -- what is within a set is within each set round that
 pub is_subset-trans : (r s t : Ids) → set.is_subset r s ≡ true → set.is_subset s t ≡ true → set.is_subset r t ≡ true
@@ -33,7 +34,11 @@ is_subset-left r s t within taken =
     let outside = both _ _ (sym (contains-difference s r q) ∙ is_subset-contains t (set.difference s r) taken q in_t) in
     true≢false (sym outside.1 ∙ ap not in_r))))
 
+-- a set with a member is not empty
+pub is_empty-some : (s : Ids) → s ≢ set.empty → is_empty s ≡ false
+is_empty-some s some = ne_eqb _ _ (λ e. some (set.empty_of_len s e))
+
 -- a test that says whether a set is empty is the one of the definitions
-pub is_same-empty : (s : Ids) (e : Bool) → ((e ≡ true) ↔ (s ≡ set.empty)) → is_same s set.empty ≡ e
-is_same-empty s true says = (is_same_decides s set.empty).1 (says.0 refl)
-is_same-empty s false says = false_from_ne_true _ (λ same. false≢true (says.1 ((is_same_decides s set.empty).0 same)))
+pub is_empty-as : (s : Ids) (e : Bool) → ((e ≡ true) ↔ (s ≡ set.empty)) → is_empty s ≡ e
+is_empty-as s true says = ap is_empty (says.0 refl) ∙ eq-eqb _ _ (set.len-empty nat_cmp)
+is_empty-as s false says = is_empty-some s (λ none. false≢true (says.1 none))

@@ -3,7 +3,7 @@ use Rattle.std.specs.Prelude.{◌||◌, not, [], ◌∷◌, Option, Some, None}
 use Rattle.std.specs.FinSet as set
 use Rattle.faults.specs.First.{when, first_of}
 use Rattle.serde_json.specs.Data.{Data}
-use Rattle.cpu_set.specs.Ids.{Ids, is_same}
+use Rattle.cpu_set.specs.Ids.{Ids, is_empty}
 use Rattle.machine.specs.declared.fault.MachineFault.{MachineFault}
 use Rattle.machine.specs.declared.fault.MachineFault.TheVariants.{BadField, BadReserved, BadOffline}
 use Rattle.machine.specs.declared.field.Field.{Field}
@@ -25,7 +25,7 @@ optional_fault field (Some d) = list_fault field d
 unfoldable pub reserved_fault : Option Data → Ids → Option MachineFault
 reserved_fault found present = first_of (
     required_fault Reserved found
-    ∷ when (is_same (listed_in found) set.empty || not (set.is_subset (listed_in found) present)) BadReserved
+    ∷ when (is_empty (listed_in found) || not (set.is_subset (listed_in found) present)) BadReserved
     ∷ [])
 
 -- a CPU is offline that is not present, or that is reserved

@@ -117,7 +117,7 @@ module _ (old new : KernelState) (unused : IsUnused old) (well : IsWellFormed ol
         few = omega (arith, few);
         asked = subst (λ (cs : List (List ℕ × ContainerState)). AllByRecursion (IsAsked machine) cs) (sym none) tt;
         stands = refl;
-        written = tt;
+        proved = tt;
       }
 
 pub first_is_node : FirstIsNode

@@ -19,7 +19,6 @@ use Rattle.certificate.specs.IsLeast.{IsLeast}
 use Rattle.certificate.specs.Cost.{cost}
 use Rattle.certificate_text.specs.declared.certificates.Certificate.{Certificate}
 use Rattle.certificate_text.specs.declared.certificates.Certificate.TheVariants as certificate
-use Rattle.certificate_text.specs.Written.{CanWrite}
 use Rattle.rows.specs.Weighs.{RowsWeigh}
 use Rattle.faults.specs.declared.OrMemory.{OrMemory}
 use Rattle.faults.specs.declared.OrMemory.TheVariants.{Memory, Fault}
@@ -35,7 +34,7 @@ use Rattle.node.specs.declared.phase.Phase.TheVariants.{Underway}
 use Rattle.node.specs.NodeState.{ContainerState, NodeState}
 use Rattle.node.specs.Owners.{Owner, is_pinned, owner_of, owners_of}
 use Rattle.node.specs.Status.{is_live}
-use Rattle.node.specs.IsNode.{IsHome, IsPlaced, Holds, IsNode}
+use Rattle.node.specs.IsNode.{IsHome, IsPlaced, Holds, IsKept, IsNode}
 use Rattle.node.specs.Rows.{rows_of}
 use Rattle.node.specs.Entries.{Target, entry_of, plan_pool, plan_targets, plan_entries, opened}
 use Rattle.node.specs.Asking.{IsRowOf}
@@ -244,19 +243,19 @@ module _ (old : NodeState) (h : IsNode old) (weigh : RowsWeigh) (effects : Targe
 
 -- after each of the calls, whatever it answers
 module _ (old : NodeState) (h : IsNode old) (weigh : RowsWeigh) where
-  begun_as : (sets : List Ids) → IsPlan (rows_of old) sets → (c : Certificate) → CanWrite c → IsNode (underway old sets (Some c))
-  begun_as sets plan c can = record {
+  begun_as : (sets : List Ids) → IsPlan (rows_of old) sets → (c : Certificate) → IsKept c → IsNode (underway old sets (Some c))
+  begun_as sets plan c kept = record {
     machine = h.machine;
     holds = h.holds;
     few = h.few;
     asked = h.asked;
     stands = (refl, opened_ongoing old h weigh sets plan);
-    written = can;
+    proved = kept;
   }
 
   pub begun_node : (total : ℕ) (new : NodeState) → Begun old total new → IsNode new
   begun_node total new b =
-      subst (λ (n : NodeState). IsNode n) (sym b.is) (begun_as b.sets b.decides.least.plan (certificate.Plan (rows_of old) b.sets b.prices total) b.can)
+      subst (λ (n : NodeState). IsNode n) (sym b.is) (begun_as b.sets b.decides.least.plan (certificate.Plan (rows_of old) b.sets b.prices total) b.kept)
 
   pub lacks_node : (wanted : ℕ) (allowed : Ids) (new : NodeState) → Lacks old wanted allowed new → IsNode new
   lacks_node wanted allowed new l = subst (λ (n : NodeState). IsNode n) (sym l.is) (record {
@@ -265,7 +264,7 @@ module _ (old : NodeState) (h : IsNode old) (weigh : RowsWeigh) where
     few = h.few;
     asked = h.asked;
     stands = h.stands;
-    written = l.can;
+    proved = l.kept;
   })
 
   pub begins_node : (r : Result Outcome (OrMemory NodeFault)) (new : NodeState) → Begins old r new → IsNode new
@@ -284,7 +283,7 @@ module _ (old : NodeState) (h : IsNode old) (weigh : RowsWeigh) where
     moved_settles total new m =
         let b = m.begun in
         settles law (opened old b.sets) (after_begin total m.mid b) new
-        (begun_as b.sets b.decides.least.plan (certificate.Plan (rows_of old) b.sets b.prices total) b.can) refl
+        (begun_as b.sets b.decides.least.plan (certificate.Plan (rows_of old) b.sets b.prices total) b.kept) refl
         (subst (λ (n : NodeState). Finishes n (Ok tt) new) b.is m.finishes)
 
     moved_breaks : (total : ℕ) (fault : KernelFault) (new : NodeState) (m : Moves old total (Err fault) new)
@@ -292,7 +291,7 @@ module _ (old : NodeState) (h : IsNode old) (weigh : RowsWeigh) where
     moved_breaks total fault new m =
         let b = m.begun in
         breaks law (opened old b.sets) fault (after_begin total m.mid b) new
-        (begun_as b.sets b.decides.least.plan (certificate.Plan (rows_of old) b.sets b.prices total) b.can) refl
+        (begun_as b.sets b.decides.least.plan (certificate.Plan (rows_of old) b.sets b.prices total) b.kept) refl
         (subst (λ (n : NodeState). Finishes n (Err fault) new) b.is m.finishes)
 
     pub rebalances_node : (r : Result Outcome (OrMemory NodeFault)) (new : NodeState) → Rebalances old r new → IsNode new

@@ -8,11 +8,10 @@ use Rattle.std.specs.Str.{bytes_eq}
 use Rattle.std.specs.FinSet as set
 use Rattle.faults.specs.declared.OrMemory.{OrMemory}
 use Rattle.faults.specs.declared.OrMemory.TheVariants.{Memory, Fault}
-use Rattle.cpu_set.specs.Ids.{Ids}
+use Rattle.cpu_set.specs.Ids.{Ids, is_empty}
 use Rattle.cpuset_tree.specs.declared.Group.{Group}
 use Rattle.cpuset_tree.specs.TreeState.{GroupEntry, TreeState}
 use Rattle.cpuset_tree.specs.Groups.{same_group, entry_of, has_group, root_of, child_of, requested_cpus, cpus_in}
-use Rattle.cpuset_tree.specs.Effective.{is_empty}
 use Rattle.cpuset_tree.specs.TreeChanges.{new_entry}
 use Rattle.cpuset_tree.specs.TreeLaws.{IsChild, GroupAdded, StandAlike}
 use Rattle.cpuset_tree.specs.TreeWellFormed as tree

@@ -16,7 +16,9 @@ pub mod PlanLemmas
 pub mod AskingLemmas
 pub mod DistanceLemmas
 pub mod HeadlineLemmas
+pub mod ProvedLemmas
 pub mod RebalanceLemmas
 pub mod MachineLemmas
 pub mod EndingLemmas
 pub mod MakingLemmas
+pub mod LateLemmas

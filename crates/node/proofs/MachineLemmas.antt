@@ -20,7 +20,7 @@ use Rattle.node.specs.Calls.{NotLaunched, Ended, Creates, Starts, Kills, Deletes
 use Rattle.node.specs.declared.outcome.Outcome.TheVariants.{Plan}
 use Rattle.node.specs.Rebalance.{StepsOn, StepsMore, Ends}
 use Rattle.node.specs.Machine.{Event, Step, IsSingle, Run, RunsKeep, RunsStaySafe, RunsStayApart, RebalancesAreSteps, RunsRebalance}
-use Rattle.node.specs.Machine.Event.{Create, Start, Kill, Delete, Rebalance, Begin, StepOn, Fork, Exit, Offline, Online}
+use Rattle.node.specs.Machine.Event.{Create, Start, Kill, Delete, Rebalance, Begin, StepOn, State, ListAll, SetsOf, Pool, PhaseIs, ShowCertificate, Fork, Exit, Offline, Online}
 use Rattle.node.proofs.NodeLemmas.{fork_node, exit_node, offline_node, online_node, end_node, remove_refused_node, created_node, not_created_node, deleted_node, started_node}
 use Rattle.node.proofs.StepLemmas.{more_node, ended_node}
 use Rattle.node.proofs.HeadlineLemmas.{free_parents, begins_node, rebalances_node, headline}
@@ -113,6 +113,12 @@ module _ (old : NodeState) (h : IsNode old) (new : NodeState) where
   step_keeps weigh law (Rebalance answer) s = rebalances_node old h weigh law answer new s
   step_keeps weigh law (Begin answer) s = begins_node old h weigh answer new s
   step_keeps weigh law (StepOn answer) s = stepped law answer s
+  step_keeps weigh law (State id answer) s = unchanged s.1
+  step_keeps weigh law (ListAll answer) s = unchanged s.1
+  step_keeps weigh law (SetsOf id answer) s = unchanged s.1
+  step_keeps weigh law (Pool answer) s = unchanged s.1
+  step_keeps weigh law (PhaseIs answer) s = unchanged s.1
+  step_keeps weigh law (ShowCertificate answer) s = unchanged s.1
   step_keeps weigh law (Fork parent answer) s = moved (record old { kernel = new.kernel }) s.1 (fork_node old h new.kernel parent answer s.0)
   step_keeps weigh law (Exit pid answer) s = moved (record old { kernel = new.kernel }) s.1 (exit_node old h new.kernel pid answer s.0)
   step_keeps weigh law (Offline cpu answer) s = moved (record old { kernel = new.kernel }) s.1 (offline_node old h new.kernel cpu answer s.0)

@@ -82,7 +82,7 @@ creates_are_calls old id bundle config (Err (Fault (Kernel fault))) new n =
 creates_are_calls old id bundle config (Err (Fault fault)) new same = ap (λ (n : NodeState). n.kernel) same.1
 
 -- a group that is found or made, and its sets that are written, leave the processes
-found_table : (found : Option Group) (old : KernelState) (parent : Group) (name : List ℕ) (r : Result Group (OrMemory KernelFault)) (new : KernelState)
+pub found_table : (found : Option Group) (old : KernelState) (parent : Group) (name : List ℕ) (r : Result Group (OrMemory KernelFault)) (new : KernelState)
     → FindsOr found old parent name r new → new.table ≡ old.table
 found_table (Some g) old parent name r new f = ap (λ (k : KernelState). k.table) f.1
 found_table None old parent name r new f = (writes_keep_processes.make old new parent name r f).0
@@ -93,7 +93,7 @@ found_tables (Some g) old parent name r new f = tt
 found_tables None old parent name r new f = (found_table None old parent name r new f, tt)
 
 module _ (g : Group) (cpus mems : Ids) (old new : KernelState) (r : Result (Unit {0}) KernelFault) where
-  set_table : WritesSets old g cpus mems r new → new.table ≡ old.table
+  pub set_table : WritesSets old g cpus mems r new → new.table ≡ old.table
   set_table (inl (fault, refused, is)) = (writes_keep_processes.cpus old new g cpus (Err fault) refused).0
   set_table (inr (done, mid, first, second)) =
       (writes_keep_processes.mems mid new g mems r second).0 ∙ (writes_keep_processes.cpus old mid g cpus (Ok done) first).0

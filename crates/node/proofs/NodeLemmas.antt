@@ -45,7 +45,7 @@ module _ (n : NodeState) (h : IsNode n) (new : KernelState) where
     few = h.few;
     asked = h.asked;
     stands = stands;
-    written = h.written;
+    proved = h.proved;
   }
 
   passed : Passes n.kernel new n.parent (owners_of n.containers) → IsNode (record n { kernel = new })
@@ -87,7 +87,7 @@ module _ (n : NodeState) (h : IsNode n) (new : KernelState) where
         asked = all_push (IsAsked n.machine) n.containers (id, new_container bundle said asked g pid) h.asked (record { id = free.valid; fits = fits });
         stands = none_stands n.kernel (owners_of n.containers) (is_underway n.phase) free.settled n.ongoing h.stands new
             (owners_of (n.containers ++ (id, new_container bundle said asked g pid) ∷ []));
-        written = h.written;
+        proved = h.proved;
       }
 
   pub not_created_node : (id : List ℕ) (asked : Asked) (e : OrMemory KernelFault) → IsFree n id
@@ -115,7 +115,7 @@ module _ (n : NodeState) (h : IsNode n) (new : KernelState) where
         few = omega (arith, few, less);
         asked = each_left id (IsAsked n.machine) n.containers h.asked;
         stands = none_stands n.kernel (owners_of n.containers) (is_underway n.phase) settled n.ongoing h.stands new (owners_of (remove_entry (bytes_eq id) n.containers));
-        written = h.written;
+        proved = h.proved;
       }
 
 -- `start`
@@ -129,5 +129,5 @@ started_node n h id c found =
       few = omega (arith, few, length-set_value (bytes_eq id) n.containers (record c { started = true }));
       asked = all_started id (IsAsked n.machine) n.containers c found (λ key a. record { id = a.id; fits = a.fits }) h.asked;
       stands = subst (λ os. Stands n.kernel os (is_underway n.phase) n.ongoing) (sym (owners_started id n.containers c found)) h.stands;
-      written = h.written;
+      proved = h.proved;
     }

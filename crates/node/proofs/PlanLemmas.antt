@@ -5,12 +5,11 @@ use Rattle.std.proofs.lemmas.List.Elements.{recursion_from_All}
 use Rattle.std.specs.Prelude.{map, drop, slice_index_or, is_some, is_none, IsSome, AllPairs}
 use Rattle.std.specs.List.{AllByRecursion, AllZip, cons_option}
 use Rattle.std.specs.FinSet as set
-use Rattle.cpu_set.specs.Ids.{Ids, IsDisjoint}
+use Rattle.cpu_set.specs.Ids.{Ids, IsDisjoint, is_empty}
 use Rattle.cpu_set.specs.Pointwise.{contains-difference, is_subset-contains, contains-is_subset}
 use Rattle.cpu_set.specs.SetLaws.{empty_of_none, none_of_empty}
 use Rattle.cpuset_tree.specs.declared.Group.{Group}
 use Rattle.cpuset_tree.specs.Groups.{same_group, is_root_entry}
-use Rattle.cpuset_tree.specs.Effective.{is_empty}
 use Rattle.kernel_model.specs.KernelState.{KernelState}
 use Rattle.machine.specs.Layout.{Layout}
 use Rattle.machine.specs.Weight.{weight as distance_home}

@@ -3,10 +3,9 @@ use Rattle.std.proofs.Common.{◌≡◌, inl, inr, ◌<◌, ◌≤◌, ◌+◌, 
 use Rattle.std.proofs.lemmas.Option.{none-some, same_Some}
 use Rattle.std.specs.Prelude.{is_none, map, Result, Ok, Err, OnErr}
 use Rattle.std.specs.List.{AllByRecursion, AllZip}
-use Rattle.cpu_set.specs.Ids.{Ids}
+use Rattle.cpu_set.specs.Ids.{Ids, is_empty}
 use Rattle.cpuset_tree.specs.declared.Group.{Group}
 use Rattle.cpuset_tree.specs.Groups.{same_group, is_root_entry, cpus_in, mems_in}
-use Rattle.cpuset_tree.specs.Effective.{is_empty}
 use Rattle.kernel_model.specs.declared.KernelFault.{KernelFault}
 use Rattle.kernel_model.specs.KernelState.{KernelState}
 use Rattle.apply_plan.specs.declared.Entry.{Entry}
@@ -186,7 +185,7 @@ module _ (law : StepsLeave) (n : NodeState) (h : IsNode n) (o : Ongoing) (was : 
       few = more_node.few;
       asked = more_node.asked;
       stands = settled;
-      written = more_node.written;
+      proved = more_node.proved;
     }
 
     pub broken : IsBroken o n.kernel new

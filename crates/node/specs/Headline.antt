@@ -3,9 +3,9 @@ use Rattle.std.specs.Prelude.{◌≡◌, ◌+◌, ◌<◌, ◌≤◌, ℕ, Bool,
 use Rattle.std.specs.List.{AllByRecursion, AllZip, list_any, sum_by}
 use Rattle.std.specs.List.Sorted.{IsStrictlyIncreasing}
 use Rattle.std.specs.FinSet as set
-use Rattle.cpu_set.specs.Ids.{Ids, IsDisjoint}
+use Rattle.cpu_set.specs.Ids.{Ids, IsDisjoint, is_empty}
 use Rattle.cpu_set.specs.Members.{InRange, members}
-use Rattle.cpuset_tree.specs.Effective.{is_empty, effective_cpus}
+use Rattle.cpuset_tree.specs.Effective.{effective_cpus}
 use Rattle.kernel_model.specs.KernelState.{KernelState}
 use Rattle.machine.specs.Layout.{Layout}
 use Rattle.machine.specs.Weight.{weight}

@@ -1,5 +1,5 @@
 -- What holds of each node, after each of its calls.
-use Rattle.std.specs.Prelude.{◌≡◌, ℕ, ◌<◌, ◌≤◌, ◌⊎◌, false, List, [], ◌∷◌, length, Some, IfSome, codes, map}
+use Rattle.std.specs.Prelude.{◌≡◌, ℕ, ◌<◌, ◌≤◌, ◌⊎◌, false, List, [], ◌∷◌, length, Some, IfSome, IsTrue, codes, map}
 use Rattle.std.specs.List.{AllByRecursion}
 use Rattle.std.specs.Str.{bytes_eq}
 use Rattle.std.specs.FinSet as set
@@ -19,7 +19,12 @@ use Rattle.apply_plan.specs.Holders.{Holder, Pairwise, IsSafe}
 use Rattle.node.specs.declared.TheConstants.{CONTAINER_LIMIT}
 use Rattle.demand.specs.FitsMachine.{FitsMachine}
 use Rattle.certificate_text.specs.IdWord.{IsId}
+use Rattle.certificate.specs.IsProved.{IsProved}
+use Rattle.certificate.specs.IsShortage.{IsShortage}
+use Rattle.certificate.specs.Limits.{rows_fit}
 use Rattle.certificate_text.specs.Written.{CanWrite}
+use Rattle.certificate_text.specs.declared.certificates.Certificate.{Certificate}
+use Rattle.certificate_text.specs.declared.certificates.Certificate.TheVariants.{Plan, Short}
 use Rattle.node.specs.NodeState.{ContainerState, NodeState, is_underway}
 use Rattle.node.specs.Owners.{Owner, owners_of}
 use Rattle.node.specs.Ongoing.{Stands}
@@ -84,12 +89,22 @@ pub record IsAsked (m : Layout) (e : List ℕ × ContainerState) : Type 0 where
   pub id : IsId e.0
   pub fits : FitsMachine m e.1.demand
 
+-- its own check accepts it: values and prices prove its plan to cost its total, or its rows are within their limits and its
+-- members are short
+abbrev pub ProvesItself : Certificate → Type 0
+ProvesItself (Plan rows sets prices total) = IsProved rows sets prices total
+ProvesItself (Short rows members) = IsTrue (rows_fit rows) × IsShortage rows members
+
+-- and it can be written
+abbrev pub IsKept : Certificate → Type 0
+IsKept c = CanWrite c × ProvesItself c
+
 -- and the kernel runs on the machine, with no more containers than there may be; a hand-over that is open is theirs; and what
--- was worked out last can be written
+-- was worked out last can be written and proves itself
 pub record IsNode (n : NodeState) : Type 0 where
   pub machine : IsOfMachine n.kernel n.machine
   pub holds : Holds n.kernel n.parent (owners_of n.containers)
   pub few : length n.containers ≤ CONTAINER_LIMIT
   pub asked : AllByRecursion (IsAsked n.machine) n.containers
   pub stands : Stands n.kernel (owners_of n.containers) (is_underway n.phase) n.ongoing
-  pub written : IfSome n.last CanWrite
+  pub proved : IfSome n.last IsKept

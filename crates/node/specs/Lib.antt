@@ -9,12 +9,14 @@ pub mod Wanted
 pub mod Refusals
 pub mod Launch
 pub mod Calls
+pub mod OpenCause
 pub mod Leaves
 pub mod Rows
 pub mod Entries
 pub mod Rebalance
 pub mod Headline
 pub mod Asking
+pub mod Proved
 pub mod Machine
 pub mod Ending
 pub mod Making

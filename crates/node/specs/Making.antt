@@ -1,11 +1,14 @@
 -- The kernel in the midst of `create`: its states, one after each single call that is made.
-use Rattle.std.specs.Prelude.{◌≡◌, ℕ, List, [], ◌∷◌, ◌++◌, map, Option, Some, None, Result, Ok, Err}
+use Rattle.std.specs.Prelude.{◌≡◌, ℕ, ◌+◌, ◌<◌, List, [], ◌∷◌, ◌++◌, map, Option, Some, None, Result, Ok, Err}
 use Rattle.std.proofs.Common.{inl, inr}
 use Rattle.std.specs.List.{AllByRecursion}
 use Rattle.cpu_set.specs.Ids.{Ids}
+use Rattle.cpuset_tree.specs.declared.TheConstants.{SERIAL_LIMIT}
 use Rattle.cpuset_tree.specs.declared.Group.{Group}
 use Rattle.cpuset_tree.specs.Groups.{child_of}
+use Rattle.proctable.specs.declared.TheConstants.{LAST_PID}
 use Rattle.kernel_model.specs.declared.KernelFault.{KernelFault}
+use Rattle.kernel_model.specs.declared.KernelFault.TheVariants.{NoSerials, NoPids, Failed}
 use Rattle.kernel_model.specs.KernelState.{KernelState}
 use Rattle.kernel_model.specs.Cases.{MakesGroup, WritesCpus, WritesMems, Spawns}
 use Rattle.faults.specs.declared.OrMemory.{OrMemory}
@@ -90,3 +93,17 @@ abbrev pub CreatesStaySafe : Type 0
 CreatesStaySafe =
     (old : NodeState) (id bundle config : List ℕ) (r : Result ℕ (OrMemory NodeFault)) (new : NodeState) (made : Creates old id bundle config r new) → IsNode old
     → AllByRecursion (λ k. IsSafe k k.reserved (map (λ o. o.holder) (owners_of new.containers))) (create_states old id bundle config r new made)
+
+-- what a refusal of the kernel can be, of a `create` against which nothing stood: a write failed, and is counted; or no
+-- serial was left for a group of this id, and there was none; or no pid was left
+abbrev pub LateCause : NodeState → List ℕ → KernelFault → NodeState → Type 0
+LateCause old id Failed new = new.kernel.failures ≡ old.kernel.failures + 1
+LateCause old id NoSerials new = (child_of old.kernel.tree old.parent id ≡ None) × (old.kernel.tree.next_serial ≡ SERIAL_LIMIT)
+LateCause old id NoPids new = LAST_PID < old.kernel.table.next_pid
+LateCause old id fault new = ⊥
+
+-- the kernel refuses nothing else of a `create`
+abbrev pub CreatesFailLate : Type 0
+CreatesFailLate =
+    (old : NodeState) (id bundle config : List ℕ) (fault : KernelFault) (new : NodeState) → IsNode old
+    → Creates old id bundle config (Err (Fault (Kernel fault))) new → LateCause old id fault new

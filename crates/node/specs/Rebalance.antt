@@ -8,7 +8,6 @@ use Rattle.certificate.specs.PricesView.{PricesView}
 use Rattle.certificate.specs.IsShortage.{asked, chosen, is_offered}
 use Rattle.certificate_text.specs.declared.certificates.Certificate.{Certificate}
 use Rattle.certificate_text.specs.declared.certificates.Certificate.TheVariants as certificate
-use Rattle.certificate_text.specs.Written.{CanWrite}
 use Rattle.kernel_model.specs.declared.KernelFault.{KernelFault}
 use Rattle.faults.specs.declared.OrMemory.{OrMemory}
 use Rattle.faults.specs.declared.OrMemory.TheVariants.{Memory, Fault}
@@ -23,16 +22,17 @@ use Rattle.node.specs.declared.outcome.Outcome.TheVariants.{Plan, Short}
 use Rattle.node.specs.declared.phase.Phase.{Phase}
 use Rattle.node.specs.declared.phase.Phase.TheVariants.{Settled, Underway, Unsettled}
 use Rattle.node.specs.NodeState.{Ongoing, NodeState, is_underway}
+use Rattle.node.specs.IsNode.{IsKept}
 use Rattle.node.specs.Rows.{rows_of}
 use Rattle.node.specs.Entries.{plan_pool, opened}
 
--- a least plan of the rows, whose certificate can be written; its hand-over is open, and nothing is written yet
+-- a least plan of the rows, whose certificate can be written and proves itself; its hand-over is open, and nothing is written yet
 pub record Begun (old : NodeState) (total : ℕ) (new : NodeState) : Type 0 where
   pub sets : List Ids
   pub prices : PricesView
   pub settled : is_underway old.phase ≡ false
   pub decides : DecidesPlan (rows_of old) sets prices total
-  pub can : CanWrite (certificate.Plan (rows_of old) sets prices total)
+  pub kept : IsKept (certificate.Plan (rows_of old) sets prices total)
   pub is : new ≡ record old {
     pool = plan_pool old sets;
     phase = Underway;
@@ -51,7 +51,7 @@ pub record Lacks (old : NodeState) (wanted : ℕ) (allowed : Ids) (new : NodeSta
   pub members : List ℕ
   pub settled : is_underway old.phase ≡ false
   pub decides : DecidesShort (rows_of old) members
-  pub can : CanWrite (certificate.Short (rows_of old) members)
+  pub kept : IsKept (certificate.Short (rows_of old) members)
   pub need : IsNeed (rows_of old) members wanted allowed
   pub is : new ≡ record old { last = Some (certificate.Short (rows_of old) members) }
 

@@ -15,21 +15,24 @@ ghost use Rattle.rows.specs.Weighed.{IsWeighed};
 use crate::container::Container;
 use crate::{CONTAINER_LIMIT, Node};
 use certificate::{Problem, Row};
+use cpu_set::IdSet;
 use indexmap::IndexMap;
 use kernel_model::Kernel;
 use machine::Machine;
 use rows::{Weighed, row_of};
 use std::alloc::{AllocError, Global};
 
-/// The row of a container over the CPUs that are online, if it is live and asks for CPUs of its own.
+/// The row of a container over these CPUs, which are online, if it is live and asks for CPUs of its own.
 fn row_in<K: Kernel>(
     alloc: Global,
     kernel: &K,
     machine: &Machine,
+    online: &IdSet,
     id: &str,
     container: &Container,
     known: &mut Vec<Weighed>,
 ) -> Result<Option<Row>, AllocError>
+    requires online { online.now ≡ (K.state kernel.now).tree.online }
     requires fits { FitsMachine machine.now container.now.demand }
     requires known { All (IsWeighed machine.now) known.old.items }
     ensures row { IfOk result (λ row. row ≡ row_of_container (K.state kernel.now) machine.now (id.now, seen container.now)) }
@@ -39,8 +42,7 @@ fn row_in<K: Kernel>(
     if !kernel.first_alive(container.pid) {
         return Ok(None);
     }
-    let online = kernel.online();
-    row_of(alloc, machine, &online, id, &container.demand, known)
+    row_of(alloc, machine, online, id, &container.demand, known)
 }
 
 /// The live containers that ask for CPUs of their own, as a problem: a row for each over the CPUs that are online, in the
@@ -59,10 +61,11 @@ pub fn rows_in<K: Kernel>(
     ensures can { IfOk result (All CanWriteRow) }
     ensures apart { IfOk result HaveOwnIds }
 {
+    let online = kernel.online();
     let mut rows = Vec::new(alloc);
     let mut known = Vec::new(alloc);
     for (id, container) in containers.iter() {
-        if let Some(row) = row_in(alloc, kernel, machine, id, container, &mut known)? {
+        if let Some(row) = row_in(alloc, kernel, machine, &online, id, container, &mut known)? {
             rows.push(row)?;
         }
     }

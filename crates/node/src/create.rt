@@ -1,8 +1,11 @@
 //! `create` (OCI Runtime Specification 1.0.2, runtime.md, "Create").
-ghost use Rattle.std.specs.Prelude.{◌≡◌, ◌+◌};
+ghost use Rattle.std.specs.Prelude.{◌≡◌, ◌+◌, Err};
+ghost use Rattle.faults.specs.declared.OrMemory.TheVariants.{Fault};
+ghost use Rattle.node.specs.declared.fault.NodeFault.TheVariants.{Kernel};
 ghost use Rattle.node.specs.Wanted.{Asks, Wants, Reads};
 ghost use Rattle.node.specs.Refusals.{Checks};
 ghost use Rattle.node.specs.Calls.{late_answer, Creates};
+ghost use Rattle.node.specs.Making.{LateCause};
 ghost use Rattle.node.specs.Leaves.{CreateLeaves, rise_or_memory};
 
 use crate::container::Container;
@@ -122,6 +125,7 @@ impl<K: Kernel + Drop> Node<K> {
         append(&mut self.containers, key, container);
         Ok(pid)
     }
+
     /// Creates a container of a bundle with this config: its group on the reserved CPUs and its homes, and in it its
     /// first process, whose pid is the answer.
     ///
@@ -139,6 +143,8 @@ impl<K: Kernel + Drop> Node<K> {
         ensures creates { Creates self.old id.now bundle.now config.now result self.new }
         ensures leaves { CreateLeaves self.old id.now result self.new }
         ensures counted { self.new.kernel.failures ≡ self.old.kernel.failures + rise_or_memory result }
+        // A refusal of the kernel has one of these causes.
+        ensures late { (fault : KernelFault) → result ≡ Err (Fault (Kernel fault)) → LateCause self.old id.now fault self.new }
     {
         self.holds();
         self.try_create(id, bundle, config)

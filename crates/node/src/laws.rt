@@ -3,17 +3,21 @@ ghost use Rattle.std.specs.Prelude.{◌≡◌};
 ghost use Rattle.node.specs.Asking.{RowsAreAsking, ShortStands};
 ghost use Rattle.node.specs.Ending.{HandoversEnd};
 ghost use Rattle.node.specs.Machine.{FirstIsNode, RunsKeep, RunsStaySafe, RunsStayApart, RebalancesAreSteps, RunsRebalance};
-ghost use Rattle.node.specs.Making.{CreatesAreCalls, CreatesStaySafe};
-ghost use Rattle.node.specs.UnusedLemmas.{FirstIsUnused, FirstIsOfMachine};
+ghost use Rattle.node.specs.Making.{CreatesAreCalls, CreatesFailLate, CreatesStaySafe};
+ghost use Rattle.node.specs.Proved.{LastIsProved, TotalIsProved};
+ghost use Rattle.node.specs.UnusedLemmas.{FirstIsUnused, FirstIsOfMachine, FirstWantsMemory};
 
 use crate::CONTAINER_LIMIT;
 use apply_plan::laws::{effects, steps};
+use certificate_text::written_texts_are_read;
 use rows::rows_weigh;
 
 /// Which kernels a node can be made over: those of which nothing was asked yet, and which have the machine's CPUs and nodes.
+/// Where no write of such a kernel fails, want of memory is all that can stand against a node over it.
 pub fn first_kernels()
     ensures unused { FirstIsUnused }
     ensures machine { FirstIsOfMachine }
+    ensures memory { FirstWantsMemory }
 {}
 
 /// What holds of a node holds of a new one, and after any list of its calls and of the kernel's events, with all their
@@ -54,9 +58,12 @@ pub fn each_handover()
 ///
 /// From the kernel before it to the one that it leaves there are single calls alone, and after each of them no CPU but
 /// reserved ones is requested for a live pinned container and for another live one, and each live one requests some.
+///
+/// The kernel refuses it only where a write fails, which is counted, or where no serial for a new group or no pid is left.
 pub fn each_create()
     ensures single { CreatesAreCalls }
     ensures safe { CreatesStaySafe }
+    ensures late { CreatesFailLate }
 {}
 
 /// The headline: what a rebalance leaves, after any list of calls and events; nothing runs.
@@ -79,6 +86,15 @@ pub fn whose_rows()
     ensures short { ShortStands }
 {
     rows_weigh();
+}
+
+/// The text of what a node worked out last proves its verdict to whoever checks it; after a rebalance that is the total that
+/// was answered. Nothing runs.
+pub fn certificates_prove()
+    ensures last { LastIsProved }
+    ensures total { TotalIsProved }
+{
+    written_texts_are_read();
 }
 
 /// There are at most 256 containers.

@@ -1,4 +1,5 @@
-ghost use Rattle.std.specs.Prelude.{◌≡◌, IfOk, IfErr};
+ghost use Rattle.std.specs.Prelude.{◌≡◌, ◌+◌, IfOk, IfErr, MatchResult};
+ghost use Rattle.faults.specs.declared.OrMemory.TheVariants.{Fault};
 ghost use Rattle.node.specs.IsNode.{IsOfMachine};
 ghost use Rattle.node.specs.Unused.{IsUnused};
 
@@ -80,6 +81,7 @@ pub struct NotOpened<K: Kernel + Drop> {
 impl<K: Kernel + Drop> Node<K> {
     ghost use Rattle.node.specs.IsNode.{IsNode};
     ghost use Rattle.node.specs.Calls.{Opens, OpensNot};
+    ghost use Rattle.node.specs.OpenCause.{OpenCause, error_rise};
 
     /// A node with no container, over a kernel in which the node's group is found or made.
     ///
@@ -91,6 +93,10 @@ impl<K: Kernel + Drop> Node<K> {
         ensures opened { IfOk result (λ n. Opens (K.state kernel) machine n) }
         ensures refused { IfErr result (λ r. OpensNot (K.state kernel) r.error (K.state r.kernel)) }
         ensures back { IfErr result (λ r. r.machine ≡ machine) }
+        ensures counted { MatchResult result (λ n. n.kernel.failures ≡ (K.state kernel).failures)
+            (λ r. (K.state r.kernel).failures ≡ (K.state kernel).failures + error_rise r.error) }
+        // A refusal of the kernel has one of these causes.
+        ensures late { IfErr result (λ r. (fault : KernelFault) → r.error ≡ Fault fault → OpenCause (K.state kernel) fault (K.state r.kernel)) }
     {
         let mut kernel = kernel;
         let root = kernel.root();

@@ -4,6 +4,7 @@ ghost use Rattle.std.specs.Result.{result_map_both};
 ghost use Rattle.certificate.specs.Limits.{rows_fit};
 ghost use Rattle.certificate.specs.IsShortage.{IsShortage};
 ghost use Rattle.certificate_text.specs.Written.{CanWrite};
+ghost use Rattle.node.specs.IsNode.{ProvesItself, IsKept};
 ghost use Rattle.node.specs.NodeState.{is_underway};
 ghost use Rattle.node.specs.Leaves.{rise_or_memory};
 ghost use Rattle.node.specs.Owners.{owners_of};
@@ -53,7 +54,7 @@ impl<K: Kernel + Drop> Node<K> {
 
     /// Keeps the certificate of what was worked out.
     fn keep(&mut self, certificate: Certificate)
-        requires { CanWrite certificate }
+        requires { IsKept certificate }
         ensures { self.new ≡ record self.old { last = Some certificate } }
     {
         self.last = Some(certificate);
@@ -156,13 +157,15 @@ impl<K: Kernel + Drop> Node<K> {
         self.move_all()
     }
 
-    /// The certificate of the last plan or shortage that was worked out.
+    /// The certificate of the last plan or shortage that was worked out: it can be written as text, and its own check
+    /// accepts it.
     ///
     /// # Errors
     /// `NoAnswer`.
     pub fn certificate(&self) -> Result<&Certificate, NodeFault>
         ensures shows { ShowsCertificate self.now (result_map_both (λ c. c.now) (λ fault. fault) result) }
         ensures can { IfOk result (λ c. CanWrite c.now) }
+        ensures proved { IfOk result (λ c. ProvesItself c.now) }
     {
         match &self.last {
             Some(certificate) => Ok(certificate),

@@ -1,7 +1,7 @@
 -- What each call of a table answers: the first thing that stands against it, in the order written here, or what it is for.
 use Rattle.std.specs.Prelude.{◌≡◌, ℕ, false, nat_lt, if◌then◌else◌, not, Option, Some, None, Result, Ok, Err}
 use Rattle.faults.specs.declared.or_memory.OrMemory.{OrMemory}
-use Rattle.faults.specs.declared.or_memory.OrMemory.TheVariants.{Memory, Fault}
+use Rattle.faults.specs.Calls.{Grows}
 use Rattle.cpuset_tree.specs.declared.Group.{Group}
 use Rattle.proctable.specs.declared.TheConstants.{LAST_PID}
 use Rattle.proctable.specs.declared.fault.ProcFault.{ProcFault}
@@ -29,17 +29,9 @@ pub record AddsProcess (old : TableState) (g : Group) (first pid : ℕ) (new : T
   pub fresh : is_alive old pid ≡ false
   pub added : new ≡ with_process old g first
 
-module _ (refusal : Option ProcFault) (Does : ℕ → TableState → Type 0) (old : TableState) where
-  -- a call that grows the table answers the first thing that stands against it and changes nothing, or does what it is for;
-  -- memory is asked for only once nothing does
-  abbrev pub Grows : Result ℕ (OrMemory ProcFault) → TableState → Type 0
-  Grows (Ok pid) new = (refusal ≡ None) × Does pid new
-  Grows (Err Memory) new = (refusal ≡ None) × (new ≡ old)
-  Grows (Err (Fault fault)) new = (refusal ≡ Some fault) × (new ≡ old)
-
 -- a first process is made, which belongs to itself
 abbrev pub Spawns : TableState → Group → Result ℕ (OrMemory ProcFault) → TableState → Type 0
-Spawns old g = Grows (spawn_refusal old) (λ pid new. AddsProcess old g pid pid new) old
+Spawns old g = Grows (spawn_refusal old) (λ pid. AddsProcess old g pid pid) old
 
 -- a new process is in its parent's group, and belongs to its parent's first process
 abbrev pub ForksOf : TableState → ℕ → ℕ → TableState → Type 0

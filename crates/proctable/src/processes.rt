@@ -1,5 +1,5 @@
 ghost use Rattle.std.specs.Prelude.{◌≡◌, ◌≢◌, ◌≤◌, IfOk, IfErr, OnErr, slice_index_or};
-ghost use Rattle.cpuset_tree.specs.TreeAnswers.{Decides};
+ghost use Rattle.faults.specs.Calls.{Decides};
 ghost use Rattle.proctable.specs.Processes.{process_of, is_alive, group_of, count_in};
 ghost use Rattle.proctable.specs.TableChanges.{first_table, exited, ended_in};
 ghost use Rattle.proctable.specs.TableAnswers.{exit_refusal, AddsProcess, Spawns, Forks};

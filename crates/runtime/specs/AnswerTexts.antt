@@ -1,8 +1,7 @@
 -- The texts that answer a script's commands.
-use Rattle.std.specs.Prelude.{ℕ, ◌==◌, if◌then◌else◌, List, ◌++◌, codes, decimal, Result, Ok, Err}
+use Rattle.std.specs.Prelude.{ℕ, if◌then◌else◌, List, ◌++◌, codes, decimal, Result, Ok, Err}
 use Rattle.std.specs.List.{flat_map}
-use Rattle.std.specs.FinSet as set
-use Rattle.cpu_set.specs.Ids.{Ids}
+use Rattle.cpu_set.specs.Ids.{Ids, is_empty}
 use Rattle.cpu_list.specs.CanonicalList.{list_text}
 use Rattle.faults.specs.declared.or_memory.OrMemory.{OrMemory}
 use Rattle.faults.specs.declared.or_memory.OrMemory.TheVariants as either
@@ -43,7 +42,7 @@ pid_line pid = codes "pid " ++ (decimal pid ++ codes "\n")
 
 -- a set, which is shown where it is empty too
 abbrev pub set_text : Ids → List ℕ
-set_text s = if set.len s == 0 then codes "-" else list_text s
+set_text s = if is_empty s then codes "-" else list_text s
 
 -- the set that is requested, behind its label, and the one in effect
 abbrev pub both_text : List ℕ → Ids → Ids → List ℕ

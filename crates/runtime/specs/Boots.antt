@@ -1,16 +1,10 @@
 -- A node from the beginning.
-use Rattle.std.specs.Prelude.{◌≡◌, ◌⊎◌}
-use Rattle.faults.specs.declared.or_memory.OrMemory.{OrMemory}
-use Rattle.kernel_model.specs.declared.fault.KernelFault.{KernelFault}
 use Rattle.kernel_model.specs.KernelState.{KernelState, IsFirstKernel}
 use Rattle.machine.specs.Layout.{Layout}
 use Rattle.machine.specs.Present.{present}
 use Rattle.machine.specs.Nodes.{nodes_of}
 use Rattle.node.specs.NodeState.{NodeState}
-use Rattle.node.specs.Calls.{Opens, OpensNot}
-use Rattle.runtime.specs.AnswerTexts.{of_kernel}
-use Rattle.runtime.specs.declared.refusal.Refusal.{Refusal}
-use Rattle.runtime.specs.declared.refusal.Refusal.TheVariants.{Memory}
+use Rattle.node.specs.Calls.{Opens}
 use Rattle.runtime.specs.declared.opening.TheConstants.{FIRST_PID}
 
 -- a kernel of which nothing was asked yet, with the machine's CPUs and nodes
@@ -20,9 +14,3 @@ IsKernelOf m = IsFirstKernel (present m) m.reserved m.online (nodes_of m) FIRST_
 -- a node with no container, over such a kernel
 abbrev pub Boots : Layout → NodeState → Type 0
 Boots m n = (k : KernelState) × IsKernelOf m k × Opens k m n
-
--- why there is none: memory for the kernel is short, or what the kernel refuses as the node's group is made
-abbrev pub BootsNot : Layout → Refusal → Type 0
-BootsNot m refusal =
-    (refusal ≡ Memory)
-    ⊎ ((k : KernelState) × (error : OrMemory KernelFault) × (new : KernelState) × IsKernelOf m k × OpensNot k error new × (refusal ≡ of_kernel error))

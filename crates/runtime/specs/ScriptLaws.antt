@@ -1,31 +1,129 @@
 -- What a script does to the node: a list of its calls and events.
-use Rattle.std.proofs.Common.{◌≡◌, ℕ, ◌≤◌, List, [], ◌∷◌, ◌++◌, length, length-append, Option, Some, None, Result, Ok, Err, inl, inr, codes, get_or, refl, ap, subst, ◌∙◌, arith}
+use Rattle.std.proofs.Common.{◌≡◌, ◌⊎◌, ℕ, ◌≤◌, List, [], ◌∷◌, ◌++◌, length, length-append, Option, Some, None, Result, Ok, Err, inl, inr, codes, get_or, refl, ap, subst, ◌∙◌, arith}
 use Rattle.faults.specs.declared.or_memory.OrMemory.{OrMemory}
+use Rattle.std.specs.Prelude.{String}
+use Rattle.std.specs.declared.alloc.Global.{Global}
+use Rattle.certificate_text.specs.Written.{text_of}
+use Rattle.certificate_text.specs.declared.certificates.Certificate.{Certificate}
+use Rattle.apply_plan.specs.declared.Progress.{Progress}
+use Rattle.kernel_model.specs.declared.fault.KernelFault.{KernelFault}
+use Rattle.node.specs.declared.container.Status.{Status}
+use Rattle.node.specs.declared.phase.Phase.{Phase}
+use Rattle.node.specs.declared.reads.Sets.{Sets}
 use Rattle.node.specs.declared.fault.NodeFault.{NodeFault}
 use Rattle.node.specs.declared.outcome.Outcome.{Outcome}
 use Rattle.node.specs.declared.outcome.Outcome.TheVariants.{Plan, Short}
 use Rattle.node.specs.Headline.{Headline, IsRebalanced}
 use Rattle.node.specs.IsNode.{IsNode}
+use Rattle.node.specs.Listed.{listed}
 use Rattle.node.specs.NodeState.{NodeState}
-use Rattle.node.specs.Machine.{Event, Create, Start, Kill, Delete, Rebalance, Begin, StepOn, Fork, Exit, Offline, Online, Step, Run, RunsRebalance}
+use Rattle.node.specs.Machine.{Event, Create, Start, Kill, Delete, Rebalance, Begin, StepOn, State, ListAll, SetsOf, Pool, PhaseIs, ShowCertificate, Fork, Exit, Offline, Online, Step, Run, RunsRebalance}
 use Rattle.script.specs.Commands.{Asked}
 use Rattle.script.specs.Commands as ask
 use Rattle.script.specs.Lines.{kept, words_of}
 use Rattle.script.specs.Requests.{Wanted, nothing, bad, asks, request_of}
 use Rattle.script.specs.Runs.{AnswersLine, AnswersRequest, Runs}
-use Rattle.runtime.specs.AnswerTexts.{answer_text, of_either}
-use Rattle.runtime.specs.Answered.{Answered, AnswersBy}
-use Rattle.runtime.specs.OutcomeTexts.{outcome_text}
+use Rattle.runtime.specs.AnswerTexts.{of_either, of_kernel, of_kernel_fault, answer_text, done_line, pid_line, set_text, sets_line, listing_text, phase_line}
+use Rattle.runtime.specs.Answered.{Answered, AnswersBy, state_line}
+use Rattle.runtime.specs.Found.{IsFound}
+use Rattle.runtime.specs.OutcomeTexts.{outcome_text, progress_line}
+use Rattle.runtime.specs.RefusalLine.{refusal_line}
 use Rattle.runtime.specs.RuntimeState.{RuntimeState, Told}
+use Rattle.runtime.specs.declared.refusal.Refusal.TheVariants.{Memory, Node, NoBundle}
 
--- at most so many calls and events lead from the one node to the other
-abbrev pub AreWithin : ℕ → NodeState → NodeState → Type 0
-AreWithin most old new = (events : List Event) × (length events ≤ most) × Run old events new
+-- the text of what a call or an event answered, in the node that it left
+abbrev pub event_text : NodeState → Event → List ℕ
+event_text new (Create id bundle config answer) = answer_text pid_line of_either answer
+event_text new (Start id answer) = answer_text done_line Node answer
+event_text new (Kill id signal answer) = answer_text done_line Node answer
+event_text new (Delete id answer) = answer_text done_line Node answer
+event_text new (Rebalance answer) = answer_text (outcome_text new) of_either answer
+event_text new (Begin answer) = answer_text (outcome_text new) of_either answer
+event_text new (StepOn answer) = answer_text progress_line Node answer
+event_text new (State id answer) = answer_text state_line of_either answer
+event_text new (ListAll answer) = listing_text answer
+event_text new (SetsOf id answer) = answer_text sets_line Node answer
+event_text new (Pool answer) = set_text answer
+event_text new (PhaseIs answer) = phase_line answer
+event_text new (ShowCertificate answer) = answer_text text_of Node answer
+event_text new (Fork parent answer) = answer_text pid_line of_kernel answer
+event_text new (Exit pid answer) = answer_text done_line of_kernel_fault answer
+event_text new (Offline cpu answer) = answer_text done_line of_kernel_fault answer
+event_text new (Online cpu answer) = answer_text done_line of_kernel_fault answer
 
--- answered lines are calls and events of the node, at most one a line, and what is told of the bundles stays
+-- the call or event that a command asks for, a create's with the config that is found of the bundle
+abbrev pub IsFor : Told → Asked → Event → Type 0
+IsFor told (ask.create id bundle) event =
+    (config : List ℕ) × (answer : Result ℕ (OrMemory NodeFault)) × IsFound told bundle (Some config) × (event ≡ Create id bundle config answer)
+IsFor told (ask.start id) event = (answer : Result (Unit {0}) NodeFault) × (event ≡ Start id answer)
+IsFor told (ask.kill id signal) event = (answer : Result (Unit {0}) NodeFault) × (event ≡ Kill id signal answer)
+IsFor told (ask.delete id) event = (answer : Result (Unit {0}) NodeFault) × (event ≡ Delete id answer)
+IsFor told (ask.state id) event = (answer : Result (String Global) (OrMemory NodeFault)) × (event ≡ State id answer)
+IsFor told ask.list event = (answer : List (List ℕ × Status)) × (event ≡ ListAll answer)
+IsFor told (ask.sets id) event = (answer : Result Sets NodeFault) × (event ≡ SetsOf id answer)
+IsFor told ask.rebalance event = (answer : Result Outcome (OrMemory NodeFault)) × (event ≡ Rebalance answer)
+IsFor told ask.begin event = (answer : Result Outcome (OrMemory NodeFault)) × (event ≡ Begin answer)
+IsFor told ask.step event = (answer : Result Progress NodeFault) × (event ≡ StepOn answer)
+IsFor told ask.phase event = (answer : Phase) × (event ≡ PhaseIs answer)
+IsFor told ask.certificate event = (answer : Result Certificate NodeFault) × (event ≡ ShowCertificate answer)
+IsFor told (ask.fork pid) event = (answer : Result ℕ (OrMemory KernelFault)) × (event ≡ Fork pid answer)
+IsFor told (ask.exit pid) event = (answer : Result (Unit {0}) KernelFault) × (event ≡ Exit pid answer)
+IsFor told (ask.offline cpu) event = (answer : Result (Unit {0}) KernelFault) × (event ≡ Offline cpu answer)
+IsFor told (ask.online cpu) event = (answer : Result (Unit {0}) KernelFault) × (event ≡ Online cpu answer)
+
+-- this one, once, and the text of its answer
+pub record IsCall (told : Told) (command : Asked) (old : NodeState) (text : List ℕ) (new : NodeState) : Type 0 where
+  pub event : Event
+  pub its : IsFor told command event
+  pub step : Step old event new
+  pub answer : text ≡ event_text new event
+
+-- a create refused with no call: memory for the config was wanted, or no such bundle is found
+abbrev pub IsNoCall : Told → Asked → NodeState → List ℕ → NodeState → Type 0
+IsNoCall told command old text new = (id bundle : List ℕ) × (command ≡ ask.create id bundle) × (new ≡ old)
+    × ((text ≡ refusal_line Memory) ⊎ ((text ≡ refusal_line NoBundle) × IsFound told bundle None))
+
+-- what answers a command is the text of the call or event that it asks for, also of a call that only reads; but for a create
+-- of which no config was found
+abbrev pub CommandsAreCalls : Type 0
+CommandsAreCalls = (old new : RuntimeState) (command : Asked) (text : List ℕ) → Answered old command text new
+    → IsCall old.told command old.node text new.node ⊎ IsNoCall old.told command old.node text new.node
+
+-- the calls and events that a command makes, and the text that it prints: one, or none
+abbrev pub CommandMakes : Told → NodeState → Asked → List Event → List ℕ → NodeState → Type 0
+CommandMakes told old command events text new =
+    ((call : IsCall told command old text new) × (events ≡ call.event ∷ [])) ⊎ (IsNoCall told command old text new × (events ≡ []))
+
+-- a line that asks for nothing makes none and prints nothing; a bad one makes none and is refused
+abbrev pub RequestMakes : Told → NodeState → Wanted → List Event → List ℕ → NodeState → Type 0
+RequestMakes told old nothing events text new = (events ≡ []) × (text ≡ []) × (new ≡ old)
+RequestMakes told old bad events text new = (events ≡ []) × (text ≡ codes "refused E110 BadLine\n") × (new ≡ old)
+RequestMakes told old (asks command) events text new = CommandMakes told old command events text new
+
+-- as one that is too long
+abbrev pub LineMakes : Told → NodeState → Option (List ℕ) → List Event → List ℕ → NodeState → Type 0
+LineMakes told old None events text new = (events ≡ []) × (text ≡ codes "refused E112 LineTooLong\n") × (new ≡ old)
+LineMakes told old (Some line) events text new = RequestMakes told old (request_of (words_of line)) events text new
+
+-- those of each line one after another, and so the texts
+abbrev pub LinesMake : Told → NodeState → List (List ℕ) → List Event → List ℕ → NodeState → Type 0
+LinesMake told old [] events text new = (events ≡ []) × (text ≡ []) × (new ≡ old)
+LinesMake told old (line ∷ lines) events text new = (mid : NodeState) × (here later : List Event) × (first more : List ℕ)
+    × LineMakes told old (kept line) here first mid × LinesMake told mid lines later more new
+    × (events ≡ here ++ later) × (text ≡ first ++ more)
+
+-- the lines make these calls and events and print the text: at most one a line, which lead from the one node to the other;
+-- and what is told of the bundles stays
+pub record AreCalls (old : RuntimeState) (lines : List (List ℕ)) (text : List ℕ) (new : RuntimeState) : Type 0 where
+  pub events : List Event
+  pub made : LinesMake old.told old.node lines events text new.node
+  pub few : length events ≤ length lines
+  pub run : Run old.node events new.node
+  pub told : new.told ≡ old.told
+
+-- answered lines are such
 abbrev pub LinesAreCalls : Type 0
-LinesAreCalls = (old new : RuntimeState) (lines : List (List ℕ)) (text : List ℕ) → Runs Answered old lines text new
-    → AreWithin (length lines) old.node new.node × (new.told ≡ old.told)
+LinesAreCalls = (old new : RuntimeState) (lines : List (List ℕ)) (text : List ℕ) → Runs Answered old lines text new → AreCalls old lines text new
 
 -- whatever lines of a script over a node were answered before, a rebalance leaves what the headline says of an outcome or a
 -- refusal, and its answer is the text of that
@@ -40,60 +138,85 @@ PlansAreTold = (first old new : RuntimeState) (lines : List (List ℕ)) (text mo
     → IsNode first.node → Runs Answered first lines text old → Answered old ask.rebalance (codes "plan total " ++ more) new
     → (total : ℕ) × IsRebalanced old.node total new.node × (codes "plan total " ++ more ≡ outcome_text new.node (Plan total))
 
-none : (old new : NodeState) → new ≡ old → AreWithin 1 old new
-none old new e = ([], omega arith, e)
-
-one : (old : NodeState) (event : Event) (new : NodeState) → Step old event new → AreWithin 1 old new
-one old event new h = (event ∷ [], omega arith, (new, h, refl))
-
 Run-append : (old mid new : NodeState) (first later : List Event) → Run old first mid → Run mid later new → Run old (first ++ later) new
 Run-append old mid new [] later e run = subst (λ n. Run n later new) e run
 Run-append old mid new (event ∷ first) later (next, step, rest) run = (next, step, Run-append next mid new first later rest run)
 
-by_command : (told : Told) (old : NodeState) (command : Asked) (text : List ℕ) (new : NodeState) → AnswersBy told old command text new → AreWithin 1 old new
-by_command told old (ask.create id bundle) text new (inl h) = none old new h.1
-by_command told old (ask.create id bundle) text new (inr (None, found, h)) = none old new h.1
-by_command told old (ask.create id bundle) text new (inr (Some config, found, (r, h, e))) = one old (Create id bundle config r) new h
-by_command told old (ask.start id) text new (r, h, e) = one old (Start id r) new h
-by_command told old (ask.kill id signal) text new (r, h, e) = one old (Kill id signal r) new h
-by_command told old (ask.delete id) text new (r, h, e) = one old (Delete id r) new h
-by_command told old (ask.state id) text new (r, h, e, same) = none old new same
-by_command told old ask.list text new h = none old new h.1
-by_command told old (ask.sets id) text new (r, h, e, same) = none old new same
-by_command told old ask.rebalance text new (r, h, e) = one old (Rebalance r) new h
-by_command told old ask.begin text new (r, h, e) = one old (Begin r) new h
-by_command told old ask.step text new (r, h, e) = one old (StepOn r) new h
-by_command told old ask.phase text new h = none old new h.1
-by_command told old ask.certificate text new (r, h, e, same) = none old new same
-by_command told old (ask.fork pid) text new (r, h, rest, e) = one old (Fork pid r) new (h, rest)
-by_command told old (ask.exit pid) text new (r, h, rest, e) = one old (Exit pid r) new (h, rest)
-by_command told old (ask.offline cpu) text new (r, h, rest, e) = one old (Offline cpu r) new (h, rest)
-by_command told old (ask.online cpu) text new (r, h, rest, e) = one old (Online cpu r) new (h, rest)
+is_call : (told : Told) (old : NodeState) (command : Asked) (text : List ℕ) (new : NodeState) → AnswersBy told old command text new
+    → IsCall told command old text new ⊎ IsNoCall told command old text new
+is_call told old (ask.create id bundle) text new (inl h) = inr (id, bundle, refl, h.1, inl h.0)
+is_call told old (ask.create id bundle) text new (inr (None, found, h)) = inr (id, bundle, refl, h.1, inr (h.0, found))
+is_call told old (ask.create id bundle) text new (inr (Some config, found, (r, h, e))) = inl (record { event = Create id bundle config r; its = (config, r, found, refl); step = h; answer = e })
+is_call told old (ask.start id) text new (r, h, e) = inl (record { event = Start id r; its = (r, refl); step = h; answer = e })
+is_call told old (ask.kill id signal) text new (r, h, e) = inl (record { event = Kill id signal r; its = (r, refl); step = h; answer = e })
+is_call told old (ask.delete id) text new (r, h, e) = inl (record { event = Delete id r; its = (r, refl); step = h; answer = e })
+is_call told old (ask.state id) text new (r, h, e, same) = inl (record { event = State id r; its = (r, refl); step = (h, same); answer = e })
+is_call told old ask.list text new h = inl (record { event = ListAll (listed old); its = (listed old, refl); step = (refl, h.1); answer = h.0 })
+is_call told old (ask.sets id) text new (r, h, e, same) = inl (record { event = SetsOf id r; its = (r, refl); step = (h, same); answer = e })
+is_call told old ask.rebalance text new (r, h, e) = inl (record { event = Rebalance r; its = (r, refl); step = h; answer = e })
+is_call told old ask.begin text new (r, h, e) = inl (record { event = Begin r; its = (r, refl); step = h; answer = e })
+is_call told old ask.step text new (r, h, e) = inl (record { event = StepOn r; its = (r, refl); step = h; answer = e })
+is_call told old ask.phase text new h = inl (record { event = PhaseIs old.phase; its = (old.phase, refl); step = (refl, h.1); answer = h.0 })
+is_call told old ask.certificate text new (r, h, e, same) = inl (record { event = ShowCertificate r; its = (r, refl); step = (h, same); answer = e })
+is_call told old (ask.fork pid) text new (r, h, rest, e) = inl (record { event = Fork pid r; its = (r, refl); step = (h, rest); answer = e })
+is_call told old (ask.exit pid) text new (r, h, rest, e) = inl (record { event = Exit pid r; its = (r, refl); step = (h, rest); answer = e })
+is_call told old (ask.offline cpu) text new (r, h, rest, e) = inl (record { event = Offline cpu r; its = (r, refl); step = (h, rest); answer = e })
+is_call told old (ask.online cpu) text new (r, h, rest, e) = inl (record { event = Online cpu r; its = (r, refl); step = (h, rest); answer = e })
 
-by_request : (old new : RuntimeState) (request : Wanted) (text : List ℕ) → AnswersRequest Answered old request text new → AreWithin 1 old.node new.node × (new.told ≡ old.told)
-by_request old new nothing text h = (none old.node new.node (ap (λ (s : RuntimeState). s.node) h.1), ap (λ (s : RuntimeState). s.told) h.1)
-by_request old new bad text h = (none old.node new.node (ap (λ (s : RuntimeState). s.node) h.1), ap (λ (s : RuntimeState). s.told) h.1)
+pub commands_are_calls : CommandsAreCalls
+commands_are_calls old new command text h = is_call old.told old.node command text new.node h.0
+
+-- at most one, which leads from the one node to the other
+abbrev AreOne : (List Event → Type 0) → NodeState → NodeState → Type 0
+AreOne AreMade old new = (events : List Event) × AreMade events × (length events ≤ 1) × Run old events new
+
+by_command : (told : Told) (old : NodeState) (command : Asked) (text : List ℕ) (new : NodeState) → AnswersBy told old command text new
+    → AreOne (λ events. CommandMakes told old command events text new) old new
+by_command told old command text new h =
+    elim (is_call told old command text new h) [
+      | inl c ↦ (c.event ∷ [], inl (c, refl), omega arith, (new, c.step, refl))
+      | inr (id, bundle, its, e, why) ↦ ([], inr ((id, bundle, its, e, why), refl), omega arith, e)
+    ]
+
+by_request : (old new : RuntimeState) (request : Wanted) (text : List ℕ) → AnswersRequest Answered old request text new
+    → AreOne (λ events. RequestMakes old.told old.node request events text new.node) old.node new.node × (new.told ≡ old.told)
+by_request old new nothing text h =
+    let same = ap (λ (s : RuntimeState). s.node) h.1 in
+    (([], (refl, h.0, same), omega arith, same), ap (λ (s : RuntimeState). s.told) h.1)
+by_request old new bad text h =
+    let same = ap (λ (s : RuntimeState). s.node) h.1 in
+    (([], (refl, h.0, same), omega arith, same), ap (λ (s : RuntimeState). s.told) h.1)
 by_request old new (asks command) text h = (by_command old.told old.node command text new.node h.0, ap (λ (s : RuntimeState). s.told) h.1)
 
-by_line : (old new : RuntimeState) (line : Option (List ℕ)) (text : List ℕ) → AnswersLine Answered old line text new → AreWithin 1 old.node new.node × (new.told ≡ old.told)
-by_line old new None text h = (none old.node new.node (ap (λ (s : RuntimeState). s.node) h.1), ap (λ (s : RuntimeState). s.told) h.1)
+by_line : (old new : RuntimeState) (line : Option (List ℕ)) (text : List ℕ) → AnswersLine Answered old line text new
+    → AreOne (λ events. LineMakes old.told old.node line events text new.node) old.node new.node × (new.told ≡ old.told)
+by_line old new None text h =
+    let same = ap (λ (s : RuntimeState). s.node) h.1 in
+    (([], (refl, h.0, same), omega arith, same), ap (λ (s : RuntimeState). s.told) h.1)
 by_line old new (Some line) text h = by_request old new (request_of (words_of line)) text h
 
 pub lines_are_calls : LinesAreCalls
-lines_are_calls old new [] text h = (([], omega arith, ap (λ (s : RuntimeState). s.node) h.1), ap (λ (s : RuntimeState). s.told) h.1)
+lines_are_calls old new [] text h =
+    let same = ap (λ (s : RuntimeState). s.node) h.1 in
+    record { events = []; made = (refl, h.0, same); few = omega arith; run = same; told = ap (λ (s : RuntimeState). s.told) h.1 }
 lines_are_calls old new (line ∷ lines) text (mid, first, more, answered, run, e) =
     let here = by_line old mid (kept line) first answered in
     let later = lines_are_calls mid new lines more run in
-    let few : length here.0.0 ≤ 1 = here.0.1 in
-    let fewer : length later.0.0 ≤ length lines = later.0.1 in (
-      (here.0.0 ++ later.0.0, omega (arith, length-append here.0.0 later.0.0, few, fewer), Run-append old.node mid.node new.node here.0.0 later.0.0 here.0.2 later.0.2),
-      later.1 ∙ here.1,
-    )
+    let few : length here.0.0 ≤ 1 = here.0.2 in
+    let fewer : length later.events ≤ length lines = later.few in
+    let made = subst (λ t. LinesMake t mid.node lines later.events more new.node) here.1 later.made in
+    record {
+      events = here.0.0 ++ later.events;
+      made = (mid.node, here.0.0, later.events, first, more, here.0.1, made, refl, e);
+      few = omega (arith, length-append here.0.0 later.events, few, fewer);
+      run = Run-append old.node mid.node new.node here.0.0 later.events here.0.3 later.run;
+      told = later.told ∙ here.1;
+    }
 
 pub rebalances_are_told : RunsRebalance → RebalancesAreTold
 rebalances_are_told leaves first old new lines text answer node run ((r, h, e), same) =
     let before = lines_are_calls first old lines text run in
-    (r, leaves first.node before.0.0 old.node r new.node node before.0.2 h, e)
+    (r, leaves first.node before.events old.node r new.node node before.run h, e)
 
 -- no other text begins so
 plan_told : (old new : NodeState) (more : List ℕ) (r : Result Outcome (OrMemory NodeFault)) → Headline old r new → codes "plan total " ++ more ≡ answer_text (outcome_text new) of_either r

@@ -1,13 +1,15 @@
 //! What holds of the definitions alone.
 ghost use Rattle.std.specs.Prelude.{◌≡◌};
-ghost use Rattle.runtime.specs.ScriptLaws.{LinesAreCalls, PlansAreTold, RebalancesAreTold};
+ghost use Rattle.runtime.specs.ScriptLaws.{CommandsAreCalls, LinesAreCalls, PlansAreTold, RebalancesAreTold};
 
 use crate::FIRST_PID;
 use node::laws::each_rebalance;
 
-/// Each answered line of a script is a call or event of the node, or changes nothing.
+/// Each command of a script is answered by the text of the call or event that it asks for, also where it only reads; but a
+/// `create` for which no config was found makes no call. So answered lines are at most one call or event each.
 pub fn lines_are_calls()
-    ensures { LinesAreCalls }
+    ensures commands { CommandsAreCalls }
+    ensures lines { LinesAreCalls }
 {}
 
 /// The headline of a rebalance that a script asks for, whatever lines were answered before it: the text that answers it

@@ -1,10 +1,11 @@
-ghost use Rattle.std.specs.Prelude.{IfErr, IfOk};
-ghost use Rattle.runtime.specs.Boots.{Boots, BootsNot, IsKernelOf};
+ghost use Rattle.std.specs.Prelude.{IfOk};
+ghost use Rattle.runtime.specs.Boots.{Boots, IsKernelOf};
 
-use crate::refusal::Refusal;
+use faults::OrMemory;
 use kernel_model::ModelKernel;
 use machine::Machine;
 use node::Node;
+use node::laws::first_kernels;
 use std::alloc::{AllocError, Global};
 
 /// The pid that the first process of a modelled kernel gets.
@@ -26,17 +27,21 @@ pub fn kernel_of(alloc: Global, machine: &Machine) -> Result<ModelKernel, AllocE
 
 /// A node with no container, over a modelled kernel that has the machine's CPUs and nodes.
 ///
-/// # Errors
-/// `Memory`, or what the kernel refuses as the node's group is made.
-pub fn boot(alloc: Global, machine: Machine) -> Result<Node<ModelKernel>, Refusal>
-    ensures booted { IfOk result (Boots machine) }
-    ensures refused { IfErr result (BootsNot machine) }
+/// The only error is want of memory: of a kernel that is new, and of which no write fails, nothing else stands against the
+/// node's group.
+pub fn boot(alloc: Global, machine: Machine) -> Result<Node<ModelKernel>, AllocError>
+    ensures { IfOk result (Boots machine) }
 {
-    let Ok(kernel) = kernel_of(alloc, &machine) else {
-        return Err(Refusal::Memory);
-    };
+    let kernel = kernel_of(alloc, &machine)?;
     match Node::new(alloc, kernel, machine) {
         Ok(node) => Ok(node),
-        Err(not_opened) => Err(Refusal::from(not_opened.error)),
+        Err(not_opened) => {
+            first_kernels();
+            not_opened.kernel.never_fails();
+            match not_opened.error {
+                OrMemory::Memory => Err(AllocError),
+                OrMemory::Fault(_) => unreachable!(),
+            }
+        }
     }
 }

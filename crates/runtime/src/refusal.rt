@@ -60,16 +60,6 @@ impl Refusal {
     }
 }
 
-impl From<NodeFault> for Refusal {
-    ghost use Rattle.runtime.specs.declared.refusal.Refusal.TheVariants.{Node};
-
-    ghost from_gives = { λ fault refusal. refusal ≡ Node fault };
-
-    fn from(fault: NodeFault) -> Refusal {
-        Refusal::Node(fault)
-    }
-}
-
 impl From<OrMemory<NodeFault>> for Refusal {
     ghost from_gives = { λ error refusal. refusal ≡ of_either error };
 

@@ -4,10 +4,9 @@ use Rattle.std.proofs.lemmas.Bool.{ne_eqb, false≢true}
 use Rattle.std.proofs.lemmas.Option.{none-some}
 use Rattle.std.specs.Prelude.{Option, Some, None, is_none, option_map, find, cond, Result, Ok, Err, is_ok, if◌then◌else◌}
 use Rattle.std.specs.FinSet as set
-use Rattle.cpu_set.specs.Ids.{Ids}
+use Rattle.cpu_set.specs.Ids.{Ids, is_empty}
 use Rattle.cpu_set.specs.Pointwise.{contains-intersection, is_subset-contains}
 use Rattle.std.specs.List.{AllByRecursion}
-use Rattle.cpuset_tree.specs.Effective.{is_empty}
 use Rattle.apply_plan.specs.declared.Entry.{Entry}
 use Rattle.apply_plan.specs.Holders.{Pairwise}
 use Rattle.apply_plan.specs.Targets.{HaveOtherGroups, AreTargetsApart}

@@ -1,8 +1,7 @@
 -- What the tests see to before they call.
 use Rattle.std.specs.Prelude.{◌≡◌, false, List, [], ◌∷◌}
 use Rattle.std.specs.List.{AllByRecursion}
-use Rattle.cpu_set.specs.Ids.{Ids}
-use Rattle.cpuset_tree.specs.Effective.{is_empty}
+use Rattle.cpu_set.specs.Ids.{Ids, is_empty}
 use Rattle.apply_plan.specs.declared.Entry.{Entry}
 use Rattle.apply_plan.specs.Targets.{HaveOtherGroups, AreTargetsApart}
 

@@ -1,7 +1,7 @@
 //! Whether what a test hands in meets the conditions of what it calls.
 ghost use Rattle.std.specs.Prelude.{◌≡◌, false, IsTrue};
 ghost use Rattle.std.specs.List.{AllByRecursion};
-ghost use Rattle.cpuset_tree.specs.Effective.{is_empty};
+ghost use Rattle.cpu_set.specs.Ids.{is_empty};
 ghost use Rattle.apply_plan.specs.Targets.{AreTargetsApart, IsPlaced, ArePlaced};
 ghost use Rattle.scenarios.specs.Conditions.{MayFollow, CanStand};
 

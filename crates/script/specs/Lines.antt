@@ -1,6 +1,7 @@
 -- The lines of a script, and the words of a line.
 use Rattle.std.specs.Prelude.{ℕ, Bool, ◌||◌, ◌==◌, nat_lt, nat_le, if◌then◌else◌, List, ◌++◌, length, Option, None, Some}
 use Rattle.std.specs.List.{filter, slice_split}
+use Rattle.script.specs.declared.line_buffer.TheConstants.{MOST_LINE_BYTES}
 
 -- a line feed ends a line
 abbrev pub is_feed : ℕ → Bool
@@ -22,9 +23,9 @@ is_some_word word = nat_lt 0 (length word)
 abbrev pub words_of : List ℕ → List (List ℕ)
 words_of line = filter is_some_word (slice_split is_blank line)
 
--- the line, unless it has more than 8,192 bytes
+-- the line, unless it has more bytes than a line may have
 abbrev pub kept : List ℕ → Option (List ℕ)
-kept line = if nat_le (length line) 8192 then Some line else None
+kept line = if nat_le (length line) MOST_LINE_BYTES then Some line else None
 
 -- the line with a piece more behind it; one that is too long stays so
 abbrev pub with_piece : Option (List ℕ) → List ℕ → Option (List ℕ)

@@ -2,6 +2,7 @@
 ghost use Rattle.std.specs.Prelude.{◌≡◌};
 ghost use Rattle.script.specs.TextLaws.{NoTextIsBad};
 
+use crate::line_buffer::MOST_LINE_BYTES;
 use crate::running::MOST_READS;
 
 /// A line that is not UTF-8 is refused.
@@ -9,7 +10,8 @@ pub fn no_text_is_bad()
     ensures { NoTextIsBad }
 {}
 
-/// A script has at most 1,000,000 reads to come to its end.
+/// A script has at most 1,000,000 reads to come to its end, and a line of it at most 8,192 bytes.
 pub fn the_limits()
-    ensures { MOST_READS ≡ 1000000 }
+    ensures reads { MOST_READS ≡ 1000000 }
+    ensures line { MOST_LINE_BYTES ≡ 8192 }
 {}

@@ -13,6 +13,7 @@ mod word;
 
 pub use command::{Command, Request};
 pub use laws::{no_text_is_bad, the_limits};
+pub use line_buffer::MOST_LINE_BYTES;
 pub use request::read_request;
 pub use running::{MOST_READS, run_script};
 pub use script_fault::ScriptFault;

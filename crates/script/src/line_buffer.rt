@@ -1,15 +1,16 @@
 ghost use Rattle.std.specs.Prelude.{◌≡◌, ◌≤◌, ℕ, List, [], Option, Some, None, take, if◌then◌else◌, MatchOption};
 ghost use Rattle.script.specs.Lines.{with_piece};
+ghost use Rattle.script.specs.declared.line_buffer.TheConstants.{MOST_LINE_BYTES};
 
 use std::marker::Model;
 
 /// The most bytes of a line, without its line feed.
-const ROOM: usize = 8192;
+pub const MOST_LINE_BYTES: usize = 8_192;
 
 /// A line that comes piece by piece, or none where it is too long. It takes no memory.
 #[derive(Drop)]
 pub struct LineBuffer {
-    bytes: [u8; ROOM],
+    bytes: [u8; MOST_LINE_BYTES],
     len: usize,
     is_long: bool,
 }
@@ -19,7 +20,7 @@ impl Model for LineBuffer {
 
     ghost view = { λ b. if b.is_long then None else Some (take b.len b.bytes) };
 
-    ghost invariant = { λ b. b.len ≤ 8192 };
+    ghost invariant = { λ b. b.len ≤ MOST_LINE_BYTES };
 }
 
 impl LineBuffer {
@@ -28,7 +29,7 @@ impl LineBuffer {
         ensures { result ≡ Some [] }
     {
         LineBuffer {
-            bytes: [0; ROOM],
+            bytes: [0; MOST_LINE_BYTES],
             len: 0,
             is_long: false,
         }
@@ -41,7 +42,7 @@ impl LineBuffer {
         if self.is_long {
             return;
         }
-        if piece.len() > ROOM - self.len {
+        if piece.len() > MOST_LINE_BYTES - self.len {
             self.is_long = true;
             return;
         }

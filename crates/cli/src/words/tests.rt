@@ -89,7 +89,7 @@ fn faults_and_help(rt: HostRuntime) -> Result<(), Fail> {
         (&["run", "--help"], false),
     ];
     for (words, is_mistake) in cases {
-        let Err(ParseFault::Line(error)) = parse(rt.alloc(), words) else {
+        let Err(OrMemory::Fault(error)) = parse(rt.alloc(), words) else {
             return Err(Fail::from("words are taken that are no command line"));
         };
         assert!(rt; error.use_stderr() == is_mistake, "of {words:?}");

@@ -2,6 +2,7 @@ use super::write_list;
 use crate::output::put;
 use crate::printing::print;
 use cpu_set::{CPU_LIMIT, IdSet};
+use std::alloc::Global;
 use std::io;
 use std::io::{ErrorKind, Write};
 use std::test::Fail;
@@ -114,26 +115,63 @@ fn stops_with_the_writer(rt: HostRuntime) -> Result<(), Fail> {
     Ok(())
 }
 
+// What such a writer has of the list, and its fault.
+fn cut_off(
+    alloc: Global,
+    set: &IdSet,
+    width: usize,
+    writes: usize,
+    end: End,
+) -> (Vec<u8>, Option<ErrorKind>) {
+    let mut taken = Vec::new(alloc);
+    let mut w = Narrow {
+        taken: &mut taken,
+        width,
+        writes,
+        end,
+    };
+    let outcome = write_list(set, &mut w);
+    (taken, outcome.err().map(|e| e.kind()))
+}
+
+// A number, a hyphen and a comma are each written by themselves, so a writer may also stop inside one of them. Each row has
+// what it has after so many writes.
 #[test]
 fn stops_in_mid_list(rt: HostRuntime) -> Result<(), Fail> {
-    let want = b"0-2,5,7-8".as_slice();
-    let set = set_of(&[0, 1, 2, 5, 7, 8]);
+    let rows: [(&[u16], usize, &[&str]); 4] = [
+        (
+            &[0, 1, 2, 5, 7, 8],
+            1,
+            &[
+                "",
+                "0",
+                "0-",
+                "0-2",
+                "0-2,",
+                "0-2,5",
+                "0-2,5,",
+                "0-2,5,7",
+                "0-2,5,7-",
+                "0-2,5,7-8",
+            ],
+        ),
+        (
+            &[100, 101, 102],
+            2,
+            &["", "10", "100", "100-", "100-10", "100-102"],
+        ),
+        (&[100, 101, 102], 3, &["", "100", "100-", "100-102"]),
+        (&[100, 101, 102], 9, &["", "100", "100-", "100-102"]),
+    ];
     for end in [End::Fails, End::IsInterrupted, End::TakesNone] {
-        for writes in 0..want.len() + 1 {
-            let mut taken = Vec::new(rt.alloc());
-            let mut w = Narrow {
-                taken: &mut taken,
-                width: 1,
-                writes,
-                end,
-            };
-            let outcome = write_list(&set, &mut w);
-            if writes == want.len() {
-                assert!(rt; outcome.is_ok());
-            } else {
-                assert_eq!(rt; outcome.err().map(|e| e.kind()), Some(end.kind()));
+        for (numbers, width, fronts) in rows {
+            let set = set_of(numbers);
+            for writes in 0..fronts.len() {
+                let (taken, fault) = cut_off(rt.alloc(), &set, width, writes, end);
+                let is_whole = writes + 1 == fronts.len();
+                assert_eq!(rt; fault, if is_whole { None } else { Some(end.kind()) });
+                assert_eq!(rt; taken.as_slice(), fronts[writes].as_bytes());
             }
-            assert_eq!(rt; taken.as_slice(), &want[..writes]);
         }
     }
     Ok(())

@@ -5,7 +5,7 @@ use Rattle.certificate_text.proofs.Zips.{zip_at, zip_append}
 use Rattle.certificate_text.proofs.offer.read_offers.Goals as goal
 
 pub returns-in_default-read_offer-clause-bad : goal.returns-in_default-read_offer-clause-bad
-returns-in_default-read_offer-clause-bad c = λ bad os h.
+returns-in_default-read_offer-clause-bad c = λ _ bad os h.
     let front = c.loop-word.invariant.0 in
     let whole : words c.args.text.now ≡ front ++ c.in-Some.word.now ∷ words c.in-Some.after.now =
     c.loop-word.invariant.1 ∙ ap (λ ws. front ++ ws) c.in-Some.ensures.0 in
@@ -22,7 +22,7 @@ loop-word-preserved c =
     (front ++ c.in-Some.word.now ∷ [], whole, rw c.in_ok-push.ensures.items (zip_append IsOfferWord front (c.in-Some.word.now ∷ []) c.loop-word.offers.items (offer ∷ []) c.loop-word.invariant.2 one))
 
 pub returns-in_default-read_offer-2-clause-bad : goal.returns-in_default-read_offer-2-clause-bad
-returns-in_default-read_offer-2-clause-bad c = λ bad os h.
+returns-in_default-read_offer-2-clause-bad c = λ _ bad os h.
     let front = c.loop-word.invariant.0 in
     let whole : words c.args.text.now ≡ front ++ c.loop-word.rest.now ∷ [] =
     c.loop-word.invariant.1 ∙ ap (λ ws. front ++ ws) c.in_default.ensures in

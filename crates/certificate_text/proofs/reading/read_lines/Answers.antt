@@ -7,10 +7,10 @@ returns-in-Err-Memory-clause-error c =
     read_asks c.args.text.now c.loop-line.rest.now c.in-Some.line.now c.in-Some.after.now c.loop-line.draft c.loop-line.number c.loop-line.invariant
     c.in-Some.ensures.0 (rw c.in-Err-Memory.field-0-is at c.in-Err-Memory.ensures)
 
-pub returns-in-Err-Bad-clause-error : goal.returns-in-Err-Bad-clause-error
-returns-in-Err-Bad-clause-error c =
+pub returns-in-Err-Fault-clause-error : goal.returns-in-Err-Fault-clause-error
+returns-in-Err-Fault-clause-error c =
     read_bad c.args.text.now c.loop-line.rest.now c.in-Some.line.now c.in-Some.after.now c.loop-line.draft c.loop-line.number c.loop-line.invariant
-    c.in-Some.ensures.0 (rw c.in-Err-Bad.field-0-is at c.in-Err-Bad.ensures)
+    c.in-Some.ensures.0 (rw c.in-Err-Fault.field-0-is at c.in-Err-Fault.ensures)
 
 pub loop-line-preserved : goal.loop-line-preserved
 loop-line-preserved c =

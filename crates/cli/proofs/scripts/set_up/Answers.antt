@@ -13,4 +13,4 @@ pub returns-in-Ok-start_up : goal.returns-in-Ok-start_up
 returns-in-Ok-start_up g c =
     let small : length c.as_slice.result.now ≤ MOST_BYTES = omega (arith, c.as_slice.ensures.len, c.in-Ok.ensures.size) in
     leads_to _ _ c.in-Ok-table_in.table c.in-Ok.text.items c.as_slice.result.now (Ok c.in-Ok-start_up.node) c.in-Ok.ensures.bytes c.as_slice.ensures.value small c.in-Ok-table_in.ensures.table
-    (rw c.as_ref.ensures.value at c.in-Ok-start_up.ensures)
+    (rw c.as_ref.ensures.value at c.in-Ok-start_up.ensures.ready)

@@ -1,7 +1,7 @@
 use Rattle.std.proofs.Common.{[], ◌∷◌, refl}
 use lib.Utf8.{encode}
 use Rattle.cpu_list.proofs.Printed.{printed_more}
-use Rattle.cpu_list.proofs.SetRanges.{text_whole, text_left}
+use Rattle.cpu_list.proofs.SetTexts.{text_whole, text_left}
 use Rattle.cpu_list.proofs.printing.print.Goals as goal
 
 pub loop-first-init : goal.loop-first-init

@@ -2,7 +2,7 @@ use Rattle.std.proofs.Common.{◌≡◌, ◌++◌, string_bytes}
 use denote.Text.{Utf8}
 use denote.Shadow.{shadow}
 use Rattle.cpu_list.specs.CanonicalList.{list_text}
-use Rattle.cpu_list.specs.RangesFrom.{text_after}
+use Rattle.cpu_list.specs.TextAfter.{text_after}
 use Rattle.cpu_list.proofs.printing.print.Given as goal
 
 abbrev pub invariant-loop-first : goal.invariant-loop-first

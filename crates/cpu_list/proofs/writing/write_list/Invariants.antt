@@ -1,5 +1,5 @@
 use Rattle.cpu_list.specs.CanonicalList.{list_text}
-use Rattle.cpu_list.specs.RangesFrom.{text_after}
+use Rattle.cpu_list.specs.TextAfter.{text_after}
 use Rattle.cpu_list.specs.Sending.{HasSent}
 use Rattle.cpu_list.proofs.writing.write_list.Given as goal
 

@@ -9,7 +9,7 @@ use Rattle.proctable.specs.TableState.{TableState}
 use Rattle.proctable.specs.TableAnswers.{spawn_refusal, Spawns}
 use Rattle.kernel_model.specs.declared.fault.KernelFault.TheVariants.{NoGroup}
 use Rattle.kernel_model.specs.Faults.{of_proc}
-use Rattle.kernel_model.specs.Refusals.{or_then}
+use Rattle.std.specs.Option.{option_or}
 use Rattle.kernel_model.specs.KernelState.{KernelState}
 use Rattle.kernel_model.specs.KernelLemmas.{each_case_keeps}
 use Rattle.kernel_model.specs.WellFormed.{IsWellFormed}
@@ -19,7 +19,7 @@ use Rattle.kernel_model.proofs.model_kernel.ModelKernelKernel.spawn.Goals as goa
 module _ (old : KernelState) (well_formed : IsWellFormed old) (g : Group) (there : has_group old.tree g ≡ true) (new : TableState) where
   spawned : (r : Result ℕ (OrMemory ProcFault)) → Spawns old.table g r new → IsWellFormed (record old { table = new })
   spawned (Ok pid) h = ((each_case_keeps old (record old { table = new }) well_formed).spawn g (Ok pid) (
-    ap (λ (b : Bool). or_then (if not b then Some NoGroup else None) (option_map of_proc (spawn_refusal old.table))) there
+    ap (λ (b : Bool). option_or (if not b then Some NoGroup else None) (option_map of_proc (spawn_refusal old.table))) there
         ∙ ap (option_map of_proc) h.0,
     record { does = h.1; rest = refl },
   )).well_formed

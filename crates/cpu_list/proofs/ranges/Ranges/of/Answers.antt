@@ -1,5 +1,0 @@
-use Rattle.cpu_list.proofs.SetRanges.{ranges_first}
-use Rattle.cpu_list.proofs.ranges.Ranges.of.Goals as goal
-
-pub returns : goal.returns
-returns c = ranges_first _ _ c.first.ensures.first c.first.ensures.in_range

@@ -1,0 +1,15 @@
+-- What a call does to a state: it answers the first thing that stands against it and changes nothing, or does what it is for.
+use Rattle.std.specs.Prelude.{◌≡◌, Option, Some, None, Result, Ok, Err}
+use Rattle.faults.specs.declared.or_memory.OrMemory.{OrMemory}
+use Rattle.faults.specs.declared.or_memory.OrMemory.TheVariants.{Memory, Fault}
+
+module _ {S A F : Type 0} (refusal : Option F) (Does : A → S → Type 0) (old : S) where
+  abbrev pub Decides : Result A F → S → Type 0
+  Decides (Ok value) new = (refusal ≡ None) × Does value new
+  Decides (Err fault) new = (refusal ≡ Some fault) × (new ≡ old)
+
+  -- the same of a call that needs memory, which is asked for only once nothing stands against the call
+  abbrev pub Grows : Result A (OrMemory F) → S → Type 0
+  Grows (Ok value) new = (refusal ≡ None) × Does value new
+  Grows (Err Memory) new = (refusal ≡ None) × (new ≡ old)
+  Grows (Err (Fault fault)) new = (refusal ≡ Some fault) × (new ≡ old)

@@ -1,0 +1,26 @@
+-- What the text of a node's certificate proves to whoever checks it.
+use Rattle.std.specs.Prelude.{◌≡◌, ℕ, Some, length}
+use Rattle.certificate.specs.IsShortage.{asked, chosen, offered}
+use Rattle.certificate_text.specs.Verdict.{IsVerdict}
+use Rattle.certificate_text.specs.Written.{IsHeld, text_of}
+use Rattle.certificate_text.specs.declared.certificates.Certificate.{Certificate}
+use Rattle.certificate_text.specs.declared.certificates.Certificate.TheVariants as certificate
+use Rattle.certificate_text.specs.declared.checking.Verdict.{Verdict}
+use Rattle.certificate_text.specs.declared.checking.Verdict.TheVariants.{Plan, Short}
+use Rattle.node.specs.NodeState.{NodeState}
+use Rattle.node.specs.IsNode.{IsNode}
+use Rattle.node.specs.Headline.{IsRebalanced}
+
+-- the total that a certificate claims, or how many CPUs its members ask for and how many are there
+abbrev pub verdict_of : Certificate → Verdict
+verdict_of (certificate.Plan rows sets prices total) = Plan total
+verdict_of (certificate.Short rows members) = Short (asked (chosen rows members)) (length (offered (chosen rows members)))
+
+-- the text of what a node worked out last proves just that, if its numbers are such as the types hold
+abbrev pub LastIsProved : Type 0
+LastIsProved = (n : NodeState) → IsNode n → (c : Certificate) → n.last ≡ Some c → IsHeld c → IsVerdict (text_of c) (verdict_of c)
+
+-- and after a rebalance it proves the very total that was answered
+abbrev pub TotalIsProved : Type 0
+TotalIsProved = (old n : NodeState) (total : ℕ) → IsNode n → IsRebalanced old total n → (c : Certificate) → n.last ≡ Some c → IsHeld c
+    → IsVerdict (text_of c) (Plan total)
