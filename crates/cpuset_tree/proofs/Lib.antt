@@ -2,7 +2,9 @@ pub mod KeptLemmas
 pub mod PlaceLemmas
 pub mod ShareLemmas
 pub mod ChangeLemmas
+pub mod ParentLemmas
 pub mod RefreshLemmas
+pub mod LeafLemmas
 pub mod SoundLemmas
 pub mod NodeLemmas
 pub mod WriteLemmas

@@ -15,7 +15,7 @@ use Rattle.cpuset_tree.specs.declared.groups.Resource.TheVariants.{Cpus, Mems}
 use Rattle.cpuset_tree.specs.TreeState.{GroupEntry}
 use Rattle.cpuset_tree.specs.Groups.{same_group, entry_among, root_among}
 use Rattle.cpuset_tree.specs.Effective.{standing, effective}
-use Rattle.cpuset_tree.specs.Kept.{entry_of_kept, listed, HasParentAmong, IsInOrder, IsOrder, share_of, requested_of, top_of, KeepsEffective, AllKept, IsSound, effective_kept, stands, with_requested, with_effective, is_older, is_from, may_change, passed, IsGranted, OthersGranted, ChangesAt, bare, OnlyKeptDiffers}
+use Rattle.cpuset_tree.specs.Kept.{entry_of_kept, listed, HasParentAmong, IsInOrder, IsOrder, share_of, requested_of, top_of, KeepsEffective, AllKept, IsSound, effective_kept, stands, with_requested, with_effective, is_older, is_from, may_change, passed, IsGranted, OthersGranted, ElsewhereGranted, ChangesAt, bare, OnlyKeptDiffers}
 use Rattle.cpuset_tree.specs.GroupLemmas.{same_group-key, same_group-equal, entry_among-there, standing_alike}
 use Rattle.cpuset_tree.specs.WellFormedLemmas.{serial_below}
 use Rattle.cpuset_tree.proofs.KeptLemmas.{listed_at, key_is_absent, listed-others, AllKept-others, kept-effective, IsOrder-drop, IsFalling-listed}
@@ -23,11 +23,11 @@ use Rattle.cpuset_tree.proofs.PlaceLemmas.{place, SamePlaces-from_kept, same_fro
 use Rattle.cpuset_tree.proofs.NodeLemmas.{KeptThere}
 
 -- a fact on a parent among the older groups, at the parent that a group has
-at_parent : (s : Slab Cgroup) (older : List ℕ) (n : Cgroup) → HasParentAmong s n.parent older → (p : Group) → n.parent ≡ Some p → HasParentAmong s (Some p) older
+pub at_parent : (s : Slab Cgroup) (older : List ℕ) (n : Cgroup) → HasParentAmong s n.parent older → (p : Group) → n.parent ≡ Some p → HasParentAmong s (Some p) older
 at_parent s older n parent p of = subst (λ (o : Option Group). HasParentAmong s o older) of parent
 
 -- what is kept of a group of these keys
-kept_among : (s : Slab Cgroup) (next : ℕ) (keys : List ℕ) → IsInOrder s next keys → (p : Group) → is_some (entry_among (listed s keys) p) ≡ true
+pub kept_among : (s : Slab Cgroup) (next : ℕ) (keys : List ℕ) → IsInOrder s next keys → (p : Group) → is_some (entry_among (listed s keys) p) ≡ true
     → (n : Cgroup) × (get s p.key ≡ Some n) × (n.group ≡ p)
 kept_among s next [] _ p there = absurd (both_ways false refl there)
 kept_among s next (k ∷ older) (m, at, knows, below, parent, rest) p there =
@@ -40,7 +40,7 @@ kept_among s next (k ∷ older) (m, at, knows, below, parent, rest) p there =
 
 module _ (r : Resource) (s : Slab Cgroup) (top : Ids) where
   -- what a group is to have is what it has in effect, if the older groups keep what they have
-  stands-effective : (next : ℕ) (older : List ℕ) (n : Cgroup) → IsInOrder s next older → AllKept r s top older → HasParentAmong s n.parent older
+  pub stands-effective : (next : ℕ) (older : List ℕ) (n : Cgroup) → IsInOrder s next older → AllKept r s top older → HasParentAmong s n.parent older
       → stands r s top n ≡ standing n.parent (share_of r n).requested top (effective (requested_of r) top (listed s older))
   stands-effective next older n order kept parent =
       standing_alike (requested_of r) top n.parent (share_of r n).requested _ _ (λ p of. kept-effective r s top next older order kept p (at_parent s older n parent p of))
@@ -57,7 +57,7 @@ module _ (r : Resource) (s : Slab Cgroup) (top : Ids) where
       ] refl
 
 -- a group is to have the same where the same is kept of its parent
-stands_alike : (r : Resource) (old new : Slab Cgroup) (top : Ids) (n : Cgroup)
+pub stands_alike : (r : Resource) (old new : Slab Cgroup) (top : Ids) (n : Cgroup)
     → ((p : Group) → n.parent ≡ Some p → effective_kept r (get new p.key) ≡ effective_kept r (get old p.key)) → stands r new top n ≡ stands r old top n
 stands_alike r old new top n same = standing_alike (requested_of r) top n.parent (share_of r n).requested _ _ same
 
@@ -81,25 +81,33 @@ requested_effective Cpus ids n = refl
 requested_effective Mems ids n = refl
 
 -- after a write of what one group requests, all others are granted what is kept of them
-pub OthersGranted-written : (r : Resource) (ids : Ids) (old mid : Slab Cgroup) (keys : List ℕ) (online nodes : Ids) (root : Group) (next : ℕ) (g : Group)
-    → IsSound old keys online nodes root next → KeptThere old keys g → ChangesAt old mid g.key (with_requested r ids)
-    → OthersGranted r mid (top_of r online nodes) g.serial
-OthersGranted-written r ids old mid keys online nodes root next g sound there change key n at quiet =
+module _ (r : Resource) (ids : Ids) (old mid : Slab Cgroup) (keys : List ℕ) (online nodes : Ids) (root : Group) (next : ℕ) (g : Group)
+    (sound : IsSound old keys online nodes root next) (change : ChangesAt old mid g.key (with_requested r ids)) where
+  pub ElsewhereGranted-written : ElsewhereGranted r mid (top_of r online nodes) g.key
+  ElsewhereGranted-written key n ne at =
+      let at_old : get old key ≡ Some n = sym (change.others key ne) ∙ at in
+      IsGranted-kept r old (top_of r online nodes) next keys sound.in_order (sound.all_kept r) key n (sound.complete key (ap is_some at_old)) at_old
+      ∙ sym (stands_alike r old mid (top_of r online nodes) n (λ p of. same_effective r (get mid p.key) (get old p.key)
+      (same_from_change (with_requested r ids) (kept_in r) (requested_effective r ids) old mid g.key change p.key)))
+
+  -- and the group is where it was
+  pub group_at-written : KeptThere old keys g → (n : Cgroup) → get mid g.key ≡ Some n → n.group ≡ g
+  group_at-written there n at =
+      let is : n ≡ with_requested r ids there.kept =
+      same_Some n (with_requested r ids there.kept) (sym at ∙ change.changed ∙ ap (option_map (with_requested r ids)) there.at) in
+      ap (λ (q : Group × Option Group). q.0) (ap place is ∙ requested_place r ids there.kept) ∙ same_group-equal there.kept.group g there.same
+
+-- a write of a group can change the group itself
+pub own_change : (g : Group) (n : Cgroup) → n.group ≡ g → may_change g.serial n ≡ true
+own_change g n is = or_right (is_from g.serial n.parent) (n.group.serial == g.serial) (eq-eqb n.group.serial g.serial (ap (λ (h : Group). h.serial) is))
+
+pub OthersGranted-elsewhere : (r : Resource) (s : Slab Cgroup) (top : Ids) (g : Group) → ((n : Cgroup) → get s g.key ≡ Some n → n.group ≡ g)
+    → ElsewhereGranted r s top g.key → OthersGranted r s top g.serial
+OthersGranted-elsewhere r s top g here elsewhere key n at quiet =
     ⊎_elim
-    (λ e. absurd (both_ways (may_change g.serial n) quiet (or_right (is_from g.serial n.parent) (n.group.serial == g.serial) (eq-eqb n.group.serial g.serial (own e)))))
-    (λ ne.
-    let at_old : get old key ≡ Some n = sym (change.others key ne) ∙ at in
-    IsGranted-kept r old (top_of r online nodes) next keys sound.in_order (sound.all_kept r) key n (sound.complete key (ap is_some at_old)) at_old
-    ∙ sym (stands_alike r old mid (top_of r online nodes) n (λ p of. same_effective r (get mid p.key) (get old p.key)
-    (same_from_change (with_requested r ids) (kept_in r) (requested_effective r ids) old mid g.key change p.key))))
+    (λ e. absurd (both_ways (may_change g.serial n) quiet (own_change g n (here n (ap (get s) (sym e) ∙ at)))))
+    (λ ne. elsewhere key n ne at)
     (cases_eq key g.key)
-  where
-    own : key ≡ g.key → n.group.serial ≡ g.serial
-    own e =
-        let is : n ≡ with_requested r ids there.kept =
-        same_Some n (with_requested r ids there.kept) (sym at ∙ ap (get mid) e ∙ change.changed ∙ ap (option_map (with_requested r ids)) there.at) in
-        ap (λ (q : Group × Option Group). q.0.serial) (ap place is ∙ requested_place r ids there.kept)
-        ∙ ap (λ (h : Group). h.serial) (same_group-equal there.kept.group g there.same)
 
 -- only the root has no parent
 root_alone : (s : Slab Cgroup) (next : ℕ) (keys : List ℕ) → IsInOrder s next keys → (root : Group) → root_among (listed s keys) ≡ Some root
@@ -172,13 +180,13 @@ given_bare Cpus ids n = refl
 given_bare Mems ids n = refl
 
 module _ (r : Resource) (s : Slab Cgroup) (top : Ids) (written : ℕ) (n : Cgroup) where
-  passed_changed : may_change written n ≡ true → passed r s top written n ≡ with_effective r (stands r s top n) n
+  pub passed_changed : may_change written n ≡ true → passed r s top written n ≡ with_effective r (stands r s top n) n
   passed_changed e = cond-true (may_change written n) (with_effective r (stands r s top n) n) n e
 
   passed_kept : may_change written n ≡ false → passed r s top written n ≡ n
   passed_kept e = cond-false (may_change written n) (with_effective r (stands r s top n) n) n e
 
-  passed_bare : bare r (passed r s top written n) ≡ bare r n
+  pub passed_bare : bare r (passed r s top written n) ≡ bare r n
   passed_bare = elim (may_change written n) as (λ t. may_change written n ≡ t → bare r (passed r s top written n) ≡ bare r n) [
     | true ↦ λ e. ap (bare r) (passed_changed e) ∙ given_bare r (stands r s top n) n
     | false ↦ λ e. ap (bare r) (passed_kept e)

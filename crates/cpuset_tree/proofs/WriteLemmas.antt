@@ -68,7 +68,7 @@ IsSound-refreshed r old new keys online nodes now all root next sound places hel
 -- what a group requests of a resource is written
 module _ (r : Resource) (ids : Ids) (old mid : Slab Cgroup) (keys : List ℕ) (online nodes : Ids) (root : Group) (next : ℕ) (g : Group)
     (sound : IsSound old keys online nodes root next) (change : ChangesAt old mid g.key (with_requested r ids)) where
-  written_places : SamePlaces old mid
+  pub written_places : SamePlaces old mid
   written_places = same_from_change (with_requested r ids) _ (requested_place r ids) old mid g.key change
 
   pub written_order : IsOrder mid keys

@@ -1,5 +1,5 @@
 -- How a `Tree` keeps its groups, and what it keeps of them. No public clause cites this module.
-use Rattle.std.specs.Prelude.{◌≡◌, ◌≢◌, ℕ, ◌<◌, Bool, true, false, ◌||◌, ◌==◌, nat_le, nat_lt, if◌then◌else◌, List, [], ◌∷◌, Option, Some, None, is_some, option_map, string_bytes}
+use Rattle.std.specs.Prelude.{◌≡◌, ◌≢◌, ℕ, ◌<◌, ◌≤◌, Bool, true, false, ◌||◌, ◌==◌, nat_le, nat_lt, if◌then◌else◌, List, [], ◌∷◌, Option, Some, None, is_some, option_map, string_bytes}
 use Rattle.std.specs.List.{list_any}
 use Rattle.std.specs.FinSet as set
 use Rattle.slab.specs.Slab.{Slab, get}
@@ -73,6 +73,10 @@ abbrev pub AllKept : Resource → Slab Cgroup → Ids → List ℕ → Type 0
 AllKept r s top [] = Unit {0}
 AllKept r s top (key ∷ older) = ((n : Cgroup) → get s key ≡ Some n → KeepsEffective r top (listed s older) n) × AllKept r s top older
 
+-- no group has a newer parent than the one of this serial
+abbrev pub AreParentsUpTo : Slab Cgroup → ℕ → Type 0
+AreParentsUpTo s newest = (key : ℕ) (n : Cgroup) (p : Group) → get s key ≡ Some n → n.parent ≡ Some p → p.serial ≤ newest
+
 -- the slab's groups are those of these keys, in order, with their effective sets
 pub record IsSound (s : Slab Cgroup) (keys : List ℕ) (online nodes : Ids) (root : Group) (next : ℕ) : Type 0 where
   pub in_order : IsInOrder s next keys
@@ -140,6 +144,10 @@ IsGranted r s top n = (share_of r n).effective ≡ stands r s top n
 -- the same of each group that a write of the group of this serial can't change
 abbrev pub OthersGranted : Resource → Slab Cgroup → Ids → ℕ → Type 0
 OthersGranted r s top written = (key : ℕ) (n : Cgroup) → get s key ≡ Some n → may_change written n ≡ false → IsGranted r s top n
+
+-- the same of each group under another key than this one
+abbrev pub ElsewhereGranted : Resource → Slab Cgroup → Ids → ℕ → Type 0
+ElsewhereGranted r s top key = (other : ℕ) (n : Cgroup) → other ≢ key → get s other ≡ Some n → IsGranted r s top n
 
 -- a change of the group under one key, by f
 pub record ChangesAt (old new : Slab Cgroup) (key : ℕ) (f : Cgroup → Cgroup) : Type 0 where

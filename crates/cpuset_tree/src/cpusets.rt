@@ -9,7 +9,7 @@ ghost use Rattle.cpuset_tree.specs.TreeWellFormed.{IsWellFormed};
 ghost use Rattle.cpuset_tree.specs.TreeLaws.{RunsUpThePath};
 
 use crate::groups::{Cgroup, Resource, Share, request_at};
-use crate::refresh::refresh;
+use crate::refresh::{refresh, refresh_written};
 use crate::{Group, SERIAL_LIMIT, TreeFault};
 use cpu_set::IdSet;
 use faults::OrMemory;
@@ -29,6 +29,8 @@ pub struct Tree {
     // The keys of the groups, the newest first.
     order: VecDeque<usize>,
     root: Group,
+    // No group has a newer parent than the one of this serial.
+    newest_parent: u64,
     online: IdSet,
     nodes: IdSet,
     next_serial: u64,
@@ -41,7 +43,7 @@ impl Model for Tree {
 
     ghost coded = { tree_code };
 
-    ghost use Rattle.cpuset_tree.specs.Kept.{listed, IsSound};
+    ghost use Rattle.cpuset_tree.specs.Kept.{listed, IsSound, AreParentsUpTo};
 
     ghost view = { λ t. record {
       groups = listed t.groups t.order.items;
@@ -50,7 +52,7 @@ impl Model for Tree {
       next_serial = t.next_serial;
     } };
 
-    ghost invariant = { λ t. IsSound t.groups t.order.items t.online t.nodes t.root t.next_serial };
+    ghost invariant = { λ t. IsSound t.groups t.order.items t.online t.nodes t.root t.next_serial × AreParentsUpTo t.groups t.newest_parent };
 }
 
 impl Tree {
@@ -89,6 +91,7 @@ impl Tree {
             groups,
             order,
             root,
+            newest_parent: 0,
             online,
             nodes,
             next_serial: first_serial + 1,
@@ -208,6 +211,7 @@ impl Tree {
             cpus: Share::unrequested(cpus),
             mems: Share::unrequested(mems),
         });
+        self.newest_parent = self.newest_parent.max(parent.serial);
         self.next_serial += 1;
         Ok(group)
     }
@@ -299,7 +303,14 @@ impl Tree {
     {
         let top = self.whole(resource);
         request_at(&mut self.groups, group.key, resource, ids);
-        refresh(&mut self.groups, &self.order, resource, &top, group.serial);
+        refresh_written(
+            &mut self.groups,
+            &self.order,
+            self.newest_parent,
+            resource,
+            &top,
+            group,
+        );
     }
 
     /// Says which CPUs are online from now on, and brings all groups up to date; what they request stays.

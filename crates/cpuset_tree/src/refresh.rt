@@ -1,7 +1,8 @@
 //! What is kept of the groups as their effective sets, brought up to date.
-ghost use Rattle.std.specs.Prelude.{◌≡◌, ◌≤◌, length, drop};
+ghost use Rattle.std.specs.Prelude.{◌≡◌, ◌≤◌, Some, length, drop};
 ghost use Rattle.slab.specs.Slab.{get};
-ghost use Rattle.cpuset_tree.specs.Kept.{effective_kept, stands, passed, is_older as older, OthersGranted, ChangesAt, OnlyKeptDiffers, AllKept, IsOrder, IsInOrder};
+ghost use Rattle.cpuset_tree.specs.declared.groups.Cgroup.{Cgroup};
+ghost use Rattle.cpuset_tree.specs.Kept.{effective_kept, stands, passed, is_older as older, OthersGranted, ElsewhereGranted, AreParentsUpTo, ChangesAt, OnlyKeptDiffers, AllKept, IsOrder, IsInOrder};
 
 use crate::groups::{Cgroup, Group, Resource, granted_of};
 use cpu_set::IdSet;
@@ -91,5 +92,28 @@ pub fn refresh(
     let older = place_of_older(groups, order, written);
     for place in (0..older).rev() {
         pass_group(groups, order[place], resource, top, written);
+    }
+}
+
+/// Brings the groups up to date that a write of this one can change: it alone, where no group has a parent as new.
+pub fn refresh_written(
+    groups: &mut Slab<Cgroup>,
+    order: &VecDeque<usize>,
+    newest_parent: u64,
+    resource: Resource,
+    top: &IdSet,
+    group: Group,
+)
+    requires in_order { IsOrder groups.old order.now.items }
+    requires here { (n : Cgroup) → get groups.old group.key ≡ Some n → n.group ≡ group }
+    requires granted { ElsewhereGranted resource groups.old top.now group.key }
+    requires parents { AreParentsUpTo groups.old newest_parent }
+    ensures kept { AllKept resource groups.new top.now order.now.items }
+    ensures same { OnlyKeptDiffers resource groups.old groups.new }
+{
+    if group.serial > newest_parent {
+        pass_group(groups, group.key, resource, top, group.serial);
+    } else {
+        refresh(groups, order, resource, top, group.serial);
     }
 }

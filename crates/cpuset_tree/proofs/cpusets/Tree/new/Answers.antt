@@ -16,6 +16,7 @@ use Rattle.cpuset_tree.specs.TreeChanges.{new_entry}
 use Rattle.cpuset_tree.specs.Kept.{IsSound, HasParentAmong, KeepsEffective, entry_of_kept, listed, unrequested, top_of}
 use Rattle.cpuset_tree.specs.Effective.{standing, effective}
 use Rattle.cpuset_tree.proofs.KeptLemmas.{listed_at}
+use Rattle.cpuset_tree.proofs.ParentLemmas.{AreParentsUpTo-first}
 use Rattle.cpuset_tree.proofs.cpusets.Tree.new.Goals as goal
 
 -- a slab of the root alone is sound
@@ -57,11 +58,15 @@ invariant_of-result c =
     let root : Group = record { key = key; serial = c.args.first_serial } in
     let n : Cgroup = record { group = root; parent = None; name = c.new.result; cpus = c.unrequested.result; mems = c.unrequested-2.result } in
     let items : c.push_front.new.self.items ≡ key ∷ [] = c.in_ok-push_front.ensures.items ∙ ap (λ (l : List ℕ). key ∷ l) c.new-order.ensures.items in
-    subst (λ (l : List ℕ). IsSound c.insert_reserved.new.self l c.args.online c.args.nodes root (c.args.first_serial + 1)) (sym items)
-    (first_sound c.reserve.new.self c.insert_reserved.new.self c.args.online c.args.nodes root n
-    (subst (λ (k : ℕ). Updates c.reserve.new.self c.insert_reserved.new.self k (Some n)) (c.insert_reserved.ensures.key ∙ sym c.vacant_key-key.ensures.value) c.insert_reserved.ensures.updates)
-    (λ k. ap (λ (s : Slab Cgroup). get s k) c.in_ok-reserve.ensures.rest_kept ∙ ap (λ (l : List (Option Cgroup)). slice_index_or l k None) c.new-groups.ensures.empty)
-    refl refl c.unrequested.ensures c.unrequested-2.ensures)
+    let updates : Updates c.reserve.new.self c.insert_reserved.new.self key (Some n) =
+    subst (λ (k : ℕ). Updates c.reserve.new.self c.insert_reserved.new.self k (Some n)) (c.insert_reserved.ensures.key ∙ sym c.vacant_key-key.ensures.value) c.insert_reserved.ensures.updates in
+    let empty : (k : ℕ) → get c.reserve.new.self k ≡ None = λ k.
+    ap (λ (s : Slab Cgroup). get s k) c.in_ok-reserve.ensures.rest_kept ∙ ap (λ (l : List (Option Cgroup)). slice_index_or l k None) c.new-groups.ensures.empty in (
+      subst (λ (l : List ℕ). IsSound c.insert_reserved.new.self l c.args.online c.args.nodes root (c.args.first_serial + 1)) (sym items)
+          (first_sound c.reserve.new.self c.insert_reserved.new.self c.args.online c.args.nodes root n updates empty
+          refl refl c.unrequested.ensures c.unrequested-2.ensures),
+      AreParentsUpTo-first c.reserve.new.self c.insert_reserved.new.self key n updates empty refl,
+    )
 
 pub returns : goal.returns
 returns c =

@@ -13,14 +13,14 @@ pub returns-in-Some : goal.returns-in-Some
 returns-in-Some c =
     let i = c.self.inside in
     subst (λ (s : TreeState). IsKeptOf s c.args.group (Some c.in-Some.kept.now)) c.self.view_is
-    (kept_of i.groups i.order.items i.online i.nodes i.root i.next_serial c.args.group c.in-Some.kept.now c.self.invariant
+    (kept_of i.groups i.order.items i.online i.nodes i.root i.next_serial c.args.group c.in-Some.kept.now c.self.invariant.0
     (sym (c.in-Some.ensures)) (sym (c.if-eq.ensures)))
 
 pub returns-in_default : goal.returns-in_default
 returns-in_default c =
     let i = c.self.inside in
     subst (λ (s : TreeState). IsKeptOf s c.args.group None) c.self.view_is
-    (none_kept i.groups i.order.items i.online i.nodes i.root i.next_serial c.args.group c.self.invariant
+    (none_kept i.groups i.order.items i.online i.nodes i.root i.next_serial c.args.group c.self.invariant.0
     (elim c.in_default.branch [
       | in_default-via-in-Some+else-eq w ↦ λ n at.
           ap (λ (x : Cgroup). same_group x.group c.args.group) (sym (same_Some w.in-Some.kept.now n (w.in-Some.ensures ∙ at))) ∙ sym w.if-eq.ensures

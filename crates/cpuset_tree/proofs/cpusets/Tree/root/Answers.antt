@@ -12,11 +12,11 @@ pub returns-clause-well_formed : goal.returns-clause-well_formed
 returns-clause-well_formed c =
     let i = c.self.inside in
     subst (λ (s : TreeState). IsWellFormed s) c.self.view_is
-    (record { falling = IsFalling-listed i.groups i.next_serial i.order.items c.self.invariant.in_order; rooted = ap is_some c.self.invariant.rooted })
+    (record { falling = IsFalling-listed i.groups i.next_serial i.order.items c.self.invariant.0.in_order; rooted = ap is_some c.self.invariant.0.rooted })
 
 pub returns-clause-path : goal.returns-clause-path
 returns-clause-path c =
     let i = c.self.inside in
     subst (λ (s : TreeState). RunsUpThePath s) c.self.view_is
     (RunsUpThePath-well_formed (record { groups = listed i.groups i.order.items; online = i.online; nodes = i.nodes; next_serial = i.next_serial })
-    (IsFalling-listed i.groups i.next_serial i.order.items c.self.invariant.in_order))
+    (IsFalling-listed i.groups i.next_serial i.order.items c.self.invariant.0.in_order))

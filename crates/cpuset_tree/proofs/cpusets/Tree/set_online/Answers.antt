@@ -2,18 +2,21 @@ use Rattle.cpuset_tree.specs.declared.groups.Resource.TheVariants.{Cpus}
 use Rattle.std.proofs.Common.{refl}
 use Rattle.cpuset_tree.proofs.PlaceLemmas.{SamePlaces-from_kept}
 use Rattle.cpuset_tree.proofs.RefreshLemmas.{OthersGranted-online}
+use Rattle.cpuset_tree.proofs.ParentLemmas.{AreParentsUpTo-same}
 use Rattle.cpuset_tree.proofs.WriteLemmas.{SameHeld-from_kept, IsSound-refreshed}
 use Rattle.cpuset_tree.proofs.cpusets.Tree.set_online.Goals as goal
 
 pub refresh-requires-clause-granted : goal.refresh-requires-clause-granted
 refresh-requires-clause-granted c =
     let i = c.self.inside in
-    OthersGranted-online i.groups i.order.items i.online i.nodes i.root i.next_serial c.self.invariant c.args.online
+    OthersGranted-online i.groups i.order.items i.online i.nodes i.root i.next_serial c.self.invariant.0 c.args.online
 
 pub invariant_of-self : goal.invariant_of-self
 invariant_of-self c =
-    let i = c.self.inside in
-    IsSound-refreshed Cpus i.groups c.refresh.new.groups i.order.items i.online i.nodes c.args.online i.nodes i.root i.next_serial c.self.invariant
-    (SamePlaces-from_kept Cpus i.groups c.refresh.new.groups c.refresh.ensures.same)
-    (SameHeld-from_kept Cpus i.groups c.refresh.new.groups c.refresh.ensures.same)
-    refl c.refresh.ensures.kept
+    let i = c.self.inside in (
+      IsSound-refreshed Cpus i.groups c.refresh.new.groups i.order.items i.online i.nodes c.args.online i.nodes i.root i.next_serial c.self.invariant.0
+          (SamePlaces-from_kept Cpus i.groups c.refresh.new.groups c.refresh.ensures.same)
+          (SameHeld-from_kept Cpus i.groups c.refresh.new.groups c.refresh.ensures.same)
+          refl c.refresh.ensures.kept,
+      AreParentsUpTo-same i.groups c.refresh.new.groups i.newest_parent (SamePlaces-from_kept Cpus i.groups c.refresh.new.groups c.refresh.ensures.same) c.self.invariant.1,
+    )
