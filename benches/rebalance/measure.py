@@ -14,7 +14,7 @@ import sys
 import tempfile
 import time
 
-ROUNDS, TIMES, RUNS = 5, 20, 40
+ROUNDS, TIMES, RUNS = 5, 200, 40
 NODES, CPUS, CONTAINERS = 8, 1024, 256
 
 

@@ -13,7 +13,7 @@ from pathlib import Path
 
 import families
 
-TIMES, ROUNDS = 10, 3
+TIMES, ROUNDS = 100, 5
 
 
 def seconds(words, text):
