@@ -1,14 +1,17 @@
-"""Prints how long `rebalance` takes in microseconds, the least of some: `measure.py PROGRAM TOOLS`.
+"""Prints how long `rebalance` takes: `measure.py PROGRAM TOOLS`.
 
-`typed` is the time from the line to the `end` of its answer, with what the pipe takes. The others are of scripts read from a
-file, each the time that one line more takes: `all` a rebalance, `writes` what it takes more than one that has nothing to write
-since it comes right behind it, `solver` the solver on the same rows, as the node's certificate tells them, and `rest` what is
-left: rows, certificate, entries and the text of the answer. The containers are 256 with homes on one of 8 nodes: seven of eight
-ask for 1 to 7 of its CPUs or any, the others for none of their own."""
+In microseconds, the least of some: `typed` is the time from the line to the `end` of its answer, with what the pipe takes; `again`
+what one takes that has nothing to write, since it comes right behind another, in a script read from a file; and `solver` the
+solver on the same rows, as the node's certificate tells them. In thousands of instructions, where callgrind is there: `all` a
+rebalance, `writes` what it takes more than one behind it, `solver`, and `rest` what is left: rows, certificate, entries and the
+text of the answer. (The time of the writes is lost in that of a script.) The containers are 256 with homes on one of 8 nodes:
+seven of eight ask for 1 to 7 of its CPUs or any, the others for none of their own."""
 
 import json
 import os
 import random
+import re
+import shutil
 import subprocess
 import sys
 import tempfile
@@ -68,22 +71,24 @@ def typed(program, before):
     return least
 
 
-def run(program, lines):
-    """The least time of a whole script in microseconds."""
-    open("script", "w").write("\n".join(lines) + "\n")
-    least = float("inf")
+def run(program, scripts):
+    """The least time of each of these scripts in microseconds, run in turn."""
+    least = [float("inf")] * len(scripts)
+    for k, lines in enumerate(scripts):
+        open(f"script{k}", "w").write("\n".join(lines) + "\n")
     for _ in range(RUNS):
-        with open("script") as script:
-            start = time.perf_counter()
-            subprocess.run([program, "run", "machine.json"], stdin=script, stdout=subprocess.DEVNULL, check=True)
-            least = min(least, time.perf_counter() - start)
-    return least * 1e6
+        for k in range(len(scripts)):
+            with open(f"script{k}") as script:
+                start = time.perf_counter()
+                subprocess.run([program, "run", "machine.json"], stdin=script, stdout=subprocess.DEVNULL, check=True)
+                least[k] = min(least[k], time.perf_counter() - start)
+    return [seconds * 1e6 for seconds in least]
 
 
-def parts(program, before):
-    """What a rebalance takes behind these lines, and what one takes right behind it."""
-    none, one, more = (run(program, before + ["rebalance"] * count) for count in (0, 1, TIMES + 1))
-    return one - none, (more - one) / TIMES
+def again(program, before):
+    """What a rebalance takes right behind one behind these lines."""
+    one, more = run(program, [before + ["rebalance"] * count for count in (1, TIMES + 1)])
+    return (more - one) / TIMES
 
 
 def solver(tools, certificate):
@@ -95,6 +100,21 @@ def solver(tools, certificate):
     return (often - once) / TIMES * 1e6
 
 
+def instructions(words, text):
+    """Thousands of instructions of a run on this input."""
+    valgrind = ["valgrind", "--tool=callgrind", "--callgrind-out-file=/dev/null"]
+    told = subprocess.run([*valgrind, *words], input=text, capture_output=True, check=True).stderr.decode()
+    return int(re.search(r"Collected : (\d+)", told)[1]) / 1000
+
+
+def counted(program, tools, before, certificate):
+    """What a rebalance takes behind these lines, and right behind it, and its solver, in thousands of instructions."""
+    scripts = ["\n".join(before + ["rebalance"] * count + [""]).encode() for count in (0, 1, 2)]
+    none, one, two = (instructions([program, "run", "machine.json"], script) for script in scripts)
+    once, twice = (instructions([tools, "solve", times], certificate) for times in ("1", "2"))
+    return one - none, two - one, twice - once
+
+
 def main(program, tools):
     random.seed(1)
     program, tools = os.path.abspath(program), os.path.abspath(tools)
@@ -103,15 +123,18 @@ def main(program, tools):
         place()
         before = [[f"create c{k} b{k}" for k in range(CONTAINERS)], ["kill c100 KILL", "delete c100"], ["offline 500"]]
         whole, told, shell = typed(program, before), [], Shell(program)
-        print(f"{'':24} {'typed':>8} {'all':>8} {'writes':>8} {'rest':>8} {'solver':>8}")
+        print(f"{'':24} {'typed':>8} {'again':>8} {'solver':>8}   {'all':>8} {'writes':>8} {'rest':>8} {'solver':>8}")
         for k, name in enumerate(["from nothing", "after a container went", "after a CPU went off"]):
             told += before[k]
-            one, again = parts(program, told)
-            told += ["rebalance"]
             for line in before[k] + ["rebalance"]:
                 shell.ask(line)
-            alone = solver(tools, b"".join(shell.ask("certificate")[0]))
-            print(f"{name:24} {whole[k]:8.0f} {one:8.0f} {one - again:8.0f} {again - alone:8.0f} {alone:8.0f}")
+            certificate = b"".join(shell.ask("certificate")[0])
+            row = f"{name:24} {whole[k]:8.0f} {again(program, told):8.0f} {solver(tools, certificate):8.0f}"
+            if shutil.which("valgrind"):
+                one, behind, alone = counted(program, tools, told, certificate)
+                row += f"   {one:8.0f} {one - behind:8.0f} {behind - alone:8.0f} {alone:8.0f}"
+            print(row)
+            told += ["rebalance"]
         shell.close()
         os.chdir("/")
 

@@ -14,6 +14,7 @@ pub mod Grammar
 pub mod Completing
 pub mod BadLines
 pub mod Pieces
+pub mod HeldItems
 pub mod Texts
 pub mod Rereading
 pub mod Verdicts

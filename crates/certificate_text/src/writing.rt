@@ -1,11 +1,12 @@
 //! A certificate to a writer.
-ghost use Rattle.std.specs.Prelude.{◌≡◌, ◌<◌, ◌++◌, All, List, length};
+ghost use Rattle.std.specs.Prelude.{◌≡◌, ◌<◌, ◌^◌, ◌++◌, All, List, OnOk, length};
+ghost use Rattle.cpu_set.specs.Members.{InRange};
 ghost use Rattle.std.specs.List.{flat_map};
 ghost use Rattle.cpu_list.specs.Output.{Writes};
 ghost use Rattle.certificate_text.specs.CertificateText.{CanBeText, IsText, hold_lines, id_at};
 ghost use Rattle.certificate_text.specs.declared.certificates.Certificate.TheVariants.{Plan, Short};
 ghost use Rattle.certificate_text.specs.Line.{HeaderLine, RowLine, HoldLine, PriceLine, TotalLine, ShortLine, EndLine};
-ghost use Rattle.certificate_text.specs.Written.{offer_text, line_text, text_of, CanWrite, IsHeld};
+ghost use Rattle.certificate_text.specs.Written.{offer_text, line_text, text_of, CanWrite, IsHeld, IsOfferHeld, IsRowHeld, IsPriceHeld};
 
 use crate::Certificate;
 use crate::laws::written_texts_are_read;
@@ -17,8 +18,10 @@ use std::io;
 use std::io::Write;
 
 fn put_offer<W: Write>(offer: &Offer, w: &mut W) -> io::Result<()>
-    ensures { Writes (W.contents w.old) (W.contents w.new) result (offer_text offer.now) }
+    ensures written { Writes (W.contents w.old) (W.contents w.new) result (offer_text offer.now) }
+    ensures held { IsOfferHeld offer.now }
 {
+    offer.cpus.stays_below_the_limit();
     let mut digits = Buffer::new();
     let weight = digits.format(offer.weight).as_bytes();
     put_all(&[b" ".as_slice(), weight, b":".as_slice()], w)?;
@@ -26,7 +29,8 @@ fn put_offer<W: Write>(offer: &Offer, w: &mut W) -> io::Result<()>
 }
 
 fn put_offers<W: Write>(offers: &[Offer], w: &mut W) -> io::Result<()>
-    ensures { Writes (W.contents w.old) (W.contents w.new) result (flat_map offer_text offers.now) }
+    ensures written { Writes (W.contents w.old) (W.contents w.new) result (flat_map offer_text offers.now) }
+    ensures held { OnOk result (All IsOfferHeld offers.now) }
 {
     for offer in offers {
         put_offer(offer, w)?;
@@ -35,7 +39,8 @@ fn put_offers<W: Write>(offers: &[Offer], w: &mut W) -> io::Result<()>
 }
 
 fn put_row<W: Write>(row: &Row, w: &mut W) -> io::Result<()>
-    ensures { Writes (W.contents w.old) (W.contents w.new) result (line_text (RowLine row.now)) }
+    ensures written { Writes (W.contents w.old) (W.contents w.new) result (line_text (RowLine row.now)) }
+    ensures held { OnOk result (IsRowHeld row.now) }
 {
     let mut digits = Buffer::new();
     let demand = digits.format(row.demand).as_bytes();
@@ -53,7 +58,8 @@ fn put_row<W: Write>(row: &Row, w: &mut W) -> io::Result<()>
 }
 
 fn put_rows<W: Write>(rows: &[Row], w: &mut W) -> io::Result<()>
-    ensures { Writes (W.contents w.old) (W.contents w.new) result (flat_map (λ row. line_text (RowLine row)) rows.now) }
+    ensures written { Writes (W.contents w.old) (W.contents w.new) result (flat_map (λ row. line_text (RowLine row)) rows.now) }
+    ensures held { OnOk result (All IsRowHeld rows.now) }
 {
     for row in rows {
         put_row(row, w)?;
@@ -62,8 +68,10 @@ fn put_rows<W: Write>(rows: &[Row], w: &mut W) -> io::Result<()>
 }
 
 fn put_hold<W: Write>(id: &[u8], cpus: &IdSet, value: u64, w: &mut W) -> io::Result<()>
-    ensures { Writes (W.contents w.old) (W.contents w.new) result (line_text (HoldLine id.now cpus.now value)) }
+    ensures written { Writes (W.contents w.old) (W.contents w.new) result (line_text (HoldLine id.now cpus.now value)) }
+    ensures held { InRange cpus.now × (value < 2 ^ 64) }
 {
+    cpus.stays_below_the_limit();
     let mut digits = Buffer::new();
     let value = digits.format(value).as_bytes();
     put_all(&[b"hold ".as_slice(), id, b" ".as_slice()], w)?;
@@ -74,7 +82,8 @@ fn put_hold<W: Write>(id: &[u8], cpus: &IdSet, value: u64, w: &mut W) -> io::Res
 fn put_holds<W: Write>(rows: &[Row], sets: &[IdSet], values: &[u64], w: &mut W) -> io::Result<()>
     requires sets { length sets.now ≡ length rows.now }
     requires values { length values.now ≡ length rows.now }
-    ensures { Writes (W.contents w.old) (W.contents w.new) result (flat_map line_text (hold_lines rows.now sets.now values.now)) }
+    ensures written { Writes (W.contents w.old) (W.contents w.new) result (flat_map line_text (hold_lines rows.now sets.now values.now)) }
+    ensures held { OnOk result (All InRange sets.now × All (λ v. v < 2 ^ 64) values.now) }
 {
     for (k, row) in rows.iter().enumerate() {
         put_hold(row.id.as_bytes(), &sets[k], values[k], w)?;
@@ -83,8 +92,10 @@ fn put_holds<W: Write>(rows: &[Row], sets: &[IdSet], values: &[u64], w: &mut W) 
 }
 
 fn put_price<W: Write>(price: &Price, w: &mut W) -> io::Result<()>
-    ensures { Writes (W.contents w.old) (W.contents w.new) result (line_text (PriceLine price.now)) }
+    ensures written { Writes (W.contents w.old) (W.contents w.new) result (line_text (PriceLine price.now)) }
+    ensures held { IsPriceHeld price.now }
 {
+    price.cpus.stays_below_the_limit();
     let mut digits = Buffer::new();
     let amount = digits.format(price.amount).as_bytes();
     put_all(&[b"price ".as_slice(), amount, b" ".as_slice()], w)?;
@@ -93,7 +104,8 @@ fn put_price<W: Write>(price: &Price, w: &mut W) -> io::Result<()>
 }
 
 fn put_prices<W: Write>(prices: &[Price], w: &mut W) -> io::Result<()>
-    ensures { Writes (W.contents w.old) (W.contents w.new) result (flat_map (λ price. line_text (PriceLine price)) prices.now) }
+    ensures written { Writes (W.contents w.old) (W.contents w.new) result (flat_map (λ price. line_text (PriceLine price)) prices.now) }
+    ensures held { OnOk result (All IsPriceHeld prices.now) }
 {
     for price in prices {
         put_price(price, w)?;
@@ -132,8 +144,9 @@ fn put_total<W: Write>(total: u64, w: &mut W) -> io::Result<()>
 
 /// The first line, and the rows.
 fn put_head<W: Write>(rows: &[Row], w: &mut W) -> io::Result<()>
-    ensures { Writes (W.contents w.old) (W.contents w.new) result
+    ensures written { Writes (W.contents w.old) (W.contents w.new) result
         (line_text HeaderLine ++ flat_map (λ row. line_text (RowLine row)) rows.now) }
+    ensures held { OnOk result (All IsRowHeld rows.now) }
 {
     put(b"numarun-certificate 1\n", w)?;
     put_rows(rows, w)
@@ -148,7 +161,8 @@ fn write_plan<W: Write>(
 ) -> io::Result<()>
     requires sets { length sets.now ≡ length rows.now }
     requires values { length prices.now.values ≡ length rows.now }
-    ensures { Writes (W.contents w.old) (W.contents w.new) result (text_of (Plan rows.now sets.now prices.now total)) }
+    ensures written { Writes (W.contents w.old) (W.contents w.new) result (text_of (Plan rows.now sets.now prices.now total)) }
+    ensures held { OnOk result (IsHeld (Plan rows.now sets.now prices.now total)) }
 {
     put_head(rows, w)?;
     put_holds(rows, sets, prices.values.as_slice(), w)?;
@@ -158,7 +172,8 @@ fn write_plan<W: Write>(
 
 fn write_shortage<W: Write>(rows: &[Row], members: &[usize], w: &mut W) -> io::Result<()>
     requires { All (λ k. k < length rows.now) members.now }
-    ensures { Writes (W.contents w.old) (W.contents w.new) result (text_of (Short rows.now members.now)) }
+    ensures written { Writes (W.contents w.old) (W.contents w.new) result (text_of (Short rows.now members.now)) }
+    ensures held { OnOk result (IsHeld (Short rows.now members.now)) }
 {
     put_head(rows, w)?;
     put_members(rows, members, w)?;
@@ -167,7 +182,8 @@ fn write_shortage<W: Write>(rows: &[Row], members: &[usize], w: &mut W) -> io::R
 
 fn write_either<W: Write>(certificate: &Certificate, w: &mut W) -> io::Result<()>
     requires { CanBeText certificate.now }
-    ensures { Writes (W.contents w.old) (W.contents w.new) result (text_of certificate.now) }
+    ensures written { Writes (W.contents w.old) (W.contents w.new) result (text_of certificate.now) }
+    ensures held { OnOk result (IsHeld certificate.now) }
 {
     match certificate {
         Certificate::Plan {
@@ -197,8 +213,9 @@ pub fn write_text<W: Write>(certificate: &Certificate, w: &mut W) -> io::Result<
     // has members, which are rows, each after the one before.
     requires { CanWrite certificate.now }
     ensures written { Writes (W.contents w.old) (W.contents w.new) result (text_of certificate.now) }
-    // The text stands for this certificate, where its numbers and sets are such as their types hold.
-    ensures stands { IsHeld certificate.now → IsText (text_of certificate.now) certificate.now }
+    // The text stands for this certificate, whose numbers and sets are such as their types hold.
+    ensures held { OnOk result (IsHeld certificate.now) }
+    ensures stands { OnOk result (IsText (text_of certificate.now) certificate.now) }
 {
     written_texts_are_read();
     write_either(certificate, w)

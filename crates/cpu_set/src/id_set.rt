@@ -154,6 +154,13 @@ impl IdSet {
         self.lanes().count_ones().strict_reduce_sum() as u32
     }
 
+    /// All numbers of the set are below the limit.
+    pub fn stays_below_the_limit(&self)
+        ensures { InRange self.now }
+    {
+        let _ = self.lanes();
+    }
+
     /// The least number of the set.
     pub fn first(&self) -> Option<u16>
         ensures first { MatchOption result (NoneFrom self.now 0) (λ n. IsFirstFrom self.now 0 n) }

@@ -19,6 +19,7 @@ pub mod HeadlineLemmas
 pub mod ProvedLemmas
 pub mod RebalanceLemmas
 pub mod MachineLemmas
+pub mod SaidLemmas
 pub mod EndingLemmas
 pub mod MakingLemmas
 pub mod LateLemmas

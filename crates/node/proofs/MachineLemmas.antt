@@ -17,9 +17,8 @@ use Rattle.node.specs.NodeState.{NodeState}
 use Rattle.node.specs.Owners.{owners_of}
 use Rattle.node.specs.IsNode.{IsNode}
 use Rattle.node.specs.Calls.{NotLaunched, Ended, Creates, Starts, Kills, Deletes}
-use Rattle.node.specs.declared.outcome.Outcome.TheVariants.{Plan}
 use Rattle.node.specs.Rebalance.{StepsOn, StepsMore, Ends}
-use Rattle.node.specs.Machine.{Event, Step, IsSingle, Run, RunsKeep, RunsStaySafe, RunsStayApart, RebalancesAreSteps, RunsRebalance}
+use Rattle.node.specs.Machine.{Event, Step, IsOneStep, Run, RunsKeep, RunsStaySafe, RunsStayApart, RebalancesAreSteps, RunsRebalance}
 use Rattle.node.specs.Machine.Event.{Create, Start, Kill, Delete, Rebalance, Begin, StepOn, State, ListAll, SetsOf, Pool, PhaseIs, ShowCertificate, Fork, Exit, Offline, Online}
 use Rattle.node.proofs.NodeLemmas.{fork_node, exit_node, offline_node, online_node, end_node, remove_refused_node, created_node, not_created_node, deleted_node, started_node}
 use Rattle.node.proofs.StepLemmas.{more_node, ended_node}
@@ -144,7 +143,7 @@ module _ (weigh : RowsWeigh) (law : StepsLeave) where
 
 -- the steps to the end of a hand-over, as events
 steps_run : (count : ℕ) (old mid new : NodeState) (answer : Result (Unit {0}) KernelFault) → StepsMore count old mid → Ends mid answer new
-    → (events : List Event) × AllByRecursion IsSingle events × Run old events new
+    → (steps : List Event) × AllByRecursion IsOneStep steps × Run old steps new
 steps_run zero old mid new (Ok done) more ends = (StepOn (Ok Done) ∷ [], (tt, tt), (new, subst (λ (n : NodeState). StepsOn n (Ok Done) new) more ends, refl))
 steps_run zero old mid new (Err fault) more ends =
     (StepOn (Err (Kernel fault)) ∷ [], (tt, tt), (new, subst (λ (n : NodeState). StepsOn n (Err (Kernel fault)) new) more ends, refl))
@@ -154,4 +153,4 @@ steps_run (suc count) old mid new answer more ends =
 pub rebalances_are_steps : RebalancesAreSteps
 rebalances_are_steps old total answer new m =
     let steps = steps_run m.finishes.steps m.mid m.finishes.mid new answer m.finishes.more m.finishes.ends in
-    (Begin (Ok (Plan total)) ∷ steps.0, (tt, steps.1), (m.mid, m.begun, steps.2))
+    (steps.0, steps.1, (m.mid, m.begun, steps.2))

@@ -121,7 +121,7 @@ abbrev pub is_allowed : KernelState → ℕ → List ℕ × ContainerState → B
 is_allowed k cpu e = set.contains e.1.demand.allowed cpu && set.contains k.tree.online cpu
 
 -- after a shortage: live pinned containers, each named once, that together ask for more CPUs than they are allowed, so that
--- they could have no sets at all; and the kernel is as before
+-- no sets at all would do for the live pinned containers; and the kernel is as before
 pub record IsShort (old : NodeState) (wanted : ℕ) (allowed : Ids) (new : NodeState) : Type 0 where
   pub members : List ℕ
   pub named : new.last ≡ Some (certificate.Short (rows_of old) members)

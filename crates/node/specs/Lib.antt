@@ -18,6 +18,7 @@ pub mod Headline
 pub mod Asking
 pub mod Proved
 pub mod Machine
+pub mod Said
 pub mod Ending
 pub mod Making
 pub mod Reads

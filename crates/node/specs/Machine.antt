@@ -1,5 +1,5 @@
 -- The node machine: calls and events with their answers, one after another, those that only read among them.
-use Rattle.std.specs.Prelude.{◌≡◌, ℕ, List, [], ◌∷◌, map, Result, String}
+use Rattle.std.specs.Prelude.{◌≡◌, ℕ, List, [], ◌∷◌, map, Result, Ok, String}
 use Rattle.std.specs.List.{AllByRecursion}
 use Rattle.std.specs.declared.alloc.Global.{Global}
 use Rattle.cpu_set.specs.Ids.{Ids}
@@ -17,6 +17,7 @@ use Rattle.apply_plan.specs.Effects.{HasOnline}
 use Rattle.node.specs.declared.fault.NodeFault.{NodeFault}
 use Rattle.node.specs.declared.container.Status.{Status}
 use Rattle.node.specs.declared.outcome.Outcome.{Outcome}
+use Rattle.node.specs.declared.outcome.Outcome.TheVariants.{Plan}
 use Rattle.node.specs.declared.phase.Phase.{Phase}
 use Rattle.node.specs.declared.reads.Sets.{Sets}
 use Rattle.node.specs.NodeState.{NodeState}
@@ -102,18 +103,17 @@ RunsStayApart =
     → AllByRecursion (HasOnline new.kernel) (map (λ o. o.holder) (owners_of new.containers))
     → AreSafe new.kernel new.kernel.reserved (effective_cpus new.kernel.tree) (map (λ o. o.holder) (owners_of new.containers))
 
--- `begin` and `step`, each of which makes at most one write
-abbrev pub IsSingle : Event → Type 0
-IsSingle (Begin answer) = Unit {0}
-IsSingle (StepOn answer) = Unit {0}
-IsSingle event = ⊥
+-- a step of a hand-over, which makes one write at most
+abbrev pub IsOneStep : Event → Type 0
+IsOneStep (StepOn answer) = Unit {0}
+IsOneStep event = ⊥
 
--- a rebalance that hands over leaves what a run of these leaves, so that what holds after each of these holds of what it
--- leaves, wherever a write fails
+-- a rebalance that hands over leaves what `begin`, which writes nothing, and then steps alone leave, so that what holds after
+-- each of these holds of what it leaves, wherever a write fails
 abbrev pub RebalancesAreSteps : Type 0
 RebalancesAreSteps =
     (old : NodeState) (total : ℕ) (answer : Result (Unit {0}) KernelFault) (new : NodeState) → Moves old total answer new
-    → (events : List Event) × AllByRecursion IsSingle events × Run old events new
+    → (steps : List Event) × AllByRecursion IsOneStep steps × Run old (Begin (Ok (Plan total)) ∷ steps) new
 
 -- and after any list of them a rebalance leaves what the headline says of its answer
 abbrev pub RunsRebalance : Type 0

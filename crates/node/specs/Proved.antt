@@ -1,5 +1,7 @@
 -- What the text of a node's certificate proves to whoever checks it.
 use Rattle.std.specs.Prelude.{◌≡◌, ℕ, Some, length}
+use Rattle.std.specs.FinSet as set
+use Rattle.cpu_set.specs.Ids.{Ids}
 use Rattle.certificate.specs.IsShortage.{asked, chosen, offered}
 use Rattle.certificate_text.specs.Verdict.{IsVerdict}
 use Rattle.certificate_text.specs.Written.{IsHeld, text_of}
@@ -10,6 +12,7 @@ use Rattle.certificate_text.specs.declared.checking.Verdict.TheVariants.{Plan, S
 use Rattle.node.specs.NodeState.{NodeState}
 use Rattle.node.specs.IsNode.{IsNode}
 use Rattle.node.specs.Headline.{IsRebalanced}
+use Rattle.node.specs.Rebalance.{Lacks}
 
 -- the total that a certificate claims, or how many CPUs its members ask for and how many are there
 abbrev pub verdict_of : Certificate → Verdict
@@ -20,7 +23,12 @@ verdict_of (certificate.Short rows members) = Short (asked (chosen rows members)
 abbrev pub LastIsProved : Type 0
 LastIsProved = (n : NodeState) → IsNode n → (c : Certificate) → n.last ≡ Some c → IsHeld c → IsVerdict (text_of c) (verdict_of c)
 
--- and after a rebalance it proves the very total that was answered
+-- and after a rebalance that plans it proves the very total that was answered
 abbrev pub TotalIsProved : Type 0
 TotalIsProved = (old n : NodeState) (total : ℕ) → IsNode n → IsRebalanced old total n → (c : Certificate) → n.last ≡ Some c → IsHeld c
     → IsVerdict (text_of c) (Plan total)
+
+-- after one that answers a shortage it proves how many CPUs are asked for and how many are allowed, as they were answered
+abbrev pub ShortIsProved : Type 0
+ShortIsProved = (old n : NodeState) (wanted : ℕ) (allowed : Ids) → IsNode n → Lacks old wanted allowed n → (c : Certificate) → n.last ≡ Some c → IsHeld c
+    → IsVerdict (text_of c) (Short wanted (set.len allowed))

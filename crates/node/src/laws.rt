@@ -4,7 +4,8 @@ ghost use Rattle.node.specs.Asking.{RowsAreAsking, ShortStands};
 ghost use Rattle.node.specs.Ending.{HandoversEnd};
 ghost use Rattle.node.specs.Machine.{FirstIsNode, RunsKeep, RunsStaySafe, RunsStayApart, RebalancesAreSteps, RunsRebalance};
 ghost use Rattle.node.specs.Making.{CreatesAreCalls, CreatesFailLate, CreatesStaySafe};
-ghost use Rattle.node.specs.Proved.{LastIsProved, TotalIsProved};
+ghost use Rattle.node.specs.Proved.{LastIsProved, TotalIsProved, ShortIsProved};
+ghost use Rattle.node.specs.Said.{ContainersAreSaid};
 ghost use Rattle.node.specs.UnusedLemmas.{FirstIsUnused, FirstIsOfMachine, FirstWantsMemory};
 
 use crate::CONTAINER_LIMIT;
@@ -30,12 +31,15 @@ pub fn first_kernels()
 ///
 /// Where after such a list each live container requests a CPU that is online, the same holds of the CPUs that are in effect
 /// for them.
+///
+/// And what a container asks for is what the config says with which one of the events created it.
 pub fn runs()
     ensures first { FirstIsNode }
     ensures keep { RunsKeep }
     ensures safe { RunsStaySafe }
     ensures apart { RunsStayApart }
     ensures single { RebalancesAreSteps }
+    ensures said { ContainersAreSaid }
 {
     rows_weigh();
     steps();
@@ -89,10 +93,11 @@ pub fn whose_rows()
 }
 
 /// The text of what a node worked out last proves its verdict to whoever checks it; after a rebalance that is the total that
-/// was answered. Nothing runs.
+/// was answered, or how many CPUs are asked for and how many are allowed. Nothing runs.
 pub fn certificates_prove()
     ensures last { LastIsProved }
     ensures total { TotalIsProved }
+    ensures short { ShortIsProved }
 {
     written_texts_are_read();
 }

@@ -1,5 +1,5 @@
 -- What a script does to the node: a list of its calls and events.
-use Rattle.std.proofs.Common.{◌≡◌, ◌⊎◌, ℕ, ◌≤◌, List, [], ◌∷◌, ◌++◌, length, length-append, Option, Some, None, Result, Ok, Err, inl, inr, codes, get_or, refl, ap, subst, ◌∙◌, arith}
+use Rattle.std.proofs.Common.{◌≡◌, ◌⊎◌, ℕ, ◌≤◌, List, [], ◌∷◌, ◌++◌, length, length-append, Option, Some, None, Result, Ok, Err, inl, inr, codes, get_or, refl, sym, ap, subst, ◌∙◌, arith, append_assoc}
 use Rattle.faults.specs.declared.or_memory.OrMemory.{OrMemory}
 use Rattle.std.specs.Prelude.{String}
 use Rattle.std.specs.declared.alloc.Global.{Global}
@@ -138,6 +138,24 @@ PlansAreTold = (first old new : RuntimeState) (lines : List (List ℕ)) (text mo
     → IsNode first.node → Runs Answered first lines text old → Answered old ask.rebalance (codes "plan total " ++ more) new
     → (total : ℕ) × IsRebalanced old.node total new.node × (codes "plan total " ++ more ≡ outcome_text new.node (Plan total))
 
+-- a rebalance in the midst of a script: what was answered before it and behind it, and that it left what the headline says
+pub record IsRebalanceOf (first : RuntimeState) (before after : List (List ℕ)) (text : List ℕ) (last : RuntimeState) : Type 0 where
+  pub old : RuntimeState
+  pub new : RuntimeState
+  pub outcome : Result Outcome (OrMemory NodeFault)
+  pub earlier : List ℕ
+  pub later : List ℕ
+  pub run : Runs Answered first before earlier old
+  pub headline : Headline old.node outcome new.node
+  pub rest : Runs Answered new after later last
+  pub told : text ≡ earlier ++ (answer_text (outcome_text new.node) of_either outcome ++ later)
+
+-- each line of a script that asks for one is such
+abbrev pub ScriptsRebalance : Type 0
+ScriptsRebalance = (first last : RuntimeState) (before after : List (List ℕ)) (line text : List ℕ) → IsNode first.node
+    → kept line ≡ Some line → request_of (words_of line) ≡ asks ask.rebalance → Runs Answered first (before ++ line ∷ after) text last
+    → IsRebalanceOf first before after text last
+
 Run-append : (old mid new : NodeState) (first later : List Event) → Run old first mid → Run mid later new → Run old (first ++ later) new
 Run-append old mid new [] later e run = subst (λ n. Run n later new) e run
 Run-append old mid new (event ∷ first) later (next, step, rest) run = (next, step, Run-append next mid new first later rest run)
@@ -229,3 +247,31 @@ pub plans_are_told : RunsRebalance → PlansAreTold
 plans_are_told leaves first old new lines text more node run answered =
     let told = rebalances_are_told leaves first old new lines text (codes "plan total " ++ more) node run answered in
     plan_told old.node new.node more told.0 told.1 told.2
+
+-- lines that were answered, cut before one of them and behind it
+runs_cut : (old last : RuntimeState) (before after : List (List ℕ)) (line text : List ℕ) → Runs Answered old (before ++ line ∷ after) text last
+    → (mid : RuntimeState) × (new : RuntimeState) × (earlier : List ℕ) × (answer : List ℕ) × (later : List ℕ)
+    × Runs Answered old before earlier mid × AnswersLine Answered mid (kept line) answer new × Runs Answered new after later last
+    × (text ≡ earlier ++ (answer ++ later))
+runs_cut old last [] after line text (new, answer, later, answered, run, e) = (old, new, [], answer, later, (refl, refl), answered, run, e)
+runs_cut old last (other ∷ before) after line text (next, first, more, answered, run, e) =
+    let c = runs_cut next last before after line more run in
+    (c.0, c.1, first ++ c.2, c.3, c.4, (next, first, c.2, answered, c.5, refl), c.6, c.7, e ∙ ap (λ t. first ++ t) c.8 ∙ sym (append_assoc first c.2 (c.3 ++ c.4)))
+
+pub scripts_rebalance : RunsRebalance → ScriptsRebalance
+scripts_rebalance leaves first last before after line text node whole asked run =
+    let c = runs_cut first last before after line text run in
+    let answered : Answered c.0 ask.rebalance c.3 c.1 =
+    subst (λ wanted. AnswersRequest Answered c.0 wanted c.3 c.1) asked (subst (λ read. AnswersLine Answered c.0 read c.3 c.1) whole c.6) in
+    let told = rebalances_are_told leaves first c.0 c.1 before c.2 c.3 node c.5 answered in
+    record {
+      old = c.0;
+      new = c.1;
+      outcome = told.0;
+      earlier = c.2;
+      later = c.4;
+      run = c.5;
+      headline = told.1;
+      rest = c.7;
+      told = c.8 ∙ ap (λ answer. c.2 ++ (answer ++ c.4)) told.2;
+    }

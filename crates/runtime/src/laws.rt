@@ -1,9 +1,10 @@
 //! What holds of the definitions alone.
 ghost use Rattle.std.specs.Prelude.{◌≡◌};
-ghost use Rattle.runtime.specs.ScriptLaws.{CommandsAreCalls, LinesAreCalls, PlansAreTold, RebalancesAreTold};
+ghost use Rattle.runtime.specs.Boots.{BootsNodes};
+ghost use Rattle.runtime.specs.ScriptLaws.{CommandsAreCalls, LinesAreCalls, PlansAreTold, RebalancesAreTold, ScriptsRebalance};
 
 use crate::FIRST_PID;
-use node::laws::each_rebalance;
+use node::laws::{each_rebalance, first_kernels};
 
 /// Each command of a script is answered by the text of the call or event that it asks for, also where it only reads; but a
 /// `create` for which no config was found makes no call. So answered lines are at most one call or event each.
@@ -14,12 +15,22 @@ pub fn lines_are_calls()
 
 /// The headline of a rebalance that a script asks for, whatever lines were answered before it: the text that answers it
 /// is that of an outcome or of a refusal, and the node is then as the headline says of this. A text that begins with
-/// `plan total` is a plan's.
+/// `plan total` is a plan's. So it is with each line of a whole script that asks for a rebalance.
 pub fn rebalances_are_told()
     ensures told { RebalancesAreTold }
     ensures plans { PlansAreTold }
+    ensures scripts { ScriptsRebalance }
 {
     each_rebalance();
+}
+
+/// A node from the beginning, on a sound machine, is one of which all holds that the laws of nodes ask for. Nothing runs.
+pub fn booted_nodes()
+    ensures { BootsNodes }
+{
+    first_kernels();
+    node::laws::runs();
+    kernel_model::laws::runs();
 }
 
 /// The first process of a modelled kernel gets the pid 2.

@@ -16,7 +16,7 @@ mod runner;
 
 pub use bundle_list::BundleList;
 pub use bundles::Bundles;
-pub use laws::{lines_are_calls, rebalances_are_told, the_limits};
+pub use laws::{booted_nodes, lines_are_calls, rebalances_are_told, the_limits};
 pub use opening::{FIRST_PID, boot};
 pub use refusal::Refusal;
 pub use runner::Runner;

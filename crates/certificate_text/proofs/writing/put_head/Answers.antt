@@ -2,10 +2,10 @@ use Rattle.std.proofs.lemmas.Result.{err_from_is_err_and}
 use Rattle.cpu_list.specs.Sending.{SendsFront-more, Writes-then}
 use Rattle.certificate_text.proofs.writing.put_head.Goals as goal
 
-pub returns-in_err-put : goal.returns-in_err-put
-returns-in_err-put g c =
+pub returns-in_err-put-clause-written : goal.returns-in_err-put-clause-written
+returns-in_err-put-clause-written g c =
     let p = err_from_is_err_and c.from_residual.result c.from_residual.ensures.1 in
     rw p.1 (SendsFront-more _ _ _ _ c.in_err-put.ensures)
 
-pub returns : goal.returns
-returns g c = Writes-then _ _ _ c.put_rows.result _ _ c.in_ok-put.ensures c.put_rows.ensures
+pub returns-clause-written : goal.returns-clause-written
+returns-clause-written g c = Writes-then _ _ _ c.put_rows.result _ _ c.in_ok-put.ensures c.put_rows.ensures.written

@@ -2,17 +2,17 @@ use Rattle.std.proofs.lemmas.Result.{err_from_is_err_and}
 use Rattle.cpu_list.specs.Sending.{SendsFront-more, SendsFront-then, Writes-then}
 use Rattle.certificate_text.proofs.writing.put_hold.Goals as goal
 
-pub returns-in_err-put_all : goal.returns-in_err-put_all
-returns-in_err-put_all g c =
+pub returns-in_err-put_all-clause-written : goal.returns-in_err-put_all-clause-written
+returns-in_err-put_all-clause-written g c =
     let p = err_from_is_err_and c.from_residual.result c.from_residual.ensures.1 in
     rw p.1 (SendsFront-more _ _ _ _ (rw (c.as_slice.ensures, c.as_slice-2.ensures) at c.in_err-put_all.ensures))
 
-pub returns-in_err-write_list : goal.returns-in_err-write_list
-returns-in_err-write_list g c =
+pub returns-in_err-write_list-clause-written : goal.returns-in_err-write_list-clause-written
+returns-in_err-write_list-clause-written g c =
     let p = err_from_is_err_and c.from_residual-in_err-write_list.result c.from_residual-in_err-write_list.ensures.1 in
     rw p.1 (SendsFront-then _ _ _ _ _ (rw (c.as_slice.ensures, c.as_slice-2.ensures) at c.in_ok-put_all.ensures) (SendsFront-more _ _ _ _ c.in_err-write_list.ensures))
 
-pub returns : goal.returns
-returns g c =
+pub returns-clause-written : goal.returns-clause-written
+returns-clause-written g c =
     Writes-then _ _ _ c.put_all-2.result _ _ (rw (c.as_slice.ensures, c.as_slice-2.ensures) at c.in_ok-put_all.ensures)
     (Writes-then _ _ _ c.put_all-2.result _ _ c.in_ok-write_list.ensures (rw (c.as_slice-3.ensures, c.as_bytes-value.ensures.value, c.format.ensures.text, c.as_slice-4.ensures) at c.put_all-2.ensures))

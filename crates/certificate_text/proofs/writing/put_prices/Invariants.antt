@@ -2,8 +2,12 @@ use Rattle.std.proofs.Common.{take}
 use Rattle.std.specs.List.{flat_map}
 use Rattle.std.specs.Io.KnownBytes.{Appends}
 use Rattle.certificate_text.specs.Line.{PriceLine}
-use Rattle.certificate_text.specs.Written.{line_text}
+use Rattle.certificate_text.specs.Written.{line_text, IsPriceHeld}
+use Rattle.certificate_text.proofs.HeldItems.{HoldUpTo}
 use Rattle.certificate_text.proofs.writing.put_prices.Given as goal
 
 abbrev pub invariant-loop-price : goal.invariant-loop-price
-invariant-loop-price g l = Appends (g.W.Write.contents l.fn.w) (g.W.Write.contents l.w) (flat_map (λ price. line_text (PriceLine price)) (take l.price-index l.prices))
+invariant-loop-price g l = record {
+  sent : Appends (g.W.Write.contents l.fn.w) (g.W.Write.contents l.w) (flat_map (λ price. line_text (PriceLine price)) (take l.price-index l.prices));
+  held : HoldUpTo IsPriceHeld l.prices l.price-index;
+}

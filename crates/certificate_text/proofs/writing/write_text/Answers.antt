@@ -1,4 +1,6 @@
+use Rattle.certificate_text.proofs.HeldItems.{ok_then}
 use Rattle.certificate_text.proofs.writing.write_text.Goals as goal
 
 pub returns-clause-stands : goal.returns-clause-stands
-returns-clause-stands g c = c.written_texts_are_read.ensures c.args.certificate.now c.requires
+returns-clause-stands g c =
+    ok_then c.write_either.result (c.written_texts_are_read.ensures c.args.certificate.now c.requires) c.write_either.ensures.held

@@ -1,8 +1,9 @@
-use Rattle.node.proofs.ProvedLemmas.{last_is_proved, total_is_proved}
+use Rattle.node.proofs.ProvedLemmas.{last_is_proved, total_is_proved, short_is_proved}
 use Rattle.node.proofs.laws.certificates_prove.Goals as goal
 
 pub returns : goal.returns
 returns c = record {
   last = last_is_proved c.written_texts_are_read.ensures;
   total = total_is_proved c.written_texts_are_read.ensures;
+  short = short_is_proved c.written_texts_are_read.ensures;
 }

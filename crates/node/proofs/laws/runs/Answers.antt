@@ -1,5 +1,6 @@
 use Rattle.node.proofs.FirstLemmas.{first_is_node}
 use Rattle.node.proofs.MachineLemmas.{runs_keep, runs_stay_safe, runs_stay_apart, rebalances_are_steps}
+use Rattle.node.proofs.SaidLemmas.{containers_are_said}
 use Rattle.node.proofs.laws.runs.Goals as goal
 
 pub returns : goal.returns
@@ -9,4 +10,5 @@ returns c = record {
   safe = runs_stay_safe c.rows_weigh.ensures c.steps.ensures;
   apart = runs_stay_apart c.rows_weigh.ensures c.steps.ensures c.effects.ensures.safe;
   single = rebalances_are_steps;
+  said = containers_are_said;
 }

@@ -1,0 +1,12 @@
+use Rattle.machine.specs.Present.{present}
+use Rattle.machine.specs.Nodes.{nodes_of}
+use Rattle.runtime.specs.declared.opening.TheConstants.{FIRST_PID}
+use Rattle.runtime.proofs.laws.booted_nodes.Goals as goal
+
+pub returns : goal.returns
+returns c = λ m n sound (k, first, opens).
+    c.runs.ensures.first k m n
+    (c.runs-2.ensures.first (present m) m.reserved m.online (nodes_of m) FIRST_PID k sound.reserved_some sound.reserved_online sound.online_present first)
+    (c.first_kernels.ensures.machine m m.online FIRST_PID k first)
+    (c.first_kernels.ensures.unused (present m) m.reserved m.online (nodes_of m) FIRST_PID k first)
+    opens
