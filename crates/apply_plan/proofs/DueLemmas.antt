@@ -1,13 +1,15 @@
 -- Which write is due, case by case.
-use Rattle.std.proofs.Common.{◌≡◌, List, refl, sym, ap, ◌∙◌, subst}
+use Rattle.std.proofs.Common.{◌≡◌, ℕ, ◌+◌, ◌<◌, Bool, true, false, List, ◌∷◌, drop, get_or, length, refl, sym, ap, ◌∙◌, subst}
+use Rattle.std.proofs.lemmas.List.{drop_more}
 use Rattle.std.proofs.lemmas.Option.{none-some}
-use Rattle.std.specs.Prelude.{find, Option, Some, None}
+use Rattle.std.specs.Prelude.{cond, find, Option, Some, None}
 use Rattle.cpu_set.specs.Ids.{Ids}
 use Rattle.kernel_model.specs.KernelState.{KernelState}
 use Rattle.apply_plan.specs.declared.entry.Entry.{Entry}
 use Rattle.apply_plan.specs.declared.scan.Write.{Write}
 use Rattle.apply_plan.specs.Targets.{IsPlaced, ArePlaced}
 use Rattle.apply_plan.specs.DueWrite.{must_release, must_move, release_of, move_of, first_write, due_write}
+use Rattle.apply_plan.specs.Walks.{its_release}
 use Rattle.apply_plan.proofs.ListLemmas.{find_among}
 
 -- an entry lets go, or none must and one takes its target, or nothing is due
@@ -36,3 +38,20 @@ due_is_placed k reserved entries w placed e = by (due_write k reserved entries) 
   by d is (Releases x found) = here x (release_of k reserved x) refl (some (release_of k reserved x) is) (find_among (must_release k reserved) (λ a. IsPlaced k a.group) entries x placed found)
   by d is (Moves x none found) = here x (move_of x) refl (some (move_of x) is) (find_among (must_move k) (λ a. IsPlaced k a.group) entries x placed found)
   by d is (Rests r m) = absurd (none-some w is)
+
+-- where none of the entries before this one must let go and this one must, its write is due
+pub release_is_due : (k : KernelState) (reserved : Ids) (entries : List Entry) (i : ℕ) (e : Entry) (w : Write) → i < length entries → e ≡ get_or entries i e
+    → find (must_release k reserved) (drop i entries) ≡ find (must_release k reserved) entries
+    → Some w ≡ its_release k reserved e → Some w ≡ due_write k reserved entries
+release_is_due k reserved entries i e w within at same = by (must_release k reserved e) refl where
+  rest : List Entry
+  rest = drop (i + 1) entries
+
+  from_here : drop i entries ≡ e ∷ rest
+  from_here = drop_more entries i e within ∙ ap (λ x. x ∷ rest) (sym at)
+
+  by : (b : Bool) → must_release k reserved e ≡ b → Some w ≡ cond b (Some (release_of k reserved e)) None → Some w ≡ due_write k reserved entries
+  by false stays is = absurd (none-some w (sym is))
+  by true must is =
+      is ∙ ap (λ r. first_write k reserved r (find (must_move k) entries))
+      (sym (sym same ∙ ap (find (must_release k reserved)) from_here ∙ ap (λ b. cond b (Some e) (find (must_release k reserved) rest)) must))

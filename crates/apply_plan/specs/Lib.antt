@@ -5,7 +5,6 @@ pub mod Targets
 pub mod DueWrite
 pub mod Leaves
 pub mod LeavesLemmas
-pub mod Wants
 pub mod Runs
 pub mod OneStep
 pub mod Finishes

@@ -4,7 +4,7 @@ ghost use Rattle.cpuset_tree.specs.Groups.{requested_cpus, has_group};
 ghost use Rattle.apply_plan.specs.Kept.{kept};
 ghost use Rattle.apply_plan.specs.Targets.{ArePlaced};
 ghost use Rattle.apply_plan.specs.DueWrite.{due_write, IsDueMade};
-ghost use Rattle.apply_plan.specs.Wants.{Wants};
+ghost use Rattle.apply_plan.specs.Walks.{its_release, its_move};
 
 use crate::Entry;
 use cpu_set::IdSet;
@@ -37,36 +37,37 @@ fn requested<K: Kernel>(kernel: &K, group: Group) -> IdSet
     }
 }
 
-/// What one entry waits for.
-pub enum Want {
-    Release(Write),
-    Move(Write),
-    Nothing,
-}
-
-/// What an entry waits for: to let go of what it is not to have, else to take its target.
-pub fn wanted<K: Kernel>(kernel: &K, reserved: &IdSet, entry: &Entry) -> Want
+/// The write by which a live container lets go of what it is not to have, where it holds any of that.
+pub fn release_of<K: Kernel>(kernel: &K, reserved: &IdSet, entry: &Entry) -> Option<Write>
     requires { has_group (K.state kernel.now).tree entry.now.group ≡ true }
-    ensures { Wants (K.state kernel.now) reserved.now entry.now result }
+    ensures { result ≡ its_release (K.state kernel.now) reserved.now entry.now }
 {
     if !kernel.first_alive(entry.pid) {
-        return Want::Nothing;
+        return None;
     }
     let held = requested(kernel, entry.group);
     let kept = kept_of(reserved, &entry.target, &held);
-    if kept != held {
-        Want::Release(Write {
-            group: entry.group,
-            cpus: kept,
-        })
-    } else if held != entry.target {
-        Want::Move(Write {
-            group: entry.group,
-            cpus: entry.target,
-        })
-    } else {
-        Want::Nothing
+    if kept == held {
+        return None;
     }
+    Some(Write {
+        group: entry.group,
+        cpus: kept,
+    })
+}
+
+/// The write by which a live container takes its target, where it does not hold that.
+pub fn move_of<K: Kernel>(kernel: &K, entry: &Entry) -> Option<Write>
+    requires { has_group (K.state kernel.now).tree entry.now.group ≡ true }
+    ensures { result ≡ its_move (K.state kernel.now) entry.now }
+{
+    if !kernel.first_alive(entry.pid) || requested(kernel, entry.group) == entry.target {
+        return None;
+    }
+    Some(Write {
+        group: entry.group,
+        cpus: entry.target,
+    })
 }
 
 /// The write that is due: of the first live container that holds what it is to let go, else of the first that does not
@@ -77,11 +78,10 @@ pub fn due<K: Kernel>(kernel: &K, reserved: &IdSet, entries: &[Entry]) -> Option
 {
     let mut first_move = None;
     for entry in entries {
-        match wanted(kernel, reserved, entry) {
-            Want::Release(write) => return Some(write),
-            Want::Move(write) => first_move = first_move.or(Some(write)),
-            Want::Nothing => {}
+        if let Some(write) = release_of(kernel, reserved, entry) {
+            return Some(write);
         }
+        first_move = first_move.or(move_of(kernel, entry));
     }
     first_move
 }

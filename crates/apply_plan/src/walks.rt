@@ -1,11 +1,10 @@
 //! All writes of a hand-over, in two walks over its entries.
-ghost use Rattle.std.specs.Prelude.{◌≡◌, false};
 ghost use Rattle.apply_plan.specs.Targets.{IsHandover, IsPlaced, ArePlaced};
 ghost use Rattle.apply_plan.specs.DueWrite.{must_release};
 ghost use Rattle.apply_plan.specs.Walks.{its_release, its_move, IsMadeIfAny, NoneMust, LetsGo, TakesTargets};
 
 use crate::Entry;
-use crate::scan::{Want, wanted};
+use crate::scan::{move_of, release_of};
 use cpu_set::IdSet;
 use kernel_model::{Kernel, KernelFault};
 
@@ -14,26 +13,20 @@ fn let_go<K: Kernel>(kernel: &mut K, reserved: &IdSet, entry: &Entry) -> Result<
     requires { IsPlaced (K.state kernel.old) entry.now.group }
     ensures { IsMadeIfAny (its_release (K.state kernel.old) reserved.now entry.now) (K.state kernel.old) result (K.state kernel.new) }
 {
-    match wanted(&*kernel, reserved, entry) {
-        Want::Release(write) => kernel.write_cpus(write.group, write.cpus),
-        Want::Move(_) | Want::Nothing => Ok(()),
+    match release_of(&*kernel, reserved, entry) {
+        Some(write) => kernel.write_cpus(write.group, write.cpus),
+        None => Ok(()),
     }
 }
 
-/// Gives one container that need not let go its target, where it does not hold that.
-fn take_target<K: Kernel>(
-    kernel: &mut K,
-    reserved: &IdSet,
-    entry: &Entry,
-) -> Result<(), KernelFault>
-    requires placed { IsPlaced (K.state kernel.old) entry.now.group }
-    requires keeps { must_release (K.state kernel.old) reserved.now entry.now ≡ false }
+/// Gives one container its target, where it does not hold that.
+fn take_target<K: Kernel>(kernel: &mut K, entry: &Entry) -> Result<(), KernelFault>
+    requires { IsPlaced (K.state kernel.old) entry.now.group }
     ensures { IsMadeIfAny (its_move (K.state kernel.old) entry.now) (K.state kernel.old) result (K.state kernel.new) }
 {
-    match wanted(&*kernel, reserved, entry) {
-        Want::Release(_) => unreachable!(),
-        Want::Move(write) => kernel.write_cpus(write.group, write.cpus),
-        Want::Nothing => Ok(()),
+    match move_of(&*kernel, entry) {
+        Some(write) => kernel.write_cpus(write.group, write.cpus),
+        None => Ok(()),
     }
 }
 
@@ -65,7 +58,7 @@ pub fn take_all_targets<K: Kernel>(
     ensures { TakesTargets (record { entries = entries.now; reserved = reserved.now }) (K.state kernel.old) result (K.state kernel.new) }
 {
     for entry in entries {
-        take_target(kernel, reserved, entry)?;
+        take_target(kernel, entry)?;
     }
     Ok(())
 }

@@ -1,20 +1,22 @@
 //! What a plan costs, and what its rows are worth.
-ghost use Rattle.std.specs.Prelude.{◌≡◌, ◌≤◌, ◌*◌, IsTrue, length, sum_by, unwrap_or};
+ghost use Rattle.std.specs.Prelude.{◌≡◌, ℕ, ◌≤◌, ◌*◌, IsTrue, List, length, sum_by, unwrap_or};
 ghost use Rattle.std.specs.List.{list_all};
 ghost use Rattle.std.specs.FinSet as set;
+ghost use Rattle.cpu_set.specs.Ids.{Ids};
 ghost use Rattle.cpu_set.specs.Members.{InRange, members};
 ghost use Rattle.certificate.specs.Weight.{weight_in};
 ghost use Rattle.certificate.specs.Cost.{row_cost, cost};
 ghost use Rattle.certificate.specs.IsBound.{worth};
+ghost use Rattle.certificate.specs.IsProved.{IsProved};
 ghost use Rattle.certificate.specs.Price.{all_prices};
 ghost use Rattle.certificate.specs.Limits.{offers_fit, row_fits, values_fit, prices_fit};
 
-use crate::{MAX_AMOUNT, MAX_DEMAND, MAX_ROWS, MAX_WEIGHT, Offer, Price, Row};
+use crate::{MAX_AMOUNT, MAX_DEMAND, MAX_ROWS, MAX_WEIGHT, Offer, Price, Prices, Row};
 use cpu_set::{CPU_LIMIT, IdSet};
 
 /// What a plan costs: the weights of the CPUs that its rows hold, summed. A CPU without a weight in its row
 /// counts nothing. Takes no memory.
-pub fn plan_cost(rows: &[Row], sets: &[IdSet]) -> u64
+pub(crate) fn plan_cost(rows: &[Row], sets: &[IdSet]) -> u64
     requires few { length rows.now ≤ MAX_ROWS }
     requires fit { IsTrue (list_all row_fits rows.now) }
     requires same { length sets.now ≡ length rows.now }
@@ -59,6 +61,17 @@ fn shared_count(held: &IdSet, cpus: &IdSet) -> u32
         return 0;
     }
     shared.count()
+}
+
+/// What a plan costs that values and prices prove to cost the least: what its rows are worth, less the prices of all CPUs.
+/// Takes no memory, and a step for each row and price.
+pub fn proved_cost(rows: &[Row], prices: &Prices) -> u64
+    requires { (sets : List Ids) × (total : ℕ) × IsProved rows.now sets prices.now total }
+    ensures { (sets : List Ids) (total : ℕ) → IsProved rows.now sets prices.now total → result ≡ total }
+{
+    let values = prices.values.as_slice();
+    let of_cpu = prices.of_cpu.as_slice();
+    worth(rows, values) - price_sum(of_cpu)
 }
 
 /// The prices of all CPUs, summed price by price: no CPU has two.

@@ -24,7 +24,7 @@ mod value_checks;
 
 pub use check_faults::CheckFault;
 pub use checks::check_plan;
-pub use costs::plan_cost;
+pub use costs::proved_cost;
 pub use laws::{
     a_shortage_leaves_no_plan, no_plan_is_below_a_bound, the_limits, what_is_proved_has_no_fault,
     what_is_within_the_limits,

@@ -13,7 +13,8 @@ use Rattle.certificate.specs.Weight.{weight_in}
 use Rattle.certificate.specs.RowView.{RowView}
 use Rattle.certificate.specs.AreWithin.{AreRowsWithin}
 use Rattle.certificate.specs.declared.rows.Offer.{Offer}
-use Rattle.transport.specs.Weights.{offers_of, class_weight, AreLines, AreNewLines}
+use Rattle.twins.specs.Kinds.{offers_of, kind_at, AreKinds}
+use Rattle.transport.specs.Weights.{class_weight, AreLines, AreNewLines}
 use Rattle.transport.specs.declared.tables.Table.{Table}
 use Rattle.certificate.specs.declared.limits.TheConstants.{MAX_WEIGHT}
 use Rattle.transport.specs.Numbers.{number}
@@ -171,8 +172,9 @@ new_line offers firsts free l apart long h = record {
     }
 
 -- one row's line more
-pub lines_more : (rows : List RowView) (lines : List Line) (k : ℕ) (offers : List Offer) (l : Line) → AreNewLines rows lines k → offers ≡ offers_of rows k → IsNewLine offers l → AreNewLines rows (lines ++ l ∷ []) (k + 1)
-lines_more rows lines k offers l h are own = record {
+pub lines_more : (rows : List RowView) (kinds : List ℕ) (lines : List Line) (k : ℕ) (l : Line) → AreNewLines rows kinds lines k
+    → (kind_at kinds k ≡ k → IsNewLine (offers_of rows k) l) → AreNewLines rows kinds (lines ++ l ∷ []) (k + 1)
+lines_more rows kinds lines k l h own = record {
   long = omega (arith, length_push lines l, h.long);
   each = λ j m is. elim (cases_lt j (length lines)) [
     | inl before ↦ h.each j m (slice_get-get_or lines j m before ∙ ap Some (sym (get_or_append_left lines (l ∷ []) m j before) ∙ get_or_from_slice_get (lines ++ l ∷ []) j m m is))
@@ -180,16 +182,18 @@ lines_more rows lines k offers l h are own = record {
   ];
 }
   where
-    last : (j : ℕ) (m : Line) → slice_get (lines ++ l ∷ []) j ≡ Some m → length lines ≡ j → IsNewLine (offers_of rows j) m
-    last j m is e =
+    last : (j : ℕ) (m : Line) → slice_get (lines ++ l ∷ []) j ≡ Some m → length lines ≡ j → kind_at kinds j ≡ j → IsNewLine (offers_of rows j) m
+    last j m is e first =
         let same : l ≡ m = sym (get_or_push lines l m j e) ∙ get_or_from_slice_get (lines ++ l ∷ []) j m m is in
         let place : k ≡ j = sym h.long ∙ e in
-        subst (IsNewLine (offers_of rows j)) same (subst (λ o. IsNewLine o l) (are ∙ ap (offers_of rows) place) own)
+        subst (IsNewLine (offers_of rows j)) same (subst (λ x. kind_at kinds x ≡ x → IsNewLine (offers_of rows x) l) place own first)
 
-pub lines_new : (t : Table) (free : List ℕ) (lines : List Line) → AreRowsWithin t.rows.now → length t.firsts ≤ length free → AreNewLines t.rows.now lines (length t.rows.now) → AreLines t free lines
-lines_new t free lines fit long h = record {
+pub lines_new : (t : Table) (free : List ℕ) (lines : List Line) → AreRowsWithin t.rows.now → AreKinds t.rows.now (length t.rows.now) t.kinds.now → length t.firsts ≤ length free
+    → AreNewLines t.rows.now t.kinds.now lines (length t.rows.now) → AreLines t free lines
+lines_new t free lines fit kinds long h = record {
   long = h.long;
-  each = λ k l is. new_line (offers_of t.rows.now k) t.firsts free l (apart k (omega (arith, slice_get_within lines k l is, h.long))) long (h.each k l is);
+  kinds = kinds;
+  each = λ k l is first. new_line (offers_of t.rows.now k) t.firsts free l (apart k (omega (arith, slice_get_within lines k l is, h.long))) long (h.each k l is first);
 }
   where
     none : RowView

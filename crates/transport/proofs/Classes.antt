@@ -17,7 +17,8 @@ use Rattle.certificate.specs.Weight.{weight, weight_in}
 use Rattle.twins.specs.IsGrouping.{class_at, IsGrouping}
 use Rattle.twins.specs.ClassWeight as twins
 use Rattle.transport.specs.Numbers.{number, IsEachOnce}
-use Rattle.transport.specs.Weights.{offers_of, class_weight}
+use Rattle.twins.specs.Kinds.{offers_of}
+use Rattle.transport.specs.Weights.{class_weight}
 use Rattle.transport.specs.Firsts.{first_of}
 
 -- a set with members has a least one

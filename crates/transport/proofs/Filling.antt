@@ -14,7 +14,8 @@ use Rattle.transport.specs.Shares.{AllBelow}
 use Rattle.transport.specs.Duals.{IsTight}
 use Rattle.transport.specs.Numbers.{number}
 use Rattle.transport.specs.Totals.{total, row_total, class_total, IsShared}
-use Rattle.transport.specs.Weights.{weights, offers_of, AreNewLines}
+use Rattle.twins.specs.Kinds.{offers_of, AreKinds}
+use Rattle.transport.specs.Weights.{weights, AreNewLines}
 use Rattle.transport.specs.States.{cell, shares_of, AreHoldings}
 use Rattle.transport.specs.Searches.{IsSearch, AreWeights}
 use Rattle.transport.specs.Settled.{IsSettled}
@@ -172,8 +173,8 @@ grow x y a after le most =
     omega (arith, most, up)
 
 -- before the first row
-module _ (t : Table) (sizes : List ℕ) (s : State) (lines : List Line) (fit : AreRowsWithin t.rows.now) (long : length t.firsts ≡ length sizes) (h : IsFirst t.rows.now sizes s)
-    (new : AreNewLines t.rows.now lines (length t.rows.now)) where
+module _ (t : Table) (sizes : List ℕ) (s : State) (lines : List Line) (fit : AreRowsWithin t.rows.now) (kinds : AreKinds t.rows.now (length t.rows.now) t.kinds.now)
+    (long : length t.firsts ≡ length sizes) (h : IsFirst t.rows.now sizes s) (new : AreNewLines t.rows.now t.kinds.now lines (length t.rows.now)) where
   no_cell : (k g : ℕ) → cell s.holdings.items k g ≡ 0
   no_cell k g = ap (share_of k) (h.holdings g)
 
@@ -213,7 +214,7 @@ module _ (t : Table) (sizes : List ℕ) (s : State) (lines : List Line) (fit : A
     prices_long = h.prices_long;
     unmet_long = ap length h.unmet ∙ length-map t.rows.now (λ (r : RowView). r.demand);
     settled = first_settled;
-    lines_are = lines_new t s.free.items lines fit (omega (arith, long, ap length h.free)) new;
+    lines_are = lines_new t s.free.items lines fit kinds (omega (arith, long, ap length h.free)) new;
     shared = record {
       by_row = λ k lt. omega (arith, no_row_total k, ap (λ u. number u k) h.unmet);
       by_class = λ g lt. omega (arith, no_class_total g, ap (λ f. number f g) h.free);

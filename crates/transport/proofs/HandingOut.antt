@@ -11,7 +11,8 @@ use Rattle.transport.specs.Searches.{is_taken}
 use Rattle.transport.specs.Totals.{row_total, class_total}
 use Rattle.transport.specs.Lines.{IsLine}
 use Rattle.transport.specs.Looks.{arc_at}
-use Rattle.transport.specs.Weights.{weights, offers_of, AreLines}
+use Rattle.twins.specs.Kinds.{offers_of}
+use Rattle.transport.specs.Weights.{weights, AreLines}
 use Rattle.transport.specs.States.{cell, IsRunning}
 use Rattle.transport.specs.Answers.{IsClosed, IsFound, IsAnswer, IsSameRest}
 use Rattle.transport.specs.Pushes.{in_hand}
@@ -44,7 +45,8 @@ line_free ws offers firsts free less l h long down = record {
 pub lines_free : (t : Table) (free less : List ℕ) (lines : List Line) → AreLines t free lines → length less ≡ length free → ((g : ℕ) → number less g ≤ number free g) → AreLines t less lines
 lines_free t free less lines h long down = record {
   long = h.long;
-  each = λ k l is. line_free (weights t k) (offers_of t.rows.now k) t.firsts free less l (h.each k l is) long down;
+  kinds = h.kinds;
+  each = λ k l is first. line_free (weights t k) (offers_of t.rows.now k) t.firsts free less l (h.each k l is first) long down;
 }
 
 -- no row has more room than the root

@@ -13,10 +13,7 @@ use Rattle.transport.specs.declared.lines.Bid.{Bid}
 use Rattle.transport.specs.declared.lines.Arc.{Arc}
 use Rattle.transport.specs.declared.lines.Line.{Line}
 use Rattle.transport.proofs.Numbers.{not_both}
-
-pub past_up : (o : Option ℕ) (v w : ℕ) → v ≤ w → IsPast o v → IsPast o w
-past_up None v w le h = h
-past_up (Some x) v w le h = omega (arith, h, le)
+use Rattle.transport.proofs.Noting.{past_rise}
 
 -- where the cursor stops at an arc, each class is before it or no lighter
 pub scanned_at : (ws : ℕ → Option ℕ) (offers : List Offer) (firsts free : List ℕ) (l : Line) (limit : Option ℕ) → IsLine ws offers firsts free l → l.cursor < length l.arcs.items
@@ -24,9 +21,9 @@ pub scanned_at : (ws : ℕ → Option ℕ) (offers : List Offer) (firsts free : 
 scanned_at ws offers firsts free l limit h lt past g w its = elim (h.arcs.all g w its) [
   | inl a ↦ elim (cases_lt a.place l.cursor) [
     | inl before ↦ inl (record { place = a.place; within = before; class = a.class; weight = a.weight })
-    | inr after ↦ inr (past_up limit _ w (omega (arith, h.arcs.rising l.cursor a.place after a.within, a.weight)) past)
+    | inr after ↦ inr (past_rise limit _ w (omega (arith, h.arcs.rising l.cursor a.place after a.within, a.weight)) past)
   ]
-  | inr b ↦ inr (past_up limit _ w (heavier b) past)
+  | inr b ↦ inr (past_rise limit _ w (heavier b) past)
 ]
   where
     heavier : IsToCome offers firsts l.bids.items l.opened g w → (arc_at l.arcs.items l.cursor).weight ≤ w
@@ -40,7 +37,7 @@ pub scanned_end : (ws : ℕ → Option ℕ) (offers : List Offer) (firsts free :
     → (l.opened < length l.bids.items → IsPast limit (bid_at l.bids.items l.opened).weight) → IsScanned ws l limit
 scanned_end ws offers firsts free l limit h done past g w its = elim (h.arcs.all g w its) [
   | inl a ↦ inl (record { place = a.place; within = omega (arith, a.within, done); class = a.class; weight = a.weight })
-  | inr b ↦ inr (past_up limit _ w (heavier b) (past (omega (arith, b.from, b.within))))
+  | inr b ↦ inr (past_rise limit _ w (heavier b) (past (omega (arith, b.from, b.within))))
 ]
   where
     heavier : IsToCome offers firsts l.bids.items l.opened g w → (bid_at l.bids.items l.opened).weight ≤ w

@@ -10,8 +10,9 @@ use Rattle.transport.specs.Queues.{is_reached, place, row_at}
 use Rattle.transport.specs.Searches.{is_taken, IsCovered}
 use Rattle.transport.specs.States.{IsRunning, HasLooked}
 use Rattle.transport.specs.Looks.{IsPast, IsLimit, CanLimit, IsBetter, HasNoted, CanNoteArcs, IsSeen, IsExitNoted, arc_at}
-use Rattle.transport.specs.Lines.{IsArc, IsLine, IsScanned, IsFoundExit}
-use Rattle.transport.specs.Weights.{offers_of, weights, AreLines}
+use Rattle.transport.specs.Lines.{weight_of, IsArc, IsLine, IsScanned, IsFoundExit}
+use Rattle.twins.specs.Kinds.{offers_of, kind_at, IsKindOf}
+use Rattle.transport.specs.Weights.{weights, AreLines}
 use Rattle.transport.specs.declared.tables.Table.{Table}
 use Rattle.transport.specs.declared.notes.Exit.{Exit}
 use Rattle.transport.specs.declared.states.State.{State}
@@ -19,8 +20,7 @@ use Rattle.transport.specs.declared.trees.Tree.{Tree}
 use Rattle.transport.specs.declared.lines.Arc.{Arc}
 use Rattle.transport.specs.declared.lines.Line.{Line}
 use Rattle.transport.proofs.QueueLemmas.{marked_below}
-use Rattle.transport.proofs.Noting.{better_more, better_exit, covered_past, looked_better}
-use Rattle.transport.proofs.LineLemmas.{past_up}
+use Rattle.transport.proofs.Noting.{better_more, better_exit, covered_past, looked_better, past_rise}
 
 row_below : (ws : ℕ → ℕ → Option ℕ) (s : State) (t : Tree) (k : ℕ) → IsRunning ws s t → is_reached t.queue k ≡ true → k < length s.values.items
 row_below ws s t k h on = omega (arith, marked_below t.queue.reached.items k on, h.search.queue.reached_long)
@@ -96,7 +96,7 @@ seen ws s t mid new k l limit b scanned at n = record {
   better = better_more ws s t mid new b n.better;
   own = λ g w its off. elim (scanned g w its) [
     | inl a ↦ at_arc g w a off
-    | inr past ↦ covered_past s new.notes k g w new.notes.exit limit refl (subst (λ e. IsLimit s.values.items k e limit) (sym n.exit) at) (past_up limit w _ (omega arith) past)
+    | inr past ↦ covered_past s new.notes k g w new.notes.exit limit refl (subst (λ e. IsLimit s.values.items k e limit) (sym n.exit) at) (past_rise limit w _ (omega arith) past)
   ];
 }
   where
@@ -140,26 +140,47 @@ row_read ws s t at k h lt is =
     let e : row_at t.queue at ≡ k = sym (get_or_read t.queue.order.items at k lt is 0) in
     (e, subst (λ x. is_reached t.queue x ≡ true) e (h.search.queue.on at lt))
 
-pub line_of : (t : Table) (free : List ℕ) (lines : List Line) (k : ℕ) (d : Line) → AreLines t free lines → k < length lines → IsLine (weights t k) (offers_of t.rows.now k) t.firsts free (get_or lines k d)
-line_of t free lines k d h lt = h.each k (get_or lines k d) (slice_get-get_or lines k d lt)
+-- the line that a row shares with its kind
+pub line_of : (t : Table) (free : List ℕ) (lines : List Line) (k : ℕ) (d : Line) → AreLines t free lines → k < length lines
+    → IsLine (weights t k) (offers_of t.rows.now k) t.firsts free (get_or lines (kind_at t.kinds.now k) d)
+line_of t free lines k d h lt =
+    let own = h.kinds.each k (omega (arith, lt, h.long)) in
+    subst (λ o. IsLine (weight_of o t.firsts) o t.firsts free (get_or lines (kind_at t.kinds.now k) d)) own.same
+    (h.each (kind_at t.kinds.now k) (get_or lines (kind_at t.kinds.now k) d) (slice_get-get_or lines (kind_at t.kinds.now k) d (omega (arith, own.no_later, lt))) own.first)
 
-pub lines_set : (t : Table) (free : List ℕ) (lines : List Line) (k : ℕ) (l : Line) → AreLines t free lines → k < length lines → IsLine (weights t k) (offers_of t.rows.now k) t.firsts free l → AreLines t free (set lines k l)
+pub kind_in : (t : Table) (free : List ℕ) (lines : List Line) (k : ℕ) → AreLines t free lines → k < length lines → kind_at t.kinds.now k < length lines
+kind_in t free lines k h lt =
+    let own = h.kinds.each k (omega (arith, lt, h.long)) in
+    omega (arith, own.no_later, lt)
+
+pub lines_set : (t : Table) (free : List ℕ) (lines : List Line) (k : ℕ) (l : Line) → AreLines t free lines → k < length lines
+    → IsLine (weights t k) (offers_of t.rows.now k) t.firsts free l → AreLines t free (set lines (kind_at t.kinds.now k) l)
 lines_set t free lines k l h lt own = record {
-  long = length-set lines k l ∙ h.long;
+  long = length-set lines kind l ∙ h.long;
+  kinds = h.kinds;
   each = each;
 }
   where
-    at_own : (j : ℕ) (m : Line) → j ≡ k → slice_get (set lines k l) j ≡ Some m → IsLine (weights t j) (offers_of t.rows.now j) t.firsts free m
-    at_own j m e its =
-        let here : get_or (set lines k l) k l ≡ m = get_or_from_slice_get (set lines k l) k m l (subst (λ x. slice_get (set lines k l) x ≡ Some m) e its) in
-        let same : l ≡ m = sym (get_or-set_same lines k l l lt) ∙ here in
-        subst (λ x. IsLine (weights t x) (offers_of t.rows.now x) t.firsts free m) (sym e)
-        (subst (λ (y : Line). IsLine (weights t k) (offers_of t.rows.now k) t.firsts free y) same own)
+    kind : ℕ
+    kind = kind_at t.kinds.now k
 
-    each : (j : ℕ) (m : Line) → slice_get (set lines k l) j ≡ Some m → IsLine (weights t j) (offers_of t.rows.now j) t.firsts free m
-    each j m its = elim (cases_eq j k) [
-      | inl e ↦ at_own j m e its
-      | inr ne ↦ (let here : get_or lines j l ≡ m = sym (get_or-set_other lines k j l l ne) ∙ get_or_from_slice_get (set lines k l) j m l its in
-          let in_lines : j < length lines = omega (arith, slice_get_within (set lines k l) j m its, length-set lines k l) in
-          subst (λ (y : Line). IsLine (weights t j) (offers_of t.rows.now j) t.firsts free y) here (line_of t free lines j l h in_lines))
+    its_kind : IsKindOf t.rows.now t.kinds.now k kind
+    its_kind = h.kinds.each k (omega (arith, lt, h.long))
+
+    own_kind : IsLine (weights t kind) (offers_of t.rows.now kind) t.firsts free l
+    own_kind = subst (λ o. IsLine (weight_of o t.firsts) o t.firsts free l) (sym its_kind.same) own
+
+    at_kind : (j : ℕ) (m : Line) → j ≡ kind → slice_get (set lines kind l) j ≡ Some m → IsLine (weights t j) (offers_of t.rows.now j) t.firsts free m
+    at_kind j m e its =
+        let here : get_or (set lines kind l) kind l ≡ m = get_or_from_slice_get (set lines kind l) kind m l (subst (λ x. slice_get (set lines kind l) x ≡ Some m) e its) in
+        let same : l ≡ m = sym (get_or-set_same lines kind l l (omega (arith, its_kind.no_later, lt))) ∙ here in
+        subst (λ x. IsLine (weights t x) (offers_of t.rows.now x) t.firsts free m) (sym e)
+        (subst (λ (y : Line). IsLine (weights t kind) (offers_of t.rows.now kind) t.firsts free y) same own_kind)
+
+    each : (j : ℕ) (m : Line) → slice_get (set lines kind l) j ≡ Some m → kind_at t.kinds.now j ≡ j → IsLine (weights t j) (offers_of t.rows.now j) t.firsts free m
+    each j m its first = elim (cases_eq j kind) [
+      | inl e ↦ at_kind j m e its
+      | inr ne ↦ (let here : get_or lines j l ≡ m = sym (get_or-set_other lines kind j l l ne) ∙ get_or_from_slice_get (set lines kind l) j m l its in
+          let in_lines : j < length lines = omega (arith, slice_get_within (set lines kind l) j m its, length-set lines kind l) in
+          subst (λ (y : Line). IsLine (weights t j) (offers_of t.rows.now j) t.firsts free y) here (h.each j (get_or lines j l) (slice_get-get_or lines j l in_lines) first))
     ]

@@ -1,12 +1,12 @@
 -- A class is noted, or the exit, and what a search knows stays true.
-use Rattle.std.proofs.Common.{◌≡◌, ℕ, ◌+◌, ◌<◌, ◌≤◌, true, false, List, [], ◌∷◌, ◌++◌, length, get_or, set, Option, Some, None, Vec, Global, refl, sym, ap, ◌∙◌, subst, inl, inr, arith}
+use Rattle.std.proofs.Common.{◌≡◌, ℕ, ◌+◌, ◌-◌, ◌^◌, ◌<◌, ◌≤◌, true, false, List, [], ◌∷◌, ◌++◌, length, get_or, set, Option, Some, None, Vec, Global, refl, sym, ap, ◌∙◌, subst, inl, inr, arith}
 use Rattle.std.proofs.lemmas.List.{length-set, length_push, get_or-set_same, get_or-set_other, get_or_push, get_or_append_left}
 use Rattle.std.proofs.lemmas.Bool.{cases_eq, cases_lt}
 use Rattle.transport.specs.Numbers.{number, IsIn}
 use Rattle.transport.specs.Queues.{is_reached}
 use Rattle.transport.specs.Searches.{near_of, is_taken, IsNoted, IsExit, IsSearch, IsCovered}
 use Rattle.transport.specs.States.{IsRunning, HasLooked, cell}
-use Rattle.transport.specs.Looks.{IsPast, IsLimit, IsNotedNow, IsBetter, CanNote, CanNoteArc, CanNoteArcs, IsArcNoted, HasNoted, arc_at}
+use Rattle.transport.specs.Looks.{IsPast, IsLimit, IsBoundOf, IsNotedNow, IsBetter, CanNote, CanNoteArc, CanNoteArcs, IsArcNoted, HasNoted, arc_at}
 use Rattle.transport.specs.declared.notes.Near.{Near}
 use Rattle.transport.specs.declared.notes.Exit.{Exit}
 use Rattle.transport.specs.declared.notes.Notes.{Notes}
@@ -270,6 +270,10 @@ noted_past ws s a b k arcs i upto limit h l past = record {
     past_more : (o : Option ℕ) (w p : ℕ) → IsPast o w → IsPast o (w + p)
     past_more None w p h = h
     past_more (Some x) w p h = omega (arith, h)
+
+pub past_of : (limit : Option ℕ) (bound w : ℕ) → IsBoundOf limit bound → w < 2 ^ 64 - 1 → bound ≤ w → IsPast limit w
+past_of None bound w is small le = omega (arith, is, small, le)
+past_of (Some limit) bound w is small le = omega (arith, is, le)
 
 pub past_rise : (o : Option ℕ) (v w : ℕ) → v ≤ w → IsPast o v → IsPast o w
 past_rise None v w le h = h

@@ -11,6 +11,7 @@ use Rattle.certificate.specs.RowView.{RowView}
 use Rattle.certificate.specs.IsShortage.{asked}
 use Rattle.certificate.specs.Limits.{row_fits, rows_fit, values_fit}
 use Rattle.certificate.specs.Cost.{cost}
+use Rattle.certificate.specs.IsProved.{IsProved}
 use Rattle.certificate.specs.Laws.{ProvedIsLeast}
 use Rattle.certificate.specs.Tests.{and_right, both}
 use Rattle.certificate.specs.declared.price_lists.Price.{Price}
@@ -114,6 +115,21 @@ module _
   pub room_at : (holdings : List (List Share)) → holdings ≡ s.holdings.items → (g : ℕ) → held_of holdings g ≤ set.len (class_at classes g)
   room_at holdings same g = subst (λ xs. held_of xs g ≤ set.len (class_at classes g)) (sym same) (room g)
 
+  proved_plan :
+      (sets : List Ids) → IsTrue (rows_fit rows) → IsDeal classes s.holdings.items sets → length sets ≡ length rows → ClassesProvePlans
+      → IsProved rows sets (record { values = s.values.items; of_cpu = class_prices classes s.prices.items }) (cost rows sets)
+      × All (λ p. (0 < p.amount) × (0 < set.len p.cpus)) (class_prices classes s.prices.items)
+  proved_plan sets fit deal long prove =
+      prove rows classes s.holdings.items sets s.values.items s.prices.items fit
+      (small_values s.values.items done.settled.values_low) (small_values s.prices.items done.settled.prices_low) grouping deal long priced
+
+  pub is_proved :
+      (holdings : List (List Share)) (sets : List Ids) (of_cpu : List Price) → holdings ≡ s.holdings.items → IsTrue (rows_fit rows)
+      → IsDeal classes holdings sets → length sets ≡ length rows → of_cpu ≡ class_prices classes s.prices.items → ClassesProvePlans
+      → IsProved rows sets (record { values = s.values.items; of_cpu = of_cpu }) (cost rows sets)
+  is_proved holdings sets of_cpu same fit deal long prices prove =
+      rw prices (proved_plan sets fit (subst (λ xs. IsDeal classes xs sets) same deal) long prove).0
+
   pub solved_plan :
       (holdings : List (List Share)) (sets : List Ids) (of_cpu : List Price) (spent : ℕ) → holdings ≡ s.holdings.items → IsTrue (rows_fit rows)
       → IsDeal classes holdings sets → length sets ≡ length rows → of_cpu ≡ class_prices classes s.prices.items → spent ≡ cost rows sets
@@ -121,8 +137,7 @@ module _
       → IsSolvedPlan rows sets (record { values = s.values.items; of_cpu = of_cpu }) spent turns
   solved_plan holdings sets of_cpu spent same fit deal long prices costs prove dealt least =
       let deal_here : IsDeal classes s.holdings.items sets = subst (λ xs. IsDeal classes xs sets) same deal in
-      let both = prove rows classes s.holdings.items sets s.values.items s.prices.items fit
-      (small_values s.values.items done.settled.values_low) (small_values s.prices.items done.settled.prices_low) grouping deal_here long priced in
+      let both = proved_plan sets fit deal_here long prove in
       rw (prices, costs) (record {
         proved = both.0;
         least = least rows sets (record { values = s.values.items; of_cpu = class_prices classes s.prices.items }) (cost rows sets) both.0;

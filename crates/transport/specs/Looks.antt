@@ -1,5 +1,5 @@
 -- What a look at a row notes.
-use Rattle.std.specs.Prelude.{◌≡◌, ℕ, ◌+◌, ◌<◌, ◌≤◌, true, false, Option, Some, None, List, ◌⊎◌, length, slice_index_or}
+use Rattle.std.specs.Prelude.{◌≡◌, ℕ, ◌+◌, ◌-◌, ◌<◌, ◌≤◌, ◌^◌, true, false, Option, Some, None, List, ◌⊎◌, length, slice_index_or}
 use Rattle.transport.specs.Numbers.{number, IsIn}
 use Rattle.transport.specs.Queues.{is_reached}
 use Rattle.transport.specs.Searches.{near_of, is_taken, IsCovered, top, weight_limit}
@@ -22,6 +22,11 @@ IsLimit values k None None = Unit {0}
 IsLimit values k None (Some l) = ⊥
 IsLimit values k (Some e) None = ⊥
 IsLimit values k (Some e) (Some l) = l + number values e.near.row ≡ e.near.weight + number values k
+
+-- the limit, or where there is none a number that no weight with a price comes to
+abbrev pub IsBoundOf : Option ℕ → ℕ → Type 0
+IsBoundOf None bound = bound ≡ 2 ^ 64 - 1
+IsBoundOf (Some limit) bound = bound ≡ limit
 
 -- rows in range, and an exit no nearer than its row's value allows
 pub record CanLimit (values : List ℕ) (k : ℕ) (exit : Option Exit) : Type 0 where

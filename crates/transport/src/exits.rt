@@ -2,7 +2,8 @@ ghost use Rattle.std.specs.Prelude.{◌≡◌, ℕ, ◌+◌, ◌<◌, ◌≤◌,
 ghost use Rattle.transport.specs.Queues.{is_reached};
 ghost use Rattle.transport.specs.States.{IsRunning};
 ghost use Rattle.transport.specs.Lines.{IsLine, IsFoundExit, IsScanned};
-ghost use Rattle.transport.specs.Weights.{weights, offers_of, AreLines};
+ghost use Rattle.twins.specs.Kinds.{offers_of};
+ghost use Rattle.transport.specs.Weights.{weights, AreLines};
 ghost use Rattle.transport.specs.Looks.{IsLimit, CanLimit, IsBetter, IsExitNoted};
 ghost use Rattle.transport.specs.Answers.{IsNoExitAt0, IsExitAt0};
 
@@ -33,7 +34,8 @@ pub(crate) fn seek_exits(
 {
     for at in from..tree.queue.order.len() {
         let row = tree.queue.order[at];
-        seek_exit(table, state, &mut lines[row], tree, row)?;
+        let line = table.kinds[row];
+        seek_exit(table, state, &mut lines[line], tree, row)?;
         if let Some(exit) = nearest_exit(state, tree) {
             return Ok(Some(exit));
         }

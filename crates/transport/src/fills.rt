@@ -1,5 +1,6 @@
 ghost use Rattle.std.specs.Prelude.{◌≡◌, ℕ, ◌+◌, ◌*◌, ◌<◌, ◌≤◌, ◌^◌, length, IfOk};
 ghost use Rattle.certificate.specs.AreWithin.{AreRowsWithin};
+ghost use Rattle.twins.specs.Kinds.{AreKinds};
 ghost use Rattle.transport.specs.Numbers.{number};
 ghost use Rattle.transport.specs.Weights.{weights, AreLines, AreNewLines};
 ghost use Rattle.transport.specs.Totals.{class_total};
@@ -39,12 +40,13 @@ pub enum Filled {
 /// asked for, and in a search at most one turn for each row and class.
 pub fn fill(alloc: Global, table: &Table, sizes: &[u32]) -> Result<Filled, AllocError>
     requires fit { AreRowsWithin table.now.rows.now }
+    requires kinds { AreKinds table.now.rows.now (length table.now.rows.now) table.now.kinds.now }
     requires classes { length table.now.firsts ≡ length sizes.now }
     requires few { length sizes.now ≤ 1024 }
     ensures { IfOk result (IsFilled table.now.rows.now table.now.firsts sizes.now) }
 {
     let mut state = State::first(alloc, table, sizes)?;
-    let mut lines = lines_of(alloc, table.rows)?;
+    let mut lines = lines_of(alloc, table.rows, table.kinds)?;
     let mut tree = Tree::new(alloc, table.rows.len(), sizes.len())?;
     let mut turns = 0;
     for row in 0..table.rows.len() {
@@ -55,13 +57,16 @@ pub fn fill(alloc: Global, table: &Table, sizes: &[u32]) -> Result<Filled, Alloc
     Ok(Filled::Done { state, turns })
 }
 
-/// The line of each row.
-fn lines_of(alloc: Global, rows: &[Row]) -> Result<Vec<Line>, AllocError>
-    ensures { IfOk result (λ lines. AreNewLines rows.now lines.items (length rows.now)) }
+/// A line for each row that is the first of its kind, which the others share; theirs are without offers.
+fn lines_of(alloc: Global, rows: &[Row], kinds: &[usize]) -> Result<Vec<Line>, AllocError>
+    requires { length kinds.now ≡ length rows.now }
+    ensures { IfOk result (λ lines. AreNewLines rows.now kinds.now lines.items (length rows.now)) }
 {
-    let mut lines = Vec::new(alloc);
-    for row in rows {
-        lines.push(Line::new(alloc, row.offers.as_slice())?)?;
+    let mut lines = Vec::with_capacity(alloc, rows.len())?;
+    for (k, row) in rows.iter().enumerate() {
+        let offers = row.offers.as_slice();
+        let own = if kinds[k] == k { offers } else { &[] };
+        lines.push(Line::new(alloc, own)?)?;
     }
     Ok(lines)
 }
@@ -110,7 +115,8 @@ fn search_for(
     };
     *turns += 1;
     let amount = tree.queue.room[exit.near.row].min(state.free[exit.class]);
-    push(state, tree, exit, amount)?;
+    let asked = &table.rows[row];
+    push(state, tree, exit, amount, wanted == asked.demand)?;
     Ok(true)
 }
 

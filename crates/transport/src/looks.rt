@@ -2,11 +2,12 @@ ghost use Rattle.std.specs.Prelude.{◌≡◌, ℕ, ◌<◌, ◌≤◌, true, Op
 ghost use Rattle.transport.specs.Queues.{is_reached};
 ghost use Rattle.transport.specs.States.{IsRunning, HasLooked};
 ghost use Rattle.transport.specs.Lines.{IsLine};
-ghost use Rattle.transport.specs.Weights.{weights, offers_of, AreLines};
-ghost use Rattle.transport.specs.Looks.{IsLimit, CanNoteArc, CanNoteArcs, IsArcNoted, HasNoted, AreRising, IsBetter, IsSeen};
+ghost use Rattle.twins.specs.Kinds.{offers_of};
+ghost use Rattle.transport.specs.Weights.{weights, AreLines};
+ghost use Rattle.transport.specs.Looks.{IsLimit, IsBoundOf, CanNoteArc, CanNoteArcs, IsArcNoted, HasNoted, AreRising, IsBetter, IsSeen};
 
 use crate::exits::{limit_of, seek_exit};
-use crate::lines::{Arc, Line, is_past};
+use crate::lines::{Arc, Line};
 use crate::notes::Near;
 use crate::trees::Tree;
 use crate::{State, Table};
@@ -31,7 +32,8 @@ pub(crate) fn look_on(
 {
     for at in from..tree.queue.order.len() {
         let row = tree.queue.order[at];
-        look(table, state, &mut lines[row], tree, row)?;
+        let line = table.kinds[row];
+        look(table, state, &mut lines[line], tree, row)?;
     }
     Ok(())
 }
@@ -71,14 +73,25 @@ pub(crate) fn note_arcs(
     requires can { (ws : ℕ → ℕ → Option ℕ) × CanNoteArcs ws state.now tree.old row arcs.now upto }
     ensures { OnOk result ((ws : ℕ → ℕ → Option ℕ) → CanNoteArcs ws state.now tree.old row arcs.now upto → HasNoted ws state.now row tree.old tree.new arcs.now upto) }
 {
+    let bound = bound_of(limit);
     for at in 0..upto {
         let arc = arcs[at];
-        if is_past(limit, arc.weight as u64) {
+        if arc.weight as u64 >= bound {
             return Ok(());
         }
-        note_arc(state, tree, arc, row, limit)?;
+        note_arc(state, tree, arc, row, bound)?;
     }
     Ok(())
+}
+
+/// The limit as a number.
+fn bound_of(limit: Option<u64>) -> u64
+    ensures { IsBoundOf limit result }
+{
+    match limit {
+        Some(limit) => limit,
+        None => u64::MAX,
+    }
 }
 
 /// Notes an arc of a row, unless it lies past the exit or its class is taken up.
@@ -87,16 +100,16 @@ fn note_arc(
     tree: &mut Tree,
     arc: Arc,
     row: usize,
-    limit: Option<u64>,
+    bound: u64,
 ) -> Result<(), AllocError>
-    requires limit { IsLimit state.now.values.items row tree.old.notes.exit limit }
+    requires bound { (limit : Option ℕ) × IsLimit state.now.values.items row tree.old.notes.exit limit × IsBoundOf limit bound }
     requires can { (ws : ℕ → ℕ → Option ℕ) × CanNoteArc ws state.now tree.old row arc }
     ensures { OnOk result ((ws : ℕ → ℕ → Option ℕ) → CanNoteArc ws state.now tree.old row arc → IsArcNoted ws state.now row tree.old tree.new arc) }
 {
     if tree.takings.taken[arc.class] {
         return Ok(());
     }
-    if is_past(limit, arc.weight as u64 + state.prices[arc.class]) {
+    if arc.weight as u64 + state.prices[arc.class] >= bound {
         return Ok(());
     }
     let near = Near {

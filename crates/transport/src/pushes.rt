@@ -19,12 +19,13 @@ use std::alloc::AllocError;
 /// Moves CPUs along the way from the root to a class with a free CPU.
 ///
 /// From the exit back, each row takes the class that is nearer to the exit, and gives up as many CPUs of the
-/// one through which it was reached; the root gives up none.
+/// one through which it was reached; the root gives up none, and is new where it holds none.
 pub(crate) fn push(
     state: &mut State,
     tree: &Tree,
     exit: Exit,
     amount: u32,
+    is_new: bool,
 ) -> Result<(), AllocError>
     requires found { (ws : ℕ → ℕ → Option ℕ) × IsFound ws state.old tree.now exit }
     requires room { amount ≤ room tree.now.queue exit.near.row }
@@ -37,12 +38,12 @@ pub(crate) fn push(
     let mut class = exit.class;
     let mut row = exit.near.row;
     'way: while tree.queue.place[row] > 0 {
-        give_to(state, class, row, amount)?;
+        give_to(state, class, row, amount, false)?;
         class = tree.queue.via[row];
         take_from(state, class, row, amount);
         row = near_row(tree, class);
     }
-    give_to(state, class, row, amount)?;
+    give_to(state, class, row, amount, is_new)?;
     state.free[exit.class] -= amount;
     state.unmet[row] -= amount;
     Ok(())
@@ -60,14 +61,20 @@ fn near_row(tree: &Tree, class: usize) -> usize
 }
 
 /// Gives a row some CPUs of a class.
-fn give_to(state: &mut State, class: usize, row: usize, amount: u32) -> Result<(), AllocError>
+fn give_to(
+    state: &mut State,
+    class: usize,
+    row: usize,
+    amount: u32,
+    is_new: bool,
+) -> Result<(), AllocError>
     requires class { class < length state.old.holdings.items }
     requires room { cell state.old.holdings.items row class + amount < 2 ^ 32 }
     ensures given { OnOk result (IsGiven (cell state.old.holdings.items) (cell state.new.holdings.items) row class amount) }
     ensures holdings { OnOk result ((rows classes : ℕ) → row < rows → AreHoldings rows classes state.old.holdings.items → AreHoldings rows classes state.new.holdings.items) }
     ensures rest { OnOk result (IsSameButHoldings state.old state.new) }
 {
-    give(&mut state.holdings[class].shares, row, amount)?;
+    give(&mut state.holdings[class].shares, row, amount, is_new)?;
     Ok(())
 }
 

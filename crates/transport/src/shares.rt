@@ -5,11 +5,19 @@ ghost use Rattle.transport.specs.Shares.{IsShareGiven, IsShareTaken};
 use std::alloc::AllocError;
 use twins::Share;
 
-/// Gives a row some CPUs of the class.
-pub(crate) fn give(shares: &mut Vec<Share>, row: usize, amount: u32) -> Result<(), AllocError>
+/// Gives a row some CPUs of the class. A row that holds no CPUs yet is not looked for.
+pub(crate) fn give(
+    shares: &mut Vec<Share>,
+    row: usize,
+    amount: u32,
+    is_new: bool,
+) -> Result<(), AllocError>
     requires { share_of row shares.old.items + amount < 2 ^ 32 }
     ensures { OnOk result (IsShareGiven shares.old.items shares.new.items row amount) }
 {
+    if is_new {
+        return add(shares, row, amount);
+    }
     for at in 0..shares.len() {
         let share = shares[at];
         if share.row == row {
@@ -20,6 +28,13 @@ pub(crate) fn give(shares: &mut Vec<Share>, row: usize, amount: u32) -> Result<(
             return Ok(());
         }
     }
+    add(shares, row, amount)
+}
+
+/// Adds a share of the class.
+fn add(shares: &mut Vec<Share>, row: usize, amount: u32) -> Result<(), AllocError>
+    ensures { OnOk result (IsShareGiven shares.old.items shares.new.items row amount) }
+{
     shares.push(Share { row, amount })?;
     Ok(())
 }

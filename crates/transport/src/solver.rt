@@ -4,6 +4,7 @@ ghost use Rattle.std.specs.FinSet as set;
 ghost use Rattle.certificate.specs.AreWithin.{AreRowsWithin};
 ghost use Rattle.certificate.specs.Limits.{rows_fit};
 ghost use Rattle.twins.specs.IsGrouping.{IsGrouping};
+ghost use Rattle.twins.specs.Kinds.{AreKinds};
 ghost use Rattle.transport.specs.Filled.{IsDone, IsStuck, IsFilled};
 ghost use Rattle.transport.specs.Firsts.{first_of};
 ghost use Rattle.transport.specs.Solved.{IsRight, IsDecided, AreTwinsDealt, ArePricesOfClasses, AreTurns, IsSolved};
@@ -12,14 +13,14 @@ use crate::outlines::sizes_of;
 use crate::places::places_of;
 use crate::{Answer, Filled, Firsts, State, Table, fill};
 use certificate::{
-    Plan, Prices, Problem, Row, a_shortage_leaves_no_plan, no_plan_is_below_a_bound, plan_cost,
+    Plan, Prices, Problem, Row, a_shortage_leaves_no_plan, no_plan_is_below_a_bound, proved_cost,
     what_is_within_the_limits,
 };
 use cpu_set::{CPU_LIMIT, IdSet};
 use std::alloc::{AllocError, Global};
 use twins::{
     Classes, classes_prove_plans, closed_rows_are_short, deal, deals_of_twins_are_dealt, group,
-    prices_of,
+    kinds_of, prices_of,
 };
 
 /// A plan of the least cost with the values and prices that show it, or the rows of a shortage.
@@ -54,8 +55,10 @@ fn solved(alloc: Global, problem: &Problem) -> Result<Answer, AllocError>
     ensures { IfOk result (IsSolved problem.now) }
 {
     what_is_within_the_limits();
-    let classes = group(alloc, problem)?;
-    match filled(alloc, problem.rows.as_slice(), classes.sets.as_slice())? {
+    let rows = problem.rows.as_slice();
+    let kinds = kinds_of(alloc, rows)?;
+    let classes = group(alloc, problem, &kinds)?;
+    match filled(alloc, rows, &kinds, classes.sets.as_slice())? {
         Filled::Done { state, turns } => planned(alloc, problem, &classes, state, turns),
         Filled::Stuck {
             reached,
@@ -66,7 +69,13 @@ fn solved(alloc: Global, problem: &Problem) -> Result<Answer, AllocError>
 }
 
 /// The rows, filled with CPUs of these classes.
-fn filled(alloc: Global, rows: &[Row], classes: &[IdSet]) -> Result<Filled, AllocError>
+fn filled(
+    alloc: Global,
+    rows: &[Row],
+    kinds: &[usize],
+    classes: &[IdSet],
+) -> Result<Filled, AllocError>
+    requires kinds { AreKinds rows.now (length rows.now) kinds.now }
     requires fit { AreRowsWithin rows.now }
     requires grouping { IsGrouping rows.now classes.now }
     requires few { length classes.now ≤ CPU_LIMIT }
@@ -74,7 +83,11 @@ fn filled(alloc: Global, rows: &[Row], classes: &[IdSet]) -> Result<Filled, Allo
 {
     let firsts = Firsts::new(alloc, classes)?;
     let sizes = sizes_of(alloc, classes)?;
-    let table = Table { rows, firsts };
+    let table = Table {
+        rows,
+        kinds,
+        firsts,
+    };
     fill(alloc, &table, &sizes)
 }
 
@@ -97,12 +110,12 @@ fn planned(
     let rows = problem.rows.as_slice();
     let sets = deal(alloc, rows.len(), classes, &state.holdings)?;
     let of_cpu = prices_of(alloc, classes, &state.prices)?;
-    let total = plan_cost(rows, &sets);
     let plan = Plan { sets };
     let prices = Prices {
         values: state.values,
         of_cpu,
     };
+    let total = proved_cost(rows, &prices);
     Ok(Answer::Plan {
         plan,
         prices,

@@ -1,11 +1,12 @@
 -- Rows with the same offers.
-use Rattle.std.proofs.Common.{◌≡◌, ℕ, ◌+◌, ◌<◌, List, length, take, get_or, sym, subst, ◌∙◌, arith}
-use Rattle.std.proofs.lemmas.List.{get_or_default, length-take, get_or-take, take_more_same}
-use Rattle.cpu_set.specs.Ids.{Ids}
+use Rattle.std.proofs.Common.{◌≡◌, ℕ, ◌+◌, ◌<◌, List, [], ◌∷◌, ◌++◌, length, take, get_or, refl, sym, ap, subst, ◌∙◌, inl, inr, arith}
+use Rattle.std.proofs.lemmas.Bool.{cases_lt}
+use Rattle.std.proofs.lemmas.List.{get_or_default, get_or-map, get_or_push, get_or_append_left, length_push, length-take, get_or-take, take_more_same}
 use Rattle.certificate.specs.RowView.{RowView}
 use Rattle.certificate.specs.Weight.{weight, weight_in}
 use Rattle.certificate.specs.IsDealt.{AreTwins}
 use Rattle.certificate.specs.declared.rows.Offer.{Offer}
+use Rattle.twins.specs.Kinds.{offers_of, kind_at, IsKindOf, AreKinds, IsNextKind}
 use Rattle.twins.proofs.Splitting.{twins_more}
 
 -- offers of one weight and the same CPUs are the same
@@ -19,12 +20,54 @@ pub same_so_far :
 same_so_far some others i one other lt lt' is other_is weighs cpus before =
     take_more_same some others i one lt lt' before (sym is ∙ same_offer one other weighs cpus ∙ other_is ∙ get_or_default others i other one lt')
 
--- a row with the offers of an earlier one tells no more CPUs apart
-pub repeat_tells_none :
-    (rows : List RowView) (k j : ℕ) (row earlier : RowView) → j < k → k < length rows → row ≡ get_or rows k row → earlier ≡ get_or rows j earlier → earlier.offers ≡ row.offers
+pub own_offers : (rows : List RowView) (k : ℕ) (row : RowView) → k < length rows → row ≡ get_or rows k row → row.offers ≡ offers_of rows k
+own_offers rows k row lt is = ap (λ (r : RowView). r.offers) is ∙ sym (get_or-map (λ (r : RowView). r.offers) rows k row [] lt)
+
+-- a row of the kind of an earlier one tells no more CPUs apart
+pub kind_tells_none :
+    (rows : List RowView) (kinds : List ℕ) (k j : ℕ) → IsKindOf rows kinds k j → j < k → k < length rows
     → (a b : ℕ) → AreTwins (take k rows) a b → AreTwins (take (k + 1) rows) a b
-repeat_tells_none rows k j row earlier before lt is earlier_is same a b twins =
-    let at : weight (get_or (take k rows) j earlier) a ≡ weight (get_or (take k rows) j earlier) b = twins j earlier (rw (length-take k rows) (omega arith)) in
-    let there : get_or (take k rows) j earlier ≡ earlier = get_or-take k rows j earlier before ∙ sym earlier_is in
-    let alike : weight earlier a ≡ weight earlier b = subst (λ (r : RowView). weight r a ≡ weight r b) there at in
-    twins_more rows k a b row lt is twins (subst (λ (o : List Offer). weight_in o a ≡ weight_in o b) same alike)
+kind_tells_none rows kinds k j h before lt a b twins =
+    let at : weight (get_or (take k rows) j none) a ≡ weight (get_or (take k rows) j none) b = twins j none (rw (length-take k rows) (omega arith)) in
+    let alike : weight (get_or rows j none) a ≡ weight (get_or rows j none) b = subst (λ (r : RowView). weight r a ≡ weight r b) (get_or-take k rows j none before) at in
+    let offers : (get_or rows j none).offers ≡ (get_or rows k none).offers = sym (own j (omega (arith, before, lt))) ∙ h.same ∙ own k lt in
+    twins_more rows k a b (get_or rows k none) lt (get_or_default rows k none (get_or rows k none) lt) twins (subst (λ (o : List Offer). weight_in o a ≡ weight_in o b) offers alike)
+  where
+    none : RowView
+    none = record { id = []; demand = 0; offers = [] }
+
+    own : (i : ℕ) → i < length rows → offers_of rows i ≡ (get_or rows i none).offers
+    own i lt = get_or-map (λ (r : RowView). r.offers) rows i none [] lt
+
+pub kinds_none : (rows : List RowView) → AreKinds rows 0 []
+kinds_none rows = record { long = refl; each = λ k lt. absurd (omega arith) }
+
+-- one row's kind more
+pub kinds_more : (rows : List RowView) (kinds : List ℕ) (k j : ℕ) → AreKinds rows k kinds → IsNextKind rows kinds k j → AreKinds rows (k + 1) (kinds ++ j ∷ [])
+kinds_more rows kinds k j h next = record {
+  long = omega (arith, length_push kinds j, h.long);
+  each = λ i lt. elim (cases_lt i k) [
+    | inl before ↦ rw (kept i before) (still i (kind_at kinds i) before (h.each i before))
+    | inr after ↦ last i (omega (arith, lt, after)) next
+  ];
+}
+  where
+    more : List ℕ
+    more = kinds ++ j ∷ []
+
+    kept : (i : ℕ) → i < k → kind_at more i ≡ kind_at kinds i
+    kept i before = get_or_append_left kinds (j ∷ []) 0 i (omega (arith, before, h.long))
+
+    still : (i m : ℕ) → i < k → IsKindOf rows kinds i m → IsKindOf rows more i m
+    still i m before o = record { no_later = o.no_later; same = o.same; first = kept m (omega (arith, o.no_later, before)) ∙ o.first }
+
+    own : (i : ℕ) → i ≡ k → kind_at more i ≡ j
+    own i e = get_or_push kinds j 0 i (h.long ∙ sym e)
+
+    last : (i : ℕ) → i ≡ k → IsNextKind rows kinds k j → IsKindOf rows more i (kind_at more i)
+    last i e (inl same) = rw (own i e) (record { no_later = omega (arith, e, same); same = ap (offers_of rows) (same ∙ sym e); first = own j same })
+    last i e (inr other) = rw (own i e) (record {
+      no_later = omega (arith, e, other.0);
+      same = other.1.same ∙ ap (offers_of rows) (sym e);
+      first = kept j other.0 ∙ other.1.first;
+    })

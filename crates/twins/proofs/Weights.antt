@@ -1,9 +1,10 @@
 -- CPUs of one weight, offer by offer.
-use Rattle.std.proofs.Common.{◌≡◌, ℕ, ◌+◌, ◌<◌, Bool, true, false, cond, not, ◌&&◌, ◌||◌, ◌==◌, Option, Some, None, option_map, is_some, List, [], ◌∷◌, length, take, drop, get_or, refl, sym, ap, ◌∙◌}
+use Rattle.std.proofs.Common.{◌≡◌, ℕ, zero, suc, ◌+◌, ◌-◌, ◌<◌, ◌≤◌, Bool, true, false, cond, not, ◌&&◌, ◌||◌, ◌==◌, Option, Some, None, option_map, is_some, List, [], ◌∷◌, length, take, take_all, drop, get_or, refl, sym, ap, ◌∙◌, inl, inr, arith}
 use Rattle.std.specs.Option.{option_or}
 use Rattle.std.specs.FinSet as set
-use Rattle.std.proofs.lemmas.Bool.{eqb-true, eq-eqb, ne_eqb, true≢false, false≢true}
-use Rattle.std.proofs.lemmas.List.{take_more, take-append-drop}
+use Rattle.std.proofs.lemmas.Bool.{cases_eq, cases_lt, eqb-true, eq-eqb, ne_eqb, true≢false, false≢true}
+use Rattle.std.proofs.lemmas.List.{get_or_default, take_more, take-append-drop}
+use Rattle.std.proofs.Math.Numerals.{add-one}
 use Rattle.certificate.specs.Tests.{both, or_right}
 use Rattle.std.proofs.lemmas.List.Folds.{find-append}
 use Rattle.certificate.specs.Weight.{weight_in}
@@ -13,6 +14,7 @@ use Rattle.certificate.specs.ApartTest.{apart_at}
 use Rattle.certificate.specs.OfferLaws.{offers_apart}
 use Rattle.certificate.specs.Offers.{is_some-find}
 use Rattle.twins.specs.IsPart.{is_same_weight}
+use Rattle.twins.specs.Rising.{AreRising}
 
 -- the test says what its name does
 pub same_says : (v w : Option ℕ) → is_same_weight v w ≡ true → v ≡ w
@@ -84,6 +86,70 @@ pub same_without :
     → found ≡ is_same_weight (Some w) (weight_in (take (k + 1) offers) c)
 same_without w offers k o found c lt is fit differ same =
     same ∙ without_match w o.weight (set.contains o.cpus c) _ differ ∙ sym (same_more w offers k o c lt is fit)
+
+-- a CPU that is in none of the first offers, and not in one more
+pub none_more :
+    (offers : List Offer) (k : ℕ) (o : Offer) (c : ℕ) → k < length offers → o ≡ get_or offers k o → set.contains o.cpus c ≡ false → weight_in (take k offers) c ≡ None
+    → weight_in (take (k + 1) offers) c ≡ None
+none_more offers k o c lt is off none =
+    rw (take_more offers k o lt, ← is, find-append (λ (p : Offer). set.contains p.cpus c) (take k offers) (o ∷ []), off) (still _ none)
+  where
+    still : (before : Option Offer) → option_map (λ (p : Offer). p.weight) before ≡ None → option_map (λ (p : Offer). p.weight) (option_or before None) ≡ None
+    still None e = refl
+    still (Some p) e = e
+
+-- one offer more that weighs more than the last
+pub rising_more :
+    (offers : List Offer) (at : ℕ) (last next : Offer) → 1 ≤ at → at < length offers → last ≡ get_or offers (at - 1) last → next ≡ get_or offers at next → last.weight < next.weight
+    → ((i j : ℕ) (d : Offer) → i < j → j < at → (get_or offers i d).weight < (get_or offers j d).weight)
+    → (i j : ℕ) (d : Offer) → i < j → j < at + 1 → (get_or offers i d).weight < (get_or offers j d).weight
+rising_more offers at last next some lt last_is next_is up h i j d before within = elim (cases_lt j at) [
+  | inl b ↦ h i j d before b
+  | inr a ↦ (let e : j ≡ at = omega (arith, a, within) in rw e (below (omega (arith, before, e))))
+]
+  where
+    its_last : (get_or offers (at - 1) d).weight ≡ last.weight
+    its_last = ap (λ (o : Offer). o.weight) (get_or_default offers (at - 1) d last (omega (arith, some, lt)) ∙ sym last_is)
+
+    its_next : (get_or offers at d).weight ≡ next.weight
+    its_next = ap (λ (o : Offer). o.weight) (get_or_default offers at d next lt ∙ sym next_is)
+
+    below : i < at → (get_or offers i d).weight < (get_or offers at d).weight
+    below early = elim (cases_eq i (at - 1)) [
+      | inl e ↦ (let own = ap (λ k. (get_or offers k d).weight) e in omega (arith, own, its_last, its_next, up))
+      | inr ne ↦ omega (arith, h i (at - 1) d (omega (arith, early, ne)) (omega (arith, some)), its_last, its_next, up)
+    ]
+
+-- by rising weight, the CPUs of an offer are all of its weight
+module _ (offers : List Offer) (k : ℕ) (o : Offer) (q : ℕ) (lt : k < length offers) (is : o ≡ get_or offers k o) (fit : offers_fit offers ≡ true) (rising : AreRising offers) where
+  differ : (n : ℕ) → n < length offers → (n ≡ k → ⊥) → (get_or offers n o).weight ≡ o.weight → ⊥
+  differ n in_n ne e =
+      let own : o.weight ≡ (get_or offers k o).weight = ap (λ (p : Offer). p.weight) is in
+      elim (cases_lt n k) [
+        | inl before ↦ omega (arith, rising n k o before lt, own, e)
+        | inr after ↦ omega (arith, rising k n o (omega (arith, after, ne)) in_n, own, e)
+      ]
+
+  without : (n : ℕ) (found : Bool) → n < length offers → (n ≡ k → ⊥) → found ≡ is_same_weight (Some o.weight) (weight_in (take n offers) q)
+      → found ≡ is_same_weight (Some o.weight) (weight_in (take (n + 1) offers) q)
+  without n found in_n ne =
+      same_without o.weight offers n (get_or offers n o) found q in_n (get_or_default offers n o (get_or offers n o) in_n) fit (differ n in_n ne)
+
+  none_before : (n : ℕ) → n ≤ k → false ≡ is_same_weight (Some o.weight) (weight_in (take n offers) q)
+  none_before zero le = refl
+  none_before (suc n) le = rw (← add-one) (without n false (omega (arith, le, lt)) (λ e. omega (arith, e, le)) (none_before n (omega (arith, le))))
+
+  all_after : (n : ℕ) → k < n → n ≤ length offers → set.contains o.cpus q ≡ is_same_weight (Some o.weight) (weight_in (take n offers) q)
+  all_after zero later le = absurd (omega (arith, later))
+  all_after (suc n) later le = elim (cases_eq n k) [
+    | inl e ↦ rw (e, ← add-one) (same_with o.weight offers k o false q lt is fit refl (none_before k (omega arith)))
+    | inr ne ↦ rw (← add-one) (without n (set.contains o.cpus q) (omega (arith, le)) ne (all_after n (omega (arith, later, ne)) (omega (arith, le))))
+  ]
+
+  pub rising_same : set.contains o.cpus q ≡ is_same_weight (Some o.weight) (weight_in offers q)
+  rising_same =
+      all_after (length offers) lt (omega arith)
+      ∙ ap (λ l. is_same_weight (Some o.weight) (weight_in l q)) (take_all (length offers) offers (omega arith))
 
 extended : (found later : Option Offer) (w : ℕ) → option_map (λ (o : Offer). o.weight) found ≡ Some w → option_map (λ (o : Offer). o.weight) (option_or found later) ≡ Some w
 extended None later w e = (let none : None ≡ Some w = e in cc)

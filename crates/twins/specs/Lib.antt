@@ -6,3 +6,5 @@ pub mod IsDeal
 pub mod IsPart
 pub mod IsPriced
 pub mod IsClosed
+pub mod Kinds
+pub mod Rising

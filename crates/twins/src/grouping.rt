@@ -5,11 +5,12 @@ ghost use Rattle.std.specs.FinSet as set;
 ghost use Rattle.certificate.specs.Limits.{row_fits};
 ghost use Rattle.certificate.specs.IsShortage.{is_offered};
 ghost use Rattle.twins.specs.IsGrouping.{IsGrouping};
+ghost use Rattle.twins.specs.Kinds.{offers_of, AreKinds};
+ghost use Rattle.twins.specs.Rising.{AreRising};
 ghost use Rattle.twins.specs.IsPart.{IsPart, IsUnsplit, ArePieces, IsSplit, IsPutTo};
 
 use crate::Classes;
-use crate::alike::{alike, are_in_one, cpus_of};
-use crate::repeats::{first_offered, is_repeat};
+use crate::alike::{alike, are_in_one, are_rising, cpus_of};
 use certificate::{Problem, Row};
 use cpu_set::{CPU_LIMIT, IdSet};
 use std::alloc::{AllocError, Global};
@@ -17,29 +18,28 @@ use std::alloc::{AllocError, Global};
 /// The CPUs with a weight in some row, in classes of twins. A CPU with none is in no class.
 ///
 /// Each row splits the sets that are left of the rows before it; one CPU by itself needs no more looks. A row
-/// with the offers of an earlier one splits none: the latest whose first offer begins with the same CPU is compared.
-pub fn group(alloc: Global, problem: &Problem) -> Result<Classes, AllocError>
-    requires { IsTrue (list_all row_fits problem.now) }
+/// of the kind of an earlier one splits none.
+pub fn group(alloc: Global, problem: &Problem, kinds: &[usize]) -> Result<Classes, AllocError>
+    requires fit { IsTrue (list_all row_fits problem.now) }
+    requires kinds { AreKinds problem.now (length problem.now) kinds.now }
     ensures grouped { IfOk result (λ classes. IsGrouping problem.now classes) }
     ensures few { IfOk result (λ classes. length classes ≤ CPU_LIMIT) }
 {
-    let sets = grouped(alloc, problem.rows.as_slice())?;
+    let sets = grouped(alloc, problem.rows.as_slice(), kinds)?;
     Ok(Classes { sets })
 }
 
-fn grouped(alloc: Global, rows: &[Row]) -> Result<Vec<IdSet>, AllocError>
-    requires { IsTrue (list_all row_fits rows.now) }
+fn grouped(alloc: Global, rows: &[Row], kinds: &[usize]) -> Result<Vec<IdSet>, AllocError>
+    requires fit { IsTrue (list_all row_fits rows.now) }
+    requires kinds { AreKinds rows.now (length rows.now) kinds.now }
     ensures { IfOk result (λ sets. IsGrouping rows.now sets.items) }
 {
     let mut alone = Vec::new(alloc);
     let mut parts = unsplit(alloc, rows)?;
-    let mut latest = vec![in alloc; 0usize; CPU_LIMIT as usize]?;
     for k in 0..rows.len() {
-        let first = first_offered(&rows[k]) as usize;
-        if !is_repeat(rows, k, latest[first]) {
+        if kinds[k] == k {
             parts = split_all(alloc, rows, k, parts.as_slice(), &mut alone)?;
         }
-        latest[first] = k;
     }
     for part in &parts {
         alone.push(*part)?;
@@ -85,9 +85,15 @@ fn split_all(
     requires alone { All (IsPart rows.now (length rows.now)) alone.old.items }
     ensures { IfOk result (λ parts. ArePieces rows.now (k + 1) sets.now alone.old.items parts.items alone.new.items) }
 {
-    let mut parts = Vec::with_capacity(alloc, sets.len())?;
+    if sets.is_empty() {
+        return Ok(Vec::new(alloc));
+    }
+    let row = &rows[k];
+    let offers = row.offers.as_slice();
+    let is_rising = are_rising(offers);
+    let mut parts = Vec::with_capacity(alloc, sets.len() + offers.len())?;
     for part in sets {
-        split(rows, k, part, &mut parts, alone)?;
+        split(rows, k, is_rising, part, &mut parts, alone)?;
     }
     Ok(parts)
 }
@@ -96,12 +102,14 @@ fn split_all(
 fn split(
     rows: &[Row],
     k: usize,
+    is_rising: bool,
     part: &IdSet,
     parts: &mut Vec<IdSet>,
     alone: &mut Vec<IdSet>,
 ) -> Result<(), AllocError>
     requires fit { IsTrue (list_all row_fits rows.now) }
     requires there { k < length rows.now }
+    requires rising { IsTrue is_rising → AreRising (offers_of rows.now k) }
     requires part { IsPart rows.now k part.now }
     requires parts { All (IsPart rows.now (k + 1)) parts.old.items }
     requires alone { All (IsPart rows.now (length rows.now)) alone.old.items }
@@ -115,7 +123,7 @@ fn split(
     }
     let mut rest = *part;
     while let Some(cpu) = rest.first() {
-        let piece = alike(offers, cpu, &rest);
+        let piece = alike(offers, is_rising, cpu, &rest);
         put(piece, parts, alone)?;
         rest = rest.minus(&piece);
     }

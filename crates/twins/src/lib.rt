@@ -1,4 +1,5 @@
 //! CPUs that are alike to all rows of a problem, in classes; and the CPUs of the classes dealt to the rows.
+//! And rows that are alike, in kinds: those with the same offers.
 //!
 //! Two CPUs are twins where in each row both have the same weight, or both have none. Whoever seeks a
 //! plan needs to know only how many CPUs of each class of twins a row holds: [`group`] makes the classes,
@@ -10,9 +11,9 @@ mod classes;
 mod dealing;
 mod grouping;
 mod holders;
+mod kinds;
 mod laws;
 mod pricing;
-mod repeats;
 #[cfg(test)]
 mod tests;
 
@@ -20,6 +21,7 @@ pub use classes::Classes;
 pub use dealing::deal;
 pub use grouping::group;
 pub use holders::{Holders, Share};
+pub use kinds::kinds_of;
 pub use laws::{
     classes_prove_plans, closed_rows_are_short, deals_of_twins_are_dealt, members_weigh_the_same,
 };

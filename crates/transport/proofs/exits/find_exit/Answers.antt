@@ -1,7 +1,8 @@
 use Rattle.std.proofs.Common.{◌≡◌, refl, ap, ◌∙◌, subst}
 use Rattle.certificate.specs.RowView.{RowView}
 use Rattle.transport.specs.Lines.{IsFoundExit}
-use Rattle.transport.specs.Weights.{weights, offers_of}
+use Rattle.twins.specs.Kinds.{offers_of}
+use Rattle.transport.specs.Weights.{weights}
 use Rattle.transport.proofs.Looking.{offers_read, line_as, line_back}
 use Rattle.transport.proofs.exits.find_exit.Goals as goal
 use Rattle.transport.proofs.exits.find_exit.Goals.{After-as_slice}

@@ -8,7 +8,7 @@ use Rattle.transport.proofs.fills.fill.Goals as goal
 
 pub loop-row-init : goal.loop-row-init
 loop-row-init c =
-    let first = filled_first _ _ _ _ c.requires.fit c.requires.classes c.in_ok-state.ensures c.in_ok-lines.ensures in
+    let first = filled_first _ _ _ _ c.requires.fit c.requires.kinds c.requires.classes c.in_ok-state.ensures c.in_ok-lines.ensures in
     (first, rw (first.values_long, first.prices_long) c.in_ok-tree.ensures)
 
 pub fill_row-requires-clause-can : goal.fill_row-requires-clause-can

@@ -1,5 +1,5 @@
 use Rattle.transport.specs.Weights.{AreNewLines}
 use Rattle.transport.proofs.fills.lines_of.Given as goal
 
-abbrev pub invariant-loop-row : goal.invariant-loop-row
-invariant-loop-row l = AreNewLines l.rows l.lines.items l.row-index
+abbrev pub invariant-loop-k : goal.invariant-loop-k
+invariant-loop-k l = AreNewLines l.rows l.kinds l.lines.items l.k

@@ -4,7 +4,7 @@ use Rattle.transport.specs.Weights.{weights}
 use Rattle.transport.specs.States.{HasLooked}
 use Rattle.transport.specs.declared.queues.Queue.{Queue}
 use Rattle.transport.proofs.Noting.{better_same, better_more}
-use Rattle.transport.proofs.Looking.{looked_more, row_read, row_in, line_of, lines_set}
+use Rattle.transport.proofs.Looking.{looked_more, row_read, row_in, line_of, kind_in, lines_set}
 use Rattle.transport.proofs.looks.look_on.Goals as goal
 use Rattle.transport.proofs.looks.look_on.Goals.{After-index-row}
 
@@ -22,13 +22,24 @@ in_lines c =
     let lt = row_in _ _ c.loop-at.tree c.index-row.result.now c.loop-at.invariant.better.running (read c).1 in
     omega (arith, lt, c.requires.rows, c.loop-at.invariant.lines.long)
 
-pub bounds-lines-row : goal.bounds-lines-row
-bounds-lines-row c = in_lines (goal.at.bounds-lines-row c).After-index-row
+in_kinds : (c : After-index-row) → c.index-row.result.now < length c.args.table.now.kinds.now
+in_kinds c = omega (arith, in_lines c, c.loop-at.invariant.lines.long, c.requires.lines.kinds.long)
 
-pub offset_bounds-lines-row : goal.offset_bounds-lines-row
-offset_bounds-lines-row c =
-    let i = (goal.at.offset_bounds-lines-row c).After-index-row in
-    omega (arith, in_lines i, c.loop-at.invariant.lines.long, c.requires.rows, c.requires.running.fit.few)
+pub bounds-table-row : goal.bounds-table-row
+bounds-table-row c = in_kinds (goal.at.bounds-table-row c).After-index-row
+
+pub offset_bounds-table-row : goal.offset_bounds-table-row
+offset_bounds-table-row c =
+    let i = (goal.at.offset_bounds-table-row c).After-index-row in
+    omega (arith, in_kinds i, c.requires.lines.kinds.long, c.requires.rows, c.requires.running.fit.few)
+
+pub bounds-lines-line : goal.bounds-lines-line
+bounds-lines-line c = kind_in _ _ _ _ c.loop-at.invariant.lines (in_lines (goal.at.bounds-lines-line c).After-index-row)
+
+pub offset_bounds-lines-line : goal.offset_bounds-lines-line
+offset_bounds-lines-line c =
+    let i = (goal.at.offset_bounds-lines-line c).After-index-row in
+    omega (arith, kind_in _ _ _ _ c.loop-at.invariant.lines (in_lines i), c.loop-at.invariant.lines.long, c.requires.rows, c.requires.running.fit.few)
 
 pub look-requires : goal.look-requires
 look-requires c =

@@ -1,18 +1,21 @@
-use Rattle.std.proofs.Common.{◌+◌, refl, sym, subst}
+use Rattle.std.proofs.Common.{refl, sym, subst, arith}
 use Rattle.std.proofs.lemmas.Result.{on_ok_weaker}
-use Rattle.transport.specs.Looks.{IsPast, IsNotedNow, CanNote}
+use Rattle.transport.specs.Looks.{IsNotedNow, CanNote}
 use Rattle.transport.proofs.Numbers.{read_mark, read_number}
-use Rattle.transport.proofs.Noting.{arc_noted, arc_taken, arc_past, can_note}
+use Rattle.transport.proofs.Noting.{arc_noted, arc_taken, arc_past, past_of, can_note}
 use Rattle.transport.proofs.looks.note_arc.Goals as goal
 
 pub returns-then-index : goal.returns-then-index
 returns-then-index c = λ ws can.
     arc_taken ws _ _ _ _ can (read_mark _ _ _ _ _ (can.running.fit.class _ _ _ can.weighs) can.running.search.taken_long c.index.ensures c.if-index.true)
 
-pub returns-then-is_past : goal.returns-then-is_past
-returns-then-is_past c = λ ws can.
-    arc_past ws _ _ _ _ c.args.limit can c.requires.limit
-    (subst (λ p. IsPast c.args.limit (c.args.arc.weight + p)) (sym (read_number _ _ _ _ (can.running.fit.class _ _ _ can.weighs) refl c.index-2.ensures)) (c.is_past.ensures.0 c.if-is_past.true))
+pub returns-then-arc-index : goal.returns-then-arc-index
+returns-then-arc-index c = λ ws can.
+    let price = read_number _ _ _ _ (can.running.fit.class _ _ _ can.weighs) refl c.index-2.ensures in
+    arc_past ws _ _ _ _ c.requires.bound.0 can c.requires.bound.1
+    (past_of c.requires.bound.0 c.args.bound _ c.requires.bound.2
+    (omega (arith, can.running.fit.low _ _ _ can.weighs, can.running.search.prices_fit c.args.arc.class))
+    (omega (arith, price, c.if-arc-index.true)))
 
 pub note-requires : goal.note-requires
 note-requires c =

@@ -1,6 +1,6 @@
 use Rattle.std.proofs.Common.{◌≡◌, subst, arith}
 use Rattle.transport.specs.Looks.{HasNoted}
-use Rattle.transport.proofs.Noting.{noted_start, noted_more, noted_past, past_rise, arc_can, limit_same}
+use Rattle.transport.proofs.Noting.{noted_start, noted_more, noted_past, past_rise, past_of, arc_can, limit_same}
 use Rattle.transport.proofs.looks.note_arcs.Goals as goal
 
 pub loop-at-init : goal.loop-at-init
@@ -8,7 +8,7 @@ loop-at-init c = record { noted = λ ws can. noted_start ws _ _ _ _ can.running;
 
 pub note_arc-requires : goal.note_arc-requires
 note_arc-requires c = record {
-  limit = c.loop-at.invariant.limit;
+  bound = (c.args.limit, c.loop-at.invariant.limit, c.bound_of-bound.ensures);
   can = (c.requires.can.0, arc_can _ _ _ _ _ c.args.arcs.now _ _ c.requires.can.1 (c.loop-at.invariant.noted _ c.requires.can.1) c.loop-at-test.true);
 }
 
@@ -21,10 +21,10 @@ loop-at-preserved c =
       limit = limit_same _ _ _ _ _ one.exit c.loop-at.invariant.limit;
     }
 
-pub returns-then-is_past : goal.returns-then-is_past
-returns-then-is_past c = λ ws can.
+pub returns-then-arc-bound : goal.returns-then-arc-bound
+returns-then-arc-bound c = λ ws can.
     noted_past ws _ _ _ _ c.args.arcs.now c.loop-at.at c.args.upto c.args.limit (c.loop-at.invariant.noted ws can) c.loop-at.invariant.limit
-    (λ j le lt. past_rise c.args.limit _ _ (c.requires.rising c.loop-at.at j le (omega (arith, lt, c.requires.upto))) (c.is_past.ensures.0 c.if-is_past.true))
+    (λ j le lt. past_rise c.args.limit _ _ (c.requires.rising c.loop-at.at j le (omega (arith, lt, c.requires.upto))) (past_of c.args.limit _ _ c.bound_of-bound.ensures (omega arith) c.if-arc-bound.true))
 
 pub returns : goal.returns
 returns c = λ ws can.

@@ -1,8 +1,8 @@
-use Rattle.std.proofs.Common.{◌+◌, ◌<◌, length, set, refl, ap, subst, arith}
+use Rattle.std.proofs.Common.{◌+◌, ◌<◌, OnOk, length, set, refl, ap, subst, arith}
 use Rattle.twins.specs.Holdings.{share_of}
 use Rattle.transport.specs.Shares.{IsShareGiven}
 use Rattle.transport.proofs.QueueLemmas.{amount_le}
-use Rattle.transport.proofs.Sharing.{given_at, given_push}
+use Rattle.transport.proofs.Sharing.{given_at}
 use Rattle.transport.proofs.shares.give.Goals as goal
 use Rattle.transport.proofs.shares.give.Goals.{After-index-share}
 
@@ -26,5 +26,4 @@ returns-then-share-row c =
 
 pub returns : goal.returns
 returns c =
-    subst (λ xs. IsShareGiven xs c.push.new.self.items c.args.row c.args.amount) c.loop-at.invariant
-    (given_push c.loop-at.shares.items c.push.new.self.items c.args.row c.args.amount c.in_ok-push.ensures.items)
+    subst (λ xs. OnOk c.add-2.result (IsShareGiven xs c.add-2.new.shares.items c.args.row c.args.amount)) c.loop-at.invariant c.add-2.ensures

@@ -6,6 +6,8 @@ use Rattle.certificate.specs.Limits.{offers_fit, row_fits}
 use Rattle.certificate.specs.OfferLaws.{passes_at, row_offers_fit}
 use Rattle.certificate.specs.declared.rows.Offer.{Offer}
 use Rattle.twins.specs.IsPart.{is_same_weight}
+use Rattle.twins.specs.Rising.{AreRising}
+use Rattle.twins.proofs.SameOffers.{own_offers}
 use Rattle.twins.proofs.Splitting.{IsAlike, splitting_start, splitting_more, splitting_end, less_left, unsplit}
 use Rattle.twins.proofs.grouping.split.Goals as goal
 use Rattle.twins.proofs.grouping.split.Goals.{After-as_slice-offers}
@@ -37,8 +39,12 @@ alike c =
     let offers : c.as_slice-offers.result.now ≡ c.index-rows-k.result.offers = c.as_slice-offers.ensures.value ∙ ap (λ (row : RowView). row.offers) c.row.view_is in
     subst (λ (o : List Offer). (q : ℕ) → set.contains c.alike-piece.result q ≡ (set.contains c.loop-cpu.rest q && is_same_weight (weight_in o c.in-Some.cpu) (weight_in o q))) offers c.alike-piece.ensures
 
-pub alike-piece-requires : goal.alike-piece-requires
-alike-piece-requires c = fit (goal.at.alike-piece-requires c).After-as_slice-offers
+pub alike-piece-requires-clause-fit : goal.alike-piece-requires-clause-fit
+alike-piece-requires-clause-fit c = fit (goal.at.alike-piece-requires-clause-fit c).After-as_slice-offers
+
+pub alike-piece-requires-clause-rising : goal.alike-piece-requires-clause-rising
+alike-piece-requires-clause-rising c = λ on.
+    subst AreRising (sym (offers_are (goal.at.alike-piece-requires-clause-rising c).After-as_slice-offers ∙ own_offers _ _ _ c.requires.there c.index-rows-k.is)) (c.requires.rising on)
 
 pub loop-cpu-preserved : goal.loop-cpu-preserved
 loop-cpu-preserved c =

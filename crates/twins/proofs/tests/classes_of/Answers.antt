@@ -9,5 +9,5 @@ each_fits : (rows : List RowView) → rows_fit rows ≡ true → list_all row_fi
 unfolding rows_fit
 each_fits rows fit = and_right _ _ fit
 
-pub group-requires : goal.group-requires
-group-requires c = each_fits _ (c.are_within.ensures c.if-not-are_within.false)
+pub group-requires-clause-fit : goal.group-requires-clause-fit
+group-requires-clause-fit c = each_fits _ (c.are_within.ensures c.if-not-are_within.false)

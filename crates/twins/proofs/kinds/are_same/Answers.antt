@@ -1,7 +1,7 @@
 use Rattle.std.proofs.Common.{◌≡◌, rules, arith}
 use Rattle.cpu_set.specs.Pointwise.{same_subsets}
 use Rattle.twins.proofs.SameOffers.{same_so_far}
-use Rattle.twins.proofs.repeats.are_same.Goals as goal
+use Rattle.twins.proofs.kinds.are_same.Goals as goal
 
 pub loop-at-preserved : goal.loop-at-preserved
 loop-at-preserved c =
