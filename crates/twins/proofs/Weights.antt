@@ -1,5 +1,5 @@
 -- CPUs of one weight, offer by offer.
-use Rattle.std.proofs.Common.{◌≡◌, ℕ, zero, suc, ◌+◌, ◌-◌, ◌<◌, ◌≤◌, Bool, true, false, cond, not, ◌&&◌, ◌||◌, ◌==◌, Option, Some, None, option_map, is_some, List, [], ◌∷◌, length, take, take_all, drop, get_or, refl, sym, ap, ◌∙◌, inl, inr, arith}
+use Rattle.std.proofs.Common.{◌≡◌, ℕ, zero, suc, ◌+◌, ◌<◌, ◌≤◌, Bool, true, false, cond, not, ◌&&◌, ◌||◌, ◌==◌, Option, Some, None, option_map, is_some, List, [], ◌∷◌, length, take, take_all, drop, get_or, refl, sym, ap, ◌∙◌, inl, inr, arith}
 use Rattle.std.specs.Option.{option_or}
 use Rattle.std.specs.FinSet as set
 use Rattle.std.proofs.lemmas.Bool.{cases_eq, cases_lt, eqb-true, eq-eqb, ne_eqb, true≢false, false≢true}
@@ -13,7 +13,7 @@ use Rattle.certificate.specs.declared.rows.Offer.{Offer}
 use Rattle.certificate.specs.ApartTest.{apart_at}
 use Rattle.certificate.specs.OfferLaws.{offers_apart}
 use Rattle.certificate.specs.Offers.{is_some-find}
-use Rattle.twins.specs.IsPart.{is_same_weight}
+use Rattle.twins.specs.IsPart.{is_same_weight, HasAt}
 use Rattle.twins.specs.Rising.{AreRising}
 
 -- the test says what its name does
@@ -98,28 +98,6 @@ none_more offers k o c lt is off none =
     still None e = refl
     still (Some p) e = e
 
--- one offer more that weighs more than the last
-pub rising_more :
-    (offers : List Offer) (at : ℕ) (last next : Offer) → 1 ≤ at → at < length offers → last ≡ get_or offers (at - 1) last → next ≡ get_or offers at next → last.weight < next.weight
-    → ((i j : ℕ) (d : Offer) → i < j → j < at → (get_or offers i d).weight < (get_or offers j d).weight)
-    → (i j : ℕ) (d : Offer) → i < j → j < at + 1 → (get_or offers i d).weight < (get_or offers j d).weight
-rising_more offers at last next some lt last_is next_is up h i j d before within = elim (cases_lt j at) [
-  | inl b ↦ h i j d before b
-  | inr a ↦ (let e : j ≡ at = omega (arith, a, within) in rw e (below (omega (arith, before, e))))
-]
-  where
-    its_last : (get_or offers (at - 1) d).weight ≡ last.weight
-    its_last = ap (λ (o : Offer). o.weight) (get_or_default offers (at - 1) d last (omega (arith, some, lt)) ∙ sym last_is)
-
-    its_next : (get_or offers at d).weight ≡ next.weight
-    its_next = ap (λ (o : Offer). o.weight) (get_or_default offers at d next lt ∙ sym next_is)
-
-    below : i < at → (get_or offers i d).weight < (get_or offers at d).weight
-    below early = elim (cases_eq i (at - 1)) [
-      | inl e ↦ (let own = ap (λ k. (get_or offers k d).weight) e in omega (arith, own, its_last, its_next, up))
-      | inr ne ↦ omega (arith, h i (at - 1) d (omega (arith, early, ne)) (omega (arith, some)), its_last, its_next, up)
-    ]
-
 -- by rising weight, the CPUs of an offer are all of its weight
 module _ (offers : List Offer) (k : ℕ) (o : Offer) (q : ℕ) (lt : k < length offers) (is : o ≡ get_or offers k o) (fit : offers_fit offers ≡ true) (rising : AreRising offers) where
   differ : (n : ℕ) → n < length offers → (n ≡ k → ⊥) → (get_or offers n o).weight ≡ o.weight → ⊥
@@ -165,3 +143,8 @@ in_offer offers k o c lt is fit has =
     ap (λ l. weight_in l c) (sym (take-append-drop (k + 1) offers))
     ∙ ap (option_map (λ (p : Offer). p.weight)) (find-append (λ (p : Offer). set.contains p.cpus c) (take (k + 1) offers) (drop (k + 1) offers))
     ∙ extended _ _ o.weight first
+
+-- a CPU has the weight of an offer at a place that has it
+pub offer_at :
+    (offers : List Offer) (at : ℕ) (o : Offer) (c : ℕ) → HasAt offers c at → o ≡ get_or offers at o → offers_fit offers ≡ true → weight_in offers c ≡ Some o.weight
+offer_at offers at o c h is fit = in_offer offers at o c h.within is fit (ap (λ (p : Offer). set.contains p.cpus c) is ∙ h.has o)

@@ -1,62 +1,97 @@
 //! The CPUs that are alike to one row.
-ghost use Rattle.std.specs.Prelude.{◌≡◌, ℕ, ◌&&◌, true, Some, IsTrue, is_some};
+ghost use Rattle.std.specs.Prelude.{◌≡◌, ℕ, ◌<◌, ◌&&◌, true, false, Some, None, IsTrue, MatchOption, is_some, length, slice_index_or};
 ghost use Rattle.std.specs.FinSet as set;
 ghost use Rattle.certificate.specs.Weight.{weight_in};
 ghost use Rattle.certificate.specs.Limits.{offers_fit};
-ghost use Rattle.twins.specs.IsPart.{is_same_weight};
+ghost use Rattle.certificate.specs.declared.rows.Offer.{Offer};
+ghost use Rattle.twins.specs.IsPart.{is_same_weight, HasAt};
 ghost use Rattle.twins.specs.Rising.{AreRising};
 
 use certificate::Offer;
-use cpu_set::IdSet;
+use cpu_set::{CPU_LIMIT, IdSet};
+use std::alloc::{AllocError, Global};
 
-/// Whether each offer weighs more than the one before it.
-pub(crate) fn are_rising(offers: &[Offer]) -> bool
-    ensures { IsTrue result → AreRising offers.now }
-{
-    for at in 1..offers.len() {
-        let before = &offers[at - 1];
-        let offer = &offers[at];
-        if offer.weight <= before.weight {
-            return false;
+/// For each CPU the place of the offer whose lowest CPU it is, and some place where there is none.
+pub(crate) fn hints_of(alloc: Global, offers: &[Offer]) -> Result<Vec<usize>, AllocError> {
+    let mut hints = vec![in alloc; 0usize; CPU_LIMIT as usize]?;
+    for (at, offer) in offers.iter().enumerate() {
+        if let Some(lowest) = offer.cpus.first() {
+            hints[lowest as usize] = at;
         }
     }
-    true
+    Ok(hints)
+}
+
+/// The place of an offer that has the CPU. The offer at the hint is looked at first.
+fn place_of(offers: &[Offer], hints: &[usize], cpu: u16) -> Option<usize>
+    ensures { MatchOption result (weight_in offers.now cpu ≡ None) (HasAt offers.now cpu) }
+{
+    let hint = match hints.get(cpu as usize) {
+        Some(hint) => *hint,
+        None => 0,
+    };
+    if has(offers, hint, cpu) {
+        return Some(hint);
+    }
+    for at in 0..offers.len() {
+        if has(offers, at, cpu) {
+            return Some(at);
+        }
+    }
+    None
+}
+
+/// Whether there is an offer at this place that has the CPU.
+fn has(offers: &[Offer], at: usize, cpu: u16) -> bool
+    ensures there { IsTrue result → HasAt offers.now cpu at }
+    ensures not_there { result ≡ false → (d : Offer) → at < length offers.now → set.contains (slice_index_or offers.now at d).cpus cpu ≡ false }
+{
+    if at >= offers.len() {
+        return false;
+    }
+    let offer = &offers[at];
+    offer.cpus.contains(cpu)
 }
 
 /// Those of some CPUs that have the weight of one of them, or that have none as it has none.
 ///
 /// Where the offers are by rising weight, one alone has the CPUs of a weight.
-pub(crate) fn alike(offers: &[Offer], is_rising: bool, cpu: u16, among: &IdSet) -> IdSet
+pub(crate) fn alike(
+    offers: &[Offer],
+    is_rising: bool,
+    hints: &[usize],
+    cpu: u16,
+    among: &IdSet,
+) -> IdSet
     requires fit { IsTrue (offers_fit offers.now) }
     requires rising { IsTrue is_rising → AreRising offers.now }
     ensures { (q : ℕ) → set.contains result q
         ≡ (set.contains among.now q && is_same_weight (weight_in offers.now cpu) (weight_in offers.now q)) }
 {
-    for offer in offers {
-        if offer.cpus.contains(cpu) {
-            if is_rising {
-                return among.meet(&offer.cpus);
-            }
-            return among.meet(&cpus_of_weight(offers, offer.weight));
-        }
+    let Some(at) = place_of(offers, hints, cpu) else {
+        return among.minus(&cpus_of(offers));
+    };
+    let offer = &offers[at];
+    if is_rising {
+        among.meet(&offer.cpus)
+    } else {
+        among.meet(&cpus_of_weight(offers, offer.weight))
     }
-    among.minus(&cpus_of(offers))
 }
 
-/// Whether some CPUs are all in the offer that has the lowest of them, so that they have one weight.
-pub(crate) fn are_in_one(offers: &[Offer], cpus: &IdSet) -> bool
+/// Whether some CPUs are all in an offer that has the lowest of them, so that they have one weight.
+pub(crate) fn are_in_one(offers: &[Offer], hints: &[usize], cpus: &IdSet) -> bool
     requires { IsTrue (offers_fit offers.now) }
     ensures { IsTrue result → (a b : ℕ) → set.contains cpus.now a ≡ true → set.contains cpus.now b ≡ true → weight_in offers.now a ≡ weight_in offers.now b }
 {
     let Some(cpu) = cpus.first() else {
         return false;
     };
-    for offer in offers {
-        if offer.cpus.contains(cpu) {
-            return cpus.is_subset(&offer.cpus);
-        }
-    }
-    false
+    let Some(at) = place_of(offers, hints, cpu) else {
+        return false;
+    };
+    let offer = &offers[at];
+    cpus.is_subset(&offer.cpus)
 }
 
 /// The CPUs of this weight: those of each offer that has it.

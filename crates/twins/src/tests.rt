@@ -1,7 +1,7 @@
 ghost use Rattle.std.specs.Prelude.{IsTrue};
 ghost use Rattle.certificate.specs.Limits.{rows_fit};
 
-use crate::{Classes, group, kinds_of, prices_of};
+use crate::{Classes, group, prices_of, survey_of};
 use certificate::{CheckFault, Offer, Price, Problem, Row, check_shortage};
 use cpu_set::{CPU_LIMIT, IdSet};
 use std::alloc::{AllocError, Global};
@@ -55,8 +55,8 @@ fn classes_of(alloc: Global, rows: &[&[Weighed]]) -> Result<Vec<IdSet>, AllocErr
     if !are_within(&problem) {
         return Ok(Vec::new(alloc));
     }
-    let kinds = kinds_of(alloc, problem.rows.as_slice())?;
-    let classes = group(alloc, &problem, &kinds)?;
+    let survey = survey_of(alloc, problem.rows.as_slice())?;
+    let classes = group(alloc, &problem, &survey)?;
     Ok(classes.sets)
 }
 

@@ -1,22 +1,25 @@
-use Rattle.std.proofs.Common.{◌+◌, ◌<◌, List, ◌++◌, ap, subst, ◌∙◌, arith, take_all}
+use Rattle.std.proofs.Common.{◌+◌, ◌≡◌, ◌<◌, List, ◌++◌, ap, subst, ◌∙◌, arith, take_all}
+use Rattle.std.proofs.lemmas.List.{get_or_default}
 use Rattle.cpu_set.specs.Ids.{Ids}
 use Rattle.twins.specs.IsPart.{ArePieces}
 use Rattle.twins.specs.Kinds.{kind_at}
 use Rattle.twins.proofs.Grouped.{grouping_more, grouping_repeated, grouping_end}
 use Rattle.twins.proofs.SameOffers.{kind_tells_none}
 use Rattle.twins.proofs.grouping.grouped.Goals as goal
-use Rattle.twins.proofs.grouping.grouped.Goals.{then-kinds-k+in_ok-parts-2, else-kinds-k}
+use Rattle.twins.proofs.grouping.grouped.Goals.{then-index-k+in_ok-parts-2, else-index-k}
 
 pub loop-k-preserved : goal.loop-k-preserved
-loop-k-preserved c = elim c.if-kinds-k.branch [
-  | then-kinds-k+in_ok-parts-2 w ↦
+loop-k-preserved c = elim c.if-index-k.branch [
+  | then-index-k+in_ok-parts-2 w ↦
       rw (w.alone-is, w.parts-is)
       (grouping_more _ _ _ _ _ _ c.loop-k.invariant
-      (subst (λ (s : List Ids). ArePieces c.args.rows.now (c.loop-k.k + 1) s c.loop-k.alone.items w.in_ok-parts-2.parts.items w.split_all.new.alone.items) w.as_slice.ensures.value w.in_ok-parts-2.ensures))
-  | else-kinds-k w ↦
+      (subst (λ (s : List Ids). ArePieces c.args.rows.now (c.loop-k.k + 1) s c.loop-k.alone.items w.in_ok-parts-2.parts.items w.split_all.new.alone.items) w.deref.ensures.value w.in_ok-parts-2.ensures))
+  | else-index-k w ↦
       rw (w.alone-is, w.parts-is)
-      (let kind = c.requires.kinds.each c.loop-k.k c.loop-k-test.true in
-      let earlier : kind_at c.args.kinds.now c.loop-k.k < c.loop-k.k = omega (arith, kind.no_later, w.if-kinds-k.false) in
+      (let kind = c.requires.surveyed.kinds.each c.loop-k.k c.loop-k-test.true in
+      let own : c.index.result.now ≡ kind_at c.args.survey.now.kinds.items c.loop-k.k =
+      c.index.ensures ∙ get_or_default c.args.survey.now.kinds.items c.loop-k.k c.index.result.now 0 (omega (arith, c.requires.surveyed.kinds.long, c.loop-k-test.true)) in
+      let earlier : kind_at c.args.survey.now.kinds.items c.loop-k.k < c.loop-k.k = omega (arith, kind.no_later, own, w.if-index-k.false) in
       grouping_repeated _ _ _ _ (kind_tells_none _ _ _ _ kind earlier c.loop-k-test.true) c.loop-k.invariant)
 ]
 
