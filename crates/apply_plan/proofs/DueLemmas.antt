@@ -1,8 +1,8 @@
 -- Which write is due, case by case.
-use Rattle.std.proofs.Common.{◌≡◌, ℕ, ◌+◌, ◌<◌, Bool, true, false, List, ◌∷◌, drop, get_or, length, refl, sym, ap, ◌∙◌, subst}
+use Rattle.std.proofs.Common.{◌≡◌, ℕ, ◌+◌, ◌<◌, Bool, true, false, List, ◌∷◌, drop, get_or, length, refl, sym, ap, ◌∙◌}
 use Rattle.std.proofs.lemmas.List.{drop_more}
 use Rattle.std.proofs.lemmas.Option.{none-some}
-use Rattle.std.specs.Prelude.{cond, find, Option, Some, None}
+use Rattle.std.specs.Prelude.{cond, find, Option, Some, None, IfSome}
 use Rattle.cpu_set.specs.Ids.{Ids}
 use Rattle.kernel_model.specs.KernelState.{KernelState}
 use Rattle.apply_plan.specs.declared.entry.Entry.{Entry}
@@ -26,18 +26,12 @@ due_is k reserved entries = by (find (must_release k reserved) entries) (find (m
   by None None r_is m_is = Rests r_is m_is
 
 -- the group of a write that is due is placed
-pub due_is_placed : (k : KernelState) (reserved : Ids) (entries : List Entry) (w : Write) → ArePlaced k entries → due_write k reserved entries ≡ Some w → IsPlaced k w.group
-due_is_placed k reserved entries w placed e = by (due_write k reserved entries) e (due_is k reserved entries) where
-  here : (x : Entry) (v : Write) → v.group ≡ x.group → v ≡ w → IsPlaced k x.group → IsPlaced k w.group
-  here x v g is p = subst (IsPlaced k) (sym g ∙ ap (λ z. z.group) is) p
-
-  some : (v : Write) → Some v ≡ Some w → v ≡ w
-  some v e = cc
-
-  by : (d : Option Write) → d ≡ Some w → Due k reserved entries d → IsPlaced k w.group
-  by d is (Releases x found) = here x (release_of k reserved x) refl (some (release_of k reserved x) is) (find_among (must_release k reserved) (λ a. IsPlaced k a.group) entries x placed found)
-  by d is (Moves x none found) = here x (move_of x) refl (some (move_of x) is) (find_among (must_move k) (λ a. IsPlaced k a.group) entries x placed found)
-  by d is (Rests r m) = absurd (none-some w is)
+pub due_is_placed : (k : KernelState) (reserved : Ids) (entries : List Entry) → ArePlaced k entries → IfSome (due_write k reserved entries) (λ w. IsPlaced k w.group)
+due_is_placed k reserved entries placed = by (due_write k reserved entries) (due_is k reserved entries) where
+  by : (d : Option Write) → Due k reserved entries d → IfSome d (λ w. IsPlaced k w.group)
+  by d (Releases e found) = find_among (must_release k reserved) (λ a. IsPlaced k a.group) entries e placed found
+  by d (Moves e none found) = find_among (must_move k) (λ a. IsPlaced k a.group) entries e placed found
+  by d (Rests r m) = tt
 
 -- where none of the entries before this one must let go and this one must, its write is due
 pub release_is_due : (k : KernelState) (reserved : Ids) (entries : List Entry) (i : ℕ) (e : Entry) (w : Write) → i < length entries → e ≡ get_or entries i e

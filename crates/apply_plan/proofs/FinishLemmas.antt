@@ -1,14 +1,12 @@
 -- What the writes of a hand-over up to its end are as single steps, and what these leave.
-use Rattle.std.proofs.Common.{◌≡◌, ℕ, zero, suc, ◌+◌, true, List, length, refl, sym, ap, ◌∙◌, subst, arith}
+use Rattle.std.proofs.Common.{◌≡◌, ℕ, zero, suc, ◌+◌, true, length, refl, sym, ap, ◌∙◌, subst, arith}
 use Rattle.std.proofs.lemmas.Bool.{false≢true}
 use Rattle.std.proofs.lemmas.List.{take_all}
 use Rattle.std.specs.Prelude.{find, Option, Some, None, is_some, Result, Ok, Err, IsOk}
-use Rattle.cpu_set.specs.Ids.{Ids}
 use Rattle.kernel_model.specs.declared.fault.KernelFault.{KernelFault}
 use Rattle.kernel_model.specs.declared.fault.KernelFault.TheVariants.{Failed}
 use Rattle.kernel_model.specs.KernelState.{KernelState, failed}
 use Rattle.kernel_model.specs.Cases.{rise}
-use Rattle.apply_plan.specs.declared.entry.Entry.{Entry}
 use Rattle.apply_plan.specs.declared.scan.Write.{Write}
 use Rattle.apply_plan.specs.declared.handover.Progress.{Progress}
 use Rattle.apply_plan.specs.declared.handover.Progress.TheVariants.{More, Done}
@@ -75,7 +73,7 @@ module _ (h : Targets) where
       let next = written old (due h old) in
       one_before old next (failed mid) (Err Failed) (steps_more old (due_first n next mid later some)) (fails_at n next mid later some)
 
-  stopped : (old new : KernelState) (fault : KernelFault) → Stops h old fault new → Finishes h old (Err fault) new
+  pub stopped : (old new : KernelState) (fault : KernelFault) → Stops h old fault new → Finishes h old (Err fault) new
   stopped old new fault s =
       subst (λ (f : KernelFault). Finishes h old (Err f) new) (sym s.fault)
       (subst (λ (k : KernelState). Finishes h old (Err Failed) k) (sym s.is) (fails_at s.made.0 old s.mid s.made.1 s.wanted))
@@ -92,22 +90,9 @@ module _ (h : Targets) (old mid new : KernelState) where
       done_at h all.0 old new all.1 rest
 
   -- the second walk, by what it answers
-  walked : (r : Result (Unit {0}) KernelFault) → HaveReleased h (length h.entries) old mid → TakesTargets h mid r new → Finishes h old r new
+  pub walked : (r : Result (Unit {0}) KernelFault) → HaveReleased h (length h.entries) old mid → TakesTargets h mid r new → Finishes h old r new
   walked (Ok _) made moved = both made moved
   walked (Err fault) made stops = stopped h old new fault (stops_after h old mid new fault made.made stops)
-
--- the same of the entries and the reserved CPUs as the program passes them
-module _ (h : Targets) (entries : List Entry) (reserved : Ids) (same_entries : entries ≡ h.entries) (same_reserved : reserved ≡ h.reserved) where
-  same_targets : record { entries = entries; reserved = reserved } ≡ h
-  same_targets = ap (λ (xs : List Entry). record { entries = xs; reserved = reserved }) same_entries ∙ ap (λ (s : Ids). record { entries = h.entries; reserved = s }) same_reserved
-
-  pub first_walk_stopped : (old new : KernelState) (fault : KernelFault) → Stops (record { entries = entries; reserved = reserved }) old fault new → Finishes h old (Err fault) new
-  first_walk_stopped old new fault s = subst (λ (t : Targets). Finishes t old (Err fault) new) same_targets (stopped (record { entries = entries; reserved = reserved }) old new fault s)
-
-  pub both_walked : (old mid new : KernelState) (r : Result (Unit {0}) KernelFault) → HaveReleased (record { entries = entries; reserved = reserved }) (length entries) old mid
-      → TakesTargets (record { entries = entries; reserved = reserved }) mid r new → Finishes h old r new
-  both_walked old mid new r made moved =
-      subst (λ (t : Targets). Finishes t old r new) same_targets (walked (record { entries = entries; reserved = reserved }) old mid new r made moved)
 
 -- what each step leaves, all leave
 module _ (h : Targets) (valid : IsHandover h) where

@@ -1,7 +1,7 @@
 -- What whole runs of a hand-over leave, whatever happens between its steps.
 use Rattle.std.proofs.Common.{◌≡◌, ◌+◌, ◌<◌, ◌≤◌, Bool, true, false, List, [], ◌∷◌, refl, sym, ap, ◌∙◌, subst, arith, inl, inr}
 use Rattle.std.proofs.lemmas.Bool.{false≢true}
-use Rattle.std.specs.Prelude.{cond, Option, Some, None, is_some, Result, Ok, Err}
+use Rattle.std.specs.Prelude.{cond, Option, Some, None, is_some, IfSome, Result, Ok, Err}
 use Rattle.std.specs.List.{AllByRecursion}
 use Rattle.std.specs.FinSet as set
 use Rattle.cpu_set.specs.Ids.{Ids, is_empty}
@@ -14,7 +14,7 @@ use Rattle.apply_plan.specs.declared.entry.Entry.{Entry}
 use Rattle.apply_plan.specs.declared.handover.Progress.{Progress}
 use Rattle.apply_plan.specs.declared.handover.Progress.TheVariants.{More, Done}
 use Rattle.apply_plan.specs.Holders.{AreApart, HasSome, IsSafe}
-use Rattle.apply_plan.specs.Targets.{Targets, holder_of, holders_of}
+use Rattle.apply_plan.specs.Targets.{Targets, holder_of, holders_of, IsPlaced}
 use Rattle.apply_plan.specs.DueWrite.{held, due, Steps, written, progress_of, writes_of, writes_to_come, IsBetween, Between}
 use Rattle.apply_plan.specs.OneStep.{StepLeaves, StepsLeave}
 use Rattle.apply_plan.specs.Runs.{Event, Stepped, Called, Happens, AllHappen, IsOpen, StaysSafe, StaysBetween, EndsWithin, writes_in, writes_of_event, last_of}
@@ -69,7 +69,7 @@ module _ (h : Targets) (old new : KernelState) (before : IsOpen h old) where
   written_kernel : (d : Option Write) → due h old ≡ d → StepKeeps old (written old d)
   written_kernel None is = runs_keep old old [] [] before.well_formed refl
   written_kernel (Some w) is =
-      let placed = due_is_placed old h.reserved h.entries w before.placed is in
+      let placed = subst (λ d. IfSome d (λ v. IsPlaced old v.group)) is (due_is_placed old h.reserved h.entries before.placed) in
       (each_case_keeps old (written old (Some w)) before.well_formed).cpus w.group w.cpus (Ok tt) (((calls_are_free old).write w.group).1 (placed.there, placed.below), refl)
 
   any_group : Group

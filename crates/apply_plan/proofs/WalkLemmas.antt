@@ -101,8 +101,15 @@ module _ (old new : KernelState) (e : Entry) (cpus : Ids) (w : IsWrite old new e
   moved_stays : cpus ≡ e.target → must_move new e ≡ false
   moved_stays is = ap (λ s. moves new.table s e) (w.own ∙ is) ∙ stays_at_target new.table e
 
--- the walks at one entry
-module _ (h : Targets) (valid : IsHandover h) (first old : KernelState) (i : ℕ) (e : Entry) (within : i < length h.entries) (at : e ≡ get_or h.entries i e) where
+-- the walks at one of the entries that they go over
+module _ (h : Targets) (valid : IsHandover h) (first old : KernelState) (entries : List Entry) (same : entries ≡ h.entries)
+    (i : ℕ) (e : Entry) (among : i < length entries) (is : e ≡ get_or entries i e) where
+  within : i < length h.entries
+  within = subst (λ xs. i < length xs) same among
+
+  at : e ≡ get_or h.entries i e
+  at = subst (λ xs. e ≡ get_or xs i e) same is
+
   front_more : take (i + 1) h.entries ≡ take i h.entries ++ e ∷ []
   front_more = take_more h.entries i e within ∙ ap (λ x. take i h.entries ++ x ∷ []) (sym at)
 

@@ -55,16 +55,6 @@ abbrev pub written : KernelState → Option Write → KernelState
 written k None = k
 written k (Some w) = record k { tree = with_cpus k.tree w.group w.cpus }
 
--- a write succeeds, or it fails, which is counted, and nothing else changes
-abbrev pub IsMade : Write → KernelState → Result (Unit {0}) KernelFault → KernelState → Type 0
-IsMade w old (Ok _) new = new ≡ written old (Some w)
-IsMade w old (Err fault) new = (fault ≡ Failed) × (new ≡ failed old)
-
--- the same of the write that is due, if one is
-abbrev pub IsDueMade : Ids → List Entry → KernelState → Result (Unit {0}) KernelFault → KernelState → Type 0
-IsDueMade reserved entries old (Ok _) new = new ≡ written old (due_write old reserved entries)
-IsDueMade reserved entries old (Err fault) new = (fault ≡ Failed) × (new ≡ failed old) × (is_some (due_write old reserved entries) ≡ true)
-
 -- whether anything is due yet
 abbrev pub progress_of : Option Write → Progress
 progress_of None = Done

@@ -9,7 +9,6 @@ ghost use Rattle.apply_plan.specs.Finishes.{Finishes};
 
 use crate::Entry;
 use crate::scan::{due, make_due};
-use crate::walks::{let_all_go, take_all_targets};
 use cpu_set::IdSet;
 use kernel_model::{Kernel, KernelFault};
 use std::marker::Model;
@@ -27,7 +26,7 @@ pub enum Progress {
 #[derive(Debug, Drop)]
 pub struct Handover {
     entries: Vec<Entry>,
-    reserved: IdSet,
+    pub(crate) reserved: IdSet,
 }
 
 impl Model for Handover {
@@ -111,9 +110,8 @@ impl Handover {
         ensures finishes { Finishes self.now (K.state kernel.old) result (K.state kernel.new) }
         ensures valid { IsHandover self.now }
     {
-        let all = self.entries();
-        let_all_go(kernel, &self.reserved, all)?;
-        take_all_targets(kernel, &self.reserved, all)
+        self.let_all_go(kernel)?;
+        self.take_all_targets(kernel)
     }
 
     /// Makes all writes that are to come, up to the first that fails: what [`step`](Handover::step) leaves, called until

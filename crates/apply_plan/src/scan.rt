@@ -1,10 +1,10 @@
 //! The entries looked through for the write that is due.
-ghost use Rattle.std.specs.Prelude.{◌≡◌, true};
+ghost use Rattle.std.specs.Prelude.{◌≡◌, true, IfSome};
 ghost use Rattle.cpuset_tree.specs.Groups.{requested_cpus, has_group};
 ghost use Rattle.apply_plan.specs.Kept.{kept};
-ghost use Rattle.apply_plan.specs.Targets.{ArePlaced};
-ghost use Rattle.apply_plan.specs.DueWrite.{due_write, IsDueMade};
-ghost use Rattle.apply_plan.specs.Walks.{its_release, its_move};
+ghost use Rattle.apply_plan.specs.Targets.{IsPlaced, ArePlaced};
+ghost use Rattle.apply_plan.specs.DueWrite.{due_write};
+ghost use Rattle.apply_plan.specs.Walks.{its_release, its_move, IsMadeIfAny};
 
 use crate::Entry;
 use cpu_set::IdSet;
@@ -86,6 +86,17 @@ pub fn due<K: Kernel>(kernel: &K, reserved: &IdSet, entries: &[Entry]) -> Option
     first_move
 }
 
+/// Makes a write, where there is one.
+pub fn make_if_any<K: Kernel>(kernel: &mut K, write: Option<Write>) -> Result<(), KernelFault>
+    requires { IfSome write (λ w. IsPlaced (K.state kernel.old) w.group) }
+    ensures { IsMadeIfAny write (K.state kernel.old) result (K.state kernel.new) }
+{
+    match write {
+        Some(write) => kernel.write_cpus(write.group, write.cpus),
+        None => Ok(()),
+    }
+}
+
 /// Makes the write that is due, where one is.
 pub fn make_due<K: Kernel>(
     kernel: &mut K,
@@ -93,11 +104,8 @@ pub fn make_due<K: Kernel>(
     entries: &[Entry],
 ) -> Result<(), KernelFault>
     requires { ArePlaced (K.state kernel.old) entries.now }
-    ensures made { IsDueMade reserved.now entries.now (K.state kernel.old) result (K.state kernel.new) }
+    ensures made { IsMadeIfAny (due_write (K.state kernel.old) reserved.now entries.now) (K.state kernel.old) result (K.state kernel.new) }
     ensures placed { ArePlaced (K.state kernel.new) entries.now }
 {
-    match due(&*kernel, reserved, entries) {
-        Some(write) => kernel.write_cpus(write.group, write.cpus),
-        None => Ok(()),
-    }
+    make_if_any(kernel, due(&*kernel, reserved, entries))
 }
