@@ -1,5 +1,5 @@
 -- A row's offers in rising weight, and a line of which none is opened.
-use Rattle.std.proofs.Common.{◌≡◌, ℕ, zero, suc, ◌+◌, ◌<◌, ◌≤◌, Bool, true, false, cond, List, [], ◌∷◌, ◌++◌, map, length, get_or, Some, None, option_map, slice_get, nat_lt, refl, sym, ap, ◌∙◌, subst, inl, inr, arith}
+use Rattle.std.proofs.Common.{◌≡◌, ℕ, Vec, Global, zero, suc, ◌+◌, ◌<◌, ◌≤◌, Bool, true, false, cond, List, [], ◌∷◌, ◌++◌, map, length, get_or, Some, None, option_map, slice_get, nat_lt, refl, sym, ap, ◌∙◌, subst, inl, inr, arith}
 use Rattle.std.specs.Prelude.{find, All, AllPairs, Contains}
 use Rattle.std.specs.List.Sorted.{IsPermutation, IsNonDecreasingBy}
 use Rattle.std.specs.FinSet as set
@@ -7,20 +7,24 @@ use Rattle.std.proofs.lemmas.Bool.{cases_lt, cases_Bool, ltb-true, lt-ltb}
 use Rattle.std.proofs.lemmas.List.{get_or_default, get_or-map, length-map, get_or_past, get_or_push, get_or_append_left, length_push}
 use Rattle.std.proofs.lemmas.Option.{slice_get-get_or, get_or_from_slice_get, slice_get_within}
 use Rattle.std.proofs.lemmas.List.Elements.{All-push, All-nil, Contains-push, Contains-append_left}
+use Rattle.std.proofs.lemmas.List.FromFn.{get_or-map-range_with_len, length-map-range_with_len}
 use Rattle.std.proofs.lemmas.List.Sorted.{All-permutation, Contains-permutation}
 use Rattle.cpu_set.specs.Ids.{IsDisjoint}
 use Rattle.certificate.specs.Weight.{weight_in}
 use Rattle.certificate.specs.RowView.{RowView}
 use Rattle.certificate.specs.AreWithin.{AreRowsWithin}
 use Rattle.certificate.specs.declared.rows.Offer.{Offer}
+use Rattle.twins.specs.Rising.{AreRising}
 use Rattle.twins.specs.Kinds.{offers_of, kind_at, AreKinds}
 use Rattle.transport.specs.Weights.{class_weight, AreLines, AreNewLines}
 use Rattle.transport.specs.declared.tables.Table.{Table}
 use Rattle.certificate.specs.declared.limits.TheConstants.{MAX_WEIGHT}
 use Rattle.transport.specs.Numbers.{number}
 use Rattle.transport.specs.Searches.{weight_limit}
-use Rattle.transport.specs.Lines.{bid_at, weight_of, IsToCome, IsBid, AreBids, AreAllBids, IsNewLine, AreArcs, IsLine}
-use Rattle.transport.specs.declared.lines.Bid.{Bid}
+use Rattle.transport.specs.Lines.{weight_of, IsToCome, IsNewLine, AreArcs, IsLine}
+use Rattle.transport.specs.Orders.{bid_at, bids_in, offered, IsBid, AreBids, AreAllBids, IsOrder}
+use Rattle.transport.specs.declared.orders.Bid.{Bid}
+use Rattle.transport.specs.declared.orders.Order.TheVariants.{AsOffered, ByWeight}
 use Rattle.transport.specs.declared.lines.Line.{Line}
 
 pub bids_none : (offers : List Offer) → AreAllBids offers [] 0
@@ -56,6 +60,58 @@ bids_rise offers bids n h up = record {
   rising = λ i j le lt. up i j _ le lt;
   its = λ i lt. h.its i _ lt;
 }
+
+-- offers that rise are in order as they stand
+pub order_as_offered : (offers : List Offer) → AreRising offers → IsOrder offers AsOffered
+order_as_offered offers up = record {
+  bids = record {
+    rising = λ i j le lt. rw (at i (omega (arith, le, lt, long)), at j (omega (arith, lt, long))) (weights i j le (omega (arith, lt, long)));
+    its = λ i lt. rw (at i (omega (arith, lt, long))) (its i (omega (arith, lt, long)));
+  };
+  all = record {
+    its = λ i d lt. rw (get_or-map-range_with_len bid 0 (length offers) i i d (omega (arith, lt, long)) (omega arith)) (its i (omega (arith, lt, long)));
+    all = λ o x lt is. (
+      o,
+      omega (arith, lt, long),
+      get_or-map-range_with_len bid 0 (length offers) o o _ lt (omega arith)
+          ∙ ap (λ (y : Offer). record { weight = y.weight; offer = o }) (get_or_from_slice_get offers o x none is),
+    );
+  };
+  long = long;
+}
+  where
+    none : Offer
+    none = record { weight = 0; cpus = set.empty }
+
+    bid : ℕ → Bid
+    bid i = record { weight = (get_or offers i none).weight; offer = i }
+
+    long : length (offered offers) ≡ length offers
+    long = length-map-range_with_len bid 0 (length offers)
+
+    at : (i : ℕ) → i < length offers → bid_at (offered offers) i ≡ bid i
+    at i lt = get_or-map-range_with_len bid 0 (length offers) i i _ lt (omega arith)
+
+    its : (i : ℕ) → i < length offers → IsBid offers (bid i)
+    its i lt = record { offer = get_or offers i none; its = slice_get-get_or offers i none lt; weight = refl }
+
+    weights : (i j : ℕ) → i ≤ j → j < length offers → (get_or offers i none).weight ≤ (get_or offers j none).weight
+    weights i j le lt = elim (cases_lt i j) [
+      | inl before ↦ omega (arith, up i j none before lt)
+      | inr after ↦ (let e : i ≡ j = omega (arith, le, after) in omega (arith, ap (λ n. (get_or offers n none).weight) e))
+    ]
+
+pub bid_as_offered : (offers : List Offer) (i : ℕ) (o : Offer) → i < length offers → o ≡ get_or offers i o → record { weight = o.weight; offer = i } ≡ bid_at (offered offers) i
+bid_as_offered offers i o lt is =
+    ap (λ (x : Offer). record { weight = x.weight; offer = i }) (is ∙ get_or_default offers i o none lt)
+    ∙ sym (get_or-map-range_with_len (λ n. record { weight = (get_or offers n none).weight; offer = n }) 0 (length offers) i i _ lt (omega arith))
+  where
+    none : Offer
+    none = record { weight = 0; cpus = set.empty }
+
+-- and all of them sorted by weight are
+pub order_by_weight : (offers : List Offer) (bids : Vec Bid Global) → AreAllBids offers bids.items (length offers) → length bids.items ≡ length offers → IsNonDecreasingBy (λ (b : Bid). b.weight) bids.items → IsOrder offers (ByWeight bids)
+order_by_weight offers bids all long up = record { bids = bids_rise offers bids.items (length offers) all up; all = all; long = long }
 
 -- where no CPU is in two offers, each offer that has a CPU gives its weight
 first_has : (offers : List Offer) (c i : ℕ) (x : Offer) → AllPairs (λ (o p : Offer). IsDisjoint o.cpus p.cpus) offers → slice_get offers i ≡ Some x → set.contains x.cpus c ≡ true
@@ -134,7 +190,7 @@ weight_low rows firsts k g w fit e =
 
 pub new_line : (offers : List Offer) (firsts free : List ℕ) (l : Line) → AllPairs (λ (o p : Offer). IsDisjoint o.cpus p.cpus) offers → length firsts ≤ length free → IsNewLine offers l → IsLine (weight_of offers firsts) offers firsts free l
 new_line offers firsts free l apart long h = record {
-  bids = h.bids;
+  order = h.order;
   opened_in = omega (arith, h.opened);
   arcs = rw (h.opened, h.arcs) none;
   cursor_in = omega (arith, h.cursor);
@@ -144,12 +200,12 @@ new_line offers firsts free l apart long h = record {
   firsts_in = long;
 }
   where
-    to_come : (g w : ℕ) → weight_of offers firsts g ≡ Some w → IsToCome offers firsts l.bids.items 0 g w
+    to_come : (g w : ℕ) → weight_of offers firsts g ≡ Some w → IsToCome offers firsts (bids_in offers l.order) 0 g w
     to_come g w e =
         let lt = in_classes offers firsts g w e in
         let o = offer_of offers (number firsts g) w (sym (in_offers offers firsts g lt) ∙ e) in
-        let c = h.all.all o.place o.offer (slice_get_within offers o.place o.offer o.its) o.its in
-        let b : bid_at l.bids.items c.0 ≡ record { weight = o.offer.weight; offer = o.place } = get_or_default l.bids.items c.0 _ _ c.1 ∙ c.2 in
+        let c = h.order.all.all o.place o.offer (slice_get_within offers o.place o.offer o.its) o.its in
+        let b : bid_at (bids_in offers l.order) c.0 ≡ record { weight = o.offer.weight; offer = o.place } = get_or_default (bids_in offers l.order) c.0 _ _ c.1 ∙ c.2 in
         record {
           place = c.0;
           from = omega arith;
@@ -163,7 +219,7 @@ new_line offers firsts free l apart long h = record {
           };
         }
 
-    none : AreArcs (weight_of offers firsts) offers firsts l.bids.items 0 []
+    none : AreArcs (weight_of offers firsts) offers firsts (bids_in offers l.order) 0 []
     none = record {
       sound = λ i lt. absurd (omega arith);
       rising = λ i j le lt. absurd (omega arith);

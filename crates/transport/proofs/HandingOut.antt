@@ -32,7 +32,7 @@ use Rattle.transport.proofs.Settling.{settled_pushed}
 line_free : (ws : ℕ → Option ℕ) (offers : List Offer) (firsts free less : List ℕ) (l : Line) → IsLine ws offers firsts free l → length less ≡ length free
     → ((g : ℕ) → number less g ≤ number free g) → IsLine ws offers firsts less l
 line_free ws offers firsts free less l h long down = record {
-  bids = h.bids;
+  order = h.order;
   opened_in = h.opened_in;
   arcs = h.arcs;
   cursor_in = h.cursor_in;

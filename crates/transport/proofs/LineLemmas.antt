@@ -8,8 +8,9 @@ use Rattle.certificate.specs.declared.rows.Offer.{Offer}
 use Rattle.cpu_set.specs.Ids.{Ids, NoneFrom, IsFirstFrom}
 use Rattle.transport.specs.Numbers.{number, IsIn}
 use Rattle.transport.specs.Looks.{arc_at, IsPast}
-use Rattle.transport.specs.Lines.{bid_at, IsArc, HasOffer, IsToCome, AreBids, AreArcs, IsLine, IsScanned, IsFreeArc, IsFoundExit, IsAhead, IsOpening, CanOpen}
-use Rattle.transport.specs.declared.lines.Bid.{Bid}
+use Rattle.transport.specs.Lines.{IsArc, HasOffer, IsToCome, AreArcs, IsLine, IsScanned, IsFreeArc, IsFoundExit, IsAhead, IsOpening, CanOpen}
+use Rattle.transport.specs.Orders.{bid_at, bids_in, AreBids}
+use Rattle.transport.specs.declared.orders.Bid.{Bid}
 use Rattle.transport.specs.declared.lines.Arc.{Arc}
 use Rattle.transport.specs.declared.lines.Line.{Line}
 use Rattle.transport.proofs.Numbers.{not_both}
@@ -26,25 +27,25 @@ scanned_at ws offers firsts free l limit h lt past g w its = elim (h.arcs.all g 
   | inr b ↦ inr (past_rise limit _ w (heavier b) past)
 ]
   where
-    heavier : IsToCome offers firsts l.bids.items l.opened g w → (arc_at l.arcs.items l.cursor).weight ≤ w
+    heavier : IsToCome offers firsts (bids_in offers l.order) l.opened g w → (arc_at l.arcs.items l.cursor).weight ≤ w
     heavier b =
-        let bid = h.bids.its b.place b.within in
+        let bid = h.order.bids.its b.place b.within in
         let same : bid.offer ≡ b.has.offer = (let both : Some bid.offer ≡ Some b.has.offer = sym bid.its ∙ b.has.its in cc) in
         omega (arith, h.arcs.low l.cursor b.place lt b.from b.within, bid.weight, ap (λ (o : Offer). o.weight) same, b.has.weight)
 
 -- where it has come past all arcs, and the next offer is past the limit, or there is none
 pub scanned_end : (ws : ℕ → Option ℕ) (offers : List Offer) (firsts free : List ℕ) (l : Line) (limit : Option ℕ) → IsLine ws offers firsts free l → length l.arcs.items ≤ l.cursor
-    → (l.opened < length l.bids.items → IsPast limit (bid_at l.bids.items l.opened).weight) → IsScanned ws l limit
+    → (l.opened < length offers → IsPast limit (bid_at (bids_in offers l.order) l.opened).weight) → IsScanned ws l limit
 scanned_end ws offers firsts free l limit h done past g w its = elim (h.arcs.all g w its) [
   | inl a ↦ inl (record { place = a.place; within = omega (arith, a.within, done); class = a.class; weight = a.weight })
-  | inr b ↦ inr (past_rise limit _ w (heavier b) (past (omega (arith, b.from, b.within))))
+  | inr b ↦ inr (past_rise limit _ w (heavier b) (past (omega (arith, b.from, b.within, h.order.long))))
 ]
   where
-    heavier : IsToCome offers firsts l.bids.items l.opened g w → (bid_at l.bids.items l.opened).weight ≤ w
+    heavier : IsToCome offers firsts (bids_in offers l.order) l.opened g w → (bid_at (bids_in offers l.order) l.opened).weight ≤ w
     heavier b =
-        let bid = h.bids.its b.place b.within in
+        let bid = h.order.bids.its b.place b.within in
         let same : bid.offer ≡ b.has.offer = (let both : Some bid.offer ≡ Some b.has.offer = sym bid.its ∙ b.has.its in cc) in
-        omega (arith, h.bids.rising l.opened b.place b.from b.within, bid.weight, ap (λ (o : Offer). o.weight) same, b.has.weight)
+        omega (arith, h.order.bids.rising l.opened b.place b.from b.within, bid.weight, ap (λ (o : Offer). o.weight) same, b.has.weight)
 
 -- a class with a free CPU at the cursor
 pub found_at : (ws : ℕ → Option ℕ) (offers : List Offer) (firsts free : List ℕ) (l : Line) (limit : Option ℕ) (arc : Arc) → IsLine ws offers firsts free l → l.cursor < length l.arcs.items
@@ -197,16 +198,16 @@ opening_all ws offers firsts bids opened old arcs h = record {
 }
 
 -- what is left of a line as an offer is opened
-pub can_open : (ws : ℕ → Option ℕ) (offers : List Offer) (firsts free : List ℕ) (l : Line) (offer : Offer) (weight : ℕ) → IsLine ws offers firsts free l → l.opened < length l.bids.items
-    → slice_get offers (bid_at l.bids.items l.opened).offer ≡ Some offer → weight ≡ (bid_at l.bids.items l.opened).weight → CanOpen ws offers firsts l.bids.items l.opened offer weight l.arcs.items
-can_open ws offers firsts free l offer weight h more its weighs = record { bids_are = h.bids; in_bids = more; its = its; weighs = weighs; arcs_are = h.arcs; hits = h.hits }
+pub can_open : (ws : ℕ → Option ℕ) (offers : List Offer) (firsts free : List ℕ) (l : Line) (offer : Offer) (weight : ℕ) → IsLine ws offers firsts free l → l.opened < length offers
+    → slice_get offers (bid_at (bids_in offers l.order) l.opened).offer ≡ Some offer → weight ≡ (bid_at (bids_in offers l.order) l.opened).weight → CanOpen ws offers firsts (bids_in offers l.order) l.opened offer weight l.arcs.items
+can_open ws offers firsts free l offer weight h more its weighs = record { bids_are = h.order.bids; in_bids = omega (arith, more, h.order.long); its = its; weighs = weighs; arcs_are = h.arcs; hits = h.hits }
 
-pub line_opened : (ws : ℕ → Option ℕ) (offers : List Offer) (firsts free : List ℕ) (l new : Line) → IsLine ws offers firsts free l → l.opened < length l.bids.items
-    → IsOpening ws offers firsts l.bids.items l.opened l.arcs.items new.arcs.items None → new.bids ≡ l.bids → new.opened ≡ l.opened + 1 → new.cursor ≡ l.cursor → IsLine ws offers firsts free new
-line_opened ws offers firsts free l new h more o bids opened cursor = record {
-  bids = rw bids h.bids;
-  opened_in = rw (bids, opened) (omega arith);
-  arcs = rw (bids, opened) (opening_all ws offers firsts l.bids.items l.opened l.arcs.items new.arcs.items o);
+pub line_opened : (ws : ℕ → Option ℕ) (offers : List Offer) (firsts free : List ℕ) (l new : Line) → IsLine ws offers firsts free l → l.opened < length offers
+    → IsOpening ws offers firsts (bids_in offers l.order) l.opened l.arcs.items new.arcs.items None → new.order ≡ l.order → new.opened ≡ l.opened + 1 → new.cursor ≡ l.cursor → IsLine ws offers firsts free new
+line_opened ws offers firsts free l new h more o order opened cursor = record {
+  order = rw order h.order;
+  opened_in = rw opened (omega (arith, more));
+  arcs = rw (order, opened) (opening_all ws offers firsts (bids_in offers l.order) l.opened l.arcs.items new.arcs.items o);
   cursor_in = rw cursor (omega (arith, h.cursor_in, o.longer));
   full = λ i lt. full i (omega (arith, lt, cursor));
   hits = h.hits;
@@ -217,12 +218,12 @@ line_opened ws offers firsts free l new h more o bids opened cursor = record {
     full : (i : ℕ) → i < l.cursor → number free (arc_at new.arcs.items i).class ≡ 0
     full i lt = rw (o.kept i (omega (arith, lt, h.cursor_in))) (h.full i lt)
 
-pub line_moved : (ws : ℕ → Option ℕ) (offers : List Offer) (firsts free : List ℕ) (l new : Line) → IsLine ws offers firsts free l → new.bids ≡ l.bids → new.opened ≡ l.opened → new.arcs ≡ l.arcs
+pub line_moved : (ws : ℕ → Option ℕ) (offers : List Offer) (firsts free : List ℕ) (l new : Line) → IsLine ws offers firsts free l → new.order ≡ l.order → new.opened ≡ l.opened → new.arcs ≡ l.arcs
     → new.cursor ≤ length l.arcs.items → ((i : ℕ) → i < new.cursor → number free (arc_at l.arcs.items i).class ≡ 0) → IsLine ws offers firsts free new
-line_moved ws offers firsts free l new h bids opened arcs cursor full = record {
-  bids = rw bids h.bids;
-  opened_in = rw (bids, opened) h.opened_in;
-  arcs = rw (bids, opened, arcs) h.arcs;
+line_moved ws offers firsts free l new h order opened arcs cursor full = record {
+  order = rw order h.order;
+  opened_in = rw opened h.opened_in;
+  arcs = rw (order, opened, arcs) h.arcs;
   cursor_in = rw arcs cursor;
   full = rw arcs full;
   hits = h.hits;
@@ -250,18 +251,12 @@ arcs_more ws offers firsts bids opened offer weight old arcs new there cpu g nex
       | inr ne ↦ inr (ahead there (cpu + 1) (number firsts j) next first (omega (arith, le, ne)) (all j d.in_range (has_offer offers firsts _ j w offer can.its d)))
     ]
 
-bid_here : (bids : List Bid) (i : ℕ) (b : Bid) → i < length bids → b ≡ get_or bids i b → b ≡ bid_at bids i
-bid_here bids i b lt is = get_or_read bids i b lt is _
+pub bid_in : (offers : List Offer) (bids : List Bid) (i : ℕ) (b : Bid) → AreBids offers bids → i < length bids → b ≡ bid_at bids i → b.offer < length offers
+bid_in offers bids i b h lt is = let x = h.its i lt in rw is (slice_get_within offers _ x.offer x.its)
 
-pub bid_in : (offers : List Offer) (bids : List Bid) (i : ℕ) (b : Bid) → AreBids offers bids → i < length bids → b ≡ get_or bids i b → b.offer < length offers
-bid_in offers bids i b h lt is = let x = h.its i lt in rw (bid_here bids i b lt is) (slice_get_within offers _ x.offer x.its)
-
--- an offer that was read, at the bid that was read
-pub offer_read : (offers : List Offer) (bids : List Bid) (i : ℕ) (b : Bid) (o : Offer) → i < length bids → b ≡ get_or bids i b → b.offer < length offers → o ≡ get_or offers b.offer o → slice_get offers (bid_at bids i).offer ≡ Some o
-offer_read offers bids i b o lt is in_offers read = rw (← bid_here bids i b lt is) (slice_get_read offers (length offers) b.offer o refl in_offers read)
-
-pub weight_read : (bids : List Bid) (i : ℕ) (b : Bid) → i < length bids → b ≡ get_or bids i b → b.weight ≡ (bid_at bids i).weight
-weight_read bids i b lt is = ap (λ (x : Bid). x.weight) (bid_here bids i b lt is)
+-- an offer that was read, at its bid
+pub offer_read : (offers : List Offer) (bids : List Bid) (i : ℕ) (b : Bid) (o : Offer) → b ≡ bid_at bids i → b.offer < length offers → o ≡ get_or offers b.offer o → slice_get offers (bid_at bids i).offer ≡ Some o
+offer_read offers bids i b o is in_offers read = rw (← is) (slice_get_read offers (length offers) b.offer o refl in_offers read)
 
 pub arc_here : (arcs : List Arc) (i : ℕ) (a : Arc) → i < length arcs → a ≡ get_or arcs i a → a ≡ arc_at arcs i
 arc_here arcs i a lt is = get_or_read arcs i a lt is _
@@ -278,7 +273,7 @@ found_cases ws offers firsts free l limit arc (Some a) h lt is stop found = elim
 
 -- the cursor moves past full classes
 pub line_skipped : (ws : ℕ → Option ℕ) (offers : List Offer) (firsts free : List ℕ) (l : Line) (xs : List Arc) (r : ℕ) → IsLine ws offers firsts free l → xs ≡ l.arcs.items → r ≤ length xs
-    → ((i : ℕ) → i < r → number free (arc_at xs i).class ≡ 0) → IsLine ws offers firsts free (record { bids = l.bids; opened = l.opened; arcs = l.arcs; cursor = r })
+    → ((i : ℕ) → i < r → number free (arc_at xs i).class ≡ 0) → IsLine ws offers firsts free (record { order = l.order; opened = l.opened; arcs = l.arcs; cursor = r })
 line_skipped ws offers firsts free l xs r h e le full =
     line_moved ws offers firsts free l _ h refl refl refl (omega (arith, ap length e, le)) (subst (λ ys. (i : ℕ) → i < r → number free (arc_at ys i).class ≡ 0) e full)
 

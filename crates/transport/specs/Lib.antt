@@ -4,6 +4,7 @@ pub mod Filled
 pub mod Filling
 pub mod Lines
 pub mod Looks
+pub mod Orders
 pub mod Numbers
 pub mod Pushed
 pub mod Pushes

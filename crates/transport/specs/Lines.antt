@@ -1,20 +1,18 @@
 -- A row's offers in rising weight, and the classes of those that are opened.
-use Rattle.std.specs.Prelude.{◌≡◌, ℕ, ◌+◌, ◌<◌, ◌≤◌, true, Option, Some, None, List, [], ◌⊎◌, All, Contains, length, slice_get, slice_index_or, nat_lt, cond}
+use Rattle.std.specs.Prelude.{◌≡◌, ℕ, ◌+◌, ◌<◌, ◌≤◌, true, Option, Some, None, List, [], ◌⊎◌, length, slice_get, nat_lt, cond}
 use Rattle.std.specs.FinSet as set
 use Rattle.certificate.specs.Weight.{weight_in}
 use Rattle.certificate.specs.declared.rows.Offer.{Offer}
 use Rattle.transport.specs.Numbers.{number}
 use Rattle.transport.specs.Looks.{arc_at, IsPast}
-use Rattle.transport.specs.declared.lines.Bid.{Bid}
+use Rattle.transport.specs.Orders.{bid_at, bids_in, AreBids, IsOrder}
+use Rattle.transport.specs.declared.orders.Bid.{Bid}
 use Rattle.transport.specs.declared.lines.Arc.{Arc}
 use Rattle.transport.specs.declared.lines.Line.{Line}
 
 -- the weight of a class in a row, which is its first CPU's
 abbrev pub weight_of : List Offer → List ℕ → ℕ → Option ℕ
 weight_of offers firsts g = cond (nat_lt g (length firsts)) (weight_in offers (number firsts g)) None
-
-abbrev pub bid_at : List Bid → ℕ → Bid
-bid_at bids i = slice_index_or bids i (record { weight = 0; offer = 0 })
 
 -- one of the first arcs has that class, at that weight
 pub record IsArc (arcs : List Arc) (upto g w : ℕ) : Type 0 where
@@ -38,26 +36,9 @@ pub record IsToCome (offers : List Offer) (firsts : List ℕ) (bids : List Bid) 
   pub within : place < length bids
   pub has : HasOffer offers firsts (bid_at bids place).offer g w
 
--- an offer at its weight
-pub record IsBid (offers : List Offer) (b : Bid) : Type 0 where
-  pub offer : Offer
-  pub its : slice_get offers b.offer ≡ Some offer
-  pub weight : offer.weight ≡ b.weight
-
--- the offers of a row by rising weight
-pub record AreBids (offers : List Offer) (bids : List Bid) : Type 0 where
-  pub rising : (i j : ℕ) → i ≤ j → j < length bids → (bid_at bids i).weight ≤ (bid_at bids j).weight
-  pub its : (i : ℕ) → i < length bids → IsBid offers (bid_at bids i)
-
--- each of these is an offer, and each of the first offers is one of them
-pub record AreAllBids (offers : List Offer) (bids : List Bid) (upto : ℕ) : Type 0 where
-  pub its : All (IsBid offers) bids
-  pub all : (o : ℕ) (x : Offer) → o < upto → slice_get offers o ≡ Some x → Contains bids (record { weight = x.weight; offer = o })
-
 -- no offer is opened
 pub record IsNewLine (offers : List Offer) (l : Line) : Type 0 where
-  pub bids : AreBids offers l.bids.items
-  pub all : AreAllBids offers l.bids.items (length offers)
+  pub order : IsOrder offers l.order
   pub opened : l.opened ≡ 0
   pub arcs : l.arcs.items ≡ []
   pub cursor : l.cursor ≡ 0
@@ -71,9 +52,9 @@ pub record AreArcs (ws : ℕ → Option ℕ) (offers : List Offer) (firsts : Lis
 
 -- what a line keeps: arcs before the cursor are of full classes
 pub record IsLine (ws : ℕ → Option ℕ) (offers : List Offer) (firsts free : List ℕ) (l : Line) : Type 0 where
-  pub bids : AreBids offers l.bids.items
-  pub opened_in : l.opened ≤ length l.bids.items
-  pub arcs : AreArcs ws offers firsts l.bids.items l.opened l.arcs.items
+  pub order : IsOrder offers l.order
+  pub opened_in : l.opened ≤ length offers
+  pub arcs : AreArcs ws offers firsts (bids_in offers l.order) l.opened l.arcs.items
   pub cursor_in : l.cursor ≤ length l.arcs.items
   pub full : (i : ℕ) → i < l.cursor → number free (arc_at l.arcs.items i).class ≡ 0
   pub hits : (o g w : ℕ) → HasOffer offers firsts o g w → ws g ≡ Some w

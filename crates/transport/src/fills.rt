@@ -1,6 +1,8 @@
 ghost use Rattle.std.specs.Prelude.{◌≡◌, ℕ, ◌+◌, ◌*◌, ◌<◌, ◌≤◌, ◌^◌, length, IfOk};
 ghost use Rattle.certificate.specs.AreWithin.{AreRowsWithin};
-ghost use Rattle.twins.specs.Kinds.{AreKinds};
+ghost use Rattle.twins.specs.Kinds.{offers_of, kind_at, AreKinds};
+ghost use Rattle.twins.specs.Rising.{AreMarked};
+ghost use Rattle.transport.specs.Lines.{IsNewLine};
 ghost use Rattle.transport.specs.Numbers.{number};
 ghost use Rattle.transport.specs.Weights.{weights, AreLines, AreNewLines};
 ghost use Rattle.transport.specs.Totals.{class_total};
@@ -15,7 +17,6 @@ use crate::pushes::push;
 use crate::searches::search;
 use crate::trees::Tree;
 use crate::{State, Table};
-use certificate::Row;
 use std::alloc::{AllocError, Global};
 
 /// What the rows get.
@@ -41,12 +42,13 @@ pub enum Filled {
 pub fn fill(alloc: Global, table: &Table, sizes: &[u32]) -> Result<Filled, AllocError>
     requires fit { AreRowsWithin table.now.rows.now }
     requires kinds { AreKinds table.now.rows.now (length table.now.rows.now) table.now.kinds.now }
+    requires rising { AreMarked table.now.rows.now (length table.now.rows.now) table.now.rising.now }
     requires classes { length table.now.firsts ≡ length sizes.now }
     requires few { length sizes.now ≤ 1024 }
     ensures { IfOk result (IsFilled table.now.rows.now table.now.firsts sizes.now) }
 {
     let mut state = State::first(alloc, table, sizes)?;
-    let mut lines = lines_of(alloc, table.rows, table.kinds)?;
+    let mut lines = lines_of(alloc, table)?;
     let mut tree = Tree::new(alloc, table.rows.len(), sizes.len())?;
     let mut turns = 0;
     for row in 0..table.rows.len() {
@@ -58,17 +60,32 @@ pub fn fill(alloc: Global, table: &Table, sizes: &[u32]) -> Result<Filled, Alloc
 }
 
 /// A line for each row that is the first of its kind, which the others share; theirs are without offers.
-fn lines_of(alloc: Global, rows: &[Row], kinds: &[usize]) -> Result<Vec<Line>, AllocError>
-    requires { length kinds.now ≡ length rows.now }
-    ensures { IfOk result (λ lines. AreNewLines rows.now kinds.now lines.items (length rows.now)) }
+fn lines_of(alloc: Global, table: &Table) -> Result<Vec<Line>, AllocError>
+    requires kinds { length table.now.kinds.now ≡ length table.now.rows.now }
+    requires rising { AreMarked table.now.rows.now (length table.now.rows.now) table.now.rising.now }
+    ensures { IfOk result (λ lines. AreNewLines table.now.rows.now table.now.kinds.now lines.items (length table.now.rows.now)) }
 {
-    let mut lines = Vec::with_capacity(alloc, rows.len())?;
-    for (k, row) in rows.iter().enumerate() {
-        let offers = row.offers.as_slice();
-        let own = if kinds[k] == k { offers } else { &[] };
-        lines.push(Line::new(alloc, own)?)?;
+    let mut lines = Vec::with_capacity(alloc, table.rows.len())?;
+    for k in 0..table.rows.len() {
+        let line = line_of(alloc, table, k)?;
+        lines.push(line)?;
     }
     Ok(lines)
+}
+
+/// The line of a row that is the first of its kind, else one without offers.
+fn line_of(alloc: Global, table: &Table, k: usize) -> Result<Line, AllocError>
+    requires there { k < length table.now.rows.now }
+    requires kinds { length table.now.kinds.now ≡ length table.now.rows.now }
+    requires rising { AreMarked table.now.rows.now (length table.now.rows.now) table.now.rising.now }
+    ensures { IfOk result (λ line. kind_at table.now.kinds.now k ≡ k → IsNewLine (offers_of table.now.rows.now k) line) }
+{
+    if table.kinds[k] != k {
+        return Line::new(alloc, &[], true);
+    }
+    let row = &table.rows[k];
+    let line = Line::new(alloc, row.offers.as_slice(), table.rising[k])?;
+    Ok(line)
 }
 
 /// Searches until the row has what it asks for, or until a search finds nothing; says which.

@@ -23,6 +23,7 @@ mod looks;
 mod marks;
 mod nearest;
 mod notes;
+mod orders;
 mod outlines;
 mod places;
 mod pushes;

@@ -2,19 +2,14 @@ ghost use Rattle.std.specs.Prelude.{◌≡◌, ◌↔◌, ℕ, ◌+◌, ◌<◌,
 ghost use Rattle.transport.specs.Numbers.{number};
 ghost use Rattle.transport.specs.Looks.{arc_at, IsPast};
 ghost use Rattle.certificate.specs.declared.rows.Offer.{Offer};
-ghost use Rattle.transport.specs.declared.lines.Bid.{Bid};
-ghost use Rattle.transport.specs.Lines.{IsLine, IsNewLine, AreAllBids, IsFoundExit, CanOpen, IsOpening};
+ghost use Rattle.twins.specs.Rising.{AreRising};
+ghost use Rattle.transport.specs.declared.orders.Bid.{Bid};
+ghost use Rattle.transport.specs.Lines.{IsLine, IsNewLine, IsFoundExit, CanOpen, IsOpening};
 
 use crate::Firsts;
+use crate::orders::Order;
 use certificate::Offer;
 use std::alloc::{AllocError, Global};
-
-/// An offer of a row by its weight.
-#[derive(Clone, Copy, Debug)]
-pub(crate) struct Bid {
-    pub(crate) weight: u32,
-    pub(crate) offer: usize,
-}
 
 /// A class at its weight in a row.
 #[derive(Clone, Copy, Debug)]
@@ -26,7 +21,7 @@ pub(crate) struct Arc {
 /// A row's offers in rising weight, the classes of those that are opened, and how far they are full.
 #[derive(Debug, Drop)]
 pub(crate) struct Line {
-    pub(crate) bids: Vec<Bid>,
+    pub(crate) order: Order,
     pub(crate) opened: usize,
     pub(crate) arcs: Vec<Arc>,
     pub(crate) cursor: usize,
@@ -34,13 +29,13 @@ pub(crate) struct Line {
 
 impl Line {
     /// A row's offers in rising weight, none of them opened.
-    pub(crate) fn new(alloc: Global, offers: &[Offer]) -> Result<Line, AllocError>
+    pub(crate) fn new(alloc: Global, offers: &[Offer], is_rising: bool) -> Result<Line, AllocError>
+        requires { IsTrue is_rising → AreRising offers.now }
         ensures { IfOk result (IsNewLine offers.now) }
     {
-        let mut bids = bids_of(alloc, offers)?;
-        bids.sort_by_key(|bid| bid.weight)?;
+        let order = Order::new(alloc, offers, is_rising)?;
         Ok(Line {
-            bids,
+            order,
             opened: 0,
             arcs: Vec::new(alloc),
             cursor: 0,
@@ -65,10 +60,11 @@ impl Line {
                 let arc = self.arcs[self.cursor];
                 return Ok(arc.below(limit));
             }
-            if self.opened == self.bids.len() {
+            if self.opened == offers.len() {
                 return Ok(None);
             }
-            if is_past(limit, self.bids[self.opened].weight as u64) {
+            let next = self.order.bid(offers, self.opened);
+            if is_past(limit, next.weight as u64) {
                 return Ok(None);
             }
             self.open(offers, firsts)?;
@@ -77,31 +73,16 @@ impl Line {
 
     /// Opens the next offer: its classes are arcs from now on.
     fn open(&mut self, offers: &[Offer], firsts: &Firsts) -> Result<(), AllocError>
-        requires more { self.old.opened < length self.old.bids.items }
+        requires more { self.old.opened < length offers.now }
         requires line { (ws : ℕ → Option ℕ) × (free : List ℕ) × IsLine ws offers.now firsts.now free self.old }
         ensures line { OnOk result ((ws : ℕ → Option ℕ) (free : List ℕ) → IsLine ws offers.now firsts.now free self.old → IsLine ws offers.now firsts.now free self.new) }
         ensures opened { OnOk result (self.new.opened ≡ self.old.opened + 1) }
-        ensures bids { OnOk result (self.new.bids ≡ self.old.bids) }
     {
-        let bid = self.bids[self.opened];
+        let bid = self.order.bid(offers, self.opened);
         push_arcs(&mut self.arcs, &offers[bid.offer], firsts, bid.weight)?;
         self.opened += 1;
         Ok(())
     }
-}
-
-/// Each offer at its weight.
-fn bids_of(alloc: Global, offers: &[Offer]) -> Result<Vec<Bid>, AllocError>
-    ensures { IfOk result (λ bids. AreAllBids offers.now bids.items (length offers.now)) }
-{
-    let mut bids = Vec::with_capacity(alloc, offers.len())?;
-    for (k, offer) in offers.iter().enumerate() {
-        bids.push(Bid {
-            weight: offer.weight,
-            offer: k,
-        })?;
-    }
-    Ok(bids)
 }
 
 /// Adds the classes of an offer, at its weight, in the order of their first CPUs.

@@ -1,7 +1,7 @@
 use Rattle.std.proofs.Common.{◌≡◌, ℕ, true, List, Option, IfSome, subst}
 use Rattle.std.specs.FinSet as set
 use Rattle.certificate.specs.declared.rows.Offer.{Offer}
-use Rattle.transport.specs.declared.lines.Bid.{Bid}
+use Rattle.transport.specs.declared.orders.Bid.{Bid}
 use Rattle.transport.specs.Lines.{IsOpening}
 use Rattle.transport.proofs.LineLemmas.{arcs_start, arcs_more, next_member}
 use Rattle.transport.proofs.lines.push_arcs.Goals as goal

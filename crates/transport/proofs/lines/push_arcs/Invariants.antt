@@ -4,7 +4,7 @@ use Rattle.std.specs.FinSet as set
 use Rattle.cpu_set.specs.Members.{IsCpu}
 use Rattle.cpu_set.specs.declared.TheConstants.{CPU_LIMIT}
 use Rattle.certificate.specs.declared.rows.Offer.{Offer}
-use Rattle.transport.specs.declared.lines.Bid.{Bid}
+use Rattle.transport.specs.declared.orders.Bid.{Bid}
 use Rattle.transport.specs.Lines.{CanOpen, IsOpening}
 use Rattle.transport.proofs.lines.push_arcs.Given as goal
 

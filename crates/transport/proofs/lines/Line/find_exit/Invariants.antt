@@ -6,4 +6,4 @@ abbrev pub invariant-loop-self : goal.invariant-loop-self
 invariant-loop-self l = (ws : ℕ → Option ℕ) → IsLine ws l.offers l.firsts l.free l.initial.self → IsLine ws l.offers l.firsts l.free l.self
 
 abbrev pub decreases-loop-self : goal.decreases-loop-self
-decreases-loop-self l = length l.self.bids.items - l.self.opened
+decreases-loop-self l = length l.offers - l.self.opened

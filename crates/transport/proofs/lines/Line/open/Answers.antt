@@ -1,9 +1,11 @@
-use Rattle.std.proofs.Common.{ℕ, List, Option, refl}
-use Rattle.transport.proofs.LineLemmas.{can_open, line_opened, bid_in, offer_read, weight_read}
+use Rattle.std.proofs.Common.{ℕ, List, Option, refl, ap, arith}
+use Rattle.transport.specs.Orders.{bids_in}
+use Rattle.transport.specs.declared.orders.Bid.{Bid}
+use Rattle.transport.proofs.LineLemmas.{can_open, line_opened, bid_in, offer_read}
 use Rattle.transport.proofs.lines.Line.open.Goals as goal
 
 pub bounds-offers-bid : goal.bounds-offers-bid
-bounds-offers-bid c = bid_in _ _ _ _ c.requires.line.2.bids c.requires.more c.index-bid.ensures
+bounds-offers-bid c = bid_in _ _ _ _ c.requires.line.2.order.bids (omega (arith, c.requires.more, c.requires.line.2.order.long)) c.bid-bid.ensures
 
 pub returns : goal.returns
 returns c = record {
@@ -11,9 +13,8 @@ returns c = record {
       line_opened ws _ _ free c.args.self.now _ h c.requires.more
       (c.in_ok-push_arcs.ensures ws _ _ _
       (can_open ws _ _ free c.args.self.now _ _ h c.requires.more
-      (offer_read _ _ _ _ _ c.requires.more c.index-bid.ensures (bid_in _ _ _ _ h.bids c.requires.more c.index-bid.ensures) c.index-offers-bid.is)
-      (weight_read _ _ _ c.requires.more c.index-bid.ensures)))
+      (offer_read _ (bids_in c.args.offers.now c.args.self.now.order) c.args.self.now.opened _ _ c.bid-bid.ensures (bid_in _ _ _ _ h.order.bids (omega (arith, c.requires.more, h.order.long)) c.bid-bid.ensures) c.index-offers-bid.is)
+      (ap (λ (b : Bid). b.weight) c.bid-bid.ensures)))
       refl refl refl;
   opened = refl;
-  bids = refl;
 }
