@@ -1,8 +1,9 @@
 -- What a search marked and noted, cleared place by place.
-use Rattle.std.proofs.Common.{◌≡◌, ℕ, ◌+◌, ◌<◌, ◌≤◌, Bool, true, false, Option, Some, None, List, length, get_or, set, refl, sym, ap, ◌∙◌, inl, inr, arith}
+use Rattle.std.proofs.Common.{◌≡◌, ℕ, ◌+◌, ◌<◌, ◌≤◌, Bool, true, false, Option, Some, None, List, length, get_or, set, ◌⊎◌, refl, sym, ap, ◌∙◌, subst, inl, inr, arith}
 use Rattle.std.proofs.lemmas.List.{length-set, get_or-set_same, get_or-set_other}
 use Rattle.std.proofs.lemmas.Bool.{cases_eq, cases_Bool}
 use Rattle.transport.specs.Numbers.{number, is_marked, IsIn}
+use Rattle.transport.specs.Settled.{IsForgotten}
 use Rattle.transport.specs.declared.notes.Near.{Near}
 use Rattle.transport.proofs.Numbers.{not_both}
 
@@ -48,32 +49,55 @@ unmarking_end old marks places from h past k = elim (cases_Bool (is_marked marks
   | inr off ↦ off
 ]
 
--- the notes that are left are of classes to come
+-- of the classes so far none is noted any more
 abbrev pub note_at : List (Option Near) → ℕ → Option Near
 note_at nears g = get_or nears g None
 
-pub record Forgetting (old nears : List (Option Near)) (noted : List ℕ) (from : ℕ) : Type 0 where
+pub record Forgetting (old nears : List (Option Near)) (classes : List ℕ) (upto : ℕ) : Type 0 where
   pub long : length nears ≡ length old
-  pub left : (g : ℕ) (n : Near) → note_at nears g ≡ Some n → IsToCome noted from g
+  pub none : (i : ℕ) → i < upto → note_at nears (number classes i) ≡ None
+  pub left : (g : ℕ) (n : Near) → note_at nears g ≡ Some n → note_at old g ≡ Some n
 
-pub forgetting_none : (nears : List (Option Near)) (noted : List ℕ) → ((g : ℕ) (n : Near) → note_at nears g ≡ Some n → IsIn noted g) → Forgetting nears nears noted 0
-forgetting_none nears noted all = record { long = refl; left = λ g n is. to_come noted g (all g n is) }
+pub forgetting_none : (nears : List (Option Near)) (classes : List ℕ) → Forgetting nears nears classes 0
+forgetting_none nears classes = record { long = refl; none = λ i lt. absurd (omega arith); left = λ g n is. is }
 
 not_noted : (o : Option Near) (n : Near) → o ≡ Some n → o ≡ None → ⊥
 not_noted o n some none = let e : Some n ≡ None = sym some ∙ none in cc
 
-pub forgetting_more : (old nears : List (Option Near)) (noted : List ℕ) (i g : ℕ) → Forgetting old nears noted i → g ≡ number noted i → number noted i < length old → Forgetting old (set nears g None) noted (i + 1)
-forgetting_more old nears noted i g h is within = record {
+pub forgetting_more : (old nears : List (Option Near)) (classes : List ℕ) (i g : ℕ) → Forgetting old nears classes i → g ≡ number classes i → number classes i < length old → Forgetting old (set nears g None) classes (i + 1)
+forgetting_more old nears classes i g h is within = record {
   long = length-set nears g None ∙ h.long;
+  none = λ j lt. elim (cases_eq (number classes j) g) [
+    | inl same ↦ here (number classes j) same
+    | inr other ↦ elim (cases_eq j i) [
+      | inl last ↦ absurd (other (ap (number classes) last ∙ sym is))
+      | inr before ↦ get_or-set_other nears g (number classes j) None None other ∙ h.none j (omega (arith, lt, before))
+    ]
+  ];
   left = λ k n its. elim (cases_eq k g) [
-    | inl same ↦ absurd (not_noted _ n its (ap (note_at (set nears g None)) same ∙ get_or-set_same nears g None None (omega (arith, is, within, h.long))))
-    | inr other ↦ still_to_come noted i k (λ e. other (e ∙ sym is)) (h.left k n (sym (get_or-set_other nears g k None None other) ∙ its))
+    | inl same ↦ absurd (not_noted _ n its (here k same))
+    | inr other ↦ h.left k n (sym (get_or-set_other nears g k None None other) ∙ its)
   ];
 }
-
-pub forgetting_end : (old nears : List (Option Near)) (noted : List ℕ) (from : ℕ) → Forgetting old nears noted from → length noted ≤ from → (g : ℕ) → note_at nears g ≡ None
-forgetting_end old nears noted from h past g = none (note_at nears g) (λ n is. none_to_come noted from g past (h.left g n is))
   where
-    none : (o : Option Near) → ((n : Near) → o ≡ Some n → ⊥) → o ≡ None
-    none None never = refl
-    none (Some n) never = absurd (never n refl)
+    here : (k : ℕ) → k ≡ g → note_at (set nears g None) k ≡ None
+    here k same = ap (note_at (set nears g None)) same ∙ get_or-set_same nears g None None (omega (arith, is, within, h.long))
+
+pub forgetting_end : (old nears : List (Option Near)) (classes : List ℕ) (upto : ℕ) → Forgetting old nears classes upto → length classes ≤ upto → IsForgotten old nears classes
+forgetting_end old nears classes upto h past = record {
+  long = h.long;
+  none = λ g p. subst (λ x. note_at nears x ≡ None) p.is (h.none p.place (omega (arith, p.within, past)));
+  left = h.left;
+}
+
+-- each noted class stands in one list or in the other
+pub both_forgotten : (old mid new : List (Option Near)) (xs ys : List ℕ) → ((g : ℕ) (n : Near) → note_at old g ≡ Some n → IsIn xs g ⊎ IsIn ys g) → IsForgotten old mid xs → IsForgotten mid new ys
+    → (g : ℕ) → note_at new g ≡ None
+both_forgotten old mid new xs ys all f h g = none (note_at new g) refl
+  where
+    none : (o : Option Near) → note_at new g ≡ o → o ≡ None
+    none None is = refl
+    none (Some n) is = elim (all g n (f.left g n (h.left g n is))) [
+      | inl x ↦ absurd (not_noted _ n (h.left g n is) (f.none g x))
+      | inr y ↦ absurd (not_noted _ n is (h.none g y))
+    ]

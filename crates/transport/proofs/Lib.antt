@@ -16,6 +16,7 @@ pub mod Running
 pub mod Sharing
 pub mod Starting
 pub mod Steps
+pub mod Striking
 pub mod Sums
 pub mod Taking
 pub mod Ways

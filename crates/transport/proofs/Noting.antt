@@ -83,22 +83,28 @@ module _ (ws : ℕ → ℕ → Option ℕ) (s : State) (t : Tree) (new : Tree) (
   other : (j : ℕ) → is_taken t.takings j ≡ true → j ≡ g → ⊥
   other j on e = not_both _ (subst (λ x. is_taken t.takings x ≡ true) e on) left
 
-  noted_now : (j : ℕ) (m : Near) → near_of new.notes j ≡ Some m → IsNoted ws s.free.items t.queue new.notes j m
+  noted_now : (j : ℕ) (m : Near) → near_of new.notes j ≡ Some m → IsNoted ws s.free.items t.queue j m
   noted_now j m is = elim (cases_eq j g) [
     | inl e ↦ at_g e
-    | inr ne ↦ (let o = old.noted j m (sym (n.others j ne) ∙ is) in record { listed = n.kept j o.listed; there = o.there; weighs = o.weighs; full = o.full })
+    | inr ne ↦ (let o = old.noted j m (sym (n.others j ne) ∙ is) in record { there = o.there; weighs = o.weighs; full = o.full })
   ]
     where
-      own : (x : Near) → n.now ≡ x → IsNoted ws s.free.items t.queue new.notes g x
+      own : (x : Near) → n.now ≡ x → IsNoted ws s.free.items t.queue g x
       own x e = elim n.choice [
-        | inl new_one ↦ subst (λ y. IsNoted ws s.free.items t.queue new.notes g y) (sym new_one ∙ e) (record { listed = n.listed; there = there; weighs = weighs; full = full })
-        | inr was ↦ (let o = old.noted g n.now was in subst (λ y. IsNoted ws s.free.items t.queue new.notes g y) e (record { listed = n.listed; there = o.there; weighs = o.weighs; full = o.full }))
+        | inl new_one ↦ subst (λ y. IsNoted ws s.free.items t.queue g y) (sym new_one ∙ e) (record { there = there; weighs = weighs; full = full })
+        | inr was ↦ (let o = old.noted g n.now was in subst (λ y. IsNoted ws s.free.items t.queue g y) e (record { there = o.there; weighs = o.weighs; full = o.full }))
       ]
 
-      at_g : j ≡ g → IsNoted ws s.free.items t.queue new.notes j m
+      at_g : j ≡ g → IsNoted ws s.free.items t.queue j m
       at_g e =
           let its : near_of new.notes g ≡ Some m = subst (λ x. near_of new.notes x ≡ Some m) e is in
-          subst (λ x. IsNoted ws s.free.items t.queue new.notes x m) (sym e) (own m (some_same n.now m (near_of new.notes g) n.its its))
+          subst (λ x. IsNoted ws s.free.items t.queue x m) (sym e) (own m (some_same n.now m (near_of new.notes g) n.its its))
+
+  listed_now : (j : ℕ) (m : Near) → near_of new.notes j ≡ Some m → is_taken t.takings j ≡ false → IsIn new.notes.noted.items j
+  listed_now j m is off = elim (cases_eq j g) [
+    | inl e ↦ subst (IsIn new.notes.noted.items) (sym e) n.listed
+    | inr ne ↦ n.kept j (old.listed j m (sym (n.others j ne) ∙ is) off)
+  ]
 
   search_noted : IsSearch ws (cell s.holdings.items) s.values.items s.prices.items s.free.items t.queue new.notes t.takings
   search_noted = record {
@@ -113,6 +119,7 @@ module _ (ws : ℕ → ℕ → Option ℕ) (s : State) (t : Tree) (new : Tree) (
         record { taken = e.taken; held = e.held; near = e.near; its = n.others _ (other _ e.taken) ∙ e.its; before = e.before; less = e.less });
     rooms = old.rooms;
     noted = noted_now;
+    listed = listed_now;
     noted_in = λ i within. n.noted_in _ i old.noted_in (h.fit.class near.row g near.weight weighs) within;
     linked = λ j on. (let l = old.linked j on in record { near = l.near; its = n.others j (other j on) ∙ l.its; equal = l.equal });
     holders = old.holders;
@@ -174,7 +181,8 @@ module _ (ws : ℕ → ℕ → Option ℕ) (s : State) (t : Tree) (new : Tree) (
     rooted = was.rooted;
     entries = λ k on deep. (let x = was.entries k on deep in record { taken = x.taken; held = x.held; near = x.near; its = near_same _ ∙ x.its; before = x.before; less = x.less });
     rooms = was.rooms;
-    noted = λ j m is. (let o = was.noted j m (sym (near_same j) ∙ is) in record { listed = rw noted o.listed; there = o.there; weighs = o.weighs; full = o.full });
+    noted = λ j m is. (let o = was.noted j m (sym (near_same j) ∙ is) in record { there = o.there; weighs = o.weighs; full = o.full });
+    listed = λ j m is off. rw noted (was.listed j m (sym (near_same j) ∙ is) off);
     noted_in = rw noted was.noted_in;
     linked = λ j on. (let l = was.linked j on in record { near = l.near; its = near_same j ∙ l.its; equal = l.equal });
     holders = was.holders;
@@ -279,13 +287,14 @@ pub past_rise : (o : Option ℕ) (v w : ℕ) → v ≤ w → IsPast o v → IsPa
 past_rise None v w le h = h
 past_rise (Some x) v w le h = omega (arith, h, le)
 
-pub can_note : (ws : ℕ → ℕ → Option ℕ) (s : State) (t : Tree) (k : ℕ) (arc : Arc) → CanNoteArc ws s t k arc → CanNote s.values.items t.notes arc.class (record { row = k; weight = arc.weight })
-can_note ws s t k arc can = record {
+pub can_note : (ws : ℕ → ℕ → Option ℕ) (s : State) (t : Tree) (k : ℕ) (arc : Arc) → CanNoteArc ws s t k arc → is_taken t.takings arc.class ≡ false
+    → CanNote s.values.items t.notes arc.class (record { row = k; weight = arc.weight })
+can_note ws s t k arc can left = record {
   class = omega (arith, can.running.fit.class k arc.class arc.weight can.weighs, can.running.search.nears_long);
   row = reached_below k can.there;
   fits = can.running.search.values_fit;
   before = λ n is. reached_below n.row (can.running.search.noted arc.class n is).there;
-  listed = λ n is. (can.running.search.noted arc.class n is).listed;
+  listed = λ n is. can.running.search.listed arc.class n is left;
 }
   where
     reached_below : (j : ℕ) → is_reached t.queue j ≡ true → j < length s.values.items

@@ -124,6 +124,7 @@ module _ (ws : ℕ → ℕ → Option ℕ) (cells : ℕ → ℕ → ℕ) (values
       entries = s.entries;
       rooms = s.rooms;
       noted = s.noted;
+      listed = s.listed;
       noted_in = λ i lt. omega (arith, s.noted_in i lt, longs);
       linked = linked_new;
       holders = s.holders;

@@ -16,6 +16,7 @@ use Rattle.transport.specs.declared.states.State.{State}
 use Rattle.transport.specs.declared.trees.Tree.{Tree}
 use Rattle.transport.proofs.Numbers.{not_both}
 use Rattle.transport.proofs.QueueLemmas.{queue_reached}
+use Rattle.transport.proofs.Running.{listed_below}
 use Rattle.transport.specs.declared.queues.Queue.{Queue}
 
 pub count_none : (bs : List Bool) → ((k : ℕ) → is_marked bs k ≡ false) → count_by (λ b. b) bs ≡ 0
@@ -64,7 +65,8 @@ tidy_none rows classes t queue nears noted taken order = record {
   nears_long = ap length nears ∙ length-replicate {A = Option Near} classes None;
   noted = record {
     all = λ g n is. (let no_note : Some n ≡ None = sym is ∙ ap (λ ns. get_or ns g None) nears ∙ replicate_default classes g None in cc);
-    within = λ i lt. absurd (omega (arith, lt, ap length noted));
+    noted_in = λ i lt. absurd (omega (arith, lt, ap length noted));
+    taken_in = λ i lt. absurd (omega (arith, lt, ap length order));
   };
   taken_long = ap length taken ∙ length-replicate classes false;
   taken = record {
@@ -109,8 +111,12 @@ tidy_running ws s t h = record {
   queue = h.search.queue;
   nears_long = h.search.nears_long;
   noted = record {
-    all = λ g n is. (h.search.noted g n is).listed;
-    within = λ i lt. omega (arith, h.search.noted_in i lt, h.search.nears_long);
+    all = λ g n is. elim (cases_Bool (is_taken t.takings g)) [
+      | inl on ↦ inr (h.search.listing.all g on)
+      | inr off ↦ inl (h.search.listed g n is off)
+    ];
+    noted_in = λ i lt. omega (arith, h.search.noted_in i lt, h.search.nears_long);
+    taken_in = λ i lt. omega (arith, listed_below t.takings.order.items t.takings.taken.items (length s.prices.items) h.search.listing h.search.taken_long i lt, h.search.nears_long);
   };
   taken_long = h.search.taken_long;
   taken = h.search.listing;
@@ -145,6 +151,7 @@ module _ (ws : ℕ → ℕ → Option ℕ) (s : State) (t : Tree) (root amount :
     entries = λ k on deep. (let e = ap (λ x. place t.queue x) (f.at_root.only k on) in absurd (omega (arith, e, deep, at_root)));
     rooms = λ k on. (let e = ap (λ x. room t.queue x) (f.at_root.only k on) in omega (arith, e, f.at_root.some_room, some));
     noted = λ g n is. (let no_note : Some n ≡ None = sym is ∙ f.notes.nears g in cc);
+    listed = λ g n is. (let no_note : Some n ≡ None = sym is ∙ f.notes.nears g in cc);
     noted_in = λ i lt. absurd (omega (arith, lt, ap length f.notes.noted));
     linked = λ g on. absurd (no_taken g on);
     holders = λ k g on. absurd (no_taken g on);

@@ -20,7 +20,7 @@ use Rattle.transport.specs.Looks.{IsBetter}
 pub least_of_all : (ws : ℕ → ℕ → Option ℕ) (s : State) (t : Tree) (by : ℕ) → IsRunning ws s t → IsLeastOf s.values.items s.prices.items t.notes t.takings t.notes.noted.items by → IsLeast s.values.items s.prices.items t.notes t.takings by
 least_of_all ws s t by h l = record {
   exit = l.exit;
-  noted = λ g n its off. (let p = (h.search.noted g n its).listed in
+  noted = λ g n its off. (let p = h.search.listed g n its off in
       subst (λ x. by + number s.values.items n.row ≤ n.weight + number s.prices.items x) p.is
       (l.noted p.place n p.within (subst (λ x. near_of t.notes x ≡ Some n) (sym p.is) its) (subst (λ x. is_taken t.takings x ≡ false) (sym p.is) off)));
 }
@@ -29,21 +29,21 @@ least_of_all ws s t by h l = record {
 pub closed : (ws : ℕ → ℕ → Option ℕ) (s : State) (t : Tree) → IsRunning ws s t → HasLooked ws s t (length t.queue.order.items) → IsNoneLeft t.notes t.takings t.notes.noted.items → IsClosed ws s t
 closed ws s t h all none = record { running = h; only = only }
   where
-    noted_taken : (g : ℕ) (n : Near) → near_of t.notes g ≡ Some n → is_taken t.takings g ≡ true
-    noted_taken g n its =
-        let p = (h.search.noted g n its).listed in
+    noted_taken : (g : ℕ) (n : Near) → near_of t.notes g ≡ Some n → is_taken t.takings g ≡ false → is_taken t.takings g ≡ true
+    noted_taken g n its off =
+        let p = h.search.listed g n its off in
         subst (λ x. is_taken t.takings x ≡ true) p.is (none.noted p.place n p.within (subst (λ x. near_of t.notes x ≡ Some n) (sym p.is) its))
 
-    covered_taken : (k g w : ℕ) → IsCovered s.values.items s.prices.items t.notes k g w → is_taken t.takings g ≡ true
-    covered_taken k g w c = elim c [
-      | inl c ↦ noted_taken g c.near c.its
+    covered_taken : (k g w : ℕ) → IsCovered s.values.items s.prices.items t.notes k g w → is_taken t.takings g ≡ false → is_taken t.takings g ≡ true
+    covered_taken k g w c off = elim c [
+      | inl c ↦ noted_taken g c.near c.its off
       | inr c ↦ (let no : Some c.exit ≡ None = sym c.its ∙ none.exit in cc)
     ]
 
     only : (k g w : ℕ) → is_reached t.queue k ≡ true → ws k g ≡ Some w → is_taken t.takings g ≡ true
     only k g w on its = elim (cases_Bool (is_taken t.takings g)) [
       | inl taken ↦ taken
-      | inr off ↦ covered_taken k g w (all.covered k g w on (h.search.queue.within k on) its off)
+      | inr off ↦ covered_taken k g w (all.covered k g w on (h.search.queue.within k on) its off) off
     ]
 
 module _ (ws : ℕ → ℕ → Option ℕ) (old new : State) (t : Tree) (by : ℕ) (h : IsRunning ws old t)
@@ -76,7 +76,7 @@ module _ (ws : ℕ → ℕ → Option ℕ) (old new : State) (t : Tree) (by : �
     where
       stuck : (c : IsClassAt old.values.items old.prices.items t.notes t.takings by) → after.takings ≡ t.takings → ⊥
       stuck c same =
-          let p = (h.search.noted c.class c.near c.its).listed in
+          let p = h.search.listed c.class c.near c.its c.left in
           let its : near_of t.notes (number t.notes.noted.items p.place) ≡ Some c.near = subst (λ x. near_of t.notes x ≡ Some c.near) (sym p.is) c.its in
           let zero_slack : number new.values.items c.near.row ≡ c.near.weight + number new.prices.items (number t.notes.noted.items p.place) =
           subst (λ x. number new.values.items c.near.row ≡ c.near.weight + number new.prices.items x) (sym p.is) (class_at_0 c) in

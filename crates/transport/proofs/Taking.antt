@@ -55,7 +55,7 @@ module _ (ws : ℕ → ℕ → Option ℕ) (cells : ℕ → ℕ → ℕ) (values
     (fit : AreWeights ws (length values) (length prices)) (s : IsSearch ws cells values prices free q ns ts) (its : near_of ns g ≡ Some n) (left : is_taken ts g ≡ false)
     (equal : number values n.row ≡ n.weight + number prices g) (taken : IsTaken ts us g)
     (queue : IsQueue (length values) r) (grown : IsGrown q r g (room q n.row) shares shares) (held : (k : ℕ) → share_of k shares ≡ cells k g) (in_range : g < length prices) where
-  note : IsNoted ws free q ns g n
+  note : IsNoted ws free q g n
   note = s.noted g n its
 
   now_taken : is_taken us g ≡ true
@@ -145,7 +145,8 @@ module _ (ws : ℕ → ℕ → Option ℕ) (cells : ℕ → ℕ → ℕ) (values
       | inl was ↦ omega (arith, s.rooms k was, (grown.kept k was).rooms)
       | inr not ↦ (grown.fresh k not on).some_room
     ];
-    noted = λ h m is. (let o = s.noted h m is in record { listed = o.listed; there = (grown.kept m.row o.there).reached; weighs = o.weighs; full = o.full });
+    noted = λ h m is. (let o = s.noted h m is in record { there = (grown.kept m.row o.there).reached; weighs = o.weighs; full = o.full });
+    listed = λ h m is off. s.listed h m is (was_left h off);
     noted_in = s.noted_in;
     linked = λ h on. elim (taken_cases h on) [
       | inl e ↦ subst (IsLinked values prices ns) (sym e) (record { near = n; its = its; equal = equal })

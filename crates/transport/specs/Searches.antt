@@ -16,8 +16,7 @@ abbrev pub is_taken : Takings → ℕ → Bool
 is_taken ts g = is_marked ts.taken.items g
 
 -- a class is noted with a reached row that has a weight for it, and has no free CPU
-pub record IsNoted (ws : ℕ → ℕ → Option ℕ) (free : List ℕ) (q : Queue) (ns : Notes) (g : ℕ) (n : Near) : Type 0 where
-  pub listed : IsIn ns.noted.items g
+pub record IsNoted (ws : ℕ → ℕ → Option ℕ) (free : List ℕ) (q : Queue) (g : ℕ) (n : Near) : Type 0 where
   pub there : is_reached q n.row ≡ true
   pub weighs : ws n.row g ≡ Some n.weight
   pub full : number free g ≡ 0
@@ -70,7 +69,8 @@ pub record IsSearch (ws : ℕ → ℕ → Option ℕ) (cells : ℕ → ℕ → �
   pub rooted : 0 < length q.order.items
   pub entries : (k : ℕ) → is_reached q k ≡ true → 0 < place q k → IsEntered cells q ns ts k
   pub rooms : (k : ℕ) → is_reached q k ≡ true → 0 < room q k
-  pub noted : (g : ℕ) (n : Near) → near_of ns g ≡ Some n → IsNoted ws free q ns g n
+  pub noted : (g : ℕ) (n : Near) → near_of ns g ≡ Some n → IsNoted ws free q g n
+  pub listed : (g : ℕ) (n : Near) → near_of ns g ≡ Some n → is_taken ts g ≡ false → IsIn ns.noted.items g
   pub noted_in : (i : ℕ) → i < length ns.noted.items → number ns.noted.items i < length prices
   pub linked : (g : ℕ) → is_taken ts g ≡ true → IsLinked values prices ns g
   pub holders : (k g : ℕ) → is_taken ts g ≡ true → 0 < cells k g → is_reached q k ≡ true

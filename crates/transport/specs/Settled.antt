@@ -1,5 +1,5 @@
 -- What stands between two searches, and a search at its start.
-use Rattle.std.specs.Prelude.{◌≡◌, ℕ, ◌<◌, ◌≤◌, false, Option, Some, None, [], length}
+use Rattle.std.specs.Prelude.{◌≡◌, ℕ, ◌<◌, ◌≤◌, false, List, Option, Some, None, [], ◌⊎◌, length, slice_index_or}
 use Rattle.transport.specs.Numbers.{number, IsIn, IsListing}
 use Rattle.transport.specs.Queues.{IsQueue, IsAtRoot}
 use Rattle.transport.specs.Duals.{IsDual}
@@ -38,16 +38,23 @@ pub record IsFresh (rows classes root amount : ℕ) (t : Tree) : Type 0 where
   pub notes : AreNoneNoted classes t.notes
   pub takings : AreNoneTaken classes t.takings
 
--- each noted class stands in the list
-pub record AreListed (ns : Notes) : Type 0 where
-  pub all : (g : ℕ) (n : Near) → near_of ns g ≡ Some n → IsIn ns.noted.items g
-  pub within : (i : ℕ) → i < length ns.noted.items → number ns.noted.items i < length ns.nears.items
+-- each noted class stands in the list, or among those taken up
+pub record AreListed (ns : Notes) (taken : List ℕ) : Type 0 where
+  pub all : (g : ℕ) (n : Near) → near_of ns g ≡ Some n → IsIn ns.noted.items g ⊎ IsIn taken g
+  pub noted_in : (i : ℕ) → i < length ns.noted.items → number ns.noted.items i < length ns.nears.items
+  pub taken_in : (i : ℕ) → i < length taken → number taken i < length ns.nears.items
+
+-- no class of the list is noted any more, and none is newly noted
+pub record IsForgotten (old new : List (Option Near)) (classes : List ℕ) : Type 0 where
+  pub long : length new ≡ length old
+  pub none : (g : ℕ) → IsIn classes g → slice_index_or new g None ≡ None
+  pub left : (g : ℕ) (n : Near) → slice_index_or new g None ≡ Some n → slice_index_or old g None ≡ Some n
 
 -- lists name all that a search reached, noted and took up
 pub record IsTidy (rows classes : ℕ) (t : Tree) : Type 0 where
   pub queue : IsQueue rows t.queue
   pub nears_long : length t.notes.nears.items ≡ classes
-  pub noted : AreListed t.notes
+  pub noted : AreListed t.notes t.takings.order.items
   pub taken_long : length t.takings.taken.items ≡ classes
   pub taken : IsListing t.takings.order.items t.takings.taken.items
 

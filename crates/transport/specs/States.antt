@@ -1,6 +1,7 @@
 -- Rows and classes between two searches, and in one.
-use Rattle.std.specs.Prelude.{◌≡◌, ℕ, ◌+◌, ◌<◌, ◌≤◌, true, false, ◌⊎◌, Option, Some, None, List, [], length, slice_index_or}
-use Rattle.transport.specs.Numbers.{number}
+use Rattle.std.specs.Prelude.{◌≡◌, ℕ, ◌+◌, ◌<◌, ◌≤◌, Bool, true, false, not, ◌⊎◌, Option, Some, None, List, [], length, slice_index_or}
+use Rattle.std.specs.List.{filter}
+use Rattle.transport.specs.Numbers.{number, is_marked}
 use Rattle.transport.specs.Shares.{AllBelow}
 use Rattle.twins.specs.Holdings.{share_of}
 use Rattle.transport.specs.Queues.{IsQueue, IsGrown, room, row_at}
@@ -60,6 +61,12 @@ pub record HasTaken (s : State) (old new : Tree) (done : List ℕ) : Type 0 wher
   pub all : (i : ℕ) (n : Near) → i < length done → near_of old.notes (number done i) ≡ Some n
       → number s.values.items n.row ≡ n.weight + number s.prices.items (number done i) → is_taken new.takings (number done i) ≡ true
   pub grew : (new.takings ≡ old.takings) ⊎ (length old.takings.order.items < length new.takings.order.items)
+
+-- the classes that are marked stand in the list no more
+pub record IsStruck (taken : List Bool) (old new : Notes) : Type 0 where
+  pub noted : new.noted.items ≡ filter (λ g. not (is_marked taken g)) old.noted.items
+  pub nears : new.nears ≡ old.nears
+  pub exit : new.exit ≡ old.exit
 
 -- neither an exit nor a class of these is left
 pub record IsNoneLeft (ns : Notes) (ts : Takings) (done : List ℕ) : Type 0 where

@@ -1,8 +1,8 @@
-ghost use Rattle.std.specs.Prelude.{◌≡◌, ℕ, ◌<◌, Option, Some, None, length, slice_index_or, OnOk};
-ghost use Rattle.transport.specs.Numbers.{number, IsIn};
-ghost use Rattle.transport.specs.declared.notes.Near.{Near};
+ghost use Rattle.std.specs.Prelude.{ℕ, ◌<◌, length, OnOk};
+ghost use Rattle.transport.specs.Numbers.{number};
+ghost use Rattle.transport.specs.States.{IsStruck};
 ghost use Rattle.transport.specs.Looks.{CanNote, IsNotedNow};
-ghost use Rattle.transport.specs.Settled.{AreListed, AreNoneNoted};
+ghost use Rattle.transport.specs.Settled.{AreListed, AreNoneNoted, IsForgotten};
 
 use std::alloc::AllocError;
 
@@ -24,20 +24,29 @@ pub(crate) struct Exit {
 #[derive(Debug, Drop)]
 pub(crate) struct Notes {
     pub(crate) nears: Vec<Option<Near>>,
-    /// The classes that are noted.
+    /// The classes that are noted and not taken up.
     pub(crate) noted: Vec<usize>,
     pub(crate) exit: Option<Exit>,
 }
 
 impl Notes {
-    /// Forgets the classes that are noted, and the exit.
-    pub(crate) fn clear(&mut self)
-        requires { AreListed self.old }
+    /// Forgets the classes that are noted, those taken up among them, and the exit.
+    pub(crate) fn clear(&mut self, taken: &[usize])
+        requires { AreListed self.old taken.now }
         ensures { AreNoneNoted (length self.old.nears.items) self.new }
     {
         forget(&mut self.nears, &self.noted);
+        forget(&mut self.nears, taken);
         self.noted.clear();
         self.exit = None;
+    }
+
+    /// Strikes the classes that are taken up out of the list.
+    pub(crate) fn strike(&mut self, taken: &[bool])
+        ensures { IsStruck taken.now self.old self.new }
+    {
+        self.noted
+            .retain(|class| !matches!(taken.get(*class), Some(true)));
     }
 
     /// Notes that a class is this near, unless it is as near already.
@@ -65,14 +74,12 @@ impl Notes {
     }
 }
 
-/// Clears the notes of these classes, which are all that there are.
-fn forget(nears: &mut [Option<Near>], noted: &[usize])
-    requires within { (i : ℕ) → i < length noted.now → number noted.now i < length nears.old }
-    requires all { (g : ℕ) (n : Near) → slice_index_or nears.old g None ≡ Some n → IsIn noted.now g }
-    ensures long { length nears.new ≡ length nears.old }
-    ensures none { (g : ℕ) → slice_index_or nears.new g None ≡ None }
+/// Clears the notes of these classes.
+fn forget(nears: &mut [Option<Near>], classes: &[usize])
+    requires { (i : ℕ) → i < length classes.now → number classes.now i < length nears.old }
+    ensures { IsForgotten nears.old nears.new classes.now }
 {
-    for class in noted {
+    for class in classes {
         nears[*class] = None;
     }
 }

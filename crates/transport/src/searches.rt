@@ -47,6 +47,7 @@ pub(crate) fn search(
             return Ok(Some(exit));
         }
         take_nearest(state, tree)?;
+        tree.notes.strike(&tree.takings.taken);
     }
 }
 

@@ -44,7 +44,7 @@ impl Tree {
         ensures { OnOk result ((rows classes : ℕ) → IsTidy rows classes self.old → root < rows → IsFresh rows classes root room self.new) }
     {
         self.queue.clear();
-        self.notes.clear();
+        self.notes.clear(&self.takings.order);
         self.takings.clear();
         self.queue.reach(root, 0, room)?;
         Ok(())

@@ -19,8 +19,10 @@ returns-then-arc-index c = λ ws can.
 
 pub note-requires : goal.note-requires
 note-requires c =
+    let can = c.requires.can.1 in
     subst (λ v. CanNote v c.args.tree.now.notes c.args.arc.class (record { row = c.args.row; weight = c.args.arc.weight })) (sym c.deref.ensures.value)
-    (can_note c.requires.can.0 _ _ _ c.args.arc c.requires.can.1)
+    (can_note c.requires.can.0 _ _ _ c.args.arc can
+    (read_mark _ _ _ _ _ (can.running.fit.class _ _ _ can.weighs) can.running.search.taken_long c.index.ensures c.if-index.false))
 
 pub returns : goal.returns
 returns c = on_ok_weaker c.note.result

@@ -1,11 +1,12 @@
 use Rattle.std.proofs.Common.{◌≡◌, length, refl, sym, ◌∙◌, subst, arith}
-use Rattle.transport.specs.States.{IsRunning, HasLooked}
+use Rattle.transport.specs.States.{IsRunning, HasLooked, IsStruck}
 use Rattle.transport.specs.Looks.{IsBetter}
 use Rattle.transport.specs.Weights.{weights}
 use Rattle.transport.proofs.Noting.{better_more, looked_better}
 use Rattle.transport.proofs.Steps.{closed, raise_rows, raise_classes, raise_values_fit, raise_prices_fit, step_raised, step_running, step_looked_on, step_root, step_smaller}
+use Rattle.transport.proofs.Striking.{running_struck, looked_struck}
 use Rattle.transport.proofs.searches.search.Goals as goal
-use Rattle.transport.proofs.searches.search.Goals.{After-least_slack, After-raise_all}
+use Rattle.transport.proofs.searches.search.Goals.{After-least_slack, After-raise_all, After-strike}
 
 pub steps-init : goal.steps-init
 steps-init c = record {
@@ -69,20 +70,26 @@ returns-in-Some-nearest_exit-clause-answer c = record {
   equal = c.in-Some-nearest_exit.ensures.equal;
 }
 
+-- the tree after the step, with the classes that it took up struck out
+struck : (c : After-strike) → IsStruck c.take_nearest.new.tree.takings.taken.items c.take_nearest.new.tree.notes c.strike.new.self
+struck c = subst (λ taken. IsStruck taken c.take_nearest.new.tree.notes c.strike.new.self) c.deref.ensures.value c.strike.ensures
+
 pub steps-preserved : goal.steps-preserved
 steps-preserved c =
+    let x = struck (goal.at.steps-preserved c).After-strike in
+    let v = c.take_nearest.new.tree in
     let b = better (goal.at.steps-preserved c).After-least_slack in
     let all = c.in_ok-look_on.ensures.looked in
     let l = c.in-Some-least_slack.ensures in
     let r = c.raise_all.ensures in
     let e : c.len-looked.result ≡ length c.look_on.new.tree.queue.order.items = omega (arith, c.len-looked.ensures, c.look_on.new.tree.queue.order.ok.0) in
     record {
-      running = step_running _ _ c.raise_all.new.state _ _ _ b all l r.values r.prices r.free r.holdings _ c.in_ok-take_nearest.ensures;
+      running = running_struck (weights c.args.table.now) c.raise_all.new.state v _ x (step_running _ _ c.raise_all.new.state _ _ _ b all l r.values r.prices r.free r.holdings _ c.in_ok-take_nearest.ensures);
       rows = c.steps.invariant.rows ∙ sym r.values.long;
       lines = rw r.free c.in_ok-look_on.ensures.lines;
       from = omega (arith, e, c.in_ok-take_nearest.ensures.longer);
-      looked = subst (λ n. HasLooked (weights c.args.table.now) c.raise_all.new.state c.take_nearest.new.tree n) (sym e)
-          (step_looked_on _ _ c.raise_all.new.state _ _ _ b all l r.values r.prices r.free r.holdings _ c.in_ok-take_nearest.ensures);
+      looked = looked_struck (weights c.args.table.now) c.raise_all.new.state v _ x c.len-looked.result (subst (λ n. HasLooked (weights c.args.table.now) c.raise_all.new.state v n) (sym e)
+          (step_looked_on _ _ c.raise_all.new.state _ _ _ b all l r.values r.prices r.free r.holdings _ c.in_ok-take_nearest.ensures));
       rest = record { free = r.free ∙ c.steps.invariant.rest.free; unmet = r.unmet ∙ c.steps.invariant.rest.unmet; holdings = r.holdings ∙ c.steps.invariant.rest.holdings };
       root = step_root _ _ c.raise_all.new.state _ _ _ b all l r.values r.prices r.free r.holdings _ c.in_ok-take_nearest.ensures c.args.tree.now c.steps.invariant.root;
     }
