@@ -23,12 +23,12 @@ def distance(i, j, nodes):
     return 10 + 10 * steps if steps < 24 else 254
 
 
-def machine(rows, nodes, full, own_list=False):
-    """Rows at home on the nodes in turn; with lists of their own they may have half of the CPUs each."""
+def machine(rows, nodes, full, own_list=False, crowded=False):
+    """Rows at home on the nodes in turn, or by chance; with lists of their own they may have half of the CPUs each."""
     size = -(-len(CPUS) // nodes)
     for k, demand in enumerate(demands(rows, full)):
         allowed = random.sample(CPUS, len(CPUS) // 2) if own_list else CPUS
-        home = random.randrange(nodes)
+        home = random.randrange(nodes) if crowded else k % nodes
         yield demand, {cpu: distance((cpu - 1) // size, home, nodes) for cpu in allowed}
 
 
@@ -61,6 +61,8 @@ FAMILIES = {
     "own-lists-2-nodes-95": lambda: machine(256, 2, 0.95, own_list=True),
     "own-lists-8-nodes-64-rows-95": lambda: machine(64, 8, 0.95, own_list=True),
     "own-lists-64-nodes-100": lambda: machine(256, 64, 1, own_list=True),
+    "crowded-64-nodes-100": lambda: machine(256, 64, 1, crowded=True),
+    "crowded-own-lists-64-nodes-100": lambda: machine(256, 64, 1, own_list=True, crowded=True),
     "spread-95": lambda: spread(256, 0.95, 10, 254),
     "spread-100": lambda: spread(256, 1, 10, 254),
     "wide-95": lambda: spread(256, 0.95, 10, 33_554_431),
