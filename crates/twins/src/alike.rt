@@ -8,18 +8,17 @@ ghost use Rattle.twins.specs.IsPart.{is_same_weight, HasAt};
 ghost use Rattle.twins.specs.Rising.{AreRising};
 
 use certificate::Offer;
-use cpu_set::{CPU_LIMIT, IdSet};
-use std::alloc::{AllocError, Global};
+use cpu_set::IdSet;
 
-/// For each CPU the place of the offer whose lowest CPU it is, and some place where there is none.
-pub(crate) fn hints_of(alloc: Global, offers: &[Offer]) -> Result<Vec<usize>, AllocError> {
-    let mut hints = vec![in alloc; 0usize; CPU_LIMIT as usize]?;
+/// Notes at each CPU that is the lowest of an offer the place of that offer.
+pub(crate) fn note_places(offers: &[Offer], hints: &mut [usize]) {
     for (at, offer) in offers.iter().enumerate() {
         if let Some(lowest) = offer.cpus.first() {
-            hints[lowest as usize] = at;
+            if let Some(hint) = hints.get_mut(lowest as usize) {
+                *hint = at;
+            }
         }
     }
-    Ok(hints)
 }
 
 /// The place of an offer that has the CPU. The offer at the hint is looked at first.

@@ -11,7 +11,7 @@ ghost use Rattle.twins.specs.Rising.{AreRising};
 ghost use Rattle.twins.specs.Surveys.{IsSurvey};
 ghost use Rattle.twins.specs.IsPart.{IsPart, IsUnsplit, ArePieces, IsSplit, IsPutTo};
 
-use crate::alike::{alike, are_in_one, hints_of};
+use crate::alike::{alike, are_in_one, note_places};
 use crate::{Classes, Survey};
 use certificate::{Problem, Row};
 use cpu_set::{CPU_LIMIT, IdSet};
@@ -38,9 +38,18 @@ fn grouped(alloc: Global, rows: &[Row], survey: &Survey) -> Result<Vec<IdSet>, A
 {
     let mut alone = Vec::new(alloc);
     let mut parts = unsplit(alloc, &survey.cpus)?;
+    let mut hints = vec![in alloc; 0usize; CPU_LIMIT as usize]?;
     for k in 0..rows.len() {
         if survey.kinds[k] == k {
-            parts = split_all(alloc, rows, k, survey.rising[k], &parts, &mut alone)?;
+            parts = split_all(
+                alloc,
+                rows,
+                k,
+                survey.rising[k],
+                &parts,
+                &mut hints,
+                &mut alone,
+            )?;
         }
     }
     for part in &parts {
@@ -68,6 +77,7 @@ fn split_all(
     k: usize,
     is_rising: bool,
     sets: &[IdSet],
+    hints: &mut [usize],
     alone: &mut Vec<IdSet>,
 ) -> Result<Vec<IdSet>, AllocError>
     requires fit { IsTrue (list_all row_fits rows.now) }
@@ -82,10 +92,10 @@ fn split_all(
     }
     let row = &rows[k];
     let offers = row.offers.as_slice();
-    let hints = hints_of(alloc, offers)?;
+    note_places(offers, hints);
     let mut parts = Vec::with_capacity(alloc, sets.len() + offers.len())?;
     for part in sets {
-        split(rows, k, is_rising, &hints, part, &mut parts, alone)?;
+        split(rows, k, is_rising, hints, part, &mut parts, alone)?;
     }
     Ok(parts)
 }

@@ -1,9 +1,9 @@
-use Rattle.std.proofs.Common.{◌+◌, ◌≡◌, ◌<◌, List, ◌++◌, ap, subst, ◌∙◌, arith, take_all}
+use Rattle.std.proofs.Common.{◌+◌, ◌≡◌, ◌<◌, List, ◌++◌, false, sym, ap, subst, ◌∙◌, arith, take_all}
 use Rattle.std.proofs.lemmas.List.{get_or_default}
 use Rattle.cpu_set.specs.Ids.{Ids}
 use Rattle.twins.specs.IsPart.{ArePieces}
 use Rattle.twins.specs.Kinds.{kind_at}
-use Rattle.twins.proofs.Grouped.{grouping_more, grouping_repeated, grouping_end}
+use Rattle.twins.proofs.Grouped.{grouping_start, grouping_more, grouping_repeated, grouping_end}
 use Rattle.twins.proofs.SameOffers.{kind_tells_none}
 use Rattle.twins.proofs.grouping.grouped.Goals as goal
 use Rattle.twins.proofs.grouping.grouped.Goals.{then-index-k+in_ok-parts-2, else-index-k}
@@ -27,3 +27,11 @@ pub returns : goal.returns
 returns c =
     grouping_end c.args.rows.now c.loop-k.k c.loop-k.parts.items c.loop-k.alone.items c.loop-part.alone.items (omega arith) c.loop-k.invariant
     (c.loop-part.invariant ∙ ap (λ l. c.loop-k.alone.items ++ l) (take_all _ _ c.loop-part-test.false ∙ c.deref-part-items.ensures.value))
+
+pub loop-k-init : goal.loop-k-init
+loop-k-init c = rw c.new-alone.ensures.items (grouping_start _ _ (c.in_ok-parts.ensures c.args.rows.now c.requires.surveyed.cpus))
+
+pub split_all-requires-clause-rising : goal.split_all-requires-clause-rising
+split_all-requires-clause-rising c = λ on.
+    c.requires.surveyed.rising.each c.loop-k.k
+    (sym (c.index-then-index-k.ensures ∙ get_or_default c.args.survey.now.rising.items c.loop-k.k c.index-then-index-k.result.now false (omega (arith, c.requires.surveyed.rising.long, c.loop-k-test.true))) ∙ on)
