@@ -1,25 +1,31 @@
--- The least slack, class by class.
-use Rattle.std.proofs.Common.{◌≡◌, ℕ, ◌+◌, ◌<◌, ◌≤◌, true, false, List, length, take, Option, Some, None, IfSome, ◌⊎◌, sym, ◌∙◌, subst, inl, inr, arith}
-use Rattle.std.proofs.lemmas.List.{length-take-le, get_or-take}
+-- The least slack, class by class, and the classes that have it.
+use Rattle.std.proofs.Common.{◌≡◌, ℕ, zero, suc, ◌+◌, ◌<◌, ◌≤◌, false, List, [], ◌∷◌, ◌++◌, length, take, Option, Some, None, refl, sym, ap, ◌∙◌, subst, inl, inr, arith}
+use Rattle.std.proofs.lemmas.List.{length-take-le, get_or-take, length_push, get_or_push, get_or_append_left}
 use Rattle.std.proofs.lemmas.Bool.{cases_lt}
-use Rattle.transport.specs.Numbers.{number}
-use Rattle.transport.specs.Searches.{near_of, is_taken, IsAttained}
-use Rattle.transport.specs.States.{IsLeastUpTo, IsSlack, IsTakenOrUnseen}
+use Rattle.transport.specs.Numbers.{number, IsIn}
+use Rattle.transport.specs.Searches.{near_of, is_taken, IsSlack}
+use Rattle.transport.specs.States.{IsLeastOf, IsLeastUpTo, IsLesser, IsTakenOrUnseen}
 use Rattle.transport.specs.declared.notes.Near.{Near}
 use Rattle.transport.specs.declared.notes.Exit.{Exit}
 use Rattle.transport.specs.declared.notes.Notes.{Notes}
 use Rattle.transport.specs.declared.takings.Takings.{Takings}
-use Rattle.transport.proofs.Numbers.{not_both}
+use Rattle.transport.proofs.Numbers.{not_both, in_push, in_last}
 
-pub least_none : (values prices : List ℕ) (ns : Notes) (ts : Takings) (xs : List ℕ) → ns.exit ≡ None → IsLeastUpTo values prices ns ts (take 0 xs) None
-least_none values prices ns ts xs none = record { exit = none; noted = λ i n lt. absurd (omega arith) }
+-- no slack of the class is less
+abbrev IsAtLeast : List ℕ → List ℕ → Notes → Takings → ℕ → ℕ → Type 0
+IsAtLeast values prices ns ts by g = (n : Near) → near_of ns g ≡ Some n → is_taken ts g ≡ false → by + number values n.row ≤ n.weight + number prices g
 
-pub least_exit : (values prices : List ℕ) (ns : Notes) (ts : Takings) (xs : List ℕ) (e : Exit) (by : ℕ) → ns.exit ≡ Some e → by + number values e.near.row ≡ e.near.weight + number prices e.class
-    → IsLeastUpTo values prices ns ts (take 0 xs) (Some by)
-least_exit values prices ns ts xs e by is equal = record {
+pub least_none : (values prices : List ℕ) (ns : Notes) (ts : Takings) (xs nearest : List ℕ) → ns.exit ≡ None → IsLeastUpTo values prices ns ts (take 0 xs) nearest None
+least_none values prices ns ts xs nearest none = record { exit = none; noted = λ i n lt. absurd (omega arith) }
+
+pub least_exit : (values prices : List ℕ) (ns : Notes) (ts : Takings) (xs nearest : List ℕ) (e : Exit) (by : ℕ) → nearest ≡ [] → ns.exit ≡ Some e → by + number values e.near.row ≡ e.near.weight + number prices e.class
+    → IsLeastUpTo values prices ns ts (take 0 xs) nearest (Some by)
+least_exit values prices ns ts xs nearest e by empty is equal = record {
   exit = λ f its. (let same : f ≡ e = (let both : Some f ≡ Some e = sym its ∙ is in cc) in
       subst (λ x. by + number values x.near.row ≤ x.near.weight + number prices x.class) (sym same) (omega (arith, equal)));
   noted = λ i n lt. absurd (omega arith);
+  each = λ i lt. absurd (omega (arith, lt, ap length empty));
+  all = λ i lt. absurd (omega arith);
   attained = inl (record { exit = e; its = is; equal = equal });
 }
 
@@ -35,48 +41,90 @@ at_next P xs i x lt is before here j within = elim (cases_lt j i) [
     at_end e = rw (e, get_or-take (i + 1) xs i 0 (omega arith), ← is) here
 
 -- a class that is taken up or was not seen
-pub least_skip : (values prices : List ℕ) (ns : Notes) (ts : Takings) (xs : List ℕ) (i x : ℕ) (least : Option ℕ) → i < length xs → x ≡ number xs i → IsTakenOrUnseen ns ts x
-    → IsLeastUpTo values prices ns ts (take i xs) least → IsLeastUpTo values prices ns ts (take (i + 1) xs) least
-least_skip values prices ns ts xs i x None lt is skip h = record {
+pub least_skip : (values prices : List ℕ) (ns : Notes) (ts : Takings) (xs nearest : List ℕ) (i x : ℕ) (least : Option ℕ) → i < length xs → x ≡ number xs i → IsTakenOrUnseen ns ts x
+    → IsLeastUpTo values prices ns ts (take i xs) nearest least → IsLeastUpTo values prices ns ts (take (i + 1) xs) nearest least
+least_skip values prices ns ts xs nearest i x None lt is skip h = record {
   exit = h.exit;
-  noted = λ j n within. at_next (λ g. (m : Near) → near_of ns g ≡ Some m → is_taken ts g ≡ true) xs i x lt is (λ k w m. h.noted k m w) skip j within n;
+  noted = λ j n within. at_next (IsTakenOrUnseen ns ts) xs i x lt is (λ k w m. h.noted k m w) skip j within n;
 }
-least_skip values prices ns ts xs i x (Some by) lt is skip h = record {
+least_skip values prices ns ts xs nearest i x (Some by) lt is skip h = record {
   exit = h.exit;
-  noted = λ j n within. at_next (λ g. (m : Near) → near_of ns g ≡ Some m → is_taken ts g ≡ false → by + number values m.row ≤ m.weight + number prices g) xs i x lt is
-      (λ k w m. h.noted k m w) (λ m its off. absurd (not_both _ (skip m its) off)) j within n;
+  noted = λ j n within. at_next (IsAtLeast values prices ns ts by) xs i x lt is (λ k w m. h.noted k m w) (λ m its off. absurd (not_both _ (skip m its) off)) j within n;
+  each = h.each;
+  all = at_next (λ g. IsSlack values prices ns ts g by → IsIn nearest g) xs i x lt is h.all (λ s. absurd (not_both _ (skip s.near s.its) s.left));
   attained = h.attained;
 }
 
 -- a slack
-pub least_more : (values prices : List ℕ) (ns : Notes) (ts : Takings) (xs : List ℕ) (i x slack by : ℕ) (least : Option ℕ) → i < length xs → x ≡ number xs i → IsSlack values prices ns ts x slack
-    → by ≤ slack → IfSome least (λ before. by ≤ before) → (by ≡ slack) ⊎ (least ≡ Some by) → IsLeastUpTo values prices ns ts (take i xs) least
-    → IsLeastUpTo values prices ns ts (take (i + 1) xs) (Some by)
-least_more values prices ns ts xs i x slack by least lt is s within below one h = record {
-  exit = exit least below h;
-  noted = λ j n w. at_next (λ g. (m : Near) → near_of ns g ≡ Some m → is_taken ts g ≡ false → by + number values m.row ≤ m.weight + number prices g) xs i x lt is
-      (λ k w m its off. before least below h k w m its off) here j w n;
-  attained = elim one [
-    | inl e ↦ inr (record { class = x; near = s.near; its = s.its; left = s.left; equal = omega (arith, s.equal, e) })
-    | inr e ↦ kept least e h
-  ];
-}
-  where
-    exit : (o : Option ℕ) → IfSome o (λ b. by ≤ b) → IsLeastUpTo values prices ns ts (take i xs) o → (e : Exit) → ns.exit ≡ Some e → by + number values e.near.row ≤ e.near.weight + number prices e.class
-    exit None b h e its = let no : Some e ≡ None = sym its ∙ h.exit in cc
-    exit (Some m) b h e its = omega (arith, b, h.exit e its)
+module _ (values prices : List ℕ) (ns : Notes) (ts : Takings) (xs old new : List ℕ) (i x slack by : ℕ) (lt : i < length xs) (is : x ≡ number xs i) (s : IsSlack values prices ns ts x slack) where
+  here : (b : ℕ) → b ≤ slack → IsAtLeast values prices ns ts b x
+  here b within m its off =
+      let same : s.near ≡ m = (let both : Some s.near ≡ Some m = sym s.its ∙ its in cc) in
+      let e : slack + number values m.row ≡ m.weight + number prices x = subst (λ y. slack + number values y.row ≡ y.weight + number prices x) same s.equal in
+      omega (arith, e, within)
 
-    before : (o : Option ℕ) → IfSome o (λ b. by ≤ b) → IsLeastUpTo values prices ns ts (take i xs) o
-        → (k : ℕ) → k < length (take i xs) → (m : Near) → near_of ns (number (take i xs) k) ≡ Some m → is_taken ts (number (take i xs) k) ≡ false → by + number values m.row ≤ m.weight + number prices (number (take i xs) k)
-    before None b h k w m its off = absurd (not_both _ (h.noted k m w its) off)
-    before (Some c) b h k w m its off = omega (arith, b, h.noted k m w its off)
+  own : by ≡ slack → IsSlack values prices ns ts x by
+  own e = record { near = s.near; its = s.its; left = s.left; equal = omega (arith, s.equal, e) }
 
-    here : (m : Near) → near_of ns x ≡ Some m → is_taken ts x ≡ false → by + number values m.row ≤ m.weight + number prices x
-    here m its off =
-        let same : s.near ≡ m = (let both : Some s.near ≡ Some m = sym s.its ∙ its in cc) in
-        let e : slack + number values m.row ≡ m.weight + number prices x = subst (λ y. slack + number values y.row ≡ y.weight + number prices x) same s.equal in
-        omega (arith, e, within)
+  apart : (b g : ℕ) → by < b → IsAtLeast values prices ns ts b g → IsSlack values prices ns ts g by → ⊥
+  apart b g less no_less at = let le = no_less at.near at.its at.left in omega (arith, less, le, at.equal)
 
-    kept : (o : Option ℕ) → o ≡ Some by → IsLeastUpTo values prices ns ts (take i xs) o → IsAttained values prices ns ts by
-    kept None e h = let no : None ≡ Some by = e in cc
-    kept (Some c) e h = let same : c ≡ by = (let both : Some c ≡ Some by = e in cc) in subst (IsAttained values prices ns ts) same h.attained
+  least_still : by < slack → IsLeastOf values prices ns ts (take i xs) old by → IsLeastOf values prices ns ts (take (i + 1) xs) old by
+  least_still less h = record {
+    exit = h.exit;
+    noted = λ j n w. at_next (IsAtLeast values prices ns ts by) xs i x lt is (λ k v m. h.noted k m v) (here by (omega (arith, less))) j w n;
+    each = h.each;
+    all = at_next (λ g. IsSlack values prices ns ts g by → IsIn old g) xs i x lt is h.all (λ at. absurd (apart slack x less (here slack (omega arith)) at));
+    attained = h.attained;
+  }
+
+  least_shared : by ≡ slack → IsLeastOf values prices ns ts (take i xs) old by → IsLeastOf values prices ns ts (take (i + 1) xs) (old ++ x ∷ []) by
+  least_shared e h = record {
+    exit = h.exit;
+    noted = λ j n w. at_next (IsAtLeast values prices ns ts by) xs i x lt is (λ k v m. h.noted k m v) (here by (omega (arith, e))) j w n;
+    each = each;
+    all = at_next (λ g. IsSlack values prices ns ts g by → IsIn (old ++ x ∷ []) g) xs i x lt is (λ k v at. in_push old x _ (h.all k v at)) (λ at. in_last old x);
+    attained = inr (omega (arith, length_push old x));
+  }
+    where
+      each : (j : ℕ) → j < length (old ++ x ∷ []) → IsSlack values prices ns ts (number (old ++ x ∷ []) j) by
+      each j w = elim (cases_lt j (length old)) [
+        | inl before ↦ rw (get_or_append_left old (x ∷ []) 0 j before) (h.each j before)
+        | inr after ↦ rw (get_or_push old x 0 j (omega (arith, w, after, length_push old x))) (own e)
+      ]
+
+  less_exit : (least : Option ℕ) → ((b : ℕ) → least ≡ Some b → by < b) → IsLeastUpTo values prices ns ts (take i xs) old least
+      → (e : Exit) → ns.exit ≡ Some e → by + number values e.near.row ≤ e.near.weight + number prices e.class
+  less_exit None less h e its = let no : Some e ≡ None = sym its ∙ h.exit in cc
+  less_exit (Some b) less h e its = omega (arith, less b refl, h.exit e its)
+
+  less_before : (least : Option ℕ) → ((b : ℕ) → least ≡ Some b → by < b) → IsLeastUpTo values prices ns ts (take i xs) old least
+      → (j : ℕ) → j < length (take i xs) → IsAtLeast values prices ns ts (by + 1) (number (take i xs) j)
+  less_before None less h j w m its off = absurd (not_both _ (h.noted j m w its) off)
+  less_before (Some b) less h j w m its off = omega (arith, less b refl, h.noted j m w its off)
+
+  least_less : (least : Option ℕ) → ((b : ℕ) → least ≡ Some b → by < b) → by ≡ slack → IsLeastUpTo values prices ns ts (take i xs) old least
+      → IsLeastOf values prices ns ts (take (i + 1) xs) (x ∷ []) by
+  least_less least less e h = record {
+    exit = less_exit least less h;
+    noted = λ j n w. at_next (IsAtLeast values prices ns ts by) xs i x lt is (λ k v m its off. (let le = less_before least less h k v m its off in omega (arith, le))) (here by (omega (arith, e))) j w n;
+    each = each;
+    all = at_next (λ g. IsSlack values prices ns ts g by → IsIn (x ∷ []) g) xs i x lt is (λ k v at. absurd (apart (by + 1) _ (omega arith) (less_before least less h k v) at)) (λ at. in_last [] x);
+    attained = inr (omega arith);
+  }
+    where
+      each : (j : ℕ) → j < 1 → IsSlack values prices ns ts (number (x ∷ []) j) by
+      each zero w = own e
+      each (suc j) w = absurd (omega arith)
+
+  pub least_more : (least : Option ℕ) → IsLesser least x slack old new by → IsLeastUpTo values prices ns ts (take i xs) old least → IsLeastUpTo values prices ns ts (take (i + 1) xs) new (Some by)
+  least_more least c h = elim c [
+    | inl a ↦ rw a.same (least_still a.less (subst (IsLeastUpTo values prices ns ts (take i xs) old) a.its h))
+    | inr c ↦ elim c [
+      | inl a ↦ rw a.more (least_shared a.equal (subst (IsLeastUpTo values prices ns ts (take i xs) old) a.its h))
+      | inr a ↦ rw a.alone (least_less least (λ b its. omega (arith, a.before b its, a.equal)) a.equal h)
+    ]
+  ]
+
+pub least_some : (values prices : List ℕ) (ns : Notes) (ts : Takings) (done nearest : List ℕ) (by : ℕ) (least : Option ℕ) → least ≡ Some by → IsLeastUpTo values prices ns ts done nearest least → IsLeastOf values prices ns ts done nearest by
+least_some values prices ns ts done nearest by least is h = subst (IsLeastUpTo values prices ns ts done nearest) is h

@@ -34,9 +34,6 @@ can_limit ws s t k h on = record {
   light = λ e is. h.fit.low e.near.row e.class e.near.weight (h.search.exit e is).weighs;
 }
 
-same_tree : (a b : Tree) → a.queue ≡ b.queue → a.notes ≡ b.notes → a.takings ≡ b.takings → a ≡ b
-same_tree a b q n t = λ i. record { queue = q i; notes = n i; takings = t i }
-
 limit_once : (values : List ℕ) (k : ℕ) (e : Option Exit) (a b : Option ℕ) → IsLimit values k e a → IsLimit values k e b → a ≡ b
 limit_once values k None None None x y = refl
 limit_once values k None None (Some b) x y = absurd y
@@ -54,14 +51,11 @@ module _ (ws : ℕ → ℕ → Option ℕ) (s : State) (t new : Tree) (k : ℕ) 
     (at : IsLimit s.values.items k t.notes.exit limit) (queue : new.queue ≡ t.queue) (takings : new.takings ≡ t.takings) where
   pub exit_better : (found : Option Arc) → IsFoundExit (ws k) s.free.items limit l found → IsExitNoted t.notes new.notes k found → IsBetter ws s t new
   exit_better None f x = record {
-    running = subst (IsRunning ws s) (sym all) h;
+    running = record { fit = h.fit; search = rw (queue, x, takings) h.search; holdings = h.holdings };
     covers = λ j g w c. subst (λ n. IsCovered s.values.items s.prices.items n j g w) (sym x) c;
     queue = queue;
     takings = takings;
   }
-    where
-      all : new ≡ t
-      all = same_tree new t queue x takings
   exit_better (Some arc) f x = better_exit ws s t new _ h queue takings x.nears x.noted x.exit on f.weighs f.some_free nearer
     where
       nearer : (o : Exit) → t.notes.exit ≡ Some o → arc.weight + number s.values.items o.near.row ≤ o.near.weight + number s.values.items k

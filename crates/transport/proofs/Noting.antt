@@ -219,6 +219,18 @@ covered_past s ns k g w (Some e) (Some x) is l past = inr (record { exit = e; it
 pub better_same : (ws : ℕ → ℕ → Option ℕ) (s : State) (t : Tree) → IsRunning ws s t → IsBetter ws s t t
 better_same ws s t h = record { running = h; covers = λ k g w c. c; queue = refl; takings = refl }
 
+-- the same tree but for its list of nearest classes
+abbrev pub with_nearest : Tree → Vec ℕ Global → Tree
+with_nearest t nearest = record { queue = t.queue; notes = t.notes; takings = t.takings; nearest = nearest }
+
+pub better_listed : (ws : ℕ → ℕ → Option ℕ) (s : State) (a b : Tree) (nearest : Vec ℕ Global) → IsBetter ws s a b → IsBetter ws s a (with_nearest b nearest)
+better_listed ws s a b nearest f = record {
+  running = record { fit = f.running.fit; search = f.running.search; holdings = f.running.holdings };
+  covers = f.covers;
+  queue = f.queue;
+  takings = f.takings;
+}
+
 pub better_more : (ws : ℕ → ℕ → Option ℕ) (s : State) (a b d : Tree) → IsBetter ws s a b → IsBetter ws s b d → IsBetter ws s a d
 better_more ws s a b d f g = record {
   running = g.running;

@@ -86,8 +86,8 @@ module _ (ws : ℕ → ℕ → Option ℕ) (cells : ℕ → ℕ → ℕ) (values
     low_row k on = elim at [
       | inl e ↦ near_low e.exit.near.row (s.exit e.exit e.its).there
           (omega (arith, e.equal, exit_free e.exit e.its, fit.low _ _ _ (s.exit e.exit e.its).weighs))
-      | inr c ↦ near_low c.near.row (s.noted c.class c.near c.its).there
-          (omega (arith, c.equal, s.prices_low c.class c.left, fit.low _ _ _ (s.noted c.class c.near c.its).weighs))
+      | inr c ↦ near_low c.1.near.row (s.noted c.0 c.1.near c.1.its).there
+          (omega (arith, c.1.equal, s.prices_low c.0 c.1.left, fit.low _ _ _ (s.noted c.0 c.1.near c.1.its).weighs))
     ]
       where
         near_low : (j : ℕ) → is_reached q j ≡ true → by + number values j ≤ weight_limit + most → number values k + by ≤ weight_limit + most + 511 * weight_limit

@@ -1,5 +1,5 @@
 -- A step of a search, for a state and a tree.
-use Rattle.std.proofs.Common.{◌≡◌, ℕ, zero, suc, ◌∷◌, take, ◌+◌, ◌<◌, ◌≤◌, Bool, true, false, List, [], length, get_or, Option, Some, None, refl, sym, ap, ◌∙◌, subst, inl, inr, arith}
+use Rattle.std.proofs.Common.{◌≡◌, ℕ, zero, suc, ◌∷◌, take, ◌+◌, ◌<◌, ◌≤◌, Bool, true, false, List, [], length, get_or, Option, Some, None, Vec, Global, refl, sym, ap, ◌∙◌, subst, inl, inr, arith}
 use Rattle.std.proofs.lemmas.List.{get_or_read, get_or-set_same, get_or-set_other, length_push, length-take-le, get_or-take}
 use Rattle.std.proofs.lemmas.Bool.{cases_lt}
 use Rattle.transport.specs.Numbers.{number, IsListing, IsRaised}
@@ -13,7 +13,6 @@ use Rattle.transport.specs.declared.states.State.{State}
 use Rattle.transport.specs.declared.trees.Tree.{Tree}
 use Rattle.transport.specs.declared.notes.Near.{Near}
 use Rattle.transport.specs.declared.notes.Exit.{Exit}
-use Rattle.transport.specs.declared.notes.Notes.{Notes}
 use Rattle.transport.specs.declared.queues.Queue.{Queue}
 use Rattle.transport.proofs.Numbers.{raised_marked, raised_others, not_both}
 use Rattle.transport.proofs.QueueLemmas.{marked_below}
@@ -120,6 +119,7 @@ taken_none s t done all = record {
   running = λ ws h. h;
   looked = λ ws upto less h all. all;
   notes = refl;
+  nearest = refl;
   longer = omega arith;
   root = λ ws h. record { row = refl; rooms = refl };
   kept = λ g on. on;
@@ -144,6 +144,7 @@ taken_one s old new g n shares its left equal in_range long are up = record {
   running = λ ws h. running_taken ws s old new g n shares h its left equal in_range are up;
   looked = λ ws upto less h all. looked_taken ws s old new g n shares h its left equal in_range are up upto less all;
   notes = up.notes;
+  nearest = up.nearest;
   longer = up.grown.longer;
   root = λ ws h. running_root ws s old new g n shares h its left equal in_range are up;
   kept = λ h on. rw up.taken.taken (get_or-set_other old.takings.taken.items g h true false (λ e. not_both _ (subst (λ x. is_taken old.takings x ≡ true) e on) left) ∙ on);
@@ -163,6 +164,7 @@ taken_more s a b d xs i x lt is f g = record {
   running = λ ws h. g.running ws (f.running ws h);
   looked = λ ws upto less h all. g.looked ws upto (omega (arith, f.longer, less)) (f.running ws h) (f.looked ws upto less h all);
   notes = g.notes ∙ f.notes;
+  nearest = g.nearest ∙ f.nearest;
   longer = omega (arith, f.longer, g.longer);
   root = λ ws h. (let p = f.root ws h in let r = g.root ws (f.running ws h) in
       record { row = r.row ∙ p.row; rooms = subst (λ k. room d.queue k ≡ room b.queue k) p.row r.rooms ∙ p.rooms });
@@ -212,5 +214,6 @@ taken_far s t g by m is slack some = taken_left s t g far
         let e2 : number s.values.items m.row ≡ m.weight + number s.prices.items g = subst (λ x. number s.values.items x.row ≡ x.weight + number s.prices.items g) same e in
         absurd (some (omega (arith, e2, slack)))
 
-pub noted_at : (a b : Notes) (i x : ℕ) → b ≡ a → i < length a.noted.items → x ≡ get_or b.noted.items i x → x ≡ number a.noted.items i
-noted_at a b i x e lt is = let now = subst (λ n. x ≡ get_or n.noted.items i x) e is in get_or_read a.noted.items i x lt now 0
+-- a read of the list of nearest classes
+pub nearest_at : (a b : Vec ℕ Global) (i x : ℕ) → b ≡ a → i < length a.items → x ≡ get_or b.items i x → x ≡ number a.items i
+nearest_at a b i x e lt is = let now = subst (λ (v : Vec ℕ Global). x ≡ get_or v.items i x) e is in get_or_read a.items i x lt now 0

@@ -37,7 +37,7 @@ filter_below test (n ∷ ns) bound all i lt = by_test (filter_below test ns boun
 
 module _ (ws : ℕ → ℕ → Option ℕ) (s : State) (t : Tree) (ns : Notes) (x : IsStruck t.takings.taken.items t.notes ns) where
   abbrev pub struck : Tree
-  struck = record { queue = t.queue; notes = ns; takings = t.takings }
+  struck = record { queue = t.queue; notes = ns; takings = t.takings; nearest = t.nearest }
 
   near_same : (g : ℕ) → near_of ns g ≡ near_of t.notes g
   near_same g = ap (λ (v : Vec (Option Near) Global). get_or v.items g None) x.nears

@@ -110,21 +110,22 @@ pub record IsLeast (values prices : List ℕ) (ns : Notes) (ts : Takings) (by : 
   pub exit : (e : Exit) → ns.exit ≡ Some e → by + number values e.near.row ≤ e.near.weight + number prices e.class
   pub noted : (g : ℕ) (n : Near) → near_of ns g ≡ Some n → is_taken ts g ≡ false → by + number values n.row ≤ n.weight + number prices g
 
--- the exit lies at that slack, or a noted class that is not taken up
+-- the exit lies at that slack
 pub record IsExitAt (values prices : List ℕ) (ns : Notes) (by : ℕ) : Type 0 where
   pub exit : Exit
   pub its : ns.exit ≡ Some exit
   pub equal : by + number values exit.near.row ≡ exit.near.weight + number prices exit.class
 
-pub record IsClassAt (values prices : List ℕ) (ns : Notes) (ts : Takings) (by : ℕ) : Type 0 where
-  pub class : ℕ
+-- a noted class that is not taken up lies at that slack
+pub record IsSlack (values prices : List ℕ) (ns : Notes) (ts : Takings) (g by : ℕ) : Type 0 where
   pub near : Near
-  pub its : near_of ns class ≡ Some near
-  pub left : is_taken ts class ≡ false
-  pub equal : by + number values near.row ≡ near.weight + number prices class
+  pub its : near_of ns g ≡ Some near
+  pub left : is_taken ts g ≡ false
+  pub equal : by + number values near.row ≡ near.weight + number prices g
 
+-- the exit lies at that slack, or some class
 abbrev pub IsAttained : List ℕ → List ℕ → Notes → Takings → ℕ → Type 0
-IsAttained values prices ns ts by = IsExitAt values prices ns by ⊎ IsClassAt values prices ns ts by
+IsAttained values prices ns ts by = IsExitAt values prices ns by ⊎ ((g : ℕ) × IsSlack values prices ns ts g by)
 
 -- rows and weights are within their limits
 pub record AreWeights (ws : ℕ → ℕ → Option ℕ) (rows classes : ℕ) : Type 0 where

@@ -1,11 +1,11 @@
 -- Rows and classes between two searches, and in one.
-use Rattle.std.specs.Prelude.{◌≡◌, ℕ, ◌+◌, ◌<◌, ◌≤◌, Bool, true, false, not, ◌⊎◌, Option, Some, None, List, [], length, slice_index_or}
+use Rattle.std.specs.Prelude.{◌≡◌, ℕ, ◌+◌, ◌<◌, ◌≤◌, Bool, true, false, not, ◌⊎◌, Option, Some, None, List, [], ◌∷◌, ◌++◌, length, slice_index_or}
 use Rattle.std.specs.List.{filter}
-use Rattle.transport.specs.Numbers.{number, is_marked}
+use Rattle.transport.specs.Numbers.{number, is_marked, IsIn}
 use Rattle.transport.specs.Shares.{AllBelow}
 use Rattle.twins.specs.Holdings.{share_of}
 use Rattle.transport.specs.Queues.{IsQueue, IsGrown, room, row_at}
-use Rattle.transport.specs.Searches.{near_of, is_taken, top, IsSearch, AllCovered, IsAttained, IsTaken, AreWeights}
+use Rattle.transport.specs.Searches.{near_of, is_taken, top, IsSearch, AllCovered, IsExitAt, IsSlack, IsTaken, AreWeights}
 use Rattle.transport.specs.declared.notes.Near.{Near}
 use Rattle.transport.specs.declared.notes.Exit.{Exit}
 use Rattle.transport.specs.declared.notes.Notes.{Notes}
@@ -34,6 +34,10 @@ pub record IsRunning (ws : ℕ → ℕ → Option ℕ) (s : State) (t : Tree) : 
   pub search : IsSearch ws (cell s.holdings.items) s.values.items s.prices.items s.free.items t.queue t.notes t.takings
   pub holdings : AreHoldings (length s.values.items) (length s.prices.items) s.holdings.items
 
+-- notes and classes taken up are those of a search that runs
+abbrev pub AreRunning : State → Notes → Takings → Type 0
+AreRunning s ns ts = (ws : ℕ → ℕ → Option ℕ) × (t : Tree) × IsRunning ws s (record { queue = t.queue; notes = ns; takings = ts; nearest = t.nearest })
+
 -- the classes of the rows up to some place that are not taken up are covered
 abbrev pub HasLooked : (ℕ → ℕ → Option ℕ) → State → Tree → ℕ → Type 0
 HasLooked ws s t looked = AllCovered ws s.values.items s.prices.items t.queue t.notes t.takings looked
@@ -44,6 +48,7 @@ pub record IsTakenUp (old new : Tree) (g k : ℕ) (shares : List Share) : Type 0
   pub queue : IsQueue (length old.queue.reached.items) new.queue
   pub grown : IsGrown old.queue new.queue g (room old.queue k) shares shares
   pub notes : new.notes ≡ old.notes
+  pub nearest : new.nearest ≡ old.nearest
 
 -- both begin at the same row, with the same room
 pub record IsSameRoot (old new : Queue) : Type 0 where
@@ -55,6 +60,7 @@ pub record HasTaken (s : State) (old new : Tree) (done : List ℕ) : Type 0 wher
   pub running : (ws : ℕ → ℕ → Option ℕ) → IsRunning ws s old → IsRunning ws s new
   pub looked : (ws : ℕ → ℕ → Option ℕ) (upto : ℕ) → upto ≤ length old.queue.order.items → IsRunning ws s old → HasLooked ws s old upto → HasLooked ws s new upto
   pub notes : new.notes ≡ old.notes
+  pub nearest : new.nearest ≡ old.nearest
   pub longer : length old.queue.order.items ≤ length new.queue.order.items
   pub root : (ws : ℕ → ℕ → Option ℕ) → IsRunning ws s old → IsSameRoot old.queue new.queue
   pub kept : (g : ℕ) → is_taken old.takings g ≡ true → is_taken new.takings g ≡ true
@@ -73,23 +79,39 @@ pub record IsNoneLeft (ns : Notes) (ts : Takings) (done : List ℕ) : Type 0 whe
   pub exit : ns.exit ≡ None
   pub noted : (i : ℕ) (n : Near) → i < length done → near_of ns (number done i) ≡ Some n → is_taken ts (number done i) ≡ true
 
--- the least slack of the exit and of those of these classes that are not taken up
-pub record IsLeastOf (values prices : List ℕ) (ns : Notes) (ts : Takings) (done : List ℕ) (by : ℕ) : Type 0 where
+-- the least slack of the exit and of those of these classes that are not taken up, and the list of those that have it
+pub record IsLeastOf (values prices : List ℕ) (ns : Notes) (ts : Takings) (done nearest : List ℕ) (by : ℕ) : Type 0 where
   pub exit : (e : Exit) → ns.exit ≡ Some e → by + number values e.near.row ≤ e.near.weight + number prices e.class
   pub noted : (i : ℕ) (n : Near) → i < length done → near_of ns (number done i) ≡ Some n → is_taken ts (number done i) ≡ false
       → by + number values n.row ≤ n.weight + number prices (number done i)
-  pub attained : IsAttained values prices ns ts by
+  pub each : (i : ℕ) → i < length nearest → IsSlack values prices ns ts (number nearest i) by
+  pub all : (i : ℕ) → i < length done → IsSlack values prices ns ts (number done i) by → IsIn nearest (number done i)
+  pub attained : IsExitAt values prices ns by ⊎ (0 < length nearest)
 
-abbrev pub IsLeastUpTo : List ℕ → List ℕ → Notes → Takings → List ℕ → Option ℕ → Type 0
-IsLeastUpTo values prices ns ts done None = IsNoneLeft ns ts done
-IsLeastUpTo values prices ns ts done (Some by) = IsLeastOf values prices ns ts done by
+abbrev pub IsLeastUpTo : List ℕ → List ℕ → Notes → Takings → List ℕ → List ℕ → Option ℕ → Type 0
+IsLeastUpTo values prices ns ts done nearest None = IsNoneLeft ns ts done
+IsLeastUpTo values prices ns ts done nearest (Some by) = IsLeastOf values prices ns ts done nearest by
 
--- how far a class is from the row with which it is noted, unless it is taken up or not noted
-pub record IsSlack (values prices : List ℕ) (ns : Notes) (ts : Takings) (g by : ℕ) : Type 0 where
-  pub near : Near
-  pub its : near_of ns g ≡ Some near
-  pub left : is_taken ts g ≡ false
-  pub equal : by + number values near.row ≡ near.weight + number prices g
+-- the least slack so far stays, which is less than the next
+pub record IsStill (least : Option ℕ) (slack : ℕ) (old new : List ℕ) (by : ℕ) : Type 0 where
+  pub its : least ≡ Some by
+  pub less : by < slack
+  pub same : new ≡ old
+
+-- the next class has it too
+pub record IsShared (least : Option ℕ) (g slack : ℕ) (old new : List ℕ) (by : ℕ) : Type 0 where
+  pub its : least ≡ Some by
+  pub equal : by ≡ slack
+  pub more : new ≡ old ++ g ∷ []
+
+-- the next class has less than those so far
+pub record IsLess (least : Option ℕ) (g slack : ℕ) (new : List ℕ) (by : ℕ) : Type 0 where
+  pub before : (b : ℕ) → least ≡ Some b → slack < b
+  pub equal : by ≡ slack
+  pub alone : new ≡ g ∷ []
+
+abbrev pub IsLesser : Option ℕ → ℕ → ℕ → List ℕ → List ℕ → ℕ → Type 0
+IsLesser least g slack old new by = IsStill least slack old new by ⊎ IsShared least g slack old new by ⊎ IsLess least g slack new by
 
 abbrev pub IsTakenOrUnseen : Notes → Takings → ℕ → Type 0
 IsTakenOrUnseen ns ts g = (n : Near) → near_of ns g ≡ Some n → is_taken ts g ≡ true

@@ -1,11 +1,12 @@
-ghost use Rattle.std.specs.Prelude.{◌≡◌, ℕ, ◌+◌, ◌<◌, ◌≤◌, ◌⊎◌, Option, MatchOption, IfSome, length};
+ghost use Rattle.std.specs.Prelude.{◌≡◌, ◌+◌, ◌<◌, ◌≤◌, MatchOption, IfOk, length};
 ghost use Rattle.transport.specs.Numbers.{number};
-ghost use Rattle.transport.specs.Searches.{top};
-ghost use Rattle.transport.specs.States.{IsRunning, IsLeastUpTo, IsTakenOrUnseen, IsSlack};
+ghost use Rattle.transport.specs.Searches.{top, IsSlack};
+ghost use Rattle.transport.specs.States.{AreRunning, IsLeastUpTo, IsLesser, IsTakenOrUnseen};
 
 use crate::State;
-use crate::notes::Near;
-use crate::trees::Tree;
+use crate::notes::{Near, Notes};
+use crate::takings::Takings;
+use std::alloc::AllocError;
 
 /// How far a class is from the row that is nearest to it.
 pub(crate) fn slack(state: &State, class: usize, near: Near) -> u64
@@ -18,46 +19,61 @@ pub(crate) fn slack(state: &State, class: usize, near: Near) -> u64
     near.weight as u64 + state.prices[class] - state.values[near.row]
 }
 
-/// The least slack of the exit and of the noted classes that are not taken up.
-pub(crate) fn least_slack(state: &State, tree: &Tree) -> Option<u64>
-    requires { (ws : ℕ → ℕ → Option ℕ) × IsRunning ws state.now tree.now }
-    ensures { IsLeastUpTo state.now.values.items state.now.prices.items tree.now.notes tree.now.takings tree.now.notes.noted.items result }
+/// The least slack of the exit and of the noted classes that are not taken up; lists the classes that have it.
+pub(crate) fn least_slack(
+    state: &State,
+    notes: &Notes,
+    takings: &Takings,
+    nearest: &mut Vec<usize>,
+) -> Result<Option<u64>, AllocError>
+    requires { AreRunning state.now notes.now takings.now }
+    ensures { IfOk result (IsLeastUpTo state.now.values.items state.now.prices.items notes.now takings.now notes.now.noted.items nearest.new.items) }
 {
-    let mut least = match tree.notes.exit {
+    nearest.clear();
+    let mut least = match notes.exit {
         Some(exit) => Some(slack(state, exit.class, exit.near)),
         None => None,
     };
-    for class in &tree.notes.noted {
-        if let Some(slack) = open_slack(state, tree, *class) {
-            least = Some(lesser(least, slack));
+    for class in &notes.noted {
+        if let Some(slack) = open_slack(state, notes, takings, *class) {
+            least = Some(lesser(least, *class, slack, nearest)?);
         }
     }
-    least
+    Ok(least)
 }
 
 /// The slack of a class that is noted and not taken up.
-pub(crate) fn open_slack(state: &State, tree: &Tree, class: usize) -> Option<u64>
+fn open_slack(state: &State, notes: &Notes, takings: &Takings, class: usize) -> Option<u64>
     requires class { class < length state.now.prices.items }
-    requires running { (ws : ℕ → ℕ → Option ℕ) × IsRunning ws state.now tree.now }
-    ensures { MatchOption result (IsTakenOrUnseen tree.now.notes tree.now.takings class)
-        (IsSlack state.now.values.items state.now.prices.items tree.now.notes tree.now.takings class) }
+    requires running { AreRunning state.now notes.now takings.now }
+    ensures { MatchOption result (IsTakenOrUnseen notes.now takings.now class)
+        (IsSlack state.now.values.items state.now.prices.items notes.now takings.now class) }
 {
-    if tree.takings.taken[class] {
+    if takings.taken[class] {
         return None;
     }
-    match tree.notes.nears[class] {
+    match notes.nears[class] {
         Some(near) => Some(slack(state, class, near)),
         None => None,
     }
 }
 
-fn lesser(least: Option<u64>, slack: u64) -> u64
-    ensures within { result ≤ slack }
-    ensures below { IfSome least (λ before. result ≤ before) }
-    ensures one { (result ≡ slack) ⊎ (least ≡ Some result) }
+/// The lesser of the least slack so far and that of a class, which is listed where its slack is no more.
+///
+/// Where it is less, the classes so far are listed no longer.
+fn lesser(
+    least: Option<u64>,
+    class: usize,
+    slack: u64,
+    nearest: &mut Vec<usize>,
+) -> Result<u64, AllocError>
+    ensures { IfOk result (IsLesser least class slack nearest.old.items nearest.new.items) }
 {
     match least {
-        Some(least) => least.min(slack),
-        None => slack,
+        Some(least) if least < slack => return Ok(least),
+        Some(least) if least == slack => {}
+        _ => nearest.clear(),
     }
+    nearest.push(class)?;
+    Ok(slack)
 }

@@ -39,7 +39,8 @@ pub(crate) fn search(
         }
         look_on(table, state, lines, tree, looked)?;
         looked = tree.queue.order.len();
-        let Some(least) = least_slack(state, tree) else {
+        let least = least_slack(state, &tree.notes, &tree.takings, &mut tree.nearest)?;
+        let Some(least) = least else {
             return Ok(None);
         };
         raise_all(state, tree, least);
@@ -69,13 +70,14 @@ pub(crate) fn raise_all(state: &mut State, tree: &Tree, by: u64)
     raise(&mut state.prices, &tree.takings.order, by);
 }
 
-/// Takes up the classes at slack 0.
+/// Takes up the listed classes that are at slack 0.
 pub(crate) fn take_nearest(state: &State, tree: &mut Tree) -> Result<(), AllocError>
-    requires { (ws : ℕ → ℕ → Option ℕ) × IsRunning ws state.now tree.old }
-    ensures { OnOk result (HasTaken state.now tree.old tree.new tree.old.notes.noted.items) }
+    requires running { (ws : ℕ → ℕ → Option ℕ) × IsRunning ws state.now tree.old }
+    requires within { (i : ℕ) → i < length tree.old.nearest.items → number tree.old.nearest.items i < length state.now.prices.items }
+    ensures { OnOk result (HasTaken state.now tree.old tree.new tree.old.nearest.items) }
 {
-    for at in 0..tree.notes.noted.len() {
-        let class = tree.notes.noted[at];
+    for at in 0..tree.nearest.len() {
+        let class = tree.nearest[at];
         take_if_nearest(state, tree, class)?;
     }
     Ok(())

@@ -12,6 +12,8 @@ pub(crate) struct Tree {
     pub(crate) queue: Queue,
     pub(crate) notes: Notes,
     pub(crate) takings: Takings,
+    /// The classes that were nearest in the last step.
+    pub(crate) nearest: Vec<usize>,
 }
 
 impl Tree {
@@ -33,6 +35,7 @@ impl Tree {
                 taken,
                 order: Vec::new(alloc),
             },
+            nearest: Vec::new(alloc),
         })
     }
 

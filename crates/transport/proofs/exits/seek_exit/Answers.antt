@@ -11,7 +11,7 @@ pub limit_of-limit-requires : goal.limit_of-limit-requires
 limit_of-limit-requires c = subst (λ v. CanLimit v c.args.row c.args.tree.now.notes.exit) (sym c.deref.ensures.value) (can_limit _ _ _ _ c.requires.running c.requires.there)
 
 new : After-note_exit → Tree
-new c = record { queue = c.args.tree.now.queue; notes = c.note_exit.new.notes; takings = c.args.tree.now.takings }
+new c = record { queue = c.args.tree.now.queue; notes = c.note_exit.new.notes; takings = c.args.tree.now.takings; nearest = c.args.tree.now.nearest }
 
 limit_old : (c : After-note_exit) → IsLimit c.args.state.now.values.items c.args.row c.args.tree.now.notes.exit c.limit_of-limit.result
 limit_old c = subst (λ v. IsLimit v c.args.row c.args.tree.now.notes.exit c.limit_of-limit.result) c.deref.ensures.value c.limit_of-limit.ensures
