@@ -11,6 +11,9 @@ use crate::orders::Order;
 use certificate::Offer;
 use std::alloc::{AllocError, Global};
 
+/// How many classes a new line has room for at most.
+const FIRST_ARCS: usize = 64;
+
 /// A class at its weight in a row.
 #[derive(Clone, Copy, Debug)]
 pub(crate) struct Arc {
@@ -34,10 +37,11 @@ impl Line {
         ensures { IfOk result (IsNewLine offers.now) }
     {
         let order = Order::new(alloc, offers, is_rising)?;
+        let arcs = Vec::with_capacity(alloc, offers.len().min(FIRST_ARCS))?;
         Ok(Line {
             order,
             opened: 0,
-            arcs: Vec::new(alloc),
+            arcs,
             cursor: 0,
         })
     }
