@@ -3,6 +3,7 @@ pub mod RowFaults
 pub mod CostSums
 pub mod PriceSums
 pub mod Members
+pub mod Offering
 pub mod TooHigh
 pub mod Duality
 pub mod Hall

@@ -2,6 +2,7 @@ pub mod RowView
 pub mod SetsCode
 pub mod PricesView
 pub mod Weight
+pub mod RisingOffers
 pub mod IsPlan
 pub mod Cost
 pub mod IsLeast

@@ -14,6 +14,7 @@ mod has_cpus;
 mod laws;
 mod limit_checks;
 mod limits;
+mod offers;
 mod plans;
 mod price_lists;
 mod problems;
@@ -30,6 +31,7 @@ pub use laws::{
     what_is_within_the_limits,
 };
 pub use limits::{MAX_AMOUNT, MAX_DEMAND, MAX_ROWS, MAX_WEIGHT};
+pub use offers::Offers;
 pub use plans::Plan;
 pub use price_lists::{Price, Prices};
 pub use problems::Problem;

@@ -1,14 +1,12 @@
 //! The checks of a plan's sets: each row by itself, and no CPU in two rows.
-ghost use Rattle.std.specs.Prelude.{◌≡◌, ℕ, length, is_some, All, OnOk, IfErr};
+ghost use Rattle.std.specs.Prelude.{◌≡◌, length, All, OnOk, IfErr};
 ghost use Rattle.std.specs.Result.{result_err};
-ghost use Rattle.std.specs.FinSet as set;
 ghost use Rattle.cpu_set.specs.Members.{InRange};
 ghost use Rattle.cpu_set.specs.Least.{least_that};
-ghost use Rattle.certificate.specs.Weight.{weight_in};
 ghost use Rattle.certificate.specs.IsCause.{IsRowsCause};
 ghost use Rattle.certificate.specs.PlanFault.{is_not_allowed, row_fault, rows_fault, apart_fault};
 
-use crate::{CheckFault, Offer, Row};
+use crate::{CheckFault, Row};
 use cpu_set::IdSet;
 
 /// Whether each row holds as many CPUs as it asks for, all of them allowed; else the first row's fault.
@@ -43,18 +41,7 @@ fn check_row(k: usize, row: &Row, held: &IdSet) -> Result<(), CheckFault>
 fn first_not_allowed(row: &Row, held: &IdSet) -> Option<u16>
     ensures { result ≡ least_that (is_not_allowed row.now held.now) }
 {
-    held.minus(&allowed_cpus(row.offers.as_slice())).first()
-}
-
-/// The CPUs that are in one of the offers.
-pub(crate) fn allowed_cpus(offers: &[Offer]) -> IdSet
-    ensures { (cpu : ℕ) → set.contains result cpu ≡ is_some (weight_in offers.now cpu) }
-{
-    let mut allowed = IdSet::empty();
-    for offer in offers {
-        allowed = allowed.union(&offer.cpus);
-    }
-    allowed
+    held.minus(row.offers.cpus()).first()
 }
 
 /// Whether no CPU is in two of the sets; else the first set that has a CPU of an earlier one.

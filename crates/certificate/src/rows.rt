@@ -1,3 +1,4 @@
+use crate::Offers;
 use cpu_set::IdSet;
 use std::marker::Model;
 
@@ -9,7 +10,7 @@ pub struct Row {
     /// How many CPUs it asks for, 1 to [`MAX_DEMAND`](crate::MAX_DEMAND).
     pub demand: u32,
     /// The CPUs that it may have, by weight. A CPU in no offer is not allowed.
-    pub offers: Vec<Offer>,
+    pub offers: Offers,
 }
 
 /// CPUs of one weight: what each of them costs a row that holds it.
@@ -29,5 +30,5 @@ impl Model for Row {
 
     ghost coded = { row_code };
 
-    ghost view = { λ a. record { id = string_bytes a.id; demand = a.demand; offers = a.offers.items } };
+    ghost view = { λ a. record { id = string_bytes a.id; demand = a.demand; offers = a.offers } };
 }

@@ -10,7 +10,6 @@ ghost use Rattle.certificate.specs.IsCause.{IsShortageCause};
 ghost use Rattle.certificate.specs.Limits.{row_fits};
 
 use crate::limit_checks::is_shortage_within_limits;
-use crate::row_checks::allowed_cpus;
 use crate::{CheckFault, MAX_ROWS, Problem, Row};
 use cpu_set::IdSet;
 
@@ -82,7 +81,7 @@ pub fn offered_to(rows: &[Row], members: &[usize]) -> IdSet
     let mut offered = IdSet::empty();
     for k in members {
         let row = &rows[*k];
-        offered = offered.union(&allowed_cpus(row.offers.as_slice()));
+        offered = offered.union(row.offers.cpus());
     }
     offered
 }

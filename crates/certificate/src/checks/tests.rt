@@ -1,5 +1,5 @@
 use super::check_plan;
-use crate::{CheckFault, Offer, Plan, Price, Prices, Problem, Row};
+use crate::{CheckFault, Offer, Offers, Plan, Price, Prices, Problem, Row};
 use cpu_set::{CPU_LIMIT, IdSet};
 use std::alloc::{AllocError, Global};
 use std::test::Fail;
@@ -21,7 +21,7 @@ fn set_of(cpus: &[u16]) -> IdSet {
 }
 
 fn row(alloc: Global, demand: u32, offers: &[Weighed]) -> Result<Row, AllocError> {
-    let mut row_offers = Vec::new(alloc);
+    let mut row_offers = Offers::new(alloc);
     for (weight, cpus) in offers {
         row_offers.push(Offer {
             weight: *weight,

@@ -1,5 +1,5 @@
 use super::check_shortage;
-use crate::{CheckFault, Offer, Problem, Row};
+use crate::{CheckFault, Offer, Offers, Problem, Row};
 use cpu_set::IdSet;
 use std::alloc::{AllocError, Global};
 use std::test::Fail;
@@ -26,7 +26,7 @@ fn answer(
         rows: Vec::new(alloc),
     };
     for (demand, ranges) in rows {
-        let mut offers = Vec::new(alloc);
+        let mut offers = Offers::new(alloc);
         for (first, last) in *ranges {
             offers.push(Offer {
                 weight: 10,

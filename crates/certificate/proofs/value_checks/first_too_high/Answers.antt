@@ -11,6 +11,6 @@ pub returns : goal.returns
 returns c =
     sym (least-first c.too_high.result (is_too_high c.args.prices.now c.args.row.now c.args.value) c.first.result
     (λ q is_cpu. c.too_high.ensures q
-    ∙ ap (λ offers. list_any (λ o. is_offer_too_high c.args.prices.now c.args.value o q) offers) (c.as_slice.ensures.value ∙ ap (λ (r : RowView). r.offers) c.row.view_is)
+    ∙ ap (λ offers. list_any (λ o. is_offer_too_high c.args.prices.now c.args.value o q) offers) (c.as_slice.ensures ∙ ap (λ (r : RowView). r.offers) c.row.view_is)
     ∙ too_high_is c.args.prices.now c.args.row.now c.args.value q c.requires.fits)
     (c.first.ensures.first, c.first.ensures.in_range))

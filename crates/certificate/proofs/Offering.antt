@@ -1,0 +1,53 @@
+-- What offers know of themselves, as they come.
+use Rattle.std.proofs.Common.{◌≡◌, ℕ, ◌+◌, ◌≤◌, ◌<◌, Bool, true, false, ◌||◌, List, [], ◌∷◌, ◌++◌, length, get_or, refl, sym, ap, ◌∙◌, inl, inr, arith}
+use Rattle.std.specs.FinSet as set
+use Rattle.std.proofs.lemmas.Bool.{cases_lt}
+use Rattle.std.proofs.lemmas.List.{get_or_append_left, get_or_push, length_push}
+use Rattle.std.proofs.lemmas.List.Folds.{list_any-append}
+use Rattle.cpu_set.specs.Ids.{Ids}
+use Rattle.cpu_set.specs.Pointwise.{contains-empty, contains-union}
+use Rattle.certificate.specs.ApartTest.{is_in_one}
+use Rattle.certificate.specs.Offers.{is_some-weight_in}
+use Rattle.certificate.specs.RisingOffers.{AreTold}
+use Rattle.certificate.specs.declared.rows.Offer.{Offer}
+
+pub told_none : AreTold [] set.empty true 0
+told_none = record {
+  cpus = λ c. contains-empty c;
+  rising = λ on i j d before lt. absurd (omega (arith, lt));
+  below = λ on i d lt. absurd (omega (arith, lt));
+}
+
+-- one offer more; they still rise where it weighs at least the bound
+pub told_more :
+    (offers : List Offer) (o : Offer) (cpus : Ids) (is_rising still : Bool) (least : ℕ) → AreTold offers cpus is_rising least
+    → (still ≡ true → (is_rising ≡ true) × (least ≤ o.weight)) → AreTold (offers ++ o ∷ []) (set.union cpus o.cpus) still (o.weight + 1)
+told_more offers o cpus is_rising still least told rises = record {
+  cpus = λ c.
+    contains-union cpus o.cpus c ∙ ap (λ b. b || set.contains o.cpus c) (told.cpus c ∙ is_some-weight_in offers c)
+    ∙ sym (one_more c) ∙ sym (is_some-weight_in (offers ++ o ∷ []) c);
+  rising = λ on i j d before lt. elim (cases_lt j (length offers)) [
+    | inl b ↦ rw (earlier i d (omega (arith, b, before)), earlier j d b) (told.rising (rises on).0 i j d before b)
+    | inr a ↦ rw (earlier i d (omega (arith, lt, before, length_push offers o)), last j d (omega (arith, a, lt, length_push offers o)))
+        (omega (arith, told.below (rises on).0 i d (omega (arith, lt, before, length_push offers o)), (rises on).1))
+  ];
+  below = λ on i d lt. elim (cases_lt i (length offers)) [
+    | inl b ↦ rw (earlier i d b) (omega (arith, told.below (rises on).0 i d b, (rises on).1))
+    | inr a ↦ rw (last i d (omega (arith, a, lt, length_push offers o))) (omega arith)
+  ];
+}
+  where
+    earlier : (i : ℕ) (d : Offer) → i < length offers → get_or (offers ++ o ∷ []) i d ≡ get_or offers i d
+    earlier i d lt = get_or_append_left offers (o ∷ []) d i lt
+
+    last : (i : ℕ) (d : Offer) → length offers ≡ i → get_or (offers ++ o ∷ []) i d ≡ o
+    last i d e = get_or_push offers o d i e
+
+    or_false : (b : Bool) → (b || false) ≡ b
+    or_false true = refl
+    or_false false = refl
+
+    one_more : (c : ℕ) → is_in_one (λ (o : Offer). o.cpus) (offers ++ o ∷ []) c ≡ (is_in_one (λ (o : Offer). o.cpus) offers c || set.contains o.cpus c)
+    one_more c =
+        list_any-append (λ (p : Offer). set.contains p.cpus c) offers (o ∷ [])
+        ∙ ap (λ b. is_in_one (λ (p : Offer). p.cpus) offers c || b) (or_false (set.contains o.cpus c))
