@@ -12,4 +12,3 @@ pub mod Paying
 pub mod Closing
 pub mod Few
 pub mod SameOffers
-pub mod Surveying

@@ -14,7 +14,7 @@ use Rattle.certificate.specs.ApartTest.{apart_at}
 use Rattle.certificate.specs.OfferLaws.{offers_apart}
 use Rattle.certificate.specs.Offers.{is_some-find}
 use Rattle.twins.specs.IsPart.{is_same_weight, HasAt}
-use Rattle.twins.specs.Rising.{AreRising}
+use Rattle.certificate.specs.RisingOffers.{AreRising}
 
 -- the test says what its name does
 pub same_says : (v w : Option ℕ) → is_same_weight v w ≡ true → v ≡ w

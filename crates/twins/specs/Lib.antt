@@ -7,5 +7,3 @@ pub mod IsPart
 pub mod IsPriced
 pub mod IsClosed
 pub mod Kinds
-pub mod Rising
-pub mod Surveys

@@ -1,13 +1,12 @@
 //! The CPUs that are alike to one row.
-ghost use Rattle.std.specs.Prelude.{◌≡◌, ℕ, ◌<◌, ◌&&◌, true, false, Some, None, IsTrue, MatchOption, is_some, length, slice_index_or};
+ghost use Rattle.std.specs.Prelude.{◌≡◌, ℕ, ◌<◌, ◌&&◌, true, false, Some, None, IsTrue, MatchOption, length, slice_index_or};
 ghost use Rattle.std.specs.FinSet as set;
 ghost use Rattle.certificate.specs.Weight.{weight_in};
 ghost use Rattle.certificate.specs.Limits.{offers_fit};
 ghost use Rattle.certificate.specs.declared.rows.Offer.{Offer};
 ghost use Rattle.twins.specs.IsPart.{is_same_weight, HasAt};
-ghost use Rattle.twins.specs.Rising.{AreRising};
 
-use certificate::Offer;
+use certificate::{Offer, Offers};
 use cpu_set::IdSet;
 
 /// Notes at each CPU that is the lowest of an offer the place of that offer.
@@ -55,26 +54,20 @@ fn has(offers: &[Offer], at: usize, cpu: u16) -> bool
 /// Those of some CPUs that have the weight of one of them, or that have none as it has none.
 ///
 /// Where the offers are by rising weight, one alone has the CPUs of a weight.
-pub(crate) fn alike(
-    offers: &[Offer],
-    is_rising: bool,
-    hints: &[usize],
-    cpu: u16,
-    among: &IdSet,
-) -> IdSet
-    requires fit { IsTrue (offers_fit offers.now) }
-    requires rising { IsTrue is_rising → AreRising offers.now }
+pub(crate) fn alike(offers: &Offers, hints: &[usize], cpu: u16, among: &IdSet) -> IdSet
+    requires { IsTrue (offers_fit offers.now) }
     ensures { (q : ℕ) → set.contains result q
         ≡ (set.contains among.now q && is_same_weight (weight_in offers.now cpu) (weight_in offers.now q)) }
 {
-    let Some(at) = place_of(offers, hints, cpu) else {
-        return among.minus(&cpus_of(offers));
+    let items = offers.as_slice();
+    let Some(at) = place_of(items, hints, cpu) else {
+        return among.minus(offers.cpus());
     };
-    let offer = &offers[at];
-    if is_rising {
+    let offer = &items[at];
+    if offers.are_rising() {
         among.meet(&offer.cpus)
     } else {
-        among.meet(&cpus_of_weight(offers, offer.weight))
+        among.meet(&cpus_of_weight(items, offer.weight))
     }
 }
 
@@ -103,17 +96,6 @@ fn cpus_of_weight(offers: &[Offer], weight: u32) -> IdSet
         if offer.weight == weight {
             found = found.union(&offer.cpus);
         }
-    }
-    found
-}
-
-/// The CPUs that are in one of the offers.
-pub(crate) fn cpus_of(offers: &[Offer]) -> IdSet
-    ensures { (q : ℕ) → set.contains result q ≡ is_some (weight_in offers.now q) }
-{
-    let mut found = IdSet::empty();
-    for offer in offers {
-        found = found.union(&offer.cpus);
     }
     found
 }

@@ -1,18 +1,15 @@
 //! Classes of twins, by splitting sets of CPUs row by row.
-ghost use Rattle.std.specs.Prelude.{◌≡◌, ℕ, ◌<◌, ◌≤◌, ◌+◌, IsTrue, IfOk, OnOk, List, All, length};
+ghost use Rattle.std.specs.Prelude.{◌≡◌, ℕ, ◌<◌, ◌≤◌, ◌+◌, IsTrue, IfOk, OnOk, All, length};
 ghost use Rattle.std.specs.List.{list_all};
 ghost use Rattle.std.specs.FinSet as set;
-ghost use Rattle.certificate.specs.RowView.{RowView};
 ghost use Rattle.certificate.specs.Limits.{row_fits};
 ghost use Rattle.certificate.specs.IsShortage.{is_offered};
 ghost use Rattle.twins.specs.IsGrouping.{IsGrouping};
-ghost use Rattle.twins.specs.Kinds.{offers_of};
-ghost use Rattle.twins.specs.Rising.{AreRising};
-ghost use Rattle.twins.specs.Surveys.{IsSurvey};
+ghost use Rattle.twins.specs.Kinds.{AreKinds};
 ghost use Rattle.twins.specs.IsPart.{IsPart, IsUnsplit, ArePieces, IsSplit, IsPutTo};
 
+use crate::Classes;
 use crate::alike::{alike, are_in_one, note_places};
-use crate::{Classes, Survey};
 use certificate::{Problem, Row};
 use cpu_set::{CPU_LIMIT, IdSet};
 use std::alloc::{AllocError, Global};
@@ -21,35 +18,27 @@ use std::alloc::{AllocError, Global};
 ///
 /// Each row splits the sets that are left of the rows before it; one CPU by itself needs no more looks. A row
 /// of the kind of an earlier one splits none.
-pub fn group(alloc: Global, problem: &Problem, survey: &Survey) -> Result<Classes, AllocError>
+pub fn group(alloc: Global, problem: &Problem, kinds: &[usize]) -> Result<Classes, AllocError>
     requires fit { IsTrue (list_all row_fits problem.now) }
-    requires surveyed { IsSurvey problem.now survey.now }
+    requires kinds { AreKinds problem.now (length problem.now) kinds.now }
     ensures grouped { IfOk result (λ classes. IsGrouping problem.now classes) }
     ensures few { IfOk result (λ classes. length classes ≤ CPU_LIMIT) }
 {
-    let sets = grouped(alloc, problem.rows.as_slice(), survey)?;
+    let sets = grouped(alloc, problem.rows.as_slice(), kinds)?;
     Ok(Classes { sets })
 }
 
-fn grouped(alloc: Global, rows: &[Row], survey: &Survey) -> Result<Vec<IdSet>, AllocError>
+fn grouped(alloc: Global, rows: &[Row], kinds: &[usize]) -> Result<Vec<IdSet>, AllocError>
     requires fit { IsTrue (list_all row_fits rows.now) }
-    requires surveyed { IsSurvey rows.now survey.now }
+    requires kinds { AreKinds rows.now (length rows.now) kinds.now }
     ensures { IfOk result (λ sets. IsGrouping rows.now sets.items) }
 {
     let mut alone = Vec::new(alloc);
-    let mut parts = unsplit(alloc, &survey.cpus)?;
+    let mut parts = unsplit(alloc, rows)?;
     let mut hints = vec![in alloc; 0usize; CPU_LIMIT as usize]?;
     for k in 0..rows.len() {
-        if survey.kinds[k] == k {
-            parts = split_all(
-                alloc,
-                rows,
-                k,
-                survey.rising[k],
-                &parts,
-                &mut hints,
-                &mut alone,
-            )?;
+        if kinds[k] == k {
+            parts = split_all(alloc, rows, k, &parts, &mut hints, &mut alone)?;
         }
     }
     for part in &parts {
@@ -58,16 +47,28 @@ fn grouped(alloc: Global, rows: &[Row], survey: &Survey) -> Result<Vec<IdSet>, A
     Ok(alone)
 }
 
-/// All these CPUs as one set, where there are any.
-fn unsplit(alloc: Global, all: &IdSet) -> Result<Vec<IdSet>, AllocError>
-    ensures { IfOk result (λ parts. (rows : List RowView) → ((cpu : ℕ) → set.contains all.now cpu ≡ is_offered rows cpu) → IsUnsplit rows parts.items) }
+/// All CPUs with a weight, as one set where there are any.
+fn unsplit(alloc: Global, rows: &[Row]) -> Result<Vec<IdSet>, AllocError>
+    ensures { IfOk result (λ parts. IsUnsplit rows.now parts.items) }
 {
     let mut parts = Vec::new(alloc);
+    let all = offered_cpus(rows);
     if all.count() == 0 {
         return Ok(parts);
     }
-    parts.push(*all)?;
+    parts.push(all)?;
     Ok(parts)
+}
+
+/// The CPUs with a weight in some row.
+fn offered_cpus(rows: &[Row]) -> IdSet
+    ensures { (cpu : ℕ) → set.contains result cpu ≡ is_offered rows.now cpu }
+{
+    let mut offered = IdSet::empty();
+    for row in rows {
+        offered = offered.union(row.offers.cpus());
+    }
+    offered
 }
 
 /// Sets that agree on the rows before row `k`, split so that they agree on it too.
@@ -75,14 +76,12 @@ fn split_all(
     alloc: Global,
     rows: &[Row],
     k: usize,
-    is_rising: bool,
     sets: &[IdSet],
     hints: &mut [usize],
     alone: &mut Vec<IdSet>,
 ) -> Result<Vec<IdSet>, AllocError>
     requires fit { IsTrue (list_all row_fits rows.now) }
     requires there { k < length rows.now }
-    requires rising { IsTrue is_rising → AreRising (offers_of rows.now k) }
     requires sets { All (IsPart rows.now k) sets.now }
     requires alone { All (IsPart rows.now (length rows.now)) alone.old.items }
     ensures { IfOk result (λ parts. ArePieces rows.now (k + 1) sets.now alone.old.items parts.items alone.new.items) }
@@ -95,7 +94,7 @@ fn split_all(
     note_places(offers, hints);
     let mut parts = Vec::with_capacity(alloc, sets.len() + offers.len())?;
     for part in sets {
-        split(rows, k, is_rising, hints, part, &mut parts, alone)?;
+        split(rows, k, hints, part, &mut parts, alone)?;
     }
     Ok(parts)
 }
@@ -104,7 +103,6 @@ fn split_all(
 fn split(
     rows: &[Row],
     k: usize,
-    is_rising: bool,
     hints: &[usize],
     part: &IdSet,
     parts: &mut Vec<IdSet>,
@@ -112,21 +110,20 @@ fn split(
 ) -> Result<(), AllocError>
     requires fit { IsTrue (list_all row_fits rows.now) }
     requires there { k < length rows.now }
-    requires rising { IsTrue is_rising → AreRising (offers_of rows.now k) }
     requires part { IsPart rows.now k part.now }
     requires parts { All (IsPart rows.now (k + 1)) parts.old.items }
     requires alone { All (IsPart rows.now (length rows.now)) alone.old.items }
     ensures { OnOk result (IsSplit rows.now (k + 1) part.now parts.old.items alone.old.items parts.new.items alone.new.items) }
 {
     let row = &rows[k];
-    let offers = row.offers.as_slice();
-    if are_in_one(offers, hints, part) {
+    let offers = &row.offers;
+    if are_in_one(offers.as_slice(), hints, part) {
         parts.push(*part)?;
         return Ok(());
     }
     let mut rest = *part;
     while let Some(cpu) = rest.first() {
-        let piece = alike(offers, is_rising, hints, cpu, &rest);
+        let piece = alike(offers, hints, cpu, &rest);
         put(piece, parts, alone)?;
         rest = rest.minus(&piece);
     }

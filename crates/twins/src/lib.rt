@@ -14,7 +14,6 @@ mod holders;
 mod kinds;
 mod laws;
 mod pricing;
-mod surveys;
 #[cfg(test)]
 mod tests;
 
@@ -22,8 +21,8 @@ pub use classes::Classes;
 pub use dealing::deal;
 pub use grouping::group;
 pub use holders::{Holders, Share};
+pub use kinds::kinds_of;
 pub use laws::{
     classes_prove_plans, closed_rows_are_short, deals_of_twins_are_dealt, members_weigh_the_same,
 };
 pub use pricing::prices_of;
-pub use surveys::{Survey, survey_of};

@@ -1,8 +1,8 @@
 ghost use Rattle.std.specs.Prelude.{IsTrue};
 ghost use Rattle.certificate.specs.Limits.{rows_fit};
 
-use crate::{Classes, group, prices_of, survey_of};
-use certificate::{CheckFault, Offer, Price, Problem, Row, check_shortage};
+use crate::{Classes, group, kinds_of, prices_of};
+use certificate::{CheckFault, Offer, Offers, Price, Problem, Row, check_shortage};
 use cpu_set::{CPU_LIMIT, IdSet};
 use std::alloc::{AllocError, Global};
 use std::test::Fail;
@@ -23,7 +23,7 @@ fn problem_of(alloc: Global, rows: &[&[Weighed]]) -> Result<Problem, AllocError>
         rows: Vec::new(alloc),
     };
     for weighed in rows {
-        let mut offers = Vec::new(alloc);
+        let mut offers = Offers::new(alloc);
         for (weight, first, last) in *weighed {
             offers.push(Offer {
                 weight: *weight,
@@ -55,8 +55,8 @@ fn classes_of(alloc: Global, rows: &[&[Weighed]]) -> Result<Vec<IdSet>, AllocErr
     if !are_within(&problem) {
         return Ok(Vec::new(alloc));
     }
-    let survey = survey_of(alloc, problem.rows.as_slice())?;
-    let classes = group(alloc, &problem, &survey)?;
+    let kinds = kinds_of(alloc, problem.rows.as_slice())?;
+    let classes = group(alloc, &problem, &kinds)?;
     Ok(classes.sets)
 }
 

@@ -6,45 +6,40 @@ use Rattle.certificate.specs.Limits.{offers_fit, row_fits}
 use Rattle.certificate.specs.OfferLaws.{passes_at, row_offers_fit}
 use Rattle.certificate.specs.declared.rows.Offer.{Offer}
 use Rattle.twins.specs.IsPart.{is_same_weight}
-use Rattle.twins.specs.Rising.{AreRising}
-use Rattle.twins.proofs.SameOffers.{own_offers}
 use Rattle.twins.proofs.Splitting.{IsAlike, splitting_start, splitting_more, splitting_end, less_left, unsplit}
 use Rattle.twins.proofs.grouping.split.Goals as goal
-use Rattle.twins.proofs.grouping.split.Goals.{After-as_slice-offers}
+use Rattle.twins.proofs.grouping.split.Goals.{After-as_slice}
 
 pub loop-cpu-init : goal.loop-cpu-init
 loop-cpu-init c = splitting_start _ _ _ _ _ c.requires.part c.requires.parts c.requires.alone
 
-offers_are : (c : After-as_slice-offers) → c.as_slice-offers.result.now ≡ c.index-rows-k.result.offers
-offers_are c = c.as_slice-offers.ensures.value ∙ ap (λ (row : RowView). row.offers) c.row.view_is
+offers_are : (c : After-as_slice) → c.as_slice.result.now ≡ c.index-rows-k.result.offers
+offers_are c = c.as_slice.ensures ∙ ap (λ (row : RowView). row.offers) c.row.view_is
 
-fit : (c : After-as_slice-offers) → offers_fit c.as_slice-offers.result.now ≡ true
+fit : (c : After-as_slice) → offers_fit c.index-rows-k.result.offers ≡ true
 fit c =
-    subst (λ (o : List Offer). offers_fit o ≡ true) (sym (offers_are c))
-    (row_offers_fit c.index-rows-k.result (passes_at row_fits c.args.rows.now c.args.k c.index-rows-k.result c.requires.fit c.requires.there c.index-rows-k.is))
+    row_offers_fit c.index-rows-k.result (passes_at row_fits c.args.rows.now c.args.k c.index-rows-k.result c.requires.fit c.requires.there c.index-rows-k.is)
 
 pub are_in_one-requires : goal.are_in_one-requires
-are_in_one-requires c = fit (goal.at.are_in_one-requires c).After-as_slice-offers
+are_in_one-requires c =
+    let here = (goal.at.are_in_one-requires c).After-as_slice in
+    subst (λ (o : List Offer). offers_fit o ≡ true) (sym (offers_are here)) (fit here)
 
 pub returns-then-are_in_one : goal.returns-then-are_in_one
 returns-then-are_in_one c =
     unsplit c.args.rows.now c.args.k c.index-rows-k.result c.args.part.now _ _ _ c.requires.there c.index-rows-k.is c.requires.part c.requires.parts c.requires.alone
     (subst
     (λ (o : List Offer). (a b : ℕ) → set.contains c.args.part.now a ≡ true → set.contains c.args.part.now b ≡ true → weight_in o a ≡ weight_in o b)
-    (offers_are (goal.at.returns-then-are_in_one c).After-as_slice-offers) (c.are_in_one.ensures c.if-are_in_one.true))
+    (offers_are (goal.at.returns-then-are_in_one c).After-as_slice) (c.are_in_one.ensures c.if-are_in_one.true))
     c.in_ok-push.ensures.items
 
 alike : (c : goal.After-minus-rest) → IsAlike c.index-rows-k.result c.in-Some.cpu c.loop-cpu.rest c.alike-piece.result
 alike c =
-    let offers : c.as_slice-offers.result.now ≡ c.index-rows-k.result.offers = c.as_slice-offers.ensures.value ∙ ap (λ (row : RowView). row.offers) c.row.view_is in
-    subst (λ (o : List Offer). (q : ℕ) → set.contains c.alike-piece.result q ≡ (set.contains c.loop-cpu.rest q && is_same_weight (weight_in o c.in-Some.cpu) (weight_in o q))) offers c.alike-piece.ensures
+    subst (λ (o : List Offer). (q : ℕ) → set.contains c.alike-piece.result q ≡ (set.contains c.loop-cpu.rest q && is_same_weight (weight_in o c.in-Some.cpu) (weight_in o q))) (ap (λ (row : RowView). row.offers) c.row.view_is) c.alike-piece.ensures
 
-pub alike-piece-requires-clause-fit : goal.alike-piece-requires-clause-fit
-alike-piece-requires-clause-fit c = fit (goal.at.alike-piece-requires-clause-fit c).After-as_slice-offers
-
-pub alike-piece-requires-clause-rising : goal.alike-piece-requires-clause-rising
-alike-piece-requires-clause-rising c = λ on.
-    subst AreRising (sym (offers_are (goal.at.alike-piece-requires-clause-rising c).After-as_slice-offers ∙ own_offers _ _ _ c.requires.there c.index-rows-k.is)) (c.requires.rising on)
+pub alike-piece-requires : goal.alike-piece-requires
+alike-piece-requires c =
+    subst (λ (o : List Offer). offers_fit o ≡ true) (sym (ap (λ (row : RowView). row.offers) c.row.view_is)) (fit (goal.at.alike-piece-requires c).After-as_slice)
 
 pub loop-cpu-preserved : goal.loop-cpu-preserved
 loop-cpu-preserved c =
