@@ -14,7 +14,7 @@ use Rattle.certificate.specs.Weight.{weight_in}
 use Rattle.certificate.specs.RowView.{RowView}
 use Rattle.certificate.specs.AreWithin.{AreRowsWithin}
 use Rattle.certificate.specs.declared.rows.Offer.{Offer}
-use Rattle.twins.specs.Rising.{AreRising}
+use Rattle.certificate.specs.RisingOffers.{AreRising}
 use Rattle.twins.specs.Kinds.{offers_of, kind_at, AreKinds}
 use Rattle.transport.specs.Weights.{class_weight, AreLines, AreNewLines}
 use Rattle.transport.specs.declared.tables.Table.{Table}

@@ -1,7 +1,6 @@
 ghost use Rattle.std.specs.Prelude.{◌≡◌, ℕ, ◌+◌, ◌*◌, ◌<◌, ◌≤◌, ◌^◌, length, IfOk};
 ghost use Rattle.certificate.specs.AreWithin.{AreRowsWithin};
 ghost use Rattle.twins.specs.Kinds.{offers_of, kind_at, AreKinds};
-ghost use Rattle.twins.specs.Rising.{AreMarked};
 ghost use Rattle.transport.specs.Lines.{IsNewLine};
 ghost use Rattle.transport.specs.Numbers.{number};
 ghost use Rattle.transport.specs.Weights.{weights, AreLines, AreNewLines};
@@ -17,6 +16,7 @@ use crate::pushes::push;
 use crate::searches::search;
 use crate::trees::Tree;
 use crate::{State, Table};
+use certificate::Offers;
 use std::alloc::{AllocError, Global};
 
 /// What the rows get.
@@ -42,7 +42,6 @@ pub enum Filled {
 pub fn fill(alloc: Global, table: &Table, sizes: &[u32]) -> Result<Filled, AllocError>
     requires fit { AreRowsWithin table.now.rows.now }
     requires kinds { AreKinds table.now.rows.now (length table.now.rows.now) table.now.kinds.now }
-    requires rising { AreMarked table.now.rows.now (length table.now.rows.now) table.now.rising.now }
     requires classes { length table.now.firsts ≡ length sizes.now }
     requires few { length sizes.now ≤ 1024 }
     ensures { IfOk result (IsFilled table.now.rows.now table.now.firsts sizes.now) }
@@ -62,7 +61,6 @@ pub fn fill(alloc: Global, table: &Table, sizes: &[u32]) -> Result<Filled, Alloc
 /// A line for each row that is the first of its kind, which the others share; theirs are without offers.
 fn lines_of(alloc: Global, table: &Table) -> Result<Vec<Line>, AllocError>
     requires kinds { length table.now.kinds.now ≡ length table.now.rows.now }
-    requires rising { AreMarked table.now.rows.now (length table.now.rows.now) table.now.rising.now }
     ensures { IfOk result (λ lines. AreNewLines table.now.rows.now table.now.kinds.now lines.items (length table.now.rows.now)) }
 {
     let mut lines = Vec::with_capacity(alloc, table.rows.len())?;
@@ -77,14 +75,13 @@ fn lines_of(alloc: Global, table: &Table) -> Result<Vec<Line>, AllocError>
 fn line_of(alloc: Global, table: &Table, k: usize) -> Result<Line, AllocError>
     requires there { k < length table.now.rows.now }
     requires kinds { length table.now.kinds.now ≡ length table.now.rows.now }
-    requires rising { AreMarked table.now.rows.now (length table.now.rows.now) table.now.rising.now }
     ensures { IfOk result (λ line. kind_at table.now.kinds.now k ≡ k → IsNewLine (offers_of table.now.rows.now k) line) }
 {
     if table.kinds[k] != k {
-        return Line::new(alloc, &[], true);
+        return Line::new(alloc, &Offers::new(alloc));
     }
     let row = &table.rows[k];
-    let line = Line::new(alloc, row.offers.as_slice(), table.rising[k])?;
+    let line = Line::new(alloc, &row.offers)?;
     Ok(line)
 }
 

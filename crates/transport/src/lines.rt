@@ -2,13 +2,12 @@ ghost use Rattle.std.specs.Prelude.{◌≡◌, ◌↔◌, ℕ, ◌+◌, ◌<◌,
 ghost use Rattle.transport.specs.Numbers.{number};
 ghost use Rattle.transport.specs.Looks.{arc_at, IsPast};
 ghost use Rattle.certificate.specs.declared.rows.Offer.{Offer};
-ghost use Rattle.twins.specs.Rising.{AreRising};
 ghost use Rattle.transport.specs.declared.orders.Bid.{Bid};
 ghost use Rattle.transport.specs.Lines.{IsLine, IsNewLine, IsFoundExit, CanOpen, IsOpening};
 
 use crate::Firsts;
 use crate::orders::Order;
-use certificate::Offer;
+use certificate::{Offer, Offers};
 use std::alloc::{AllocError, Global};
 
 /// How many classes a new line has room for at most.
@@ -32,12 +31,11 @@ pub(crate) struct Line {
 
 impl Line {
     /// A row's offers in rising weight, none of them opened.
-    pub(crate) fn new(alloc: Global, offers: &[Offer], is_rising: bool) -> Result<Line, AllocError>
-        requires { IsTrue is_rising → AreRising offers.now }
+    pub(crate) fn new(alloc: Global, offers: &Offers) -> Result<Line, AllocError>
         ensures { IfOk result (IsNewLine offers.now) }
     {
-        let order = Order::new(alloc, offers, is_rising)?;
-        let arcs = Vec::with_capacity(alloc, offers.len().min(FIRST_ARCS))?;
+        let order = Order::new(alloc, offers)?;
+        let arcs = Vec::with_capacity(alloc, offers.as_slice().len().min(FIRST_ARCS))?;
         Ok(Line {
             order,
             opened: 0,

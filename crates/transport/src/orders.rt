@@ -1,8 +1,7 @@
-ghost use Rattle.std.specs.Prelude.{◌≡◌, ◌<◌, IsTrue, IfOk, length};
-ghost use Rattle.twins.specs.Rising.{AreRising};
+ghost use Rattle.std.specs.Prelude.{◌≡◌, ◌<◌, IfOk, length};
 ghost use Rattle.transport.specs.Orders.{bid_at, bids_in, AreAllBids, IsOrder};
 
-use certificate::Offer;
+use certificate::{Offer, Offers};
 use std::alloc::{AllocError, Global};
 
 /// An offer of a row by its weight.
@@ -22,14 +21,13 @@ pub(crate) enum Order {
 
 impl Order {
     /// The order of these offers. Where each weighs more than the one before it, no list is made.
-    pub(crate) fn new(alloc: Global, offers: &[Offer], is_rising: bool) -> Result<Order, AllocError>
-        requires { IsTrue is_rising → AreRising offers.now }
+    pub(crate) fn new(alloc: Global, offers: &Offers) -> Result<Order, AllocError>
         ensures { IfOk result (IsOrder offers.now) }
     {
-        if is_rising {
+        if offers.are_rising() {
             return Ok(Order::AsOffered);
         }
-        let mut bids = bids_of(alloc, offers)?;
+        let mut bids = bids_of(alloc, offers.as_slice())?;
         bids.sort_by_key(|bid| bid.weight)?;
         Ok(Order::ByWeight(bids))
     }

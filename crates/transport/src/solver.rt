@@ -4,7 +4,7 @@ ghost use Rattle.std.specs.FinSet as set;
 ghost use Rattle.certificate.specs.AreWithin.{AreRowsWithin};
 ghost use Rattle.certificate.specs.Limits.{rows_fit};
 ghost use Rattle.twins.specs.IsGrouping.{IsGrouping};
-ghost use Rattle.twins.specs.Surveys.{IsSurvey};
+ghost use Rattle.twins.specs.Kinds.{AreKinds};
 ghost use Rattle.transport.specs.Filled.{IsDone, IsStuck, IsFilled};
 ghost use Rattle.transport.specs.Firsts.{first_of};
 ghost use Rattle.transport.specs.Solved.{IsRight, IsDecided, AreTwinsDealt, ArePricesOfClasses, AreTurns, IsSolved};
@@ -19,8 +19,8 @@ use certificate::{
 use cpu_set::{CPU_LIMIT, IdSet};
 use std::alloc::{AllocError, Global};
 use twins::{
-    Classes, Survey, classes_prove_plans, closed_rows_are_short, deal, deals_of_twins_are_dealt,
-    group, prices_of, survey_of,
+    Classes, classes_prove_plans, closed_rows_are_short, deal, deals_of_twins_are_dealt, group,
+    kinds_of, prices_of,
 };
 
 /// A plan of the least cost with the values and prices that show it, or the rows of a shortage.
@@ -56,9 +56,9 @@ fn solved(alloc: Global, problem: &Problem) -> Result<Answer, AllocError>
 {
     what_is_within_the_limits();
     let rows = problem.rows.as_slice();
-    let survey = survey_of(alloc, rows)?;
-    let classes = group(alloc, problem, &survey)?;
-    match filled(alloc, rows, &survey, classes.sets.as_slice())? {
+    let kinds = kinds_of(alloc, rows)?;
+    let classes = group(alloc, problem, &kinds)?;
+    match filled(alloc, rows, &kinds, classes.sets.as_slice())? {
         Filled::Done { state, turns } => planned(alloc, problem, &classes, state, turns),
         Filled::Stuck {
             reached,
@@ -72,10 +72,10 @@ fn solved(alloc: Global, problem: &Problem) -> Result<Answer, AllocError>
 fn filled(
     alloc: Global,
     rows: &[Row],
-    survey: &Survey,
+    kinds: &[usize],
     classes: &[IdSet],
 ) -> Result<Filled, AllocError>
-    requires surveyed { IsSurvey rows.now survey.now }
+    requires kinds { AreKinds rows.now (length rows.now) kinds.now }
     requires fit { AreRowsWithin rows.now }
     requires grouping { IsGrouping rows.now classes.now }
     requires few { length classes.now ≤ CPU_LIMIT }
@@ -85,8 +85,7 @@ fn filled(
     let sizes = sizes_of(alloc, classes)?;
     let table = Table {
         rows,
-        kinds: survey.kinds.as_slice(),
-        rising: survey.rising.as_slice(),
+        kinds,
         firsts,
     };
     fill(alloc, &table, &sizes)

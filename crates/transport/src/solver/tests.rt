@@ -3,7 +3,7 @@ ghost use Rattle.certificate.specs.Limits.{rows_fit};
 
 use super::solve;
 use crate::Answer;
-use certificate::{CheckFault, Offer, Problem, Row, check_plan, check_shortage};
+use certificate::{CheckFault, Offer, Offers, Problem, Row, check_plan, check_shortage};
 use cpu_set::{CPU_LIMIT, IdSet};
 use std::alloc::{AllocError, Global};
 use std::test::Fail;
@@ -27,7 +27,7 @@ fn problem_of(alloc: Global, rows: &[Asked]) -> Result<Problem, AllocError> {
         rows: Vec::new(alloc),
     };
     for (demand, weighed) in rows {
-        let mut offers = Vec::new(alloc);
+        let mut offers = Offers::new(alloc);
         for (weight, first, last) in *weighed {
             offers.push(Offer {
                 weight: *weight,

@@ -9,7 +9,7 @@ use Rattle.transport.proofs.exits.find_exit.Goals.{After-as_slice}
 
 offers_are : (c : After-as_slice) → c.as_slice.result.now ≡ offers_of c.args.table.now.rows.now c.args.row
 offers_are c =
-    let one : c.as_slice.result.now ≡ c.index-table-row.result.offers = cc (ap (λ (r : RowView). r.offers) c.asked.view_is, c.as_slice.ensures.value) in
+    let one : c.as_slice.result.now ≡ c.index-table-row.result.offers = cc (ap (λ (r : RowView). r.offers) c.asked.view_is, c.as_slice.ensures) in
     one ∙ offers_read _ _ _ c.requires.row c.index-table-row.is
 
 pub find_exit-requires : goal.find_exit-requires

@@ -4,11 +4,11 @@ use Rattle.transport.specs.declared.orders.Bid.{Bid}
 use Rattle.transport.proofs.Bidding.{bids_sorted, order_as_offered, order_by_weight}
 use Rattle.transport.proofs.orders.Order.new.Goals as goal
 
-pub returns-then-is_rising : goal.returns-then-is_rising
-returns-then-is_rising c = order_as_offered _ (c.requires c.if-is_rising.true)
+pub returns-then-are_rising : goal.returns-then-are_rising
+returns-then-are_rising c = order_as_offered _ (c.are_rising.ensures c.if-are_rising.true)
 
 pub returns : goal.returns
-returns c =
-    order_by_weight _ _ (bids_sorted _ _ _ _ c.in_ok-bids.ensures.all c.in_ok-sort_by_key.ensures.permutation)
+returns c = rw (← c.as_slice.ensures)
+    (order_by_weight _ _ (bids_sorted _ _ _ _ c.in_ok-bids.ensures.all c.in_ok-sort_by_key.ensures.permutation)
     (length_permutation _ _ c.in_ok-sort_by_key.ensures.permutation ∙ c.in_ok-bids.ensures.long)
-    (IsNonDecreasingBy-from_sort_by_key (λ (b : Bid). b.weight) _ c.in_ok-sort_by_key.ensures.sorted (λ a r q k. search rules))
+    (IsNonDecreasingBy-from_sort_by_key (λ (b : Bid). b.weight) _ c.in_ok-sort_by_key.ensures.sorted (λ a r q k. search rules)))
