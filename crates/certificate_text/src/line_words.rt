@@ -14,7 +14,7 @@ use crate::id::read_id;
 use crate::list_word::read_cpus;
 use crate::offer::read_offers;
 use crate::word_pairs::{three, two};
-use certificate::{Price, Row};
+use certificate::{Offers, Price, Row};
 use cpu_set::IdSet;
 use faults::OrMemory;
 use std::alloc::Global;
@@ -38,7 +38,7 @@ pub fn read_row(alloc: Global, text: &[u8]) -> Result<Row, OrMemory<BadLine>>
         None => {
             let demand = read_u32(rest).ok_or(BadLine)?;
             let id = read_id(alloc, id)?;
-            let offers = Vec::new(alloc);
+            let offers = Offers::new(alloc);
             Ok(Row { id, demand, offers })
         }
     }

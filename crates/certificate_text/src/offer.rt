@@ -9,7 +9,7 @@ use crate::cut::cut;
 use crate::decimal::read_u32;
 use crate::list_word::read_cpus;
 use crate::word_pairs::two;
-use certificate::Offer;
+use certificate::{Offer, Offers};
 use faults::OrMemory;
 use std::alloc::Global;
 
@@ -25,11 +25,11 @@ fn read_offer(word: &[u8]) -> Option<Offer>
 }
 
 /// The offers that the words of the text spell, one each.
-pub fn read_offers(alloc: Global, text: &[u8]) -> Result<Vec<Offer>, OrMemory<BadLine>>
-    ensures ok { IfOk result (λ offers. AllZip IsOfferWord (words text.now) offers.items) }
+pub fn read_offers(alloc: Global, text: &[u8]) -> Result<Offers, OrMemory<BadLine>>
+    ensures ok { IfOk result (λ offers. AllZip IsOfferWord (words text.now) offers) }
     ensures bad { OnBad result ((os : List Offer) → AllZip IsOfferWord (words text.now) os → ⊥) }
 {
-    let mut offers = Vec::new(alloc);
+    let mut offers = Offers::new(alloc);
     let mut rest = text;
     while let Some((word, after)) = cut(rest, b' ') {
         let Some(offer) = read_offer(word) else {

@@ -6,4 +6,4 @@ use Rattle.rows.specs.Offers.{offers_of}
 
 -- they are those of the CPUs for the homes
 abbrev pub IsWeighed : Layout → Weighed → Type 0
-IsWeighed m w = w.offers.items ≡ offers_of m w.homes w.cpus
+IsWeighed m w = w.offers ≡ offers_of m w.homes w.cpus

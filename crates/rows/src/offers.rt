@@ -6,7 +6,7 @@ ghost use Rattle.machine.specs.Weight.{weight, AreHomes};
 ghost use Rattle.rows.specs.Nearest.{IsNearest, IsNearer, AreInReach};
 ghost use Rattle.rows.specs.Offers.{offers_of};
 
-use certificate::Offer;
+use certificate::{Offer, Offers};
 use cpu_set::IdSet;
 use machine::Machine;
 use std::alloc::{AllocError, Global};
@@ -17,12 +17,12 @@ pub(crate) fn offers_of(
     machine: &Machine,
     homes: &IdSet,
     cpus: &IdSet,
-) -> Result<Vec<Offer>, AllocError>
+) -> Result<Offers, AllocError>
     requires reach { AreInReach machine.now homes.now cpus.now }
     requires homes { AreHomes machine.now homes.now }
-    ensures { IfOk result (λ offers. offers.items ≡ offers_of machine.now homes.now cpus.now) }
+    ensures { IfOk result (λ offers. offers ≡ offers_of machine.now homes.now cpus.now) }
 {
-    let mut offers = Vec::new(alloc);
+    let mut offers = Offers::new(alloc);
     let mut left = *cpus;
     while let Some(offer) = nearest(machine, homes, &left) {
         left = left.minus(&offer.cpus);

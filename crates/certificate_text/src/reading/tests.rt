@@ -31,9 +31,10 @@ fn reads_a_certificate(rt: HostRuntime) -> Result<(), Fail> {
     let row = &problem.rows[1];
     assert_eq!(rt; row.id.as_str(), "b");
     assert_eq!(rt; row.demand, 1);
-    assert_eq!(rt; row.offers.len(), 2);
-    assert_eq!(rt; row.offers[1].weight, 50);
-    assert!(rt; row.offers[1].cpus.contains(2));
+    let offers = row.offers.as_slice();
+    assert_eq!(rt; offers.len(), 2);
+    assert_eq!(rt; offers[1].weight, 50);
+    assert!(rt; offers[1].cpus.contains(2));
     assert_eq!(rt; plan.sets.len(), 2);
     assert!(rt; plan.sets[0].contains(2));
     assert_eq!(rt; prices.values.as_slice(), [11, 13].as_slice());

@@ -63,7 +63,7 @@ fn row_text(
         return Ok(String::new(alloc));
     };
     let mut text = format!(in alloc; "{} {}", row.id.as_str(), row.demand)?;
-    for offer in &row.offers {
+    for offer in row.offers.as_slice() {
         let cpus = cpu_list::print(alloc, &offer.cpus)?;
         text.push_str(&format!(in alloc; " {}:{cpus}", offer.weight)?)?;
     }

@@ -19,7 +19,7 @@ loop-word-preserved c =
     let whole : words c.args.text.now ≡ (front ++ c.in-Some.word.now ∷ []) ++ words c.in-Some.after.now =
     c.loop-word.invariant.1 ∙ ap (λ ws. front ++ ws) c.in-Some.ensures.0 ∙ sym (append_assoc front (c.in-Some.word.now ∷ []) (words c.in-Some.after.now)) in
     let one : AllZip IsOfferWord (c.in-Some.word.now ∷ []) (offer ∷ []) = (c.in-Some-read_offer.ensures, tt) in
-    (front ++ c.in-Some.word.now ∷ [], whole, rw c.in_ok-push.ensures.items (zip_append IsOfferWord front (c.in-Some.word.now ∷ []) c.loop-word.offers.items (offer ∷ []) c.loop-word.invariant.2 one))
+    (front ++ c.in-Some.word.now ∷ [], whole, rw c.in_ok-push.ensures.ok (zip_append IsOfferWord front (c.in-Some.word.now ∷ []) c.loop-word.offers (offer ∷ []) c.loop-word.invariant.2 one))
 
 pub returns-in_default-read_offer-2-clause-bad : goal.returns-in_default-read_offer-2-clause-bad
 returns-in_default-read_offer-2-clause-bad c = λ _ bad os h.
@@ -36,4 +36,4 @@ returns-clause-ok c =
     let whole : words c.args.text.now ≡ front ++ c.loop-word.rest.now ∷ [] =
     c.loop-word.invariant.1 ∙ ap (λ ws. front ++ ws) c.in_default.ensures in
     let one : AllZip IsOfferWord (c.loop-word.rest.now ∷ []) (offer ∷ []) = (c.in-Some-read_offer-2.ensures, tt) in
-    rw (whole, c.in_ok-push-2.ensures.items) (zip_append IsOfferWord front (c.loop-word.rest.now ∷ []) c.loop-word.offers.items (offer ∷ []) c.loop-word.invariant.2 one)
+    rw (whole, c.in_ok-push-2.ensures.ok) (zip_append IsOfferWord front (c.loop-word.rest.now ∷ []) c.loop-word.offers (offer ∷ []) c.loop-word.invariant.2 one)

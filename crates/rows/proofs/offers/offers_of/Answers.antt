@@ -9,8 +9,8 @@ loop-offer-smaller c =
 
 pub loop-offer-preserved : goal.loop-offer-preserved
 loop-offer-preserved c =
-    peeled_more _ _ _ c.loop-offer.left c.loop-offer.offers.items c.loop-offer.invariant c.requires.reach c.in-Some.offer c.in-Some.ensures _ _
-    c.minus-left.ensures c.in_ok-push.ensures.items
+    peeled_more _ _ _ c.loop-offer.left c.loop-offer.offers c.loop-offer.invariant c.requires.reach c.in-Some.offer c.in-Some.ensures _ _
+    c.minus-left.ensures c.in_ok-push.ensures.ok
 
 pub returns : goal.returns
-returns c = peeled_end _ _ _ c.loop-offer.left c.loop-offer.offers.items c.loop-offer.invariant c.requires.reach c.in_default.ensures
+returns c = peeled_end _ _ _ c.loop-offer.left c.loop-offer.offers c.loop-offer.invariant c.requires.reach c.in_default.ensures
