@@ -24,8 +24,8 @@ pub told_more :
     → (still ≡ true → (is_rising ≡ true) × (least ≤ o.weight)) → AreTold (offers ++ o ∷ []) (set.union cpus o.cpus) still (o.weight + 1)
 told_more offers o cpus is_rising still least told rises = record {
   cpus = λ c.
-    contains-union cpus o.cpus c ∙ ap (λ b. b || set.contains o.cpus c) (told.cpus c ∙ is_some-weight_in offers c)
-    ∙ sym (one_more c) ∙ sym (is_some-weight_in (offers ++ o ∷ []) c);
+      contains-union cpus o.cpus c ∙ ap (λ b. b || set.contains o.cpus c) (told.cpus c ∙ is_some-weight_in offers c)
+      ∙ sym (one_more c) ∙ sym (is_some-weight_in (offers ++ o ∷ []) c);
   rising = λ on i j d before lt. elim (cases_lt j (length offers)) [
     | inl b ↦ rw (earlier i d (omega (arith, b, before)), earlier j d b) (told.rising (rises on).0 i j d before b)
     | inr a ↦ rw (earlier i d (omega (arith, lt, before, length_push offers o)), last j d (omega (arith, a, lt, length_push offers o)))

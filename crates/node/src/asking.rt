@@ -62,7 +62,7 @@ pub fn rows_in<K: Kernel>(
     ensures apart { IfOk result HaveOwnIds }
 {
     let online = kernel.online();
-    let mut rows = Vec::new(alloc);
+    let mut rows = Vec::with_capacity(alloc, containers.len())?;
     let mut known = Vec::new(alloc);
     for (id, container) in containers.iter() {
         if let Some(row) = row_in(alloc, kernel, machine, &online, id, container, &mut known)? {

@@ -75,7 +75,7 @@ fn entries_in<K: Kernel>(
 ) -> Result<Vec<Entry>, AllocError>
     ensures { IfOk result (λ entries. entries.items ≡ entries_in (K.state kernel.now) pool.now (all_seen containers.now.entries) sets.now) }
 {
-    let mut entries = Vec::new(alloc);
+    let mut entries = Vec::with_capacity(alloc, containers.len())?;
     let mut sets = sets.iter();
     for (_, container) in containers.iter() {
         if let Some(entry) = entry_of(kernel, container, &mut sets, pool) {
@@ -105,7 +105,7 @@ fn found_of<K: Kernel>(
     requires { ArePlaced (K.state kernel.now) entries.now }
     ensures { IfOk result (λ found. found.items ≡ map (held (K.state kernel.now)) entries.now) }
 {
-    let mut found = Vec::new(alloc);
+    let mut found = Vec::with_capacity(alloc, entries.len())?;
     for entry in entries {
         found.push(requested(kernel, entry.group))?;
     }
