@@ -1,4 +1,4 @@
-ghost use Rattle.std.specs.Prelude.{◌≡◌, ℕ, ◌++◌, [], ◌∷◌, IsTrue, IfOk, OnOk, OnErr, is_some};
+ghost use Rattle.std.specs.Prelude.{◌≡◌, ◌↔◌, ℕ, ◌++◌, [], ◌∷◌, IsTrue, IfOk, OnOk, OnErr, is_some};
 ghost use Rattle.std.specs.FinSet as set;
 ghost use Rattle.certificate.specs.Weight.{weight_in};
 ghost use Rattle.certificate.specs.RisingOffers.{AreRising};
@@ -14,7 +14,7 @@ pub struct Offers {
     items: Vec<Offer>,
     cpus: IdSet,
     is_rising: bool,
-    // Above the weights of all offers, where they rise.
+    // The least weight with which the next offer weighs more than the last.
     least: u64,
 }
 
@@ -90,7 +90,7 @@ impl Offers {
 
     /// Whether each offer weighs more than all before it.
     pub fn are_rising(&self) -> bool
-        ensures { IsTrue result → AreRising self.now }
+        ensures { IsTrue result ↔ AreRising self.now }
     {
         self.is_rising
     }

@@ -20,7 +20,7 @@ returns-then-are_rising c = rw (← c.as_slice-items.ensures) (λ q.
     ap (λ s. set.contains s q) c.meet.ensures ∙ contains-intersection _ _ q
     ∙ ap (λ b. set.contains c.args.among.now q && b)
     (rising_same _ _ _ q c.in-Some.ensures.within c.index-items-at.is (fit (goal.at.returns-then-are_rising c).In-Some)
-    (subst AreRising (sym c.as_slice-items.ensures) (c.are_rising.ensures c.if-are_rising.true))
+    (subst AreRising (sym c.as_slice-items.ensures) (c.are_rising.ensures.0 c.if-are_rising.true))
     ∙ ap (λ w. is_same_weight w (weight_in c.as_slice-items.result.now q)) (sym its)))
 
 pub returns-else-are_rising : goal.returns-else-are_rising

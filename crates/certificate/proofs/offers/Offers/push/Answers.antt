@@ -6,6 +6,6 @@ use Rattle.certificate.proofs.offers.Offers.push.Goals.{then-weight-self, else-w
 
 pub invariant_of-self-2 : goal.invariant_of-self-2
 invariant_of-self-2 c = elim c.if-weight-self.branch [
-  | then-weight-self w ↦ rw (c.union-self-inside.ensures, w.self-inside-is, c.in_ok-push.ensures.items, c.from-weight.ensures) (told_more _ _ _ _ _ _ c.self.invariant (λ on. absurd (false≢true on)))
-  | else-weight-self w ↦ rw (c.union-self-inside.ensures, w.self-inside-is, c.in_ok-push.ensures.items, c.from-weight.ensures) (told_more _ _ _ _ _ _ c.self.invariant (λ on. (on, omega (arith, w.if-weight-self.false, c.from-weight.ensures))))
+  | then-weight-self w ↦ rw (c.union-self-inside.ensures, w.self-inside-is, c.in_ok-push.ensures.items, c.from-weight.ensures) (told_more _ _ _ _ _ _ c.self.invariant (λ on. absurd (false≢true on)) (λ on over. absurd (omega (arith, over, w.if-weight-self.true, c.from-weight.ensures))))
+  | else-weight-self w ↦ rw (c.union-self-inside.ensures, w.self-inside-is, c.in_ok-push.ensures.items, c.from-weight.ensures) (told_more _ _ _ _ _ _ c.self.invariant (λ on. (on, omega (arith, w.if-weight-self.false, c.from-weight.ensures))) (λ on over. on))
 ]

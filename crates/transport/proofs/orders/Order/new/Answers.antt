@@ -5,7 +5,7 @@ use Rattle.transport.proofs.Bidding.{bids_sorted, order_as_offered, order_by_wei
 use Rattle.transport.proofs.orders.Order.new.Goals as goal
 
 pub returns-then-are_rising : goal.returns-then-are_rising
-returns-then-are_rising c = order_as_offered _ (c.are_rising.ensures c.if-are_rising.true)
+returns-then-are_rising c = order_as_offered _ (c.are_rising.ensures.0 c.if-are_rising.true)
 
 pub returns : goal.returns
 returns c = rw (← c.as_slice.ensures)
