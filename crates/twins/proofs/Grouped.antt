@@ -1,5 +1,5 @@
 -- Classes of twins: sets that all rows have split.
-use Rattle.std.proofs.Common.{◌≡◌, ℕ, ◌+◌, ◌<◌, Bool, true, false, cond, ◌||◌, is_some, List, [], ◌∷◌, ◌++◌, length, take, get_or, refl, sym, ap, subst, ◌∙◌, arith}
+use Rattle.std.proofs.Common.{◌≡◌, ℕ, ◌+◌, ◌<◌, Bool, true, false, cond, ◌||◌, is_some, List, [], ◌∷◌, ◌++◌, length, take, get_or, refl, sym, ap, subst, ◌∙◌, inl, inr, arith}
 use Rattle.std.specs.FinSet as set
 use Rattle.std.specs.List.{All}
 use Rattle.std.proofs.lemmas.List.{take_all, take_more}
@@ -55,28 +55,6 @@ all_in_one rows all in_range some offered = record {
   whole = λ a b in_a twins offered_b. offered b ∙ offered_b;
 }
 
--- it is all there is before any row
-pub unsplit_some :
-    (rows : List RowView) (all : Ids) (parts none : List Ids) → none ≡ [] → parts ≡ none ++ all ∷ [] → InRange all → 0 < set.len all → ((c : ℕ) → set.contains all c ≡ is_offered rows c)
-    → IsUnsplit rows parts
-unsplit_some rows all parts none none_is is in_range some offered = rw (is, none_is) (record {
-  parts = All-cons (IsPart rows 0) all [] (all_in_one rows all in_range some offered) (All-nil (IsPart rows 0));
-  once = λ c. sum_by-cons (λ (t : Ids). cond (set.contains t c) 1 0) all [] ∙ plus_none _ ∙ ap (λ b. cond {A = ℕ} b 1 0) (offered c);
-})
-  where
-    plus_none : (n : ℕ) → n + 0 ≡ n
-    plus_none n = omega arith
-
--- and there is nothing where no CPU has a weight
-pub unsplit_none : (rows : List RowView) (all : Ids) (parts : List Ids) → parts ≡ [] → set.len all ≡ 0 → ((c : ℕ) → set.contains all c ≡ is_offered rows c) → IsUnsplit rows parts
-unsplit_none rows all parts is none offered = rw is (record {
-  parts = All-nil (IsPart rows 0);
-  once = λ c. nothing (is_offered rows c) (sym (offered c) ∙ empty_contains all c none);
-})
-  where
-    nothing : (b : Bool) → b ≡ false → 0 ≡ cond {A = ℕ} b 1 0
-    nothing b e = ap (λ t. cond {A = ℕ} t 1 0) (sym e)
-
 -- one set more is split
 pub pieces_more :
     (rows : List RowView) (k i : ℕ) (sets : List Ids) (part : Ids) (alone parts_mid alone_mid parts_new alone_new : List Ids)
@@ -97,12 +75,29 @@ pub record Grouping (rows : List RowView) (k : ℕ) (parts alone : List Ids) : T
   pub lone : All (IsPart rows (length rows)) alone
   pub once : (c : ℕ) → times_in parts c + times_in alone c ≡ cond (is_offered rows c) 1 0
 
-pub grouping_start : (rows : List RowView) (parts : List Ids) → IsUnsplit rows parts → Grouping rows 0 parts []
-grouping_start rows parts unsplit = record {
-  open_parts = unsplit.parts;
-  lone = λ j d lt. absurd (omega arith);
-  once = λ c. omega (arith, unsplit.once c);
-}
+-- before any row: the CPUs with a weight are in one set, where there are any
+pub grouping_start :
+    (rows : List RowView) (all : Ids) (parts none : List Ids) → none ≡ [] → IsUnsplit all parts → ((c : ℕ) → set.contains all c ≡ is_offered rows c) → Grouping rows 0 parts none
+grouping_start rows all parts none none_is unsplit offered = rw none_is (by_cases unsplit)
+  where
+    nothing : (b : Bool) → b ≡ false → 0 + 0 ≡ cond {A = ℕ} b 1 0
+    nothing b e = ap (λ t. cond {A = ℕ} t 1 0) (sym e)
+
+    plus_none : (n : ℕ) → n + 0 + 0 ≡ n
+    plus_none n = omega arith
+
+    by_cases : IsUnsplit all parts → Grouping rows 0 parts []
+    by_cases (inl empty) = rw empty.1 (record {
+      open_parts = All-nil (IsPart rows 0);
+      lone = λ j d lt. absurd (omega arith);
+      once = λ c. nothing (is_offered rows c) (sym (offered c) ∙ empty_contains all c empty.0);
+    })
+    by_cases (inr some) = rw some.2 (record {
+      open_parts = All-cons (IsPart rows 0) all [] (all_in_one rows all some.1 some.0 offered) (All-nil (IsPart rows 0));
+      lone = λ j d lt. absurd (omega arith);
+      once = λ c.
+          ap (λ n. n + 0) (sum_by-cons (λ (t : Ids). cond (set.contains t c) 1 0) all []) ∙ plus_none _ ∙ ap (λ b. cond {A = ℕ} b 1 0) (offered c);
+    })
 
 pub grouping_more :
     (rows : List RowView) (k : ℕ) (parts alone parts_new alone_new : List Ids) → Grouping rows k parts alone

@@ -12,3 +12,4 @@ pub mod Paying
 pub mod Closing
 pub mod Few
 pub mod SameOffers
+pub mod Ends

@@ -30,19 +30,6 @@ empty_has_none s c none has =
 pub some_of_member : (s : Ids) (c : ℕ) → set.contains s c ≡ true → 0 < set.len s
 some_of_member s c has = elim (cases_eq (set.len s) 0) [ inl none ↦ absurd (empty_has_none s c none has) | inr some ↦ omega arith ]
 
--- of a set with one member each two are the same
-pub only_one : (s : Ids) (a b : ℕ) → set.len s ≡ 1 → set.contains s a ≡ true → set.contains s b ≡ true → a ≡ b
-only_one s a b one has_a has_b =
-    elim (cases_eq b a) [
-      | inl same ↦ sym same
-      | inr differ ↦
-          let left : set.len (set.remove s a) ≡ 0 =
-          set.len-remove nat_cmp_total s a ∙ ap (λ t. cond t (set.len s - 1) (set.len s)) has_a ∙ ap (λ n. n - 1) one in
-          let there : set.contains (set.remove s a) b ≡ true =
-          contains-remove s a b ∙ ap (λ t. not t && set.contains s b) (ne_eqb b a differ) ∙ has_b in
-          absurd (empty_has_none (set.remove s a) b left there)
-    ]
-
 -- as many members as there are CPUs in the set
 pub len_sum : (s : Ids) → InRange s → set.len s ≡ sum_by (λ c. cond (set.contains s c) 1 0) cpus
 len_sum s in_range = sym (length-members s in_range) ∙ length-filter (set.contains s) cpus

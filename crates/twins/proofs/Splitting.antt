@@ -1,21 +1,23 @@
 -- One set, split by the weights of a row.
-use Rattle.std.proofs.Common.{◌≡◌, ℕ, ◌+◌, ◌<◌, ◌≤◌, ◌==◌, Bool, true, false, cond, not, ◌&&◌, List, [], ◌∷◌, ◌++◌, length, take, get_or, refl, sym, ap, subst, ◌∙◌, arith}
+use Rattle.std.proofs.Common.{◌≡◌, ℕ, zero, suc, ◌+◌, ◌-◌, ◌<◌, ◌≤◌, Bool, true, false, cond, not, ◌&&◌, List, [], ◌∷◌, ◌++◌, length, take, get_or, refl, sym, ap, subst, ◌∙◌, inl, inr, arith}
 use Rattle.std.specs.FinSet as set
 use Rattle.std.specs.List.{All}
-use Rattle.std.proofs.lemmas.Bool.{true≢false, false≢true, eqb-true}
+use Rattle.std.proofs.lemmas.Bool.{cases_lt, true≢false, false≢true}
 use Rattle.std.proofs.lemmas.List.{length-take, take-take, get_or-take}
 use Rattle.std.proofs.lemmas.List.Sums.{sum_by_push}
 use Rattle.std.proofs.lemmas.List.Elements.{All-more, All-take, All-push}
 use Rattle.cpu_set.specs.Ids.{Ids, NoneFrom}
+use Rattle.cpu_set.specs.Members.{IsCpu, InRange}
 use Rattle.cpu_set.specs.Pointwise.{contains-intersection, contains-difference}
 use Rattle.certificate.specs.Tests.{and_left, and_right, both}
 use Rattle.certificate.specs.RowView.{RowView}
 use Rattle.certificate.specs.Weight.{weight}
 use Rattle.certificate.specs.IsDealt.{AreTwins}
 use Rattle.certificate.specs.IsShortage.{is_offered}
+use Rattle.twins.specs.Edges.{AreEdges, IsRun}
 use Rattle.twins.specs.IsPart.{is_same_weight, IsPart, IsSplit, IsPutTo, times_in}
 use Rattle.twins.proofs.Weights.{same_says, same_itself}
-use Rattle.twins.proofs.Sets.{some_of_member, only_one, len_split}
+use Rattle.twins.proofs.Sets.{some_of_member, len_split}
 use Rattle.twins.proofs.Times.{times_put}
 
 -- twins to some rows are twins to fewer
@@ -105,26 +107,51 @@ piece_is_part rows k cpu row part rest piece parts_old alone_old parts_new alone
       to_piece row cpu rest piece alike b (splitting.whole a b pa.0 twins offered) (pa.1 ∙ twins_at rows k a b row lt is twins);
 }
 
--- one CPU by itself is alike to all rows
-pub lone_is_part : (rows : List RowView) (k : ℕ) (s : Ids) → k ≤ length rows → IsPart rows k s → set.len s ≡ 1 → IsPart rows (length rows) s
-lone_is_part rows k s le part one = record {
+-- CPUs of one run are twins to all rows
+pub run_of_twins :
+    (rows : List RowView) (edges s : Ids) → AreEdges rows edges → IsRun edges s → InRange s
+    → (a b n : ℕ) → b ≡ a + n → set.contains s a ≡ true → set.contains s b ≡ true → AreTwins rows a b
+run_of_twins rows edges s are run in_range a b n far in_a in_b = subst (AreTwins rows a) (sym far) (up_to n (omega arith))
+  where
+    up_to : (m : ℕ) → m ≤ n → AreTwins rows a (a + m)
+    up_to zero le =
+        let none : a ≡ a + 0 = omega arith in
+        λ j d lt. ap (λ c. weight (get_or rows j d) c) none
+    up_to (suc m) le =
+        let fits : IsCpu b = in_range b in_b in
+        let next : AreTwins rows (a + m) (a + m + 1) = are (a + m) (omega (arith, fits, far, le)) (run a b (a + m + 1) in_a in_b (omega arith) (omega (arith, far, le))) in
+        let on : a + m + 1 ≡ a + suc m = omega arith in
+        let before : AreTwins rows a (a + m) = up_to m (omega arith) in
+        subst (AreTwins rows a) on (λ j d lt. before j d lt ∙ next j d lt)
+
+-- a part that is one run needs no more looks
+pub run_is_part :
+    (rows : List RowView) (k : ℕ) (edges s : Ids) → k ≤ length rows → AreEdges rows edges → IsPart rows k s → IsRun edges s → IsPart rows (length rows) s
+run_is_part rows k edges s le are part run = record {
   in_range = part.in_range;
   some = part.some;
-  alike = λ a b in_a in_b. subst (λ q. AreTwins (take (length rows) rows) a q) (only_one s a b one in_a in_b) (λ j d lt. refl);
+  alike = λ a b in_a in_b. elim (cases_lt a b) [
+    | inl below ↦ All-take (λ (row : RowView). weight row a ≡ weight row b) (length rows) rows (run_of_twins rows edges s are run part.in_range a b (b - a) (omega (arith, below)) in_a in_b)
+    | inr above ↦
+        let twins : AreTwins (take (length rows) rows) b a =
+        All-take (λ (row : RowView). weight row b ≡ weight row a) (length rows) rows (run_of_twins rows edges s are run part.in_range b a (a - b) (omega (arith, above)) in_b in_a) in
+        λ j d lt. sym (twins j d lt)
+  ];
   whole = λ a b in_a twins offered. part.whole a b in_a (twins_before rows k (length rows) a b le twins) offered;
 }
 
 put_parts :
-    (rows : List RowView) (k : ℕ) (piece : Ids) (parts : List Ids) (b : Bool) → All (IsPart rows k) parts → IsPart rows k piece
-    → All (IsPart rows k) (cond b parts (parts ++ piece ∷ []))
-put_parts rows k piece parts true all is_part = all
-put_parts rows k piece parts false all is_part = All-push (IsPart rows k) parts piece all is_part
+    (rows : List RowView) (k : ℕ) (edges piece : Ids) (parts alone parts_new alone_new : List Ids) → IsPutTo edges piece parts alone parts_new alone_new
+    → All (IsPart rows k) parts → IsPart rows k piece → All (IsPart rows k) parts_new
+put_parts rows k edges piece parts alone parts_new alone_new (inl more) all is_part = rw more.0 (All-push (IsPart rows k) parts piece all is_part)
+put_parts rows k edges piece parts alone parts_new alone_new (inr lone) all is_part = rw lone.0 all
 
 put_lone :
-    (rows : List RowView) (k : ℕ) (piece : Ids) (alone : List Ids) (b : Bool) → (set.len piece == 1) ≡ b → k ≤ length rows
-    → All (IsPart rows (length rows)) alone → IsPart rows k piece → All (IsPart rows (length rows)) (cond b (alone ++ piece ∷ []) alone)
-put_lone rows k piece alone true one le all is_part = All-push (IsPart rows (length rows)) alone piece all (lone_is_part rows k piece le is_part (eqb-true _ _ one))
-put_lone rows k piece alone false one le all is_part = all
+    (rows : List RowView) (k : ℕ) (edges piece : Ids) (parts alone parts_new alone_new : List Ids) → IsPutTo edges piece parts alone parts_new alone_new
+    → k ≤ length rows → AreEdges rows edges → All (IsPart rows (length rows)) alone → IsPart rows k piece → All (IsPart rows (length rows)) alone_new
+put_lone rows k edges piece parts alone parts_new alone_new (inl more) le are all is_part = rw more.1 all
+put_lone rows k edges piece parts alone parts_new alone_new (inr lone) le are all is_part =
+    rw lone.1 (All-push (IsPart rows (length rows)) alone piece all (run_is_part rows k edges piece le are is_part lone.2))
 
 one_of_both : (p r s : Bool) → (p ≡ true → r ≡ true) → s ≡ (r && not p) → cond r 1 0 ≡ cond p 1 0 + cond s 1 0
 one_of_both true true s within e = rw e (omega arith)
@@ -144,11 +171,11 @@ less_left rows k cpu row part rest piece rest_new parts_old alone_old parts_new 
 
 -- one piece more is split off
 pub splitting_more :
-    (rows : List RowView) (k cpu : ℕ) (row : RowView) (part rest piece rest_new : Ids) (parts_old alone_old parts alone parts_new alone_new : List Ids)
-    → k < length rows → row ≡ get_or rows k row → IsPart rows k part → Splitting rows (k + 1) part rest parts_old alone_old parts alone
-    → set.contains rest cpu ≡ true → IsAlike row cpu rest piece → IsPutTo piece parts alone parts_new alone_new → rest_new ≡ set.difference rest piece
+    (rows : List RowView) (k cpu : ℕ) (row : RowView) (edges part rest piece rest_new : Ids) (parts_old alone_old parts alone parts_new alone_new : List Ids)
+    → k < length rows → row ≡ get_or rows k row → AreEdges rows edges → IsPart rows k part → Splitting rows (k + 1) part rest parts_old alone_old parts alone
+    → set.contains rest cpu ≡ true → IsAlike row cpu rest piece → IsPutTo edges piece parts alone parts_new alone_new → rest_new ≡ set.difference rest piece
     → Splitting rows (k + 1) part rest_new parts_old alone_old parts_new alone_new
-splitting_more rows k cpu row part rest piece rest_new parts_old alone_old parts alone parts_new alone_new lt is is_part splitting has alike put left =
+splitting_more rows k cpu row edges part rest piece rest_new parts_old alone_old parts alone parts_new alone_new lt is are is_part splitting has alike put left =
     let piece_part : IsPart rows (k + 1) piece =
     piece_is_part rows k cpu row part rest piece parts_old alone_old parts alone lt is is_part splitting has alike in
     let minus : (c : ℕ) → set.contains rest_new c ≡ (set.contains rest c && not (set.contains piece c)) =
@@ -162,13 +189,13 @@ splitting_more rows k cpu row part rest piece rest_new parts_old alone_old parts
           (not_is _ (λ in_piece_b.
           true≢false (sym (to_piece row cpu rest piece alike a in_rest
           ((in_piece row cpu rest piece alike b in_piece_b).1 ∙ sym (twins_at rows k a b row lt is twins))) ∙ not_in)));
-      parts = rw put.parts (put_parts rows (k + 1) piece parts (set.len piece == 1) splitting.parts piece_part);
-      lone = rw put.lone (put_lone rows (k + 1) piece alone (set.len piece == 1) refl (omega arith) splitting.lone piece_part);
+      parts = put_parts rows (k + 1) edges piece parts alone parts_new alone_new put splitting.parts piece_part;
+      lone = put_lone rows (k + 1) edges piece parts alone parts_new alone_new put (omega arith) are splitting.lone piece_part;
       same = λ c.
           omega (
             arith,
             splitting.same c,
-            times_put piece parts alone parts_new alone_new put c,
+            times_put edges piece parts alone parts_new alone_new put c,
             one_of_both (set.contains piece c) (set.contains rest c) (set.contains rest_new c) (λ here. (in_piece row cpu rest piece alike c here).0) (minus c),
           );
     }

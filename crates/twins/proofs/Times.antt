@@ -1,5 +1,5 @@
 -- How often sets have a CPU.
-use Rattle.std.proofs.Common.{◌≡◌, ℕ, zero, suc, ◌+◌, ◌<◌, ◌≤◌, ◌==◌, Bool, true, false, cond, ◌||◌, List, [], ◌∷◌, ◌++◌, length, get_or, refl, sym, ap, ◌∙◌, arith}
+use Rattle.std.proofs.Common.{◌≡◌, ℕ, zero, suc, ◌+◌, ◌<◌, ◌≤◌, ◌==◌, Bool, true, false, cond, ◌||◌, List, [], ◌∷◌, ◌++◌, length, get_or, refl, sym, ap, ◌∙◌, inl, inr, arith}
 use Rattle.std.specs.FinSet as set
 use Rattle.std.specs.List.{AllPairs}
 use Rattle.std.proofs.lemmas.List.Sums.{sum_by-cons, sum_by_push}
@@ -57,12 +57,9 @@ in_times sets c k d lt has false once = absurd (omega (arith, at_least_once sets
 
 -- a set that is put to either list is there once more
 pub times_put :
-    (piece : Ids) (parts alone parts_new alone_new : List Ids) → IsPutTo piece parts alone parts_new alone_new
+    (edges piece : Ids) (parts alone parts_new alone_new : List Ids) → IsPutTo edges piece parts alone parts_new alone_new
     → (c : ℕ) → times_in parts_new c + times_in alone_new c ≡ times_in parts c + times_in alone c + cond (set.contains piece c) 1 0
-times_put piece parts alone parts_new alone_new put c = rw (put.parts, put.lone) (by_cases (set.len piece == 1))
-  where
-    by_cases :
-        (b : Bool) → times_in (cond b parts (parts ++ piece ∷ [])) c + times_in (cond b (alone ++ piece ∷ []) alone) c
-        ≡ times_in parts c + times_in alone c + cond (set.contains piece c) 1 0
-    by_cases true = omega (arith, sum_by_push (λ (t : Ids). cond (set.contains t c) 1 0) alone piece)
-    by_cases false = omega (arith, sum_by_push (λ (t : Ids). cond (set.contains t c) 1 0) parts piece)
+times_put edges piece parts alone parts_new alone_new (inl more) c =
+    rw (more.0, more.1) (omega (arith, sum_by_push (λ (t : Ids). cond (set.contains t c) 1 0) parts piece))
+times_put edges piece parts alone parts_new alone_new (inr lone) c =
+    rw (lone.0, lone.1) (omega (arith, sum_by_push (λ (t : Ids). cond (set.contains t c) 1 0) alone piece))

@@ -1,5 +1,5 @@
 -- Sets of CPUs on the way to classes of twins: CPUs that the first rows do not tell apart.
-use Rattle.std.specs.Prelude.{◌≡◌, ℕ, ◌+◌, ◌<◌, ◌==◌, Bool, true, false, cond, if◌then◌else◌, Option, Some, None, List, [], ◌∷◌, ◌++◌, All, take, length, slice_index_or, sum_by}
+use Rattle.std.specs.Prelude.{◌≡◌, ℕ, ◌+◌, ◌<◌, ◌==◌, Bool, true, false, cond, ◌⊎◌, Option, Some, None, List, [], ◌∷◌, ◌++◌, All, take, length, slice_index_or, sum_by}
 use Rattle.std.specs.FinSet as set
 use Rattle.cpu_set.specs.Ids.{Ids}
 use Rattle.cpu_set.specs.Members.{InRange}
@@ -7,6 +7,7 @@ use Rattle.certificate.specs.RowView.{RowView}
 use Rattle.certificate.specs.declared.rows.Offer.{Offer}
 use Rattle.certificate.specs.IsDealt.{AreTwins}
 use Rattle.certificate.specs.IsShortage.{is_offered}
+use Rattle.twins.specs.Edges.{IsRun}
 
 -- both are the same weight, or both are none
 abbrev pub is_same_weight : Option ℕ → Option ℕ → Bool
@@ -31,10 +32,9 @@ pub record IsPart (rows : List RowView) (k : ℕ) (s : Ids) : Type 0 where
 abbrev pub times_in : List Ids → ℕ → ℕ
 times_in sets cpu = sum_by (λ s. cond (set.contains s cpu) 1 0) sets
 
--- before any row: the CPUs with a weight are in one set, where there are any
-pub record IsUnsplit (rows : List RowView) (sets : List Ids) : Type 0 where
-  pub parts : All (IsPart rows 0) sets
-  pub once : (cpu : ℕ) → times_in sets cpu ≡ cond (is_offered rows cpu) 1 0
+-- no set where there is no CPU, and else the one set
+abbrev pub IsUnsplit : Ids → List Ids → Type 0
+IsUnsplit all sets = ((set.len all ≡ 0) × (sets ≡ [])) ⊎ ((0 < set.len all) × InRange all × (sets ≡ all ∷ []))
 
 -- sets that the first k rows do not tell apart, some of them alone by all rows, have the CPUs of other sets, each as often
 pub record ArePieces (rows : List RowView) (k : ℕ) (sets alone parts_new alone_new : List Ids) : Type 0 where
@@ -48,7 +48,8 @@ pub record IsSplit (rows : List RowView) (k : ℕ) (part : Ids) (parts_old alone
   pub lone : All (IsPart rows (length rows)) alone_new
   pub same : (cpu : ℕ) → times_in parts_new cpu + times_in alone_new cpu ≡ times_in parts_old cpu + times_in alone_old cpu + cond (set.contains part cpu) 1 0
 
--- the set is added to the second list if it has one CPU, else to the first
-pub record IsPutTo (piece : Ids) (parts_old alone_old parts_new alone_new : List Ids) : Type 0 where
-  pub parts : parts_new ≡ (if set.len piece == 1 then parts_old else parts_old ++ piece ∷ [])
-  pub lone : alone_new ≡ (if set.len piece == 1 then alone_old ++ piece ∷ [] else alone_old)
+-- the set is added to the first list, or to the second, and then it is a run
+abbrev pub IsPutTo : Ids → Ids → List Ids → List Ids → List Ids → List Ids → Type 0
+IsPutTo edges piece parts_old alone_old parts_new alone_new =
+    ((parts_new ≡ parts_old ++ piece ∷ []) × (alone_new ≡ alone_old))
+    ⊎ ((parts_new ≡ parts_old) × (alone_new ≡ alone_old ++ piece ∷ []) × IsRun edges piece)

@@ -7,3 +7,4 @@ pub mod IsPart
 pub mod IsPriced
 pub mod IsClosed
 pub mod Kinds
+pub mod Edges

@@ -21,7 +21,16 @@ pub(crate) fn note_places(offers: &[Offer], hints: &mut [usize]) {
 }
 
 /// The place of an offer that has the CPU. The offer at the hint is looked at first.
-fn place_of(offers: &[Offer], hints: &[usize], cpu: u16) -> Option<usize>
+fn place_of(offers: &Offers, hints: &[usize], cpu: u16) -> Option<usize>
+    ensures { MatchOption result (weight_in offers.now cpu ≡ None) (HasAt offers.now cpu) }
+{
+    if !offers.cpus().contains(cpu) {
+        return None;
+    }
+    place_among(offers.as_slice(), hints, cpu)
+}
+
+fn place_among(offers: &[Offer], hints: &[usize], cpu: u16) -> Option<usize>
     ensures { MatchOption result (weight_in offers.now cpu ≡ None) (HasAt offers.now cpu) }
 {
     let hint = match hints.get(cpu as usize) {
@@ -59,10 +68,10 @@ pub(crate) fn alike(offers: &Offers, hints: &[usize], cpu: u16, among: &IdSet) -
     ensures { (q : ℕ) → set.contains result q
         ≡ (set.contains among.now q && is_same_weight (weight_in offers.now cpu) (weight_in offers.now q)) }
 {
-    let items = offers.as_slice();
-    let Some(at) = place_of(items, hints, cpu) else {
+    let Some(at) = place_of(offers, hints, cpu) else {
         return among.minus(offers.cpus());
     };
+    let items = offers.as_slice();
     let offer = &items[at];
     if offers.are_rising() {
         among.meet(&offer.cpus)
@@ -72,7 +81,7 @@ pub(crate) fn alike(offers: &Offers, hints: &[usize], cpu: u16, among: &IdSet) -
 }
 
 /// Whether some CPUs are all in an offer that has the lowest of them, so that they have one weight.
-pub(crate) fn are_in_one(offers: &[Offer], hints: &[usize], cpus: &IdSet) -> bool
+pub(crate) fn are_in_one(offers: &Offers, hints: &[usize], cpus: &IdSet) -> bool
     requires { IsTrue (offers_fit offers.now) }
     ensures { IsTrue result → (a b : ℕ) → set.contains cpus.now a ≡ true → set.contains cpus.now b ≡ true → weight_in offers.now a ≡ weight_in offers.now b }
 {
@@ -82,7 +91,8 @@ pub(crate) fn are_in_one(offers: &[Offer], hints: &[usize], cpus: &IdSet) -> boo
     let Some(at) = place_of(offers, hints, cpu) else {
         return false;
     };
-    let offer = &offers[at];
+    let items = offers.as_slice();
+    let offer = &items[at];
     cpus.is_subset(&offer.cpus)
 }
 

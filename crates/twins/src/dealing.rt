@@ -1,5 +1,5 @@
 //! The CPUs of classes, dealt to rows.
-ghost use Rattle.std.specs.Prelude.{◌≡◌, ℕ, ◌<◌, ◌≤◌, true, IfOk, All, AllPairs, length};
+ghost use Rattle.std.specs.Prelude.{◌≡◌, ℕ, ◌<◌, ◌≤◌, true, IfOk, OnOk, All, AllPairs, length};
 ghost use Rattle.std.specs.List.Sorted.{IsPermutation, IsNonDecreasingBy};
 ghost use Rattle.std.specs.FinSet as set;
 ghost use Rattle.cpu_set.specs.Ids.{IsDisjoint};
@@ -16,7 +16,7 @@ use std::alloc::{AllocError, Global};
 /// A set for each row: of each class as many CPUs as the row holds, the lowest to the first row that
 /// holds some.
 ///
-/// The shares of a class are sorted once: O(h log h) steps for h of them, and one for each CPU dealt.
+/// Two or more shares of a class are sorted once: O(h log h) steps for h of them, and one for each CPU dealt.
 pub fn deal(
     alloc: Global,
     rows: usize,
@@ -52,10 +52,31 @@ fn deal_sets(
     for g in 0..classes.len() {
         let class = &classes[g];
         let holders = &holdings[g];
-        let shares = in_row_order(alloc, holders.shares.as_slice())?;
-        deal_class(class, shares.as_slice(), sets.as_mut_slice());
+        deal_class(alloc, class, holders.shares.as_slice(), sets.as_mut_slice())?;
     }
     Ok(sets)
+}
+
+/// The CPUs of one class, dealt to its holders.
+fn deal_class(
+    alloc: Global,
+    class: &IdSet,
+    shares: &[Share],
+    sets: &mut [IdSet],
+) -> Result<(), AllocError>
+    requires in_range { InRange class.now }
+    requires rows { All (λ share. share.row < length sets.old) shares.now }
+    requires room { shared_out shares.now ≤ set.len class.now }
+    requires free { (k cpu : ℕ) → set.contains class.now cpu ≡ true → Holds sets.old k cpu → ⊥ }
+    ensures { OnOk result (IsClassDeal class.now shares.now sets.old sets.new) }
+{
+    if shares.len() < 2 {
+        deal_in_order(class, shares, sets);
+        return Ok(());
+    }
+    let sorted = in_row_order(alloc, shares)?;
+    deal_in_order(class, sorted.as_slice(), sets);
+    Ok(())
 }
 
 /// The shares, those of earlier rows first.
@@ -69,7 +90,7 @@ fn in_row_order(alloc: Global, shares: &[Share]) -> Result<Vec<Share>, AllocErro
 }
 
 /// The CPUs of one class, dealt to its holders, whose shares stand in the rows' order.
-fn deal_class(class: &IdSet, shares: &[Share], sets: &mut [IdSet])
+fn deal_in_order(class: &IdSet, shares: &[Share], sets: &mut [IdSet])
     requires in_range { InRange class.now }
     requires rows { All (λ share. share.row < length sets.old) shares.now }
     requires rising { IsNonDecreasingBy (λ share. share.row) shares.now }

@@ -6,18 +6,20 @@ ghost use Rattle.certificate.specs.Limits.{row_fits};
 ghost use Rattle.certificate.specs.IsShortage.{is_offered};
 ghost use Rattle.twins.specs.IsGrouping.{IsGrouping};
 ghost use Rattle.twins.specs.Kinds.{AreKinds};
+ghost use Rattle.twins.specs.Edges.{AreEdges};
 ghost use Rattle.twins.specs.IsPart.{IsPart, IsUnsplit, ArePieces, IsSplit, IsPutTo};
 
 use crate::Classes;
 use crate::alike::{alike, are_in_one, note_places};
+use crate::edges::{are_in_one_run, edges_of};
 use certificate::{Problem, Row};
 use cpu_set::{CPU_LIMIT, IdSet};
 use std::alloc::{AllocError, Global};
 
 /// The CPUs with a weight in some row, in classes of twins. A CPU with none is in no class.
 ///
-/// Each row splits the sets that are left of the rows before it; one CPU by itself needs no more looks. A row
-/// of the kind of an earlier one splits none.
+/// Each row splits the sets that are left of the rows before it; a set that is one run of twins needs no more
+/// looks. A row of the kind of an earlier one splits none.
 pub fn group(alloc: Global, problem: &Problem, kinds: &[usize]) -> Result<Classes, AllocError>
     requires fit { IsTrue (list_all row_fits problem.now) }
     requires kinds { AreKinds problem.now (length problem.now) kinds.now }
@@ -33,12 +35,15 @@ fn grouped(alloc: Global, rows: &[Row], kinds: &[usize]) -> Result<Vec<IdSet>, A
     requires kinds { AreKinds rows.now (length rows.now) kinds.now }
     ensures { IfOk result (λ sets. IsGrouping rows.now sets.items) }
 {
-    let mut alone = Vec::new(alloc);
-    let mut parts = unsplit(alloc, rows)?;
+    let offered = offered_cpus(rows);
+    let edges = edges_of(rows, kinds, &offered);
+    let runs = edges.meet(&offered).count();
+    let mut alone = Vec::with_capacity(alloc, runs as usize)?;
+    let mut parts = unsplit(alloc, &offered)?;
     let mut hints = vec![in alloc; 0usize; CPU_LIMIT as usize]?;
     for k in 0..rows.len() {
         if kinds[k] == k {
-            parts = split_all(alloc, rows, k, &parts, &mut hints, &mut alone)?;
+            parts = split_all(alloc, rows, k, &parts, &mut hints, &edges, &mut alone)?;
         }
     }
     for part in &parts {
@@ -47,16 +52,15 @@ fn grouped(alloc: Global, rows: &[Row], kinds: &[usize]) -> Result<Vec<IdSet>, A
     Ok(alone)
 }
 
-/// All CPUs with a weight, as one set where there are any.
-fn unsplit(alloc: Global, rows: &[Row]) -> Result<Vec<IdSet>, AllocError>
-    ensures { IfOk result (λ parts. IsUnsplit rows.now parts.items) }
+/// The one set in a list, or no set where it is empty.
+fn unsplit(alloc: Global, all: &IdSet) -> Result<Vec<IdSet>, AllocError>
+    ensures { IfOk result (λ parts. IsUnsplit all.now parts.items) }
 {
     let mut parts = Vec::new(alloc);
-    let all = offered_cpus(rows);
     if all.count() == 0 {
         return Ok(parts);
     }
-    parts.push(all)?;
+    parts.push(*all)?;
     Ok(parts)
 }
 
@@ -78,10 +82,12 @@ fn split_all(
     k: usize,
     sets: &[IdSet],
     hints: &mut [usize],
+    edges: &IdSet,
     alone: &mut Vec<IdSet>,
 ) -> Result<Vec<IdSet>, AllocError>
     requires fit { IsTrue (list_all row_fits rows.now) }
     requires there { k < length rows.now }
+    requires edges { AreEdges rows.now edges.now }
     requires sets { All (IsPart rows.now k) sets.now }
     requires alone { All (IsPart rows.now (length rows.now)) alone.old.items }
     ensures { IfOk result (λ parts. ArePieces rows.now (k + 1) sets.now alone.old.items parts.items alone.new.items) }
@@ -94,7 +100,7 @@ fn split_all(
     note_places(offers, hints);
     let mut parts = Vec::with_capacity(alloc, sets.len() + offers.len())?;
     for part in sets {
-        split(rows, k, hints, part, &mut parts, alone)?;
+        split(rows, k, hints, edges, part, &mut parts, alone)?;
     }
     Ok(parts)
 }
@@ -104,12 +110,14 @@ fn split(
     rows: &[Row],
     k: usize,
     hints: &[usize],
+    edges: &IdSet,
     part: &IdSet,
     parts: &mut Vec<IdSet>,
     alone: &mut Vec<IdSet>,
 ) -> Result<(), AllocError>
     requires fit { IsTrue (list_all row_fits rows.now) }
     requires there { k < length rows.now }
+    requires edges { AreEdges rows.now edges.now }
     requires part { IsPart rows.now k part.now }
     requires parts { All (IsPart rows.now (k + 1)) parts.old.items }
     requires alone { All (IsPart rows.now (length rows.now)) alone.old.items }
@@ -117,24 +125,29 @@ fn split(
 {
     let row = &rows[k];
     let offers = &row.offers;
-    if are_in_one(offers.as_slice(), hints, part) {
+    if are_in_one(offers, hints, part) {
         parts.push(*part)?;
         return Ok(());
     }
     let mut rest = *part;
     while let Some(cpu) = rest.first() {
         let piece = alike(offers, hints, cpu, &rest);
-        put(piece, parts, alone)?;
+        put(piece, edges, parts, alone)?;
         rest = rest.minus(&piece);
     }
     Ok(())
 }
 
-/// Adds a set to those that may be split, or to those of one CPU.
-fn put(piece: IdSet, parts: &mut Vec<IdSet>, alone: &mut Vec<IdSet>) -> Result<(), AllocError>
-    ensures { OnOk result (IsPutTo piece parts.old.items alone.old.items parts.new.items alone.new.items) }
+/// Adds a set to those that may be split, or to those of one run.
+fn put(
+    piece: IdSet,
+    edges: &IdSet,
+    parts: &mut Vec<IdSet>,
+    alone: &mut Vec<IdSet>,
+) -> Result<(), AllocError>
+    ensures { OnOk result (IsPutTo edges.now piece parts.old.items alone.old.items parts.new.items alone.new.items) }
 {
-    if piece.count() == 1 {
+    if are_in_one_run(&piece, edges) {
         alone.push(piece)?;
     } else {
         parts.push(piece)?;

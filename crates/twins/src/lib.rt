@@ -9,6 +9,7 @@
 mod alike;
 mod classes;
 mod dealing;
+mod edges;
 mod grouping;
 mod holders;
 mod kinds;

@@ -1,19 +1,21 @@
-use Rattle.std.proofs.Common.{sym, ap, ◌∙◌, arith, take_all}
-use Rattle.std.specs.FinSet as set
-use Rattle.twins.proofs.Deals.{no_share, share_left, dealing_start, dealing_step, dealing_end}
+use Rattle.std.proofs.Common.{◌<◌, length, arith}
+use Rattle.std.specs.List.Sorted.{IsPermutation}
+use Rattle.std.proofs.lemmas.List.Sorted.{All-permutation, sum_by-IsPermutation}
+use Rattle.twins.specs.declared.holders.Share.{Share}
+use Rattle.twins.proofs.Deals.{dealt_as}
 use Rattle.twins.proofs.dealing.deal_class.Goals as goal
+use Rattle.twins.proofs.dealing.deal_class.Goals.{After-as_slice}
 
-pub loop-share-init : goal.loop-share-init
-loop-share-init c = dealing_start c.args.class.now c.args.shares.now c.args.sets.now c.requires.free
+same : (c : After-as_slice) → IsPermutation c.args.shares.now c.as_slice.result.now
+same c = rw c.as_slice.ensures.value c.in_ok-sorted.ensures.same
 
-pub take_lowest-dealt-requires : goal.take_lowest-dealt-requires
-take_lowest-dealt-requires c = share_left _ _ _ _ _ _ _ c.loop-share.invariant c.loop-share-test.true c.requires.room
+pub deal_in_order-requires-2-clause-rows : goal.deal_in_order-requires-2-clause-rows
+deal_in_order-requires-2-clause-rows c =
+    All-permutation (λ (s : Share). s.row < length c.args.sets.now) _ _ (same (goal.at.deal_in_order-requires-2-clause-rows c).After-as_slice) c.requires.rows
 
-pub loop-share-preserved : goal.loop-share-preserved
-loop-share-preserved c =
-    dealing_step c.args.class.now c.args.shares.now _ _ _ _ _ _ _ _ c.requires.in_range c.loop-share.invariant c.requires.rising c.loop-share-test.true
-    (omega (arith, c.requires.rows c.loop-share.share-index no_share c.loop-share-test.true, c.loop-share.auto.sets)) c.take_lowest-dealt.ensures c.index-sets-share.is
-    (c.union.ensures ∙ ap (λ s. set.union s c.take_lowest-dealt.result) (sym c.index-sets-share.is))
+pub deal_in_order-requires-2-clause-room : goal.deal_in_order-requires-2-clause-room
+deal_in_order-requires-2-clause-room c =
+    omega (arith, c.requires.room, sum_by-IsPermutation (λ (s : Share). s.amount) _ _ (same (goal.at.deal_in_order-requires-2-clause-room c).After-as_slice))
 
 pub returns : goal.returns
-returns c = dealing_end _ _ _ _ _ _ _ c.loop-share.invariant (take_all _ _ c.loop-share-test.false)
+returns c = dealt_as _ _ _ _ _ (same (goal.at.returns c).After-as_slice) c.deal_in_order-2.ensures

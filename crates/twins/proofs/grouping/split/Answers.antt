@@ -8,29 +8,26 @@ use Rattle.certificate.specs.declared.rows.Offer.{Offer}
 use Rattle.twins.specs.IsPart.{is_same_weight}
 use Rattle.twins.proofs.Splitting.{IsAlike, splitting_start, splitting_more, splitting_end, less_left, unsplit}
 use Rattle.twins.proofs.grouping.split.Goals as goal
-use Rattle.twins.proofs.grouping.split.Goals.{After-as_slice}
+use Rattle.twins.proofs.grouping.split.Goals.{After-row}
 
 pub loop-cpu-init : goal.loop-cpu-init
 loop-cpu-init c = splitting_start _ _ _ _ _ c.requires.part c.requires.parts c.requires.alone
 
-offers_are : (c : After-as_slice) → c.as_slice.result.now ≡ c.index-rows-k.result.offers
-offers_are c = c.as_slice.ensures ∙ ap (λ (row : RowView). row.offers) c.row.view_is
-
-fit : (c : After-as_slice) → offers_fit c.index-rows-k.result.offers ≡ true
+fit : (c : After-row) → offers_fit c.index-rows-k.result.offers ≡ true
 fit c =
     row_offers_fit c.index-rows-k.result (passes_at row_fits c.args.rows.now c.args.k c.index-rows-k.result c.requires.fit c.requires.there c.index-rows-k.is)
 
 pub are_in_one-requires : goal.are_in_one-requires
 are_in_one-requires c =
-    let here = (goal.at.are_in_one-requires c).After-as_slice in
-    subst (λ (o : List Offer). offers_fit o ≡ true) (sym (offers_are here)) (fit here)
+    let here = (goal.at.are_in_one-requires c).After-row in
+    subst (λ (o : List Offer). offers_fit o ≡ true) (sym (ap (λ (row : RowView). row.offers) c.row.view_is)) (fit here)
 
 pub returns-then-are_in_one : goal.returns-then-are_in_one
 returns-then-are_in_one c =
     unsplit c.args.rows.now c.args.k c.index-rows-k.result c.args.part.now _ _ _ c.requires.there c.index-rows-k.is c.requires.part c.requires.parts c.requires.alone
     (subst
     (λ (o : List Offer). (a b : ℕ) → set.contains c.args.part.now a ≡ true → set.contains c.args.part.now b ≡ true → weight_in o a ≡ weight_in o b)
-    (offers_are (goal.at.returns-then-are_in_one c).After-as_slice) (c.are_in_one.ensures c.if-are_in_one.true))
+    (ap (λ (row : RowView). row.offers) c.row.view_is) (c.are_in_one.ensures c.if-are_in_one.true))
     c.in_ok-push.ensures.items
 
 alike : (c : goal.After-minus-rest) → IsAlike c.index-rows-k.result c.in-Some.cpu c.loop-cpu.rest c.alike-piece.result
@@ -39,12 +36,12 @@ alike c =
 
 pub alike-piece-requires : goal.alike-piece-requires
 alike-piece-requires c =
-    subst (λ (o : List Offer). offers_fit o ≡ true) (sym (ap (λ (row : RowView). row.offers) c.row.view_is)) (fit (goal.at.alike-piece-requires c).After-as_slice)
+    subst (λ (o : List Offer). offers_fit o ≡ true) (sym (ap (λ (row : RowView). row.offers) c.row.view_is)) (fit (goal.at.alike-piece-requires c).After-row)
 
 pub loop-cpu-preserved : goal.loop-cpu-preserved
 loop-cpu-preserved c =
-    splitting_more c.args.rows.now c.args.k c.in-Some.cpu c.index-rows-k.result c.args.part.now c.loop-cpu.rest c.alike-piece.result c.minus-rest.result _ _ _ _ _ _
-    c.requires.there c.index-rows-k.is c.requires.part c.loop-cpu.invariant c.in-Some.ensures.first.member (alike c) c.in_ok-put.ensures c.minus-rest.ensures
+    splitting_more c.args.rows.now c.args.k c.in-Some.cpu c.index-rows-k.result c.args.edges.now c.args.part.now c.loop-cpu.rest c.alike-piece.result c.minus-rest.result _ _ _ _ _ _
+    c.requires.there c.index-rows-k.is c.requires.edges c.requires.part c.loop-cpu.invariant c.in-Some.ensures.first.member (alike c) c.in_ok-put.ensures c.minus-rest.ensures
 
 pub loop-cpu-smaller : goal.loop-cpu-smaller
 loop-cpu-smaller c =

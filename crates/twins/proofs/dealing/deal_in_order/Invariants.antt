@@ -1,6 +1,6 @@
 use Rattle.std.proofs.Common.{take}
 use Rattle.twins.proofs.Deals.{Dealing, last_row}
-use Rattle.twins.proofs.dealing.deal_class.Given as goal
+use Rattle.twins.proofs.dealing.deal_in_order.Given as goal
 
 abbrev pub invariant-loop-share : goal.invariant-loop-share
 invariant-loop-share l = Dealing l.fn.class (take l.share-index l.shares) l.fn.sets l.sets l.rest (last_row l.shares l.share-index)

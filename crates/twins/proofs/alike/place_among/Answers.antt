@@ -3,7 +3,7 @@ use Rattle.std.specs.FinSet as set
 use Rattle.certificate.specs.declared.rows.Offer.{Offer}
 use Rattle.std.proofs.lemmas.List.{get_or_default}
 use Rattle.twins.proofs.Weights.{none_more}
-use Rattle.twins.proofs.alike.place_of.Goals as goal
+use Rattle.twins.proofs.alike.place_among.Goals as goal
 
 none : Offer
 none = record { weight = 0; cpus = set.empty }

@@ -1,0 +1,72 @@
+//! Where rows tell a CPU from the one below it.
+ghost use Rattle.std.specs.Prelude.{◌≡◌, ℕ, ◌+◌, true, false, IsTrue, length};
+ghost use Rattle.std.specs.FinSet as set;
+ghost use Rattle.cpu_set.specs.Members.{IsCpu};
+ghost use Rattle.certificate.specs.Weight.{weight_in};
+ghost use Rattle.twins.specs.Edges.{AreEdges, IsRun};
+ghost use Rattle.twins.specs.Kinds.{AreKinds};
+
+use certificate::{Offer, Row};
+use cpu_set::IdSet;
+
+/// The CPUs that some row may tell from the CPU below. Between two of them all CPUs are twins.
+///
+/// Where more than half of the CPUs with a weight are edges, all CPUs are taken for edges: runs are then so
+/// short that to look on takes longer than they save.
+pub(crate) fn edges_of(rows: &[Row], kinds: &[usize], offered: &IdSet) -> IdSet
+    requires { AreKinds rows.now (length rows.now) kinds.now }
+    ensures { AreEdges rows.now result }
+{
+    let half = offered.count() / 2;
+    let mut edges = IdSet::empty();
+    for k in 0..rows.len() {
+        if kinds[k] == k {
+            if edges.count() > half {
+                return IdSet::empty().complement();
+            }
+            let row = &rows[k];
+            add_edges(&mut edges, row.offers.as_slice());
+        }
+    }
+    edges
+}
+
+/// Adds the CPUs that some offer tells from the CPU below.
+fn add_edges(edges: &mut IdSet, offers: &[Offer])
+    ensures kept { (cpu : ℕ) → set.contains edges.old cpu ≡ true → set.contains edges.new cpu ≡ true }
+    ensures told { (cpu : ℕ) → IsCpu (cpu + 1) → set.contains edges.new (cpu + 1) ≡ false → weight_in offers.now cpu ≡ weight_in offers.now (cpu + 1) }
+{
+    for offer in offers {
+        add_ends(edges, &offer.cpus);
+    }
+}
+
+/// Adds the lowest CPU of each range of a set, and the CPU behind the range.
+fn add_ends(edges: &mut IdSet, cpus: &IdSet)
+    ensures kept { (cpu : ℕ) → set.contains edges.old cpu ≡ true → set.contains edges.new cpu ≡ true }
+    ensures told { (cpu : ℕ) → IsCpu (cpu + 1) → set.contains edges.new (cpu + 1) ≡ false → set.contains cpus.now cpu ≡ set.contains cpus.now (cpu + 1) }
+{
+    let others = cpus.complement();
+    let mut next = cpus.first();
+    while let Some(first) = next {
+        edges.insert(first);
+        let Some(behind) = others.next_after(first) else {
+            return;
+        };
+        edges.insert(behind);
+        next = cpus.next_after(behind);
+    }
+}
+
+/// Whether some CPUs lie in one run: no edge is above one of them and not above another.
+pub(crate) fn are_in_one_run(cpus: &IdSet, edges: &IdSet) -> bool
+    ensures { IsTrue result → IsRun edges.now cpus.now }
+{
+    let Some(first) = cpus.first() else {
+        return true;
+    };
+    match edges.next_after(first) {
+        Some(edge) => cpus.next_after(edge - 1).is_none(),
+        None => true,
+    }
+}
