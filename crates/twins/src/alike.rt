@@ -20,7 +20,7 @@ pub(crate) fn note_places(offers: &[Offer], hints: &mut [usize]) {
     }
 }
 
-/// The place of an offer that has the CPU. The offer at the hint is looked at first.
+/// The place of an offer that has the CPU. Where none has it, none is looked at.
 fn place_of(offers: &Offers, hints: &[usize], cpu: u16) -> Option<usize>
     ensures { MatchOption result (weight_in offers.now cpu ≡ None) (HasAt offers.now cpu) }
 {
@@ -30,6 +30,7 @@ fn place_of(offers: &Offers, hints: &[usize], cpu: u16) -> Option<usize>
     place_among(offers.as_slice(), hints, cpu)
 }
 
+/// The place of the offer at the hint, where that one has the CPU, else of the first that has it.
 fn place_among(offers: &[Offer], hints: &[usize], cpu: u16) -> Option<usize>
     ensures { MatchOption result (weight_in offers.now cpu ≡ None) (HasAt offers.now cpu) }
 {

@@ -1,4 +1,4 @@
-//! Where rows tell a CPU from the one below it.
+//! Runs of CPUs that no row tells apart, and the edges between them.
 ghost use Rattle.std.specs.Prelude.{◌≡◌, ℕ, ◌+◌, true, false, IsTrue, length};
 ghost use Rattle.std.specs.FinSet as set;
 ghost use Rattle.cpu_set.specs.Members.{IsCpu};
@@ -11,8 +11,8 @@ use cpu_set::IdSet;
 
 /// The CPUs that some row may tell from the CPU below. Between two of them all CPUs are twins.
 ///
-/// Where more than half of the CPUs with a weight are edges, all CPUs are taken for edges: runs are then so
-/// short that to look on takes longer than they save.
+/// Where more than half of the CPUs with a weight are edges, all CPUs are taken for edges: to seek the few runs
+/// that are left would take longer than they save.
 pub(crate) fn edges_of(rows: &[Row], kinds: &[usize], offered: &IdSet) -> IdSet
     requires { AreKinds rows.now (length rows.now) kinds.now }
     ensures { AreEdges rows.now result }

@@ -6,5 +6,8 @@ returns-then-count-eq0 c = inl (sym c.count.ensures.is_len ∙ c.if-count-eq0.tr
 
 pub returns : goal.returns
 returns c =
-    inr (omega (arith, c.count.ensures.is_len, c.if-count-eq0.false), c.count.ensures.in_range,
-    c.in_ok-push.ensures.items ∙ ap (λ l. l ++ c.args.all.now ∷ []) c.new-parts.ensures.items)
+    inr (
+      omega (arith, c.count.ensures.is_len, c.if-count-eq0.false),
+      c.count.ensures.in_range,
+      c.in_ok-push.ensures.items ∙ ap (λ l. l ++ c.args.all.now ∷ []) c.new-parts.ensures.items,
+    )
