@@ -1,6 +1,6 @@
 #!/usr/bin/env bash
 # Shows that the config.json which `crun spec` and `runc spec` write is read, can be started, and asks for no CPUs of its
-# own. It wants Debian's packages crun and runc, and the Rattle kit. The gate does not run it.
+# own. It wants Debian's packages crun and runc, and the Rattle kit. tests/all.sh does not run it.
 set -eu
 top=$(cd "$(dirname "$0")/.." && pwd)
 work=$(mktemp -d)

@@ -1,5 +1,5 @@
 #!/usr/bin/env bash
-# Times `numarun check` on three of the largest certificates that the limits admit, beside `cat` and `wc -l`, and
+# Times `numarun check` on three certificates of as many rows as the limits admit, beside `cat` and `wc -l`, and
 # counts its instructions where valgrind is there.
 set -eu
 here=$(cd "$(dirname "$0")" && pwd)

@@ -1,5 +1,5 @@
 #!/usr/bin/env bash
-# Times the modelled kernel, beside the plain recursion.
+# Times the modelled kernel, beside the plain recursion, and hand-overs over it.
 set -eu
 here=$(cd "$(dirname "$0")" && pwd)
 . "$here/../build-tools.sh"

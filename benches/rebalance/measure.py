@@ -5,7 +5,7 @@ what one takes that has nothing to write, since it comes right behind another, i
 solver on the same rows, as the node's certificate tells them. In thousands of instructions, where callgrind is there: `all` a
 rebalance, `writes` what it takes more than one behind it, `solver`, and `rest` what is left: rows, certificate, entries and the
 text of the answer. (The time of the writes is lost in that of a script.) The containers are 256 with homes on one of 8 nodes:
-seven of eight ask for 1 to 7 of its CPUs or any, the others for none of their own."""
+seven of eight ask for 1 to 7 CPUs, which may be any, the others for none of their own."""
 
 import json
 import os

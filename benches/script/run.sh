@@ -1,6 +1,6 @@
 #!/usr/bin/env bash
-# Times `numarun run` on a script of 100,000 lines over 256 containers, beside `cat` of the same bytes, and prints the most
-# memory that it held on that script and on one of ten times as many lines.
+# Times `numarun run` on scripts of 100,000 and of 1,000,000 lines over 256 containers, beside `cat` of the same bytes, and
+# prints the most memory that it held on each.
 set -eu
 here=$(cd "$(dirname "$0")" && pwd)
 top=$(cd "$here/../.." && pwd)
