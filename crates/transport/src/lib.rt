@@ -11,7 +11,8 @@
 //!
 //! A search looks at no more than each row's weights for each class, and there is at most one for each CPU
 //! that is asked for: O(demands * rows * classes) steps at worst. Memory is taken for each CPU, row and class, each
-//! row that holds CPUs of a class, and each class of the offers that a search has come to.
+//! row that holds CPUs of a class, each offer of rows whose offers do not rise, and each class of the offers that a
+//! search has come to.
 #![tactic(auto)]
 
 mod answers;

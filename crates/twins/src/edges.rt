@@ -9,10 +9,10 @@ ghost use Rattle.twins.specs.Kinds.{AreKinds};
 use certificate::{Offer, Row};
 use cpu_set::IdSet;
 
-/// The CPUs that some row may tell from the CPU below. Between two of them all CPUs are twins.
+/// The CPUs that some row may tell from the CPU below. From each of them up to the next all CPUs are twins.
 ///
-/// Where more than half of the CPUs with a weight are edges, all CPUs are taken for edges: to seek the few runs
-/// that are left would take longer than they save.
+/// Where there are more than half as many edges as CPUs with a weight, all CPUs are taken for edges: to seek the few
+/// longer runs would take longer than they save.
 pub(crate) fn edges_of(rows: &[Row], kinds: &[usize], offered: &IdSet) -> IdSet
     requires { AreKinds rows.now (length rows.now) kinds.now }
     ensures { AreEdges rows.now result }
