@@ -252,7 +252,7 @@ empty-fold words are e = fold-zero words 0 refl (empty-none words are e)
 pub fold-empty : (words : List ℕ) → AreWords words → fold_l bit_or 0 words ≡ 0 → set_of_words words ≡ finset.empty
 fold-empty words are e = set_of_words-empty words are (zero-fold words 0 e).1
 
-zeroes_fit : (n k z : ℕ) → z ≡ 0 → get_or (replicate n z) k 0 ≡ 0
+pub zeroes_fit : (n k z : ℕ) → z ≡ 0 → get_or (replicate n z) k 0 ≡ 0
 zeroes_fit n k z e = elim (cases_lt k n) [ inl lt ↦ get_or-replicate n k z 0 lt ∙ e | inr le ↦ get_or_past (replicate n z) k 0 (rw length-replicate le) ]
 
 pub AreWords-zeroes : (n : ℕ) → n ≡ WORDS → AreWords (replicate n 0)

@@ -1,5 +1,5 @@
 -- The numbers that an `IdSet` may have, and the members of one in rising order.
-use Rattle.std.specs.Prelude.{◌≡◌, ℕ, ◌<◌, true, not, ◌&&◌, nat_lt, List, filter}
+use Rattle.std.specs.Prelude.{◌≡◌, ℕ, ◌+◌, ◌<◌, true, false, not, ◌&&◌, nat_lt, List, filter}
 use Rattle.std.specs.List.{range_with_len}
 use Rattle.std.specs.FinSet as set
 use Rattle.cpu_set.specs.Ids.{Ids}
@@ -24,3 +24,8 @@ members s = filter (set.contains s) cpus
 -- the numbers that a set may have and does not
 abbrev pub IsComplement : Ids → Ids → Type 0
 IsComplement s t = (n : ℕ) → set.contains t n ≡ (nat_lt n CPU_LIMIT && not (set.contains s n))
+
+-- each number of the one is one below its number of the other
+pub record IsMovedUp (s t : Ids) : Type 0 where
+  pub none_at_0 : set.contains t 0 ≡ false
+  pub moved : (n : ℕ) → set.contains t (n + 1) ≡ (nat_lt (n + 1) CPU_LIMIT && set.contains s n)

@@ -148,3 +148,19 @@ in_offer offers k o c lt is fit has =
 pub offer_at :
     (offers : List Offer) (at : ℕ) (o : Offer) (c : ℕ) → HasAt offers c at → o ≡ get_or offers at o → offers_fit offers ≡ true → weight_in offers c ≡ Some o.weight
 offer_at offers at o c h is fit = in_offer offers at o c h.within is fit (ap (λ (p : Offer). set.contains p.cpus c) is ∙ h.has o)
+
+-- CPUs of one weight in some offers, which both are in one more or both not
+pub same_with_one_more :
+    (offers : List Offer) (k : ℕ) (o : Offer) (a b : ℕ) → k < length offers → o ≡ get_or offers k o → weight_in (take k offers) a ≡ weight_in (take k offers) b
+    → set.contains o.cpus a ≡ set.contains o.cpus b → weight_in (take (k + 1) offers) a ≡ weight_in (take (k + 1) offers) b
+same_with_one_more offers k o a b lt is before same =
+    more a ∙ (λ i. option_or (before i) (cond (same i) (Some o.weight) None)) ∙ sym (more b)
+  where
+    both_ways : (found : Option Offer) (has : Bool) → option_map (λ (p : Offer). p.weight) (option_or found (cond has (Some o) None)) ≡ option_or (option_map (λ (p : Offer). p.weight) found) (cond has (Some o.weight) None)
+    both_ways None true = refl
+    both_ways None false = refl
+    both_ways (Some p) true = refl
+    both_ways (Some p) false = refl
+
+    more : (c : ℕ) → weight_in (take (k + 1) offers) c ≡ option_or (weight_in (take k offers) c) (cond (set.contains o.cpus c) (Some o.weight) None)
+    more c = rw (take_more offers k o lt, ← is, find-append (λ (p : Offer). set.contains p.cpus c) (take k offers) (o ∷ [])) (both_ways _ (set.contains o.cpus c))

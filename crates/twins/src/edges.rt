@@ -37,25 +37,16 @@ fn add_edges(edges: &mut IdSet, offers: &[Offer])
     ensures told { (cpu : ℕ) → IsCpu (cpu + 1) → set.contains edges.new (cpu + 1) ≡ false → weight_in offers.now cpu ≡ weight_in offers.now (cpu + 1) }
 {
     for offer in offers {
-        add_ends(edges, &offer.cpus);
+        *edges = edges.union(&ends_of(&offer.cpus));
     }
 }
 
-/// Adds the lowest CPU of each range of a set, and the CPU behind the range.
-fn add_ends(edges: &mut IdSet, cpus: &IdSet)
-    ensures kept { (cpu : ℕ) → set.contains edges.old cpu ≡ true → set.contains edges.new cpu ≡ true }
-    ensures told { (cpu : ℕ) → IsCpu (cpu + 1) → set.contains edges.new (cpu + 1) ≡ false → set.contains cpus.now cpu ≡ set.contains cpus.now (cpu + 1) }
+/// The lowest CPU of each range of a set, and the CPU behind the range.
+fn ends_of(cpus: &IdSet) -> IdSet
+    ensures { (cpu : ℕ) → IsCpu (cpu + 1) → set.contains result (cpu + 1) ≡ false → set.contains cpus.now cpu ≡ set.contains cpus.now (cpu + 1) }
 {
-    let others = cpus.complement();
-    let mut next = cpus.first();
-    while let Some(first) = next {
-        edges.insert(first);
-        let Some(behind) = others.next_after(first) else {
-            return;
-        };
-        edges.insert(behind);
-        next = cpus.next_after(behind);
-    }
+    let behind = cpus.moved_up();
+    cpus.minus(&behind).union(&behind.minus(cpus))
 }
 
 /// Whether some CPUs lie in one run: no edge is above one of them and not above another.

@@ -85,6 +85,18 @@ fn takes_in_a_range(rt: HostRuntime) {
 }
 
 #[test]
+fn moves_numbers_up(rt: HostRuntime) {
+    for (numbers, moved) in [
+        (&[][..], &[][..]),
+        (&[0, 1, 5], &[1, 2, 6]),
+        (&[62, 63, 64, 127, 959], &[63, 64, 65, 128, 960]),
+        (&[1022, 1023], &[1023]),
+    ] {
+        assert_eq!(rt; set_of(numbers).moved_up(), set_of(moved));
+    }
+}
+
+#[test]
 fn has_room_for_1024_numbers(rt: HostRuntime) {
     assert_eq!(rt; CPU_LIMIT, 1024);
     assert_eq!(rt; std::mem::size_of::<IdSet>(), 128);

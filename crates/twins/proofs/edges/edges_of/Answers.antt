@@ -1,6 +1,4 @@
-use Rattle.std.proofs.Common.{◌≡◌, ℕ, ◌+◌, ◌<◌, false, List, length, take, take_all, sym, ap, subst, ◌∙◌, arith}
-use Rattle.std.specs.FinSet as set
-use Rattle.cpu_set.specs.Members.{IsCpu}
+use Rattle.std.proofs.Common.{◌≡◌, ◌+◌, ◌<◌, List, take_all, ap, subst, ◌∙◌, arith}
 use Rattle.certificate.specs.RowView.{RowView}
 use Rattle.certificate.specs.Weight.{weight_in}
 use Rattle.certificate.specs.declared.rows.Offer.{Offer}

@@ -1,4 +1,4 @@
-use Rattle.std.proofs.Common.{◌≡◌, ℕ, true, ◌&&◌, List, sym, ap, subst, ◌∙◌}
+use Rattle.std.proofs.Common.{◌≡◌, ℕ, true, ◌&&◌, List, sym, ap, subst}
 use Rattle.std.specs.FinSet as set
 use Rattle.certificate.specs.RowView.{RowView}
 use Rattle.certificate.specs.Weight.{weight_in}
