@@ -17,6 +17,7 @@ use crate::searches::search;
 use crate::trees::Tree;
 use crate::{State, Table};
 use certificate::Offers;
+use cpu_set::CPU_LIMIT;
 use std::alloc::{AllocError, Global};
 
 /// What the rows get.
@@ -43,7 +44,7 @@ pub fn fill(alloc: Global, table: &Table, sizes: &[u32]) -> Result<Filled, Alloc
     requires fit { AreRowsWithin table.now.rows.now }
     requires kinds { AreKinds table.now.rows.now (length table.now.rows.now) table.now.kinds.now }
     requires classes { length table.now.firsts ≡ length sizes.now }
-    requires few { length sizes.now ≤ 1024 }
+    requires few { length sizes.now ≤ CPU_LIMIT }
     ensures { IfOk result (IsFilled table.now.rows.now table.now.firsts sizes.now) }
 {
     let mut state = State::first(alloc, table, sizes)?;

@@ -8,7 +8,7 @@ use std::alloc::{AllocError, Global};
 
 /// For each row the first of its kind: an earlier one with the same offers, or itself where none is known.
 ///
-/// Of the earlier rows that one is compared which is the latest whose first offer begins with the same CPU.
+/// Each row is compared with one earlier row alone: the latest whose first offer begins with the same CPU.
 pub fn kinds_of(alloc: Global, rows: &[Row]) -> Result<Vec<usize>, AllocError>
     ensures { IfOk result (λ kinds. AreKinds rows.now (length rows.now) kinds.items) }
 {
