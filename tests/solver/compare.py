@@ -57,9 +57,12 @@ def faults(rows, answer):
         yield "too many turns"
     least = least_cost(rows)
     if lines and lines[0][0] == "short":
-        if turns < len(lines):
+        members = [int(k) for _, k in lines]
+        # the last search takes up the members and the classes that they may have; each row before its root took two at least
+        may = set().union(*(cpus for k in members for _, cpus in rows[k][2]))
+        if turns < 2 * members[-1] + len(members) + sum(twin[0] in may for twin in twins):
             yield "too few turns"
-        text = problem(rows) + [f"short {rows[int(k)][0]}" for _, k in lines] + ["end", ""]
+        text = problem(rows) + [f"short {rows[k][0]}" for k in members] + ["end", ""]
         if least is not None or not check("\n".join(text).encode()).startswith("short"):
             yield "no shortage"
         return

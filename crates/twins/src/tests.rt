@@ -126,3 +126,16 @@ fn a_price_of_0_is_not_written(rt: HostRuntime) -> Result<(), Fail> {
     }
     Ok(())
 }
+
+/// A row is of the kind of the latest row before it whose first offer begins with the same CPU, where that has the same offers.
+#[test]
+fn rows_of_one_kind(rt: HostRuntime) -> Result<(), Fail> {
+    let near: &[Weighed] = &[(10, 1, 3)];
+    let both: &[Weighed] = &[(10, 1, 3), (21, 4, 7)];
+    let rows: [&[Weighed]; 7] = [near, &[(10, 4, 7)], near, both, both, &[], &[]];
+    let problem = problem_of(rt.alloc(), &rows)?;
+    let kinds = kinds_of(rt.alloc(), problem.rows.as_slice())?;
+    let expected: [usize; 7] = [0, 1, 0, 3, 3, 5, 5];
+    assert!(rt; kinds.as_slice() == expected.as_slice());
+    Ok(())
+}

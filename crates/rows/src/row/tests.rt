@@ -91,3 +91,25 @@ fn rows_offer_what_is_allowed_and_online(rt: HostRuntime) -> Result<(), Fail> {
     }
     Ok(())
 }
+
+/// Rows of the same CPUs and homes have one entry among the offers that are known.
+#[test]
+fn offers_are_worked_out_once(rt: HostRuntime) -> Result<(), Fail> {
+    let alloc = rt.alloc();
+    let machine = machine(&rt, alloc, TWO_NODES);
+    let online = set(&rt, "0-7");
+    let mut known = Vec::new(alloc);
+    for (cpus, mems, count) in [
+        ("3-4", "0-1", 1),
+        ("3-4", "0-1", 1),
+        ("3", "0-1", 2),
+        ("3-4", "0", 3),
+        ("3-4", "0-1", 3),
+    ] {
+        let demand = demand(&rt, &section(alloc, 100_000, cpus, mems)?, &machine);
+        let row = row_of(alloc, &machine, &online, "a", &demand, &mut known)?;
+        assert!(rt; row.is_some());
+        assert_eq!(rt; known.len(), count, "{cpus} near {mems}");
+    }
+    Ok(())
+}

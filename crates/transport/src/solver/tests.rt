@@ -61,11 +61,11 @@ fn answer_to(alloc: Global, problem: &Problem) -> Result<Option<Answer>, AllocEr
     Ok(Some(solve(alloc, problem)?))
 }
 
-/// Rows, what each of them gets as its first and last CPU, what that costs, and the least and most turns.
-type Planned<'a> = (&'a [Asked<'a>], &'a [(u16, u16)], u64, u64, u64);
+/// Rows, what each of them gets as its first and last CPU, what that costs, and the turns.
+type Planned<'a> = (&'a [Asked<'a>], &'a [(u16, u16)], u64, u64);
 
 fn is_as_planned(alloc: Global, case: Planned) -> Result<bool, AllocError> {
-    let (rows, expected, cost, least, most) = case;
+    let (rows, expected, cost, counted) = case;
     let problem = problem_of(alloc, rows)?;
     match answer_to(alloc, &problem)? {
         Some(
@@ -77,8 +77,7 @@ fn is_as_planned(alloc: Global, case: Planned) -> Result<bool, AllocError> {
             },
         ) => Ok(
             total == cost
-                && least <= turns
-                && turns <= most
+                && turns == counted
                 && are_ranges(plan.sets.as_slice(), expected)
                 && check_plan(&problem, &plan, &prices) == Ok(total),
         ),
@@ -98,15 +97,14 @@ fn are_ranges(sets: &[IdSet], expected: &[(u16, u16)]) -> bool {
 /// one way for all CPUs; and a row that gives three CPUs away.
 #[test]
 fn plans(rt: HostRuntime) -> Result<(), Fail> {
-    let cases: [Planned; 7] = [
+    let cases: [Planned; 9] = [
         (
             &[(1, &[(10, 3, 4)]), (1, &[(10, 3, 3)])],
             &[(4, 4), (3, 3)],
             20,
-            4,
-            8,
+            6,
         ),
-        (&[(1, &[(20, 1, 1), (30, 2, 2)])], &[(1, 1)], 20, 2, 3),
+        (&[(1, &[(20, 1, 1), (30, 2, 2)])], &[(1, 1)], 20, 2),
         (
             &[
                 (1, &[(10, 1, 1), (11, 2, 2)]),
@@ -115,7 +113,6 @@ fn plans(rt: HostRuntime) -> Result<(), Fail> {
             &[(2, 2), (1, 1)],
             23,
             6,
-            8,
         ),
         (
             &[
@@ -126,35 +123,49 @@ fn plans(rt: HostRuntime) -> Result<(), Fail> {
             &[(2, 2), (3, 3), (1, 1)],
             32,
             10,
-            18,
         ),
-        (&[(512, &[(10, 1, 1023)])], &[(1, 512)], 5120, 2, 2),
+        (&[(512, &[(10, 1, 1023)])], &[(1, 512)], 5120, 2),
         (
             &[(3, &[(10, 4, 7), (21, 1, 3)]), (4, &[(10, 4, 7)])],
             &[(1, 3), (4, 7)],
             103,
-            4,
-            28,
+            8,
         ),
-        (&[], &[], 0, 0, 0),
+        (
+            &[
+                (1, &[(10, 1, 2), (15, 3, 3)]),
+                (1, &[(10, 1, 2), (13, 4, 4)]),
+                (1, &[(10, 1, 2)]),
+            ],
+            &[(1, 1), (4, 4), (2, 2)],
+            33,
+            9,
+        ),
+        (
+            &[(1, &[(10, 1, 1)]), (1, &[(10, 1, 1), (12, 2, 2)])],
+            &[(1, 1), (2, 2)],
+            22,
+            6,
+        ),
+        (&[], &[], 0, 0),
     ];
     for case in cases {
-        let (rows, _, _, _, _) = case;
+        let (rows, _, _, _) = case;
         assert!(rt; is_as_planned(rt.alloc(), case)?, "{rows:?}");
     }
     Ok(())
 }
 
-/// Rows, and the members of the shortage.
-type Lacking<'a> = (&'a [Asked<'a>], &'a [usize]);
+/// Rows, the members of the shortage, and the turns.
+type Lacking<'a> = (&'a [Asked<'a>], &'a [usize], u64);
 
 fn is_as_lacking(alloc: Global, case: Lacking) -> Result<bool, AllocError> {
-    let (rows, expected) = case;
+    let (rows, expected, counted) = case;
     let problem = problem_of(alloc, rows)?;
     match answer_to(alloc, &problem)? {
         Some(Answer::Short { members, turns }) => Ok(
             members.as_slice() == expected
-                && expected.len() as u64 <= turns
+                && turns == counted
                 && check_shortage(&problem, members.as_slice()).is_ok(),
         ),
         _ => Ok(false),
@@ -168,14 +179,91 @@ fn shortages(rt: HostRuntime) -> Result<(), Fail> {
         (
             &[(2, &[(10, 1, 2)]), (1, &[(10, 1, 2)]), (1, &[(10, 4, 5)])],
             &[0, 1],
+            5,
         ),
-        (&[(8, &[(10, 1, 3), (21, 4, 7)])], &[0]),
-        (&[(4, &[(10, 1, 3)])], &[0]),
-        (&[(1, &[(10, 1, 1)]), (1, &[])], &[1]),
+        (&[(8, &[(10, 1, 3), (21, 4, 7)])], &[0], 8),
+        (&[(4, &[(10, 1, 3)])], &[0], 4),
+        (&[(1, &[(10, 1, 1)]), (1, &[])], &[1], 3),
     ];
     for case in cases {
-        let (rows, _) = case;
+        let (rows, _, _) = case;
         assert!(rt; is_as_lacking(rt.alloc(), case)?, "{rows:?}");
     }
+    Ok(())
+}
+
+/// As many rows as may be, which ask for as many CPUs each, all of the greatest weight.
+fn rows_alike(alloc: Global, demand: u32) -> Result<Problem, AllocError> {
+    let mut rows: Vec<Asked> = Vec::new(alloc);
+    for _ in 0..256 {
+        rows.push((demand, &[(33_554_431, 0, 1023)]))?;
+    }
+    problem_of(alloc, rows.as_slice())
+}
+
+/// 256 rows share all CPUs, four each.
+#[test]
+fn most_rows(rt: HostRuntime) -> Result<(), Fail> {
+    let problem = rows_alike(rt.alloc(), 4)?;
+    let Some(
+        Answer::Plan {
+            plan,
+            prices,
+            total,
+            turns,
+        },
+    ) = answer_to(rt.alloc(), &problem)?
+    else {
+        panic!(rt; "no plan");
+    };
+    assert_eq!(rt; total, 1_024 * 33_554_431);
+    assert_eq!(rt; turns, 512);
+    assert_eq!(rt; check_plan(&problem, &plan, &prices), Ok(total));
+    for k in 0..256u16 {
+        let held = range(4 * k, 4 * k + 3);
+        assert!(rt; plan.sets.get(usize::from(k)) == Some(&held), "{k}");
+    }
+    Ok(())
+}
+
+/// Of 256 rows that want five each, 204 get them; the next gets four, and all of these lack one.
+#[test]
+fn most_rows_lack_cpus(rt: HostRuntime) -> Result<(), Fail> {
+    let problem = rows_alike(rt.alloc(), 5)?;
+    let Some(Answer::Short { members, turns }) = answer_to(rt.alloc(), &problem)? else {
+        panic!(rt; "no shortage");
+    };
+    assert_eq!(rt;
+        check_shortage(&problem, members.as_slice()),
+        Ok((1_025, 1_024))
+    );
+    assert_eq!(rt; turns, 616);
+    Ok(())
+}
+
+/// A row asks for all CPUs, each at a weight of its own, the heaviest offered first. The search for the nth takes up the
+/// row, the classes that the row holds, and the next.
+#[test]
+fn each_cpu_a_class(rt: HostRuntime) -> Result<(), Fail> {
+    let alloc = rt.alloc();
+    let mut weighed: Vec<Weighed> = Vec::new(alloc);
+    for cpu in 0..CPU_LIMIT {
+        weighed.push((33_554_431 - u32::from(cpu), cpu, cpu))?;
+    }
+    let problem = problem_of(alloc, &[(1_024, weighed.as_slice())])?;
+    let Some(
+        Answer::Plan {
+            plan,
+            prices,
+            total,
+            turns,
+        },
+    ) = answer_to(alloc, &problem)?
+    else {
+        panic!(rt; "no plan");
+    };
+    assert_eq!(rt; total, 1_024 * 33_554_431 - 523_776);
+    assert_eq!(rt; turns, 525_824);
+    assert_eq!(rt; check_plan(&problem, &plan, &prices), Ok(total));
     Ok(())
 }
