@@ -92,24 +92,26 @@ fn rows_offer_what_is_allowed_and_online(rt: HostRuntime) -> Result<(), Fail> {
     Ok(())
 }
 
-/// Rows of the same CPUs and homes have one entry among the offers that are known.
+/// Rows of the same CPUs and homes have one entry among the offers that are known, and the same offers.
 #[test]
 fn offers_are_worked_out_once(rt: HostRuntime) -> Result<(), Fail> {
     let alloc = rt.alloc();
     let machine = machine(&rt, alloc, TWO_NODES);
     let online = set(&rt, "0-7");
+    let near = demand(&rt, &section(alloc, 100_000, "3-4", "0")?, &machine);
+    let far = demand(&rt, &section(alloc, 100_000, "3-4", "1")?, &machine);
     let mut known = Vec::new(alloc);
-    for (cpus, mems, count) in [
-        ("3-4", "0-1", 1),
-        ("3-4", "0-1", 1),
-        ("3", "0-1", 2),
-        ("3-4", "0", 3),
-        ("3-4", "0-1", 3),
-    ] {
-        let demand = demand(&rt, &section(alloc, 100_000, cpus, mems)?, &machine);
-        let row = row_of(alloc, &machine, &online, "a", &demand, &mut known)?;
-        assert!(rt; row.is_some());
-        assert_eq!(rt; known.len(), count, "{cpus} near {mems}");
+    let first = row_of(alloc, &machine, &online, "a", &near, &mut known)?;
+    let second = row_of(alloc, &machine, &online, "b", &near, &mut known)?;
+    assert_eq!(rt; known.len(), 1);
+    let third = row_of(alloc, &machine, &online, "c", &far, &mut known)?;
+    assert_eq!(rt; known.len(), 2);
+    for (row, cpus) in [(first, [3, 4]), (second, [3, 4]), (third, [4, 3])] {
+        let Some(row) = row else {
+            panic!(rt; "no row");
+        };
+        let nearest_first = row.offers.as_slice().iter().map(|offer| offer.cpus.first());
+        assert!(rt; nearest_first.eq(cpus.iter().map(|cpu| Some(*cpu))));
     }
     Ok(())
 }
