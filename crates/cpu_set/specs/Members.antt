@@ -25,7 +25,7 @@ members s = filter (set.contains s) cpus
 abbrev pub IsComplement : Ids → Ids → Type 0
 IsComplement s t = (n : ℕ) → set.contains t n ≡ (nat_lt n CPU_LIMIT && not (set.contains s n))
 
--- each number of the one is one below its number of the other
+-- the second set has each number of the first moved up by one, below the limit
 pub record IsMovedUp (s t : Ids) : Type 0 where
   pub none_at_0 : set.contains t 0 ≡ false
   pub moved : (n : ℕ) → set.contains t (n + 1) ≡ (nat_lt (n + 1) CPU_LIMIT && set.contains s n)
