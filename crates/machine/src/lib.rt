@@ -20,8 +20,8 @@ pub use laws::{sound_machines_are_read, the_limits};
 pub use machine::Machine;
 pub use slit::{LOCAL, UNREACHABLE};
 
-/// The most nodes that a machine may have.
-pub const NODE_LIMIT: usize = 64;
+/// The most nodes that a machine may have: as many as a firmware table may have localities.
+pub const NODE_LIMIT: usize = slit::MAX_LOCALITIES;
 
 /// The most bytes that a machine file may have.
 pub const MAX_BYTES: usize = 1_048_576;
