@@ -9,6 +9,8 @@ use Rattle.std.proofs.lemmas.Bool.{cases_eq, cases_lt}
 use Rattle.certificate.specs.RowView.{RowView}
 use Rattle.certificate.specs.IsShortage.{asked}
 use Rattle.certificate.specs.AreWithin.{AreRowsWithin}
+use Rattle.certificate.specs.declared.limits.TheConstants.{MAX_ROWS, MAX_DEMAND}
+use Rattle.cpu_set.specs.declared.TheConstants.{CPU_LIMIT}
 use Rattle.twins.specs.Holdings.{share_of}
 use Rattle.transport.specs.Shares.{AllBelow}
 use Rattle.transport.specs.Duals.{IsTight}
@@ -142,7 +144,7 @@ demand_at rows k lt = get_or-map (λ (r : RowView). r.demand) rows k no_row 0 lt
 demand_some : (rows : List RowView) (k : ℕ) → AreRowsWithin rows → k < length rows → 1 ≤ demand_of rows k
 demand_some rows k fit lt = omega (arith, demand_at rows k lt, (fit.each k no_row lt).some)
 
-demand_low : (rows : List RowView) (k : ℕ) → AreRowsWithin rows → demand_of rows k ≤ 1024
+demand_low : (rows : List RowView) (k : ℕ) → AreRowsWithin rows → demand_of rows k ≤ MAX_DEMAND
 demand_low rows k fit = elim (cases_lt k (length rows)) [
   | inl lt ↦ omega (arith, demand_at rows k lt, (fit.each k no_row lt).demand)
   | inr past ↦ (let e : demand_of rows k ≡ 0 = get_or_past (map (λ (r : RowView). r.demand) rows) k 0 (omega (arith, length-map rows (λ (r : RowView). r.demand), past)) in omega (arith, e))
@@ -152,19 +154,18 @@ spend : (x y d a turns after : ℕ) → y ≡ x + d → turns ≤ x * a → afte
 spend x y d a turns after e le most = rw e (omega (arith, le, most))
 
 -- turns that the first rows and one more can take
-turns_low : (rows : List RowView) (row a : ℕ) → AreRowsWithin rows → row < length rows → a ≤ 1280 → total (demand_of rows) (suc row) * a ≤ 335544320
+abbrev most_turns : ℕ
+most_turns = MAX_ROWS * MAX_DEMAND * (MAX_ROWS + CPU_LIMIT)
+
+turns_low : (rows : List RowView) (row a : ℕ) → AreRowsWithin rows → row < length rows → a ≤ MAX_ROWS + CPU_LIMIT → total (demand_of rows) (suc row) * a ≤ most_turns
 turns_low rows row a fit lt le =
     let up = total_up (demand_of rows) (suc row) (length rows) (omega (arith, lt)) in
-    let small = total_small (demand_of rows) (length rows) 1024 (λ k. demand_low rows k fit) in
-    let low : total (demand_of rows) (suc row) ≤ 262144 = below (total (demand_of rows) (suc row)) up small in
-    let m : total (demand_of rows) (suc row) * a ≤ 262144 * 1280 = mul-le-mul low le in
-    at_most (total (demand_of rows) (suc row) * a) m
+    let small = total_small (demand_of rows) (length rows) MAX_DEMAND (λ k. demand_low rows k fit) in
+    let low : total (demand_of rows) (suc row) ≤ MAX_ROWS * MAX_DEMAND = below (total (demand_of rows) (suc row)) up small in
+    mul-le-mul low le
   where
-    below : (x : ℕ) → x ≤ total (demand_of rows) (length rows) → total (demand_of rows) (length rows) ≤ length rows * 1024 → x ≤ 262144
+    below : (x : ℕ) → x ≤ total (demand_of rows) (length rows) → total (demand_of rows) (length rows) ≤ length rows * MAX_DEMAND → x ≤ MAX_ROWS * MAX_DEMAND
     below x up small = omega (arith, up, small, fit.few)
-
-    at_most : (x : ℕ) → x ≤ 262144 * 1280 → x ≤ 335544320
-    at_most x le = omega (arith, le)
 
 grow : (x y a after : ℕ) → x ≤ y → after ≤ x * a → after ≤ y * a
 grow x y a after le most =
@@ -240,7 +241,7 @@ module _ (t : Table) (sizes : List ℕ) (s : State) (lines : List Line) (row tur
       spend (total (demand_of t.rows.now) row) (total (demand_of t.rows.now) (suc row)) (demand_of t.rows.now row) (length t.rows.now + length sizes) turns after
       (total_last (demand_of t.rows.now) row) h.at_most (rw (wants, search_is) at most)
 
-  pub can_fill : length sizes ≤ 1024 → ((g : ℕ) → number sizes g < 2 ^ 32) → CanFill t row s lines turns
+  pub can_fill : length sizes ≤ CPU_LIMIT → ((g : ℕ) → number sizes g < 2 ^ 32) → CanFill t row s lines turns
   can_fill few small = record {
     settled = h.settled;
     lines_are = h.lines_are;
@@ -254,7 +255,7 @@ module _ (t : Table) (sizes : List ℕ) (s : State) (lines : List Line) (row tur
         below (total (demand_of t.rows.now) (suc row) * (length t.rows.now + length sizes)) all low;
   }
     where
-      below : (x : ℕ) → turns + number s.unmet.items row * a_search s ≤ x → x ≤ 335544320 → turns + number s.unmet.items row * a_search s < 2 ^ 64
+      below : (x : ℕ) → turns + number s.unmet.items row * a_search s ≤ x → x ≤ most_turns → turns + number s.unmet.items row * a_search s < 2 ^ 64
       below x all low = omega (arith, all, low)
 
       fits_sizes : (g : ℕ) → class_total (cell s.holdings.items) (length s.values.items) g + number s.free.items g < 2 ^ 32

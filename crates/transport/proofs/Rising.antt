@@ -2,6 +2,7 @@
 use Rattle.std.proofs.Common.{◌≡◌, ℕ, ◌+◌, ◌*◌, ◌<◌, ◌≤◌, Bool, true, false, List, length, Option, Some, sym, ◌∙◌, subst, inl, inr, arith}
 use Rattle.std.proofs.lemmas.List.Sums.{count_by-le-length}
 use Rattle.std.proofs.lemmas.Bool.{cases_Bool}
+use Rattle.certificate.specs.declared.limits.TheConstants.{MAX_ROWS}
 use Rattle.transport.specs.Numbers.{number}
 use Rattle.transport.specs.Queues.{IsQueue, is_reached, place, row_at}
 use Rattle.transport.specs.Duals.{IsTight}
@@ -76,13 +77,13 @@ module _ (ws : ℕ → ℕ → Option ℕ) (cells : ℕ → ℕ → ℕ) (values
       let c = s.close k on in
       record { up = omega (arith, c.up, rv k on, rv (row_at q 0) root_on); down = omega (arith, c.down, rv k on, rv (row_at q 0) root_on) }
 
-  few : (k : ℕ) → is_reached q k ≡ true → place q k < 256
+  few : (k : ℕ) → is_reached q k ≡ true → place q k < MAX_ROWS
   few k on =
       omega (arith, s.queue.within k on, s.queue.counted, count_by-le-length {X = Bool} (λ b. b) q.reached.items, s.queue.reached_long, fit.few)
 
   -- some reached row is low after the raise
   module _ (at : IsAttained values prices ns ts by) where
-    low_row : (k : ℕ) → is_reached q k ≡ true → number values k + by ≤ weight_limit + most + 511 * weight_limit
+    low_row : (k : ℕ) → is_reached q k ≡ true → number values k + by ≤ weight_limit + most + most
     low_row k on = elim at [
       | inl e ↦ near_low e.exit.near.row (s.exit e.exit e.its).there
           (omega (arith, e.equal, exit_free e.exit e.its, fit.low _ _ _ (s.exit e.exit e.its).weighs))
@@ -90,7 +91,7 @@ module _ (ws : ℕ → ℕ → Option ℕ) (cells : ℕ → ℕ → ℕ) (values
           (omega (arith, c.1.equal, s.prices_low c.0 c.1.left, fit.low _ _ _ (s.noted c.0 c.1.near c.1.its).weighs))
     ]
       where
-        near_low : (j : ℕ) → is_reached q j ≡ true → by + number values j ≤ weight_limit + most → number values k + by ≤ weight_limit + most + 511 * weight_limit
+        near_low : (j : ℕ) → is_reached q j ≡ true → by + number values j ≤ weight_limit + most → number values k + by ≤ weight_limit + most + most
         near_low j there low =
             let a = s.close k on in
             let b = s.close j there in

@@ -4,6 +4,7 @@ use Rattle.std.specs.List.{count_by}
 use Rattle.std.proofs.lemmas.Bool.{cases_Bool, cases_lt}
 use Rattle.std.proofs.lemmas.List.{length_push, length-replicate, get_or-replicate, get_or_past, get_or-set_same}
 use Rattle.std.proofs.lemmas.List.Sums.{sum_by-cons, count_by-le-length}
+use Rattle.certificate.specs.declared.limits.TheConstants.{MAX_ROWS}
 use Rattle.transport.specs.Numbers.{number, is_marked}
 use Rattle.transport.specs.Queues.{IsQueue, IsUnreached, IsAtRoot, IsReached, is_reached, place, room, row_at}
 use Rattle.transport.specs.Searches.{is_taken, IsSearch, IsClose, most}
@@ -168,7 +169,7 @@ module _ (ws : ℕ → ℕ → Option ℕ) (s : State) (t : Tree) (root amount :
 
 -- once an exit is at slack 0 all values and prices are low again
 module _ (ws : ℕ → ℕ → Option ℕ) (s : State) (t : Tree) (e : Exit) (h : IsFound ws s t e) where
-  few : (k : ℕ) → is_reached t.queue k ≡ true → place t.queue k < 256
+  few : (k : ℕ) → is_reached t.queue k ≡ true → place t.queue k < MAX_ROWS
   few k on =
       let q = h.running.search.queue in
       omega (arith, q.within k on, q.counted, count_by-le-length {X = Bool} (λ b. b) t.queue.reached.items, q.reached_long, h.running.fit.few)

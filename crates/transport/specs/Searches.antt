@@ -1,5 +1,6 @@
 -- What holds in the course of a search.
 use Rattle.std.specs.Prelude.{◌≡◌, ℕ, ◌+◌, ◌*◌, ◌<◌, ◌≤◌, Bool, true, false, List, [], ◌∷◌, ◌++◌, Option, Some, None, ◌⊎◌, length, slice_index_or, slice_set}
+use Rattle.certificate.specs.declared.limits.TheConstants.{MAX_ROWS, MAX_WEIGHT}
 use Rattle.transport.specs.Numbers.{number, is_marked, IsIn, IsListing}
 use Rattle.transport.specs.Queues.{IsQueue, is_reached, via, room, place, row_at}
 use Rattle.transport.specs.Duals.{IsDual}
@@ -42,17 +43,17 @@ pub record IsEntered (cells : ℕ → ℕ → ℕ) (q : Queue) (ns : Notes) (ts 
   pub before : place q near.row < place q k
   pub less : room q k ≤ room q near.row
 
--- no weight is as high as this: 2 ^ 25
+-- no weight is as high as this
 abbrev pub weight_limit : ℕ
-weight_limit = 33554432
+weight_limit = MAX_WEIGHT + 1
 
--- between searches no value and no price is above this: 2 ^ 34
+-- between searches no value and no price is above this: each row on the way between two adds a weight at most
 abbrev pub most : ℕ
-most = 17179869184
+most = 2 * MAX_ROWS * weight_limit
 
--- and in a search none above this: 2 ^ 36
+-- and in a search none above this
 abbrev pub top : ℕ
-top = 68719476736
+top = 4 * most
 
 -- a row's value is as far from the root's as the classes between them allow
 pub record IsClose (values : List ℕ) (q : Queue) (k : ℕ) : Type 0 where
@@ -129,6 +130,6 @@ IsAttained values prices ns ts by = IsExitAt values prices ns by ⊎ ((g : ℕ) 
 
 -- rows and weights are within their limits
 pub record AreWeights (ws : ℕ → ℕ → Option ℕ) (rows classes : ℕ) : Type 0 where
-  pub few : rows ≤ 256
+  pub few : rows ≤ MAX_ROWS
   pub low : (k g w : ℕ) → ws k g ≡ Some w → w < weight_limit
   pub class : (k g w : ℕ) → ws k g ≡ Some w → g < classes
