@@ -1,6 +1,7 @@
 """Compares what the program answers to random scripts with what the second runtime answers: `compare.py PROGRAM`.
-Machines, bundles and lines are made at random, faulty ones among them. Each kind of answer has to be seen. Each certificate
-is given to the program's own check, which has to answer the outcome that it is of."""
+Machines, bundles and lines are made at random: one half is small, with faulty ones among them, the other plans many
+containers and steps to the plans, with events between the steps. Each kind of answer has to be seen, and plans, steps and
+long answers in number. Each certificate is given to the program's own check, which has to answer the outcome that it is of."""
 
 import json
 import os
@@ -12,7 +13,10 @@ from collections import Counter
 from second_runtime import Machine, Runtime, config_of, print_list, read_slit
 from transcripts import config, difference, doubted, place, run
 
-SCRIPTS = 400
+SCRIPTS = 1000
+PLANNED = 300
+# What has to be seen: plans of two rows or more, answers `more`, rows of one plan, bytes of one answer.
+LEAST = {"plans": 200, "more": 300, "rows": 100, "bytes": 8193}
 IDS = ["a", "b", "c", "d", "e", "web-1", "db.2", "x" * 64]
 NO_IDS = [".", "..", "x" * 65, "a/b", "é", "a:b"]
 SIGNALS = ["KILL", "SIGKILL", "9", "TERM", "SIGTERM", "15", "HUP", "kill", "0", "09"]
@@ -116,15 +120,113 @@ def made_script(cpus):
 
 
 def full_node():
-    """As many containers as there may be, and one more."""
-    machine = json.dumps({"nodes": ["0-1"], "distances": [[10]], "reserved": "0"}).encode()
-    script = [b"create c%d b0" % number for number in range(257)] + [b"list"]
-    return machine, None, {"b0": config({})}, script
+    """As many containers as there may be, and one more; some of them stop, and there is a plan for some that live."""
+    machine = json.dumps({"nodes": ["0-15", "16-31"], "distances": [[10, 20], [21, 10]], "reserved": "0"}).encode()
+    bundles = {"b0": config({}), "b1": config({"quota": 100000, "mems": "1"})}
+    script = [b"create c%d b%d" % (number, number % 10 == 0) for number in range(257)]
+    script += [b"kill c%d 9" % number for number in range(0, 256, 7)]
+    script += [b"list", b"create d b1", b"rebalance", b"certificate", b"sets c10", b"sets c11", b"delete c7", b"create d b1"]
+    return machine, None, bundles, script + [b"begin"] + [b"step"] * 230 + [b"sets d", b"list"]
 
 
-def made():
+def hundred_rows():
+    """A hundred containers that are planned, with lists of their own on nodes whose CPUs alternate."""
+    nodes = [set(range(n, 128, 4)) for n in range(4)]
+    distances = [[10 + 7 * abs(i - j) for j in range(4)] for i in range(4)]
+    told = {"nodes": [print_list(node) for node in nodes], "distances": distances, "reserved": "0"}
+    bundles, script = {}, []
+    for k in range(100):
+        cpus = {k + 1} | set(random.sample(range(1, 128), 20))
+        bundles[f"b{k}"] = config({"quota": 100000, "cpus": list_text(cpus), "mems": str(k % 4)})
+        script.append(b"create c%d b%d" % (k, k))
+    script += [b"rebalance", b"certificate", b"kill c0 9", b"offline 5", b"begin"] + [b"step"] * 250 + [b"certificate"]
+    return json.dumps(told).encode(), None, bundles, script
+
+
+def large_machine():
+    """A machine text and the nodes of a machine on which many containers have a plan."""
+    count, cpus = random.randint(1, 8), random.choice([16, 24, 33, 48, 64, 96, 128])
+    numbers_of_cpus = random.sample(range(1024), cpus) if random.random() < 0.2 else list(range(cpus))
+    nodes = [set(numbers_of_cpus[n::count]) for n in range(count)]
+    if random.random() < 0.5:
+        each = -(-cpus // count)
+        nodes = [set(numbers_of_cpus[n * each : (n + 1) * each]) for n in range(count)]
+    rows = [[10 if i == j else random.choice([11, 16, 20, 21, 31, 255]) for j in range(count)] for i in range(count)]
+    reserved = set(random.sample(numbers_of_cpus, random.choice([1, 2])))
+    told = {"nodes": [list_text(node) for node in nodes], "distances": rows, "reserved": list_text(reserved)}
+    return json.dumps(told).encode(), sorted(set(numbers_of_cpus) - reserved), count
+
+
+def good_section(cpus, count):
+    section = {"mems": list_text(some(range(count), least=1))}
+    if random.random() < 0.9:
+        section["quota"] = random.choice([1, 1, 1, 2, 2, 3]) * 100000
+    if random.random() < 0.4:
+        section["cpus"] = list_text(set(random.sample(cpus, max(4, len(cpus) // 3))))
+    return section
+
+
+def event(cpus, names):
+    """A line that may come between two steps."""
+    return random.choice([
+        f"offline {random.choice(cpus)}", f"online {random.choice(cpus)}", f"offline {random.choice(cpus)}",
+        f"online {random.choice(cpus)}", f"fork {random.randint(2, len(names) + 1)}", f"sets {random.choice(names)}",
+        f"exit {random.randint(2, 2 * len(names))}", "phase", f"kill {random.choice(names)} TERM",
+    ]).encode()
+
+
+def planning_script(cpus, names):
+    """Many containers, and hand-overs with their steps and what comes between them."""
+    script = [f"create {name} b{random.randint(0, 7)}".encode() for name in names]
+    for _ in range(random.randint(2, 4)):
+        script += [random.choice([b"rebalance", b"begin"])]
+        for _ in range(random.randint(1, len(names) + 4)):
+            script += [b"step"] * random.randint(1, 4)
+            if random.random() < 0.25:
+                script += [event(cpus, names), f"sets {random.choice(names)}".encode()]
+        script += [b"certificate"] + [b"step"] * (2 * len(names)) + [f"sets {name}".encode() for name in names]
+        gone = random.choice(names)
+        script += [f"kill {gone} 9".encode(), f"delete {gone}".encode(), f"create {gone} b{random.randint(0, 7)}".encode()]
+        script += [event(cpus, names) for _ in range(random.randint(0, 3))]
+    return script + [b"list"]
+
+
+def made_planned():
+    machine, cpus, count = large_machine()
+    most = min(40, len(cpus) // 2)
+    names = [f"c{k}" for k in range(random.choice([random.randint(3, most), random.randint(3, min(12, most))]))]
+    bundles = {f"b{k}": config(good_section(cpus, count)) for k in range(8)}
+    return machine, None, bundles, planning_script(cpus, names)
+
+
+def made(number):
+    if number < 2:
+        return (full_node, hundred_rows)[number]()
+    if number < 2 + PLANNED:
+        return made_planned()
     machine, slit, cpus, count = made_machine()
     return machine, slit, made_bundles(cpus, count), made_script(cpus)
+
+
+class Seen:
+    """How often lines were answered by which words, and how large plans and answers were."""
+
+    def __init__(self):
+        self.words, self.numbers, self.lines = Counter(), Counter(), 0
+
+    def note(self, line, answer):
+        self.lines += 1
+        for told in answer:
+            self.words[" ".join(told.split(" ")[: 2 if told.startswith("refused") else 1]) if told[:1] != "{" else "{"] += 1
+        rows = sum(told.startswith("hold ") for told in answer) if answer and answer[0].startswith("plan total") else 0
+        self.numbers["plans"] += rows > 1
+        self.numbers["more"] += answer == ["more"]
+        self.numbers["rows"] = max(self.numbers["rows"], rows)
+        self.numbers["bytes"] = max(self.numbers["bytes"], sum(len(told) + 1 for told in answer))
+
+    def missing(self):
+        few = [f"{self.numbers[name]} {name}" for name in LEAST if self.numbers[name] < LEAST[name]]
+        return few + [answer for answer in ANSWERS + PLAN_ANSWERS if not self.words[answer]]
 
 
 def compared(program, seen, machine, slit, bundles, script):
@@ -132,28 +234,24 @@ def compared(program, seen, machine, slit, bundles, script):
     end = random.choice([b"", b"\n"])
     done = run(program, words, b"\n".join(script) + end)
     runtime = Runtime(Machine(machine, None if slit is None else read_slit(slit)), config_of)
-    wrong = difference(runtime, script, done.stdout) or doubted(program, done.stdout)
+    wrong = difference(runtime, script, done.stdout, seen.note) or doubted(program, done.stdout)
     if wrong or done.returncode or done.stderr:
         sys.exit(f"compare: {machine!r}\n{bundles}\n{script}\n{wrong}\nstatus {done.returncode}, {done.stderr!r}")
-    for line in done.stdout.decode("utf-8", "backslashreplace").split("\n"):
-        seen[" ".join(line.split(" ")[: 2 if line.startswith("refused") else 1]) if line[:1] != "{" else "{"] += 1
 
 
 def main(program):
     random.seed(1)
     program = os.path.abspath(program)
-    seen, lines = Counter(), 0
+    seen = Seen()
     for number in range(SCRIPTS):
-        case = made() if number else full_node()
-        lines += len(case[3])
+        case = made(number)
         with tempfile.TemporaryDirectory() as folder:
             os.chdir(folder)
             compared(program, seen, *case)
             os.chdir("/")
-    missing = [answer for answer in ANSWERS + PLAN_ANSWERS if not seen[answer]]
-    if missing:
-        sys.exit(f"compare: no line was answered with {', '.join(missing)}")
-    print(f"compare: {SCRIPTS} scripts, {lines} lines")
+    if seen.missing():
+        sys.exit(f"compare: of these too few were seen, or none: {', '.join(seen.missing())}")
+    print(f"compare: {SCRIPTS} scripts, {seen.lines} lines,", ", ".join(f"{seen.numbers[name]} {name}" for name in LEAST))
 
 
 main(*sys.argv[1:])

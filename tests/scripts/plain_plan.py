@@ -73,11 +73,44 @@ def proof(rows, plan):
     return values, price
 
 
-def is_least(rows, plan, least):
-    """Whether it is a plan that costs as much as the least one and is dealt."""
+def is_plan(rows, plan):
     fits = all(len(cpus) == demand and cpus <= weights.keys() for cpus, (demand, weights) in zip(plan, rows))
-    apart = len(set().union(*plan)) == sum(map(len, plan))
-    return fits and apart and cost_of(rows, plan) == cost_of(rows, least) and dealt(rows, plan) == plan
+    return fits and len(set().union(*plan)) == sum(map(len, plan))
+
+
+def exchanges(rows, plan):
+    """What it costs at least that row k takes a CPU of row l, as `{(k, l): cost}`. Behind the rows stands one that holds what
+    nobody holds, and that has any CPU for nothing."""
+    nobody = len(rows)
+    holder = {cpu: k for k, cpus in enumerate(plan) for cpu in cpus}
+    costs = {}
+    for twins in classes(rows):
+        weighed = [(k, weights[twins[0]]) for k, (_, weights) in enumerate(rows) if twins[0] in weights]
+        weighed = dict(weighed + [(nobody, 0)])
+        for l in {holder.get(cpu, nobody) for cpu in twins}:
+            for k, weight in weighed.items():
+                if k != l:
+                    costs[k, l] = min(costs.get((k, l), weight - weighed[l]), weight - weighed[l])
+    return costs
+
+
+def can_be_cheaper(rows, plan):
+    """Whether some rows gain if each takes a CPU of the next one, in a ring. Where none do, the plan is of least cost."""
+    costs = [(k, l, cost) for (k, l), cost in exchanges(rows, plan).items()]
+    best = [0] * (len(rows) + 1)
+    for _ in range(len(rows) + 2):
+        before = list(best)
+        for k, l, cost in costs:
+            if best[k] + cost < best[l]:
+                best[l] = best[k] + cost
+        if best == before:
+            return False
+    return True
+
+
+def is_least(rows, plan):
+    """Whether it is a plan of least cost, and dealt."""
+    return is_plan(rows, plan) and dealt(rows, plan) == plan and not can_be_cheaper(rows, plan)
 
 
 def is_short(rows, members):

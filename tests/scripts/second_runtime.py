@@ -3,8 +3,9 @@ from docs/formats.md alone and by other means: it keeps its state in dictionarie
 are asked for, and finds plans by `plain_plan`.
 
 A rebalance may choose among plans of least cost, or among shortages. Where it is told what the program is about to answer
-(`coming`), it takes the program's choice if that is allowed, and goes on from there; else it takes its own."""
+(`coming`), it goes on from the program's choice if that is allowed, and else raises `Wrong`; else it takes its own."""
 
+import itertools
 import json
 import os
 import re
@@ -16,7 +17,12 @@ from reference import check
 
 CPUS, NODES, CONTAINERS, MOST_TEXT, MOST_LINE = 1024, 64, 256, 1_048_576, 8192
 FIRST_PID, LAST_PID = 2, 4_194_303
+SOLVED = 4
 SIGNALS = ["KILL", "SIGKILL", "9", "TERM", "SIGTERM", "15"]
+
+
+class Wrong(Exception):
+    """The program's answer is none that may be."""
 
 
 class Refused(Exception):
@@ -476,17 +482,29 @@ class Runtime:
 
     def work_out(self, names, rows):
         """A plan of least cost, or the members of a shortage."""
-        plan, members = plain_plan.work_out(rows)
         if self.coming is None:
-            return plan, members
+            return plain_plan.work_out(rows)
         words = [line.split(" ") for line in self.block()]
-        if plan is None:
-            ids = [word[1] for word in words if word[0] == "member" and len(word) == 2]
-            told = [k for k, name in enumerate(names) if name in ids]
-            return None, told if plain_plan.is_short(rows, told) else members
+        ids = [word[1] for word in words if word[0] == "member" and len(word) == 2]
+        if ids:
+            members = [k for k, name in enumerate(names) if name in ids]
+            if not plain_plan.is_short(rows, members):
+                raise Wrong(f"no shortage of {rows}: {ids}")
+            return None, members
         holds = {word[1]: numbers(word[2]) for word in words if word[0] == "hold" and len(word) == 3}
-        told = [holds.get(name, set()) for name in names]
-        return told if plain_plan.is_least(rows, told, plan) else plan, None
+        plan = [holds.get(name, set()) for name in names]
+        self.judge(rows, plan)
+        return plan, None
+
+    @staticmethod
+    def judge(rows, plan):
+        """Raises `Wrong` where a plan is none, not dealt, or not of least cost; small problems are solved, too."""
+        if not plain_plan.is_least(rows, plan):
+            raise Wrong(f"no dealt plan of least cost for {rows}: {plan}")
+        if len(rows) <= SOLVED:
+            own, _ = plain_plan.work_out(rows)
+            if own is None or plain_plan.cost_of(rows, own) != plain_plan.cost_of(rows, plan):
+                raise Wrong(f"the plan of {rows} is {own}, not {plan}")
 
     def begin(self):
         self.settled()
@@ -506,8 +524,8 @@ class Runtime:
     def due(self):
         """The write of the hand-over that comes next: of those that give CPUs back the first, else the first."""
         live = [(c, target) for c, target in self.underway if self.live(c)]
-        keeps = [(c, c.cpus & (target | self.machine.reserved) or self.machine.reserved) for c, target in live]
-        return next(((c, cpus) for c, cpus in keeps + live if cpus != c.cpus), None)
+        keeps = ((c, c.cpus & (target | self.machine.reserved) or self.machine.reserved) for c, target in live)
+        return next(((c, cpus) for c, cpus in itertools.chain(keeps, live) if cpus != c.cpus), None)
 
     def step(self):
         if self.underway is None:
@@ -539,7 +557,9 @@ class Runtime:
             head.append(" ".join([f"row {name} {demand}"] + [f"{weight}:{print_list(cpus)}" for weight, cpus in offers]))
         if plan is None:
             return head + [f"short {names[k]}" for k in members] + ["end"]
-        if self.coming is not None and self.proves(self.block(), head, names, plan):
+        if self.coming is not None:
+            if not self.proves(self.block(), head, names, plan):
+                raise Wrong(f"no certificate of {head} and {plan}: {self.block()}")
             return self.block()
         values, price = plain_plan.proof(rows, plan)
         holds = [f"hold {name} {print_list(cpus)} {value}" for name, cpus, value in zip(names, plan, values)]

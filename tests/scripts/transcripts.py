@@ -2,20 +2,39 @@
 
 `machine TEXT` is the machine file, `slit HEX` the bytes of a distance table beside it, `bundle NAME SECTION` a bundle whose
 config has this `linux.resources.cpu`, and `config NAME TEXT` one with this `config.json`. Then come the lines of the script,
-each behind `$ `, and below each its answers, each behind `| `. In a line of the script `[N bytes]` is a word of N bytes."""
+each behind `$ `, and below each the lines of its answer, each behind `| `. Where another answer may be given, too, its lines
+stand below, the first behind `/ `; and `= TEXT` stands for any certificate to which a check answers TEXT. In a line of the
+script `[N bytes]` is a word of N bytes."""
 
 import json
 import os
 import re
-import subprocess
+import sys
 
-from second_runtime import numbers
+sys.path.insert(0, os.path.join(os.path.dirname(os.path.abspath(__file__)), ".."))
+import program as programs
+from program import SECONDS
+from second_runtime import Wrong, check, numbers
 
 
 def config(section):
     told = {"ociVersion": "1.0.2", "root": {"path": "rootfs"}, "process": {"args": ["run"]}}
     told["linux"] = {"resources": {"cpu": section}}
     return json.dumps(told).encode()
+
+
+class Answer:
+    """What may be answered to a line."""
+
+    def __init__(self):
+        self.texts, self.verdict = [[]], None
+
+    def length(self, found):
+        """How many of the found lines are the answer, or None where they begin with none."""
+        if self.verdict is not None:
+            lines = found[: found.index("end") + 1] if "end" in found else []
+            return len(lines) if check("".join(line + "\n" for line in lines).encode()) == self.verdict else None
+        return next((len(text) for text in self.texts if found[: len(text)] == text), None)
 
 
 class Transcript:
@@ -34,11 +53,26 @@ class Transcript:
                 self.bundles[name] = text.encode()
             elif word == "$":
                 self.script.append(re.sub(r"\[(\d+) bytes\]", lambda found: "x" * int(found[1]), rest).encode())
-                self.answers.append([])
+                self.answers.append(Answer())
             elif word == "|":
-                self.answers[-1].append(rest)
+                self.answers[-1].texts[-1].append(rest)
+            elif word == "/":
+                self.answers[-1].texts.append([rest])
+            elif word == "=":
+                self.answers[-1].verdict = rest
             elif word not in ("", "#"):
                 raise ValueError(f"{path}: {line!r} is no part of a transcript")
+
+    def cut(self, found):
+        """The found lines by the lines of the script that they answer; or the line that they do not answer."""
+        answers = []
+        for line, expected in zip(self.script, self.answers):
+            length = expected.length(found)
+            if length is None:
+                return None, f"{line!r}: expected {expected.verdict or expected.texts}, found {found[:20]}"
+            answers.append(found[:length])
+            found = found[length:]
+        return answers, f"more than was asked for: {found}" if found else None
 
     def place(self):
         """Writes its files, and answers the words of a command line that runs it, but for the program's name."""
@@ -58,19 +92,24 @@ def place(machine, slit, bundles):
 
 
 def run(program, words, script):
-    return subprocess.run([program] + words, input=script, capture_output=True)
+    return programs.run([program] + words, script)
 
 
-def difference(runtime, script, output):
-    """Where the program's output is not what the runtime answers to the lines; the runtime is told what comes."""
+def difference(runtime, script, output, note=lambda line, answer: None):
+    """Where the program's output is not what the runtime answers to the lines; the runtime is told what comes. Each line is
+    noted with its answer."""
     found = output.decode("utf-8", "backslashreplace").split("\n")
     if found.pop() != "":
         return "the last line has no line feed"
     for line in script:
         runtime.coming = found
-        expected = runtime.answer(line)
+        try:
+            expected = runtime.answer(line)
+        except Wrong as why:
+            return f"{line[:100]!r}: {str(why)[:2000]}"
         if found[: len(expected)] != expected:
             return f"{line[:100]!r}: expected {expected}, found {found[: len(expected) + 1]}"
+        note(line, expected)
         found = found[len(expected) :]
     return f"more than was asked for: {found}" if found else None
 

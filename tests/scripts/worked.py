@@ -6,55 +6,62 @@ import os
 import subprocess
 import sys
 import tempfile
+import threading
 
 from second_runtime import Machine, Runtime, config_of, read_slit
-from transcripts import Transcript, doubted, run
+from transcripts import SECONDS, Transcript, difference, doubted, run
 
 WORKED = os.path.join(os.path.dirname(os.path.abspath(__file__)), "worked")
 
 
-def by_second_runtime(told):
-    runtime = Runtime(Machine(told.machine, None if told.slit is None else read_slit(told.slit)), config_of)
-    return [runtime.answer(line) for line in told.script]
+def by_second_runtime(told, program_output):
+    """What is wrong with the second runtime's answers: to a script alone, and where it is told what the program answers."""
+    def runtime():
+        return Runtime(Machine(told.machine, None if told.slit is None else read_slit(told.slit)), config_of)
+
+    alone = runtime()
+    _, wrong = told.cut([answer for line in told.script for answer in alone.answer(line)])
+    return wrong or difference(runtime(), told.script, program_output)
 
 
-def typed(program, words, told):
+def typed(program, words, told, lengths):
     """The answers to lines that are sent one after another."""
     with subprocess.Popen([program] + words, stdin=subprocess.PIPE, stdout=subprocess.PIPE) as shell:
-        answers = []
-        for line, expected in zip(told.script, told.answers):
+        alarm = threading.Timer(SECONDS, shell.kill)
+        alarm.start()
+        found = b""
+        for line, length in zip(told.script, lengths):
             shell.stdin.write(line + b"\n")
             shell.stdin.flush()
-            answers.append([shell.stdout.readline().decode().rstrip("\n") for _ in expected])
+            found += b"".join(shell.stdout.readline() for _ in range(length))
         shell.stdin.close()
-        return answers
+        alarm.cancel()
+        return found
 
 
-def check(program, name, told):
-    with tempfile.TemporaryDirectory() as folder:
-        os.chdir(folder)
-        words = told.place()
-        answers = by_second_runtime(told)
-        for line, expected, found in zip(told.script, told.answers, answers):
-            if expected != found:
-                sys.exit(f"worked: {name}: the second runtime: {line!r}: expected {expected}, found {found}")
-        expected = "".join(answer + "\n" for answers in told.answers for answer in answers).encode()
-        done = run(program, words, b"\n".join(told.script))
-        if (done.returncode, done.stdout, done.stderr) != (0, expected, b""):
-            sys.exit(f"worked: {name}: expected {expected.decode()}\nfound {done}")
-        wrong = doubted(program, done.stdout)
-        if wrong:
-            sys.exit(f"worked: {name}: {wrong}")
-        if typed(program, words, told) != told.answers:
-            sys.exit(f"worked: {name}: typed, its answers are others")
-        os.chdir("/")
+def check(program, told):
+    """What is wrong with the program's answers, if anything is."""
+    words = told.place()
+    done = run(program, words, b"\n".join(told.script))
+    if (done.returncode, done.stderr) != (0, b""):
+        return str(done)
+    answers, wrong = told.cut(done.stdout.decode().split("\n")[:-1])
+    wrong = wrong or by_second_runtime(told, done.stdout) or doubted(program, done.stdout)
+    if not wrong and typed(program, words, told, map(len, answers)) != done.stdout:
+        return "typed, its answers are others"
+    return wrong
 
 
 def main(program):
     program = os.path.abspath(program)
     names = sorted(os.listdir(WORKED))
     for name in names:
-        check(program, name, Transcript(os.path.join(WORKED, name)))
+        with tempfile.TemporaryDirectory() as folder:
+            os.chdir(folder)
+            wrong = check(program, Transcript(os.path.join(WORKED, name)))
+            os.chdir("/")
+        if wrong:
+            sys.exit(f"worked: {name}: {wrong}")
     print(f"worked: {len(names)} transcripts")
 
 
