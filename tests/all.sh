@@ -1,9 +1,10 @@
 #!/usr/bin/env bash
-# Everything: the proofs from nothing, the wrong bodies, the tests and the programs; then, with the programs that this
+# Everything: each name of docs/definitions.md; the proofs from nothing, the wrong bodies, the tests and the programs; then, with the programs that this
 # built, machine files made of recorded hosts, a table of command lines, a second checker, a second runtime, a solver that
 # tries every plan, and each of the program's growths refused in turn.
 set -eu
 cd "$(dirname "$0")/.."
+bash tests/definitions.sh
 rt ci
 export PROGRAM=$PWD/crates/numarun/out/numarun TOOLS=$PWD/crates/tools/out/tools
 bash tests/describe-host.sh
