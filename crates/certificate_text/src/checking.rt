@@ -30,7 +30,7 @@ pub enum VerdictFault {
 
 impl Fault for VerdictFault {}
 
-/// Reads a certificate from its text and checks it.
+/// Reads a certificate from its text and checks it: [`read_text`], then [`check`].
 ///
 /// # Errors
 /// Those of [`read_text`], then those of [`check_plan`], then `Gap` where the written total isn't the plan's cost; for a
@@ -58,10 +58,20 @@ pub fn check_text(alloc: Global, text: &[u8]) -> Result<Verdict, OrMemory<Verdic
     }
 }
 
-fn check(certificate: &Certificate) -> Result<Verdict, CheckFault>
+/// Checks a certificate, as its text says it or as it was built. This takes no memory, so only the reading of a text can
+/// want any.
+///
+/// # Errors
+/// Those of [`check_plan`], then `Gap` where the written total isn't the plan's cost; for a shortage those of
+/// [`check_shortage`].
+pub fn check(certificate: &Certificate) -> Result<Verdict, CheckFault>
+    // A yes: values and prices prove the plan to cost the total, or the members are short by these counts.
     ensures proved { IfOk result (λ v. IsProvedCertificate certificate.now v) }
+    // Hence no plan of the rows costs less, or they have none.
     ensures best { IfOk result (λ v. IsBest certificate.now v) }
+    // A yes wherever that holds.
     ensures complete { (v : Verdict) → IsProvedCertificate certificate.now v → result ≡ Ok v }
+    // A no: the certificate's first fault, and its cause stands.
     ensures fault { IfErr result (λ fault. IsFaultOf fault certificate.now) }
 {
     match certificate {

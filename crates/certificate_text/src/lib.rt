@@ -1,4 +1,4 @@
-//! Certificates as text, line by line: [`read_text`] reads one, [`check_text`] checks what it read.
+//! Certificates as text, line by line: [`read_text`] reads one, [`check`] checks it, and [`check_text`] does both.
 //!
 //! The grammar is in [`read_text`]'s words; the check itself is the crate `certificate`'s.
 #![tactic(auto)]
@@ -22,7 +22,7 @@ mod word_pairs;
 mod writing;
 
 pub use certificates::Certificate;
-pub use checking::{Verdict, VerdictFault, check_text};
+pub use checking::{Verdict, VerdictFault, check, check_text};
 pub use id::{ID_LIMIT, is_id};
 pub use laws::{one_reading, read_certificates_can_be_written, the_limits, written_texts_are_read};
 pub use members::Members;

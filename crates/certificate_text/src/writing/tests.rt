@@ -46,17 +46,18 @@ short b
 end
 ";
 
-// Takes some writes whole, and fails at each one after them.
+// Takes some writes whole, and fails at each one after them, by this kind of fault.
 #[derive(Drop)]
 struct Failing<'a> {
     taken: &'a mut Vec<u8>,
     writes: usize,
+    kind: ErrorKind,
 }
 
 impl Write for Failing<'_> {
     fn write(&mut self, buf: &[u8]) -> io::Result<usize> {
         if self.writes == 0 {
-            return Err(io::Error::from(ErrorKind::BrokenPipe));
+            return Err(io::Error::from(self.kind));
         }
         self.writes -= 1;
         self.taken.extend_from_slice(buf)?;
@@ -87,22 +88,36 @@ fn writes_certificates(rt: HostRuntime) -> Result<(), Fail> {
     Ok(())
 }
 
-// A writer that fails after each possible number of writes has a front of the text, and the writer's fault is answered.
+// A writer that fails after each possible number of writes has a front of the text, and the writer's fault is answered,
+// of its own kind.
 #[test]
 fn front_went_out(rt: HostRuntime) -> Result<(), Fail> {
-    for (text, want) in [(PLAN, WRITTEN_PLAN), (SHORTAGE, WRITTEN_SHORTAGE)] {
+    for (text, want, kind) in [
+        (PLAN, WRITTEN_PLAN, ErrorKind::BrokenPipe),
+        (SHORTAGE, WRITTEN_SHORTAGE, ErrorKind::StorageFull),
+    ] {
         let mut last = 0;
         for writes in 0..40 {
             let mut taken = Vec::new(rt.alloc());
             let mut w = Failing {
                 taken: &mut taken,
                 writes,
+                kind,
             };
             let answer = rewrite(rt.alloc(), text, &mut w)?;
             let length = taken.len();
             assert!(rt; want.as_bytes().starts_with(taken.as_slice()));
             assert_eq!(rt; answer.is_ok(), length == want.len());
             assert!(rt; answer.is_ok() || last < length || writes == 0);
+            let told = answer.err().map(|e| e.kind());
+            assert_eq!(rt;
+                told,
+                if length == want.len() {
+                    None
+                } else {
+                    Some(kind)
+                }
+            );
             last = length;
         }
     }
