@@ -1,7 +1,7 @@
 #!/usr/bin/env bash
 # Compares what the built program answers to some thousands of certificates with what a second checker answers,
-# which is written in another language from docs/formats.md alone. PROGRAM in the environment is compared in place of the
-# one that this builds.
+# which is written in another language from docs/formats.md alone, and to those at each limit with what is counted by hand.
+# PROGRAM in the environment is compared in place of the one that this builds.
 set -eu
 top=$(cd "$(dirname "$0")/.." && pwd)
 . "$top/tests/build-program.sh"

@@ -9,9 +9,11 @@ top=$(cd "$(dirname "$0")/.." && pwd)
 work=$(mktemp -d)
 trap 'rm -rf "$work"' EXIT
 
-command -v gcc >/dev/null || { apt-get -qq update && apt-get -qq install -y gcc libc6-dev; } >/dev/null || exit 1
-gcc -O2 -shared -fPIC -o "$work/refuse.so" "$top/tests/refuse.c" || exit 1
+. "$top/tests/build-preloads.sh"
 . "$top/tests/build-program.sh"
+
+# refusing WORD..: runs a program with the allocation refused that `number` says
+refusing() { timeout 60 env REFUSE="$number" LD_PRELOAD="$work/refuse.so" "$@"; }
 
 wrong() {
     echo "growth: $1: status $2, answer '$(cat "$work/output")', error '$(cat "$work/error")'"
@@ -23,12 +25,12 @@ wrong() {
 each_growth() {
     local name=$1 status=$2 expected=$3 input=$4 number=0 statuses="" got
     shift 4
-    "$program" "$@" <"$input" >"$work/whole" 2>"$work/whole-error"
+    timeout 60 "$program" "$@" <"$input" >"$work/whole" 2>"$work/whole-error"
     got=$?
     [ $got -eq "$status" ] || { cp "$work/whole" "$work/output"; cp "$work/whole-error" "$work/error"; wrong "$name" $got; }
     while :; do
         number=$((number + 1))
-        REFUSE=$number LD_PRELOAD="$work/refuse.so" "$program" "$@" <"$input" 3>"$work/refused" >"$work/output" 2>"$work/error"
+        refusing "$program" "$@" <"$input" 3>"$work/refused" >"$work/output" 2>"$work/error"
         got=$?
         if cmp -s "$work/output" "$work/whole" && cmp -s "$work/error" "$work/whole-error" && [ $got -eq "$status" ]; then
             [ -s "$work/refused" ] || break
@@ -65,18 +67,20 @@ each_growth "a missing argument" 2 "1+2+" /dev/null list
 each_growth "an unknown option" 2 "1+2+" /dev/null check -f
 python3 -B "$top/tests/scripts/growth.py" "$program" "$work/refuse.so" "$top/tests/scripts/worked/every-command" || exit 1
 
-# what the solver answers to two problems
-solver_growth() {
-    local name="the solver" number=0 seen=0 got
-    "$tools" solve <"$work/problems" >"$work/whole" 2>"$work/error" || { cp "$work/whole" "$work/output"; wrong "$name" $?; }
+# tools_growth NAME FAULTS INPUT WORD..: what a tool answers to these words and this standard input; where an allocation is refused,
+# a front of that, and a fault of these
+tools_growth() {
+    local name=$1 faults=$2 input=$3 number=0 seen=0 got
+    shift 3
+    timeout 60 "$tools" "$@" <"$input" >"$work/whole" 2>"$work/error" || { cp "$work/whole" "$work/output"; wrong "$name" $?; }
     while :; do
         number=$((number + 1))
-        REFUSE=$number LD_PRELOAD="$work/refuse.so" "$tools" solve <"$work/problems" 3>"$work/refused" >"$work/output" 2>"$work/error"
+        refusing "$tools" "$@" <"$input" 3>"$work/refused" >"$work/output" 2>"$work/error"
         got=$?
         if cmp -s "$work/output" "$work/whole" && [ ! -s "$work/error" ] && [ $got -eq 0 ]; then
             [ -s "$work/refused" ] || break
         elif [ $got -eq 1 ] && cmp -s -n "$(stat -c %s "$work/output")" "$work/output" "$work/whole" \
-            && grep -qxE 'Error: (memory allocation failed|out of memory)' "$work/error"; then
+            && grep -qxE "Error: ($faults)" "$work/error"; then
             seen=$((seen + 1))
         else
             wrong "$name, allocation $number" $got
@@ -88,4 +92,6 @@ solver_growth() {
 
 . "$top/benches/build-tools.sh"
 { cat "$example"; printf 'numarun-certificate 1\nrow a 2 10:1-2\nrow b 1 10:1-2\nshort a\nshort b\nend\n'; } >"$work/problems"
-solver_growth
+memory="memory allocation failed|out of memory"
+tools_growth "the solver" "$memory" "$work/problems" solve
+tools_growth "lists, printed" "$memory|no such benchmark, or a call that was refused" /dev/null lists 1

@@ -1,4 +1,5 @@
-// Refuses the allocation whose number, from 1, stands in REFUSE, and writes a byte to descriptor 3 when it does.
+// Refuses the allocation whose number, from 1, stands in REFUSE, and writes a byte to descriptor 3 when it does. With COUNT set
+// it refuses none, and writes a byte for each.
 #define _GNU_SOURCE
 #include <errno.h>
 #include <stdlib.h>
@@ -9,6 +10,7 @@ void *__libc_malloc(size_t), *__libc_calloc(size_t, size_t), *__libc_realloc(voi
 static int refuses(void) {
     static long count;
     const char *number = getenv("REFUSE");
+    if (getenv("COUNT") != NULL && write(3, "c", 1) != 1) _exit(99);
     if (number == NULL || ++count != atol(number)) return 0;
     if (write(3, "r", 1) != 1) _exit(99);
     errno = ENOMEM;

@@ -1,17 +1,21 @@
 """Compares what the program answers with what the second checker answers: `compare.py PROGRAM EXAMPLE`.
 
-The texts are every front of the example, the example with random edits, and random small certificates, most of
-them with values and prices that prove the plan, or with members that are a shortage. Where the program says yes to
-a plan, no plan at all costs less; where it says that CPUs are short, there is no plan at all. Each verdict has to be
-seen.
+The texts are those at the limits with their written answers, every front of the example, the example and random
+certificates with random edits, and random small certificates, most of them with values and prices that prove the plan, or
+with members that are a shortage. Where the program says yes to a plan, no plan at all costs less; where it says that CPUs
+are short, there is no plan at all. Each verdict has to be seen in number.
 """
 
 import itertools
+import os
 import random
-import subprocess
+import re
 import sys
 from collections import Counter
 
+sys.path.insert(0, os.path.join(os.path.dirname(os.path.abspath(__file__)), ".."))
+from limits import TEXTS
+from program import run
 from reference import check, least_cost, read
 
 PIECES = [b" ", b"  ", b"\n", b"\r", b"\0", b"\t", b"\xff", b"+", b"-", b",", b":", b"0", b"00", b"1", b"9" * 1000, b"1023",
@@ -19,6 +23,10 @@ PIECES = [b" ", b"  ", b"\n", b"\r", b"\0", b"\t", b"\xff", b"+", b"-", b",", b"
           b"1099511627776", b"1099511627777", b"33554431", b"33554432", b"..", b"x" * 65, b"row a 1 10:1\n",
           b"hold a 1 10\n", b"price 0 5\n", b"price 3 2\n", b"total 23\n", b"end\n", b"short a\n", b"short b\n"]
 
+NUMBERS = [b"0", b"1", b"2", b"3", b"10", b"11", b"12", b"1023", b"1024", b"1025", b"33554431", b"33554432", b"1099511627776",
+           b"1099511627777", b"18446744073709551615"]
+
+LEAST = 20
 VERDICTS = ["plan", "short", "E70", "E71", "E72", "E73", "E74", "E75", "E76", "E77"]
 
 
@@ -37,6 +45,14 @@ def edited(text):
             a, b = random.randrange(len(lines)), random.randrange(len(lines))
             lines[a], lines[b] = lines[b], lines[a]
             text = b"\n".join(lines)
+    return text
+
+
+def with_other_numbers(text):
+    """The text with one or two of its numbers changed."""
+    for _ in range(random.randint(1, 2)):
+        found = random.choice(list(re.finditer(rb"(?<=[ :,-])[0-9]+", text)))
+        text = text[: found.start()] + random.choice(NUMBERS) + text[found.end() :]
     return text
 
 
@@ -97,30 +113,47 @@ def made():
     return "\n".join(lines).encode()
 
 
+def judged(program, text, expected):
+    """The verdict that the program's answer is, where it is the expected one."""
+    answer = run([program, "check"], text)
+    name = expected.split()[1] if expected.startswith("refused") else expected.split()[0]
+    status = 0 if name in ("plan", "short") else 1
+    if (answer.stdout, answer.stderr, answer.returncode) != (expected.encode() + b"\n", b"", status):
+        sys.exit(f"compare: {text[:2000]!r}: expected {expected!r}, found {answer}")
+    return name
+
+
+def solved(text, expected):
+    """Compares an answer that is a plan's or a shortage's with what comes of trying every plan, of small problems."""
+    rows = read(text)[0]
+    if all(len(s) < 9 for _, _, offers in rows for _, s in offers):
+        least = least_cost(rows)
+        if expected != f"plan total {least}" and not (expected.startswith("short") and least is None):
+            sys.exit(f"compare: {text!r}: expected {expected!r}, but the least plan costs {least}")
+
+
 def main(program, example):
     random.seed(1)
     text = open(example, "rb").read()
-    texts = [text[:end] for end in range(len(text) + 1)]
-    texts += [edited(text) for _ in range(2000)] + [made() for _ in range(2000)]
+    for limit, expected in TEXTS:
+        judged(program, limit, expected)
+        if check(limit) != expected:
+            sys.exit(f"compare: {limit[:2000]!r}: expected {expected!r}, the second checker answers {check(limit)!r}")
+    small = [made() for _ in range(2000)]
+    texts = [text[:end] for end in range(len(text) + 1)] + small
+    texts += [edited(text) for _ in range(1000)] + [with_other_numbers(text) for _ in range(1000)]
+    texts += [with_other_numbers(random.choice(small)) for _ in range(1000)]
     seen = Counter()
     for text in texts:
-        answer = subprocess.run([program, "check"], input=text, capture_output=True)
         expected = check(text)
-        name = expected.split()[1] if expected.startswith("refused") else expected.split()[0]
-        status = 0 if name in ("plan", "short") else 1
-        if (answer.stdout, answer.stderr, answer.returncode) != (expected.encode() + b"\n", b"", status):
-            sys.exit(f"compare: {text!r}: expected {expected!r}, found {answer}")
-        if status == 0:
-            rows = read(text)[0]
-            if all(len(s) < 9 for _, _, offers in rows for _, s in offers):
-                least = least_cost(rows)
-                if expected != f"plan total {least}" and not (name == "short" and least is None):
-                    sys.exit(f"compare: {text!r}: expected {expected!r}, but the least plan costs {least}")
+        name = judged(program, text, expected)
+        if name in ("plan", "short"):
+            solved(text, expected)
         seen[name] += 1
-    print("compare:", ", ".join(f"{name} {seen[name]}" for name in VERDICTS))
-    missing = [name for name in VERDICTS if not seen[name]]
+    print(f"compare: {len(TEXTS)} texts at the limits,", ", ".join(f"{name} {seen[name]}" for name in VERDICTS))
+    missing = [name for name in VERDICTS if seen[name] < LEAST]
     if missing:
-        sys.exit(f"compare: no text was answered with {', '.join(missing)}")
+        sys.exit(f"compare: fewer than {LEAST} texts were answered with {', '.join(missing)}")
 
 
 main(*sys.argv[1:])

@@ -2,20 +2,88 @@
 
 A case of the table is a line `$ numarun WORD..`, with `< INPUT`, `> PLACE` and `2> PLACE` behind it where the standard
 streams are others than nothing, a pipe and a pipe; then `status N`; then standard output, each line behind `|`, and
-standard error, each line behind `!`. A word in `$'..'` has escapes. A stream at `closed` is closed.
+standard error, each line behind `!`. A word in `$'..'` has escapes. A stream at `closed` is closed. The program is run as
+a user who may not read the file `locked`.
 """
 
 import os
 import re
 import resource
 import shlex
+import shutil
 import subprocess
 import sys
 import tempfile
 
+sys.path.insert(0, os.path.join(os.path.dirname(os.path.abspath(__file__)), ".."))
+from program import SECONDS
+
 SLIT = b"SLIT\x30\0\0\0\x01\x53" + bytes(26) + b"\x02\0\0\0\0\0\0\0\x0a\x15\x15\x0a"
 FAR = b'{"nodes":["0-3","4-7"],"reserved":"0"}'
 CONFIG = b'{"ociVersion":"1.0.2","root":{"path":"rootfs"},"process":{"args":["run"]}}'
+
+
+NOBODY = 65534
+
+
+def table(count, entries, **changed):
+    """The bytes of a distance table that sum to 0, with these bytes changed."""
+    made = bytearray(b"SLIT" + (44 + count * count).to_bytes(4, "little") + bytes(28) + count.to_bytes(8, "little"))
+    made += bytes(entries)
+    for place, byte in changed.items():
+        made[int(place.removeprefix("at"))] = byte
+    made[9] = -sum(made) % 256
+    return bytes(made)
+
+
+def tables():
+    """Three localities, the most, and tables with a fault each."""
+    three = [10, 11, 12, 21, 10, 23, 255, 254, 10]
+    most = [10 if i == j else 11 + (3 * i + 5 * j) % 244 for i in range(64) for j in range(64)]
+    sum_off = bytearray(SLIT)
+    sum_off[9] += 1
+    return {
+        "three": table(3, three), "most": table(64, most), "behind": SLIT + b"more", "signature": table(2, three[:4], at3=0x53),
+        "no-localities": table(2, three[:4], at36=0), "many": table(2, three[:4], at36=65), "large": table(2, three[:4], at43=1),
+        "length": table(2, three[:4], at4=49), "past": SLIT[:47], "sum": bytes(sum_off), "diagonal": table(3, three[:8] + [11]),
+        "nine": table(3, three[:8] + [9]), "empty": b"",
+    }
+
+
+def machines():
+    """Machine files with a fault each, and one as long as may be."""
+    def machine(nodes='["0-3","4-7"]', distances='"distances":[[10,21],[21,10]],', reserved='"reserved":"0"'):
+        return f'{{"nodes":{nodes},{distances}{reserved}}}'.encode()
+
+    good = machine()
+    rows = ",".join(f'"{node}"' for node in range(65))
+    return {
+        "longest": good + b" " * (1_048_576 - len(good)), "longer": good + b" " * (1_048_577 - len(good)), "array": b"[]",
+        "open": good[:-1], "no-nodes": machine("null"), "not-list": machine('["0-3","4-"]'), "too-large": machine('["0-3","1024"]'),
+        "zero": machine("[]"), "sixty-five": machine(f"[{rows}]"), "twice": machine('["0-3","3-7"]'),
+        "no-rows": machine(distances='"distances":7,'), "no-row": machine(distances='"distances":[[10,21],7],'),
+        "a-row": machine(distances='"distances":[[10,21]],'), "a-column": machine(distances='"distances":[[10,21],[21]],'),
+        "fraction": machine(distances='"distances":[[10,21],[21.5,10]],'), "near": machine(distances='"distances":[[10,9],[21,10]],'),
+        "further": machine(distances='"distances":[[10,21],[256,10]],'), "not-ten": machine(distances='"distances":[[10,21],[21,11]],'),
+        "unreserved": machine(reserved='"reserved":""'), "elsewhere": machine(reserved='"reserved":"8"'),
+        "no-reserved": machine(reserved='"reserved":7'), "off": machine(reserved='"reserved":"0","offline":"0"'),
+        "off-elsewhere": machine(reserved='"reserved":"0","offline":"9"'), "no-off": machine(reserved='"reserved":"0","offline":"x"'),
+    }
+
+
+def certificates(text):
+    """The certificate with a fault each."""
+    def changed(old, new):
+        return text.replace(old, new)
+
+    return {
+        "limit": changed(b"hold a 2 11", b"hold a 2 1099511627777"), "count": changed(b"hold a 2 11", b"hold a 1-2 11"),
+        "other": changed(b"hold a 2 11", b"hold a 3 11"), "both": changed(b"hold a 2 11", b"hold a 1 11"),
+        "gap": changed(b"total 23", b"total 22"), "most-total": changed(b"total 23", b"total 18446744073709551615"),
+        "past-total": changed(b"total 23", b"total 18446744073709551616"),
+        "lack": b"numarun-certificate 1\nrow a 2 10:1-2\nrow b 1 10:1-2\nrow c 1 10:4-5\nshort a\nshort b\nend\n",
+        "no-lack": b"numarun-certificate 1\nrow a 2 10:1-2\nrow c 1 10:4-5\nshort a\nshort c\nend\n",
+    }
 
 
 def make_files(certificate):
@@ -33,8 +101,10 @@ def make_files(certificate):
         "script": b"create a bundle\nstart a\ncreate b no\nstate a\nlist",
         "unreadable": b"create a hollow\ncreate b endless\ncreate c bundle/config.json\ncreate d bundle\nlist",
     }
-    for name, content in files.items():
+    for name, content in {**files, **tables(), **machines(), **certificates(text)}.items():
         open(name, "wb").write(content)
+    open("locked", "wb").write(text)
+    os.chmod("locked", 0)
     open("long", "wb").truncate(67_108_865)
     os.mkdir("folder")
     os.mkdir("bundle")
@@ -87,11 +157,13 @@ def run(program, words, places):
         flags = os.O_WRONLY if number else os.O_RDONLY
         streams[name] = os.open(place, flags) if place not in (None, "closed") else default
 
-    def close():
+    def prepare():
         for number in closed:
             os.close(number)
+        if b"locked" in words and os.getuid() == 0:
+            os.setuid(NOBODY)
 
-    done = subprocess.run([program.encode()] + words, preexec_fn=close, **streams)
+    done = subprocess.run([program.encode()] + words, preexec_fn=prepare, timeout=SECONDS, **streams)
     return done.returncode, done.stdout or b"", done.stderr or b""
 
 
@@ -101,6 +173,8 @@ def main(program, table, certificate):
     seen, wrong = 0, 0
     with tempfile.TemporaryDirectory() as folder:
         os.chdir(folder)
+        os.chmod(folder, 0o755)
+        program = shutil.copy(program, os.path.join(folder, "program"))
         make_files(certificate)
         for at, words, places, status, output, error in cases(table):
             seen += 1

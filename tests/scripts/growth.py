@@ -1,14 +1,16 @@
 """Runs a worked transcript by the program with each of its allocations refused in turn: `growth.py PROGRAM REFUSE.SO
 TRANSCRIPT`. The answer is the whole one, or E1 alone, or E1 for one command, and of all others what they answer where that
-command is left out. Each command that takes memory has to be seen with E1."""
+command is left out. Each command that takes memory has to be seen with E1. The status of E1 alone is 1 while the words are
+collected, 2 while they are parsed, and 1 from then on. Each container of the transcript is created twice, so that one which
+could not be for want of memory is made by the second line."""
 
 import os
-import subprocess
+import re
 import sys
 import tempfile
 
 from second_runtime import Machine, Runtime, config_of
-from transcripts import Transcript
+from transcripts import Transcript, run
 
 MEMORY = "refused E1 Memory"
 
@@ -20,23 +22,28 @@ def answers(told, without):
     return "".join(answer + "\n" for answers in lines for answer in answers)
 
 
+def with_second_tries(script):
+    return [line for command in script for line in [command] * (1 + command.startswith(b"create "))]
+
+
 def refused(program, library, words, script, number, told):
     """What the program answers where this allocation is refused, and whether one was."""
     told.truncate(0)
     environment = dict(os.environ, REFUSE=str(number), LD_PRELOAD=library)
-    done = subprocess.run([program] + words, input=script, capture_output=True, env=environment, pass_fds=[3])
+    done = run(program, words, script, env=environment, pass_fds=[3])
     return done, os.fstat(told.fileno()).st_size > 0
 
 
 def main(program, library, transcript):
     told = Transcript(os.path.abspath(transcript))
+    told.script = with_second_tries(told.script)
     program, library = os.path.abspath(program), os.path.abspath(library)
     with tempfile.TemporaryDirectory() as folder:
         os.chdir(folder)
         words = told.place()
         whole = answers(told, None)
         known = {answers(told, k): k for k in range(len(told.script))}
-        seen, number = set(), 0
+        seen, statuses, number = set(), "", 0
         refusals = open("refusals", "ab")
         os.dup2(refusals.fileno(), 3)
         while True:
@@ -48,9 +55,13 @@ def main(program, library, transcript):
                     break
             elif done.stderr == b"" and done.returncode == 0 and output in known:
                 seen.add(told.script[known[output]].split(b" ")[0].decode())
-            elif done.stderr != b"" or done.returncode not in (1, 2) or output != MEMORY + "\n":
+            elif done.stderr == b"" and output == MEMORY + "\n":
+                statuses += str(done.returncode)
+            else:
                 sys.exit(f"growth: run, allocation {number}: {done}")
         os.chdir("/")
+    if not re.fullmatch("1+2+1+", statuses):
+        sys.exit(f"growth: run: the statuses of E1 are {statuses}")
     if seen != {"create", "state", "fork", "rebalance", "begin"}:
         sys.exit(f"growth: run: E1 was seen of {sorted(seen)}")
     print(f"growth: run: {number - 1} allocations, each refused in turn, E1 of {', '.join(sorted(seen))}")

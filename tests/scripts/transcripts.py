@@ -91,8 +91,8 @@ def place(machine, slit, bundles):
     return ["run", "machine.json", "--slit", "table"]
 
 
-def run(program, words, script):
-    return programs.run([program] + words, script)
+def run(program, words, script, **more):
+    return programs.run([program] + words, script, **more)
 
 
 def difference(runtime, script, output, note=lambda line, answer: None):

@@ -1,0 +1,153 @@
+"""Certificates at each limit and one past it, each with what a check answers: counted here, by nobody's program."""
+
+VALUE = 1_099_511_627_776
+WEIGHT = 33_554_431
+PROBLEM = "refused E70 BadProblem"
+GAP = "refused E75 Gap"
+
+
+def bad(line):
+    return f"refused E77 BadText {line}"
+
+
+def text(*lines):
+    return "".join(line + "\n" for line in ("numarun-certificate 1",) + lines + ("end",)).encode()
+
+
+def two(first="row a 1 10:1 11:2", hold="hold a 2 11", price="price 1 1", total="total 23"):
+    """Two rows of which each would have CPU 1, with one line changed."""
+    return text(first, "row b 1 12:1 50:2", hold, "hold b 1 13", price, total)
+
+
+def one(row, hold, price, total):
+    return text(row, hold, price, total)
+
+
+def valued(value, amount, weight=0):
+    """A row whose value is a price and a weight together."""
+    return one(f"row a 1 {weight}:7", f"hold a 7 {value}", f"price {amount} 7", f"total {weight}")
+
+
+def asking(demand):
+    """One row that asks for so many of 1,024 CPUs."""
+    return one(f"row a {demand} 1:0-1023", f"hold a 0-1023 {VALUE}", f"price {VALUE - 1} 0-1023", "total 1024")
+
+
+def name(number):
+    """One of many names of 64 bytes."""
+    return f"{number:04}" + "Az_-.+09" * 7 + "tail"
+
+
+def rows(count, offers=lambda k: f"{WEIGHT}:0-1023", demand=4):
+    return [f"row {name(k)} {demand} {offers(k)}" for k in range(count)]
+
+
+def whole_machine(count, last_weight=WEIGHT, amount=VALUE - WEIGHT):
+    """As many rows, each with four CPUs of its own, all numbers as large as they may be."""
+    lines = rows(count)
+    lines[-1] = f"row {name(count - 1)} 4 {last_weight}:0-1023"
+    holds = [f"hold {name(k)} {4 * k % 1024}-{4 * k % 1024 + 3} {VALUE}" for k in range(count)]
+    return text(*lines, *holds, f"price {amount} 0-1023", f"total {1024 * WEIGHT}")
+
+
+def short(count, members, demand=1024):
+    return text(*rows(count, demand=demand), *[f"short {name(k)}" for k in members])
+
+
+def scattered(k):
+    """Offers of many CPUs, one of each at a place and all at a distance that go by the row."""
+    return " ".join(f"{7 * n + k}:{','.join(str(cpu) for cpu in range(n, 1024, 8) if cpu % 64 // 8 == n)},{n + 8 * (k % 100)}"
+                    for n in range(8))
+
+
+def own_offers(count):
+    """A shortage of many rows with many offers of their own, in a text that takes several reads."""
+    return text(*rows(count, scattered, 5), *[f"short {name(k)}" for k in range(count)])
+
+
+def allowed(count):
+    return len({n + 8 * (k % 100) for k in range(count) for n in range(8)}
+               | {cpu for n in range(8) for cpu in range(n, 1024, 8) if cpu % 64 // 8 == n})
+
+
+def half_zero(amount=VALUE):
+    """A row of weight 0 whose value is a price alone, which is the largest one."""
+    return valued(amount, amount)
+
+
+PLAIN = [
+    (two(), "plan total 23"),
+    (two(hold="hold a 1-2 11"), "refused E71 WrongCount 0"),
+    (two(hold="hold a 3 11"), "refused E72 NotAllowed 0 3"),
+    (two(hold="hold a 1 11"), "refused E73 HeldTwice 1"),
+    (two(price="price 0 1"), "refused E74 ValueTooHigh 0 1"),
+    (two(hold="hold a 2 10"), GAP),
+    (two(total="total 22"), GAP),
+    (two(total="total 18446744073709551615"), GAP),
+    (two(total="total 18446744073709551616"), bad(7)),
+    (two(first="row a 1 10:1 11:2 12:1"), PROBLEM),
+    (two(first="row a 1 10:1 11:1-2"), PROBLEM),
+    (two(price="price 1 1,1"), "plan total 23"),
+    (text("row a 1 10:1", "hold a 1 12", "price 1 1", "price 1 1", "total 10"), PROBLEM),
+    (text("row a 1 10:1 20:2", "hold a 2 20", "price 10 1", "total 20"), GAP),
+]
+NUMBERS = [
+    (half_zero(), "plan total 0"),
+    (half_zero(VALUE + 1), PROBLEM),
+    (two(hold=f"hold a 2 {VALUE}"), "refused E74 ValueTooHigh 0 1"),
+    (two(hold=f"hold a 2 {VALUE + 1}"), PROBLEM),
+    (two(hold="hold a 2 18446744073709551615"), PROBLEM),
+    (two(hold="hold a 2 18446744073709551616"), bad(4)),
+    (two(price=f"price {VALUE} 1"), GAP),
+    (two(price=f"price {VALUE + 1} 1"), PROBLEM),
+    (two(price=f"price {VALUE + 1} 1000"), PROBLEM),
+    (two(price="price 18446744073709551616 1"), bad(6)),
+    (valued(WEIGHT, 0, WEIGHT), f"plan total {WEIGHT}"),
+    (valued(VALUE, VALUE - WEIGHT, WEIGHT), f"plan total {WEIGHT}"),
+    (valued(WEIGHT + 1, 0, WEIGHT + 1), PROBLEM),
+    (two(first="row a 1 10:1 33554431:2"), GAP),
+    (two(first="row a 1 10:1 33554432:2"), PROBLEM),
+    (two(first="row a 1 10:1 11:2 33554432:900"), PROBLEM),
+    (two(first="row a 1 10:1 4294967295:2"), PROBLEM),
+    (two(first="row a 1 10:1 4294967296:2"), bad(2)),
+    (asking(1024), "plan total 1024"),
+    (asking(1023), "refused E71 WrongCount 0"),
+    (asking(1025), PROBLEM),
+    (asking(0), PROBLEM),
+    (asking(4294967295), PROBLEM),
+    (asking(4294967296), bad(2)),
+    (one("row a 1 1:1023", "hold a 1023 1", "price 0 0", "total 1"), "plan total 1"),
+    (one("row a 1 1:1024", "hold a 1023 1", "price 0 0", "total 1"), bad(2)),
+    (one("row a 1 1:1023", "hold a 1024 1", "price 0 0", "total 1"), bad(3)),
+    (one("row a 1 1:1023", "hold a 1023 1", "price 0 1024", "total 1"), bad(4)),
+    (one("row a 1 1:2,0-0001", "hold a 0 1", "price 0 0", "total 1"), "plan total 1"),
+    (one("row a 01 1:2", "hold a 0 1", "price 0 0", "total 1"), bad(2)),
+]
+ROWS = [
+    (whole_machine(256), f"plan total {1024 * WEIGHT}"),
+    (whole_machine(256, last_weight=WEIGHT + 1), PROBLEM),
+    (whole_machine(256, amount=VALUE - WEIGHT + 1), GAP),
+    (whole_machine(256, amount=VALUE - WEIGHT - 1), "refused E74 ValueTooHigh 0 0"),
+    (whole_machine(257), PROBLEM),
+    (whole_machine(1000), PROBLEM),
+    (short(256, range(256)), "short demand 262144 cpus 1024"),
+    (short(256, range(1, 256)), "short demand 261120 cpus 1024"),
+    (short(256, [0]), "refused E76 NoShortage"),
+    (short(256, [0, 255]), "short demand 2048 cpus 1024"),
+    (short(256, range(256), 1025), PROBLEM),
+    (short(257, range(257)), PROBLEM),
+    (short(257, [0]), PROBLEM),
+    (short(256, [255, 0]), bad(259)),
+    (short(256, [7, 7]), bad(259)),
+    (own_offers(256), f"short demand 1280 cpus {allowed(256)}"),
+    (text("row " + "i" * 64 + " 1 1:1", "hold " + "i" * 64 + " 1 1", "total 1"), "plan total 1"),
+    (text("row " + "i" * 65 + " 1 1:1", "hold " + "i" * 65 + " 1 1", "total 1"), bad(2)),
+    (text("row " + "i" * 63 + "a 1 1:1", "row " + "i" * 63 + "b 1 1:2", "short " + "i" * 63 + "b"), "refused E76 NoShortage"),
+    (text("row . 1 1:1", "hold . 1 1", "total 1"), bad(2)),
+    (text("row .. 1 1:1", "hold .. 1 1", "total 1"), bad(2)),
+    (text("row ... 1 1:1", "hold ... 1 1", "total 1"), "plan total 1"),
+    (text("row a 1 1:1", "row a 1 1:2", "short a"), bad(3)),
+    (text(), bad(2)),
+    (text("total 0"), "plan total 0"),
+]
+TEXTS = PLAIN + NUMBERS + ROWS
