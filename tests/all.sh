@@ -1,7 +1,7 @@
 #!/usr/bin/env bash
 # Everything: each name of docs/definitions.md; the proofs from nothing, the wrong bodies, the tests and the programs; then, with the programs that this
 # built, machine files made of recorded hosts, a table of command lines, a second checker, a second runtime, a solver that
-# tries every plan, and each of the program's growths refused in turn.
+# tries every plan, the scripts for those who operate machines, and each of the program's growths refused in turn.
 set -eu
 cd "$(dirname "$0")/.."
 bash tests/definitions.sh
@@ -12,4 +12,5 @@ bash tests/command-line.sh
 bash tests/certificates.sh
 bash tests/scripts.sh
 bash tests/solver.sh
+bash tests/operators.sh
 bash tests/growth.sh

@@ -1,0 +1,201 @@
+#!/usr/bin/env python3
+"""Writes the machine file of what hwloc's `lstopo --of xml` tells of a machine, which need not be the one it runs on.
+
+CPUs and nodes keep the numbers of the system. As describe-host.sh does it: where no reserved CPUs are named, the lowest
+online one is; a number that no node has becomes a node without CPUs, at distance 255 (unreachable) from all others, and
+--renumber leaves these out; memory without CPUs is a node without CPUs; a distance that is not told is 255. What of this
+was done, and what the file can't tell, is said on standard error."""
+
+import argparse
+import json
+import re
+import sys
+import xml.etree.ElementTree as xml
+
+from common import Refused, print_list, read_list, run
+
+CPUS, NODES, UNREACHABLE = 1024, 64, 255
+EXAMPLE = "example: lstopo --of xml | describe-hwloc.py --reserved 0,16 > machine.json"
+MEANS_LATENCY = 4
+
+
+def say(text):
+    print(f"describe-hwloc.py: {text}", file=sys.stderr)
+
+
+def numbers(bitmap, place):
+    """The members of a bitmap: words of 32 bits in hexadecimal, the highest first, an empty one being 0."""
+    members = set()
+    words = bitmap.split(",")
+    if "f...f" in bitmap or any(word and not re.fullmatch(r"0x[0-9a-fA-F]{1,8}", word) for word in words):
+        raise Refused(f"{place}: {bitmap[:40]!r} is no finite bitmap")
+    for k, word in enumerate(reversed(words)):
+        value = int(word or "0", 16)
+        members.update(32 * k + bit for bit in range(32) if value >> bit & 1)
+    return members
+
+
+class Topology:
+    def __init__(self, path):
+        self.path = path
+        root = self.parse()
+        machine = root.find("object")
+        if root.tag != "topology" or machine is None or machine.get("type") not in ("Machine", "System"):
+            raise Refused(f"{path}: no topology of hwloc: its first object is no Machine")
+        self.online = self.bitmap(machine, "online_cpuset", "cpuset")
+        present = self.bitmap(machine, "complete_cpuset", "cpuset")
+        self.allowed = self.bitmap(machine, "allowed_cpuset", "cpuset")
+        self.nodes = self.read_nodes(machine, present)
+        self.numbers = sorted(self.nodes)
+        self.distances = self.read_distances(root)
+        stray = present - set().union(*self.nodes.values())
+        if stray:
+            say(f"left out, as no node has them: CPUs {print_list(stray)}")
+
+    def parse(self):
+        try:
+            return xml.parse(sys.stdin.buffer if self.path == "-" else self.path).getroot()
+        except xml.ParseError as why:
+            raise Refused(f"{self.path}: line {why.position[0]}: not XML") from None
+        except OSError as why:
+            raise Refused(f"{self.path}: {why.strerror}") from None
+
+    def place(self, entry):
+        return f"{self.path}: {entry.get('type', entry.tag)} {entry.get('os_index', '')}".rstrip()
+
+    def bitmap(self, entry, *names):
+        """The first of these bitmaps that the object has."""
+        for name in names:
+            if entry.get(name):
+                return numbers(entry.get(name), f"{self.place(entry)}: {name}")
+        raise Refused(f"{self.place(entry)}: no {names[-1]}")
+
+    def read_nodes(self, machine, present):
+        """The CPUs of each node, offline ones too. hwloc puts memory without CPUs beside the CPUs it is near; Linux gives it
+        the higher number, and a CPU is the lower one's."""
+        entries = [entry for entry in machine.iter("object") if entry.get("type") == "NUMANode"]
+        if not entries:
+            say("it tells of no nodes: all CPUs are in node 0")
+            return {0: present}
+        nodes, taken = {}, set()
+        for entry in sorted(entries, key=self.number):
+            node, cpus = self.number(entry), self.bitmap(entry, "complete_cpuset", "cpuset")
+            if node in nodes:
+                raise Refused(f"{self.place(entry)}: there are two of this number")
+            if cpus & taken:
+                say(f"node {node}: memory alone, as its CPUs {print_list(cpus & taken)} are in a lower node")
+            nodes[node] = cpus - taken
+            taken |= cpus
+        return nodes
+
+    def number(self, entry):
+        word = entry.get("os_index", "")
+        if not re.fullmatch(r"[0-9]{1,9}", word):
+            raise Refused(f"{self.place(entry)}: no os_index")
+        return int(word)
+
+    def read_distances(self, root):
+        """The distance from one node to another, by the pair of their numbers."""
+        for table in root.iter("distances2"):
+            kind = table.get("kind", "")
+            if table.get("type") == "NUMANode" and kind.isdecimal() and int(kind) & MEANS_LATENCY:
+                indexes = self.words(table, "indexes")
+                if table.get("indexing") == "gp":
+                    raise Refused(f"{self.path}: distances2: nodes are not told by their system numbers")
+                return self.table(indexes, self.words(table, "u64values"))
+        for table in root.iter("distances"):
+            values = self.relative(table)
+            if len(values) == len(self.numbers) ** 2 and min(values) >= 10:
+                return self.table(self.numbers_by_place(root), values)
+        return None
+
+    def relative(self, table):
+        """The values of a table as the first version of hwloc's files has them: parts of a base."""
+        try:
+            base = float(table.get("latency_base") or 1)
+            return [round(base * float(entry.get("value", ""))) for entry in table.findall("latency")]
+        except (ValueError, OverflowError):
+            raise Refused(f"{self.path}: distances: no numbers") from None
+
+    @staticmethod
+    def numbers_by_place(root):
+        """The numbers of the nodes in hwloc's own order, in which the first version of its files has distances."""
+        return [int(entry.get("os_index")) for entry in root.iter("object") if entry.get("type") == "NUMANode"]
+
+    def words(self, table, name):
+        try:
+            return [int(word) for entry in table.findall(name) for word in (entry.text or "").split()]
+        except ValueError:
+            raise Refused(f"{self.path}: distances2: {name}: no numbers") from None
+
+    def table(self, indexes, values):
+        if len(values) != len(indexes) ** 2 or not indexes:
+            raise Refused(f"{self.path}: distances of nodes: {len(values)} values for {len(indexes)} nodes")
+        told = {}
+        for k, value in enumerate(values):
+            here, there = indexes[k // len(indexes)], indexes[k % len(indexes)]
+            if here == there and value != 10:
+                say(f"node {here} is at {value} from itself; written is 10, as a machine file has to have it")
+                value = 10
+            if not 10 <= value <= UNREACHABLE:
+                raise Refused(f"{self.path}: distances of nodes: {value} from node {here} to {there} is no SLIT distance")
+            told[here, there] = value
+        return told
+
+
+def rows_of(topology, nodes):
+    """The distances by rows."""
+    told = topology.distances
+    if told is None:
+        if len(topology.numbers) > 1:
+            say(f"it tells no distances between nodes: {UNREACHABLE} (unreachable) for all")
+        told = {}
+    missing = [(a, b) for a in topology.numbers for b in topology.numbers if a != b and (a, b) not in told]
+    if missing and told:
+        say(f"no distance from node {missing[0][0]} to {missing[0][1]} and {len(missing) - 1} more: {UNREACHABLE}")
+    return [[10 if a == b else told.get((a, b), UNREACHABLE) for b in nodes] for a in nodes]
+
+
+def describe(topology, reserved, renumber):
+    """The text of the machine file."""
+    path = topology.path
+    nodes = topology.numbers if renumber else range(topology.numbers[-1] + 1)
+    if len(nodes) > NODES:
+        raise Refused(f"{path}: node {nodes[-1]}: a machine file has nodes 0 to {NODES - 1} (see --renumber)")
+    holes = sorted(set(nodes) - set(topology.numbers))
+    if holes:
+        say(f"no node has these numbers, which become nodes without CPUs: {print_list(holes)}")
+    present = set().union(*topology.nodes.values())
+    if not present:
+        raise Refused(f"{path}: no node has CPUs")
+    if max(present) >= CPUS:
+        raise Refused(f"{path}: CPU {max(present)}: a machine file has CPUs 0 to {CPUS - 1}")
+    online = topology.online & present
+    if not online:
+        raise Refused(f"{path}: no CPU is online")
+    reserved = reserved if reserved is not None else {min(online)}
+    if not reserved or reserved - online:
+        raise Refused(f"reserved CPUs that are not online: {print_list(reserved - online)}")
+    if topology.allowed & online != online:
+        say(f"hwloc was not allowed the CPUs {print_list(online - topology.allowed)}; they are in the file")
+    lists = ", ".join(json.dumps(as_list(topology.nodes.get(node, set()))) for node in nodes)
+    rows = ", ".join(json.dumps(row) for row in rows_of(topology, nodes))
+    return (f'{{\n  "nodes": [{lists}],\n  "distances": [{rows}],\n  "reserved": "{as_list(reserved)}",\n'
+            f'  "offline": "{as_list(present - online)}"\n}}')
+
+
+def as_list(cpus):
+    return print_list(cpus) if cpus else ""
+
+
+def main():
+    parser = argparse.ArgumentParser(description=__doc__, epilog=EXAMPLE, formatter_class=argparse.RawDescriptionHelpFormatter)
+    parser.add_argument("file", nargs="?", default="-", metavar="FILE", help="what lstopo wrote; none, or -, is standard input")
+    parser.add_argument("--reserved", metavar="LIST", help="the reserved CPUs")
+    parser.add_argument("--renumber", action="store_true", help="number the nodes anew from 0")
+    words = parser.parse_args()
+    reserved = None if words.reserved is None else read_list(words.reserved, "--reserved")
+    print(describe(Topology(words.file), reserved, words.renumber))
+
+
+run(main)

@@ -1,0 +1,37 @@
+#!/usr/bin/env bash
+# A plan on a recorded machine in about a minute: quick-look.sh [MACHINE [SCRIPT]]
+#
+# Builds the program without its proofs and runs a script over a machine file, which are a machine of two sockets and
+# examples/scripts/plans where none are named. Wants the Rattle kit alone. For the proved program, which takes half an hour
+# or more the first time: (cd crates/numarun && rt run -- --version), which leaves it as crates/numarun/out/numarun.
+#
+# Example: examples/quick-look.sh examples/machines/two-socket.json examples/scripts/a-cpu-goes
+set -euo pipefail
+top=$(cd "$(dirname "$0")/.." && pwd)
+
+say() { echo "quick-look.sh: $1" >&2; }
+refuse() { say "$1"; exit 1; }
+case ${1:-} in
+    -h | --help) sed -n '2,/^set/{/^set/d;s/^# \{0,1\}//;p}' "$0"; exit 0 ;;
+    -*) say "$1: no such option"; exit 2 ;;
+esac
+[ $# -le 2 ] || { say "usage: quick-look.sh [MACHINE [SCRIPT]]"; exit 2; }
+machine=${1:-$top/examples/machines/two-socket.json}
+script=${2:-$top/examples/scripts/plans}
+for file in "$machine" "$script"; do
+    [ -f "$file" ] && [ -r "$file" ] || refuse "$file: no such file, or it can't be read"
+done
+command -v rt > /dev/null || refuse "rt: not there; it is the command of the Rattle kit"
+
+# The program sees the files that it is given by name: the machine, and the config of each bundle that the script names.
+data=(--data "machine.json=$(realpath "$machine")")
+while read -r bundle; do
+    config=$bundle/config.json
+    [ -f "$config" ] || config=$top/$bundle/config.json
+    [ ! -f "$config" ] || data+=(--data "$bundle/config.json=$(realpath "$config")")
+done < <(awk '$1 == "create" && NF == 3 { print $3 }' "$script" | sort -u)
+
+say "built without its proofs, which takes a minute or two the first time; nothing is proved by this"
+script=$(realpath "$script")
+cd "$top/crates/numarun"
+exec ${SLOT:-} rt try "${data[@]}" -- run machine.json < "$script"

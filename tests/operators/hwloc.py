@@ -1,0 +1,61 @@
+"""Compares the machine files that describe-hwloc.py makes of hwloc's recorded machines with those that stand for them."""
+
+import json
+import os
+import shutil
+import subprocess
+
+from trial import TOP, check, end, refuses, told, words_and_help
+
+MACHINES = os.path.join(TOP, "tests", "operators", "machines")
+TWO_SOCKET = os.path.join(MACHINES, "two-socket.xml")
+NODE = ('<topology version="2.0"><object type="Machine" os_index="0" cpuset="0x{online}" complete_cpuset="0x{all}">'
+        '<object type="NUMANode" os_index="{node}" cpuset="0x{online}" complete_cpuset="0x{all}"/></object></topology>')
+
+
+def recorded(name, *words, said="", **expected):
+    status, out, err = told("describe-hwloc.py", os.path.join(MACHINES, name + ".xml"), *words)
+    found = json.loads(out) if status == 0 else {}
+    check(name, {key: found.get(key) for key in expected}, expected)
+    check(f"{name}: said", all(line in err for line in said.split("|")), True)
+
+
+def same_as_by_hand(name, reserved):
+    told_here = told("describe-hwloc.py", os.path.join(MACHINES, name + ".xml"), "--reserved", reserved)[1]
+    expected = json.load(open(os.path.join(TOP, "examples", "machines", name + ".json")))
+    del expected["about"]
+    check(f"{name}, read off by hand", json.loads(told_here or "{}"), {**expected, "offline": ""})
+
+
+def same_as_of_this_machine():
+    if not shutil.which("lstopo"):
+        print("hwloc: passed over, as there is no lstopo: what it tells of this machine")
+        return
+    tells = subprocess.run(["lstopo", "--of", "xml"], capture_output=True, check=True).stdout.decode()
+    expected = told("describe-host.sh")
+    found = told("describe-hwloc.py", text=tells)
+    check("this machine", (found[0], json.loads(found[1] or "{}")), (expected[0], json.loads(expected[1] or "{}")))
+
+
+same_as_by_hand("two-socket", "0,16")
+same_as_by_hand("two-nodes-a-socket", "0-1,64-65")
+same_as_of_this_machine()
+recorded("offline", nodes=["0-15"], distances=[[10]], reserved="0", offline="2,5,7-11,13-14")
+recorded("memory-and-a-hole", "--renumber", said="node 16 is at 14 from itself|CPUs 4-7,20-23",
+         nodes=["0-3", "16-19", ""], distances=[[10, 17, 17], [17, 10, 10], [14, 14, 10]], reserved="0", offline="")
+recorded("memory-and-a-hole", said="become nodes without CPUs: 1,3-15", nodes=["0-3", "", "16-19"] + [""] * 14)
+recorded("no-distances", "--reserved", "7", said="it tells no distances", nodes=["0-1", "2-3", "4-5", "6-7"], reserved="7",
+         distances=[[10 if a == b else 255 for b in range(4)] for a in range(4)], offline="")
+
+words_and_help("describe-hwloc.py", "lstopo --of xml | describe-hwloc.py")
+refuses("describe-hwloc.py", "no-such-file", says="no-such-file: No such file")
+refuses("describe-hwloc.py", text=open(TWO_SOCKET).read()[:700], says="-: line ")
+refuses("describe-hwloc.py", text="<html/>", says="first object is no Machine")
+refuses("describe-hwloc.py", TWO_SOCKET, "--reserved", "32", says="reserved CPUs that are not online: 32")
+refuses("describe-hwloc.py", TWO_SOCKET, "--reserved", "x", says="--reserved: 'x' is no CPU")
+refuses("describe-hwloc.py", text=NODE.format(online="1", all="1", node=64), says="node 64: a machine file has nodes 0 to 63")
+refuses("describe-hwloc.py", text=NODE.format(online="1", all="1", node="x"), says="NUMANode x: no os_index")
+refuses("describe-hwloc.py", text=NODE.format(online="f...f", all="f...f", node=0), says="no finite bitmap")
+refuses("describe-hwloc.py", text=NODE.format(online="1", all="1" + ",0x0" * 32, node=0), says="CPU 1024: a machine file has")
+refuses("describe-hwloc.py", text=NODE.format(online="0", all="1", node=0), says="no CPU is online")
+end("describe-hwloc.py")
