@@ -1,5 +1,5 @@
 -- A script that is underway, a piece or a line further.
-use Rattle.std.proofs.Common.{◌≡◌, ℕ, ◌+◌, ◌<◌, false, List, [], ◌∷◌, ◌++◌, length, take, drop, Option, Some, None, refl, sym, ap, ◌∙◌, subst, arith, append-nil, append_assoc, length-append, rules}
+use Rattle.std.proofs.Common.{◌≡◌, ℕ, ◌+◌, ◌<◌, ◌≤◌, false, List, [], ◌∷◌, ◌++◌, length, take, drop, Option, Some, None, refl, sym, ap, ◌∙◌, subst, arith, append-nil, append_assoc, length-append, length-take, rules}
 use Rattle.std.proofs.KnownBytes.{Appends-nil, Appends-trans, Consumes-trans}
 use Rattle.std.proofs.lemmas.Bool.Decides.{nat_tests}
 use Rattle.std.proofs.lemmas.List.Elements.{All-append}
@@ -7,10 +7,11 @@ use Rattle.std.proofs.lemmas.List.Splits.{length-slice_split, slice_split_at, sl
 use Rattle.std.specs.Io.KnownBytes.{Appends, Consumes, IsAtEnd, Keeps}
 use Rattle.std.specs.List.{All}
 use Rattle.script.specs.Commands.{Asked}
-use Rattle.script.specs.Ends.{Ends, EndsUnread, EndsUnwritten, SendsPart}
+use Rattle.script.specs.Ends.{Ends, EndsUnread, EndsUnwritten, IsGivenBy, SendsPart}
 use Rattle.script.specs.Lines.{is_feed, kept, lines_of, with_piece}
 use Rattle.script.specs.Runs.{AnswersLine, Runs}
 use Rattle.script.specs.Underway.{Extends, Feeds, StopsIn, Underway}
+use Rattle.script.specs.declared.running.TheConstants.{PIECE}
 use Rattle.script.proofs.Feeds.{HasFeed, HasNoFeed}
 
 -- a line with a piece behind it
@@ -35,6 +36,18 @@ Consumes-nothing a b c bytes p k = let P : List ℕ → Type 0 = λ t. Consumes 
 pub at_the_end : (a b : Option (List ℕ)) (count : ℕ) (bytes : List ℕ) → Consumes a b (take count bytes) × (count ≡ 0 → 0 < length bytes → IsAtEnd b) → count ≡ 0 → 0 < length bytes
     → Consumes a b [] × IsAtEnd b
 at_the_end a b count bytes (taken, ended) none room = (let P : ℕ → Type 0 = λ n. Consumes a b (take n bytes) in subst P none taken, ended none room)
+
+-- before the first read nothing was given
+given-none : IsGivenBy 0 []
+given-none = (omega arith, omega arith)
+
+-- a read more that gave some bytes
+pub given-more : (reads : ℕ) (input bytes : List ℕ) (count : ℕ) → IsGivenBy reads input → 0 < count → count ≤ length bytes → length bytes ≡ PIECE
+    → IsGivenBy (reads + 1) (input ++ take count bytes)
+given-more reads input bytes count (least, most) some within room = (
+  omega (arith, least, some, within, length-append input (take count bytes), length-take count bytes),
+  omega (arith, most, within, room, length-append input (take count bytes), length-take count bytes),
+)
 
 pub Keeps-self : (a : Option (List ℕ)) → Keeps a a
 Keeps-self None = tt
@@ -157,21 +170,24 @@ module _ {S : Type 0} (Answers : S → Asked → List ℕ → S → Type 0) wher
   }
 
   -- some of the script was read, and its answers went out
-  pub record IsRunning (read read' out out' : Option (List ℕ)) (old new : S) (held : Option (List ℕ)) : Type 0 where
+  pub record IsRunning (read read' out out' : Option (List ℕ)) (reads : ℕ) (old new : S) (held : Option (List ℕ)) : Type 0 where
     pub input : List ℕ
     pub text : List ℕ
+    pub given : IsGivenBy reads input
     pub taken : Consumes read read' input
     pub underway : Underway Answers old input text new held
     pub went_out : Appends out out' text
 
-  pub IsRunning-start : (read out : Option (List ℕ)) (old : S) (line : Option (List ℕ)) → line ≡ Some [] → IsRunning read read out out old old line
-  IsRunning-start read out old line empty = rw empty record { input = []; text = []; taken = Consumes-none read; underway = Underway-start old; went_out = Appends-nil out }
+  pub IsRunning-start : (read out : Option (List ℕ)) (old : S) (line : Option (List ℕ)) → line ≡ Some [] → IsRunning read read out out 0 old old line
+  IsRunning-start read out old line empty = rw empty record { input = []; text = []; given = given-none; taken = Consumes-none read; underway = Underway-start old; went_out = Appends-nil out }
 
-  pub IsRunning-more : (read read' read'' out out' out'' : Option (List ℕ)) (old new newer : S) (held held' : Option (List ℕ)) (piece : List ℕ)
-      → IsRunning read read' out out' old new held → Consumes read' read'' piece → Feeds Answers out' out'' piece new held newer held' → IsRunning read read'' out out'' old newer held'
-  IsRunning-more read read' read'' out out' out'' old new newer held held' piece r taken f = record {
+  pub IsRunning-more : (read read' read'' out out' out'' : Option (List ℕ)) (reads : ℕ) (old new newer : S) (held held' : Option (List ℕ)) (piece : List ℕ)
+      → (r : IsRunning read read' out out' reads old new held) → IsGivenBy (reads + 1) (r.input ++ piece) → Consumes read' read'' piece → Feeds Answers out' out'' piece new held newer held'
+      → IsRunning read read'' out out'' (reads + 1) old newer held'
+  IsRunning-more read read' read'' out out' out'' reads old new newer held held' piece r given taken f = record {
     input = r.input ++ piece;
     text = r.text ++ f.text;
+    given = given;
     taken = Consumes-trans read read' read'' r.input piece r.taken taken;
     underway = f.extends old r.input r.text r.underway;
     went_out = Appends-trans out out' out'' r.text f.text r.went_out f.went_out;
@@ -183,13 +199,14 @@ module _ {S : Type 0} (Answers : S → Asked → List ℕ → S → Type 0) wher
       ap lines_of (sym (append-nil input)) ∙ u.cut [] ∙ ap (λ r. u.lines ++ lines_of r) (append-nil u.rest) ∙ ap (λ ls. u.lines ++ ls) (slice_split_none is_feed u.rest u.partial)
 
   -- a read failed
-  pub IsRunning-unread : (read read' read'' out out' : Option (List ℕ)) (old new : S) (held : Option (List ℕ)) → IsRunning read read' out out' old new held → Keeps read' read''
-      → EndsUnread Answers read read'' out out' old new
-  IsRunning-unread read read' read'' out out' old new held r kept = record {
+  pub IsRunning-unread : (read read' read'' out out' : Option (List ℕ)) (reads : ℕ) (old new : S) (held : Option (List ℕ)) → IsRunning read read' out out' reads old new held → Keeps read' read''
+      → EndsUnread Answers read read'' out out' reads old new
+  IsRunning-unread read read' read'' out out' reads old new held r kept = record {
     input = r.input;
     lines = r.underway.lines;
     last = r.underway.rest;
     text = r.text;
+    given = r.given;
     taken = Consumes-kept read read' read'' r.input r.taken kept;
     cut = lines-left old new r.input r.text held r.underway;
     run = r.underway.run;
@@ -203,10 +220,10 @@ module _ {S : Type 0} (Answers : S → Asked → List ℕ → S → Type 0) wher
       subst (λ ls. Runs Answers old ls (text ++ more) newer) (sym (lines-left old new input text held u))
       (Runs-more old new newer u.lines u.rest text more u.run (let P : Option (List ℕ) → Type 0 = λ h. AnswersLine Answers new h more newer in subst P u.held_is answered))
 
-  pub IsRunning-ends : (read read' read'' out out' out'' : Option (List ℕ)) (old new newer : S) (held : Option (List ℕ)) (more : List ℕ)
-      → IsRunning read read' out out' old new held → Consumes read' read'' [] × IsAtEnd read'' → AnswersLine Answers new held more newer → Appends out' out'' more
+  pub IsRunning-ends : (read read' read'' out out' out'' : Option (List ℕ)) (reads : ℕ) (old new newer : S) (held : Option (List ℕ)) (more : List ℕ)
+      → IsRunning read read' out out' reads old new held → Consumes read' read'' [] × IsAtEnd read'' → AnswersLine Answers new held more newer → Appends out' out'' more
       → Ends Answers read read'' out out'' old newer
-  IsRunning-ends read read' read'' out out' out'' old new newer held more r (taken, ended) answered written = record {
+  IsRunning-ends read read' read'' out out' out'' reads old new newer held more r (taken, ended) answered written = record {
     input = r.input;
     text = r.text ++ more;
     taken = Consumes-nothing read read' read'' r.input r.taken taken;
@@ -215,10 +232,10 @@ module _ {S : Type 0} (Answers : S → Asked → List ℕ → S → Type 0) wher
     went_out = Appends-trans out out' out'' r.text more r.went_out written;
   }
 
-  pub IsRunning-end_unwritten : (read read' read'' out out' out'' : Option (List ℕ)) (old new newer : S) (held : Option (List ℕ)) (more : List ℕ)
-      → IsRunning read read' out out' old new held → Consumes read' read'' [] × IsAtEnd read'' → AnswersLine Answers new held more newer → SendsPart out' out'' more
+  pub IsRunning-end_unwritten : (read read' read'' out out' out'' : Option (List ℕ)) (reads : ℕ) (old new newer : S) (held : Option (List ℕ)) (more : List ℕ)
+      → IsRunning read read' out out' reads old new held → Consumes read' read'' [] × IsAtEnd read'' → AnswersLine Answers new held more newer → SendsPart out' out'' more
       → EndsUnwritten Answers read read'' out out'' old newer
-  IsRunning-end_unwritten read read' read'' out out' out'' old new newer held more r (taken, ended) answered part = record {
+  IsRunning-end_unwritten read read' read'' out out' out'' reads old new newer held more r (taken, ended) answered part = record {
     input = r.input;
     before = r.underway.lines;
     line = r.underway.rest;
@@ -234,9 +251,9 @@ module _ {S : Type 0} (Answers : S → Asked → List ℕ → S → Type 0) wher
     written = record { mid = out'; went_out = r.went_out; part = part };
   }
 
-  pub IsRunning-unwritten : (read read' read'' out out' out'' : Option (List ℕ)) (old new newer : S) (held : Option (List ℕ)) (piece : List ℕ)
-      → IsRunning read read' out out' old new held → Consumes read' read'' piece → StopsIn Answers out' out'' piece new held newer → EndsUnwritten Answers read read'' out out'' old newer
-  IsRunning-unwritten read read' read'' out out' out'' old new newer held piece r taken s =
+  pub IsRunning-unwritten : (read read' read'' out out' out'' : Option (List ℕ)) (reads : ℕ) (old new newer : S) (held : Option (List ℕ)) (piece : List ℕ)
+      → IsRunning read read' out out' reads old new held → Consumes read' read'' piece → StopsIn Answers out' out'' piece new held newer → EndsUnwritten Answers read read'' out out'' old newer
+  IsRunning-unwritten read read' read'' out out' out'' reads old new newer held piece r taken s =
       let u : Underway Answers old (r.input ++ s.fed) (r.text ++ s.text) s.last s.line = s.extends old r.input r.text r.underway in
       record {
         input = r.input ++ piece;

@@ -1,9 +1,10 @@
 -- How a script ends.
-use Rattle.std.specs.Prelude.{◌≡◌, ℕ, List, [], ◌∷◌, ◌++◌, Option, Result, Ok, Err}
+use Rattle.std.specs.Prelude.{◌≡◌, ℕ, ◌*◌, ◌<◌, ◌≤◌, List, [], ◌∷◌, ◌++◌, length, Option, Result, Ok, Err}
 use Rattle.std.specs.Io.KnownBytes.{Appends, Consumes, IsAtEnd}
 use Rattle.script.specs.Commands.{Asked}
 use Rattle.script.specs.Lines.{kept, lines_of}
 use Rattle.script.specs.Runs.{AnswersLine, Runs}
+use Rattle.script.specs.declared.running.TheConstants.{MOST_READS, PIECE}
 use Rattle.script.specs.declared.script_fault.ScriptFault.{ScriptFault}
 use Rattle.script.specs.declared.script_fault.ScriptFault.TheVariants.{Read, TooManyReads, Write}
 
@@ -40,12 +41,17 @@ pub record Ends {S : Type 0} (Answers : S → Asked → List ℕ → S → Type 
   pub run : Runs Answers old (lines_of input) text new
   pub went_out : Appends out out' text
 
--- each line of what was read was answered, but for the last, whose end was not read
-pub record EndsUnread {S : Type 0} (Answers : S → Asked → List ℕ → S → Type 0) (read read' out out' : Option (List ℕ)) (old new : S) : Type 0 where
+-- so many reads gave these bytes, each one of them at least and as many as are asked for at once at most
+abbrev pub IsGivenBy : ℕ → List ℕ → Type 0
+IsGivenBy reads input = (reads ≤ length input) × (length input ≤ reads * PIECE)
+
+-- so many reads gave bytes, and each line of these was answered, but for the last, whose end was not read
+pub record EndsUnread {S : Type 0} (Answers : S → Asked → List ℕ → S → Type 0) (read read' out out' : Option (List ℕ)) (reads : ℕ) (old new : S) : Type 0 where
   pub input : List ℕ
   pub lines : List (List ℕ)
   pub last : List ℕ
   pub text : List ℕ
+  pub given : IsGivenBy reads input
   pub taken : Consumes read read' input
   pub cut : lines_of input ≡ lines ++ last ∷ []
   pub run : Runs Answers old lines text new
@@ -67,8 +73,9 @@ pub record EndsUnwritten {S : Type 0} (Answers : S → Asked → List ℕ → S 
   pub answered : AnswersLine Answers mid (kept line) answer new
   pub written : SendsLast out out' text answer
 
+-- the whole script was run, a read failed before the last one that is made, as many as are made all gave bytes, or a write failed
 abbrev pub EndsBy : {S : Type 0} → (S → Asked → List ℕ → S → Type 0) → Option (List ℕ) → Option (List ℕ) → Option (List ℕ) → Option (List ℕ) → S → Result (Unit {0}) ScriptFault → S → Type 0
 EndsBy Answers read read' out out' old (Ok done) new = Ends Answers read read' out out' old new
-EndsBy Answers read read' out out' old (Err (Read kind)) new = EndsUnread Answers read read' out out' old new
-EndsBy Answers read read' out out' old (Err TooManyReads) new = EndsUnread Answers read read' out out' old new
+EndsBy Answers read read' out out' old (Err (Read kind)) new = (reads : ℕ) × (reads < MOST_READS) × EndsUnread Answers read read' out out' reads old new
+EndsBy Answers read read' out out' old (Err TooManyReads) new = EndsUnread Answers read read' out out' MOST_READS old new
 EndsBy Answers read read' out out' old (Err Write) new = EndsUnwritten Answers read read' out out' old new

@@ -39,7 +39,7 @@ pub fn run_script<T: Target, R: Read, W: Write>(
 {
     let mut line = LineBuffer::new();
     let mut bytes = [0u8; PIECE];
-    for _ in 0..MOST_READS {
+    for reads in 0..MOST_READS {
         let count = match reader.read(&mut bytes) {
             Ok(count) => count,
             Err(error) => return Err(ScriptFault::Read(error.kind())),

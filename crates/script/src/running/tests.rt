@@ -21,18 +21,19 @@ impl Target for Counter {
     }
 }
 
-/// Gives these bytes, `most` of them at a time, and then fails or comes to the end.
+/// Gives these bytes, `most` of them at a time, and then has a fault of this kind or comes to the end.
 #[derive(Drop)]
 struct Tape<'a> {
     rest: &'a [u8],
     most: usize,
-    fails: bool,
+    fault: Option<ErrorKind>,
 }
 
 impl Read for Tape<'_> {
     fn read(&mut self, buf: &mut [u8]) -> io::Result<usize> {
-        if self.rest.is_empty() && self.fails {
-            return Err(io::Error::from(ErrorKind::BrokenPipe));
+        match self.fault {
+            Some(kind) if self.rest.is_empty() => return Err(io::Error::from(kind)),
+            _ => {}
         }
         let count = self.rest.len().min(self.most).min(buf.len());
         buf[..count].copy_from_slice(&self.rest[..count]);
@@ -101,7 +102,7 @@ fn pieces(rt: HostRuntime) -> Result<(), Fail> {
         let mut tape = Tape {
             rest: SCRIPT,
             most,
-            fails: false,
+            fault: None,
         };
         assert!(rt; run_script(&mut target, &mut tape, &mut paper) == Ok(()));
         assert_eq!(rt; paper.text.as_slice(), ANSWERS);
@@ -114,15 +115,20 @@ fn pieces(rt: HostRuntime) -> Result<(), Fail> {
 #[test]
 fn failing_reads(rt: HostRuntime) -> Result<(), Fail> {
     for end in 0..=SCRIPT.len() {
+        let kind = if end % 2 == 0 {
+            ErrorKind::BrokenPipe
+        } else {
+            ErrorKind::PermissionDenied
+        };
         let mut target = Counter { commands: 0 };
         let mut paper = Paper::new(rt.alloc());
         let mut tape = Tape {
             rest: &SCRIPT[..end],
             most: 5,
-            fails: true,
+            fault: Some(kind),
         };
         let result = run_script(&mut target, &mut tape, &mut paper);
-        assert!(rt; result == Err(ScriptFault::Read(ErrorKind::BrokenPipe)));
+        assert!(rt; result == Err(ScriptFault::Read(kind)));
         let whole = match end {
             0..8 => 0,
             8..18 => 3,
@@ -147,7 +153,7 @@ fn faulty_writes(rt: HostRuntime) -> Result<(), Fail> {
             let mut tape = Tape {
                 rest: SCRIPT,
                 most: 100,
-                fails: false,
+                fault: None,
             };
             assert!(rt; run_script(&mut target, &mut tape, &mut paper) == Err(ScriptFault::Write));
             let taken = faulty as usize - 1;
@@ -172,7 +178,7 @@ fn faulty_flush(rt: HostRuntime) {
     let mut tape = Tape {
         rest: SCRIPT,
         most: 100,
-        fails: false,
+        fault: None,
     };
     assert!(rt; run_script(&mut target, &mut tape, &mut paper) == Err(ScriptFault::Write));
     assert_eq!(rt; paper.text.as_slice(), b"ok\n".as_slice());
@@ -196,7 +202,7 @@ fn long_lines(rt: HostRuntime) -> Result<(), Fail> {
             let mut tape = Tape {
                 rest: script.as_slice(),
                 most,
-                fails: false,
+                fault: None,
             };
             assert!(rt; run_script(&mut Counter { commands: 0 }, &mut tape, &mut paper) == Ok(()));
             assert!(rt; paper.text.as_slice().starts_with(answer));
