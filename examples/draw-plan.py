@@ -139,10 +139,10 @@ class Style:
     def __init__(self, plans):
         self.names = list(dict.fromkeys(name for plan in plans for name in plan.holds))
         self.tag = dict(zip(self.names, letters(len(self.names))))
+        self.place = {name: k for k, name in enumerate(self.names)}
 
     def colour(self, name):
-        place = self.names.index(name)
-        base, turn = PALETTE[place % len(PALETTE)], place // len(PALETTE)
+        base, turn = PALETTE[self.place[name] % len(PALETTE)], self.place[name] // len(PALETTE)
         shades = [(base, 0), ("#ffffff", 0.5), ("#000000", 0.3), ("#ffffff", 0.75)]
         return base if turn % 4 == 0 else mixed(base, shades[turn % 4][0], shades[turn % 4][1])
 
@@ -152,7 +152,7 @@ class Style:
         return "#000000" if 0.3 * red + 0.59 * green + 0.11 * blue > 120 else "#ffffff"
 
     def striped(self, name):
-        return self.names.index(name) >= len(PALETTE)
+        return self.place[name] >= len(PALETTE)
 
 
 def moves(before, after):

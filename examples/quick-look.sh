@@ -34,4 +34,4 @@ done < <(awk '$1 == "create" && NF == 3 { print $3 }' "$script" | sort -u)
 say "built without its proofs, which takes a minute or two the first time; nothing is proved by this"
 script=$(realpath "$script")
 cd "$top/crates/numarun"
-exec ${SLOT:-} rt try "${data[@]}" -- run machine.json < "$script"
+exec rt try "${data[@]}" -- run machine.json < "$script"

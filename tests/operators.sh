@@ -8,6 +8,6 @@ top=$(cd "$(dirname "$0")/.." && pwd)
 SCRATCH=$(mktemp -d)
 trap 'rm -rf "$SCRATCH"' EXIT
 export SCRATCH PROGRAM=$program
-for test in looks hwloc pictures agents; do
+for test in looks hwloc pictures agents peers manual; do
     python3 -B "$top/tests/operators/$test.py"
 done

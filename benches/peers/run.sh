@@ -1,0 +1,8 @@
+#!/usr/bin/env bash
+# Places the same containers on the recorded machines by numarun and by two plainer ways: run.sh [MIXES]
+# PROGRAM in the environment is run in place of the one that this builds.
+set -eu
+here=$(cd "$(dirname "$0")" && pwd)
+top=$(cd "$here/../.." && pwd)
+. "$top/tests/build-program.sh"
+exec python3 -B "$here/compare.py" "$program" "$@"

@@ -1,0 +1,51 @@
+"""Compares the man page with the help that the program prints: its words are the help's. mandoc looks at it, where it is."""
+
+import os
+import re
+import shutil
+import subprocess
+
+from trial import TOP, check, end
+
+PAGE = os.path.join(TOP, "docs", "numarun.1")
+PROGRAM = os.environ["PROGRAM"]
+
+
+def helped(*words):
+    return subprocess.run([PROGRAM, *words], capture_output=True, check=True).stdout.decode()
+
+
+def plain(text):
+    """The words of the page without its macros and marks, one blank between."""
+    lines = []
+    for line in text.splitlines():
+        line = re.sub(r"^\.(Sq -) ,$", "- ,", line)
+        lines.append(re.sub(r"^\.(?:Ql|Cm|Ar|Op|It|Pa|Fl|Nd|Nm|Sq|Sh|Ss)\b ?", "", line))
+    return squeezed(" ".join(lines))
+
+
+def squeezed(text):
+    return " ".join(re.sub(r"[`\\.,;]", " ", text).split())
+
+
+page = plain(open(PAGE).read())
+told = helped("--help")
+abouts = re.findall(r"^ +(?:check|list|slit|run) +(.+)$", told, re.M)
+check("the commands of the help", len(abouts), 4)
+abouts.append(told.splitlines()[0])
+for about in abouts:
+    check(f"the page has {about!r}", squeezed(about) in page, True)
+for command in ("check", "list", "slit", "run"):
+    text = helped("help", command)
+    usage = re.search(r"numarun (.+)", text)[1]
+    check(f"the page has the words of {command}", set(re.findall(r"[A-Za-z]+", usage)) <= set(re.findall(r"[A-Za-z]+", page)), True)
+    example = re.search(r"^Example: (.+?)(?: prints.*)?$", text, re.M)[1]
+    check(f"the page has an example of {command}", example.split(" <")[0] in open(PAGE).read(), True)
+for command in re.findall(r"^\| `([a-z]+)[^|]*\| (?:to|for|whether|that) ", open(os.path.join(TOP, "docs", "formats.md")).read(), re.M):
+    check(f"the page has the line {command}", f".It Cm {command}" in open(PAGE).read(), True)
+if shutil.which("mandoc"):
+    found = subprocess.run(["mandoc", "-T", "lint", PAGE], capture_output=True)
+    check("mandoc -T lint", (found.returncode, found.stdout.decode()), (0, ""))
+else:
+    print("numarun.1: passed over, as there is no mandoc: mandoc -T lint")
+end("numarun.1")
