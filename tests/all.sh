@@ -1,8 +1,8 @@
 #!/usr/bin/env bash
 # Everything: the proofs from nothing, the wrong bodies, the tests and the programs; then, with the programs that this
-# built, machine files made of recorded hosts, a table of command lines, a second checker, a second runtime, a solver that
-# tries every plan, and each of the program's growths refused in turn.
-set -eu
+# built, machine files made of recorded hosts, a table of command lines, a second checker, a second runtime, streams that fail,
+# a solver that tries every plan, and each of the program's growths refused in turn.
+set -euo pipefail
 cd "$(dirname "$0")/.."
 rt ci
 export PROGRAM=$PWD/crates/numarun/out/numarun TOOLS=$PWD/crates/tools/out/tools
@@ -10,5 +10,6 @@ bash tests/describe-host.sh
 bash tests/command-line.sh
 bash tests/certificates.sh
 bash tests/scripts.sh
+bash tests/streams.sh
 bash tests/solver.sh
 bash tests/growth.sh
