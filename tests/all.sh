@@ -1,8 +1,9 @@
 #!/usr/bin/env bash
-# Everything: each name of docs/definitions.md; the proofs from nothing, the wrong bodies, the tests and the programs; then, with the programs that this
-# built, machine files made of recorded hosts, a table of command lines, a second checker, a second runtime, a solver that
-# tries every plan, the scripts for those who operate machines, and each of the program's growths refused in turn.
-set -eu
+# Everything: each name of docs/definitions.md; the proofs from nothing, the wrong bodies, the tests and the programs; then,
+# with the programs that this built, machine files made of recorded hosts, a table of command lines, a second checker, a
+# second runtime, streams that fail, a solver that tries every plan, the scripts for those who operate machines, and each of
+# the program's growths refused in turn.
+set -euo pipefail
 cd "$(dirname "$0")/.."
 bash tests/definitions.sh
 rt ci
@@ -11,6 +12,7 @@ bash tests/describe-host.sh
 bash tests/command-line.sh
 bash tests/certificates.sh
 bash tests/scripts.sh
+bash tests/streams.sh
 bash tests/solver.sh
 bash tests/operators.sh
 bash tests/growth.sh

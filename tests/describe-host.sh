@@ -33,9 +33,9 @@ says() {
     shift
     if [ "${1:-}" = refused ]; then stream=2; shift; fi
     if [ "$stream" = 1 ]; then
-        answer=$(bash "$top/examples/describe-host.sh" --sys "$scratch/$name" "$@" 2>/dev/null) || status=$?
+        answer=$(timeout 60 bash "$top/examples/describe-host.sh" --sys "$scratch/$name" "$@" 2>/dev/null) || status=$?
     else
-        answer=$(bash "$top/examples/describe-host.sh" --sys "$scratch/$name" "$@" 2>&1 >/dev/null) || status=$?
+        answer=$(timeout 60 bash "$top/examples/describe-host.sh" --sys "$scratch/$name" "$@" 2>&1 >/dev/null) || status=$?
     fi
     if [ "$answer" != "$expected" ] || [ "$status" != $((stream - 1)) ]; then
         printf '%s %s: status %s\n%s\nexpected:\n%s\n' "$name" "$*" "$status" "$answer" "$expected"
@@ -118,7 +118,7 @@ recorded() {
     bash "$top/examples/describe-host.sh" --sys "$scratch/$name" --reserved "$2" > "$scratch/$name.json"
     if ! python3 -B "$top/tests/describe-host/same.py" "$top/examples/machines/$name.json" "$scratch/$name.json"; then
         failed=1
-    elif [ "$(echo list | "$program" run "$scratch/$name.json")" != end ]; then
+    elif [ "$(echo list | timeout 60 "$program" run "$scratch/$name.json")" != end ]; then
         echo "$name: the written machine file is not run"
         failed=1
     fi

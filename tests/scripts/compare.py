@@ -13,8 +13,8 @@ from collections import Counter
 from second_runtime import Machine, Runtime, config_of, print_list, read_slit
 from transcripts import config, difference, doubted, place, run
 
-SCRIPTS = 1000
-PLANNED = 300
+SCRIPTS = 700
+PLANNED = 250
 # What has to be seen: plans of two rows or more, answers `more`, rows of one plan, bytes of one answer.
 LEAST = {"plans": 200, "more": 300, "rows": 100, "bytes": 8193}
 IDS = ["a", "b", "c", "d", "e", "web-1", "db.2", "x" * 64]

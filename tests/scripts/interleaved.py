@@ -19,15 +19,14 @@ SHOWN = ["sets a", "sets b", "list", "phase"]
 
 
 class Case:
-    """An event before the step of this number, or after the last one, with a CPU that is offline from the hand-over's begin on."""
+    """An event before the step of this number, from 0, or after the last one; a CPU that comes back goes first."""
 
     def __init__(self, event, at, gone=None):
         self.event, self.at = event, at
-        self.online = set(range(8)) - {gone}
+        self.online = set(range(8))
         before = [f"offline {gone}"] if gone else []
-        places = before + ["step"] * at + [event] + ["step"] * (3 - at)
-        self.places = [(line, len(before) <= k) for k, line in enumerate(places)]
-        self.lines = BEFORE + [line for place in places for line in [place] + SHOWN]
+        self.happening = before + ["step"] * at + [event] + ["step"] * (3 - at)
+        self.lines = BEFORE + [line for told in self.happening for line in [told] + SHOWN]
         self.ended = set()
         self.requested = list(REQUESTED[0])
         self.over = False
@@ -66,9 +65,7 @@ class Case:
 
     def answers(self):
         """The answers from the hand-over's begin on."""
-        if len(self.places) == 5:
-            self.online |= {int(self.places[0][0].split(" ")[1])}
-        for line, _ in self.places:
+        for line in self.happening:
             yield self.happens(line)
             yield self.sets(0)
             yield self.sets(1)

@@ -28,10 +28,10 @@ def classes(rows):
     return list(alike.values())
 
 
-def dealt(rows, plan):
+def dealt(rows, plan, alike=None):
     """The plan with the same numbers of twins in each row, the lower CPUs in the earlier rows."""
     sets = [set() for _ in rows]
-    for twins in classes(rows):
+    for twins in alike or classes(rows):
         left = list(twins)
         for k, cpus in enumerate(plan):
             for _ in cpus & set(twins):
@@ -78,13 +78,13 @@ def is_plan(rows, plan):
     return fits and len(set().union(*plan)) == sum(map(len, plan))
 
 
-def exchanges(rows, plan):
+def exchanges(rows, plan, alike):
     """What it costs at least that row k takes a CPU of row l, as `{(k, l): cost}`. Behind the rows stands one that holds what
     nobody holds, and that has any CPU for nothing."""
     nobody = len(rows)
     holder = {cpu: k for k, cpus in enumerate(plan) for cpu in cpus}
     costs = {}
-    for twins in classes(rows):
+    for twins in alike:
         weighed = [(k, weights[twins[0]]) for k, (_, weights) in enumerate(rows) if twins[0] in weights]
         weighed = dict(weighed + [(nobody, 0)])
         for l in {holder.get(cpu, nobody) for cpu in twins}:
@@ -94,9 +94,9 @@ def exchanges(rows, plan):
     return costs
 
 
-def can_be_cheaper(rows, plan):
+def can_be_cheaper(rows, plan, alike):
     """Whether some rows gain if each takes a CPU of the next one, in a ring. Where none do, the plan is of least cost."""
-    costs = [(k, l, cost) for (k, l), cost in exchanges(rows, plan).items()]
+    costs = [(k, l, cost) for (k, l), cost in exchanges(rows, plan, alike).items()]
     best = [0] * (len(rows) + 1)
     for _ in range(len(rows) + 2):
         before = list(best)
@@ -110,7 +110,8 @@ def can_be_cheaper(rows, plan):
 
 def is_least(rows, plan):
     """Whether it is a plan of least cost, and dealt."""
-    return is_plan(rows, plan) and dealt(rows, plan) == plan and not can_be_cheaper(rows, plan)
+    alike = classes(rows)
+    return is_plan(rows, plan) and dealt(rows, plan, alike) == plan and not can_be_cheaper(rows, plan, alike)
 
 
 def is_short(rows, members):

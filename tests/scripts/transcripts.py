@@ -16,6 +16,9 @@ import program as programs
 from program import SECONDS
 from second_runtime import Wrong, check, numbers
 
+# Lines of the longest answer: a certificate of 256 rows with a price for each CPU.
+LONGEST = 2 * 256 + 1024 + 3
+
 
 def config(section):
     told = {"ociVersion": "1.0.2", "root": {"path": "rootfs"}, "process": {"args": ["run"]}}
@@ -98,20 +101,20 @@ def run(program, words, script, **more):
 def difference(runtime, script, output, note=lambda line, answer: None):
     """Where the program's output is not what the runtime answers to the lines; the runtime is told what comes. Each line is
     noted with its answer."""
-    found = output.decode("utf-8", "backslashreplace").split("\n")
+    found, at = output.decode("utf-8", "backslashreplace").split("\n"), 0
     if found.pop() != "":
         return "the last line has no line feed"
     for line in script:
-        runtime.coming = found
+        runtime.coming = found[at : at + LONGEST]
         try:
             expected = runtime.answer(line)
         except Wrong as why:
             return f"{line[:100]!r}: {str(why)[:2000]}"
-        if found[: len(expected)] != expected:
-            return f"{line[:100]!r}: expected {expected}, found {found[: len(expected) + 1]}"
+        if found[at : at + len(expected)] != expected:
+            return f"{line[:100]!r}: expected {expected}, found {found[at : at + len(expected) + 1]}"
         note(line, expected)
-        found = found[len(expected) :]
-    return f"more than was asked for: {found}" if found else None
+        at += len(expected)
+    return f"more than was asked for: {found[at:]}" if at < len(found) else None
 
 
 def answer_to(outcome):

@@ -3,12 +3,14 @@ every plan: the plan's cost and how twins are dealt, the shortage, the prices an
 
 import os
 import random
-import subprocess
 import sys
 from collections import Counter
 
-sys.path.insert(0, os.path.join(os.path.dirname(__file__), "..", "certificates"))
-from reference import check, least_cost, read
+HERE = os.path.dirname(os.path.abspath(__file__))
+sys.path[:0] = [os.path.join(HERE, ".."), os.path.join(HERE, "..", "certificates"), os.path.join(HERE, "..", "scripts")]
+import plain_plan
+from program import run
+from reference import check, least_cost, numbers, read
 
 PROBLEMS = 3000
 
@@ -32,6 +34,33 @@ def made():
     return rows
 
 
+def own_offers(kinds, demand):
+    """As many rows as there may be, each with CPUs and weights of its own, over some hundred classes and more; its name has 64
+    bytes. Each row may have four CPUs that are near to no other one, so that with a demand of 4 at most there is a plan."""
+    kind = [random.randrange(kinds) for _ in range(1024)]
+    rows = []
+    for k in range(256):
+        near, taste = set(range(4 * k, 4 * k + 4)), random.randrange(1, kinds)
+        may = {cpu: 20 + (kind[cpu] * taste + k) % 23 for cpu in range(1024) if (kind[cpu] + k) % 5 == 0} | dict.fromkeys(near, 33)
+        by_weight = {}
+        for cpu, weight in may.items():
+            by_weight.setdefault(weight, set()).add(cpu)
+        rows.append((f"r{k:03}" + "z" * 60, demand, sorted(by_weight.items())))
+    return rows
+
+
+def whole_lack():
+    """As many rows as there may be, which lack CPUs together and no fewer of them do."""
+    return [(f"r{k}", 4, [(33_554_431, set(range(1023)))]) for k in range(256)]
+
+
+def largest():
+    """Problems as large as may be, with their number of members where they are a shortage."""
+    return [(own_offers(40, 2), 0), (own_offers(1000, 1), 0), (own_offers(1000, 4), 0), (whole_lack(), 256),
+            ([("a", 1024, [(0, set(range(1024)))])], 0), ([("a", 1024, [(0, set(range(1023)))])], 1),
+            ([("a", 512, [(cpu, {cpu}) for cpu in range(1023)])], 0)]
+
+
 def problem(rows):
     lines = ["numarun-certificate 1"]
     for name, demand, offers in rows:
@@ -48,6 +77,18 @@ def classes(rows):
     return list(alike.values())
 
 
+def least_of(rows, lines):
+    """The cost of a least plan, or None where there is none. Large problems are not tried: there a plan that no exchange makes
+    cheaper is a least one, and else there is none, which is shown by the shortage."""
+    if len(rows) <= 4 and len(set().union(*(s for _, _, offers in rows for _, s in offers))) <= 7:
+        return least_cost(rows)
+    if lines and lines[0][0] == "short":
+        return None
+    weighed = [(demand, {cpu: weight for weight, s in offers for cpu in s}) for _, demand, offers in rows]
+    plan = [numbers(line[1].encode()) for line in lines[: len(rows)]]
+    return plain_plan.cost_of(weighed, plan) if plain_plan.is_least(weighed, plan) else None
+
+
 def faults(rows, answer):
     """What is wrong with an answer, if anything is."""
     lines = [line.split(" ") for line in answer.splitlines()]
@@ -55,7 +96,7 @@ def faults(rows, answer):
     twins = classes(rows)
     if turns > sum(demand for _, demand, _ in rows) * (len(rows) + len(twins)):
         yield "too many turns"
-    least = least_cost(rows)
+    least = least_of(rows, lines)
     if lines and lines[0][0] == "short":
         members = [int(k) for _, k in lines]
         # the last search takes up the members and the classes that they may have; each row before its root took two at least
@@ -84,14 +125,38 @@ def faults(rows, answer):
         yield "too few turns"
 
 
+def answer_to(program, rows):
+    """What the solver answers to one problem."""
+    text = "\n".join(problem(rows) + [f"short {rows[0][0]}", "end", ""])
+    done = run([program, "solve"], text.encode())
+    if done.returncode or done.stderr:
+        sys.exit(f"compare: {text[:1000]!r}: {done}")
+    return done.stdout.decode()
+
+
+def large_ones(program):
+    """Compares what the solver answers to the largest problems."""
+    counts = []
+    for rows, members in largest():
+        answer = answer_to(program, rows)
+        for fault in faults(rows, answer):
+            sys.exit(f"compare: {str(rows)[:1000]}: {fault[:1000]}: {answer[:1000]!r}")
+        if answer.count("short ") != members:
+            sys.exit(f"compare: {answer.count('short ')} members in place of {members}: {str(rows)[:1000]}")
+        counts.append(len(classes(rows)))
+    print("compare: large problems of", ", ".join(map(str, counts)), "classes")
+    if max(counts) < 512:
+        sys.exit("compare: too few classes")
+
+
 def main(program):
     random.seed(1)
     problems = [rows for rows in (made() for _ in range(PROBLEMS)) if rows]
     texts = ["\n".join(problem(rows) + [f"short {rows[0][0]}", "end", ""]) for rows in problems]
-    run = subprocess.run(program.split() + ["solve"], input="".join(texts), capture_output=True, text=True)
-    answers = run.stdout.split("turns ")
-    if run.returncode != 0 or run.stderr or len(answers) != len(problems) + 1:
-        sys.exit(f"compare: status {run.returncode}, {len(answers) - 1} answers, {run.stderr!r}")
+    done = run([program, "solve"], "".join(texts).encode())
+    answers = done.stdout.decode().split("turns ")
+    if done.returncode != 0 or done.stderr or len(answers) != len(problems) + 1:
+        sys.exit(f"compare: status {done.returncode}, {len(answers) - 1} answers, {done.stderr!r}")
     seen = Counter()
     for rows, text, lines, more in zip(problems, texts, answers, answers[1:]):
         answer = lines[lines.find("\n") + 1 :] if lines[:1].isdigit() else lines
@@ -104,4 +169,5 @@ def main(program):
         sys.exit("compare: too few of one kind")
 
 
+large_ones(*sys.argv[1:])
 main(*sys.argv[1:])

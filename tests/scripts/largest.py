@@ -1,0 +1,143 @@
+"""Runs scripts at each limit: `largest.py PROGRAM`. 256 containers with ids of 64 bytes on 1,024 CPUs and 64 nodes all have a
+plan, with CPU lists of their own, and a hand-over to it; then all of them lack CPUs together. The machine file, a config and
+lines of the script are as long as may be. Answers are the second runtime's, and what is counted here."""
+
+import json
+import os
+import random
+import sys
+import tempfile
+
+from second_runtime import Machine, Runtime, config_of, print_list, read_slit
+from transcripts import config, difference, doubted, place, run
+
+NODES, CPUS, CONTAINERS, TEXT, LINE = 64, 1024, 256, 1_048_576, 8192
+# Pids past 65,535 are given.
+FORKS = 65_400
+
+
+def padded(text, length):
+    """A JSON object with a member more, so that it has as many bytes."""
+    head = text[:-1] + b',"about":"'
+    return head + b"x" * (length - len(head) - 2) + b'"}'
+
+
+def distance(i, j):
+    return 10 if i == j else 11 + (i * 7 + j * 3) % 50 + 4 * abs(i // 8 - j // 8)
+
+
+def machine(with_table):
+    nodes = [print_list(set(range(n, CPUS, NODES))) for n in range(NODES)]
+    rows = [[distance(i, j) for j in range(NODES)] for i in range(NODES)]
+    told = {"nodes": nodes, "reserved": "0"}
+    if not with_table:
+        return padded(json.dumps({**told, "distances": rows}).encode(), TEXT), None
+    table = bytearray(b"SLIT" + (44 + NODES * NODES).to_bytes(4, "little") + bytes(28) + NODES.to_bytes(8, "little"))
+    table += bytes(entry for row in rows for entry in row)
+    table[9] = -sum(table) % 256
+    return padded(json.dumps(told).encode(), TEXT), bytes(table)
+
+
+def name(number):
+    """One of many ids of 64 bytes."""
+    return f"{number:04}" + "Az_-.+09" * 7 + "tail"
+
+
+def own_lists():
+    """Configs of as many containers, with a list of CPUs and homes of its own each, of which four are no other one's at most."""
+    bundles = {}
+    for k in range(CONTAINERS):
+        cpus = set(range(max(1, 4 * k), 4 * k + 4)) | set(random.sample(range(1, CPUS), 40))
+        section = {"quota": (3 if k == 0 else 4) * 100_000, "cpus": print_list(cpus), "mems": str(k % NODES)}
+        bundles[f"b{k}"] = config(section).replace(b'"1.0.2"', b'"1.0.2-dev.%d+build"' % k)
+    bundles["b7"] = padded(bundles["b7"], TEXT)
+    bundles["too-long"] = padded(bundles["b7"], TEXT + 1)
+    return bundles
+
+
+def longest(line):
+    """The line with blanks between its first two words, so that it is as long as may be."""
+    first, rest = line.split(b" ", 1)
+    return first + b" " * (LINE - len(first) - len(rest)) + rest
+
+
+def planned(with_table):
+    """All containers have a plan, are moved to it, and a CPU that goes leaves too few."""
+    script = [b"create %s b%d" % (name(k).encode(), k) for k in range(CONTAINERS)]
+    script[9] = longest(script[9])
+    script[100:100] = [b"create x too-long", longest(b"create x b1") + b" "]
+    script += [b"create x b1", b"list", b"begin"] + [b"step"] * 200 + [b"phase", b"create x b1"] + [b"step"] * 400
+    script += [b"sets %s" % name(k).encode() for k in range(0, CONTAINERS, 5)] + [b"certificate", b"rebalance"]
+    script += [b"fork 2"] * (1 if with_table else FORKS) + [b"state %s" % name(200).encode()]
+    script += [b"offline 1023", b"rebalance", b"certificate", b"kill %s 9" % name(3).encode(), b"rebalance", b"certificate"]
+    return (*machine(with_table), own_lists(), script)
+
+
+def all_lack():
+    """Containers that ask for four CPUs each, and for one more than there are: all are named, as no fewer of them lack any."""
+    told = json.dumps({"nodes": ["0-511", "512-1023"], "distances": [[10, 20], [20, 10]], "reserved": "0"}).encode()
+    bundles = {"b0": config({"quota": 400_000})}
+    script = [b"create %s b0" % name(k).encode() for k in range(CONTAINERS)] + [b"rebalance", b"certificate", b"phase"]
+    return told, None, bundles, script
+
+
+def one_has_all():
+    """One container has every CPU but one."""
+    told = json.dumps({"nodes": ["0-511", "512-1023"], "distances": [[10, 20], [20, 10]], "reserved": "512"}).encode()
+    bundles = {"b0": config({"quota": 102_300_000}), "b1": config({"quota": 102_400_000}), "b2": config({"quota": 102_400_001})}
+    script = [b"create a b0", b"create c b2", b"rebalance", b"certificate", b"sets a", b"create b b1", b"rebalance"]
+    return told, None, bundles, script
+
+
+class Told:
+    """What the answers said, by their first words."""
+
+    def __init__(self):
+        self.answers = {}
+
+    def note(self, line, answer):
+        self.answers.setdefault(" ".join(line.decode().split()[:1]), []).append(answer)
+
+    def count(self, command, number, word):
+        return sum(line.startswith(word + " ") for line in self.answers[command][number])
+
+
+def compared(program, machine, slit, bundles, script):
+    """What was told by the answers, where they are right."""
+    with tempfile.TemporaryDirectory() as folder:
+        os.chdir(folder)
+        done = run(program, place(machine, slit, bundles), b"\n".join(script))
+        told, runtime = Told(), Runtime(Machine(machine, None if slit is None else read_slit(slit)), config_of)
+        wrong = difference(runtime, script, done.stdout, told.note) or doubted(program, done.stdout)
+        os.chdir("/")
+    if wrong or done.returncode or done.stderr:
+        sys.exit(f"largest: {str(wrong)[:3000]}, status {done.returncode}, {done.stderr[:300]!r}")
+    return told
+
+
+def expect(what, found, expected):
+    if found != expected:
+        sys.exit(f"largest: {what}: expected {expected}, found {found}")
+
+
+def main(program):
+    random.seed(1)
+    program = os.path.abspath(program)
+    for with_table in (False, True):
+        told = compared(program, *planned(with_table))
+        expect("rows of a plan", [told.count("begin", 0, "hold"), told.count("rebalance", 0, "hold")], [CONTAINERS] * 2)
+        expect("past the limits", told.answers["create"][100:102] + told.answers["create"][258:], [
+            ["refused E55 TooLong"], ["refused E112 LineTooLong"], ["refused E93 TooManyContainers"], ["refused E90 Busy"]])
+        expect("a pid", told.answers["fork"][-1], [f"pid {CONTAINERS + 1 + (1 if with_table else FORKS)}"])
+        if sum(len(line) + 1 for line in told.answers["certificate"][0]) <= 65_536:
+            sys.exit("largest: the certificate is too short")
+    told = compared(program, *all_lack())
+    expect("members", told.count("certificate", 0, "short"), CONTAINERS)
+    expect("a shortage", told.answers["rebalance"][0][0], "short demand 1024 allowed 1-1023")
+    told = compared(program, *one_has_all())
+    expect("a whole machine", told.answers["sets"][0], ["cpus 0-511,513-1023 effective 0-511,513-1023 mems 0-1 effective 0-1"])
+    expect("a lack", told.answers["rebalance"][1][0], "short demand 2047 allowed 0-511,513-1023")
+    print(f"largest: {CONTAINERS} containers on {CPUS} CPUs and {NODES} nodes have a plan, and lack CPUs")
+
+
+main(*sys.argv[1:])
