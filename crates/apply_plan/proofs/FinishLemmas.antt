@@ -1,5 +1,5 @@
 -- What the writes of a hand-over up to its end are as single steps, and what these leave.
-use Rattle.std.proofs.Common.{◌≡◌, ℕ, zero, suc, ◌+◌, true, length, refl, sym, ap, ◌∙◌, subst, arith}
+use Rattle.std.proofs.Common.{◌≡◌, ℕ, zero, suc, ◌+◌, ◌*◌, ◌≤◌, true, length, refl, sym, ap, ◌∙◌, subst, arith}
 use Rattle.std.proofs.lemmas.Bool.{false≢true}
 use Rattle.std.proofs.lemmas.List.{take_all}
 use Rattle.std.specs.Prelude.{find, Option, Some, None, is_some, Result, Ok, Err, IsOk}
@@ -12,13 +12,13 @@ use Rattle.apply_plan.specs.declared.handover.Progress.{Progress}
 use Rattle.apply_plan.specs.declared.handover.Progress.TheVariants.{More, Done}
 use Rattle.apply_plan.specs.Holders.{IsSafe}
 use Rattle.apply_plan.specs.Targets.{Targets, holders_of, IsHandover, ArePlaced}
-use Rattle.apply_plan.specs.DueWrite.{must_release, must_move, first_write, due, written, progress_of, Steps, HaveTargets, Between}
+use Rattle.apply_plan.specs.DueWrite.{must_release, must_move, first_write, due, written, progress_of, Steps, HaveTargets, Between, writes_to_come, Spends}
 use Rattle.apply_plan.specs.Leaves.{KeepsRest}
 use Rattle.apply_plan.specs.LeavesLemmas.{rest_then}
 use Rattle.apply_plan.specs.Finishes.{StepsMore, last_answer, Finishes}
 use Rattle.apply_plan.specs.Walks.{Writes, HasWritten, Stops, HaveReleased, NoneMust, HaveMoved, TakesTargets}
 use Rattle.apply_plan.proofs.KernelFacts.{placed_alike}
-use Rattle.apply_plan.proofs.HandoverLemmas.{step_safe, step_between, step_done, step_counts, step_keeps, keeps_itself}
+use Rattle.apply_plan.proofs.HandoverLemmas.{at_most_two, step_safe, step_between, step_done, step_counts, step_spends, done_none, step_keeps, keeps_itself}
 use Rattle.apply_plan.proofs.WalkLemmas.{none_found}
 
 module _ (h : Targets) where
@@ -138,9 +138,29 @@ module _ (h : Targets) (valid : IsHandover h) where
         (λ a b p s e. let one : b.failures ≡ a.failures + 0 = step_counts h valid a b p (Ok More) s in omega (arith, one, e)) f.steps old f.mid f.more placed refl).0 in
         step_counts h valid f.mid new placed_then (last_answer r) f.ends ∙ ap (λ n. n + rise (last_answer r)) more ∙ ap (λ n. old.failures + n) (same_rise r)
 
+    pub finish_spends : Spends h old (rise r) new
+    finish_spends =
+        let more : Spends h old 0 f.mid =
+        (along (λ k. Spends h old 0 k)
+        (λ a b p s e. let one : Spends h a 0 b = step_spends h valid a b p (Ok More) s in omega (arith, one, e)) f.steps old f.mid f.more placed (omega arith)).0 in
+        let last : Spends h f.mid (rise (last_answer r)) new = step_spends h valid f.mid new placed_then (last_answer r) f.ends in
+        omega (arith, more, last, same_rise r)
+
+    pub finish_few : new.writes ≤ old.writes + 2 * length h.entries + rise r
+    finish_few = omega (arith, finish_spends, at_most_two h old)
+
 -- at the end each live container has its target
 pub finish_done : (h : Targets) (valid : IsHandover h) (old new : KernelState) → ArePlaced old h.entries → (r : Result (Unit {0}) KernelFault) → Finishes h old r new → IsOk r
     → HaveTargets new h.entries
 finish_done h valid old new placed (Ok _) f ok =
     step_done h valid f.mid new (placed_then h valid old new placed (Ok tt) f) (Ok Done) f.ends (finish_places h valid old new placed (Ok tt) f) refl
 finish_done h valid old new placed (Err fault) f ok = absurd (false≢true ok)
+
+-- and each write that was to come was made
+pub finish_all : (h : Targets) (valid : IsHandover h) (old new : KernelState) → ArePlaced old h.entries → (r : Result (Unit {0}) KernelFault) → Finishes h old r new → IsOk r
+    → new.writes ≡ old.writes + writes_to_come h old
+finish_all h valid old new placed (Ok v) f ok =
+    let none : writes_to_come h new ≡ 0 = done_none h f.mid new (Ok Done) f.ends refl in
+    let spends : Spends h old 0 new = finish_spends h valid old new placed (Ok v) f in
+    omega (arith, none, spends)
+finish_all h valid old new placed (Err fault) f ok = absurd (false≢true ok)

@@ -1,8 +1,10 @@
 -- What a step of a hand-over leaves, whatever it answers.
-use Rattle.std.proofs.Common.{◌≡◌, ◌+◌, ◌*◌, ◌≤◌, Bool, false, length, refl, sym, ap, ◌∙◌, subst, arith, inr}
+use Rattle.std.proofs.Common.{◌≡◌, ℕ, ◌+◌, ◌*◌, ◌≤◌, Bool, true, false, List, [], ◌∷◌, length, refl, sym, ap, ◌∙◌, subst, arith, inr}
 use Rattle.std.proofs.lemmas.Option.{none-some}
+use Rattle.std.proofs.lemmas.List.Sums.{sum_by-cons}
+use Rattle.std.specs.List.{AllByRecursion, sum_by}
 use Rattle.std.specs.Prelude.{◌⊎◌, cond, find, Option, Some, None, is_some, Result, Ok, Err}
-use Rattle.cpu_set.specs.Ids.{Ids, is_empty}
+use Rattle.cpu_set.specs.Ids.{Ids, is_same, is_empty}
 use Rattle.cpuset_tree.specs.Groups.{same_group}
 use Rattle.cpuset_tree.specs.TreeState.{TreeState}
 use Rattle.cpuset_tree.specs.TreeLaws.{StandAlike}
@@ -18,7 +20,7 @@ use Rattle.apply_plan.specs.declared.handover.Progress.TheVariants.{Done}
 use Rattle.apply_plan.specs.Holders.{IsSafe}
 use Rattle.apply_plan.specs.Kept.{kept}
 use Rattle.apply_plan.specs.Targets.{Targets, holders_of, IsHandover, IsPlaced, ArePlaced}
-use Rattle.apply_plan.specs.DueWrite.{held, kept_of, must_release, must_move, release_of, move_of, due, written, progress_of, Steps, writes_of, writes_to_come, HasTarget, HaveTargets, IsBetween, Between, Lowers}
+use Rattle.apply_plan.specs.DueWrite.{held, kept_of, must_release, must_move, release_of, move_of, due, written, progress_of, Steps, writes_of, writes_to_come, HasTarget, HaveTargets, IsBetween, Between, Lowers, made_by_step, Spends}
 use Rattle.apply_plan.specs.Leaves.{KeepsRest}
 use Rattle.apply_plan.proofs.ListLemmas.{all_map, find_none, find_among, sum_bounded}
 use Rattle.apply_plan.proofs.KernelFacts.{with_request, is_write, stands}
@@ -116,6 +118,28 @@ nothing_due : (d : Option Write) → progress_of d ≡ Done → d ≡ None
 nothing_due None e = refl
 nothing_due (Some w) e = absurd (let x : ⊥ = cc in x)
 
+-- where nothing is due, nothing is to come
+none_to_come : (k : KernelState) (reserved : Ids) (entries : List Entry) → AllByRecursion (λ e. must_release k reserved e ≡ false) entries
+    → AllByRecursion (λ e. must_move k e ≡ false) entries → sum_by (writes_of k reserved) entries ≡ 0
+none_to_come k reserved [] keep hold = refl
+none_to_come k reserved (e ∷ later) keep hold = both (none (cond (is_same (kept_of k reserved e) e.target) 1 2) 1 (must_release k reserved e) (must_move k e) keep.0 hold.0) (none_to_come k reserved later keep.1 hold.1) where
+  none : (x y : ℕ) (r m : Bool) → r ≡ false → m ≡ false → cond r x (cond m y 0) ≡ 0
+  none x y false false _ _ = refl
+  none x y true m is _ = absurd (let no : ⊥ = cc is in no)
+  none x y false true _ is = absurd (let no : ⊥ = cc is in no)
+
+  both : writes_of k reserved e ≡ 0 → sum_by (writes_of k reserved) later ≡ 0 → sum_by (writes_of k reserved) (e ∷ later) ≡ 0
+  both a b = omega (arith, sum_by-cons (writes_of k reserved) e later, a, b)
+
+rests_none : (h : Targets) (k : KernelState) (d : Option Write) → Due k h.reserved h.entries d → d ≡ None → writes_to_come h k ≡ 0
+rests_none h k d (Releases e found) is = absurd (none-some (release_of k h.reserved e) (sym is))
+rests_none h k d (Moves e none found) is = absurd (none-some (move_of e) (sym is))
+rests_none h k d (Rests r m) is = none_to_come k h.reserved h.entries (find_none (must_release k h.reserved) h.entries r) (find_none (must_move k) h.entries m)
+
+pub done_none : (h : Targets) (old new : KernelState) (r : Result Progress KernelFault) → Steps h old r new → r ≡ Ok Done → writes_to_come h new ≡ 0
+done_none h old new (Ok answer) s is = rests_none h new (due h new) (due_is new h.reserved h.entries) (nothing_due (due h new) (sym s.1 ∙ cc))
+done_none h old new (Err fault) s is = absurd (let x : ⊥ = cc in x)
+
 module _ (h : Targets) (valid : IsHandover h) (old new : KernelState) (placed : ArePlaced old h.entries) where
   due_now : Due old h.reserved h.entries (due h old)
   due_now = due_is old h.reserved h.entries
@@ -142,6 +166,24 @@ module _ (h : Targets) (valid : IsHandover h) (old new : KernelState) (placed : 
     same None = omega arith
     same (Some w) = omega arith
   step_counts (Err fault) s = ap (λ k. k.failures) s.1 ∙ ap (λ f. old.failures + rise {A = Progress} (Err f)) (sym s.0)
+
+  pub step_makes : (r : Result Progress KernelFault) → Steps h old r new → new.writes ≡ old.writes + made_by_step h old
+  step_makes (Ok answer) s = ap (λ k. k.writes) s.0 ∙ more (due h old) where
+    more : (d : Option Write) → (written old d).writes ≡ old.writes + cond (is_some d) 1 0
+    more None = omega arith
+    more (Some w) = refl
+  step_makes (Err fault) s = ap (λ k. k.writes) s.1 ∙ ap (λ (b : Bool). old.writes + cond b 1 0) (sym s.2)
+
+  pub step_spends : (r : Result Progress KernelFault) → Steps h old r new → Spends h old (rise r) new
+  step_spends (Ok answer) s =
+      let made : new.writes ≡ old.writes + made_by_step h old = step_makes (Ok answer) s in
+      let less : writes_to_come h old ≡ writes_to_come h new + made_by_step h old = step_lowers (Ok answer) s in
+      omega (arith, made, less)
+  step_spends (Err fault) s =
+      let made : new.writes ≡ old.writes + 1 = ap (λ k. k.writes) s.1 in
+      let same : writes_to_come h old ≡ writes_to_come h new = step_lowers (Err fault) s in
+      let risen : rise {A = Progress} (Err fault) ≡ 1 = ap (λ (f : KernelFault). rise {A = Progress} (Err f)) s.0 in
+      omega (arith, made, same, risen)
 
   pub step_keeps : (r : Result Progress KernelFault) → Steps h old r new → KeepsRest h old new
   step_keeps (Ok answer) s = subst (KeepsRest h old) (sym s.0) (written_keeps h valid old placed (due h old) due_now)

@@ -8,7 +8,7 @@ use Rattle.cpuset_tree.specs.TreeChanges.{with_cpus}
 use Rattle.cpuset_tree.specs.TreeLaws.{StandAlike}
 use Rattle.cpuset_tree.specs.TreeLemmas.{writes_request, writes_leave_places}
 use Rattle.kernel_model.specs.declared.fault.KernelFault.{KernelFault}
-use Rattle.kernel_model.specs.KernelState.{KernelState, failed}
+use Rattle.kernel_model.specs.KernelState.{KernelState, counted, failed}
 use Rattle.apply_plan.specs.declared.entry.Entry.{Entry}
 use Rattle.apply_plan.specs.declared.scan.Write.{Write}
 use Rattle.apply_plan.specs.Targets.{IsPlaced, ArePlaced}
@@ -19,7 +19,7 @@ use Rattle.apply_plan.proofs.WriteLemmas.{IsWrite}
 module _ (k : KernelState) (g : Group) (cpus : Ids) where
   -- the kernel where the group requests these
   abbrev pub with_request : KernelState
-  with_request = record k { tree = with_cpus k.tree g cpus }
+  with_request = record (counted k) { tree = with_cpus k.tree g cpus }
 
   pub is_write : has_group k.tree g ≡ true → IsWrite k with_request g cpus
   is_write there = record { own = (writes_request.0 k.tree g cpus).own there; others = (writes_request.0 k.tree g cpus).others; table = refl }

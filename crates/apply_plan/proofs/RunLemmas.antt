@@ -9,20 +9,21 @@ use Rattle.cpuset_tree.specs.Groups.{cpus_in, requested_cpus}
 use Rattle.proctable.specs.Processes.{is_alive}
 use Rattle.kernel_model.specs.declared.KernelFault.{KernelFault}
 use Rattle.kernel_model.specs.KernelState.{KernelState, failed}
+use Rattle.kernel_model.specs.Cases.{rise}
 use Rattle.kernel_model.specs.Laws.{StepKeeps}
 use Rattle.apply_plan.specs.declared.entry.Entry.{Entry}
 use Rattle.apply_plan.specs.declared.handover.Progress.{Progress}
 use Rattle.apply_plan.specs.declared.handover.Progress.TheVariants.{More, Done}
 use Rattle.apply_plan.specs.Holders.{AreApart, HasSome, IsSafe}
 use Rattle.apply_plan.specs.Targets.{Targets, holder_of, holders_of, IsPlaced}
-use Rattle.apply_plan.specs.DueWrite.{held, due, Steps, written, progress_of, writes_of, writes_to_come, IsBetween, Between}
+use Rattle.apply_plan.specs.DueWrite.{held, due, Steps, written, progress_of, writes_of, writes_to_come, IsBetween, Between, made_by_step, Spends}
 use Rattle.apply_plan.specs.OneStep.{StepLeaves, StepsLeave}
 use Rattle.apply_plan.specs.Runs.{Event, Stepped, Called, Happens, AllHappen, IsOpen, StaysSafe, StaysBetween, EndsWithin, writes_in, writes_of_event, last_of}
 use Rattle.apply_plan.proofs.ListLemmas.{all_map, all_map2, all_of, all_of_map, of_all_map, pairs_map, pairs_of_map, of_pairs_map, sum_le}
 use Rattle.apply_plan.proofs.WriteLemmas.{ApartAs}
 use Rattle.apply_plan.proofs.StepLemmas.{waits}
 use Rattle.apply_plan.proofs.EventLemmas.{IsCalm, calm, still_open}
-use Rattle.apply_plan.proofs.HandoverLemmas.{step_safe, step_lowers, step_between, step_done, step_counts, step_keeps}
+use Rattle.apply_plan.proofs.HandoverLemmas.{step_safe, step_lowers, step_between, step_done, step_counts, step_makes, step_spends, done_none, step_keeps}
 use Rattle.apply_plan.proofs.KernelFacts.{placed_alike}
 use Rattle.apply_plan.specs.declared.scan.Write.{Write}
 use Rattle.cpuset_tree.specs.declared.Group.{Group}
@@ -119,6 +120,9 @@ module _ (h : Targets) (old new : KernelState) (before : IsOpen h old) where
         lowers = step_lowers h before.handover old new before.placed r s;
         between = λ first. step_between h before.handover old new before.placed first r s;
         counted = step_counts h before.handover old new before.placed r s;
+        made = step_makes h before.handover old new before.placed r s;
+        spends = step_spends h before.handover old new before.placed r s;
+        spent = done_none h old new r s;
         kernel = step_kernel r s;
       }
 
@@ -130,13 +134,15 @@ module _ (h : Targets) (old new : KernelState) (before : IsOpen h old) where
   event_safe (Stepped r) happens safe = step_safe h before.handover old new before.placed r happens safe
   event_safe (Called call r) happens safe = calm_safe h old new (calm h old new before call r happens.0 happens.1) safe
 
-  pub event_lowers : (x : Event) → Happens h old x new → writes_of_event h old x + writes_to_come h new ≤ writes_to_come h old
+  pub event_lowers : (x : Event) → Happens h old x new → writes_of_event old x new + writes_to_come h new ≤ writes_to_come h old
   event_lowers (Stepped (Ok answer)) happens =
-      let e : writes_to_come h old ≡ writes_to_come h new + cond (is_some (due h old)) 1 0 = step_lowers h before.handover old new before.placed (Ok answer) happens in
-      omega (arith, e)
+      let spends : Spends h old 0 new = step_spends h before.handover old new before.placed (Ok answer) happens in
+      let e : writes_to_come h old ≡ writes_to_come h new + made_by_step h old = step_lowers h before.handover old new before.placed (Ok answer) happens in
+      omega (arith, spends, e)
   event_lowers (Stepped (Err fault)) happens =
+      let spends : Spends h old (rise {A = Progress} (Err fault)) new = step_spends h before.handover old new before.placed (Err fault) happens in
       let e : writes_to_come h old ≡ writes_to_come h new = step_lowers h before.handover old new before.placed (Err fault) happens in
-      omega (arith, e)
+      omega (arith, spends, e)
   event_lowers (Called call r) happens =
       let e : writes_to_come h new ≤ writes_to_come h old = calm_fewer h old new (calm h old new before call r happens.0 happens.1) in
       omega (arith, e)
@@ -176,7 +182,7 @@ stays_safe h k (x ∷ later) before safe happen =
 pub ends_within : EndsWithin
 ends_within h k [] before happen = omega arith
 ends_within h k (x ∷ later) before happen =
-    let first : writes_of_event h k x.0 + writes_to_come h x.1 ≤ writes_to_come h k = event_lowers h k x.1 before x.0 happen.0 in
-    let rest : writes_in h x.1 later + writes_to_come h (last_of x.1 later) ≤ writes_to_come h x.1 =
+    let first : writes_of_event k x.0 x.1 + writes_to_come h x.1 ≤ writes_to_come h k = event_lowers h k x.1 before x.0 happen.0 in
+    let rest : writes_in x.1 later + writes_to_come h (last_of x.1 later) ≤ writes_to_come h x.1 =
     ends_within h x.1 later (event_stays_open h k x.1 before x.0 happen.0) happen.1 in
     omega (arith, first, rest)

@@ -7,7 +7,7 @@ use Rattle.cpuset_tree.specs.TreeChanges.{with_cpus}
 use Rattle.proctable.specs.Processes.{is_alive}
 use Rattle.kernel_model.specs.declared.fault.KernelFault.{KernelFault}
 use Rattle.kernel_model.specs.declared.fault.KernelFault.TheVariants.{Failed}
-use Rattle.kernel_model.specs.KernelState.{KernelState, failed}
+use Rattle.kernel_model.specs.KernelState.{KernelState, counted, failed}
 use Rattle.apply_plan.specs.declared.entry.Entry.{Entry}
 use Rattle.apply_plan.specs.declared.scan.Write.{Write}
 use Rattle.apply_plan.specs.declared.handover.Progress.{Progress}
@@ -50,10 +50,10 @@ due_write k reserved entries = first_write k reserved (find (must_release k rese
 abbrev pub due : Targets → KernelState → Option Write
 due h k = due_write k h.reserved h.entries
 
--- the kernel after a write
+-- the kernel after a write, which is counted
 abbrev pub written : KernelState → Option Write → KernelState
 written k None = k
-written k (Some w) = record k { tree = with_cpus k.tree w.group w.cpus }
+written k (Some w) = record (counted k) { tree = with_cpus k.tree w.group w.cpus }
 
 -- whether anything is due yet
 abbrev pub progress_of : Option Write → Progress
@@ -93,3 +93,11 @@ Between h first k = AllByRecursion (IsBetween h.reserved first k) h.entries
 abbrev pub Lowers : Targets → KernelState → Result Progress KernelFault → KernelState → Type 0
 Lowers h old (Ok answer) new = writes_to_come h old ≡ writes_to_come h new + cond (is_some (due h old)) 1 0
 Lowers h old (Err fault) new = writes_to_come h old ≡ writes_to_come h new
+
+-- how many writes a step makes: one where one is due, whether it fails or not, and else none
+abbrev pub made_by_step : Targets → KernelState → ℕ
+made_by_step h k = cond (is_some (due h k)) 1 0
+
+-- the kernel was written once for each write that is less to come, and once for each that failed
+abbrev pub Spends : Targets → KernelState → ℕ → KernelState → Type 0
+Spends h old failures new = new.writes + writes_to_come h new ≡ old.writes + writes_to_come h old + failures

@@ -8,12 +8,13 @@ use Rattle.apply_plan.specs.declared.handover.Progress.{Progress}
 use Rattle.apply_plan.specs.declared.handover.Progress.TheVariants.{More, Done}
 use Rattle.apply_plan.specs.Holders.{IsSafe}
 use Rattle.apply_plan.specs.Targets.{Targets, holders_of}
-use Rattle.apply_plan.specs.DueWrite.{Steps, writes_to_come, HaveTargets, Between, Lowers}
+use Rattle.apply_plan.specs.DueWrite.{Steps, writes_to_come, HaveTargets, Between, Lowers, made_by_step, Spends}
 use Rattle.apply_plan.specs.Leaves.{KeepsRest}
 use Rattle.apply_plan.specs.Runs.{IsOpen}
 
--- the hand-over is still open, what was safe is safe, and nothing changed but the entries' sets and the count of failures;
--- where no write is due any more each live container has its target, and where one is there is one less to come
+-- the hand-over is still open, what was safe is safe, and nothing changed but the entries' sets and the kernel's counts;
+-- where no write is due any more each live container has its target and none is to come, and where one is there is one less
+-- to come; one writing call was made where a write was due, and else none
 pub record StepLeaves (h : Targets) (old : KernelState) (r : Result Progress KernelFault) (new : KernelState) : Type 0 where
   pub open_still : IsOpen h new
   pub safe : IsSafe old h.reserved (holders_of h.entries) → IsSafe new h.reserved (holders_of h.entries)
@@ -23,6 +24,9 @@ pub record StepLeaves (h : Targets) (old : KernelState) (r : Result Progress Ker
   pub lowers : Lowers h old r new
   pub between : (first : KernelState) → Between h first old → Between h first new
   pub counted : new.failures ≡ old.failures + rise r
+  pub made : new.writes ≡ old.writes + made_by_step h old
+  pub spends : Spends h old (rise r) new
+  pub spent : r ≡ Ok Done → writes_to_come h new ≡ 0
   pub kernel : StepKeeps old new
 
 abbrev pub StepsLeave : Type 0

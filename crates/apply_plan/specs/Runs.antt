@@ -1,5 +1,5 @@
 -- What may happen while a hand-over is open, one event after another.
-use Rattle.std.specs.Prelude.{◌≡◌, ℕ, ◌+◌, ◌*◌, ◌<◌, ◌≤◌, false, cond, List, [], ◌∷◌, length, is_some, Result, Ok, Err}
+use Rattle.std.specs.Prelude.{◌≡◌, ℕ, ◌+◌, ◌-◌, ◌*◌, ◌<◌, ◌≤◌, false, List, [], ◌∷◌, length, Result, Ok, Err}
 use Rattle.std.specs.List.{AllByRecursion}
 use Rattle.faults.specs.declared.OrMemory.{OrMemory}
 use Rattle.cpuset_tree.specs.declared.Group.{Group}
@@ -10,12 +10,13 @@ use Rattle.kernel_model.specs.declared.Call.TheVariants.{RemoveGroup, WriteCpus,
 use Rattle.kernel_model.specs.declared.Reply.{Reply}
 use Rattle.kernel_model.specs.KernelState.{KernelState}
 use Rattle.kernel_model.specs.WellFormed.{IsWellFormed}
+use Rattle.kernel_model.specs.Cases.{rise}
 use Rattle.kernel_model.specs.Runs.{Step}
 use Rattle.apply_plan.specs.declared.entry.Entry.{Entry}
 use Rattle.apply_plan.specs.declared.handover.Progress.{Progress}
 use Rattle.apply_plan.specs.Holders.{IsSafe}
 use Rattle.apply_plan.specs.Targets.{Targets, holders_of, IsHandover, ArePlaced}
-use Rattle.apply_plan.specs.DueWrite.{due, Steps, writes_to_come, Between}
+use Rattle.apply_plan.specs.DueWrite.{Steps, writes_to_come, Between}
 
 -- a step of the hand-over with its answer, or a call of somebody else with its reply
 pub data Event : Type 0 where
@@ -60,16 +61,15 @@ abbrev pub StaysBetween : Type 0
 StaysBetween =
     (h : Targets) (k : KernelState) (run : List (Event × KernelState)) → IsOpen h k → AllHappen h k run → AllByRecursion (λ x. Between h k x.1) run
 
--- whether an event is a write of the hand-over that succeeds
-abbrev pub writes_of_event : Targets → KernelState → Event → ℕ
-writes_of_event h k (Stepped (Ok _)) = cond (is_some (due h k)) 1 0
-writes_of_event h k (Stepped (Err _)) = 0
-writes_of_event h k (Called call r) = 0
+-- how many writing calls the hand-over made in an event, as the kernel counts them, beside one that failed
+abbrev pub writes_of_event : KernelState → Event → KernelState → ℕ
+writes_of_event k (Stepped r) next = next.writes - k.writes - rise r
+writes_of_event k (Called call r) next = 0
 
 -- how many writes of the hand-over succeed
-abbrev pub writes_in : Targets → KernelState → List (Event × KernelState) → ℕ
-writes_in h k [] = 0
-writes_in h k (x ∷ later) = writes_of_event h k x.0 + writes_in h x.1 later
+abbrev pub writes_in : KernelState → List (Event × KernelState) → ℕ
+writes_in k [] = 0
+writes_in k (x ∷ later) = writes_of_event k x.0 x.1 + writes_in x.1 later
 
 -- and the kernel after the last event
 abbrev pub last_of : KernelState → List (Event × KernelState) → KernelState
@@ -80,7 +80,7 @@ last_of k (x ∷ later) = last_of x.1 later
 abbrev pub EndsWithin : Type 0
 EndsWithin =
     (h : Targets) (k : KernelState) (run : List (Event × KernelState)) → IsOpen h k → AllHappen h k run
-    → writes_in h k run + writes_to_come h (last_of k run) ≤ writes_to_come h k
+    → writes_in k run + writes_to_come h (last_of k run) ≤ writes_to_come h k
 
 -- and at most two for each entry are to come
 abbrev pub FewToCome : Type 0

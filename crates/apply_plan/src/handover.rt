@@ -4,7 +4,7 @@ ghost use Rattle.kernel_model.specs.Cases.{rise};
 ghost use Rattle.apply_plan.specs.Holders.{IsSafe};
 ghost use Rattle.apply_plan.specs.Targets.{Targets, holders_of, IsHandover, ArePlaced};
 ghost use Rattle.apply_plan.specs.Leaves.{KeepsRest};
-ghost use Rattle.apply_plan.specs.DueWrite.{Steps, HaveTargets, writes_to_come, Lowers, Between};
+ghost use Rattle.apply_plan.specs.DueWrite.{Steps, HaveTargets, writes_to_come, Lowers, Between, made_by_step, Spends};
 ghost use Rattle.apply_plan.specs.Finishes.{Finishes};
 
 use crate::Entry;
@@ -94,6 +94,8 @@ impl Handover {
         // At most two writes for each entry are to come, each that succeeds is one less, and one that fails none.
         ensures few { writes_to_come self.old (K.state kernel.old) ≤ 2 * length self.old.entries }
         ensures lowers { Lowers self.old (K.state kernel.old) result (K.state kernel.new) }
+        // One writing call of the kernel is made where a write is due, and else none.
+        ensures made { (K.state kernel.new).writes ≡ (K.state kernel.old).writes + made_by_step self.old (K.state kernel.old) }
         // Each container requests what it did at first, or what it keeps of that, or its target.
         ensures between { (first : KernelState) → Between self.old first (K.state kernel.old) → Between self.old first (K.state kernel.new) }
         // A failure is counted, and nothing else in the kernel changes.
@@ -131,6 +133,12 @@ impl Handover {
             → IsSafe (K.state kernel.new) self.old.reserved (holders_of self.old.entries) }
         // At the end each live container has its target.
         ensures done { IsOk result → HaveTargets (K.state kernel.new) self.old.entries }
+        // One writing call of the kernel is made for each write that is less to come, and one for a failure.
+        ensures made { Spends self.old (K.state kernel.old) (rise result) (K.state kernel.new) }
+        // At the end these are all that were to come.
+        ensures all { IsOk result → (K.state kernel.new).writes ≡ (K.state kernel.old).writes + writes_to_come self.old (K.state kernel.old) }
+        // At most two for each entry, and the one that failed.
+        ensures few { (K.state kernel.new).writes ≤ (K.state kernel.old).writes + 2 * length self.old.entries + rise result }
         // Each container requests what it did at first, or what it keeps of that, or its target.
         ensures between { (first : KernelState) → Between self.old first (K.state kernel.old) → Between self.old first (K.state kernel.new) }
         // A failure is counted, and nothing else in the kernel changes.

@@ -6,14 +6,14 @@ use Rattle.faults.specs.declared.or_memory.OrMemory.TheVariants.{Memory, Fault}
 use Rattle.faults.specs.Calls.{Decides, Grows}
 use Rattle.kernel_model.specs.declared.fault.KernelFault.{KernelFault}
 use Rattle.kernel_model.specs.declared.fault.KernelFault.TheVariants.{Failed}
-use Rattle.kernel_model.specs.KernelState.{KernelState, failed}
+use Rattle.kernel_model.specs.KernelState.{KernelState, counted, failed}
 use Rattle.kernel_model.specs.Cases.{Writes, GrowingWrites, is_failed}
 
 module _ {A : Type 0} (refusal : Option KernelFault) (Does : A → KernelState → Type 0) (old : KernelState) where
   -- what holds of an answer and of what the call makes of the state, of a refusal and the state before, and of a failure
   module _ (P : Result A KernelFault → KernelState → Type 0)
       (does : (value : A) (new : KernelState) → refusal ≡ None → Does value new → P (Ok value) new)
-      (fails : P (Err Failed) (failed old)) (kept : (fault : KernelFault) → is_failed fault ≡ false → refusal ≡ Some fault → P (Err fault) old) where
+      (fails : P (Err Failed) (failed old)) (kept : (fault : KernelFault) → is_failed fault ≡ false → refusal ≡ Some fault → P (Err fault) (counted old)) where
     pub Writes-answers : (answer : Result A KernelFault) (new : KernelState) → Writes refusal Does old answer new → P answer new
     Writes-answers (Ok value) new h = does value new h.0 h.1
     Writes-answers (Err Failed) new h = subst (λ (k : KernelState). P (Err Failed) k) (sym h) fails
@@ -35,24 +35,27 @@ module _ {A : Type 0} (refusal : Option KernelFault) (Does : A → KernelState �
     Grows-answers (Err (Fault fault)) new h = subst (λ (k : KernelState). P (Err (Fault fault)) k) (sym h.1) (kept fault h.0)
 
   module _ (P : Result A (OrMemory KernelFault) → KernelState → Type 0)
-      (does : (value : A) (new : KernelState) → refusal ≡ None → Does value new → P (Ok value) new) (wants : P (Err Memory) old)
-      (fails : P (Err (Fault Failed)) (failed old)) (kept : (fault : KernelFault) → is_failed fault ≡ false → refusal ≡ Some fault → P (Err (Fault fault)) old) where
+      (does : (value : A) (new : KernelState) → refusal ≡ None → Does value new → P (Ok value) new) (wants : P (Err Memory) (counted old))
+      (fails : P (Err (Fault Failed)) (failed old)) (kept : (fault : KernelFault) → is_failed fault ≡ false → refusal ≡ Some fault → P (Err (Fault fault)) (counted old)) where
     pub GrowingWrites-answers : (answer : Result A (OrMemory KernelFault)) (new : KernelState) → GrowingWrites refusal Does old answer new → P answer new
     GrowingWrites-answers (Ok value) new h = does value new h.0 h.1
     GrowingWrites-answers (Err Memory) new h = subst (λ (k : KernelState). P (Err Memory) k) (sym h.1) wants
     GrowingWrites-answers (Err (Fault Failed)) new h = subst (λ (k : KernelState). P (Err (Fault Failed)) k) (sym h) fails
     GrowingWrites-answers (Err (Fault fault)) new h = subst (λ (k : KernelState). P (Err (Fault fault)) k) (sym h.1) (kept fault refl h.0)
 
--- what holds of the state before, of that state with one failure more, and of what the call makes of it, holds after the call
+-- what holds of the state before and of what an event makes of it holds after the event
 module _ {A : Type 0} (P : KernelState → Type 0) (refusal : Option KernelFault) (Does : A → KernelState → Type 0) (old : KernelState)
-    (does : (value : A) (new : KernelState) → refusal ≡ None → Does value new → P new) (kept : P old) where
-  pub Decides-keeps : (answer : Result A KernelFault) (new : KernelState) → Decides refusal Does old answer new → P new
-  Decides-keeps = Decides-answers refusal Does old (λ _. P) does (λ fault against. kept)
+    (does : (value : A) (new : KernelState) → refusal ≡ None → Does value new → P new) where
+  module _ (kept : P old) where
+    pub Decides-keeps : (answer : Result A KernelFault) (new : KernelState) → Decides refusal Does old answer new → P new
+    Decides-keeps = Decides-answers refusal Does old (λ _. P) does (λ fault against. kept)
 
-  pub Grows-keeps : (answer : Result A (OrMemory KernelFault)) (new : KernelState) → Grows refusal Does old answer new → P new
-  Grows-keeps = Grows-answers refusal Does old (λ _. P) does kept (λ fault against. kept)
+    pub Grows-keeps : (answer : Result A (OrMemory KernelFault)) (new : KernelState) → Grows refusal Does old answer new → P new
+    Grows-keeps = Grows-answers refusal Does old (λ _. P) does kept (λ fault against. kept)
 
-  module _ (fails : P (failed old)) where
+  -- what holds of the state with one write more, of that with one failure more too, and of what the write makes, holds
+  -- after the write
+  module _ (kept : P (counted old)) (fails : P (failed old)) where
     pub Writes-keeps : (answer : Result A KernelFault) (new : KernelState) → Writes refusal Does old answer new → P new
     Writes-keeps = Writes-answers refusal Does old (λ _. P) does fails (λ fault other against. kept)
 

@@ -16,7 +16,7 @@ use Rattle.proctable.specs.TableChanges.{exited, ended_in}
 use Rattle.proctable.specs.TableAnswers.{AddsProcess, ForksOf}
 use Rattle.kernel_model.specs.declared.fault.KernelFault.{KernelFault}
 use Rattle.kernel_model.specs.declared.fault.KernelFault.TheVariants.{NoGroup, Failed}
-use Rattle.kernel_model.specs.KernelState.{KernelState, failed}
+use Rattle.kernel_model.specs.KernelState.{KernelState, counted, failed}
 use Rattle.kernel_model.specs.Refusals.{make_refusal, remove_refusal, write_refusal, spawn_refusal, end_refusal, fork_refusal, exit_refusal, offline_refusal, online_refusal}
 
 -- whether it is this that a write answers that failed
@@ -35,17 +35,17 @@ rise_or_memory (Err Memory) = 0
 rise_or_memory (Err (Fault fault)) = cond (is_failed fault) 1 0
 
 module _ {A : Type 0} (refusal : Option KernelFault) (Does : A → KernelState → Type 0) (old : KernelState) where
-  -- a write answers the first thing that stands against it and changes nothing, or does what it is for; or it fails
-  -- in place of any other answer, which is counted, and nothing else changes
+  -- a write is counted, whatever it answers: the first thing that stands against it, and nothing else changes, or nothing,
+  -- and it does what it is for; or it fails in place of any other answer, which is counted too, and nothing else changes
   abbrev pub Writes : Result A KernelFault → KernelState → Type 0
-  Writes (Ok value) new = Decides refusal Does old (Ok value) new
+  Writes (Ok value) new = Decides refusal Does (counted old) (Ok value) new
   Writes (Err Failed) new = new ≡ failed old
-  Writes (Err fault) new = Decides refusal Does old (Err fault) new
+  Writes (Err fault) new = Decides refusal Does (counted old) (Err fault) new
 
   -- a write that needs memory
   abbrev pub GrowingWrites : Result A (OrMemory KernelFault) → KernelState → Type 0
-  GrowingWrites (Ok value) new = Grows refusal Does old (Ok value) new
-  GrowingWrites (Err Memory) new = Grows refusal Does old (Err Memory) new
+  GrowingWrites (Ok value) new = Grows refusal Does (counted old) (Ok value) new
+  GrowingWrites (Err Memory) new = Grows refusal Does (counted old) (Err Memory) new
   GrowingWrites (Err (Fault fault)) new = Writes (Err fault) new
 
 -- a change of the tree alone, and of the table alone
@@ -59,32 +59,32 @@ pub record InTable (Does : TableState → Type 0) (old new : KernelState) : Type
 
 -- a group is made in the tree
 abbrev pub MakesGroupOf : KernelState → Group → List ℕ → Group → KernelState → Type 0
-MakesGroupOf old parent name g = InTree (AddsGroup old.tree parent name g) old
+MakesGroupOf old parent name g = InTree (AddsGroup old.tree parent name g) (counted old)
 
 abbrev pub MakesGroup : KernelState → Group → List ℕ → Result Group (OrMemory KernelFault) → KernelState → Type 0
 MakesGroup old parent name = GrowingWrites (make_refusal old parent name) (MakesGroupOf old parent name) old
 
 -- a group is removed
 abbrev pub RemovesGroup : KernelState → Group → Result (Unit {0}) KernelFault → KernelState → Type 0
-RemovesGroup old g = Writes (remove_refusal old g) (λ _ new. new ≡ record old { tree = without_group old.tree g }) old
+RemovesGroup old g = Writes (remove_refusal old g) (λ _ new. new ≡ record (counted old) { tree = without_group old.tree g }) old
 
 -- what a group requests is written
 abbrev pub WritesCpus : KernelState → Group → Ids → Result (Unit {0}) KernelFault → KernelState → Type 0
-WritesCpus old g cpus = Writes (write_refusal old g) (λ _ new. new ≡ record old { tree = with_cpus old.tree g cpus }) old
+WritesCpus old g cpus = Writes (write_refusal old g) (λ _ new. new ≡ record (counted old) { tree = with_cpus old.tree g cpus }) old
 
 abbrev pub WritesMems : KernelState → Group → Ids → Result (Unit {0}) KernelFault → KernelState → Type 0
-WritesMems old g mems = Writes (write_refusal old g) (λ _ new. new ≡ record old { tree = with_mems old.tree g mems }) old
+WritesMems old g mems = Writes (write_refusal old g) (λ _ new. new ≡ record (counted old) { tree = with_mems old.tree g mems }) old
 
 -- a first process is made in the table: it belongs to itself
 abbrev pub SpawnsIn : KernelState → Group → ℕ → KernelState → Type 0
-SpawnsIn old g pid = InTable (AddsProcess old.table g pid pid) old
+SpawnsIn old g pid = InTable (AddsProcess old.table g pid pid) (counted old)
 
 abbrev pub Spawns : KernelState → Group → Result ℕ (OrMemory KernelFault) → KernelState → Type 0
 Spawns old g = GrowingWrites (spawn_refusal old g) (SpawnsIn old g) old
 
 -- all processes of a group end
 abbrev pub EndsGroup : KernelState → Group → Result (Unit {0}) KernelFault → KernelState → Type 0
-EndsGroup old g = Writes (end_refusal old g) (λ _ new. new ≡ record old { table = ended_in old.table g }) old
+EndsGroup old g = Writes (end_refusal old g) (λ _ new. new ≡ record (counted old) { table = ended_in old.table g }) old
 
 -- a process forks in the table
 abbrev pub ForksIn : KernelState → ℕ → ℕ → KernelState → Type 0

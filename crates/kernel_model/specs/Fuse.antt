@@ -9,24 +9,25 @@ use Rattle.kernel_model.specs.KernelState.{KernelState, failed}
 abbrev pub fuse_after : ℕ → ℕ → Fuse
 fuse_after n k = if nat_lt 0 n && nat_le n k then Blown else Waiting (n - k)
 
--- the kernel within, with one failure more once the fuse has blown
+-- the kernel within, with one write and one failure more once the fuse has blown
 abbrev pub fused : Fuse → KernelState → KernelState
 fused (Waiting left) k = k
 fused Blown k = failed k
 
--- one write more was made
-abbrev pub CountsAWrite : Fuse → Fuse → Type 0
-CountsAWrite old new = (n k : ℕ) → old ≡ fuse_after n k → new ≡ fuse_after n (k + 1)
+-- a fuse that was set for the nth write after the first so many is set for it still: what the kernel counts is what it burns by
+abbrev pub FollowsTheCount : Fuse → KernelState → Fuse → KernelState → Type 0
+FollowsTheCount fuse old next new =
+    (n first : ℕ) → first ≤ old.writes → fuse ≡ fuse_after n (old.writes - first) → next ≡ fuse_after n (new.writes - first)
 
--- where the nth write is to fail and k were made, the next one fails if it is the nth, with the kernel within as it was, and
--- else is the write of the kernel within
-pub record FailsAtTheNth {A E : Type 0} (failure : E) (fuse : Fuse) (inner : KernelState) (Own : Result A E → KernelState → Type 0)
+-- where a fuse was set for the nth write after the first so many: the write that the kernel counts as that one fails, with the
+-- kernel within as it was, and each other is the write of the kernel within
+pub record FailsAtTheNth {A E : Type 0} (failure : E) (fuse : Fuse) (old inner : KernelState) (Own : Result A E → KernelState → Type 0)
     (result : Result A E) (new : KernelState) : Type 0 where
-  pub nth : (n k : ℕ) → fuse ≡ fuse_after n k → k + 1 ≡ n → (result ≡ Err failure) × (new ≡ inner)
-  pub others : (n k : ℕ) → fuse ≡ fuse_after n k → k + 1 ≢ n → Own result new
+  pub nth : (n first : ℕ) → first ≤ old.writes → fuse ≡ fuse_after n (old.writes - first) → old.writes + 1 ≡ first + n → (result ≡ Err failure) × (new ≡ inner)
+  pub others : (n first : ℕ) → first ≤ old.writes → fuse ≡ fuse_after n (old.writes - first) → old.writes + 1 ≢ first + n → Own result new
 
--- each fuse is one for some write after some writes; it waits where none was made, and has blown once the nth was
+-- each fuse was set for some write after so many; it waits where none was made since, and has blown once the nth was
 pub record FusesCountWrites : Type 0 where
-  pub each : (fuse : Fuse) → (n : ℕ) × (k : ℕ) × (fuse ≡ fuse_after n k)
+  pub each : (fuse : Fuse) (k : KernelState) → (n : ℕ) × (first : ℕ) × (first ≤ (fused fuse k).writes) × (fuse ≡ fuse_after n ((fused fuse k).writes - first))
   pub first : (n : ℕ) → fuse_after n 0 ≡ Waiting n
   pub blown : (n k : ℕ) → 0 < n → n ≤ k → fuse_after n k ≡ Blown

@@ -25,11 +25,11 @@ use Rattle.proctable.specs.TableWellFormed as table_formed
 use Rattle.proctable.specs.TableLemmas as table
 use Rattle.kernel_model.specs.declared.fault.KernelFault.{KernelFault}
 use Rattle.kernel_model.specs.declared.call.Call.TheVariants.{MakeGroup, RemoveGroup, WriteCpus, WriteMems, Spawn, EndGroup, Root, FindGroup, RequestedCpus, EffectiveCpus, RequestedMems, EffectiveMems, Online, Nodes, FirstAlive, Fork, Exit, Offline, OnlineCpu}
-use Rattle.kernel_model.specs.KernelState.{KernelState, failed}
+use Rattle.kernel_model.specs.KernelState.{KernelState, counted, failed}
 use Rattle.kernel_model.specs.Refusals.{make_refusal, remove_refusal, write_refusal, spawn_refusal, end_refusal, fork_refusal, exit_refusal, offline_refusal, online_refusal}
 use Rattle.kernel_model.specs.Cases.{is_failed, rise, rise_or_memory, Writes, GrowingWrites, MakesGroup, MakesGroupOf, RemovesGroup, WritesCpus, WritesMems, Spawns, SpawnsIn, EndsGroup, Forks, ForksIn, Exits, GoesOffline, ComesOnline}
 use Rattle.kernel_model.specs.WellFormed.{IsWellFormed}
-use Rattle.kernel_model.specs.Laws.{CpusWriteLeaves, MemsWriteLeaves, MakeLeaves, RemoveLeaves, WritesLeaveGroups, SpawnLeaves, EndLeaves, ForkLeaves, ExitLeaves, CallsLeaveProcesses, WritesCount, EachCaseKeeps, KeepsMachine, KeepsGroups, KeepsPids, EventsKeepGroups, WritesKeepProcesses, WritesKeepTree, StepKeeps, StepsKeep, RunsKeep, EmptyWhereNoGroup, FirstIsWellFormed}
+use Rattle.kernel_model.specs.Laws.{CpusWriteLeaves, MemsWriteLeaves, MakeLeaves, RemoveLeaves, WritesLeaveGroups, SpawnLeaves, EndLeaves, ForkLeaves, ExitLeaves, CallsLeaveProcesses, WritesCount, CountsEachWrite, EachCaseKeeps, KeepsMachine, KeepsGroups, KeepsPids, EventsKeepGroups, WritesKeepProcesses, WritesKeepTree, StepKeeps, StepsKeep, RunsKeep, EmptyWhereNoGroup, FirstIsWellFormed}
 use Rattle.kernel_model.specs.CaseLemmas.{Writes-answers, GrowingWrites-answers, Decides-answers, Grows-answers, Decides-keeps, Grows-keeps, Writes-keeps, GrowingWrites-keeps}
 use Rattle.kernel_model.specs.RefusalLemmas.{calls_are_free}
 
@@ -65,7 +65,17 @@ module _ (s t : Ids) (n : ℕ) where
       among q true e h = ap (set.contains t) (eqb-true q n e) ∙ there
       among q false e h = is_subset-contains s t within q h
 
--- what stays where the state does, or where a failure is counted
+pub formed_whatever_is_counted : (k : KernelState) (failures writes : ℕ) → IsWellFormed k → IsWellFormed (record k { failures = failures; writes = writes })
+formed_whatever_is_counted k failures writes w = record {
+  tree = w.tree;
+  table = w.table;
+  placed = w.placed;
+  some_reserved = w.some_reserved;
+  reserved_online = w.reserved_online;
+  online_present = w.online_present;
+}
+
+-- what stays where the state does, or where a write or a failure is counted
 module _ (old : KernelState) where
   same_machine : KeepsMachine old old
   same_machine = record { nodes = refl; present = refl; reserved = refl }
@@ -79,20 +89,23 @@ module _ (old : KernelState) where
   keeps_itself : IsWellFormed old → StepKeeps old old
   keeps_itself w = record { well_formed = w; machine = same_machine; pids = same_pids; serials = same_serials }
 
-  keeps_failed : IsWellFormed old → StepKeeps old (failed old)
-  keeps_failed w = record {
-    well_formed = record {
-      tree = w.tree;
-      table = w.table;
-      placed = w.placed;
-      some_reserved = w.some_reserved;
-      reserved_online = w.reserved_online;
-      online_present = w.online_present;
-    };
-    machine = record { nodes = refl; present = refl; reserved = refl };
-    pids = record { rise = omega arith; same = λ q p _ at. at };
-    serials = same_serials;
+  -- the counts are of no matter
+  whatever_is_counted : (k : KernelState) (failures writes : ℕ) → StepKeeps old k → StepKeeps old (record k { failures = failures; writes = writes })
+  whatever_is_counted k failures writes keeps = record {
+    well_formed = formed_whatever_is_counted k failures writes keeps.well_formed;
+    machine = record { nodes = keeps.machine.nodes; present = keeps.machine.present; reserved = keeps.machine.reserved };
+    pids = record { rise = keeps.pids.rise; same = keeps.pids.same };
+    serials = keeps.serials;
   }
+
+  keeps_counted : IsWellFormed old → StepKeeps old (counted old)
+  keeps_counted w = whatever_is_counted old old.failures (old.writes + 1) (keeps_itself w)
+
+  keeps_failed : IsWellFormed old → StepKeeps old (failed old)
+  keeps_failed w = whatever_is_counted old (old.failures + 1) (old.writes + 1) (keeps_itself w)
+
+  and_counted : (k : KernelState) → StepKeeps old k → StepKeeps old (counted k)
+  and_counted k = whatever_is_counted k k.failures (k.writes + 1)
 
   -- those that are left were there
   left_after_end : (new : TableState) (ends : Process → Bool) → SomeEnd old.table new ends → (q : ℕ) (p : Process) → process_of new q ≡ Some p → process_of old.table q ≡ Some p
@@ -188,58 +201,58 @@ module _ (old : KernelState) where
         → StepKeeps old new
     MakesGroup-keeps parent name =
         GrowingWrites-keeps (StepKeeps old) (make_refusal old parent name) (MakesGroupOf old parent name) old
-        (λ g new none does. subst (λ (k : KernelState). StepKeeps old k) (sym does.rest) (
+        (λ g new none does. subst (λ (k : KernelState). StepKeeps old k) (sym does.rest) (and_counted (record old { tree = new.tree }) (
         let added : GroupAdded old.tree new.tree parent name g = tree.added_leaves old.tree new.tree parent name g does.does in
         keeps_with_tree new.tree
         ((tree.stays_well_formed old.tree w.tree).added new.tree parent name g (((calls_are_free old).make parent name).0 none).0 does.does)
         (λ q p at there. ap is_some (added.others p.group (added.differs p.group there)) ∙ there)
         (ap (λ (t : TreeState). t.online) does.does.added)
         (ap (λ (t : TreeState). t.nodes) does.does.added)
-        ((tree.serials_given_once old.tree).added new.tree parent name g does.does)))
-        (keeps_itself w) (keeps_failed w)
+        ((tree.serials_given_once old.tree).added new.tree parent name g does.does))))
+        (keeps_counted w) (keeps_failed w)
 
     pub RemovesGroup-keeps : (g : Group) (r : Result (Unit {0}) KernelFault) (new : KernelState) → RemovesGroup old g r new → StepKeeps old new
     RemovesGroup-keeps g =
-        Writes-keeps (StepKeeps old) (remove_refusal old g) (λ _ new. new ≡ record old { tree = without_group old.tree g }) old
-        (λ _ new none does. subst (λ (k : KernelState). StepKeeps old k) (sym does) (
+        Writes-keeps (StepKeeps old) (remove_refusal old g) (λ _ new. new ≡ record (counted old) { tree = without_group old.tree g }) old
+        (λ _ new none does. subst (λ (k : KernelState). StepKeeps old k) (sym does) (and_counted (record old { tree = without_group old.tree g }) (
         let free = ((calls_are_free old).remove g).0 none in
         keeps_with_tree (without_group old.tree g)
         ((tree.stays_well_formed old.tree w.tree).removed g free.1 free.2)
         (λ q p at there.
         ap is_some ((tree.removed_leaves old.tree g).others p.group (same_group_sym g p.group ∙ table.none_where_none_counted old.table g free.3 q p at)) ∙ there)
-        refl refl ((tree.serials_given_once old.tree).removed g)))
-        (keeps_itself w) (keeps_failed w)
+        refl refl ((tree.serials_given_once old.tree).removed g))))
+        (keeps_counted w) (keeps_failed w)
 
     pub WritesCpus-keeps : (g : Group) (cpus : Ids) (r : Result (Unit {0}) KernelFault) (new : KernelState) → WritesCpus old g cpus r new → StepKeeps old new
     WritesCpus-keeps g cpus =
-        Writes-keeps (StepKeeps old) (write_refusal old g) (λ _ new. new ≡ record old { tree = with_cpus old.tree g cpus }) old
+        Writes-keeps (StepKeeps old) (write_refusal old g) (λ _ new. new ≡ record (counted old) { tree = with_cpus old.tree g cpus }) old
         (λ _ new none does. subst (λ (k : KernelState). StepKeeps old k) (sym does)
-        (keeps_with_tree (with_cpus old.tree g cpus) ((tree.stays_well_formed old.tree w.tree).cpus g cpus)
-        (λ q p at there. (tree.writes_request.0 old.tree g cpus).there p.group ∙ there) refl refl ((tree.serials_given_once old.tree).cpus g cpus)))
-        (keeps_itself w) (keeps_failed w)
+        (and_counted (record old { tree = with_cpus old.tree g cpus }) (keeps_with_tree (with_cpus old.tree g cpus) ((tree.stays_well_formed old.tree w.tree).cpus g cpus)
+        (λ q p at there. (tree.writes_request.0 old.tree g cpus).there p.group ∙ there) refl refl ((tree.serials_given_once old.tree).cpus g cpus))))
+        (keeps_counted w) (keeps_failed w)
 
     pub WritesMems-keeps : (g : Group) (mems : Ids) (r : Result (Unit {0}) KernelFault) (new : KernelState) → WritesMems old g mems r new → StepKeeps old new
     WritesMems-keeps g mems =
-        Writes-keeps (StepKeeps old) (write_refusal old g) (λ _ new. new ≡ record old { tree = with_mems old.tree g mems }) old
+        Writes-keeps (StepKeeps old) (write_refusal old g) (λ _ new. new ≡ record (counted old) { tree = with_mems old.tree g mems }) old
         (λ _ new none does. subst (λ (k : KernelState). StepKeeps old k) (sym does)
-        (keeps_with_tree (with_mems old.tree g mems) ((tree.stays_well_formed old.tree w.tree).mems g mems)
-        (λ q p at there. (tree.writes_request.1 old.tree g mems).there p.group ∙ there) refl refl ((tree.serials_given_once old.tree).mems g mems)))
-        (keeps_itself w) (keeps_failed w)
+        (and_counted (record old { tree = with_mems old.tree g mems }) (keeps_with_tree (with_mems old.tree g mems) ((tree.stays_well_formed old.tree w.tree).mems g mems)
+        (λ q p at there. (tree.writes_request.1 old.tree g mems).there p.group ∙ there) refl refl ((tree.serials_given_once old.tree).mems g mems))))
+        (keeps_counted w) (keeps_failed w)
 
     pub Spawns-keeps : (g : Group) (r : Result ℕ (OrMemory KernelFault)) (new : KernelState) → Spawns old g r new → StepKeeps old new
     Spawns-keeps g =
         GrowingWrites-keeps (StepKeeps old) (spawn_refusal old g) (SpawnsIn old g) old
         (λ pid new none does. subst (λ (k : KernelState). StepKeeps old k) (sym does.rest)
-        (keeps_with_process new.table g pid pid does.does ((table.stays_well_formed old.table w.table).spawned new.table g pid does.does)
-        (((calls_are_free old).spawn g).0 none).0))
-        (keeps_itself w) (keeps_failed w)
+        (and_counted (record old { table = new.table }) (keeps_with_process new.table g pid pid does.does ((table.stays_well_formed old.table w.table).spawned new.table g pid does.does)
+        (((calls_are_free old).spawn g).0 none).0)))
+        (keeps_counted w) (keeps_failed w)
 
     pub EndsGroup-keeps : (g : Group) (r : Result (Unit {0}) KernelFault) (new : KernelState) → EndsGroup old g r new → StepKeeps old new
     EndsGroup-keeps g =
-        Writes-keeps (StepKeeps old) (end_refusal old g) (λ _ new. new ≡ record old { table = ended_in old.table g }) old
+        Writes-keeps (StepKeeps old) (end_refusal old g) (λ _ new. new ≡ record (counted old) { table = ended_in old.table g }) old
         (λ _ new none does. subst (λ (k : KernelState). StepKeeps old k) (sym does)
-        (keeps_with_fewer (ended_in old.table g) (λ p. same_group p.group g) (table.ended_leaves old.table g w.table) ((table.stays_well_formed old.table w.table).ended g) refl))
-        (keeps_itself w) (keeps_failed w)
+        (and_counted (record old { table = ended_in old.table g }) (keeps_with_fewer (ended_in old.table g) (λ p. same_group p.group g) (table.ended_leaves old.table g w.table) ((table.stays_well_formed old.table w.table).ended g) refl)))
+        (keeps_counted w) (keeps_failed w)
 
     pub Forks-keeps : (parent : ℕ) (r : Result ℕ (OrMemory KernelFault)) (new : KernelState) → Forks old parent r new → StepKeeps old new
     Forks-keeps parent =
@@ -336,17 +349,17 @@ runs_keep old new (call ∷ calls) (r ∷ replies) w (mid, step, rest) =
 pub events_keep_groups : EventsKeepGroups
 events_keep_groups = record {
   fork = λ old new parent. λ r. Grows-keeps (λ k. KeepsGroups old k × (k.tree.online ≡ old.tree.online)) (fork_refusal old parent) (ForksIn old parent) old
-      (λ pid k none does. subst (λ (s : KernelState). KeepsGroups old s × (s.tree.online ≡ old.tree.online)) (sym does.rest) (record { groups = refl; next_serial = refl; failures = refl }, refl)) (stays old, refl) r new;
+      (λ pid k none does. subst (λ (s : KernelState). KeepsGroups old s × (s.tree.online ≡ old.tree.online)) (sym does.rest) (record { groups = refl; next_serial = refl; failures = refl; writes = refl }, refl)) (stays old, refl) r new;
   exit = λ old new pid r. Decides-keeps (λ k. KeepsGroups old k × (k.tree.online ≡ old.tree.online)) (exit_refusal old pid) (λ _ s. s ≡ record old { table = exited old.table pid }) old
-      (λ _ k none does. subst (λ (s : KernelState). KeepsGroups old s × (s.tree.online ≡ old.tree.online)) (sym does) (record { groups = refl; next_serial = refl; failures = refl }, refl)) (stays old, refl) r new;
+      (λ _ k none does. subst (λ (s : KernelState). KeepsGroups old s × (s.tree.online ≡ old.tree.online)) (sym does) (record { groups = refl; next_serial = refl; failures = refl; writes = refl }, refl)) (stays old, refl) r new;
   offline = λ old new cpu r. Decides-keeps (λ k. KeepsGroups old k × (k.table ≡ old.table)) (offline_refusal old cpu) (λ _ s. s ≡ record old { tree = with_online old.tree (set.remove old.tree.online cpu) }) old
-      (λ _ k none does. subst (λ (s : KernelState). KeepsGroups old s × (s.table ≡ old.table)) (sym does) (record { groups = refl; next_serial = refl; failures = refl }, refl)) (stays old, refl) r new;
+      (λ _ k none does. subst (λ (s : KernelState). KeepsGroups old s × (s.table ≡ old.table)) (sym does) (record { groups = refl; next_serial = refl; failures = refl; writes = refl }, refl)) (stays old, refl) r new;
   online = λ old new cpu r. Decides-keeps (λ k. KeepsGroups old k × (k.table ≡ old.table)) (online_refusal old cpu) (λ _ s. s ≡ record old { tree = with_online old.tree (set.insert old.tree.online cpu) }) old
-      (λ _ k none does. subst (λ (s : KernelState). KeepsGroups old s × (s.table ≡ old.table)) (sym does) (record { groups = refl; next_serial = refl; failures = refl }, refl)) (stays old, refl) r new;
+      (λ _ k none does. subst (λ (s : KernelState). KeepsGroups old s × (s.table ≡ old.table)) (sym does) (record { groups = refl; next_serial = refl; failures = refl; writes = refl }, refl)) (stays old, refl) r new;
 }
   where
     stays : (old : KernelState) → KeepsGroups old old
-    stays old = record { groups = refl; next_serial = refl; failures = refl }
+    stays old = record { groups = refl; next_serial = refl; failures = refl; writes = refl }
 
 abbrev Same : KernelState → KernelState → Type 0
 Same old new = (new.table ≡ old.table) × (new.tree.online ≡ old.tree.online)
@@ -355,11 +368,11 @@ pub writes_keep_processes : WritesKeepProcesses
 writes_keep_processes = record {
   make = λ old new parent name r. GrowingWrites-keeps (Same old) (make_refusal old parent name) (MakesGroupOf old parent name) old
       (λ g k none does. subst (λ (s : KernelState). Same old s) (sym does.rest) (refl, ap (λ (t : TreeState). t.online) does.does.added)) (refl, refl) (refl, refl) r new;
-  remove = λ old new g r. Writes-keeps (Same old) (remove_refusal old g) (λ _ s. s ≡ record old { tree = without_group old.tree g }) old
+  remove = λ old new g r. Writes-keeps (Same old) (remove_refusal old g) (λ _ s. s ≡ record (counted old) { tree = without_group old.tree g }) old
       (λ _ k none does. subst (λ (s : KernelState). Same old s) (sym does) (refl, refl)) (refl, refl) (refl, refl) r new;
-  cpus = λ old new g cpus r. Writes-keeps (Same old) (write_refusal old g) (λ _ s. s ≡ record old { tree = with_cpus old.tree g cpus }) old
+  cpus = λ old new g cpus r. Writes-keeps (Same old) (write_refusal old g) (λ _ s. s ≡ record (counted old) { tree = with_cpus old.tree g cpus }) old
       (λ _ k none does. subst (λ (s : KernelState). Same old s) (sym does) (refl, refl)) (refl, refl) (refl, refl) r new;
-  mems = λ old new g mems r. Writes-keeps (Same old) (write_refusal old g) (λ _ s. s ≡ record old { tree = with_mems old.tree g mems }) old
+  mems = λ old new g mems r. Writes-keeps (Same old) (write_refusal old g) (λ _ s. s ≡ record (counted old) { tree = with_mems old.tree g mems }) old
       (λ _ k none does. subst (λ (s : KernelState). Same old s) (sym does) (refl, refl)) (refl, refl) (refl, refl) r new;
 }
 
@@ -367,7 +380,7 @@ pub writes_keep_tree : WritesKeepTree
 writes_keep_tree = record {
   spawn = λ old new g r. GrowingWrites-keeps (λ s. s.tree ≡ old.tree) (spawn_refusal old g) (SpawnsIn old g) old
       (λ pid k none does. subst (λ (s : KernelState). s.tree ≡ old.tree) (sym does.rest) refl) refl refl r new;
-  end = λ old new g r. Writes-keeps (λ s. s.tree ≡ old.tree) (end_refusal old g) (λ _ s. s ≡ record old { table = ended_in old.table g }) old
+  end = λ old new g r. Writes-keeps (λ s. s.tree ≡ old.tree) (end_refusal old g) (λ _ s. s ≡ record (counted old) { table = ended_in old.table g }) old
       (λ _ k none does. subst (λ (s : KernelState). s.tree ≡ old.tree) (sym does) refl) refl refl r new;
 }
 
@@ -424,12 +437,12 @@ writes_leave_groups = record {
       (record { made = tt; refused = refl; cpus = λ p. refl; mems = λ p. refl })
       (record { made = tt; refused = refl; cpus = λ p. refl; mems = λ p. refl })
       (λ fault other against. record { made = tt; refused = refl; cpus = λ p. refl; mems = λ p. refl }) r new;
-  remove = λ old new g r. Writes-answers (remove_refusal old g) (λ _ s. s ≡ record old { tree = without_group old.tree g }) old (λ r k. RemoveLeaves old g r k)
+  remove = λ old new g r. Writes-answers (remove_refusal old g) (λ _ s. s ≡ record (counted old) { tree = without_group old.tree g }) old (λ r k. RemoveLeaves old g r k)
       (λ v k none does. subst (λ (s : KernelState). RemoveLeaves old g (Ok v) s) (sym does)
       (record { gone = (tree.removed_leaves old.tree g).gone; refused = tt; apart = (tree.removed_leaves old.tree g).others }))
       (record { gone = tt; refused = refl; apart = λ p _. refl })
       (λ fault other against. record { gone = tt; refused = refl; apart = λ p _. refl }) r new;
-  cpus = λ old new g cpus r. Writes-answers (write_refusal old g) (λ _ s. s ≡ record old { tree = with_cpus old.tree g cpus }) old (λ r k. CpusWriteLeaves old g cpus r k)
+  cpus = λ old new g cpus r. Writes-answers (write_refusal old g) (λ _ s. s ≡ record (counted old) { tree = with_cpus old.tree g cpus }) old (λ r k. CpusWriteLeaves old g cpus r k)
       (λ v k none does. subst (λ (s : KernelState). CpusWriteLeaves old g cpus (Ok v) s) (sym does) (
       let written = tree.writes_request.0 old.tree g cpus in
       record {
@@ -442,7 +455,7 @@ writes_leave_groups = record {
       }))
       (record { own = tt; refused = refl; others = λ p _. refl; apart = λ p _. refl; mems = λ p. refl; places = itself_alike old.tree })
       (λ fault other against. record { own = tt; refused = refl; others = λ p _. refl; apart = λ p _. refl; mems = λ p. refl; places = itself_alike old.tree }) r new;
-  mems = λ old new g mems r. Writes-answers (write_refusal old g) (λ _ s. s ≡ record old { tree = with_mems old.tree g mems }) old (λ r k. MemsWriteLeaves old g mems r k)
+  mems = λ old new g mems r. Writes-answers (write_refusal old g) (λ _ s. s ≡ record (counted old) { tree = with_mems old.tree g mems }) old (λ r k. MemsWriteLeaves old g mems r k)
       (λ v k none does. subst (λ (s : KernelState). MemsWriteLeaves old g mems (Ok v) s) (sym does) (
       let written = tree.writes_request.1 old.tree g mems in
       record {
@@ -465,7 +478,7 @@ calls_leave_processes = record {
       (record { made = tt; refused = refl })
       (record { made = tt; refused = refl })
       (λ fault other against. record { made = tt; refused = refl }) r new;
-  end = λ old new g r w. Writes-answers (end_refusal old g) (λ _ s. s ≡ record old { table = ended_in old.table g }) old (λ r k. EndLeaves old g r k)
+  end = λ old new g r w. Writes-answers (end_refusal old g) (λ _ s. s ≡ record (counted old) { table = ended_in old.table g }) old (λ r k. EndLeaves old g r k)
       (λ v k none does. subst (λ (s : KernelState). EndLeaves old g (Ok v) s) (sym does)
       (record { ended = table.ended_leaves old.table g w.table; empty = table.ended_is_empty old.table g; refused = tt }))
       (record { ended = tt; empty = tt; refused = refl })
@@ -506,9 +519,28 @@ pub writes_count : WritesCount
 writes_count = record {
   make = λ old new parent name r. GrowingWrites-count (make_refusal old parent name) (MakesGroupOf old parent name) old
       (λ g k does. ap (λ (s : KernelState). s.failures) does.rest) r new;
-  remove = λ old new g r. Writes-count (remove_refusal old g) (λ _ s. s ≡ record old { tree = without_group old.tree g }) old (λ _ k is. ap (λ (s : KernelState). s.failures) is) r new;
-  cpus = λ old new g cpus r. Writes-count (write_refusal old g) (λ _ s. s ≡ record old { tree = with_cpus old.tree g cpus }) old (λ _ k is. ap (λ (s : KernelState). s.failures) is) r new;
-  mems = λ old new g mems r. Writes-count (write_refusal old g) (λ _ s. s ≡ record old { tree = with_mems old.tree g mems }) old (λ _ k is. ap (λ (s : KernelState). s.failures) is) r new;
+  remove = λ old new g r. Writes-count (remove_refusal old g) (λ _ s. s ≡ record (counted old) { tree = without_group old.tree g }) old (λ _ k is. ap (λ (s : KernelState). s.failures) is) r new;
+  cpus = λ old new g cpus r. Writes-count (write_refusal old g) (λ _ s. s ≡ record (counted old) { tree = with_cpus old.tree g cpus }) old (λ _ k is. ap (λ (s : KernelState). s.failures) is) r new;
+  mems = λ old new g mems r. Writes-count (write_refusal old g) (λ _ s. s ≡ record (counted old) { tree = with_mems old.tree g mems }) old (λ _ k is. ap (λ (s : KernelState). s.failures) is) r new;
   spawn = λ old new g r. GrowingWrites-count (spawn_refusal old g) (SpawnsIn old g) old (λ pid k does. ap (λ (s : KernelState). s.failures) does.rest) r new;
-  end = λ old new g r. Writes-count (end_refusal old g) (λ _ s. s ≡ record old { table = ended_in old.table g }) old (λ _ k is. ap (λ (s : KernelState). s.failures) is) r new;
+  end = λ old new g r. Writes-count (end_refusal old g) (λ _ s. s ≡ record (counted old) { table = ended_in old.table g }) old (λ _ k is. ap (λ (s : KernelState). s.failures) is) r new;
+}
+
+-- the count of writes
+module _ {A : Type 0} (refusal : Option KernelFault) (Does : A → KernelState → Type 0) (old : KernelState)
+    (does : (value : A) (new : KernelState) → Does value new → new.writes ≡ old.writes + 1) where
+  Writes-one : (r : Result A KernelFault) (new : KernelState) → Writes refusal Does old r new → new.writes ≡ old.writes + 1
+  Writes-one = Writes-keeps (λ k. k.writes ≡ old.writes + 1) refusal Does old (λ value new _. does value new) refl refl
+
+  GrowingWrites-one : (r : Result A (OrMemory KernelFault)) (new : KernelState) → GrowingWrites refusal Does old r new → new.writes ≡ old.writes + 1
+  GrowingWrites-one = GrowingWrites-keeps (λ k. k.writes ≡ old.writes + 1) refusal Does old (λ value new _. does value new) refl refl
+
+pub counts_each_write : CountsEachWrite
+counts_each_write = record {
+  make = λ old new parent name r. GrowingWrites-one (make_refusal old parent name) (MakesGroupOf old parent name) old (λ g k does. ap (λ (s : KernelState). s.writes) does.rest) r new;
+  remove = λ old new g r. Writes-one (remove_refusal old g) (λ _ s. s ≡ record (counted old) { tree = without_group old.tree g }) old (λ _ k is. ap (λ (s : KernelState). s.writes) is) r new;
+  cpus = λ old new g cpus r. Writes-one (write_refusal old g) (λ _ s. s ≡ record (counted old) { tree = with_cpus old.tree g cpus }) old (λ _ k is. ap (λ (s : KernelState). s.writes) is) r new;
+  mems = λ old new g mems r. Writes-one (write_refusal old g) (λ _ s. s ≡ record (counted old) { tree = with_mems old.tree g mems }) old (λ _ k is. ap (λ (s : KernelState). s.writes) is) r new;
+  spawn = λ old new g r. GrowingWrites-one (spawn_refusal old g) (SpawnsIn old g) old (λ pid k does. ap (λ (s : KernelState). s.writes) does.rest) r new;
+  end = λ old new g r. Writes-one (end_refusal old g) (λ _ s. s ≡ record (counted old) { table = ended_in old.table g }) old (λ _ k is. ap (λ (s : KernelState). s.writes) is) r new;
 }

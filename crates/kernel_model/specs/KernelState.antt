@@ -8,32 +8,39 @@ use Rattle.proctable.specs.TableState.{TableState, table_code}
 use Rattle.proctable.specs.TableChanges.{first_table as table_at}
 
 -- the groups with what they request, the online CPUs, the nodes and the next serial; the live processes with their groups
--- and first processes, and the next pid; the present CPUs, those of them that are reserved, and how many writes failed
+-- and first processes, and the next pid; the present CPUs and those of them that are reserved; how many writes failed, and how
+-- many were made, those that were refused or failed too
 pub record KernelState : Type 0 where
   pub tree : TreeState
   pub table : TableState
   pub present : Ids
   pub reserved : Ids
   pub failures : ℕ
+  pub writes : ℕ
 
 -- a kernel is stored as the tuple of its fields
 abbrev pub kernel_code : Coded KernelState
 kernel_code =
     code_by
-    (TreeState × (TableState × (Ids × (Ids × ℕ))))
-    (coded× tree_code (coded× table_code (coded× ids_code (coded× ids_code coded_ℕ))))
-    (λ k. (k.tree, (k.table, (k.present, (k.reserved, k.failures)))))
-    (λ p. record { tree = p.0; table = p.1.0; present = p.1.1.0; reserved = p.1.1.1.0; failures = p.1.1.1.1 })
+    (TreeState × (TableState × (Ids × (Ids × (ℕ × ℕ)))))
+    (coded× tree_code (coded× table_code (coded× ids_code (coded× ids_code (coded× coded_ℕ coded_ℕ)))))
+    (λ k. (k.tree, (k.table, (k.present, (k.reserved, (k.failures, k.writes))))))
+    (λ p. record { tree = p.0; table = p.1.0; present = p.1.1.0; reserved = p.1.1.1.0; failures = p.1.1.1.1.0; writes = p.1.1.1.1.1 })
     (λ _. refl)
 
--- the kernel after a write that failed: that is counted, and nothing else changed
-abbrev pub failed : KernelState → KernelState
-failed k = record k { failures = k.failures + 1 }
+-- the kernel once a write is counted, and nothing else changed
+abbrev pub counted : KernelState → KernelState
+counted k = record k { writes = k.writes + 1 }
 
--- a kernel of the root group alone, of serial 0, with no process, where no write failed
+-- the kernel after a write that failed: it is counted as a write and as a failure, and nothing else changed
+abbrev pub failed : KernelState → KernelState
+failed k = record k { failures = k.failures + 1; writes = k.writes + 1 }
+
+-- a kernel of the root group alone, of serial 0, with no process, where no write was made
 pub record IsFirstKernel (present reserved online nodes : Ids) (first_pid : ℕ) (k : KernelState) : Type 0 where
   pub first_tree : IsFirstTree online nodes 0 k.tree
   pub first_table : k.table ≡ table_at first_pid
   pub all_present : k.present ≡ present
   pub some_reserved : k.reserved ≡ reserved
   pub none_failed : k.failures ≡ 0
+  pub none_written : k.writes ≡ 0

@@ -28,11 +28,12 @@ pub record KeepsMachine (old new : KernelState) : Type 0 where
   pub present : new.present ≡ old.present
   pub reserved : new.reserved ≡ old.reserved
 
--- the groups stay, with their parents, their names and all that they request, and no failure was counted
+-- the groups stay, with their parents, their names and all that they request, and no write and no failure was counted
 pub record KeepsGroups (old new : KernelState) : Type 0 where
   pub groups : new.tree.groups ≡ old.tree.groups
   pub next_serial : new.tree.next_serial ≡ old.tree.next_serial
   pub failures : new.failures ≡ old.failures
+  pub writes : new.writes ≡ old.writes
 
 -- the pids rise; a process that is there of a pid that was given before is the one that was there
 pub record KeepsPids (old new : KernelState) : Type 0 where
@@ -143,6 +144,16 @@ pub record WritesCount : Type 0 where
   pub mems : (old new : KernelState) (g : Group) (mems : Ids) (r : Result (Unit {0}) KernelFault) → WritesMems old g mems r new → new.failures ≡ old.failures + rise r
   pub spawn : (old new : KernelState) (g : Group) (r : Result ℕ (OrMemory KernelFault)) → Spawns old g r new → new.failures ≡ old.failures + rise_or_memory r
   pub end : (old new : KernelState) (g : Group) (r : Result (Unit {0}) KernelFault) → EndsGroup old g r new → new.failures ≡ old.failures + rise r
+
+-- each write is counted, whatever it answers
+pub record CountsEachWrite : Type 0 where
+  pub make : (old new : KernelState) (parent : Group) (name : List ℕ) (r : Result Group (OrMemory KernelFault)) → MakesGroup old parent name r new
+      → new.writes ≡ old.writes + 1
+  pub remove : (old new : KernelState) (g : Group) (r : Result (Unit {0}) KernelFault) → RemovesGroup old g r new → new.writes ≡ old.writes + 1
+  pub cpus : (old new : KernelState) (g : Group) (cpus : Ids) (r : Result (Unit {0}) KernelFault) → WritesCpus old g cpus r new → new.writes ≡ old.writes + 1
+  pub mems : (old new : KernelState) (g : Group) (mems : Ids) (r : Result (Unit {0}) KernelFault) → WritesMems old g mems r new → new.writes ≡ old.writes + 1
+  pub spawn : (old new : KernelState) (g : Group) (r : Result ℕ (OrMemory KernelFault)) → Spawns old g r new → new.writes ≡ old.writes + 1
+  pub end : (old new : KernelState) (g : Group) (r : Result (Unit {0}) KernelFault) → EndsGroup old g r new → new.writes ≡ old.writes + 1
 
 -- when nothing stands against a call
 pub record NothingAgainst (k : KernelState) : Type 0 where

@@ -15,10 +15,11 @@ use faults::OrMemory;
 ///
 /// Its meaning is a plain value: the groups with their parents, names and requested sets, the present, reserved and
 /// online CPUs, the memory nodes, the live processes with their groups and first processes, the next pid and the next
-/// serial, and how many writes failed. Each call is one case of it.
+/// serial, how many writes failed, and how many were made. Each call is one case of it.
 ///
-/// Each of the calls from `make_group` to `end_group` is a write: it may answer [`KernelFault::Failed`] in place of any
-/// other answer, which is counted and changes nothing else.
+/// Each of the calls from `make_group` to `end_group` is a write: it is counted, whatever it answers, and may answer
+/// [`KernelFault::Failed`] in place of any other answer, which is counted as a failure too and changes nothing else. No
+/// other call is counted.
 pub trait Kernel {
     ghost state: { Self → KernelState };
 

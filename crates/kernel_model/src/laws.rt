@@ -1,7 +1,10 @@
+ghost use Rattle.std.specs.Prelude.{◌≡◌};
 ghost use Rattle.kernel_model.specs.Fuse.{FusesCountWrites};
-ghost use Rattle.kernel_model.specs.Laws.{EventsKeepGroups, WritesKeepProcesses, WritesKeepTree, WritesLeaveGroups, CallsLeaveProcesses, WritesCount, CallsAreFree, RefusalsHaveCauses, EachCaseKeeps, StepsKeep, RunsKeep, EmptyWhereNoGroup, FirstIsWellFormed};
+ghost use Rattle.kernel_model.specs.Laws.{EventsKeepGroups, WritesKeepProcesses, WritesKeepTree, WritesLeaveGroups, CallsLeaveProcesses, WritesCount, CountsEachWrite, CallsAreFree, RefusalsHaveCauses, EachCaseKeeps, StepsKeep, RunsKeep, EmptyWhereNoGroup, FirstIsWellFormed};
 
-/// What each call leaves of groups and processes, whatever it answers; nothing runs.
+use crate::LAST_PID;
+
+/// What each call leaves of groups and processes, and that each write is counted, whatever it answers; nothing runs.
 pub fn cases()
     ensures events { EventsKeepGroups }
     ensures writes { WritesKeepProcesses }
@@ -9,6 +12,7 @@ pub fn cases()
     ensures groups { WritesLeaveGroups }
     ensures processes { CallsLeaveProcesses }
     ensures count { WritesCount }
+    ensures each { CountsEachWrite }
 {}
 
 /// When nothing stands against a call, and what does where it is refused; nothing runs.
@@ -29,4 +33,9 @@ pub fn runs()
 /// Each fuse counts writes; nothing runs.
 pub fn fuse()
     ensures { FusesCountWrites }
+{}
+
+/// Each pid is at most 4,194,303.
+pub fn the_limits()
+    ensures pids { LAST_PID ≡ 4_194_303 }
 {}

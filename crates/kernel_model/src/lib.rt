@@ -3,6 +3,7 @@
 #![tactic(auto)]
 
 mod call;
+mod count;
 mod fault;
 mod fused_kernel;
 mod interface;

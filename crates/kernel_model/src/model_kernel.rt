@@ -4,6 +4,7 @@ ghost use Rattle.cpu_set.specs.Members.{IsCpu};
 ghost use Rattle.proctable.specs.declared.TheConstants.{LAST_PID};
 ghost use Rattle.kernel_model.specs.KernelState.{IsFirstKernel};
 
+use crate::count::WriteCount;
 use crate::fault::{of_proc, of_tree};
 use crate::{Kernel, KernelFault};
 use cpu_set::{CPU_LIMIT, IdSet};
@@ -20,6 +21,7 @@ pub struct ModelKernel {
     table: ProcTable,
     present: IdSet,
     reserved: IdSet,
+    writes: WriteCount,
 }
 
 impl Model for ModelKernel {
@@ -37,6 +39,7 @@ impl Model for ModelKernel {
       present = k.present;
       reserved = k.reserved;
       failures = 0;
+      writes = k.writes.writes;
     } };
 
     ghost invariant = { λ k. IsWellFormed (record {
@@ -45,6 +48,7 @@ impl Model for ModelKernel {
       present = k.present;
       reserved = k.reserved;
       failures = 0;
+      writes = 0;
     }) };
 }
 
@@ -72,6 +76,7 @@ impl ModelKernel {
             table: ProcTable::new(alloc, first_pid),
             present,
             reserved,
+            writes: WriteCount::none(),
         })
     }
 
@@ -98,10 +103,12 @@ impl Kernel for ModelKernel {
     ghost state = { λ k. k };
 
     fn make_group(&mut self, parent: Group, name: &str) -> Result<Group, OrMemory<KernelFault>> {
+        self.writes = self.writes.one_more();
         self.tree.make(parent, name).map_err(of_tree)
     }
 
     fn remove_group(&mut self, group: Group) -> Result<(), KernelFault> {
+        self.writes = self.writes.one_more();
         if self.table.count_in(group) > 0 {
             self.tree.removable(group)?;
             return Err(KernelFault::HasProcesses);
@@ -110,14 +117,17 @@ impl Kernel for ModelKernel {
     }
 
     fn write_cpus(&mut self, group: Group, cpus: IdSet) -> Result<(), KernelFault> {
+        self.writes = self.writes.one_more();
         Ok(self.tree.write_cpus(group, cpus)?)
     }
 
     fn write_mems(&mut self, group: Group, mems: IdSet) -> Result<(), KernelFault> {
+        self.writes = self.writes.one_more();
         Ok(self.tree.write_mems(group, mems)?)
     }
 
     fn spawn(&mut self, group: Group) -> Result<u32, OrMemory<KernelFault>> {
+        self.writes = self.writes.one_more();
         if !self.tree.contains(group) {
             return Err(OrMemory::Fault(KernelFault::NoGroup));
         }
@@ -125,6 +135,7 @@ impl Kernel for ModelKernel {
     }
 
     fn end_group(&mut self, group: Group) -> Result<(), KernelFault> {
+        self.writes = self.writes.one_more();
         if !self.tree.contains(group) {
             return Err(KernelFault::NoGroup);
         }

@@ -8,7 +8,7 @@ use Rattle.kernel_model.specs.KernelState.{KernelState}
 use Rattle.kernel_model.specs.Cases.{rise}
 use Rattle.apply_plan.specs.declared.Progress.{Progress}
 use Rattle.apply_plan.specs.declared.Progress.TheVariants.{More, Done}
-use Rattle.apply_plan.specs.DueWrite.{HaveTargets}
+use Rattle.apply_plan.specs.DueWrite.{HaveTargets, writes_to_come, Spends}
 use Rattle.apply_plan.specs.Leaves.{KeepsRest}
 use Rattle.apply_plan.specs.LeavesLemmas.{rest_then}
 use Rattle.apply_plan.specs.Finishes as plan
@@ -31,6 +31,7 @@ pub record Settles (o : Ongoing) (old new : NodeState) : Type 0 where
   pub table : new.kernel.table ≡ old.kernel.table
   pub online : new.kernel.tree.online ≡ old.kernel.tree.online
   pub failures : new.kernel.failures ≡ old.kernel.failures
+  pub made : new.kernel.writes ≡ old.kernel.writes + writes_to_come o.targets old.kernel
   pub machine : new.machine ≡ old.machine
   pub parent : new.parent ≡ old.parent
   pub containers : new.containers ≡ old.containers
@@ -45,6 +46,7 @@ pub record Breaks (o : Ongoing) (fault : KernelFault) (old new : NodeState) : Ty
   pub broken : IsBroken o old.kernel new.kernel
   pub failed : fault ≡ Failed
   pub failures : new.kernel.failures ≡ old.kernel.failures + 1
+  pub spends : Spends o.targets old.kernel 1 new.kernel
   pub machine : new.machine ≡ old.machine
   pub parent : new.parent ≡ old.parent
   pub containers : new.containers ≡ old.containers
@@ -60,6 +62,8 @@ record Ended (o : Ongoing) (old : NodeState) (r : Result Progress KernelFault) (
   rest : KeepsRest o.targets old.kernel new.kernel
   done : r ≡ Ok Done → HaveTargets new.kernel o.targets.entries
   failures : new.kernel.failures ≡ old.kernel.failures + rise r
+  spends : Spends o.targets old.kernel (rise r) new.kernel
+  spent : r ≡ Ok Done → writes_to_come o.targets new.kernel ≡ 0
   is : new ≡ record old { kernel = new.kernel; phase = phase; ongoing = None }
 
 module _ (law : StepsLeave) (o : Ongoing) where
@@ -74,6 +78,8 @@ module _ (law : StepsLeave) (o : Ongoing) where
           rest = left.rest;
           done = left.done;
           failures = left.counted;
+          spends = left.spends;
+          spent = left.spent;
           is = s.is;
         }
 
@@ -84,12 +90,16 @@ module _ (law : StepsLeave) (o : Ongoing) where
         let left = leaves law old h o was mid.kernel (Ok More) steps in
         let first : mid.kernel.failures ≡ old.kernel.failures + 0 = left.counted in
         let later : new.kernel.failures ≡ mid.kernel.failures + rise r = e.failures in
+        let one : Spends o.targets old.kernel 0 mid.kernel = left.spends in
+        let others : Spends o.targets mid.kernel (rise r) new.kernel = e.spends in
         record {
           node = e.node;
           ongoing = subst (λ (n : NodeState). IsOngoing new.kernel (owners_of n.containers) o) s.is e.ongoing;
           rest = rest_then o.targets old.kernel mid.kernel new.kernel left.rest e.rest;
           done = e.done;
           failures = omega (arith, first, later);
+          spends = omega (arith, one, others);
+          spent = e.spent;
           is = e.is ∙ ap (λ (n : NodeState). record n { kernel = new.kernel; phase = phase; ongoing = None }) s.is;
         }
 
@@ -104,6 +114,8 @@ module _ (law : StepsLeave) (o : Ongoing) where
   settles old new h was f =
       let e = all_steps (Ok Done) Settled refl f.steps old f.mid new h was f.more f.ends in
       let failures : new.kernel.failures ≡ old.kernel.failures + 0 = e.failures in
+      let spends : Spends o.targets old.kernel 0 new.kernel = e.spends in
+      let none : writes_to_come o.targets new.kernel ≡ 0 = e.spent refl in
       record {
         node = e.node;
         targets = e.done refl;
@@ -111,6 +123,7 @@ module _ (law : StepsLeave) (o : Ongoing) where
         table = e.rest.table;
         online = e.rest.online;
         failures = omega (arith, failures);
+        made = omega (arith, spends, none);
         machine = ap (λ (n : NodeState). n.machine) e.is;
         parent = ap (λ (n : NodeState). n.parent) e.is;
         containers = ap (λ (n : NodeState). n.containers) e.is;
@@ -130,6 +143,7 @@ module _ (law : StepsLeave) (o : Ongoing) where
         broken = record { since = e.ongoing.since; rest = e.rest };
         failed = failed;
         failures = failures;
+        spends = subst (λ n. Spends o.targets old.kernel n new.kernel) (ap (λ x. rise {A = Progress} (Err x)) failed) e.spends;
         machine = ap (λ (n : NodeState). n.machine) e.is;
         parent = ap (λ (n : NodeState). n.parent) e.is;
         containers = ap (λ (n : NodeState). n.containers) e.is;

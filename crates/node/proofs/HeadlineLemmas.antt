@@ -1,5 +1,5 @@
 -- What a rebalance leaves: the headline.
-use Rattle.std.proofs.Common.{◌≡◌, ℕ, ◌+◌, ◌≤◌, true, false, not, cond, ◌&&◌, ◌||◌, List, [], ◌∷◌, Option, Some, refl, sym, ap, ◌∙◌, subst, arith}
+use Rattle.std.proofs.Common.{◌≡◌, ℕ, ◌+◌, ◌*◌, ◌≤◌, length, true, false, not, cond, ◌&&◌, ◌||◌, List, [], ◌∷◌, Option, Some, refl, sym, ap, ◌∙◌, subst, arith}
 use Rattle.std.proofs.lemmas.Bool.{false≢true, and_from, and_left, and_right}
 use Rattle.std.proofs.lemmas.List.Elements.{recursion_from_All}
 use Rattle.std.specs.Prelude.{Result, Ok, Err}
@@ -25,6 +25,8 @@ use Rattle.faults.specs.declared.OrMemory.TheVariants.{Memory, Fault}
 use Rattle.kernel_model.specs.declared.KernelFault.{KernelFault}
 use Rattle.apply_plan.specs.Holders.{Pairwise}
 use Rattle.apply_plan.specs.OneStep.{StepsLeave}
+use Rattle.apply_plan.specs.Runs.{FewToCome}
+use Rattle.apply_plan.specs.DueWrite.{writes_to_come, Spends}
 use Rattle.apply_plan.specs.Effects.{HasFreeParent, TargetsTakeEffect}
 use Rattle.node.specs.declared.fault.NodeFault.{NodeFault}
 use Rattle.node.specs.declared.fault.NodeFault.TheVariants.{Busy, Kernel}
@@ -43,6 +45,8 @@ use Rattle.node.specs.Leaves.{fault_rise, rise_or_memory}
 use Rattle.node.specs.Headline.{effective, HasItsCpus, IsServed, AreAlone, is_asking, effective_sets, asking, CouldHave, total_distance, is_in_any, IsRebalanced, IsBrokenOff, Headline}
 use Rattle.node.proofs.ListLemmas.{all_map, all_map2, pairs_map, all_of_map, of_all_map}
 use Rattle.node.proofs.AskingLemmas.{rows_are_asking, short_stands}
+use Rattle.node.specs.Written.{live_count, RebalanceWrites}
+use Rattle.node.proofs.EntryCount.{entries_live}
 use Rattle.node.proofs.DistanceLemmas.{could_plan, plan_could, cost_is_far}
 use Rattle.node.proofs.FinishLemmas.{Settles, Breaks, settles, breaks}
 use Rattle.node.proofs.PlanLemmas.{IsDealt, over_targets, pool_has_rest, plan_serves, plan_parts, plan_effects, opened_ongoing, effects_later}
@@ -329,6 +333,32 @@ module _ (old : NodeState) (h : IsNode old) (weigh : RowsWeigh) where
         left.failures ∙ ap (λ f. old.kernel.failures + fault_rise (Kernel f)) (sym left.failed)
     rebalance_counts (Err (Fault Busy)) new e = let same : new.kernel.failures ≡ old.kernel.failures = ap (λ (n : NodeState). n.kernel.failures) e.1 in omega (arith, same)
     rebalance_counts (Err (Fault fault)) new e = absurd e
+
+    -- at most two writes for each live container succeed
+    module _ (effects : TargetsTakeEffect) (few : FewToCome) where
+      opened_few : (sets : List Ids) → writes_to_come (opened old sets).targets old.kernel ≤ 2 * live_count old
+      opened_few sets =
+          let most : writes_to_come (opened old sets).targets old.kernel ≤ 2 * length (plan_entries old sets) = few (opened old sets).targets old.kernel in
+          let live : length (plan_entries old sets) ≡ live_count old = entries_live old.kernel (plan_pool old sets) old.containers sets in
+          omega (arith, most, live)
+
+      pub rebalance_makes : (r : Result Outcome (OrMemory NodeFault)) (new : NodeState) → Rebalances old r new → RebalanceWrites old r new
+      rebalance_makes (Ok (Plan total)) new m =
+          let b = m.begun in
+          let s = moved_settles total new m in
+          let made : new.kernel.writes ≡ old.kernel.writes + writes_to_come (opened old b.sets).targets old.kernel = s.made in
+          record {
+            exact = made ∙ ap (λ (ss : List Ids). old.kernel.writes + writes_to_come (opened old ss).targets old.kernel)
+                (sym (same_sets old h weigh effects b.sets b.decides.least.plan (Some (certificate.Plan (rows_of old) b.sets b.prices total)) new s));
+            few = omega (arith, made, opened_few b.sets);
+          }
+      rebalance_makes (Ok (Short wanted allowed)) new l = ap (λ (n : NodeState). n.kernel.writes) l.is
+      rebalance_makes (Err Memory) new e = ap (λ (n : NodeState). n.kernel.writes) e.1
+      rebalance_makes (Err (Fault (Kernel fault))) new m =
+          let spends : Spends (opened old m.1.begun.sets).targets old.kernel 1 new.kernel = (moved_breaks m.0 fault new m.1).spends in
+          omega (arith, spends, opened_few m.1.begun.sets)
+      rebalance_makes (Err (Fault Busy)) new e = ap (λ (n : NodeState). n.kernel.writes) e.1
+      rebalance_makes (Err (Fault fault)) new e = absurd e
 
     module _ (effects : TargetsTakeEffect) where
       pub rebalanced : (total : ℕ) (new : NodeState) → Moves old total (Ok tt) new → IsRebalanced old total new

@@ -11,10 +11,12 @@ pub mod StepLemmas
 pub mod FinishLemmas
 pub mod CallLemmas
 pub mod CountLemmas
+pub mod WriteLemmas
 pub mod LeaveLemmas
 pub mod PlanLemmas
 pub mod AskingLemmas
 pub mod DistanceLemmas
+pub mod EntryCount
 pub mod HeadlineLemmas
 pub mod ProvedLemmas
 pub mod RebalanceLemmas

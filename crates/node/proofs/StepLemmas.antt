@@ -16,7 +16,7 @@ use Rattle.apply_plan.specs.Kept.{kept}
 use Rattle.apply_plan.specs.KeptLemmas.{kept_target, kept_again}
 use Rattle.apply_plan.specs.Targets.{Targets, holders_of}
 use Rattle.apply_plan.specs.Targets as plan
-use Rattle.apply_plan.specs.DueWrite.{Steps, writes_to_come, HaveTargets, IsBetween}
+use Rattle.apply_plan.specs.DueWrite.{Steps, writes_to_come, HaveTargets, IsBetween, made_by_step}
 use Rattle.apply_plan.specs.Leaves.{KeepsRest}
 use Rattle.apply_plan.specs.Runs.{IsOpen}
 use Rattle.apply_plan.specs.OneStep.{StepLeaves, StepsLeave}
@@ -245,18 +245,20 @@ pub record Says (old : NodeState) (o : Ongoing) (r : Result Progress NodeFault) 
   pub falls : r ≡ Ok More → writes_to_come o.targets old.kernel ≡ writes_to_come o.targets new.kernel + 1
   pub done : r ≡ Ok Done → HaveTargets new.kernel o.targets.entries
   pub broken : OnErr r (IsBroken o old.kernel new.kernel)
+  pub made : new.kernel.writes ≡ old.kernel.writes + made_by_step o.targets old.kernel
 
 module _ (law : StepsLeave) (old : NodeState) (h : IsNode old) where
   -- where none was open, nothing is said
   pub says : (o : Ongoing) → old.ongoing ≡ Some o → (r : Result Progress NodeFault) (new : NodeState) → StepsOn old r new → Says old o r new
   says o was =
       by_answer old (Says old o)
-      (λ new s. record { falls = λ _. (leaves law old h o was new.kernel (Ok More) (its_steps old o was new (Ok More) old.phase old.ongoing s)).falls refl; done = λ e. absurd (let x : ⊥ = cc e in x); broken = tt })
-      (λ new s. record { falls = λ e. absurd (let x : ⊥ = cc e in x); done = λ _. (leaves law old h o was new.kernel (Ok Done) (its_steps old o was new (Ok Done) Settled None s)).done refl; broken = tt })
+      (λ new s. record { falls = λ _. (leaves law old h o was new.kernel (Ok More) (its_steps old o was new (Ok More) old.phase old.ongoing s)).falls refl; done = λ e. absurd (let x : ⊥ = cc e in x); broken = tt; made = (leaves law old h o was new.kernel (Ok More) (its_steps old o was new (Ok More) old.phase old.ongoing s)).made })
+      (λ new s. record { falls = λ e. absurd (let x : ⊥ = cc e in x); done = λ _. (leaves law old h o was new.kernel (Ok Done) (its_steps old o was new (Ok Done) Settled None s)).done refl; broken = tt; made = (leaves law old h o was new.kernel (Ok Done) (its_steps old o was new (Ok Done) Settled None s)).made })
       (λ fault new s. record {
         falls = λ e. absurd (let x : ⊥ = cc e in x);
         done = λ e. absurd (let x : ⊥ = cc e in x);
         broken = broken law old h o was new.kernel (Err fault) (its_steps old o was new (Err fault) Unsettled None s);
+        made = (leaves law old h o was new.kernel (Err fault) (its_steps old o was new (Err fault) Unsettled None s)).made;
       })
       (λ new settled same. absurd (none-some o (sym (none_open old.kernel (owners_of old.containers) (is_underway old.phase) settled old.ongoing h.stands) ∙ was)))
 

@@ -135,7 +135,7 @@ pub record IsShort (old : NodeState) (wanted : ℕ) (allowed : Ids) (new : NodeS
   pub same : new ≡ record old { last = new.last }
 
 -- after a write that failed: what each container of the hand-over requests is what it did before, or what it keeps of that, or
--- what the plan gives it; nothing else changed in the kernel but the count of failures; what is requested is safe; and no
+-- what the plan gives it; nothing else changed in the kernel but its counts; what is requested is safe; and no
 -- hand-over is open
 pub record IsBrokenOff (old : NodeState) (fault : KernelFault) (new : NodeState) : Type 0 where
   pub sets : List Ids

@@ -15,6 +15,7 @@ pub mod Rows
 pub mod Entries
 pub mod Rebalance
 pub mod Headline
+pub mod Written
 pub mod Asking
 pub mod Proved
 pub mod Machine

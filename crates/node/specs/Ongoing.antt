@@ -44,7 +44,7 @@ Stands k owners underway (Some o) = (underway ≡ true) × IsOngoing k owners o
 Stands k owners underway None = underway ≡ false
 
 -- what a failed write leaves of a hand-over: each of its containers requests what it did at first, or what it keeps of that,
--- or its target; and nothing else changed in the kernel but the count of failures
+-- or its target; and nothing else changed in the kernel but its counts
 pub record IsBroken (o : Ongoing) (old new : KernelState) : Type 0 where
   pub since : AllZip (IsSince new new.reserved) o.targets.entries o.found
   pub rest : KeepsRest o.targets old new

@@ -7,6 +7,7 @@ ghost use Rattle.node.specs.Refusals.{Checks};
 ghost use Rattle.node.specs.Calls.{late_answer, Creates};
 ghost use Rattle.node.specs.Making.{LateCause};
 ghost use Rattle.node.specs.Leaves.{CreateLeaves, rise_or_memory};
+ghost use Rattle.node.specs.Written.{CreateWrites};
 
 use crate::container::Container;
 use crate::entries::{append, find, prepare};
@@ -143,6 +144,8 @@ impl<K: Kernel + Drop> Node<K> {
         ensures creates { Creates self.old id.now bundle.now config.now result self.new }
         ensures leaves { CreateLeaves self.old id.now result self.new }
         ensures counted { self.new.kernel.failures ≡ self.old.kernel.failures + rise_or_memory result }
+        // The writing calls that a launch makes, and no other.
+        ensures made { CreateWrites self.old id.now result self.new }
         // A refusal of the kernel has one of these causes.
         ensures late { (fault : KernelFault) → result ≡ Err (Fault (Kernel fault)) → LateCause self.old id.now fault self.new }
     {

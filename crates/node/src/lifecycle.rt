@@ -2,6 +2,7 @@
 ghost use Rattle.std.specs.Prelude.{◌≡◌, ◌+◌};
 ghost use Rattle.node.specs.Calls.{Starts, Kills, Deletes, is_ending, is_created};
 ghost use Rattle.node.specs.Leaves.{rise_of};
+ghost use Rattle.node.specs.Written.{one_write};
 ghost use Rattle.node.specs.Viewed.{seen};
 
 use crate::container::Container;
@@ -95,6 +96,8 @@ impl<K: Kernel + Drop> Node<K> {
     pub fn kill(&mut self, id: &str, signal: &str) -> Result<(), NodeFault>
         ensures kills { Kills self.old id.now signal.now result self.new }
         ensures counted { self.new.kernel.failures ≡ self.old.kernel.failures + rise_of result }
+        // One writing call of the kernel, or none where the refusal is the node's own.
+        ensures made { self.new.kernel.writes ≡ self.old.kernel.writes + one_write result }
     {
         self.try_kill(id, signal)
     }
@@ -106,6 +109,8 @@ impl<K: Kernel + Drop> Node<K> {
     pub fn delete(&mut self, id: &str) -> Result<(), NodeFault>
         ensures deletes { Deletes self.old id.now result self.new }
         ensures counted { self.new.kernel.failures ≡ self.old.kernel.failures + rise_of result }
+        // One writing call of the kernel, or none where the refusal is the node's own.
+        ensures made { self.new.kernel.writes ≡ self.old.kernel.writes + one_write result }
     {
         self.try_delete(id)
     }

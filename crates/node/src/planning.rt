@@ -12,11 +12,12 @@ ghost use Rattle.node.specs.Ongoing.{IsOngoing};
 ghost use Rattle.node.specs.Viewed.{seen_ongoing};
 ghost use Rattle.node.specs.declared.phase.Phase.TheVariants.{Underway};
 ghost use Rattle.node.specs.Headline.{Headline};
+ghost use Rattle.node.specs.Written.{RebalanceWrites};
 ghost use Rattle.node.specs.Rebalance.{Begins, Finishes, Rebalances, WorksOut, IsNeed, ShowsCertificate};
 
 use crate::ongoing::Ongoing;
 use crate::{Node, NodeFault, Outcome, Phase};
-use apply_plan::laws::{effects, steps};
+use apply_plan::laws::{effects, runs, steps};
 use certificate::{Problem, check_shortage, offered_to};
 use certificate_text::Certificate;
 use cpu_set::IdSet;
@@ -149,10 +150,13 @@ impl<K: Kernel + Drop> Node<K> {
         ensures headline { Headline self.old result self.new }
         ensures rebalances { Rebalances self.old result self.new }
         ensures counted { self.new.kernel.failures ≡ self.old.kernel.failures + rise_or_memory result }
+        // Exactly the writing calls that the hand-over to what is in effect after it had to come.
+        ensures made { RebalanceWrites self.old result self.new }
     {
         rows_weigh();
         steps();
         effects();
+        runs();
         self.holds();
         self.move_all()
     }

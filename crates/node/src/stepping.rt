@@ -1,6 +1,6 @@
 //! The hand-over that is open, write by write.
 ghost use Rattle.std.specs.Prelude.{◌≡◌, ◌+◌, ◌*◌, ◌≤◌, length, Some, OnErr};
-ghost use Rattle.apply_plan.specs.DueWrite.{writes_to_come, HaveTargets};
+ghost use Rattle.apply_plan.specs.DueWrite.{writes_to_come, HaveTargets, made_by_step};
 ghost use Rattle.node.specs.NodeState.{Ongoing};
 ghost use Rattle.node.specs.Ongoing.{IsBroken};
 ghost use Rattle.node.specs.Rebalance.{StepsOn};
@@ -48,6 +48,8 @@ impl<K: Kernel + Drop> Node<K> {
         ensures few { (o : Ongoing) → self.old.ongoing ≡ Some o → writes_to_come o.targets self.old.kernel ≤ 2 * length o.targets.entries }
         ensures falls { result ≡ Ok Progress.More → (o : Ongoing) → self.old.ongoing ≡ Some o
             → writes_to_come o.targets self.old.kernel ≡ writes_to_come o.targets self.new.kernel + 1 }
+        // One writing call of the kernel is made where a write is due, and else none.
+        ensures made { (o : Ongoing) → self.old.ongoing ≡ Some o → self.new.kernel.writes ≡ self.old.kernel.writes + made_by_step o.targets self.old.kernel }
         // At the end each live container has its target.
         ensures done { result ≡ Ok Progress.Done → (o : Ongoing) → self.old.ongoing ≡ Some o → HaveTargets self.new.kernel o.targets.entries }
         ensures broken { OnErr result ((o : Ongoing) → self.old.ongoing ≡ Some o → IsBroken o self.old.kernel self.new.kernel) }

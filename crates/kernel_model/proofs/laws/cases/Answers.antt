@@ -1,4 +1,4 @@
-use Rattle.kernel_model.specs.KernelLemmas.{events_keep_groups, writes_keep_processes, writes_keep_tree, writes_leave_groups, calls_leave_processes, writes_count}
+use Rattle.kernel_model.specs.KernelLemmas.{events_keep_groups, writes_keep_processes, writes_keep_tree, writes_leave_groups, calls_leave_processes, writes_count, counts_each_write}
 use Rattle.kernel_model.proofs.laws.cases.Goals as goal
 
 pub returns : goal.returns
@@ -9,4 +9,5 @@ returns c = record {
   groups = writes_leave_groups;
   processes = calls_leave_processes;
   count = writes_count;
+  each = counts_each_write;
 }

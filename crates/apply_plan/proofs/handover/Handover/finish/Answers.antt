@@ -1,5 +1,5 @@
 use Rattle.std.proofs.Common.{refl}
-use Rattle.apply_plan.proofs.FinishLemmas.{finish_safe, finish_done, finish_between, finish_counts, finish_keeps, finish_places}
+use Rattle.apply_plan.proofs.FinishLemmas.{finish_safe, finish_done, finish_between, finish_counts, finish_spends, finish_all, finish_few, finish_keeps, finish_places}
 use Rattle.apply_plan.proofs.handover.Handover.finish.Goals as goal
 
 pub returns : goal.returns
@@ -13,6 +13,9 @@ returns g c =
       finishes = a.finishes;
       safe = finish_safe h a.valid old new c.requires c.run_out.result a.finishes;
       done = finish_done h a.valid old new c.requires c.run_out.result a.finishes;
+      made = finish_spends h a.valid old new c.requires c.run_out.result a.finishes;
+      all = finish_all h a.valid old new c.requires c.run_out.result a.finishes;
+      few = finish_few h a.valid old new c.requires c.run_out.result a.finishes;
       between = finish_between h a.valid old new c.requires c.run_out.result a.finishes;
       counted = finish_counts h a.valid old new c.requires c.run_out.result a.finishes;
       rest = finish_keeps h a.valid old new c.requires c.run_out.result a.finishes;

@@ -1,5 +1,5 @@
 use Rattle.std.proofs.Common.{refl}
-use Rattle.apply_plan.proofs.HandoverLemmas.{at_most_two, step_safe, step_lowers, step_between, step_done, step_counts, step_keeps}
+use Rattle.apply_plan.proofs.HandoverLemmas.{at_most_two, step_safe, step_lowers, step_between, step_done, step_counts, step_makes, step_keeps}
 use Rattle.apply_plan.proofs.handover.Handover.step.Goals as goal
 
 pub returns : goal.returns
@@ -15,6 +15,7 @@ returns g c =
       done = step_done h a.valid old new c.requires c.advance.result a.step a.placed;
       few = at_most_two h old;
       lowers = step_lowers h a.valid old new c.requires c.advance.result a.step;
+      made = step_makes h a.valid old new c.requires c.advance.result a.step;
       between = λ first. step_between h a.valid old new c.requires first c.advance.result a.step;
       counted = step_counts h a.valid old new c.requires c.advance.result a.step;
       rest = step_keeps h a.valid old new c.requires c.advance.result a.step;

@@ -2,15 +2,15 @@ use Rattle.std.proofs.Common.{Bool, not, sym, ap}
 use Rattle.std.specs.Prelude.{Some, None, Ok, if◌then◌else◌}
 use Rattle.proctable.specs.TableState.{TableState}
 use Rattle.kernel_model.specs.declared.fault.KernelFault.TheVariants.{NoGroup}
-use Rattle.kernel_model.specs.KernelState.{KernelState}
-use Rattle.kernel_model.specs.KernelLemmas.{each_case_keeps}
+use Rattle.kernel_model.specs.KernelState.{KernelState, counted}
+use Rattle.kernel_model.specs.KernelLemmas.{formed_whatever_is_counted, each_case_keeps}
 use Rattle.kernel_model.proofs.model_kernel.ModelKernelKernel.end_group.Goals as goal
 
-pub invariant_of-self : goal.invariant_of-self
-invariant_of-self c =
+pub invariant_of-self-2 : goal.invariant_of-self-2
+invariant_of-self-2 c =
     let i = c.self.inside in
-    let old : KernelState = record { tree = i.tree; table = i.table; present = i.present; reserved = i.reserved; failures = 0 } in
-    ((each_case_keeps old (record old { table = c.end_in.new.self }) c.self.invariant).end c.args.group (Ok tt) (
+    let old : KernelState = record { tree = i.tree; table = i.table; present = i.present; reserved = i.reserved; failures = 0; writes = 0 } in
+    formed_whatever_is_counted (record (counted old) { table = c.end_in.new.self }) 0 0 ((each_case_keeps old (record (counted old) { table = c.end_in.new.self }) c.self.invariant).end c.args.group (Ok tt) (
       ap (λ (b : Bool). if not b then Some NoGroup else None) (sym c.if-not-contains.ensures),
-      ap (λ (t : TableState). record old { table = t }) c.end_in.ensures,
+      ap (λ (t : TableState). record (counted old) { table = t }) c.end_in.ensures,
     )).well_formed

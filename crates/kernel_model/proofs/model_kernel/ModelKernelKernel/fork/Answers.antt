@@ -22,5 +22,5 @@ module _ (old : KernelState) (well_formed : IsWellFormed old) (parent : ℕ) (ne
 pub invariant_of-self : goal.invariant_of-self
 invariant_of-self c =
     let i = c.self.inside in
-    let old : KernelState = record { tree = i.tree; table = i.table; present = i.present; reserved = i.reserved; failures = 0 } in
+    let old : KernelState = record { tree = i.tree; table = i.table; present = i.present; reserved = i.reserved; failures = 0; writes = 0 } in
     forked old c.self.invariant c.args.parent c.fork.new.self c.fork.result c.fork.ensures

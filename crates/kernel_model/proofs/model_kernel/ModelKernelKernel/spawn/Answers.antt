@@ -10,24 +10,24 @@ use Rattle.proctable.specs.TableAnswers.{spawn_refusal, Spawns}
 use Rattle.kernel_model.specs.declared.fault.KernelFault.TheVariants.{NoGroup}
 use Rattle.kernel_model.specs.Faults.{of_proc}
 use Rattle.std.specs.Option.{option_or}
-use Rattle.kernel_model.specs.KernelState.{KernelState}
-use Rattle.kernel_model.specs.KernelLemmas.{each_case_keeps}
+use Rattle.kernel_model.specs.KernelState.{KernelState, counted}
+use Rattle.kernel_model.specs.KernelLemmas.{formed_whatever_is_counted, each_case_keeps}
 use Rattle.kernel_model.specs.WellFormed.{IsWellFormed}
 use Rattle.kernel_model.proofs.model_kernel.ModelKernelKernel.spawn.Goals as goal
 
 -- whatever the table answers
 module _ (old : KernelState) (well_formed : IsWellFormed old) (g : Group) (there : has_group old.tree g ≡ true) (new : TableState) where
   spawned : (r : Result ℕ (OrMemory ProcFault)) → Spawns old.table g r new → IsWellFormed (record old { table = new })
-  spawned (Ok pid) h = ((each_case_keeps old (record old { table = new }) well_formed).spawn g (Ok pid) (
+  spawned (Ok pid) h = formed_whatever_is_counted (record (counted old) { table = new }) old.failures old.writes (((each_case_keeps old (record (counted old) { table = new }) well_formed).spawn g (Ok pid) (
     ap (λ (b : Bool). option_or (if not b then Some NoGroup else None) (option_map of_proc (spawn_refusal old.table))) there
         ∙ ap (option_map of_proc) h.0,
     record { does = h.1; rest = refl },
-  )).well_formed
+  )).well_formed)
   spawned (Err Memory) h = subst (λ (t : TableState). IsWellFormed (record old { table = t })) (sym h.1) well_formed
   spawned (Err (Fault fault)) h = subst (λ (t : TableState). IsWellFormed (record old { table = t })) (sym h.1) well_formed
 
-pub invariant_of-self : goal.invariant_of-self
-invariant_of-self c =
+pub invariant_of-self-2 : goal.invariant_of-self-2
+invariant_of-self-2 c =
     let i = c.self.inside in
-    let old : KernelState = record { tree = i.tree; table = i.table; present = i.present; reserved = i.reserved; failures = 0 } in
+    let old : KernelState = record { tree = i.tree; table = i.table; present = i.present; reserved = i.reserved; failures = 0; writes = 0 } in
     spawned old c.self.invariant c.args.group (sym c.if-not-contains.ensures) c.spawn.new.self c.spawn.result c.spawn.ensures

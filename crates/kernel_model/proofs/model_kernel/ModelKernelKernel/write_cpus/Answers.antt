@@ -2,13 +2,13 @@ use Rattle.std.proofs.Common.{ap}
 use Rattle.std.specs.Prelude.{Ok, option_map}
 use Rattle.cpuset_tree.specs.TreeState.{TreeState}
 use Rattle.kernel_model.specs.Faults.{of_tree}
-use Rattle.kernel_model.specs.KernelState.{KernelState}
-use Rattle.kernel_model.specs.KernelLemmas.{each_case_keeps}
+use Rattle.kernel_model.specs.KernelState.{KernelState, counted}
+use Rattle.kernel_model.specs.KernelLemmas.{formed_whatever_is_counted, each_case_keeps}
 use Rattle.kernel_model.proofs.model_kernel.ModelKernelKernel.write_cpus.Goals as goal
 
 pub invariant_of-self-2 : goal.invariant_of-self-2
 invariant_of-self-2 c =
     let i = c.self.inside in
-    let old : KernelState = record { tree = i.tree; table = i.table; present = i.present; reserved = i.reserved; failures = 0 } in
-    ((each_case_keeps old (record old { tree = c.write_cpus.new.self }) c.self.invariant).cpus c.args.group c.args.cpus (Ok tt)
-    (ap (option_map of_tree) c.in_ok-write_cpus.ensures.0, ap (λ (t : TreeState). record old { tree = t }) c.in_ok-write_cpus.ensures.1)).well_formed
+    let old : KernelState = record { tree = i.tree; table = i.table; present = i.present; reserved = i.reserved; failures = 0; writes = 0 } in
+    formed_whatever_is_counted (record (counted old) { tree = c.write_cpus.new.self }) 0 0 ((each_case_keeps old (record (counted old) { tree = c.write_cpus.new.self }) c.self.invariant).cpus c.args.group c.args.cpus (Ok tt)
+    (ap (option_map of_tree) c.in_ok-write_cpus.ensures.0, ap (λ (t : TreeState). record (counted old) { tree = t }) c.in_ok-write_cpus.ensures.1)).well_formed

@@ -1,7 +1,12 @@
 use Rattle.node.proofs.CountLemmas.{kill_counts}
+use Rattle.node.proofs.WriteLemmas.{kill_makes}
 use Rattle.node.proofs.node.Node.kill.Goals as goal
 
 pub returns : goal.returns
 returns g c =
     let done = c.try_kill.ensures in
-    record { kills = done; counted = kill_counts c.args.self.now c.args.id.now c.args.signal.now c.try_kill.result c.try_kill.new.self done }
+    record {
+      kills = done;
+      counted = kill_counts c.args.self.now c.args.id.now c.args.signal.now c.try_kill.result c.try_kill.new.self done;
+      made = kill_makes c.args.self.now c.args.id.now c.args.signal.now c.try_kill.result c.try_kill.new.self done;
+    }

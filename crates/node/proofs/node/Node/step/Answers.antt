@@ -12,6 +12,7 @@ returns g c =
       steps = done;
       few = c.advance.ensures.few;
       falls = λ e o was. (says law old c.holds.ensures o was r new done).falls e;
+      made = λ o was. (says law old c.holds.ensures o was r new done).made;
       done = λ e o was. (says law old c.holds.ensures o was r new done).done e;
       broken = broken_off law old c.holds.ensures r new done;
       counted = counts law old c.holds.ensures r new done;

@@ -1,0 +1,48 @@
+-- How many writing calls of the kernel the calls of a node make, as the kernel counts them.
+use Rattle.std.specs.Prelude.{◌≡◌, ℕ, ◌+◌, ◌*◌, ◌≤◌, cond, List, filter, length, is_some, Result, Ok, Err}
+use Rattle.faults.specs.declared.OrMemory.{OrMemory}
+use Rattle.faults.specs.declared.OrMemory.TheVariants.{Memory, Fault}
+use Rattle.cpu_set.specs.Ids.{Ids}
+use Rattle.cpuset_tree.specs.declared.Group.{Group}
+use Rattle.cpuset_tree.specs.Groups.{child_of}
+use Rattle.kernel_model.specs.KernelState.{KernelState}
+use Rattle.apply_plan.specs.DueWrite.{writes_to_come}
+use Rattle.node.specs.declared.fault.NodeFault.{NodeFault}
+use Rattle.node.specs.declared.fault.NodeFault.TheVariants.{Kernel}
+use Rattle.node.specs.declared.outcome.Outcome.{Outcome}
+use Rattle.node.specs.declared.outcome.Outcome.TheVariants.{Plan, Short}
+use Rattle.node.specs.NodeState.{NodeState}
+use Rattle.node.specs.Status.{is_live}
+use Rattle.node.specs.Entries.{opened}
+use Rattle.node.specs.Headline.{effective_sets}
+
+-- one where the call is done or its write failed, and none where it is refused before
+abbrev pub one_write : Result (Unit {0}) NodeFault → ℕ
+one_write (Ok _) = 1
+one_write (Err (Kernel fault)) = 1
+one_write (Err fault) = 0
+
+-- a launch makes the group if it is not there yet, writes its CPUs and its memory nodes, and makes a process in it
+abbrev pub launch_writes : KernelState → Group → List ℕ → ℕ
+launch_writes k parent name = cond (is_some (child_of k.tree parent name)) 0 1 + 3
+
+-- `create` makes the writes of a launch, or some of them where one is not done, or none
+abbrev pub CreateWrites : NodeState → List ℕ → Result ℕ (OrMemory NodeFault) → NodeState → Type 0
+CreateWrites old id (Ok pid) new = new.kernel.writes ≡ old.kernel.writes + launch_writes old.kernel old.parent id
+CreateWrites old id (Err error) new = new.kernel.writes ≤ old.kernel.writes + launch_writes old.kernel old.parent id
+
+-- how many containers are live
+abbrev pub live_count : NodeState → ℕ
+live_count n = length (filter (λ e. is_live n.kernel e.1) n.containers)
+
+-- `rebalance` makes at most two for each live container that succeed, and where one fails that one too; to a plan it makes
+-- exactly the writes that the hand-over to the sets which are in effect after it had to come; none where there is no plan
+pub record PlanWrites (old : NodeState) (new : NodeState) : Type 0 where
+  pub exact : new.kernel.writes ≡ old.kernel.writes + writes_to_come (opened old (effective_sets new.kernel new.containers)).targets old.kernel
+  pub few : new.kernel.writes ≤ old.kernel.writes + 2 * live_count old
+
+abbrev pub RebalanceWrites : NodeState → Result Outcome (OrMemory NodeFault) → NodeState → Type 0
+RebalanceWrites old (Ok (Plan total)) new = PlanWrites old new
+RebalanceWrites old (Ok (Short wanted allowed)) new = new.kernel.writes ≡ old.kernel.writes
+RebalanceWrites old (Err (Fault (Kernel fault))) new = new.kernel.writes ≤ old.kernel.writes + 2 * live_count old + 1
+RebalanceWrites old (Err error) new = new.kernel.writes ≡ old.kernel.writes
