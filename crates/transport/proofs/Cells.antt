@@ -3,8 +3,9 @@ use Rattle.std.proofs.Common.{◌≡◌, ℕ, ◌+◌, ◌<◌, List, [], length
 use Rattle.std.proofs.lemmas.Bool.{cases_eq}
 use Rattle.std.proofs.lemmas.List.{length-set, get_or-set_same, get_or-set_other}
 use Rattle.twins.specs.Holdings.{share_of}
-use Rattle.transport.specs.Shares.{AllBelow, IsShareGiven, IsShareTaken}
-use Rattle.transport.specs.States.{shares_of, cell, AreHoldings}
+use Rattle.transport.specs.Shares.{AllBelow, holders_of, HasNoShare, IsShareGiven, IsShareTaken}
+use Rattle.transport.specs.States.{shares_of, cell, AreHoldings, IsNoHolder}
+use Rattle.transport.specs.Numbers.{IsEachOnce}
 use Rattle.transport.specs.Pushes.{IsGiven, IsGivenUp}
 use Rattle.twins.specs.declared.holders.Share.{Share}
 
@@ -27,14 +28,24 @@ module _ (old new : List (List Share)) (g k amount : ℕ) (v : List Share) (low 
   other_cell : (j h : ℕ) → (h ≡ g → ⊥) → cell new j h ≡ cell old j h
   other_cell j h ne = ap (λ xs. share_of j xs) (other_shares h ne)
 
-  kept_holdings : (rows classes : ℕ) → AllBelow rows v → AreHoldings rows classes old → AreHoldings rows classes new
-  kept_holdings rows classes all h = record {
+  kept_holdings : (rows classes : ℕ) → AllBelow rows v → IsEachOnce (holders_of v) → AreHoldings rows classes old → AreHoldings rows classes new
+  kept_holdings rows classes all once h = record {
     long = ap length now ∙ length-set _ _ _ ∙ h.long;
     rows_in = λ j. elim (cases_eq j g) [
       | inl e ↦ subst (λ x. AllBelow rows (shares_of new x)) (sym e) (subst (AllBelow rows) (sym own_shares) all)
       | inr ne ↦ subst (AllBelow rows) (sym (other_shares j ne)) (h.rows_in j)
     ];
+    once = λ j. elim (cases_eq j g) [
+      | inl e ↦ subst (λ x. IsEachOnce (holders_of (shares_of new x))) (sym e) (subst (λ xs. IsEachOnce (holders_of xs)) (sym own_shares) once)
+      | inr ne ↦ subst (λ xs. IsEachOnce (holders_of xs)) (sym (other_shares j ne)) (h.once j)
+    ];
   }
+
+  pub kept_none : (j : ℕ) → (HasNoShare j (shares_of old g) → HasNoShare j v) → IsNoHolder j old → IsNoHolder j new
+  kept_none j own none h = elim (cases_eq h g) [
+    | inl e ↦ subst (λ x. HasNoShare j (shares_of new x)) (sym e) (subst (HasNoShare j) (sym own_shares) (own (none g)))
+    | inr ne ↦ subst (HasNoShare j) (sym (other_shares h ne)) (none h)
+  ]
 
   others_given : (i j : ℕ) → (own : (j : ℕ) → (j ≡ k → ⊥) → share_of j v ≡ share_of j (shares_of old g)) → (i ≡ k → j ≡ g → ⊥) → cell new i j ≡ cell old i j
   others_given i j own ne = elim (cases_eq j g) [
@@ -49,7 +60,7 @@ module _ (old new : List (List Share)) (g k amount : ℕ) (v : List Share) (low 
   given_up_cells s = record { given_up = ap (λ x. x + amount) (own_cell k) ∙ s.own; others = λ i j ne. others_given i j s.others ne }
 
   pub given_holdings : (rows classes : ℕ) → k < rows → IsShareGiven (shares_of old g) v k amount → AreHoldings rows classes old → AreHoldings rows classes new
-  given_holdings rows classes in_rows s h = kept_holdings rows classes (s.rows rows in_rows (h.rows_in g)) h
+  given_holdings rows classes in_rows s h = kept_holdings rows classes (s.rows rows in_rows (h.rows_in g)) (s.once (h.once g)) h
 
   pub given_up_holdings : (rows classes : ℕ) → k < rows → IsShareTaken (shares_of old g) v k amount → AreHoldings rows classes old → AreHoldings rows classes new
-  given_up_holdings rows classes in_rows s h = kept_holdings rows classes (s.rows rows in_rows (h.rows_in g)) h
+  given_up_holdings rows classes in_rows s h = kept_holdings rows classes (s.rows rows in_rows (h.rows_in g)) (subst IsEachOnce (sym s.holders) (h.once g)) h

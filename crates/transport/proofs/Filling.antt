@@ -12,13 +12,13 @@ use Rattle.certificate.specs.AreWithin.{AreRowsWithin}
 use Rattle.certificate.specs.declared.limits.TheConstants.{MAX_ROWS, MAX_DEMAND}
 use Rattle.cpu_set.specs.declared.TheConstants.{CPU_LIMIT}
 use Rattle.twins.specs.Holdings.{share_of}
-use Rattle.transport.specs.Shares.{AllBelow}
+use Rattle.transport.specs.Shares.{AllBelow, HasNoShare, holders_of}
 use Rattle.transport.specs.Duals.{IsTight}
-use Rattle.transport.specs.Numbers.{number}
+use Rattle.transport.specs.Numbers.{number, IsEachOnce}
 use Rattle.transport.specs.Totals.{total, row_total, class_total, IsShared}
 use Rattle.twins.specs.Kinds.{offers_of, AreKinds}
 use Rattle.transport.specs.Weights.{weights, AreNewLines}
-use Rattle.transport.specs.States.{cell, shares_of, AreHoldings}
+use Rattle.transport.specs.States.{cell, shares_of, AreHoldings, IsNoHolder}
 use Rattle.transport.specs.Searches.{IsSearch, AreWeights}
 use Rattle.transport.specs.Settled.{IsSettled}
 use Rattle.transport.specs.Filled.{demand_of, IsDone, IsStuck}
@@ -43,8 +43,11 @@ filling_none t root s lines turns can = record {
     by_row = λ k lt. refl;
     by_class = λ g lt. refl;
     others = λ k ne. refl;
+    none = λ k ne none. none;
   };
   kept = omega arith;
+  fewer = omega arith;
+  unsought = λ same. refl;
   most = omega arith;
   least = λ lt. absurd (omega (arith, lt));
 }
@@ -57,6 +60,7 @@ handed_more root a b c f g = record {
   by_row = λ k lt. rw f.prices_long at (g.by_row k (omega (arith, lt, f.values_long))) ∙ f.by_row k lt;
   by_class = λ h lt. rw f.values_long at (g.by_class h (omega (arith, lt, f.prices_long))) ∙ f.by_class h lt;
   others = λ k ne. g.others k ne ∙ f.others k ne;
+  none = λ k ne none. g.none k ne (f.none k ne none);
 }
 
 search_same : (root : ℕ) (a b : State) → IsHandedOut root a b → a_search b ≡ a_search a
@@ -70,6 +74,8 @@ filling_more t root a b c lines lines' x y z f g less = record {
   lines_are = g.lines_are;
   handed = handed_more root a b c f.handed g.handed;
   kept = omega (arith, f.kept, g.kept);
+  fewer = omega (arith, f.fewer, less);
+  unsought = λ same. absurd (omega (arith, same, f.fewer, less));
   most = (let m : z + number c.unmet.items root * a_search a ≤ y + number b.unmet.items root * a_search a = subst (λ n. z + number c.unmet.items root * n ≤ y + number b.unmet.items root * n) (search_same root a b f.handed) g.most in
       omega (arith, f.most, m));
   least = λ lt. omega (arith, g.least less, f.kept);
@@ -104,6 +110,9 @@ can_go_on t root a b before lines x y can f = record {
   unmet_long = f.handed.unmet_long ∙ can.unmet_long ∙ sym f.handed.values_long;
   sizes = sizes;
   in_rows = omega (arith, can.in_rows, f.handed.values_long);
+  wants = omega (arith, f.fewer, can.wants);
+  fresh = λ all. (let same : number b.unmet.items root ≡ number a.unmet.items root = omega (arith, all, f.fewer, can.wants) in
+      rw (f.unsought same) (can.fresh (sym same ∙ all)));
   fits = (let e : number b.unmet.items root * a_search b ≡ number b.unmet.items root * a_search a = ap (λ n. number b.unmet.items root * n) (search_same root a b f.handed) in
       omega (arith, e, f.most, can.fits));
 }
@@ -140,6 +149,9 @@ no_row = record { id = []; demand = 0; offers = [] }
 
 demand_at : (rows : List RowView) (k : ℕ) → k < length rows → demand_of rows k ≡ (get_or rows k no_row).demand
 demand_at rows k lt = get_or-map (λ (r : RowView). r.demand) rows k no_row 0 lt
+
+pub demand_read : (rows : List RowView) (k : ℕ) (r : RowView) → k < length rows → r ≡ get_or rows k r → r.demand ≡ demand_of rows k
+demand_read rows k r lt is = ap (λ (x : RowView). x.demand) is ∙ sym (get_or-map (λ (x : RowView). x.demand) rows k r 0 lt)
 
 demand_some : (rows : List RowView) (k : ℕ) → AreRowsWithin rows → k < length rows → 1 ≤ demand_of rows k
 demand_some rows k fit lt = omega (arith, demand_at rows k lt, (fit.each k no_row lt).some)
@@ -203,11 +215,15 @@ module _ (t : Table) (sizes : List ℕ) (s : State) (lines : List Line) (fit : A
     holdings = record {
       long = h.holdings_long ∙ sym h.prices_long;
       rows_in = λ g. subst (AllBelow (length s.values.items)) (sym (h.holdings g)) none_below;
+      once = λ g. subst (λ xs. IsEachOnce (holders_of xs)) (sym (h.holdings g)) (λ i j lt. absurd (omega (arith, lt)));
     };
   }
     where
       none_below : AllBelow (length s.values.items) []
       none_below i x is = absurd (omega (arith, slice_get_within [] i x is))
+
+  no_holder : (k : ℕ) → IsNoHolder k s.holdings.items
+  no_holder k g = subst (HasNoShare k) (sym (h.holdings g)) (λ x. absurd (omega (arith, x.within)))
 
   pub filled_first : AreFilled t sizes s lines 0 0
   filled_first = record {
@@ -223,6 +239,7 @@ module _ (t : Table) (sizes : List ℕ) (s : State) (lines : List Line) (fit : A
     };
     met = λ k lt. absurd (omega (arith, lt));
     unfilled = λ k le. ap (λ u. number u k) h.unmet;
+    fresh = λ k le. no_holder k;
     at_least = omega arith;
     at_most = omega arith;
   }
@@ -249,6 +266,8 @@ module _ (t : Table) (sizes : List ℕ) (s : State) (lines : List Line) (row tur
     unmet_long = h.unmet_long ∙ sym h.values_long;
     sizes = fits_sizes;
     in_rows = omega (arith, lt, h.values_long);
+    wants = omega (arith, wants);
+    fresh = λ all. h.fresh row (omega arith);
     fits =
         let all = most_after (turns + number s.unmet.items row * a_search s) (omega arith) in
         let low = turns_low t.rows.now row (length t.rows.now + length sizes) fit lt (omega (arith, few, fit.few)) in
@@ -287,6 +306,7 @@ module _ (t : Table) (sizes : List ℕ) (s : State) (lines : List Line) (row tur
     shared = shared_after new f.handed f.settled.fit f.settled.dual.tight;
     met = met;
     unfilled = λ k le. f.handed.others k (λ e. absurd (omega (arith, le, e))) ∙ h.unfilled k (omega (arith, le));
+    fresh = λ k le. f.handed.none k (λ e. absurd (omega (arith, le, e))) (h.fresh k (omega (arith, le)));
     at_least = omega (arith, h.at_least, f.least (omega (arith, none, wants, demand_some t.rows.now row fit lt)));
     at_most = rw add-one (most_after after (omega (arith, f.most)));
   }

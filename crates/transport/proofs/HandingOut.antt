@@ -116,6 +116,7 @@ module _ (ws : ℕ → ℕ → Option ℕ) (old mid : State) (t : Tree) (root : 
     by_row = λ k lt. rw (rest.holdings, rest.unmet) refl;
     by_class = λ g lt. rw (rest.holdings, rest.free) refl;
     others = λ k ne. rw rest.unmet refl;
+    none = λ k ne none. rw rest.holdings none;
   }
 
   root_on : is_reached t.queue root ≡ true
@@ -197,6 +198,7 @@ module _ (ws : ℕ → ℕ → Option ℕ) (old mid : State) (t : Tree) (root : 
       by_row = by_row;
       by_class = by_class;
       others = unmet_other;
+      none = λ k ne none. p.none k (λ e. ne (e ∙ root_at)) (rw rest.holdings none);
     }
 
 pub answer_running : (ws : ℕ → ℕ → Option ℕ) (s : State) (t : Tree) (found : Option Exit) → IsAnswer ws s t found → IsRunning ws s t
@@ -288,6 +290,8 @@ module _ (tb : Table) (root : ℕ) (old mid : State) (t : Tree) (before : List L
             (free_down (weights tb) old mid t root running can.settled.free_long values_long rest root_at new e amount p f can.unmet_long can.in_rows less few);
         handed = handed_pushed (weights tb) old mid t root running can.settled.free_long values_long rest root_at new e amount p f can.unmet_long can.in_rows less few;
         kept = omega (arith, after_is);
+        fewer = omega (arith, fewer);
+        unsought = λ same. absurd (omega (arith, same, fewer));
         most = omega (arith, taken_up_exit, one_more (number new.unmet.items root) (number old.unmet.items root) (a_search old) fewer, after_is);
         least = λ lt. omega (arith, running.search.rooted, after_is);
       }

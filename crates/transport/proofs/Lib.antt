@@ -27,3 +27,4 @@ pub mod Pricing
 pub mod Shortage
 pub mod Solving
 pub mod Totals
+pub mod Holders

@@ -5,7 +5,9 @@ use Rattle.std.proofs.lemmas.List.Sums.{sum_by-set, sum_by_push, sum_by_more}
 use Rattle.std.proofs.lemmas.Option.{slice_get-get_or, get_or_from_slice_get, slice_get_within}
 use Rattle.std.proofs.lemmas.Bool.{cases_eq, cases_lt, eq-eqb, ne_eqb}
 use Rattle.twins.specs.Holdings.{share_of}
-use Rattle.transport.specs.Shares.{amount_of, AllBelow, IsShareGiven, IsShareTaken, IsTaking}
+use Rattle.transport.specs.Shares.{amount_of, AllBelow, holders_of, HasNoShare, IsShareGiven, IsShareTaken, IsTaking}
+use Rattle.transport.specs.Numbers.{IsIn, IsEachOnce}
+use Rattle.transport.proofs.Holders.{holders_set, holders_push, in_pushed, once_push}
 use Rattle.twins.specs.declared.holders.Share.{Share}
 
 amount_at : (k : ℕ) (s : Share) → s.row ≡ k → amount_of k s ≡ s.amount
@@ -44,20 +46,30 @@ module _ (xs new : List Share) (i k a : ℕ) (s d : Share) (lt : i < length xs) 
         subst (λ (z : Share). z.row < n) (sym here ∙ read) (all j (get_or xs j d) (slice_get-get_or xs j d within)))
   ]
 
+  set_holders : holders_of new ≡ holders_of xs
+  set_holders = ap holders_of now ∙ holders_set xs i (record { row = k; amount = a }) s d is own
+
 pub given_at : (xs new : List Share) (i k amount : ℕ) (s d : Share) → i < length xs → s ≡ get_or xs i d → s.row ≡ k → new ≡ set xs i (record { row = k; amount = s.amount + amount }) → IsShareGiven xs new k amount
 given_at xs new i k amount s d lt is own now = record {
   own = omega (arith, set_own xs new i k (s.amount + amount) s d lt is own now);
   others = set_others xs new i k (s.amount + amount) s d lt is own now;
   rows = set_rows xs new i k (s.amount + amount) s d lt is own now;
+  once = λ once. subst IsEachOnce (sym (set_holders xs new i k (s.amount + amount) s d lt is own now)) once;
+  none = λ j ne none h. none (subst (λ ns. IsIn ns j) (set_holders xs new i k (s.amount + amount) s d lt is own now) h);
 }
 
-pub given_push : (xs new : List Share) (k amount : ℕ) → new ≡ xs ++ (record { row = k; amount = amount }) ∷ [] → IsShareGiven xs new k amount
-given_push xs new k amount now = record {
+pub given_push : (xs new : List Share) (k amount : ℕ) → HasNoShare k xs → new ≡ xs ++ (record { row = k; amount = amount }) ∷ [] → IsShareGiven xs new k amount
+given_push xs new k amount fresh now = record {
   own = (let y : Share = record { row = k; amount = amount } in let here : amount_of k y ≡ amount = amount_at k y refl in rw now (omega (arith, sum_by_push (amount_of k) xs y, here)));
   others = λ j ne. (let y : Share = record { row = k; amount = amount } in let here : amount_of j y ≡ 0 = amount_not j y (λ h. ne (sym h)) in rw now (omega (arith, sum_by_push (amount_of j) xs y, here)));
   rows = rows;
+  once = λ once. subst IsEachOnce (sym holders) (once_push (holders_of xs) k once fresh);
+  none = λ j ne none h. none (in_pushed (holders_of xs) k j ne (subst (λ ns. IsIn ns j) holders h));
 }
   where
+    holders : holders_of new ≡ holders_of xs ++ k ∷ []
+    holders = ap holders_of now ∙ holders_push xs (record { row = k; amount = amount })
+
     rows : (n : ℕ) → k < n → AllBelow n xs → AllBelow n new
     rows n in_n all j m its =
         let y : Share = record { row = k; amount = amount } in
@@ -71,13 +83,14 @@ given_push xs new k amount now = record {
         ]
 
 pub taking_none : (xs : List Share) (k amount : ℕ) → IsTaking xs xs k amount amount 0
-taking_none xs k amount = record { own = refl; others = λ j ne. refl; rows = λ n in_n all. all; done = λ some. refl; long = refl }
+taking_none xs k amount = record { own = refl; others = λ j ne. refl; rows = λ n in_n all. all; holders = refl; done = λ some. refl; long = refl }
 
 pub taking_skip : (old xs : List Share) (k amount left i : ℕ) (s d : Share) → IsTaking old xs k amount left i → i < length xs → s ≡ get_or xs i d → (s.row ≡ k → ⊥) → IsTaking old xs k amount left (i + 1)
 taking_skip old xs k amount left i s d h lt is ne = record {
   own = h.own;
   others = h.others;
   rows = h.rows;
+  holders = h.holders;
   done = λ some. (let e = sum_by_more (amount_of k) xs i d lt in
       let here : amount_of k (get_or xs i d) ≡ 0 = ap (amount_of k) (sym is) ∙ amount_not k s ne in
       omega (arith, e, here, h.done some));
@@ -90,6 +103,7 @@ taking_some old xs new k amount left i t s d h lt is own t_is now = record {
   own = omega (arith, h.own, set_own xs new i k (s.amount - t) s d lt is own now, t_is);
   others = λ j ne. set_others xs new i k (s.amount - t) s d lt is own now j ne ∙ h.others j ne;
   rows = λ n in_n all. set_rows xs new i k (s.amount - t) s d lt is own now n in_n (h.rows n in_n all);
+  holders = set_holders xs new i k (s.amount - t) s d lt is own now ∙ h.holders;
   done = done;
   long = ap length now ∙ length-set _ _ _ ∙ h.long;
 }
@@ -109,4 +123,5 @@ taking_all old xs k amount left i h past within = record {
   ];
   others = h.others;
   rows = h.rows;
+  holders = h.holders;
 }

@@ -5,7 +5,7 @@ use Rattle.transport.specs.Numbers.{number}
 use Rattle.transport.specs.Queues.{via, room, place}
 use Rattle.transport.specs.Duals.{IsTight}
 use Rattle.transport.specs.Searches.{near_of, IsEntered}
-use Rattle.transport.specs.States.{cell, IsRunning}
+use Rattle.transport.specs.States.{shares_of, cell, IsRunning, IsNoHolder}
 use Rattle.transport.specs.Answers.{IsFound}
 use Rattle.transport.specs.Totals.{class_total}
 use Rattle.transport.specs.Pushes.{IsPushing, IsGiven, IsGivenUp, in_hand}
@@ -16,6 +16,7 @@ use Rattle.transport.specs.declared.trees.Tree.{Tree}
 use Rattle.transport.proofs.Numbers.{read_number}
 use Rattle.transport.proofs.QueueLemmas.{marked_below}
 use Rattle.transport.proofs.Sums.{total_at_least}
+use Rattle.transport.proofs.Holders.{share_none}
 use Rattle.transport.proofs.Pushing.{pushing_start, pushing_more}
 
 pub way_start : (ws : ℕ → ℕ → Option ℕ) (s : State) (t : Tree) (e : Exit) (amount : ℕ) → IsFound ws s t e → amount ≤ room t.queue e.near.row
@@ -49,6 +50,13 @@ module _ (ws : ℕ → ℕ → Option ℕ) (s : State) (t : Tree) (row g first a
   module _ (deep : 0 < place t.queue row) where
     way_entered : IsEntered (cell s.holdings.items) t.queue t.notes t.takings row
     way_entered = h.search.entries row p.on deep
+
+    -- a row that holds nothing is not on the way
+    pub way_holds : (k : ℕ) → IsNoHolder k s.holdings.items → k ≡ row → ⊥
+    way_holds k none e =
+        let held : 0 < cell s.holdings.items row (via t.queue row) = omega (arith, way_entered.held, h.search.rooms row p.on) in
+        let no : cell s.holdings.items k (via t.queue row) ≡ 0 = share_none k (shares_of s.holdings.items (via t.queue row)) (none (via t.queue row)) in
+        omega (arith, held, no, ap (λ j. cell s.holdings.items j (via t.queue row)) e)
 
     pub way_near : Near
     way_near = way_entered.near

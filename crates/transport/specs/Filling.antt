@@ -5,7 +5,7 @@ use Rattle.transport.specs.Numbers.{number}
 use Rattle.transport.specs.Queues.{is_reached}
 use Rattle.transport.specs.Weights.{weights, AreLines}
 use Rattle.transport.specs.Totals.{total, row_total, class_total, IsShared}
-use Rattle.transport.specs.States.{shares_of, cell}
+use Rattle.transport.specs.States.{shares_of, cell, IsNoHolder}
 use Rattle.transport.specs.Answers.{IsClosed}
 use Rattle.transport.specs.Settled.{IsSettled, IsTreeOf}
 use Rattle.transport.specs.Filled.{demand_of}
@@ -26,7 +26,7 @@ pub record IsFirst (rows : List RowView) (sizes : List ℕ) (s : State) : Type 0
   pub holdings : (g : ℕ) → shares_of s.holdings.items g ≡ []
 
 -- of what each row holds and wants, and of what is held and free of each class, there is as much as before;
--- no row but this one wants more or less
+-- no row but this one wants more or less, or comes to hold what it held nothing of
 pub record IsHandedOut (root : ℕ) (old new : State) : Type 0 where
   pub values_long : length new.values.items ≡ length old.values.items
   pub prices_long : length new.prices.items ≡ length old.prices.items
@@ -36,12 +36,14 @@ pub record IsHandedOut (root : ℕ) (old new : State) : Type 0 where
   pub by_class : (g : ℕ) → g < length old.prices.items
       → class_total (cell new.holdings.items) (length old.values.items) g + number new.free.items g ≡ class_total (cell old.holdings.items) (length old.values.items) g + number old.free.items g
   pub others : (k : ℕ) → (k ≡ root → ⊥) → number new.unmet.items k ≡ number old.unmet.items k
+  pub none : (k : ℕ) → (k ≡ root → ⊥) → IsNoHolder k old.holdings.items → IsNoHolder k new.holdings.items
 
 -- what a search takes up at most
 abbrev pub a_search : State → ℕ
 a_search s = length s.values.items + length s.prices.items
 
--- a settled state, a line for each row, and turns that can be counted on until the row has what it asks for
+-- a settled state, a line for each row, and turns that can be counted on until the row has what it asks for;
+-- it holds nothing while it wants all of that
 pub record CanFill (t : Table) (root : ℕ) (s : State) (lines : List Line) (turns : ℕ) : Type 0 where
   pub settled : IsSettled (weights t) s
   pub lines_are : AreLines t s.free.items lines
@@ -49,14 +51,18 @@ pub record CanFill (t : Table) (root : ℕ) (s : State) (lines : List Line) (tur
   pub unmet_long : length s.unmet.items ≡ length s.values.items
   pub sizes : (g : ℕ) → class_total (cell s.holdings.items) (length s.values.items) g + number s.free.items g < 2 ^ 32
   pub in_rows : root < length s.values.items
+  pub wants : number s.unmet.items root ≤ demand_of t.rows.now root
+  pub fresh : number s.unmet.items root ≡ demand_of t.rows.now root → IsNoHolder root s.holdings.items
   pub fits : turns + number s.unmet.items root * a_search s < 2 ^ 64
 
--- the row was searched for, once for each CPU that it wants less at most
+-- the row was searched for, once for each CPU that it wants less at most, and not at all where it wants as many
 pub record IsFilling (t : Table) (root : ℕ) (old new : State) (lines : List Line) (before after : ℕ) : Type 0 where
   pub settled : IsSettled (weights t) new
   pub lines_are : AreLines t new.free.items lines
   pub handed : IsHandedOut root old new
   pub kept : before ≤ after
+  pub fewer : number new.unmet.items root ≤ number old.unmet.items root
+  pub unsought : number new.unmet.items root ≡ number old.unmet.items root → new.holdings ≡ old.holdings
   pub most : after + number new.unmet.items root * a_search old ≤ before + number old.unmet.items root * a_search old
   pub least : number new.unmet.items root < number old.unmet.items root → before + 2 ≤ after
 
@@ -79,7 +85,7 @@ abbrev pub IsRowFilled : Table → ℕ → State → State → List Line → Tre
 IsRowFilled t root old new lines tree before after true = IsFilling t root old new lines before after × (number new.unmet.items root ≡ 0) × IsTreeOf new tree
 IsRowFilled t root old new lines tree before after false = IsAtEnd t root old new tree before after
 
--- the first rows have what they ask for, and the others still want it
+-- the first rows have what they ask for, and the others hold nothing and still want it
 pub record AreFilled (t : Table) (sizes : List ℕ) (s : State) (lines : List Line) (upto turns : ℕ) : Type 0 where
   pub values_long : length s.values.items ≡ length t.rows.now
   pub prices_long : length s.prices.items ≡ length sizes
@@ -89,5 +95,6 @@ pub record AreFilled (t : Table) (sizes : List ℕ) (s : State) (lines : List Li
   pub shared : IsShared (demand_of t.rows.now) (number sizes) (length t.rows.now) (length sizes) (cell s.holdings.items) s.free.items s.unmet.items
   pub met : (k : ℕ) → k < upto → number s.unmet.items k ≡ 0
   pub unfilled : (k : ℕ) → upto ≤ k → number s.unmet.items k ≡ demand_of t.rows.now k
+  pub fresh : (k : ℕ) → upto ≤ k → IsNoHolder k s.holdings.items
   pub at_least : 2 * upto ≤ turns
   pub at_most : turns ≤ total (demand_of t.rows.now) upto * (length t.rows.now + length sizes)

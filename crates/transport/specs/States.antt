@@ -1,8 +1,8 @@
 -- Rows and classes between two searches, and in one.
 use Rattle.std.specs.Prelude.{◌≡◌, ℕ, ◌+◌, ◌<◌, ◌≤◌, Bool, true, false, not, ◌⊎◌, Option, Some, None, List, [], ◌∷◌, ◌++◌, length, slice_index_or}
 use Rattle.std.specs.List.{filter}
-use Rattle.transport.specs.Numbers.{number, is_marked, IsIn}
-use Rattle.transport.specs.Shares.{AllBelow}
+use Rattle.transport.specs.Numbers.{number, is_marked, IsIn, IsEachOnce}
+use Rattle.transport.specs.Shares.{AllBelow, holders_of, HasNoShare}
 use Rattle.twins.specs.Holdings.{share_of}
 use Rattle.transport.specs.Queues.{IsQueue, IsGrown, room, row_at}
 use Rattle.transport.specs.Searches.{near_of, is_taken, top, IsSearch, AllCovered, IsExitAt, IsSlack, IsTaken, AreWeights}
@@ -23,10 +23,15 @@ shares_of holdings g = slice_index_or holdings g []
 abbrev pub cell : List (List Share) → ℕ → ℕ → ℕ
 cell holdings k g = share_of k (shares_of holdings g)
 
--- holdings of so many classes, by so many rows
+-- holdings of so many classes, by so many rows, none of which stands in two shares of a class
 pub record AreHoldings (rows classes : ℕ) (holdings : List (List Share)) : Type 0 where
   pub long : length holdings ≡ classes
   pub rows_in : (g : ℕ) → AllBelow rows (shares_of holdings g)
+  pub once : (g : ℕ) → IsEachOnce (holders_of (shares_of holdings g))
+
+-- the row stands in no share of any class
+abbrev pub IsNoHolder : ℕ → List (List Share) → Type 0
+IsNoHolder k holdings = (g : ℕ) → HasNoShare k (shares_of holdings g)
 
 -- what holds in the course of a search
 pub record IsRunning (ws : ℕ → ℕ → Option ℕ) (s : State) (t : Tree) : Type 0 where

@@ -1,6 +1,7 @@
 ghost use Rattle.std.specs.Prelude.{◌≡◌, ℕ, ◌+◌, ◌<◌, ◌≤◌, ◌^◌, length, OnOk};
-ghost use Rattle.transport.specs.States.{cell, AreHoldings};
-ghost use Rattle.std.specs.Prelude.{Option, Some};
+ghost use Rattle.transport.specs.Shares.{HasNoShare};
+ghost use Rattle.transport.specs.States.{shares_of, cell, AreHoldings, IsNoHolder};
+ghost use Rattle.std.specs.Prelude.{IsTrue, Option, Some};
 ghost use Rattle.transport.specs.Numbers.{number};
 ghost use Rattle.transport.specs.Queues.{room, row_at};
 ghost use Rattle.transport.specs.Searches.{near_of};
@@ -31,6 +32,7 @@ pub(crate) fn push(
     requires room { amount ≤ room tree.now.queue exit.near.row }
     requires free { amount ≤ number state.old.free.items exit.class }
     requires unmet { amount ≤ number state.old.unmet.items (row_at tree.now.queue 0) }
+    requires fresh { IsTrue is_new → IsNoHolder (row_at tree.now.queue 0) state.old.holdings.items }
     requires unmet_long { length state.old.unmet.items ≡ length state.old.values.items }
     requires sizes { (g : ℕ) → class_total (cell state.old.holdings.items) (length state.old.values.items) g + number state.old.free.items g < 2 ^ 32 }
     ensures { OnOk result (IsPushed state.old state.new tree.now exit amount) }
@@ -70,8 +72,10 @@ fn give_to(
 ) -> Result<(), AllocError>
     requires class { class < length state.old.holdings.items }
     requires room { cell state.old.holdings.items row class + amount < 2 ^ 32 }
+    requires none { IsTrue is_new → HasNoShare row (shares_of state.old.holdings.items class) }
     ensures given { OnOk result (IsGiven (cell state.old.holdings.items) (cell state.new.holdings.items) row class amount) }
     ensures holdings { OnOk result ((rows classes : ℕ) → row < rows → AreHoldings rows classes state.old.holdings.items → AreHoldings rows classes state.new.holdings.items) }
+    ensures none { OnOk result ((k : ℕ) → (k ≡ row → ⊥) → IsNoHolder k state.old.holdings.items → IsNoHolder k state.new.holdings.items) }
     ensures rest { OnOk result (IsSameButHoldings state.old state.new) }
 {
     give(&mut state.holdings[class].shares, row, amount, is_new)?;
@@ -84,6 +88,7 @@ fn take_from(state: &mut State, class: usize, row: usize, amount: u32)
     requires held { amount ≤ cell state.old.holdings.items row class }
     ensures given_up { IsGivenUp (cell state.old.holdings.items) (cell state.new.holdings.items) row class amount }
     ensures holdings { (rows classes : ℕ) → row < rows → AreHoldings rows classes state.old.holdings.items → AreHoldings rows classes state.new.holdings.items }
+    ensures none { (k : ℕ) → IsNoHolder k state.old.holdings.items → IsNoHolder k state.new.holdings.items }
     ensures rest { IsSameButHoldings state.old state.new }
 {
     take(&mut state.holdings[class].shares, row, amount);

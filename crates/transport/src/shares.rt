@@ -1,6 +1,6 @@
-ghost use Rattle.std.specs.Prelude.{◌≡◌, ◌+◌, ◌<◌, ◌≤◌, ◌^◌, OnOk};
+ghost use Rattle.std.specs.Prelude.{◌≡◌, ◌+◌, ◌<◌, ◌≤◌, ◌^◌, IsTrue, OnOk};
 ghost use Rattle.twins.specs.Holdings.{share_of};
-ghost use Rattle.transport.specs.Shares.{IsShareGiven, IsShareTaken};
+ghost use Rattle.transport.specs.Shares.{HasNoShare, IsShareGiven, IsShareTaken};
 
 use std::alloc::AllocError;
 use twins::Share;
@@ -12,7 +12,8 @@ pub(crate) fn give(
     amount: u32,
     is_new: bool,
 ) -> Result<(), AllocError>
-    requires { share_of row shares.old.items + amount < 2 ^ 32 }
+    requires fits { share_of row shares.old.items + amount < 2 ^ 32 }
+    requires none { IsTrue is_new → HasNoShare row shares.old.items }
     ensures { OnOk result (IsShareGiven shares.old.items shares.new.items row amount) }
 {
     if is_new {
@@ -31,8 +32,9 @@ pub(crate) fn give(
     add(shares, row, amount)
 }
 
-/// Adds a share of the class.
+/// Adds a share of the class, for a row that has none.
 fn add(shares: &mut Vec<Share>, row: usize, amount: u32) -> Result<(), AllocError>
+    requires { HasNoShare row shares.old.items }
     ensures { OnOk result (IsShareGiven shares.old.items shares.new.items row amount) }
 {
     shares.push(Share { row, amount })?;

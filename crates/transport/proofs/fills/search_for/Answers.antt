@@ -1,10 +1,14 @@
-use Rattle.std.proofs.Common.{◌≡◌, min, length, refl, sym, ◌∙◌, subst, arith}
+use Rattle.std.proofs.Common.{◌≡◌, ◌<◌, min, length, refl, sym, ap, ◌∙◌, subst, arith}
 use Rattle.transport.specs.Numbers.{number}
 use Rattle.transport.specs.Queues.{row_at, room}
 use Rattle.transport.specs.Weights.{weights}
 use Rattle.transport.specs.Settled.{IsFresh}
-use Rattle.transport.specs.States.{IsRunning}
+use Rattle.certificate.specs.RowView.{RowView}
+use Rattle.transport.specs.Filled.{demand_of}
+use Rattle.transport.specs.States.{IsRunning, IsNoHolder}
+use Rattle.transport.proofs.Filling.{demand_read}
 use Rattle.transport.specs.Answers.{IsAnswer, IsFound}
+use Rattle.std.proofs.lemmas.Bool.{eqb-true}
 use Rattle.transport.proofs.Numbers.{read_number}
 use Rattle.transport.proofs.Starting.{running_start}
 use Rattle.transport.proofs.HandingOut.{answer_running, turns_fit, no_exit, turns_fit_exit, exit_row, exit_class, room_unmet, fewer, pushed, tree_left}
@@ -124,3 +128,14 @@ returns c =
       fewer _ _ _ _ _ _ _ _ c.requires.can c.requires.lacks (running i) c.in_ok-found.ensures.rows c.in_ok-found.ensures.rest (root_at i) (room_is i w) c.in_ok-found.ensures.lines _ f _ _ c.in_ok-push.ensures is,
       tree_left _ _ _ _ _ _ _ _ c.requires.can c.requires.lacks (running i) c.in_ok-found.ensures.rows c.in_ok-found.ensures.rest (root_at i) (room_is i w) c.in_ok-found.ensures.lines _ f _ _ c.in_ok-push.ensures is,
     )
+
+pub push-requires-clause-fresh : goal.push-requires-clause-fresh
+push-requires-clause-fresh c = λ new.
+    let i = (goal.at.push-requires-clause-fresh c).In_ok-found in
+    let w = wanted (goal.at.push-requires-clause-fresh c).In_ok-start in
+    let in_rows : c.args.row < length c.args.table.now.rows.now = omega (arith, c.requires.can.in_rows, c.requires.can.rows) in
+    let all : c.index-wanted.result.now ≡ c.asked.inside.demand = eqb-true _ _ new in
+    let asks : c.asked.inside.demand ≡ demand_of c.args.table.now.rows.now c.args.row =
+    ap (λ (r : RowView). r.demand) (c.asked.view_is ∙ sym c.index-table-row.is) ∙ demand_read _ _ _ in_rows c.index-table-row.is in
+    let none : IsNoHolder c.args.row c.search.new.state.holdings.items = rw c.in_ok-found.ensures.rest.holdings (c.requires.can.fresh (sym w ∙ all ∙ asks)) in
+    subst (λ k. IsNoHolder k c.search.new.state.holdings.items) (sym (root_at i)) none

@@ -1,19 +1,22 @@
-use Rattle.std.proofs.Common.{◌≡◌, refl, ap, ◌∙◌, subst, arith}
+use Rattle.std.proofs.Common.{◌≡◌, refl, sym, ap, ◌∙◌, subst, arith}
 use Rattle.twins.specs.Holdings.{share_of}
-use Rattle.transport.specs.Shares.{IsShareGiven}
+use Rattle.transport.specs.Shares.{HasNoShare, IsShareGiven}
 use Rattle.transport.specs.States.{shares_of}
 use Rattle.transport.proofs.Running.{shares_read}
-use Rattle.transport.proofs.Cells.{given_cells, given_holdings}
+use Rattle.transport.proofs.Cells.{given_cells, given_holdings, kept_none}
 use Rattle.transport.proofs.pushes.give_to.Goals as goal
 use Rattle.transport.proofs.pushes.give_to.Goals.{After-behind-state}
 
 are : (c : After-behind-state) → c.behind-state.inside.shares.items ≡ shares_of c.args.state.now.holdings.items c.args.class
 are c = c.behind-state.view_is ∙ shares_read _ _ _ _ c.requires.class refl c.index_mut.ensures.value
 
-pub give-requires : goal.give-requires
-give-requires c =
-    let e = ap (λ xs. share_of c.args.row xs) (are (goal.at.give-requires c).After-behind-state) in
+pub give-requires-clause-fits : goal.give-requires-clause-fits
+give-requires-clause-fits c =
+    let e = ap (λ xs. share_of c.args.row xs) (are (goal.at.give-requires-clause-fits c).After-behind-state) in
     omega (arith, e, c.requires.room)
+
+pub give-requires-clause-none : goal.give-requires-clause-none
+give-requires-clause-none c = λ new. subst (HasNoShare c.args.row) (sym (are (goal.at.give-requires-clause-none c).After-behind-state)) (c.requires.none new)
 
 pub returns : goal.returns
 returns c =
@@ -22,5 +25,6 @@ returns c =
     record {
       given = given_cells c.args.state.now.holdings.items _ c.args.class c.args.row c.args.amount c.give.new.shares.items c.requires.class refl s;
       holdings = λ rows classes in_rows h. given_holdings c.args.state.now.holdings.items _ c.args.class c.args.row c.args.amount c.give.new.shares.items c.requires.class refl rows classes in_rows s h;
+      none = λ k ne none. kept_none c.args.state.now.holdings.items _ c.args.class c.args.row c.args.amount c.give.new.shares.items c.requires.class refl k (s.none k ne) none;
       rest = record { values = refl; prices = refl; free = refl; unmet = refl };
     }

@@ -1,14 +1,15 @@
-use Rattle.std.proofs.Common.{◌≡◌, ℕ, ◌-◌, ◌<◌, Vec, Global, length, set, refl, sym, ap, ◌∙◌, arith}
+use Rattle.std.proofs.Common.{◌≡◌, ℕ, ◌-◌, ◌<◌, Vec, Global, length, set, refl, sym, ap, ◌∙◌, subst, arith}
 use Rattle.transport.specs.Numbers.{number}
 use Rattle.transport.specs.Queues.{via, place, row_at}
+use Rattle.transport.specs.States.{IsNoHolder}
 use Rattle.transport.proofs.Numbers.{read_number}
-use Rattle.transport.proofs.Ways.{way_start, way_row, way_fits, way_via_of, way_held_of, way_smaller, way_step, set_as}
+use Rattle.transport.proofs.Ways.{way_start, way_row, way_fits, way_via_of, way_held_of, way_holds, way_smaller, way_step, set_as}
 use Rattle.transport.proofs.Pushing.{end_tight, end_row, end_others, end_class}
 use Rattle.transport.proofs.pushes.push.Goals as goal
 use Rattle.transport.proofs.pushes.push.Goals.{After-index, After-index-class}
 
 pub way-init : goal.way-init
-way-init c = record { pushing = λ ws h. way_start ws _ _ _ _ h c.requires.room; holdings = c.requires.found.1.running.holdings; rest = record { values = refl; prices = refl; free = refl; unmet = refl } }
+way-init c = record { pushing = λ ws h. way_start ws _ _ _ _ h c.requires.room; holdings = c.requires.found.1.running.holdings; none = λ k none. none; rest = record { values = refl; prices = refl; free = refl; unmet = refl } }
 
 in_rows : (c : After-index) → c.way.row < length c.args.state.now.values.items
 in_rows c = way_row _ _ _ _ _ _ _ _ c.requires.found.1.running (c.way.invariant.pushing _ c.requires.found.1)
@@ -58,6 +59,8 @@ way-preserved c =
     record {
       pushing = λ ws h. way_step ws _ _ _ _ _ _ _ h.running (c.way.invariant.pushing ws h) deep _ _ _ _ (through j) c.near_row-row.ensures c.in_ok-give_to.ensures.given c.take_from.ensures.given_up;
       holdings = c.take_from.ensures.holdings _ _ (in_rows i) (c.in_ok-give_to.ensures.holdings _ _ (in_rows i) c.way.invariant.holdings);
+      none = λ k none. c.take_from.ensures.none k
+          (c.in_ok-give_to.ensures.none k (way_holds _ _ _ _ _ _ _ _ c.requires.found.1.running (c.way.invariant.pushing _ c.requires.found.1) deep k none) (c.way.invariant.none k none));
       rest = record {
         values = c.take_from.ensures.rest.values ∙ c.in_ok-give_to.ensures.rest.values ∙ c.way.invariant.rest.values;
         prices = c.take_from.ensures.rest.prices ∙ c.in_ok-give_to.ensures.rest.prices ∙ c.way.invariant.rest.prices;
@@ -75,6 +78,14 @@ way-smaller c =
 pub give_to-requires-2-clause-room : goal.give_to-requires-2-clause-room
 give_to-requires-2-clause-room c =
     way_fits _ _ _ _ _ _ _ _ c.requires.found.1.running (c.way.invariant.pushing _ c.requires.found.1) c.requires.free (c.requires.sizes c.way.class)
+
+pub give_to-requires-2-clause-none : goal.give_to-requires-2-clause-none
+give_to-requires-2-clause-none c = λ new.
+    let i = (goal.at.give_to-requires-2-clause-none c).After-index in
+    let p = c.way.invariant.pushing c.requires.found.0 c.requires.found.1 in
+    let at_0 : place c.args.tree.now.queue c.way.row ≡ 0 = omega (arith, at_place i, c.way-test.false) in
+    let root : row_at c.args.tree.now.queue 0 ≡ c.way.row = ap (λ n. row_at c.args.tree.now.queue n) (sym at_0) ∙ c.requires.found.1.running.search.queue.placed c.way.row p.on in
+    c.way.invariant.none c.way.row (subst (λ k. IsNoHolder k c.args.state.now.holdings.items) root (c.requires.fresh new)) c.way.class
 
 pub index_mut-requires-2 : goal.index_mut-requires-2
 index_mut-requires-2 c =
@@ -101,6 +112,7 @@ returns c =
       unmet = set_as _ _ _ _ _ _ unmet (in_rows i) (ap length unmet ∙ c.requires.unmet_long) c.index_mut-2.ensures.value
           ∙ ap (λ k. set c.args.state.now.unmet.items k (number c.args.state.now.unmet.items k - c.args.amount)) (sym root);
       holdings = c.in_ok-give_to-2.ensures.holdings _ _ (in_rows i) c.way.invariant.holdings;
+      none = λ k ne none. c.in_ok-give_to-2.ensures.none k (λ e. ne (e ∙ sym root)) (c.way.invariant.none k none);
       tight = λ ws h. end_tight ws _ _ _ _ _ _ _ _ _ _ _ _ (c.way.invariant.pushing ws h) h.running.fit.class (in_rows i) give;
       by_root = rw root (end_row _ _ _ _ _ _ _ _ _ _ _ _ _ p f.running.fit.class (in_rows i) give);
       by_others = λ k lt ne. end_others _ _ _ _ _ _ _ _ _ _ _ _ _ p f.running.fit.class (in_rows i) give k lt (λ e. ne (e ∙ sym root));

@@ -1,9 +1,10 @@
 use Rattle.std.proofs.Common.{◌≡◌, refl, ap, ◌∙◌, subst, arith}
 use Rattle.twins.specs.Holdings.{share_of}
+use Rattle.transport.specs.Numbers.{IsIn}
 use Rattle.transport.specs.Shares.{IsShareTaken}
 use Rattle.transport.specs.States.{shares_of}
 use Rattle.transport.proofs.Running.{shares_read}
-use Rattle.transport.proofs.Cells.{given_up_cells, given_up_holdings}
+use Rattle.transport.proofs.Cells.{given_up_cells, given_up_holdings, kept_none}
 use Rattle.transport.proofs.pushes.take_from.Goals as goal
 use Rattle.transport.proofs.pushes.take_from.Goals.{After-behind-state}
 
@@ -22,5 +23,6 @@ returns c =
     record {
       given_up = given_up_cells c.args.state.now.holdings.items _ c.args.class c.args.row c.args.amount c.take.new.shares.items c.requires.class refl s;
       holdings = λ rows classes in_rows h. given_up_holdings c.args.state.now.holdings.items _ c.args.class c.args.row c.args.amount c.take.new.shares.items c.requires.class refl rows classes in_rows s h;
+      none = λ k none. kept_none c.args.state.now.holdings.items _ c.args.class c.args.row c.args.amount c.take.new.shares.items c.requires.class refl k (λ no h. no (subst (λ ns. IsIn ns k) s.holders h)) none;
       rest = record { values = refl; prices = refl; free = refl; unmet = refl };
     }
