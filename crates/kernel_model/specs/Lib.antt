@@ -26,3 +26,5 @@ pub mod Laws
 pub mod CaseLemmas
 pub mod RefusalLemmas
 pub mod KernelLemmas
+pub mod Names
+pub mod NameLemmas

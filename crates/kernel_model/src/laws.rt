@@ -1,6 +1,7 @@
 ghost use Rattle.std.specs.Prelude.{◌≡◌};
 ghost use Rattle.kernel_model.specs.Fuse.{FusesCountWrites};
 ghost use Rattle.kernel_model.specs.Laws.{EventsKeepGroups, WritesKeepProcesses, WritesKeepTree, WritesLeaveGroups, CallsLeaveProcesses, WritesCount, CountsEachWrite, CallsAreFree, RefusalsHaveCauses, EachCaseKeeps, StepsKeep, RunsKeep, EmptyWhereNoGroup, FirstIsWellFormed};
+ghost use Rattle.kernel_model.specs.Names.{FirstHasOwnNames, StepsKeepNames, RunsKeepNames};
 
 use crate::LAST_PID;
 
@@ -28,6 +29,13 @@ pub fn runs()
     ensures case { EachCaseKeeps }
     ensures step { StepsKeep }
     ensures run { RunsKeep }
+{}
+
+/// No two children of a group have one name, in a new kernel and after any list of calls; nothing runs.
+pub fn names()
+    ensures first { FirstHasOwnNames }
+    ensures step { StepsKeepNames }
+    ensures run { RunsKeepNames }
 {}
 
 /// Each fuse counts writes; nothing runs.
