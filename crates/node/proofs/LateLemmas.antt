@@ -15,7 +15,7 @@ use Rattle.proctable.specs.declared.TheConstants.{LAST_PID}
 use Rattle.proctable.specs.TableState.{TableState}
 use Rattle.kernel_model.specs.declared.KernelFault.{KernelFault}
 use Rattle.kernel_model.specs.declared.KernelFault.TheVariants.{NoGroup, Exists, IsRoot, NoSerials, NoPids, Failed}
-use Rattle.kernel_model.specs.KernelState.{KernelState}
+use Rattle.kernel_model.specs.KernelState.{KernelState, counted}
 use Rattle.kernel_model.specs.WellFormed.{IsWellFormed}
 use Rattle.kernel_model.specs.Refusals.{write_refusal}
 use Rattle.kernel_model.specs.RefusalLemmas.{refusals_have_causes}
@@ -34,12 +34,12 @@ use Rattle.node.proofs.LaunchLemmas.{IsReady, is_there, find_stays, find_ready, 
 use Rattle.node.proofs.CountLemmas.{create_counts}
 use Rattle.node.proofs.MakingLemmas.{found_table, set_table}
 
--- what of it the kernel before tells
-abbrev Stood : KernelState → Group → List ℕ → KernelFault → Type 0
-Stood k parent name Failed = Unit {0}
-Stood k parent name NoSerials = (child_of k.tree parent name ≡ None) × (k.tree.next_serial ≡ SERIAL_LIMIT)
-Stood k parent name NoPids = LAST_PID < k.table.next_pid
-Stood k parent name fault = ⊥
+-- what of it the kernel before tells, and of want of serials the kernel after it
+abbrev Stood : KernelState → Group → List ℕ → KernelState → KernelFault → Type 0
+Stood k parent name new Failed = Unit {0}
+Stood k parent name new NoSerials = (child_of k.tree parent name ≡ None) × (k.tree.next_serial ≡ SERIAL_LIMIT) × (new ≡ counted k)
+Stood k parent name new NoPids = LAST_PID < k.table.next_pid
+Stood k parent name new fault = ⊥
 
 -- nothing stands against a write of a group's child, which can fail
 module _ (parent : Group) (name : List ℕ) (g : Group) (k : KernelState) (c : IsChild k.tree parent name g) where
@@ -61,16 +61,16 @@ module _ (parent : Group) (name : List ℕ) (g : Group) (k : KernelState) (c : I
 
 module _ (parent : Group) (name : List ℕ) (owners : List Owner) (new_id : AllByRecursion (λ o. bytes_eq name o.id ≡ false) owners) where
   module _ (old new : KernelState) (h : Holds old parent owners) where
-    make_late : child_of old.tree parent name ≡ None → (fault : KernelFault) → MakesGroup old parent name (Err (Fault fault)) new → Stood old parent name fault
+    make_late : child_of old.tree parent name ≡ None → (fault : KernelFault) → MakesGroup old parent name (Err (Fault fault)) new → Stood old parent name new fault
     make_late none Failed f = tt
-    make_late none NoSerials f = (none, (refusals_have_causes old).make parent name NoSerials f.0)
+    make_late none NoSerials f = (none, (refusals_have_causes old).make parent name NoSerials f.0, f.1)
     make_late none NoGroup f =
         absurd (false≢true (sym ((refusals_have_causes old).make parent name NoGroup f.0) ∙ is_there old.tree parent h.home.entry h.home.there))
     make_late none Exists f = absurd (false≢true (sym (ap is_some none) ∙ (refusals_have_causes old).make parent name Exists f.0))
     make_late none fault f = absurd ((refusals_have_causes old).make parent name fault f.0)
 
     find_late : (o : Option Group) → child_of old.tree parent name ≡ o → (fault : KernelFault) → FindsOr o old parent name (Err (Fault fault)) new
-        → Stood old parent name fault
+        → Stood old parent name new fault
     find_late (Some g) was fault f = absurd (let is : Err (Fault fault) ≡ Ok g = f.0 in let no : ⊥ = cc is in no)
     find_late None was fault f = make_late was fault f
 
@@ -87,7 +87,7 @@ module _ (parent : Group) (name : List ℕ) (owners : List Owner) (new_id : AllB
     at_once_fail fault (Fault first) w is = let same : fault ≡ first = cc is in same ∙ sets_fail first w
 
   spawn_late : (g : Group) (old new : KernelState) → IsReady old parent name owners g → (fault : KernelFault) → Spawns old g (Err (Fault fault)) new
-      → (first : KernelState) → old.table ≡ first.table → Stood first parent name fault
+      → (first : KernelState) → old.table ≡ first.table → Stood first parent name new fault
   spawn_late g old new ready Failed s first same = tt
   spawn_late g old new ready NoPids s first same =
       subst (λ (t : TableState). LAST_PID < t.next_pid) same ((refusals_have_causes old).spawn g NoPids s.0)
@@ -96,12 +96,12 @@ module _ (parent : Group) (name : List ℕ) (owners : List Owner) (new_id : AllB
   spawn_late g old new ready fault s first same = absurd ((refusals_have_causes old).spawn g fault s.0)
 
   launch_late : (cpus mems : Ids) (old new : KernelState) → Holds old parent owners → (fault : KernelFault)
-      → Launches old parent name cpus mems (Err (Fault fault)) new → Stood old parent name fault
+      → Launches old parent name cpus mems (Err (Fault fault)) new → Stood old parent name new fault
   launch_late cpus mems old new h fault (inl refused) = find_late old new h (child_of old.tree parent name) refl fault refused
   launch_late cpus mems old new h fault (inr (g, mid, found, inl (e, refused, is))) =
       let failed = at_once_fail g cpus mems mid new (find_stays parent name owners new_id old mid h (Ok g) found).holds
       (find_ready parent name owners new_id old mid h g found) fault e refused (let same : Fault fault ≡ e = cc is in same) in
-      subst (Stood old parent name) (sym failed) tt
+      subst (Stood old parent name new) (sym failed) tt
   launch_late cpus mems old new h fault (inr (g, mid, found, inr (done, written, writes, spawns))) =
       let holds = (find_stays parent name owners new_id old mid h (Ok g) found).holds in
       let ready = find_ready parent name owners new_id old mid h g found in
@@ -111,14 +111,16 @@ module _ (parent : Group) (name : List ℕ) (owners : List Owner) (new_id : AllB
 
 -- of a `create`, with what is counted
 module _ (old new : NodeState) (id config : List ℕ) (h : IsNode old) where
-  stood : (fault : KernelFault) → NotLaunched old id config (Fault fault) new → Stood old.kernel old.parent id fault
+  stood : (fault : KernelFault) → NotLaunched old id config (Fault fault) new → Stood old.kernel old.parent id new.kernel fault
   stood fault n =
       launch_late old.parent id (owners_of old.containers) (other_ids id old.containers n.free.new) old.machine.reserved n.asked.homes old.kernel new.kernel
       h.holds fault n.refused
 
 pub creates_fail_late : CreatesFailLate
 creates_fail_late old id bundle config Failed new h n = create_counts old id bundle config (Err (Fault (Kernel Failed))) new n
-creates_fail_late old id bundle config NoSerials new h n = stood old new id config h NoSerials n
+creates_fail_late old id bundle config NoSerials new h n =
+    let s = stood old new id config h NoSerials n in
+    (s.0, s.1, n.is ∙ ap (λ (k : KernelState). record old { kernel = k }) s.2)
 creates_fail_late old id bundle config NoPids new h n = stood old new id config h NoPids n
 creates_fail_late old id bundle config fault new h n = absurd (stood old new id config h fault n)
 

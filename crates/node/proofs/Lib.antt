@@ -22,6 +22,8 @@ pub mod ProvedLemmas
 pub mod RebalanceLemmas
 pub mod MachineLemmas
 pub mod SaidLemmas
+pub mod ServedLemmas
 pub mod EndingLemmas
 pub mod MakingLemmas
 pub mod LateLemmas
+pub mod AgainLemmas

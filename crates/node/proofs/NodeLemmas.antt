@@ -32,7 +32,7 @@ use Rattle.node.proofs.LaunchLemmas.{Stays, launched, not_launched}
 use Rattle.node.proofs.EventLemmas.{Passes, fork_passes, exit_passes, offline_passes, online_passes, end_passes, remove_refused}
 use Rattle.node.proofs.DeleteLemmas.{deleted_stays}
 
-still_of_machine : (old new : KernelState) (m : Layout) → IsOfMachine old m → KeepsMachine old new → IsOfMachine new m
+pub still_of_machine : (old new : KernelState) (m : Layout) → IsOfMachine old m → KeepsMachine old new → IsOfMachine new m
 still_of_machine old new m h k = record { present = k.present ∙ h.present; reserved = k.reserved ∙ h.reserved; nodes = k.nodes ∙ h.nodes }
 
 module _ (n : NodeState) (h : IsNode n) (new : KernelState) where

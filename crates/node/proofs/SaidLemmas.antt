@@ -22,7 +22,7 @@ use Rattle.node.proofs.ContainerLemmas.{all_started, each_left}
 use Rattle.node.proofs.ListLemmas.{all_push}
 
 -- each container of the node is of a config with which one of the events created it
-abbrev AreSaid : List Event → NodeState → Type 0
+abbrev pub AreSaid : List Event → NodeState → Type 0
 AreSaid events n = AllByRecursion (IsSaid events n.machine) n.containers
 
 module _ (events : List Event) where
@@ -118,7 +118,7 @@ module _ (events : List Event) where
       step_said m.finishes.mid new (Err (Kernel fault)) m.finishes.ends
       (steps_said m.finishes.steps m.mid m.finishes.mid m.finishes.more (begin_said old m.mid (Ok (Plan total)) m.begun h))
 
-  rebalance_said : (old new : NodeState) (r : Result Outcome (OrMemory NodeFault)) → Rebalances old r new → AreSaid events old → AreSaid events new
+  pub rebalance_said : (old new : NodeState) (r : Result Outcome (OrMemory NodeFault)) → Rebalances old r new → AreSaid events old → AreSaid events new
   rebalance_said old new (Ok (Plan total)) b h = moves_said old new total (Ok tt) b h
   rebalance_said old new (Ok (Short wanted allowed)) b h = moved _ new b.is h
   rebalance_said old new (Err (Fault (Kernel fault))) b h = moves_said old new b.0 (Err fault) b.1 h

@@ -20,6 +20,7 @@ pub mod Asking
 pub mod Proved
 pub mod Machine
 pub mod Said
+pub mod Served
 pub mod Ending
 pub mod Making
 pub mod Reads

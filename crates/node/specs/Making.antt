@@ -9,7 +9,7 @@ use Rattle.cpuset_tree.specs.Groups.{child_of}
 use Rattle.proctable.specs.declared.TheConstants.{LAST_PID}
 use Rattle.kernel_model.specs.declared.KernelFault.{KernelFault}
 use Rattle.kernel_model.specs.declared.KernelFault.TheVariants.{NoSerials, NoPids, Failed}
-use Rattle.kernel_model.specs.KernelState.{KernelState}
+use Rattle.kernel_model.specs.KernelState.{KernelState, counted}
 use Rattle.kernel_model.specs.Cases.{MakesGroup, WritesCpus, WritesMems, Spawns}
 use Rattle.faults.specs.declared.OrMemory.{OrMemory}
 use Rattle.faults.specs.declared.OrMemory.TheVariants.{Memory, Fault}
@@ -95,10 +95,12 @@ CreatesStaySafe =
     → AllByRecursion (λ k. IsSafe k k.reserved (map (λ o. o.holder) (owners_of new.containers))) (create_states old id bundle config r new made)
 
 -- what a refusal of the kernel can be, of a `create` against which nothing stood: a write failed, and is counted; or no
--- serial was left for a group of this id, and there was none; or no pid was left
+-- serial was left for a group of this id, and there was none, and then all is as before but the count of writes; or no pid
+-- was left
 abbrev pub LateCause : NodeState → List ℕ → KernelFault → NodeState → Type 0
 LateCause old id Failed new = new.kernel.failures ≡ old.kernel.failures + 1
-LateCause old id NoSerials new = (child_of old.kernel.tree old.parent id ≡ None) × (old.kernel.tree.next_serial ≡ SERIAL_LIMIT)
+LateCause old id NoSerials new =
+    (child_of old.kernel.tree old.parent id ≡ None) × (old.kernel.tree.next_serial ≡ SERIAL_LIMIT) × (new ≡ record old { kernel = counted old.kernel })
 LateCause old id NoPids new = LAST_PID < old.kernel.table.next_pid
 LateCause old id fault new = ⊥
 

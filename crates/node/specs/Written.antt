@@ -1,10 +1,10 @@
 -- How many writing calls of the kernel the calls of a node make, as the kernel counts them.
-use Rattle.std.specs.Prelude.{◌≡◌, ℕ, ◌+◌, ◌*◌, ◌≤◌, cond, List, filter, length, is_some, Result, Ok, Err}
+use Rattle.std.specs.Prelude.{◌≡◌, ℕ, ◌+◌, ◌*◌, ◌≤◌, cond, List, filter, length, Some, is_some, Result, Ok, Err, codes}
 use Rattle.faults.specs.declared.OrMemory.{OrMemory}
 use Rattle.faults.specs.declared.OrMemory.TheVariants.{Memory, Fault}
 use Rattle.cpu_set.specs.Ids.{Ids}
 use Rattle.cpuset_tree.specs.declared.Group.{Group}
-use Rattle.cpuset_tree.specs.Groups.{child_of}
+use Rattle.cpuset_tree.specs.Groups.{child_of, root_of}
 use Rattle.kernel_model.specs.KernelState.{KernelState}
 use Rattle.apply_plan.specs.DueWrite.{writes_to_come}
 use Rattle.node.specs.declared.fault.NodeFault.{NodeFault}
@@ -21,6 +21,12 @@ abbrev pub one_write : Result (Unit {0}) NodeFault → ℕ
 one_write (Ok _) = 1
 one_write (Err (Kernel fault)) = 1
 one_write (Err fault) = 0
+
+-- a node over a kernel asks for its group's write where there is no such group below the root, whatever that answers, and
+-- else for none
+abbrev pub OpenWrites : KernelState → KernelState → Type 0
+OpenWrites old new =
+    (root : Group) × (root_of old.tree ≡ Some root) × (new.writes ≡ old.writes + cond (is_some (child_of old.tree root (codes "numarun"))) 0 1)
 
 -- a launch makes the group if it is not there yet, writes its CPUs and its memory nodes, and makes a process in it
 abbrev pub launch_writes : KernelState → Group → List ℕ → ℕ

@@ -1,14 +1,15 @@
 //! Laws over the definitions alone: nothing here runs.
-ghost use Rattle.std.specs.Prelude.{◌≡◌};
+ghost use Rattle.std.specs.Prelude.{◌≡◌, codes};
 ghost use Rattle.node.specs.Asking.{RowsAreAsking, ShortStands};
 ghost use Rattle.node.specs.Ending.{HandoversEnd};
 ghost use Rattle.node.specs.Machine.{FirstIsNode, RunsKeep, RunsStaySafe, RunsStayApart, RebalancesAreSteps, RunsRebalance};
 ghost use Rattle.node.specs.Making.{CreatesAreCalls, CreatesFailLate, CreatesStaySafe};
 ghost use Rattle.node.specs.Proved.{LastIsProved, TotalIsProved, ShortIsProved};
 ghost use Rattle.node.specs.Said.{ContainersAreSaid};
+ghost use Rattle.node.specs.Served.{RunsServeConfigs};
 ghost use Rattle.node.specs.UnusedLemmas.{FirstIsUnused, FirstIsOfMachine, FirstWantsMemory};
 
-use crate::CONTAINER_LIMIT;
+use crate::{CONTAINER_LIMIT, GROUP_NAME};
 use apply_plan::laws::{effects, steps};
 use certificate_text::written_texts_are_read;
 use rows::rows_weigh;
@@ -83,6 +84,19 @@ pub fn each_rebalance()
     effects();
 }
 
+/// What a plan gives to the container of a config, after any list of calls and events from a node of no container on; nothing
+/// runs.
+///
+/// Where the config asks for CPUs of its own, its container has in effect as many as it asks for, all of those that it allows
+/// and online; else it has the pool, which is not empty.
+pub fn what_configs_get()
+    ensures { RunsServeConfigs }
+{
+    rows_weigh();
+    steps();
+    effects();
+}
+
 /// Whose the rows of a node's problem are: each is a live pinned container's, in their order, so that a shortage of the
 /// rows is one of these containers; nothing runs.
 pub fn whose_rows()
@@ -102,7 +116,8 @@ pub fn certificates_prove()
     written_texts_are_read();
 }
 
-/// There are at most 256 containers.
+/// There are at most 256 containers, and the group below which they have theirs is `numarun`.
 pub fn the_limits()
     ensures containers { CONTAINER_LIMIT ≡ 256 }
+    ensures name { GROUP_NAME.now ≡ codes "numarun" }
 {}

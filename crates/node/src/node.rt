@@ -82,11 +82,12 @@ impl<K: Kernel + Drop> Node<K> {
     ghost use Rattle.node.specs.IsNode.{IsNode};
     ghost use Rattle.node.specs.Calls.{Opens, OpensNot};
     ghost use Rattle.node.specs.OpenCause.{OpenCause, error_rise};
+    ghost use Rattle.node.specs.Written.{OpenWrites};
 
     /// A node with no container, over a kernel in which the node's group is found or made.
     ///
     /// # Errors
-    /// `Memory`, or `NoSerials` or `Failed` of the kernel, which is handed back with the machine.
+    /// `Memory`, or `NoSerials` or `Failed` of the kernel, which is handed back with the machine, and may be used again.
     pub fn new(alloc: Global, kernel: K, machine: Machine) -> Result<Node<K>, NotOpened<K>>
         requires machine { IsOfMachine (K.state kernel) machine }
         requires unused { IsUnused (K.state kernel) }
@@ -95,6 +96,10 @@ impl<K: Kernel + Drop> Node<K> {
         ensures back { IfErr result (λ r. r.machine ≡ machine) }
         ensures counted { MatchResult result (λ n. n.kernel.failures ≡ (K.state kernel).failures)
             (λ r. (K.state r.kernel).failures ≡ (K.state kernel).failures + error_rise r.error) }
+        // One writing call where there is no group of the node's, and else none.
+        ensures made { MatchResult result (λ n. OpenWrites (K.state kernel) n.kernel) (λ r. OpenWrites (K.state kernel) (K.state r.kernel)) }
+        // A kernel that is handed back may be used again.
+        ensures again { IfErr result (λ r. IsOfMachine (K.state r.kernel) machine × IsUnused (K.state r.kernel)) }
         // A refusal of the kernel has one of these causes.
         ensures late { IfErr result (λ r. (fault : KernelFault) → r.error ≡ Fault fault → OpenCause (K.state kernel) fault (K.state r.kernel)) }
     {

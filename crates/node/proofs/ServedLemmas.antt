@@ -1,0 +1,73 @@
+-- What a container has in effect is what its config asks for.
+use Rattle.std.proofs.Common.{◌≡◌, ℕ, Bool, true, false, not, ◌||◌, List, [], ◌∷◌, Option, Some, None, refl, sym, ap, ◌∙◌, subst}
+use Rattle.std.specs.Prelude.{is_some, if◌then◌else◌, Ok}
+use Rattle.std.specs.List.{AllByRecursion}
+use Rattle.std.specs.FinSet as set
+use Rattle.cpu_set.specs.Ids.{Ids, is_empty}
+use Rattle.kernel_model.specs.KernelState.{KernelState}
+use Rattle.machine.specs.Layout.{Layout}
+use Rattle.config_json.specs.SectionOf.{Section}
+use Rattle.rows.specs.Weighs.{RowsWeigh}
+use Rattle.apply_plan.specs.OneStep.{StepsLeave}
+use Rattle.apply_plan.specs.Effects.{TargetsTakeEffect}
+use Rattle.demand.specs.declared.Kind.{Kind}
+use Rattle.demand.specs.declared.Kind.TheVariants.{Pinned, Shared}
+use Rattle.demand.specs.declared.Demand.{Demand}
+use Rattle.demand.specs.Quota.{limit_of, period_of}
+use Rattle.demand.specs.Named.{named}
+use Rattle.demand.specs.Allowed.{allowed_of}
+use Rattle.demand.specs.DemandFaultOf.{is_pinned}
+use Rattle.demand.specs.IsDemand.{IsKind, IsDemand}
+use Rattle.node.specs.declared.outcome.Outcome.TheVariants.{Plan}
+use Rattle.node.specs.NodeState.{ContainerState, NodeState}
+use Rattle.node.specs.Headline.{effective, HasItsCpus, IsServed, IsRebalanced}
+use Rattle.node.specs.Machine.{Event}
+use Rattle.node.specs.Said.{IsSaid}
+use Rattle.node.specs.Served.{AreAsked, HasAsked, RunsServeConfigs}
+use Rattle.node.proofs.ListLemmas.{all_map2}
+use Rattle.node.proofs.MachineLemmas.{runs_rebalance}
+use Rattle.node.proofs.SaidLemmas.{AreSaid, rebalance_said, containers_are_said}
+
+-- what a section asks for tells whether that is CPUs of its own
+pinned_by : (limit : Option ℕ) (period : ℕ) (allowed : Ids) (s : Section) (count : ℕ) → limit_of s.quota ≡ limit → IsKind limit period allowed s (Pinned count)
+    → is_pinned s ≡ true
+pinned_by (Some limit) period allowed s count is kind = ap (λ (o : Option ℕ). is_some o || not (is_empty (named s.cpus))) is
+pinned_by None period allowed s count is kind = kind.0
+
+shared_by : (limit : Option ℕ) (period : ℕ) (allowed : Ids) (s : Section) → IsKind limit period allowed s Shared → is_pinned s ≡ false
+shared_by (Some limit) period allowed s kind = absurd kind
+shared_by None period allowed s kind = kind
+
+module _ (m : Layout) (k : KernelState) (pool : Ids) (s : Section) (d : Demand) (asked : IsDemand m s d) (cpus : Ids) where
+  abbrev Kinds : Kind → Type 0
+  Kinds = IsKind (limit_of s.quota) (period_of s.period) (allowed_of m s) s
+
+  are_asked : (kind : Kind) → d.kind ≡ kind → HasItsCpus k pool d kind cpus → AreAsked m k pool s cpus (is_pinned s)
+  are_asked (Pinned count) is has =
+      let kind : Kinds (Pinned count) = subst Kinds is asked.kind in
+      let pinned : is_pinned s ≡ true = pinned_by (limit_of s.quota) (period_of s.period) (allowed_of m s) s count refl kind in
+      let allowed : d.allowed ≡ allowed_of m s = asked.allowed ∙ ap (λ (b : Bool). if b then allowed_of m s else set.empty) pinned in
+      subst (AreAsked m k pool s cpus) (sym pinned) (
+        subst (λ (n : ℕ). Kinds (Pinned n)) (sym has.0) kind,
+        λ cpu there. (ap (λ (x : Ids). set.contains x cpu) (sym allowed) ∙ (has.1 cpu there).0, (has.1 cpu there).1),
+      )
+  are_asked Shared is has =
+      let kind : Kinds Shared = subst Kinds is asked.kind in
+      subst (AreAsked m k pool s cpus) (sym (shared_by (limit_of s.quota) (period_of s.period) (allowed_of m s) s kind)) has
+
+has_asked : (events : List Event) (m : Layout) (k : KernelState) (pool : Ids) (e : List ℕ × ContainerState) → IsSaid events m e → IsServed k pool e
+    → HasAsked events m k pool e
+has_asked events m k pool e said served = record {
+  config = said.config;
+  said = said.said;
+  created = said.created;
+  said_so = said.says.said_so;
+  has = λ live. are_asked m k pool said.said.cpu e.1.demand said.says.asked_so (effective k e) e.1.demand.kind refl (served live);
+}
+
+pub runs_serve_configs : RowsWeigh → StepsLeave → TargetsTakeEffect → RunsServeConfigs
+runs_serve_configs weigh law effects first events old total new node none run rebalances =
+    let headline : IsRebalanced old total new = runs_rebalance weigh law effects first events old (Ok (Plan total)) new node run rebalances in
+    let said : AreSaid events new = rebalance_said events old new (Ok (Plan total)) rebalances (containers_are_said first events old none run) in
+    all_map2 (IsSaid events new.machine) (IsServed new.kernel new.pool) (HasAsked events new.machine new.kernel new.pool)
+    (has_asked events new.machine new.kernel new.pool) new.containers said headline.served
