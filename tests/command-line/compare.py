@@ -163,7 +163,10 @@ def run(program, words, places):
         if b"locked" in words and os.getuid() == 0:
             os.setuid(NOBODY)
 
-    done = subprocess.run([program.encode()] + words, preexec_fn=prepare, timeout=SECONDS, **streams)
+    try:
+        done = subprocess.run([program.encode()] + words, preexec_fn=prepare, timeout=SECONDS, **streams)
+    except subprocess.TimeoutExpired:
+        sys.exit(f"command-line: {words} {places} did not come to its end within {SECONDS} seconds")
     return done.returncode, done.stdout or b"", done.stderr or b""
 
 

@@ -26,15 +26,17 @@ def by_second_runtime(told, program_output):
 
 def typed(program, words, told, lengths):
     """The answers to lines that are sent one after another."""
-    with subprocess.Popen([program] + words, stdin=subprocess.PIPE, stdout=subprocess.PIPE) as shell:
+    with subprocess.Popen([program] + words, stdin=subprocess.PIPE, stdout=subprocess.PIPE, bufsize=0) as shell:
         alarm = threading.Timer(SECONDS, shell.kill)
         alarm.start()
+        answers = open(shell.stdout.fileno(), "rb", closefd=False)
         found = b""
-        for line, length in zip(told.script, lengths):
-            shell.stdin.write(line + b"\n")
-            shell.stdin.flush()
-            found += b"".join(shell.stdout.readline() for _ in range(length))
-        shell.stdin.close()
+        try:
+            for line, length in zip(told.script, lengths):
+                shell.stdin.write(line + b"\n")
+                found += b"".join(answers.readline() for _ in range(length))
+        except BrokenPipeError:
+            found += b"no answer came, or the program ended"
         alarm.cancel()
         return found
 
@@ -48,7 +50,7 @@ def check(program, told):
     answers, wrong = told.cut(done.stdout.decode().split("\n")[:-1])
     wrong = wrong or by_second_runtime(told, done.stdout) or doubted(program, done.stdout)
     if not wrong and typed(program, words, told, map(len, answers)) != done.stdout:
-        return "typed, its answers are others"
+        return "typed, its answers are others, or do not come before the next line"
     return wrong
 
 

@@ -118,6 +118,13 @@ fn happen<K: Kernel>(kernel: &mut K, event: u32) {
     }
 }
 
+/// A CPU that is to come back goes before the hand-over.
+fn prepare<K: Kernel>(kernel: &mut K, event: u32) {
+    if let 7..=13 = event {
+        drop(kernel.offline(event % 7 + 1));
+    }
+}
+
 /// Steps until Done with this event before the step of this number; how many answered, or none where a promise is broken.
 fn run<K: Kernel>(
     kernel: &mut K,
@@ -129,6 +136,9 @@ fn run<K: Kernel>(
     for taken in 0..2 * entries.len() + 1 {
         if taken == at {
             happen(kernel, event);
+            if !is_safe(&*kernel, entries) {
+                return None;
+            }
         }
         let answer = step(handover, kernel)?;
         if !is_safe(&*kernel, entries) {
@@ -164,6 +174,7 @@ fn every_event_between_every_two_steps(rt: HostRuntime) -> Result<(), Fail> {
             for event in 0..EVENTS {
                 let mut kernel = two_nodes(rt.alloc())?.ok_or("no machine")?;
                 let entries = launch(rt.alloc(), &mut kernel, moves)?;
+                prepare(&mut kernel, event);
                 let mut over = handover(entries.to_vec(rt.alloc())?, set("0")).ok_or(
                     "no hand-over",
                 )?;
