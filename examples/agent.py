@@ -9,7 +9,7 @@ It keeps one run of the program open. Events come from standard input, a line ea
   rebalance            work the plan out anew
 or, with --watch FOLDER, from the bundles in a folder (a container's id is the name of its bundle) and the kernel's list
 of online CPUs. Each step prints the write that it stands for, as `write numarun/ID/cpuset.cpus LIST`. Nothing is written
-without --apply, which writes these files below a cgroup root, or --runtime, which runs `NAME update --cpuset-cpus LIST ID`.
+without --apply, which writes these files below a cgroup root, or --runtime, which runs `NAME update --cpuset-cpus LIST -- ID`.
 
 Where a write fails, it prints `failed` with the reason and, for each container, what `stands`, and makes no other write:
 all that stands is as after the write before, which is safe. The next event makes the failed write again, goes on with the
@@ -18,57 +18,17 @@ steps behind it, and then works out a plan from there. A container that has ende
 import argparse
 import itertools
 import os
+import shutil
 import subprocess
 import sys
 import time
 
-from common import Machine, Refused, read_list, read_text, run
+from common import Machine, Refused, Run, read_list, read_text, run
 
 EXAMPLE = """example, from the top of the repository:
   echo "created database examples/bundles/database" | examples/agent.py examples/machines/two-socket.json"""
 TOP = os.path.dirname(os.path.dirname(os.path.abspath(__file__)))
 PROGRAM = os.path.join(TOP, "crates", "numarun", "out", "numarun")
-
-
-class Decider:
-    """One open `numarun run`."""
-
-    def __init__(self, program, machine, slit):
-        self.program = program
-        words = [program, "run", machine] + (["--slit", slit] if slit else [])
-        try:
-            self.run = subprocess.Popen(words, stdin=subprocess.PIPE, stdout=subprocess.PIPE, start_new_session=True)
-        except OSError as why:
-            raise Refused(f"{program}: {why.strerror} (see --program)") from None
-        first = self.ask("phase")
-        if first != ["settled"]:
-            raise Refused(f"{machine}: {first[0]}")
-
-    def ask(self, *lines):
-        """The answers to these lines, one after another; they are sent at once."""
-        try:
-            self.run.stdin.write("".join(line + "\n" for line in lines).encode())
-            self.run.stdin.flush()
-        except BrokenPipeError:
-            pass
-        return [line for asked in lines for line in self.answer(asked)]
-
-    def answer(self, asked):
-        lines = [self.line(asked)]
-        if lines[0].split(" ")[0] in ("plan", "short"):
-            while lines[-1] != "end":
-                lines.append(self.line(asked))
-        return lines
-
-    def line(self, asked):
-        line = self.run.stdout.readline().decode(errors="replace")
-        if not line.endswith("\n"):
-            raise Refused(f"{self.program}: ended at {asked!r} with no answer, status {self.run.wait()}")
-        return line[:-1]
-
-    def close(self):
-        self.run.stdin.close()
-        self.run.wait()
 
 
 class Printer:
@@ -108,7 +68,8 @@ class Updates:
 
     def write(self, container, group, cpus):
         try:
-            done = subprocess.run([self.name, "update", "--cpuset-cpus", cpus, container], stdin=subprocess.DEVNULL, capture_output=True)
+            words = [self.name, "update", "--cpuset-cpus", cpus, "--", container]
+            done = subprocess.run(words, stdin=subprocess.DEVNULL, capture_output=True)
         except OSError as why:
             raise Refused(f"{self.name}: {why.strerror} (see --runtime)") from None
         told = done.stderr.decode(errors="replace").strip().splitlines()
@@ -117,7 +78,7 @@ class Updates:
 
 class Agent:
     def __init__(self, decider, writer, parent):
-        self.decider, self.writer, self.parent = decider, writer, parent
+        self.decider, self.writer, self.parent = decider, writer, parent  # the decider is an open run of numarun
         self.stands = {}       # what was written last, by the id
         self.decided = {}      # what the program's containers request, by the id
         self.failed = None     # the write that is to be made again
@@ -146,7 +107,7 @@ class Agent:
         """Tells an event; a refusal is printed, and answers `False`."""
         answer = self.decider.ask(command)[0]
         if answer.startswith("refused"):
-            print(f"{answer}: {command}", flush=True)
+            print(f"{answer}: {command[:100]}", flush=True)
         return not answer.startswith("refused")
 
     def end(self, name):
@@ -220,6 +181,8 @@ class Watcher:
     """Makes events of a folder of bundles and of the kernel's list of online CPUs, as they differ from what was seen before."""
 
     def __init__(self, folder, online, machine):
+        if folder.split() != [folder]:
+            raise Refused(f"{folder!r}: a name with a blank, which no line of a script can have")
         self.folder, self.online, self.machine = folder, online, machine
         self.bundles, self.cpus = set(), machine.present - machine.offline
 
@@ -228,6 +191,7 @@ class Watcher:
             entries = sorted(os.listdir(self.folder))
         except OSError as why:
             raise Refused(f"{self.folder}: {why.strerror}") from None
+        entries = [name for name in entries if name.split() == [name]]
         bundles = {name for name in entries if os.path.isfile(os.path.join(self.folder, name, "config.json"))}
         cpus = read_list(read_text(self.online), self.online) & self.machine.present
         changes = [f"ended {name}" for name in sorted(self.bundles - bundles)]
@@ -239,15 +203,16 @@ class Watcher:
 
 
 def watch(agent, watcher, pause, rounds):
-    """Looks again and again; where a write has failed, it is tried at each look."""
+    """Looks again and again; a write that has failed is made again with the next event, or else at the next look."""
     right = True
     for turn in range(rounds) if rounds else itertools.count():
         if turn:
             time.sleep(pause)
-        for event in watcher.events():
+        events = watcher.events()
+        for event in events:
             print(f"event {event}", flush=True)
             right = agent.event(event)
-        if agent.failed:
+        if agent.failed and not events:
             right = agent.rebalance()
     return right
 
@@ -280,16 +245,18 @@ def words_of():
     parser.add_argument("--pause", type=float, default=1.0, metavar="SECONDS", help="with --watch: between two looks")
     parser.add_argument("--rounds", type=int, default=0, metavar="N", help="with --watch: end after N looks")
     words = parser.parse_args()
-    if words.pause < 0 or words.rounds < 0:
-        parser.error("--pause and --rounds are 0 or more")
+    if not 0 <= words.pause <= 86400 or words.rounds < 0:
+        parser.error("--pause is 0 to 86400, and --rounds is 0 or more")
     return words
 
 
 def main():
     words = words_of()
     machine = Machine(words.machine)
+    if not shutil.which(words.program):
+        raise Refused(f"{words.program}: no program (see --program)")
     writer = Files(words.apply) if words.apply else Updates(words.runtime) if words.runtime else Printer()
-    decider = Decider(words.program, words.machine, words.slit)
+    decider = Run(words.program, words.machine, words.slit)
     agent = Agent(decider, writer, words.group)
     try:
         if words.watch:

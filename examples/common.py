@@ -1,11 +1,12 @@
-"""What the Python scripts of this folder share: lists of CPUs, machine files, and how they refuse what they can't read."""
+"""What the Python scripts share: lists of CPUs, machine files, an open run of numarun, and how what can't be read is refused."""
 
 import json
 import os
 import re
+import subprocess
 import sys
 
-CPUS, NODES = 4096, 128
+CPUS, NODES = 4096, 128  # more than numarun takes, as a picture may be of a larger machine
 
 
 class Refused(Exception):
@@ -37,14 +38,14 @@ def read_list(text, place):
     return cpus
 
 
-def print_list(cpus):
+def print_list(cpus, empty="-"):
     ranges = []
     for cpu in sorted(cpus):
         if ranges and ranges[-1][1] == cpu - 1:
             ranges[-1][1] = cpu
         else:
             ranges.append([cpu, cpu])
-    return ",".join(str(a) if a == b else f"{a}-{b}" for a, b in ranges) or "-"
+    return ",".join(str(a) if a == b else f"{a}-{b}" for a, b in ranges) or empty
 
 
 class Machine:
@@ -69,14 +70,15 @@ class Machine:
             raise Refused(f"{path}: reserved or offline: no CPU, or one that no node has")
         self.distances = told.get("distances")
         self.check_distances(path)
-        self.about = told.get("about") if isinstance(told.get("about"), str) else ""
+        about = told.get("about") if isinstance(told.get("about"), str) else ""
+        self.about = "".join(sign if sign.isprintable() else "?" for sign in about)
 
     @staticmethod
     def parse(path):
         try:
             told = json.loads(read_text(path))
         except ValueError as why:
-            at = f"line {why.lineno}" if isinstance(why, json.JSONDecodeError) else str(why)
+            at = f"line {why.lineno}" if isinstance(why, json.JSONDecodeError) else "a number of too many digits"
             raise Refused(f"{path}: {at}: not JSON") from None
         except RecursionError:
             raise Refused(f"{path}: nested too deep") from None
@@ -105,9 +107,67 @@ class Machine:
         return min(self.distances[self.node_of[cpu]][home] for home in homes)
 
 
+class Run:
+    """One open `numarun run`."""
+
+    def __init__(self, program, machine, slit=None):
+        self.program = program
+        words = [program, "run", machine] + (["--slit", slit] if slit else [])
+        try:
+            pipe = subprocess.PIPE
+            self.process = subprocess.Popen(words, stdin=pipe, stdout=pipe, stderr=pipe, start_new_session=True)
+        except OSError as why:
+            raise Refused(f"{program}: {why.strerror}") from None
+        first = self.ask("phase")
+        if first != ["settled"]:
+            raise Refused(f"{machine}: {first[0]}{self.why()}")
+
+    def ask(self, *lines):
+        """The answers to these lines, one after another; they are sent at once."""
+        try:
+            self.process.stdin.write("".join(line + "\n" for line in lines).encode(errors="surrogateescape"))
+            self.process.stdin.flush()
+        except BrokenPipeError:
+            pass
+        return [line for asked in lines for line in self.answer(asked)]
+
+    def answer(self, asked):
+        lines = [self.line(asked)]
+        if lines[0].split(" ")[0] in ("plan", "short"):
+            while lines[-1] != "end":
+                lines.append(self.line(asked))
+        return lines
+
+    def line(self, asked):
+        line = self.process.stdout.readline().decode(errors="replace")
+        if not line.endswith("\n"):
+            why = self.why()
+            raise Refused(f"{self.program}: ended at {asked!r} with no answer, status {self.process.wait()}{why}")
+        return line[:-1]
+
+    def why(self):
+        """The last of what it says on standard error, once it has ended."""
+        self.end_input()
+        said = self.process.stderr.read().decode(errors="replace").strip().splitlines()
+        return f" ({said[-1]})" if said else ""
+
+    def end_input(self):
+        try:
+            self.process.stdin.close()
+        except BrokenPipeError:
+            pass
+
+    def close(self):
+        self.end_input()
+        self.process.wait()
+
+
 def run(main):
     """Runs a script's `main`; what it refuses is one line on standard error and status 1."""
     name = os.path.basename(sys.argv[0])
+    if sys.stdin is None or sys.stdout is None:
+        sys.exit(f"{name}: standard input or standard output is closed")
+    sys.stdout.reconfigure(encoding="utf-8", errors="backslashreplace")
     try:
         status = main()
         sys.stdout.flush()

@@ -5,21 +5,29 @@
 # Where no reserved CPUs are named, the lowest online one is. Nodes keep their numbers: a number that no node has becomes
 # a node without CPUs, at distance 255 (unreachable) from all others; --renumber leaves these out and numbers the nodes
 # anew from 0. A machine without node folders is one node.
+#
+# Example: examples/describe-host.sh --reserved 0-1 > host.json
 set -euo pipefail
+
+fail() { echo "describe-host.sh: $1" >&2; exit 1; }
+misused() { echo "describe-host.sh: $1 (see --help)" >&2; exit 2; }
 
 sys=/sys/devices/system
 reserved=
 renumber=
 while [ $# -gt 0 ]; do
     case $1 in
-        --reserved) reserved=${2:?--reserved takes a list of CPUs}; shift 2 ;;
-        --sys) sys=${2:?--sys takes a folder}; shift 2 ;;
+        -h | --help) sed -n '2,/^set/{/^set/d;s/^# \{0,1\}//;p}' "$0"; exit 0 ;;
+        --reserved | --sys) [ -n "${2:-}" ] || misused "$1 takes a word behind it" ;;&
+        --reserved) reserved=$2; shift 2 ;;
+        --sys) sys=$2; shift 2 ;;
         --renumber) renumber=yes; shift ;;
-        *) echo "usage: describe-host.sh [--reserved LIST] [--renumber] [--sys FOLDER]" >&2; exit 2 ;;
+        *) misused "$1: no such option" ;;
     esac
 done
-
-fail() { echo "describe-host.sh: $1" >&2; exit 1; }
+range='[0-9]{1,4}(-[0-9]{1,4})?'
+[[ -z $reserved || $reserved =~ ^$range(,$range)*$ ]] || fail "--reserved: $reserved is no list of CPUs"
+[ -r "$sys/cpu/online" ] || fail "$sys/cpu/online: no such file, or it can't be read"
 
 # The numbers of a list as the kernel prints it, one a line.
 members() {
@@ -89,7 +97,7 @@ lists= rows= comma= present=
 for node in $nodes; do
     cpus=$(cpus_of "$node" | as_list)
     lists+="$comma\"$cpus\""
-    rows+="$comma[$(row_of "$node" | joined)]"
+    rows+="${comma}[$(row_of "$node" | joined)]"
     present+="${present:+,}$cpus"
     comma=", "
 done
@@ -99,6 +107,7 @@ reserved=${reserved:-${online%%[-,]*}}
 last=$(members "$present" | sort -n | tail -n 1)
 [ -n "$last" ] || fail "no node has CPUs"
 [ "$last" -lt 1024 ] || fail "CPU $last: a machine file has CPUs 0 to 1023"
+[ -n "$(members "$reserved")" ] || fail "--reserved: no CPU is named"
 stray=$(without "$reserved" "$online")
 [ -z "$stray" ] || fail "reserved CPUs that are not online: $stray"
 

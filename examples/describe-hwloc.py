@@ -57,6 +57,8 @@ class Topology:
             return xml.parse(sys.stdin.buffer if self.path == "-" else self.path).getroot()
         except xml.ParseError as why:
             raise Refused(f"{self.path}: line {why.position[0]}: not XML") from None
+        except (LookupError, ValueError):
+            raise Refused(f"{self.path}: line 1: an unknown encoding") from None
         except OSError as why:
             raise Refused(f"{self.path}: {why.strerror}") from None
 
@@ -98,7 +100,7 @@ class Topology:
         """The distance from one node to another, by the pair of their numbers."""
         for table in root.iter("distances2"):
             kind = table.get("kind", "")
-            if table.get("type") == "NUMANode" and kind.isdecimal() and int(kind) & MEANS_LATENCY:
+            if table.get("type") == "NUMANode" and re.fullmatch(r"[0-9]{1,9}", kind) and int(kind) & MEANS_LATENCY:
                 indexes = self.words(table, "indexes")
                 if table.get("indexing") == "gp":
                     raise Refused(f"{self.path}: distances2: nodes are not told by their system numbers")
@@ -174,18 +176,19 @@ def describe(topology, reserved, renumber):
     if not online:
         raise Refused(f"{path}: no CPU is online")
     reserved = reserved if reserved is not None else {min(online)}
-    if not reserved or reserved - online:
+    if not reserved:
+        raise Refused("--reserved: no CPU is named")
+    if reserved - online:
         raise Refused(f"reserved CPUs that are not online: {print_list(reserved - online)}")
     if topology.allowed & online != online:
         say(f"hwloc was not allowed the CPUs {print_list(online - topology.allowed)}; they are in the file")
-    lists = ", ".join(json.dumps(as_list(topology.nodes.get(node, set()))) for node in nodes)
-    rows = ", ".join(json.dumps(row) for row in rows_of(topology, nodes))
-    return (f'{{\n  "nodes": [{lists}],\n  "distances": [{rows}],\n  "reserved": "{as_list(reserved)}",\n'
-            f'  "offline": "{as_list(present - online)}"\n}}')
-
-
-def as_list(cpus):
-    return print_list(cpus) if cpus else ""
+    told = [
+        f'"nodes": {json.dumps([print_list(topology.nodes.get(node, set()), "") for node in nodes])}',
+        f'"distances": {json.dumps(rows_of(topology, nodes))}',
+        f'"reserved": "{print_list(reserved)}"',
+        f'"offline": {json.dumps(print_list(present - online, ""))}',
+    ]
+    return "{\n  " + ",\n  ".join(told) + "\n}"
 
 
 def main():

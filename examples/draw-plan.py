@@ -5,12 +5,13 @@ of 80 columns.
 Drawn are the nodes with their CPUs: each container in a colour and with letters of its own, the pool, reserved and offline
 CPUs. The legend has each container's CPUs and total distance, and which of them are far from home. Distances are told
 by the certificate: put the command `certificate` behind `rebalance` in the script. Of several plans the last one is drawn;
---before draws it beside the one before, and what has moved."""
+--before draws it beside the one before, with a thick edge where a container got a CPU, and lists what has moved."""
 
 import argparse
 import html
 import re
 import sys
+from typing import NamedTuple
 
 from common import Machine, Refused, print_list, read_list, read_text, run
 
@@ -57,7 +58,7 @@ class Answers:
         while self.at < len(self.lines):
             line = self.lines[self.at]
             self.at += 1
-            if re.fullmatch(r"plan total [0-9]+", line):
+            if re.fullmatch(r"plan total [0-9]{1,20}", line):
                 self.read_plan()
             elif line.startswith("short demand "):
                 self.shortage = self.at
@@ -89,7 +90,7 @@ class Answers:
         plan.total = int(self.lines[self.at - 1].split(" ")[2])
         taken = set()
         for words in self.block("plan"):
-            if words[0] == "hold" and len(words) == 3 and words[1] not in plan.holds:
+            if words[0] == "hold" and len(words) == 3 and words[1].isprintable() and words[1] not in plan.holds:
                 cpus = plan.holds[words[1]] = self.cpus(words[2])
             elif words[0] == "pool" and len(words) == 2 and plan.pool is None:
                 cpus = plan.pool = self.cpus(words[1])
@@ -110,7 +111,7 @@ class Answers:
                 row = weights[words[1]] = {}
                 for offer in words[3:]:
                     weight, colon, cpus = offer.partition(":")
-                    if not weight.isdecimal() or not colon:
+                    if not re.fullmatch(r"[0-9]{1,20}", weight) or not colon:
                         self.refuse(f"{offer[:40]!r} is no offer")
                     row.update(dict.fromkeys(self.cpus(cpus), int(weight) // (65536 if scaled else 1)))
             short = short or words[0] == "short"
@@ -119,18 +120,47 @@ class Answers:
 
 
 def letters(count):
-    """As many distinct tags: one letter each, or two where there are more than 52 containers."""
-    signs = "abcdefghijklmnopqrstuvwxyzABCDEFGHIJKLMNOPQRSTUVWXYZ"
+    """As many distinct tags: one letter each, or two where there are more containers than letters; x is an offline CPU."""
+    signs = "abcdefghijklmnopqrstuvwyzABCDEFGHIJKLMNOPQRSTUVWYZ"
     return list(signs[:count]) if count <= len(signs) else [a + b for a in signs for b in signs][:count]
 
 
 def cut(text, width):
-    return text if len(text) <= width else text[: width - 1] + "…"
+    """As much of a text as has room; a list of CPUs ends behind a comma."""
+    if len(text) <= width:
+        return text
+    front = text[: width - 1]
+    comma = front.rfind(",") + 1
+    return (front[:comma] if comma > width // 2 else front) + "…"
+
+
+def cut_name(name, width):
+    """The front and the end of a name, by which those of one service are told apart."""
+    tail = width // 3
+    return name if len(name) <= width else f"{name[: width - 1 - tail]}…{name[-tail:]}"
 
 
 def mixed(colour, other, part):
     pair = [[int(code[k : k + 2], 16) for k in (1, 3, 5)] for code in (colour, other)]
     return "#" + "".join(f"{round(a + (b - a) * part):02x}" for a, b in zip(*pair))
+
+
+class Look(NamedTuple):
+    """How a CPU is drawn; `tip` is what it says when pointed at."""
+
+    fill: str
+    ink: str
+    tag: str
+    tip: str
+    striped: bool = False
+    offline: bool = False
+    far: bool = False
+    moved: bool = False
+
+
+RESERVED = Look("#404040", "#ffffff", "#", "reserved")
+POOL = Look("#ffffff", "#606060", "", "pool")
+OFFLINE = Look("#ffffff", "#303030", "", "offline", offline=True)
 
 
 class Style:
@@ -147,12 +177,12 @@ class Style:
         return base if turn % 4 == 0 else mixed(base, shades[turn % 4][0], shades[turn % 4][1])
 
     def ink(self, name):
-        """Black or white, whichever reads better on the colour."""
-        red, green, blue = (int(self.colour(name)[k : k + 2], 16) for k in (1, 3, 5))
-        return "#000000" if 0.3 * red + 0.59 * green + 0.11 * blue > 120 else "#ffffff"
+        """Black or white, whichever has the higher contrast to the colour."""
+        red, green, blue = ((int(self.colour(name)[k : k + 2], 16) / 255) ** 2.2 for k in (1, 3, 5))
+        return "#000000" if 0.2126 * red + 0.7152 * green + 0.0722 * blue > 0.18 else "#ffffff"
 
-    def striped(self, name):
-        return self.place[name] >= len(PALETTE)
+    def look(self, name):
+        return Look(self.colour(name), self.ink(name), self.tag[name], name, striped=self.place[name] >= len(PALETTE))
 
 
 def moves(before, after):
@@ -229,7 +259,7 @@ def draw_text(machine, plans):
 
 
 def legend_lines(plan, style, name, size):
-    start = f"{style.tag[name]:{size}} {cut(name, 24)}: "
+    start = f"{style.tag[name]:{size}} {cut_name(name, 24)}: "
     if name not in plan.holds:
         return [start + "gone"]
     text, far = facts(plan, name)
@@ -238,7 +268,7 @@ def legend_lines(plan, style, name, size):
 
 
 def move_lines(before, after, style):
-    rows = [f"  {style.tag[name]} {cut(name, 20)}: gives {print_list(gives)}, gets {print_list(gets)}"
+    rows = [f"  {style.tag[name]} {cut_name(name, 20)}: gives {print_list(gives)}, gets {print_list(gets)}"
             for name, (gives, gets) in moves(before, after).items()]
     return ["moves:"] + rows if rows else ["moves: none"]
 
@@ -278,6 +308,11 @@ class Picture:
         self.reach(x + 0.62 * size * len(text), y + size / 2)
         self.add(f'<text x="{x:g}" y="{y:g}" font-size="{size:g}"{more}>{html.escape(text)}</text>')
 
+    def inside(self, x, y, size, text, ink, bold=False):
+        """Text about a middle, in a box that is there."""
+        more = ' font-weight="bold"' if bold else ""
+        self.add(f'<text x="{x:g}" y="{y:g}" font-size="{size:g}"{more} text-anchor="middle" fill="{ink}">{text}</text>')
+
     def svg(self, title):
         width, height = self.width + 16, self.height + 16
         head = [
@@ -291,43 +326,45 @@ class Picture:
         return "\n".join(head + self.lines + ["</svg>"])
 
 
+def draw_box(picture, x, y, width, height, look):
+    """The ground of a CPU, or of a line of the legend."""
+    edge = ' stroke="#606060" stroke-width="0.8"' + (' stroke-dasharray="2 2"' if look.offline else "")
+    picture.box(x, y, width, height, look.fill, ' stroke="#000000" stroke-width="2.2"' if look.moved else edge)
+    if look.striped:
+        picture.box(x + 0.5, y + 0.5, width - 1, height - 1, "url(#stripes)")
+        picture.box(x + width * 0.14, y + height * 0.08, width * 0.72, height * 0.84, look.fill)
+    if look.offline:
+        picture.add(f'<path d="M{x:g} {y:g}l{width:g} {height:g}m0 {-height:g}l{-width:g} {height:g}" stroke="#c8c8c8" fill="none"/>')
+
+
 def draw_cell(picture, x, y, side, cpu, look):
     """One CPU: its number above, and the letters of its container below."""
-    fill, ink, tag, tip, far, striped = look
     inner = side - 2
-    picture.add(f"<g><title>{html.escape(tip)}</title>")
-    edge = ' stroke="#606060" stroke-width="0.8"'
-    picture.box(x, y, inner, inner, fill, edge + (' stroke-dasharray="2 2"' if tag == "x" else ""))
-    if striped:
-        picture.box(x, y, inner, inner, "url(#stripes)")
-    if tag == "x":
-        picture.add(f'<path d="M{x:g} {y:g}l{inner:g} {inner:g}m0 {-inner:g}l{-inner:g} {inner:g}" stroke="#c8c8c8" fill="none"/>')
-    if striped and tag:
-        picture.box(x + inner * 0.14, y + inner * 0.08, inner * 0.72, inner * 0.84, fill)
-    size, middle = side * 0.31, f' text-anchor="middle" fill="{ink}"'
-    picture.add(f'<text x="{x + inner / 2:g}" y="{y + inner * 0.4:g}" font-size="{size:g}"{middle}>{cpu}</text>')
-    if tag and tag != "x":
-        picture.add(f'<text x="{x + inner / 2:g}" y="{y + inner * 0.85:g}" font-size="{size * 1.3:g}" font-weight="bold"{middle}>{tag}</text>')
-    if far:
-        corner = inner * 0.3
-        picture.add(f'<path d="M{x + inner:g} {y:g}v{corner:g}l{-corner:g} {-corner:g}z" fill="#000000" stroke="#ffffff" stroke-width="0.5"/>')
+    picture.add(f"<g><title>CPU {cpu}: {html.escape(look.tip)}</title>")
+    draw_box(picture, x, y, inner, inner, look)
+    picture.inside(x + inner / 2, y + inner * 0.4, side * 0.31, cpu, look.ink)
+    if look.tag:
+        picture.inside(x + inner / 2, y + inner * 0.85, side * 0.4, look.tag, look.ink, bold=True)
+    if look.far:
+        corner, other = inner * 0.34, "#ffffff" if look.ink == "#000000" else "#000000"
+        picture.add(f'<path d="M{x + inner:g} {y:g}v{corner:g}l{-corner:g} {-corner:g}z" fill="{look.ink}" stroke="{other}" stroke-width="0.5"/>')
     picture.add("</g>")
 
 
-def look_of(machine, plan, holder, style, cpu):
-    """How a CPU is drawn: fill, ink, letters, what it says when pointed at, whether it is far, whether it has stripes."""
-    if cpu in holder:
-        name, weight = holder[cpu], plan.weight(holder[cpu], cpu)
-        tip = f"CPU {cpu}: {name}" + ("" if weight is None else f", distance {weight}")
-        return style.colour(name), style.ink(name), style.tag[name], tip, (weight or 0) > LOCAL, style.striped(name)
-    if cpu in machine.reserved:
-        return "#404040", "#ffffff", "#", f"CPU {cpu}: reserved", False, False
-    if cpu in plan.pool:
-        return "#ffffff", "#606060", "", f"CPU {cpu}: pool", False, False
-    return "#ffffff", "#303030", "x", f"CPU {cpu}: offline", False, False
+def look_of(machine, plan, style, cpu, holder, before):
+    """How a CPU is drawn; `holder` has the containers of this plan by their CPUs, and `before` those of the plan before."""
+    name = holder.get(cpu)
+    if name is None:
+        return RESERVED if cpu in machine.reserved else POOL if cpu in plan.pool else OFFLINE
+    weight = plan.weight(name, cpu)
+    return style.look(name)._replace(
+        tip=name if weight is None else f"{name}, distance {weight}",
+        far=(weight or 0) > LOCAL,
+        moved=before is not None and before.get(cpu) != name,
+    )
 
 
-def draw_nodes(picture, machine, plan, style, left, top, room):
+def draw_nodes(picture, machine, plan, style, left, top, room, before=None):
     """The nodes of a machine from this corner on; answers how far down they reach."""
     most = max(len(cpus) for cpus in machine.nodes)
     side = 34 if len(machine.present) <= 64 else 28 if len(machine.present) <= 256 else 24
@@ -344,39 +381,47 @@ def draw_nodes(picture, machine, plan, style, left, top, room):
             name = f"node {node}" + (f": {print_list(cpus)}" if cpus else ": memory alone")
             picture.text(x + 10, y + 18, 12, cut(name, int((width - 20) / 7.5)), ' fill="#000000"')
             for k, cpu in enumerate(cpus):
-                look = look_of(machine, plan, holder, style, cpu)
+                look = look_of(machine, plan, style, cpu, holder, before)
                 draw_cell(picture, x + 10 + k % columns * side, y + 27 + k // columns * side, side, cpu, look)
         y += lines * side + 46
     return y
 
 
-def draw_legend(picture, plan, style, top, room):
+def draw_legend(picture, plan, style, top, room, compared):
     """The legend, in as many columns as there is room for."""
     wide = 470
     across = max(1, int(room // wide))
-    looks = [("#404040", "#", "reserved", "", False), ("#ffffff", "", "pool", print_list(plan.pool), False), ("#ffffff", "x", "offline", "", False)]
-    entries = [(*look, "") for look in looks]
+    entries = [(RESERVED, "", ""), (POOL, print_list(plan.pool), ""), (OFFLINE, "", "")]
+    if compared:
+        entries.append((POOL._replace(tip="got (see moves)", moved=True), "", ""))
     for name in style.names:
-        text, far = facts(plan, name) if name in plan.holds else ("gone", "")
-        entries.append((style.colour(name), style.tag[name], name, text, style.striped(name), far))
+        entries.append((style.look(name), *(facts(plan, name) if name in plan.holds else ("gone", ""))))
     y = top
     for first in range(0, len(entries), across):
         tall = 22
-        for k, (fill, tag, name, text, striped, far) in enumerate(entries[first : first + across]):
+        for k, (look, text, far) in enumerate(entries[first : first + across]):
             x = 16 + k * wide
-            ink = style.ink(name) if name in style.names and tag not in ("#", "x", "") else "#ffffff" if tag == "#" else "#606060"
-            picture.box(x, y, 24, 16, fill, ' stroke="#606060" stroke-width="0.8"')
-            if striped:
-                picture.box(x, y, 24, 16, "url(#stripes)")
-                picture.box(x + 4, y + 1, 16, 14, fill)
-            picture.add(f'<text x="{x + 12}" y="{y + 12}" font-size="11" font-weight="bold" text-anchor="middle" fill="{ink}">{tag}</text>')
-            picture.text(x + 32, y + 12, 12, cut(name, 20), ' fill="#000000"')
+            draw_box(picture, x, y, 24, 16, look)
+            picture.inside(x + 12, y + 12, 11, look.tag, look.ink, bold=True)
+            picture.text(x + 32, y + 12, 12, cut_name(look.tip, 20), ' fill="#000000"')
             picture.text(x + 32 + 21 * 7.5, y + 12, 12, cut(text, 36), ' fill="#000000"')
             if far:
                 picture.text(x + 32, y + 28, 12, cut(f"◥ far from home: {far}", 56), ' fill="#000000"')
                 tall = 38
         y += tall
     return y
+
+
+def draw_moves(picture, plans, style, top):
+    """What moved, in as many columns as there is room for."""
+    heading, *rows = move_lines(*plans, style)
+    picture.text(16, top + 16, 12, heading, ' fill="#000000"')
+    across = max(1, int((picture.width - 16) // 620))
+    deep = -(-len(rows) // across)
+    wide = (picture.width - 16) / across
+    for k, row in enumerate(rows):
+        x, y = 16 + k // deep * wide, top + 34 + k % deep * 18
+        picture.text(x, y, 12, cut(row.strip(), int(wide / 7.5) - 2), ' fill="#000000"')
 
 
 def draw_svg(machine, plans):
@@ -390,14 +435,14 @@ def draw_svg(machine, plans):
         name = ("before: ", "after: ")[k] if len(plans) == 2 else ""
         side = Picture()
         side.text(left, 50, 13, name + headline(plan), ' fill="#000000"')
-        bottom = max(bottom, draw_nodes(side, machine, plan, style, left, 64, room))
+        before = plans[0].holder_of() if k else None
+        bottom = max(bottom, draw_nodes(side, machine, plan, style, left, 64, room, before))
         picture.lines += side.lines
         picture.reach(side.width, side.height)
         left = side.width + 28
-    y = draw_legend(picture, plans[-1], style, bottom + 6, max(picture.width - 16, 480))
+    y = draw_legend(picture, plans[-1], style, bottom + 6, max(picture.width - 16, 480), len(plans) == 2)
     if len(plans) == 2:
-        for k, row in enumerate(move_lines(*plans, style)):
-            picture.text(16, y + 16 + 18 * k, 12, cut(row, int((picture.width - 16) / 7.5)), ' fill="#000000" xml:space="preserve"')
+        draw_moves(picture, plans, style, y)
     return picture.svg(f"numarun: {headline(plans[-1])}")
 
 

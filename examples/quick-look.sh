@@ -1,9 +1,9 @@
 #!/usr/bin/env bash
-# A plan on a recorded machine in about a minute: quick-look.sh [MACHINE [SCRIPT]]
+# A plan on a recorded machine in one to three minutes: quick-look.sh [MACHINE [SCRIPT]]
 #
 # Builds the program without its proofs and runs a script over a machine file, which are a machine of two sockets and
 # examples/scripts/plans where none are named. Wants the Rattle kit alone. For the proved program, which takes half an hour
-# or more the first time: (cd crates/numarun && rt run -- --version), which leaves it as crates/numarun/out/numarun.
+# or more once: (cd crates/numarun && rt run -- --version), which leaves it as crates/numarun/out/numarun.
 #
 # Example: examples/quick-look.sh examples/machines/two-socket.json examples/scripts/a-cpu-goes
 set -euo pipefail
@@ -26,12 +26,15 @@ command -v rt > /dev/null || refuse "rt: not there; it is the command of the Rat
 # The program sees the files that it is given by name: the machine, and the config of each bundle that the script names.
 data=(--data "machine.json=$(realpath "$machine")")
 while read -r bundle; do
+    case /$bundle/ in
+        //* | */../*) refuse "$script: $bundle: a quick look sees only bundles that are named from the top of the repository" ;;
+    esac
     config=$bundle/config.json
     [ -f "$config" ] || config=$top/$bundle/config.json
     [ ! -f "$config" ] || data+=(--data "$bundle/config.json=$(realpath "$config")")
 done < <(awk '$1 == "create" && NF == 3 { print $3 }' "$script" | sort -u)
 
-say "built without its proofs, which takes a minute or two the first time; nothing is proved by this"
+say "built without its proofs, which takes one to three minutes each time; nothing is proved by this"
 script=$(realpath "$script")
 cd "$top/crates/numarun"
 exec rt try "${data[@]}" -- run machine.json < "$script"

@@ -97,6 +97,15 @@ says '{
   "offline": "1"
 }'
 
+# What the words may not be.
+says 'describe-host.sh: --reserved: x is no list of CPUs' refused --reserved x
+says 'describe-host.sh: --reserved: no CPU is named' refused --reserved 3-2
+says 'describe-host.sh: /no-such-folder/cpu/online: no such file, or it can'"'"'t be read' refused --sys /no-such-folder
+if ! bash "$top/examples/describe-host.sh" --help | grep -q '^Example: examples/describe-host.sh '; then
+    echo 'describe-host.sh --help: no example'
+    failed=1
+fi
+
 # More CPUs than a machine file may have.
 tree large 0-1024 0-1024
 says 'describe-host.sh: CPU 1024: a machine file has CPUs 0 to 1023' refused

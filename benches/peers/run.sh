@@ -4,5 +4,8 @@
 set -eu
 here=$(cd "$(dirname "$0")" && pwd)
 top=$(cd "$here/../.." && pwd)
+case ${1:-} in
+    -h | --help) exec python3 -B "$here/compare.py" --help ;;
+esac
 . "$top/tests/build-program.sh"
 exec python3 -B "$here/compare.py" "$program" "$@"

@@ -4,8 +4,9 @@ In microseconds, the least of some: `typed` is the time from the line to the `en
 what one takes that has nothing to write, since it comes right behind another, in a script read from a file; and `solver` the
 solver on the same rows, as the node's certificate tells them. In thousands of instructions, where callgrind is there: `all` a
 rebalance, `writes` what it takes more than one behind it, `solver`, and `rest` what is left: rows, certificate, entries and the
-text of the answer. (The time of the writes is lost in that of a script.) The containers are 256 with homes on one of 8 nodes:
-seven of eight ask for 1 to 7 CPUs, which may be any, the others for none of their own."""
+text of the answer. (The time of the writes is lost in that of a script.) The containers are 256 with their homes on one node:
+seven of eight ask for 1 to 7 CPUs, which may be any, the others for none of their own. The last line of each machine has the
+thousands of instructions that a `create` takes, with homes on one node, and on all nodes where the config names none."""
 
 import json
 import os
@@ -18,7 +19,7 @@ import tempfile
 import time
 
 ROUNDS, TIMES, RUNS = 5, 200, 40
-NODES, CPUS, CONTAINERS = 8, 1024, 256
+CPUS, CONTAINERS = 1024, 256
 
 
 class Shell:
@@ -40,19 +41,25 @@ class Shell:
         self.shell.wait()
 
 
-def place():
-    """Writes the machine and the bundles; the bundle of each container."""
-    per = CPUS // NODES
-    nodes = [f"{per * k}-{per * k + per - 1}" for k in range(NODES)]
-    distances = [[10 if i == j else 16 if i // 2 == j // 2 else 32 for j in range(NODES)] for i in range(NODES)]
+def write_bundle(name, section):
+    os.makedirs(name, exist_ok=True)
+    told = {"ociVersion": "1.0.2", "root": {"path": "rootfs"}, "linux": {"resources": {"cpu": section}}}
+    json.dump(told, open(f"{name}/config.json", "w"))
+
+
+def place(count):
+    """Writes a machine of so many nodes, and the bundle of each container."""
+    per = CPUS // count
+    nodes = [f"{per * k}-{per * k + per - 1}" for k in range(count)]
+    distances = [[10 if i == j else 16 if i // 2 == j // 2 else 32 for j in range(count)] for i in range(count)]
     json.dump({"nodes": nodes, "distances": distances, "reserved": "0"}, open("machine.json", "w"))
     for k in range(CONTAINERS):
-        section = {"mems": str(k % NODES)}
+        section = {"mems": str(k % count)}
         if k % 8 != 7:
             section["quota"] = 100000 * random.randint(1, 7)
-        os.makedirs(f"b{k}", exist_ok=True)
-        told = {"ociVersion": "1.0.2", "root": {"path": "rootfs"}, "linux": {"resources": {"cpu": section}}}
-        json.dump(told, open(f"b{k}/config.json", "w"))
+        write_bundle(f"b{k}", section)
+        if k % 2:
+            write_bundle(f"any{k}", {"quota": 100000})
 
 
 def typed(program, before):
@@ -115,15 +122,22 @@ def counted(program, tools, before, certificate):
     return one - none, two - one, twice - once
 
 
-def main(program, tools):
-    random.seed(1)
-    program, tools = os.path.abspath(program), os.path.abspath(tools)
+def created(program):
+    """The thousands of instructions of a `create`, with homes on one node, and with homes on all of them."""
+    lines = [f"create c{k} b{k}" for k in range(CONTAINERS)]
+    half = lines[: CONTAINERS // 2]
+    anywhere = half + [f"create a{k} any{k}" for k in range(1, CONTAINERS, 2)]
+    counts = [instructions([program, "run", "machine.json"], "\n".join(script + [""]).encode()) for script in (half, lines, anywhere)]
+    return [(count - counts[0]) / (CONTAINERS // 2) for count in counts[1:]]
+
+
+def measure(program, tools, count):
     with tempfile.TemporaryDirectory() as folder:
         os.chdir(folder)
-        place()
+        place(count)
         before = [[f"create c{k} b{k}" for k in range(CONTAINERS)], ["kill c100 KILL", "delete c100"], ["offline 500"]]
         whole, told, shell = typed(program, before), [], Shell(program)
-        print(f"{'':24} {'typed':>8} {'again':>8} {'solver':>8}   {'all':>8} {'writes':>8} {'rest':>8} {'solver':>8}")
+        print(f"{f'{count} nodes':24} {'typed':>8} {'again':>8} {'solver':>8}   {'all':>8} {'writes':>8} {'rest':>8} {'solver':>8}")
         for k, name in enumerate(["from nothing", "after a container went", "after a CPU went off"]):
             told += before[k]
             for line in before[k] + ["rebalance"]:
@@ -136,7 +150,17 @@ def main(program, tools):
             print(row)
             told += ["rebalance"]
         shell.close()
+        if shutil.which("valgrind"):
+            near, anywhere = created(program)
+            print(f"{'a create':53} {near:8.0f} {anywhere:8.0f}")
         os.chdir("/")
+
+
+def main(program, tools):
+    program, tools = os.path.abspath(program), os.path.abspath(tools)
+    for count in (8, 64):
+        random.seed(1)
+        measure(program, tools, count)
 
 
 main(*sys.argv[1:])

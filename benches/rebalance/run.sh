@@ -1,6 +1,6 @@
 #!/usr/bin/env bash
-# Times `rebalance` of 256 containers on 8 nodes and 1,024 CPUs: from nothing, after one container went, and after a CPU went off;
-# beside the solver alone on the same rows.
+# Times `rebalance` of 256 containers on 1,024 CPUs, of 8 nodes and of 64: from nothing, after one container went, and after a CPU
+# went off; beside the solver alone on the same rows. And counts what a `create` takes.
 set -eu
 here=$(cd "$(dirname "$0")" && pwd)
 top=$(cd "$here/../.." && pwd)

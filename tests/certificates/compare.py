@@ -1,6 +1,6 @@
 """Compares what the program answers with what the second checker answers: `compare.py PROGRAM EXAMPLE`.
 
-The texts are those at the limits with their written answers, every front of the example, the example and random
+The texts are those of limits.py and worked.py with their written answers, every front of the example, the example and random
 certificates with random edits, and random small certificates, most of them with values and prices that prove the plan, or
 with members that are a shortage. Where the program says yes to a plan, no plan at all costs less; where it says that CPUs
 are short, there is no plan at all. Each verdict has to be seen in number.
@@ -14,9 +14,12 @@ import sys
 from collections import Counter
 
 sys.path.insert(0, os.path.join(os.path.dirname(os.path.abspath(__file__)), ".."))
-from limits import TEXTS
+import limits
+import worked
 from program import run
 from reference import check, least_cost, read
+
+TOLD = limits.TEXTS + worked.TEXTS
 
 PIECES = [b" ", b"  ", b"\n", b"\r", b"\0", b"\t", b"\xff", b"+", b"-", b",", b":", b"0", b"00", b"1", b"9" * 1000, b"1023",
           b"1024", b"1-3", b"2-1", b"4294967295", b"4294967296", b"18446744073709551615", b"18446744073709551616",
@@ -135,10 +138,10 @@ def solved(text, expected):
 def main(program, example):
     random.seed(1)
     text = open(example, "rb").read()
-    for limit, expected in TEXTS:
-        judged(program, limit, expected)
-        if check(limit) != expected:
-            sys.exit(f"compare: {limit[:2000]!r}: expected {expected!r}, the second checker answers {check(limit)!r}")
+    for told, expected in TOLD:
+        judged(program, told, expected)
+        if check(told) != expected:
+            sys.exit(f"compare: {told[:2000]!r}: expected {expected!r}, the second checker answers {check(told)!r}")
     small = [made() for _ in range(2000)]
     texts = [text[:end] for end in range(len(text) + 1)] + small
     texts += [edited(text) for _ in range(1000)] + [with_other_numbers(text) for _ in range(1000)]
@@ -150,7 +153,7 @@ def main(program, example):
         if name in ("plan", "short"):
             solved(text, expected)
         seen[name] += 1
-    print(f"compare: {len(TEXTS)} texts at the limits,", ", ".join(f"{name} {seen[name]}" for name in VERDICTS))
+    print(f"compare: {len(TOLD)} texts with written answers,", ", ".join(f"{name} {seen[name]}" for name in VERDICTS))
     missing = [name for name in VERDICTS if seen[name] < LEAST]
     if missing:
         sys.exit(f"compare: fewer than {LEAST} texts were answered with {', '.join(missing)}")

@@ -9,7 +9,7 @@ import shutil
 import subprocess
 import sys
 
-from trial import EXAMPLES, TOP, check, end, refuses, told, words_and_help
+from trial import EXAMPLES, TOP, bad_files, bad_output, check, end, refuses, told, words_and_help
 
 sys.path.insert(0, EXAMPLES)
 agent = importlib.import_module("agent")
@@ -52,7 +52,7 @@ def tree(*names, parent="numarun"):
 
 def standing(root, parent="numarun"):
     found = {}
-    for name in sorted(os.listdir(os.path.join(root, parent))):
+    for name in sorted(entry.name for entry in os.scandir(os.path.join(root, parent)) if entry.is_dir()):
         text = open(os.path.join(root, parent, name, "cpuset.cpus")).read()
         found[name] = common.read_list(text, name) if text.strip() else set()
     return found
@@ -82,7 +82,7 @@ class Refusing(agent.Files):
 def whole_run(nth):
     """All events with the nth write refused, and one event more; what it printed, whether all was safe, and what stands."""
     writer = Refusing(tree("database", "web", "packets", "control"), nth)
-    decider, out = agent.Decider(PROGRAM, MACHINE, None), io.StringIO()
+    decider, out = common.Run(PROGRAM, MACHINE), io.StringIO()
     one = agent.Agent(decider, writer, "numarun")
     with contextlib.redirect_stdout(out):
         for event in EVENTS + ["rebalance"]:
@@ -134,7 +134,7 @@ def runtime():
     events = f"created database {DATABASE}\ncreated packets {PACKETS}\nrebalance\n"
     status, out, err = told("agent.py", *words("--runtime", name), text=events)
     pairs = [pair.split() for pair in WRITES.split(";")]
-    calls = [f"update --cpuset-cpus {cpus} {name}" for name, cpus in pairs[:3] + pairs[2:]]
+    calls = [f"update --cpuset-cpus {cpus} -- {name}" for name, cpus in pairs[:3] + pairs[2:]]
     check("a runtime's calls", (status, open(log).read().splitlines()), (0, calls))
     check("a runtime's refusal", "failed numarun/packets/cpuset.cpus 0,16: no such container\nstands database 1-7,17-21\n" in out, True)
 
@@ -142,6 +142,7 @@ def runtime():
 def watching():
     folder, online = os.path.join(SCRATCH, "bundles"), os.path.join(SCRATCH, "online")
     shutil.copytree(os.path.join(TOP, DATABASE), os.path.join(folder, "database"))
+    shutil.copytree(os.path.join(TOP, DATABASE), os.path.join(folder, "a b"))
     open(online, "w").write("0-31\n")
     command = [sys.executable, "-B", os.path.join(EXAMPLES, "agent.py"), *words("--watch", folder, "--online", online, "--pause", "0.1")]
     run = subprocess.Popen(command + ["--rounds", "600"], stdout=subprocess.PIPE, stderr=subprocess.DEVNULL, text=True)
@@ -228,12 +229,16 @@ watching()
 real_groups()
 ends_early()
 words_and_help("agent.py", "examples/agent.py examples/machines/two-socket.json")
-refuses("agent.py", MACHINE, "--program", "no-such-program", says="no-such-program: No such file or directory (see --program)")
-refuses("agent.py", "no-such-machine", "--program", PROGRAM, says="no-such-machine: No such file")
+refuses("agent.py", MACHINE, "--program", "no-such-program", says="no-such-program: no program (see --program)")
+bad_files("agent.py", ["--program", PROGRAM])
+bad_output("agent.py", *words(), text="rebalance\n")
 refuses("agent.py", *words(), text="foo\n", says="standard input: line 1: 'foo' is no event")
 refuses("agent.py", *words("--apply", "no-such-root"), says="no-such-root: no folder")
 refuses("agent.py", *words("--runtime", "no-such-runtime"), text=f"created a {WEB}\n", says="no-such-runtime: No such file")
+refuses("agent.py", *words("--slit", "no-such-table"), says="two-socket.json: refused E113 ReadFault (error: no-such-table")
+refuses("agent.py", *words("--watch", "a folder"), says="'a folder': a name with a blank")
 refuses("agent.py", *words("--watch", "no-such-folder"), says="no-such-folder: No such file")
 refuses("agent.py", *words("--watch", EXAMPLES, "--online", "no-such-list"), says="no-such-list: No such file")
 check("two ways to write", told("agent.py", *words("--apply", "x", "--runtime", "y"))[0], 2)
+check("no pause", told("agent.py", *words("--pause", "inf"))[0], 2)
 end("agent.py")

@@ -5,7 +5,7 @@ import os
 import shutil
 import subprocess
 
-from trial import TOP, check, end, refuses, told, words_and_help
+from trial import TOP, bad_files, bad_output, check, end, refuses, told, words_and_help
 
 MACHINES = os.path.join(TOP, "tests", "operators", "machines")
 TWO_SOCKET = os.path.join(MACHINES, "two-socket.xml")
@@ -48,7 +48,9 @@ recorded("no-distances", "--reserved", "7", said="it tells no distances", nodes=
          distances=[[10 if a == b else 255 for b in range(4)] for a in range(4)], offline="")
 
 words_and_help("describe-hwloc.py", "lstopo --of xml | describe-hwloc.py")
-refuses("describe-hwloc.py", "no-such-file", says="no-such-file: No such file")
+bad_files("describe-hwloc.py", [])
+bad_output("describe-hwloc.py", TWO_SOCKET)
+refuses("describe-hwloc.py", text='<?xml version="1.0" encoding="none"?><a/>', says="-: line 1: an unknown encoding")
 refuses("describe-hwloc.py", text=open(TWO_SOCKET).read()[:700], says="-: line ")
 refuses("describe-hwloc.py", text="<html/>", says="first object is no Machine")
 refuses("describe-hwloc.py", TWO_SOCKET, "--reserved", "32", says="reserved CPUs that are not online: 32")

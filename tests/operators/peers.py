@@ -2,6 +2,7 @@
 
 import importlib
 import os
+import random
 import subprocess
 import sys
 
@@ -33,6 +34,21 @@ def by_hand():
     check("the other way round", compare.place(compare.nearest, [second, first], machine), [{1}, {2}])
 
 
+def lists():
+    """By hand: a socket of two nodes, and what a container has to itself is in no later list."""
+    machine = compare.Machine(os.path.join(TOP, "examples", "machines", "two-nodes-a-socket.json"))
+    for seed in range(40):
+        mixed, claimed = compare.mix(machine, random.Random(seed), 0.9, 2), set()
+        for one in (one for one in mixed if one.named):
+            nodes = [cpus - machine.reserved for cpus in machine.nodes]
+            homes = set().union(*(nodes[home] for home in one.homes))
+            sockets = set().union(*(nodes[home // 2 * 2] | nodes[home // 2 * 2 + 1] for home in one.homes))
+            whole = one.allowed in (homes - claimed, sockets - claimed)
+            check(f"list of mix {seed}", whole or (len(one.allowed) == one.count and one.allowed <= sockets - claimed), True)
+            claimed |= set() if whole else one.allowed
+        check(f"mix {seed}", sum(one.count for one in mixed), int(0.9 * len(machine.present - machine.reserved)))
+
+
 def ran(*words):
     done = subprocess.run([sys.executable, "-B", SCRIPT, *words], capture_output=True, timeout=100)
     return done.returncode, done.stdout.decode(), done.stderr.decode()
@@ -42,12 +58,17 @@ def small():
     status, out, err = ran(PROGRAM, "2")
     rows = [line.split() for line in out.splitlines()[2:]]
     check("a small run", (status, len(rows), err), (0, 36, ""))
-    check("nobody beats numarun", [row for row in rows if any(cell not in ("-",) and float(cell) < 1 for cell in row[-9:-7])], [])
+    check("nobody beats numarun", [row for row in rows if any(cell not in ("-",) and float(cell) < 1 for cell in row[-11:-9])], [])
 
 
 by_hand()
+lists()
 small()
-check("no such program", ran("no-such-program"), (1, "", "compare.py: no-such-program: no program\n"))
-check("not numarun", ran("/bin/true", "1")[::2], (1, "compare.py: /bin/true: no answer to 'create c0 c0'\n"))
-check("no words", ran()[0], 2)
+here = os.getcwd()
+check("no such program", ran("no-such-program"), (1, "", f"compare.py: {here}/no-such-program: No such file or directory\n"))
+check("not numarun", ran("/bin/true", "1"), (1, "", "compare.py: /bin/true: ended at 'phase' with no answer, status 0\n"))
+for words in ((), ("x", "0"), ("x", "y"), ("x", "1", "2")):
+    check(f"the words {words}", ran(*words)[:2], (2, ""))
+helped = subprocess.run(["bash", os.path.join(FOLDER, "run.sh"), "--help"], capture_output=True, timeout=100)
+check("the help", (helped.returncode, b"example: benches/peers/run.sh 300" in helped.stdout), (0, True))
 end("benches/peers")

@@ -5,7 +5,7 @@ import os
 import re
 import xml.etree.ElementTree as xml
 
-from trial import TOP, check, end, refuses, told, words_and_help
+from trial import TOP, bad_files, bad_output, check, end, refuses, told, words_and_help
 
 MACHINE = os.path.join(TOP, "examples", "machines", "two-socket.json")
 ANSWERS = os.path.join(TOP, "examples", "scripts", "before-and-after.answers")
@@ -18,7 +18,7 @@ def stands(name, path, *words):
 
 def answers_of(cpus, containers, last):
     """A plan of equal containers with names that are long, and its certificate."""
-    each = (cpus - 2) // containers
+    each = (cpus - 3) // containers
     holds = {f"{'container-' * 5}{k}": range(1 + each * k, 1 + each * k + each) for k in range(containers)}
     lists = {name: f"{of[0]}-{of[-1]}" for name, of in holds.items()}
     lines = ["plan total 1"] + [f"hold {name} {text}" for name, text in lists.items()] + [f"pool 0,{1 + each * containers}-{last}", "end"]
@@ -31,15 +31,16 @@ def large(cpus, nodes, containers):
     machine = {"nodes": [f"{each * k}-{each * k + each - 1}" for k in range(nodes)], "reserved": "0"}
     path = os.path.join(os.environ["SCRATCH"], f"machine-{cpus}.json")
     json.dump(machine, open(path, "w"))
-    text = answers_of(cpus, containers, cpus - 1)
+    text = answers_of(cpus, containers, cpus - 2)
     status, drawn, _ = told("draw-plan.py", path, "--text", text=text)
     check(f"{cpus} CPUs as text", (status, max(map(len, drawn.splitlines())) <= 80), (0, True))
-    check(f"{cpus} CPUs as text: legend", drawn.count(f"distance {21 * ((cpus - 2) // containers)}:"), containers)
+    check(f"{cpus} CPUs as text: legend", drawn.count(f"distance {21 * ((cpus - 3) // containers)}:"), containers)
     rows = [row[8:] for row in drawn.splitlines() if re.match(r"[ 0-9]{5}[0-9]  \S", row)]
-    signs = sum(len(sign) for row in rows for sign in re.findall(r"[a-zA-Z]+", row))
-    check(f"{cpus} CPUs as text: held", signs, (1 if containers <= 52 else 2) * ((cpus - 2) // containers) * containers)
+    signs = "".join(sign for row in rows for sign in re.findall(r"[a-zA-Z]+", row))
+    check(f"{cpus} CPUs as text: offline", signs.count("x"), 1)
+    check(f"{cpus} CPUs as text: held", len(signs) - 1, (1 if containers <= 50 else 2) * ((cpus - 3) // containers) * containers)
     status, drawn, _ = told("draw-plan.py", path, text=text)
-    check(f"{cpus} CPUs", (status, drawn.count("<title>CPU ")), (0, cpus))
+    check(f"{cpus} CPUs", (status, drawn.count("<title>CPU "), drawn.count(": offline</title>")), (0, cpus, 1))
     apart(f"{cpus} CPUs", xml.fromstring(drawn))
 
 
@@ -70,8 +71,9 @@ for size in [(8, 2, 3), (32, 2, 6), (256, 8, 24), (1024, 64, 200), (4096, 128, 1
     large(*size)
 
 words_and_help("draw-plan.py", "draw-plan.py examples/machines/two-socket.json < answers")
-refuses("draw-plan.py", "no-such-machine", says="no-such-machine: No such file")
-refuses("draw-plan.py", MACHINE, "no-such-answers", says="no-such-answers: No such file")
+bad_files("draw-plan.py", [], [ANSWERS])
+bad_files("draw-plan.py", [MACHINE])
+bad_output("draw-plan.py", MACHINE, ANSWERS)
 refuses("draw-plan.py", ANSWERS, says="before-and-after.answers: line 1: not JSON")
 refuses("draw-plan.py", MACHINE, text="", says="standard input: line 1: the answers end with 0 plans")
 refuses("draw-plan.py", MACHINE, "--before", text=PLAN, says="standard input: line 5: the answers end with 1 plan,")

@@ -9,12 +9,14 @@ EXAMPLES = os.path.join(TOP, "examples")
 failed = []
 
 
+def command(script, *words):
+    interpreter = ["bash"] if script.endswith(".sh") else [sys.executable, "-B"]
+    return interpreter + [os.path.join(EXAMPLES, script), *words]
+
+
 def told(script, *words, text="", folder=TOP, **more):
     """Status, standard output and standard error of a script of examples/."""
-    command = [sys.executable, "-B", os.path.join(EXAMPLES, script)]
-    if script.endswith(".sh"):
-        command = ["bash", os.path.join(EXAMPLES, script)]
-    ran = subprocess.run(command + list(words), input=text.encode(), capture_output=True, cwd=folder, timeout=100, **more)
+    ran = subprocess.run(command(script, *words), input=text.encode(), capture_output=True, cwd=folder, timeout=100, **more)
     return ran.returncode, ran.stdout.decode(), ran.stderr.decode()
 
 
@@ -29,6 +31,34 @@ def refuses(script, *words, says, status=1, **more):
     found, out, err = told(script, *words, **more)
     right = found == status and not out and err.count("\n") == 1 and err.startswith(f"{script}: ") and says in err
     check(f"{script} {' '.join(words)}", "refused" if right else (found, out, err), "refused")
+
+
+def bad_files(script, before, after=(), empty="line 1"):
+    """In place of a file between these words: none, a folder, one that is not UTF-8, an empty one, a number of 5,000 digits."""
+    for name, bytes, says in [("utf", b"\xff\xff", ""), ("empty", b"", empty), ("huge", b'{"nodes": ' + b"9" * 5000 + b"}", "")]:
+        path = os.path.join(os.environ["SCRATCH"], f"bad-{name}")
+        with open(path, "wb") as file:
+            file.write(bytes)
+        refuses(script, *before, path, *after, says=f"{path}: {says}")
+    refuses(script, *before, EXAMPLES, *after, says=f"{EXAMPLES}: Is a directory")
+    refuses(script, *before, "no-such-file", *after, says="no-such-file: No such file or directory")
+
+
+def bad_output(script, *words, text=""):
+    """Where what it prints can't be written, or nobody reads it, or its output is closed: status 1, and one line at most."""
+    with open("/dev/full", "wb") as full:
+        ran = subprocess.run(command(script, *words), input=text.encode(), stdout=full, stderr=subprocess.PIPE, cwd=TOP, timeout=100)
+    lines = f"{script}: standard output: No space left on device\n"
+    check(f"{script}: a full output", (ran.returncode, ran.stderr.decode()), (1, lines))
+    reader, writer = os.pipe()
+    os.close(reader)
+    ran = subprocess.run(command(script, *words), input=text.encode(), stdout=writer, stderr=subprocess.PIPE, cwd=TOP, timeout=100)
+    os.close(writer)
+    check(f"{script}: nobody reads", (ran.returncode, ran.stderr), (1, b""))
+    closed = ["bash", "-c", 'exec "$@" >&-', "-", *command(script, *words)]
+    ran = subprocess.run(closed, input=text.encode(), stderr=subprocess.PIPE, cwd=TOP, timeout=100)
+    lines = f"{script}: standard input or standard output is closed\n"
+    check(f"{script}: a closed output", (ran.returncode, ran.stderr.decode()), (1, lines))
 
 
 def words_and_help(script, example):

@@ -1,16 +1,22 @@
 -- Which write is due, case by case.
-use Rattle.std.proofs.Common.{◌≡◌, ℕ, ◌+◌, ◌<◌, Bool, true, false, List, ◌∷◌, drop, get_or, length, refl, sym, ap, ◌∙◌}
+use Rattle.std.proofs.Common.{◌≡◌, ℕ, ◌+◌, ◌<◌, Bool, true, false, not, ◌&&◌, List, ◌∷◌, drop, get_or, length, refl, sym, ap, ◌∙◌, inl, inr}
+use Rattle.std.proofs.lemmas.Bool.{false≢true}
 use Rattle.std.proofs.lemmas.List.{drop_more}
 use Rattle.std.proofs.lemmas.Option.{none-some}
-use Rattle.std.specs.Prelude.{cond, find, Option, Some, None, IfSome}
-use Rattle.cpu_set.specs.Ids.{Ids}
+use Rattle.std.specs.Option.{option_or}
+use Rattle.std.specs.Prelude.{◌⊎◌, cond, find, Option, Some, None, IfSome, is_some, is_none}
+use Rattle.cpu_set.specs.Ids.{Ids, is_empty, is_same}
+use Rattle.cpu_set.specs.Pointwise.{is_same_decides}
+use Rattle.proctable.specs.Processes.{is_alive}
 use Rattle.kernel_model.specs.KernelState.{KernelState}
 use Rattle.apply_plan.specs.declared.entry.Entry.{Entry}
 use Rattle.apply_plan.specs.declared.scan.Write.{Write}
-use Rattle.apply_plan.specs.Targets.{IsPlaced, ArePlaced}
-use Rattle.apply_plan.specs.DueWrite.{must_release, must_move, release_of, move_of, first_write, due_write}
-use Rattle.apply_plan.specs.Walks.{its_release}
-use Rattle.apply_plan.proofs.ListLemmas.{find_among}
+use Rattle.apply_plan.specs.Targets.{HaveSomeTarget, IsPlaced, ArePlaced}
+use Rattle.apply_plan.specs.Kept.{kept}
+use Rattle.apply_plan.specs.KeptLemmas.{kept_target}
+use Rattle.apply_plan.specs.DueWrite.{held, kept_of, must_release, must_move, release_of, move_of, first_write, due_write}
+use Rattle.apply_plan.specs.Walks.{its_way, release_from, its_release}
+use Rattle.apply_plan.proofs.ListLemmas.{all_map2, find_among, find_none, none_found}
 
 -- an entry lets go, or none must and one takes its target, or nothing is due
 pub data Due (k : KernelState) (reserved : Ids) (entries : List Entry) : Option Write → Type 0 where
@@ -32,6 +38,82 @@ due_is_placed k reserved entries placed = by (due_write k reserved entries) (due
   by d (Releases e found) = find_among (must_release k reserved) (λ a. IsPlaced k a.group) entries e placed found
   by d (Moves e none found) = find_among (must_move k) (λ a. IsPlaced k a.group) entries e placed found
   by d (Rests r m) = tt
+
+-- a container that holds its target has nothing to let go
+pub keeps_its_target : (k : KernelState) (reserved : Ids) (e : Entry) → is_empty e.target ≡ false → must_move k e ≡ false → must_release k reserved e ≡ false
+keeps_its_target k reserved e some stays = by (is_alive k.table e.pid) (is_same (held k e) e.target) refl refl where
+  is_kept : held k e ≡ e.target → is_same (kept_of k reserved e) (held k e) ≡ true
+  is_kept at = (is_same_decides _ _).1 (ap (kept reserved e.target) at ∙ kept_target reserved e.target some ∙ sym at)
+
+  by : (a s : Bool) → is_alive k.table e.pid ≡ a → is_same (held k e) e.target ≡ s → must_release k reserved e ≡ false
+  by false s dead is = ap (λ a. a && not (is_same (kept_of k reserved e) (held k e))) dead
+  by true true lives is =
+      ap (λ s. is_alive k.table e.pid && not s) (is_kept ((is_same_decides _ _).0 is)) ∙ ap (λ a. a && false) lives
+  by true false lives is = absurd (false≢true (sym stays ∙ (λ i. lives i && not (is i))))
+
+-- what an entry holds that does not hold its target
+pub way_none : (k : KernelState) (e : Entry) → its_way k e ≡ None → must_move k e ≡ false
+way_none k e none = by (must_move k e) refl where
+  by : (b : Bool) → must_move k e ≡ b → must_move k e ≡ false
+  by false is = is
+  by true is = absurd (none-some (held k e) (sym none ∙ ap (λ b. cond b (Some (held k e)) None) is))
+
+pub way_some : (k : KernelState) (e : Entry) (cpus : Ids) → its_way k e ≡ Some cpus → (must_move k e ≡ true) × (held k e ≡ cpus)
+way_some k e cpus some = by (must_move k e) refl where
+  by : (b : Bool) → must_move k e ≡ b → (must_move k e ≡ true) × (held k e ≡ cpus)
+  by false is = absurd (none-some cpus (sym (ap (λ b. cond b (Some (held k e)) None) is) ∙ some))
+  by true is = (is, cc (sym (ap (λ b. cond b (Some (held k e)) None) is) ∙ some))
+
+-- a live container lets go of what it holds
+pub release_from_is : (k : KernelState) (reserved : Ids) (e : Entry) → must_move k e ≡ true → release_from reserved e (held k e) ≡ its_release k reserved e
+release_from_is k reserved e must = by (is_alive k.table e.pid) refl where
+  by : (a : Bool) → is_alive k.table e.pid ≡ a → release_from reserved e (held k e) ≡ its_release k reserved e
+  by true lives = ap (λ a. cond (a && not (is_same (kept_of k reserved e) (held k e))) (Some (release_of k reserved e)) None) (sym lives)
+  by false dead = absurd (false≢true (sym (ap (λ a. a && not (is_same (held k e) e.target)) dead) ∙ must))
+
+pub release_none : (k : KernelState) (reserved : Ids) (e : Entry) → its_release k reserved e ≡ None → must_release k reserved e ≡ false
+release_none k reserved e none = by (must_release k reserved e) refl where
+  by : (b : Bool) → must_release k reserved e ≡ b → must_release k reserved e ≡ false
+  by false is = is
+  by true is = absurd (none-some (release_of k reserved e) (sym none ∙ ap (λ b. cond b (Some (release_of k reserved e)) None) is))
+
+-- an entry that does not pass is passed over, and one that does is found
+pub passed_over : (test : Entry → Bool) (entries : List Entry) (i : ℕ) (e : Entry) → i < length entries → e ≡ get_or entries i e → test e ≡ false
+    → find test (drop i entries) ≡ find test (drop (i + 1) entries)
+passed_over test entries i e within at fails =
+    ap (find test) (drop_more entries i e within ∙ ap (λ x. x ∷ drop (i + 1) entries) (sym at))
+    ∙ ap (λ b. cond b (Some e) (find test (drop (i + 1) entries))) fails
+
+pub found_here : (test : Entry → Bool) (entries : List Entry) (i : ℕ) (e : Entry) → i < length entries → e ≡ get_or entries i e → test e ≡ true
+    → find test (drop i entries) ≡ Some e
+found_here test entries i e within at passes =
+    ap (find test) (drop_more entries i e within ∙ ap (λ x. x ∷ drop (i + 1) entries) (sym at))
+    ∙ ap (λ b. cond b (Some e) (find test (drop (i + 1) entries))) passes
+
+-- the first move that was found stays the first
+pub first_stays : (first new : Option Write) (w : Write) (later all : Option Write) → option_or first (Some w) ≡ all
+    → ((is_some first ≡ false) × (new ≡ Some w)) ⊎ ((is_some first ≡ true) × (new ≡ first)) → option_or new later ≡ all
+first_stays None new w later all is (inl (none, e)) = ap (λ m. option_or m later) e ∙ is
+first_stays None new w later all is (inr (some, e)) = absurd (false≢true some)
+first_stays (Some v) new w later all is (inl (none, e)) = absurd (false≢true (sym none))
+first_stays (Some v) new w later all is (inr (some, e)) = ap (λ m. option_or m later) e ∙ is
+
+-- where each live container holds its target nothing is due
+pub nothing_is_due : (k : KernelState) (reserved : Ids) (entries : List Entry) → HaveSomeTarget entries → is_none (find (must_move k) entries) ≡ true
+    → due_write k reserved entries ≡ None
+nothing_is_due k reserved entries some arrived = (λ i. first_write k reserved (no_release i) (no_move i)) where
+  none_of : (m : Option Entry) → is_none m ≡ true → m ≡ None
+  none_of None e = refl
+  none_of (Some e) is = absurd (false≢true is)
+
+  no_move : find (must_move k) entries ≡ None
+  no_move = none_of _ arrived
+
+  no_release : find (must_release k reserved) entries ≡ None
+  no_release =
+      none_found (must_release k reserved) entries
+      (all_map2 (λ e. is_empty e.target ≡ false) (λ e. must_move k e ≡ false) (λ e. must_release k reserved e ≡ false)
+      (λ e. keeps_its_target k reserved e) entries some (find_none (must_move k) entries no_move))
 
 -- where none of the entries before this one must let go and this one must, its write is due
 pub release_is_due : (k : KernelState) (reserved : Ids) (entries : List Entry) (i : ℕ) (e : Entry) (w : Write) → i < length entries → e ≡ get_or entries i e

@@ -2,6 +2,7 @@ pub mod ListLemmas
 pub mod KernelFacts
 pub mod WriteLemmas
 pub mod StepLemmas
+pub mod ConditionLemmas
 pub mod DueLemmas
 pub mod HandoverLemmas
 pub mod EventLemmas

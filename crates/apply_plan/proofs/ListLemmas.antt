@@ -1,5 +1,5 @@
 -- What a look through a list finds, and facts on each element and on each two.
-use Rattle.std.proofs.Common.{◌≡◌, ℕ, ◌+◌, ◌*◌, ◌≤◌, Bool, true, false, List, [], ◌∷◌, length, refl, sym, ap, ◌∙◌, subst, arith}
+use Rattle.std.proofs.Common.{◌≡◌, ℕ, zero, suc, ◌+◌, ◌*◌, ◌<◌, ◌≤◌, get_or, Bool, true, false, List, [], ◌∷◌, length, refl, sym, ap, ◌∙◌, subst, arith}
 use Rattle.std.proofs.lemmas.Bool.{false≢true}
 use Rattle.std.proofs.lemmas.Option.{none-some}
 use Rattle.std.proofs.lemmas.List.Sums.{sum_by-cons}
@@ -20,6 +20,11 @@ module _ {X : Type 0} where
   pub all_of : (P : X → Type 0) → ((x : X) → P x) → (xs : List X) → AllByRecursion P xs
   all_of P f [] = tt
   all_of P f (x ∷ xs) = (f x, all_of P f xs)
+
+  pub all_at : (P : X → Type 0) (xs : List X) (i : ℕ) (x : X) → AllByRecursion P xs → i < length xs → x ≡ get_or xs i x → P x
+  all_at P [] i x h within is = absurd (omega arith)
+  all_at P (y ∷ ys) zero x h within is = subst P (sym is) h.0
+  all_at P (y ∷ ys) (suc i) x h within is = all_at P ys i x h.1 (omega arith) is
 
   -- of each two that R holds of, and that P holds of one by one, S holds
   pub pairs_map : (P : X → Type 0) (R S : X → X → Type 0) → ((x y : X) → P x → P y → R x y → S x y) → (xs : List X) → AllByRecursion P xs → Pairwise R xs
@@ -67,6 +72,10 @@ module _ {X : Type 0} where
     find_none [] e = tt
     find_none (x ∷ xs) e =
         split x (λ t. absurd (none-some x (sym e ∙ ap (λ b. cond b (Some x) (find test xs)) t))) (λ t. (t, find_none xs (sym (later x xs t) ∙ e)))
+
+    pub none_found : (xs : List X) → AllByRecursion (λ x. test x ≡ false) xs → find test xs ≡ None
+    none_found [] h = refl
+    none_found (x ∷ xs) h = later x xs h.0 ∙ none_found xs h.1
 
     module _ (same : X → X → Bool) (swap : (a b : X) → same a b ≡ same b a) where
       -- what is found is the only one that is the same as it

@@ -1,4 +1,5 @@
 pub mod Holders
+pub mod Free
 pub mod Kept
 pub mod KeptLemmas
 pub mod Targets

@@ -48,12 +48,16 @@ AreTargetsApart reserved a b =
     (a.pinned || b.pinned) ≡ true
     → (cpu : ℕ) → set.contains a.target cpu ≡ true → set.contains b.target cpu ≡ true → set.contains reserved cpu ≡ true
 
+-- none is to have nothing
+abbrev pub HaveSomeTarget : List Entry → Type 0
+HaveSomeTarget entries = AllByRecursion (λ e. is_empty e.target ≡ false) entries
+
 -- each group is there once; outside the reserved CPUs the target of a pinned container meets no other; no target is
 -- empty, nor are the reserved CPUs
 pub record IsHandover (h : Targets) : Type 0 where
   pub groups : Pairwise HaveOtherGroups h.entries
   pub apart : Pairwise (AreTargetsApart h.reserved) h.entries
-  pub some : AllByRecursion (λ e. is_empty e.target ≡ false) h.entries
+  pub some : HaveSomeTarget h.entries
   pub reserve : is_empty h.reserved ≡ false
 
 -- the group is in the tree, and is not the root

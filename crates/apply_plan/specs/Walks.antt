@@ -1,14 +1,24 @@
 -- The writes of a hand-over as the program makes them, entry by entry. No public clause cites this module.
-use Rattle.std.specs.Prelude.{◌≡◌, ℕ, zero, suc, Bool, true, false, cond, List, take, length, Option, Some, None, is_some, Result, Ok, Err}
+use Rattle.std.specs.Prelude.{◌≡◌, ℕ, zero, suc, Bool, true, false, not, cond, List, take, length, Option, Some, None, is_some, Result, Ok, Err}
 use Rattle.std.specs.List.{AllByRecursion}
-use Rattle.cpu_set.specs.Ids.{Ids}
+use Rattle.cpu_set.specs.Ids.{Ids, is_same}
 use Rattle.kernel_model.specs.declared.fault.KernelFault.{KernelFault}
 use Rattle.kernel_model.specs.declared.fault.KernelFault.TheVariants.{Failed}
 use Rattle.kernel_model.specs.KernelState.{KernelState, failed}
 use Rattle.apply_plan.specs.declared.entry.Entry.{Entry}
 use Rattle.apply_plan.specs.declared.scan.Write.{Write}
 use Rattle.apply_plan.specs.Targets.{Targets, ArePlaced}
-use Rattle.apply_plan.specs.DueWrite.{must_release, must_move, release_of, move_of, due, written}
+use Rattle.apply_plan.specs.Kept.{kept}
+use Rattle.apply_plan.specs.DueWrite.{held, must_release, must_move, release_of, move_of, due, written}
+
+-- what an entry holds that does not hold its target
+abbrev pub its_way : KernelState → Entry → Option Ids
+its_way k e = cond (must_move k e) (Some (held k e)) None
+
+-- the write by which an entry that holds these CPUs lets go, if it must
+abbrev pub release_from : Ids → Entry → Ids → Option Write
+release_from reserved e cpus =
+    cond (not (is_same (kept reserved e.target cpus) cpus)) (Some (record { group = e.group; cpus = kept reserved e.target cpus })) None
 
 -- the write by which an entry lets go, if it must
 abbrev pub its_release : KernelState → Ids → Entry → Option Write

@@ -8,7 +8,7 @@ ghost use Rattle.apply_plan.specs.DueWrite.{Steps, HaveTargets, writes_to_come, 
 ghost use Rattle.apply_plan.specs.Finishes.{Finishes};
 
 use crate::Entry;
-use crate::scan::{due, make_due};
+use crate::scan::{all_arrived, make_due};
 use cpu_set::IdSet;
 use kernel_model::{Kernel, KernelFault};
 use std::marker::Model;
@@ -69,9 +69,10 @@ impl Handover {
     {
         let entries = self.entries();
         make_due(kernel, &self.reserved, entries)?;
-        Ok(match due(&*kernel, &self.reserved, entries) {
-            Some(_) => Progress::More,
-            None => Progress::Done,
+        Ok(if all_arrived(&*kernel, entries) {
+            Progress::Done
+        } else {
+            Progress::More
         })
     }
 

@@ -1,14 +1,14 @@
 //! The entries looked through for the write that is due.
-ghost use Rattle.std.specs.Prelude.{◌≡◌, true, IfSome};
-ghost use Rattle.cpuset_tree.specs.Groups.{requested_cpus, has_group};
+ghost use Rattle.std.specs.Prelude.{◌≡◌, true, IfSome, is_none, find};
+ghost use Rattle.cpuset_tree.specs.Groups.{has_group};
 ghost use Rattle.apply_plan.specs.Kept.{kept};
-ghost use Rattle.apply_plan.specs.Targets.{IsPlaced, ArePlaced};
-ghost use Rattle.apply_plan.specs.DueWrite.{due_write};
-ghost use Rattle.apply_plan.specs.Walks.{its_release, its_move, IsMadeIfAny};
+ghost use Rattle.apply_plan.specs.Targets.{HaveSomeTarget, IsPlaced, ArePlaced};
+ghost use Rattle.apply_plan.specs.DueWrite.{must_move, due_write};
+ghost use Rattle.apply_plan.specs.Walks.{its_way, release_from, its_release, its_move, IsMadeIfAny};
 
 use crate::Entry;
 use cpu_set::IdSet;
-use kernel_model::{Group, Kernel, KernelFault};
+use kernel_model::{Group, Kernel, KernelFault, requested};
 
 /// A write of the CPUs that a group requests.
 #[derive(Clone, Copy, Debug, PartialEq, Eq)]
@@ -26,28 +26,27 @@ fn kept_of(reserved: &IdSet, target: &IdSet, cpus: &IdSet) -> IdSet
     if within.is_empty() { *reserved } else { within }
 }
 
-/// What a group of the tree requests.
-fn requested<K: Kernel>(kernel: &K, group: Group) -> IdSet
-    requires { has_group (K.state kernel.now).tree group ≡ true }
-    ensures { result ≡ requested_cpus (K.state kernel.now).tree group }
-{
-    match kernel.requested_cpus(group) {
-        Ok(cpus) => cpus,
-        Err(_) => unreachable!(),
-    }
-}
-
-/// The write by which a live container lets go of what it is not to have, where it holds any of that.
-pub fn release_of<K: Kernel>(kernel: &K, reserved: &IdSet, entry: &Entry) -> Option<Write>
+/// What a live container requests that does not hold its target.
+fn held_on_the_way<K: Kernel>(kernel: &K, entry: &Entry) -> Option<IdSet>
     requires { has_group (K.state kernel.now).tree entry.now.group ≡ true }
-    ensures { result ≡ its_release (K.state kernel.now) reserved.now entry.now }
+    ensures { result ≡ its_way (K.state kernel.now) entry.now }
 {
     if !kernel.first_alive(entry.pid) {
         return None;
     }
     let held = requested(kernel, entry.group);
-    let kept = kept_of(reserved, &entry.target, &held);
-    if kept == held {
+    if held == entry.target {
+        return None;
+    }
+    Some(held)
+}
+
+/// The write by which a container that requests these CPUs lets go of what it is not to have, where that is any.
+fn release_from(reserved: &IdSet, entry: &Entry, held: &IdSet) -> Option<Write>
+    ensures { result ≡ release_from reserved.now entry.now held.now }
+{
+    let kept = kept_of(reserved, &entry.target, held);
+    if kept == *held {
         return None;
     }
     Some(Write {
@@ -56,14 +55,24 @@ pub fn release_of<K: Kernel>(kernel: &K, reserved: &IdSet, entry: &Entry) -> Opt
     })
 }
 
+/// The write by which a live container lets go of what it is not to have, where it holds any of that.
+pub fn release_of<K: Kernel>(kernel: &K, reserved: &IdSet, entry: &Entry) -> Option<Write>
+    requires { has_group (K.state kernel.now).tree entry.now.group ≡ true }
+    ensures { result ≡ its_release (K.state kernel.now) reserved.now entry.now }
+{
+    if kernel.first_alive(entry.pid) {
+        release_from(reserved, entry, &requested(kernel, entry.group))
+    } else {
+        None
+    }
+}
+
 /// The write by which a live container takes its target, where it does not hold that.
 pub fn move_of<K: Kernel>(kernel: &K, entry: &Entry) -> Option<Write>
     requires { has_group (K.state kernel.now).tree entry.now.group ≡ true }
     ensures { result ≡ its_move (K.state kernel.now) entry.now }
 {
-    if !kernel.first_alive(entry.pid) || requested(kernel, entry.group) == entry.target {
-        return None;
-    }
+    held_on_the_way(kernel, entry)?;
     Some(Write {
         group: entry.group,
         cpus: entry.target,
@@ -71,19 +80,41 @@ pub fn move_of<K: Kernel>(kernel: &K, entry: &Entry) -> Option<Write>
 }
 
 /// The write that is due: of the first live container that holds what it is to let go, else of the first that does not
-/// hold its target.
+/// hold its target. A container that holds its target has nothing to let go, so it is passed over by one comparison.
 pub fn due<K: Kernel>(kernel: &K, reserved: &IdSet, entries: &[Entry]) -> Option<Write>
-    requires { ArePlaced (K.state kernel.now) entries.now }
+    requires placed { ArePlaced (K.state kernel.now) entries.now }
+    requires some { HaveSomeTarget entries.now }
     ensures { result ≡ due_write (K.state kernel.now) reserved.now entries.now }
 {
     let mut first_move = None;
     for entry in entries {
-        if let Some(write) = release_of(kernel, reserved, entry) {
+        let Some(held) = held_on_the_way(kernel, entry) else {
+            continue;
+        };
+        if let Some(write) = release_from(reserved, entry, &held) {
             return Some(write);
         }
-        first_move = first_move.or(move_of(kernel, entry));
+        if first_move.is_none() {
+            first_move = Some(Write {
+                group: entry.group,
+                cpus: entry.target,
+            });
+        }
     }
     first_move
+}
+
+/// Whether each live container holds its target. It ends at the first that does not.
+pub fn all_arrived<K: Kernel>(kernel: &K, entries: &[Entry]) -> bool
+    requires { ArePlaced (K.state kernel.now) entries.now }
+    ensures { result ≡ is_none (find (must_move (K.state kernel.now)) entries.now) }
+{
+    for entry in entries {
+        if held_on_the_way(kernel, entry).is_some() {
+            return false;
+        }
+    }
+    true
 }
 
 /// Makes a write, where there is one.
@@ -103,7 +134,8 @@ pub fn make_due<K: Kernel>(
     reserved: &IdSet,
     entries: &[Entry],
 ) -> Result<(), KernelFault>
-    requires { ArePlaced (K.state kernel.old) entries.now }
+    requires placed { ArePlaced (K.state kernel.old) entries.now }
+    requires some { HaveSomeTarget entries.now }
     ensures made { IsMadeIfAny (due_write (K.state kernel.old) reserved.now entries.now) (K.state kernel.old) result (K.state kernel.new) }
     ensures placed { ArePlaced (K.state kernel.new) entries.now }
 {

@@ -63,6 +63,3 @@ fn checked_cost(rows: &[Row], sets: &[IdSet], prices: &Prices) -> Result<u64, Ch
     }
     Ok(total)
 }
-
-#[cfg(test)]
-mod tests;

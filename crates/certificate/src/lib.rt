@@ -30,6 +30,7 @@ pub use laws::{
     a_shortage_leaves_no_plan, no_plan_is_below_a_bound, the_limits, what_is_proved_has_no_fault,
     what_is_within_the_limits,
 };
+pub use limit_checks::rows_fit;
 pub use limits::{MAX_AMOUNT, MAX_DEMAND, MAX_ROWS, MAX_WEIGHT};
 pub use offers::Offers;
 pub use plans::Plan;

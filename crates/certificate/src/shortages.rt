@@ -85,6 +85,3 @@ pub fn offered_to(rows: &[Row], members: &[usize]) -> IdSet
     }
     offered
 }
-
-#[cfg(test)]
-mod tests;

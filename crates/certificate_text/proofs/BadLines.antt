@@ -10,9 +10,8 @@ use Rattle.std.proofs.lemmas.Bool.Decides.{nat_tests}
 use Rattle.certificate_text.specs.Line.{LineView, Spells}
 use Rattle.certificate_text.specs.CertificateText.{AreLines, IsText}
 use Rattle.certificate_text.specs.FirstBadLine.{CanBegin, IsFirstBadLine}
-use Rattle.certificate_text.specs.RowStart.{IsRowStart}
 use Rattle.certificate_text.specs.LineTaken.{AsksForRoom}
-use Rattle.certificate_text.specs.TextError.{IsKeptLine, AsksForMemory, IsTextError, IsRead}
+use Rattle.certificate_text.specs.TextError.{AsksForMemory, IsTextError, IsRead}
 use Rattle.certificate_text.specs.declared.reading.BadText.{BadText}
 use Rattle.faults.specs.declared.or_memory.OrMemory.{OrMemory}
 use Rattle.faults.specs.declared.or_memory.OrMemory.TheVariants.{Memory, Fault}
@@ -248,21 +247,19 @@ some_of None h = absurd (false≢true h)
 
 -- memory ran out at a line
 pub read_asks : (text rest line after : List ℕ) (d : DraftView) (n : ℕ) → IsReadTo text rest d n → parts 10 rest ≡ line ∷ parts 10 after → AsksForRoom d line → AsksForMemory text
-read_asks text rest line after d n r cut a = record {
-  before = r.before;
-  line = line;
-  after = parts 10 after;
-  lines_are = r.whole ∙ ap (λ ls. r.before ++ ls) cut;
-  ended = never_empty (λ x. x == 10) after;
-  begun = begun_can r.before d r.begun;
-  asks = at a;
-}
-  where
-    at : AsksForRoom d line → IsRowStart line ⊎ IsKeptLine r.before line
-    at (inl row) = inl row
-    at (inr l) =
-        let e = some_of (next d l.0) l.3 in
-        inr (record { said = l.0; spelled = l.1; kept = l.2; begun = begun_can (r.before ++ line ∷ []) e.0 (begun_more r.before line d e.0 l.0 r.begun l.1 e.1) })
+read_asks text rest line after d n r cut a =
+    let e = some_of (next d a.0) a.3 in
+    record {
+      before = r.before;
+      line = line;
+      after = parts 10 after;
+      said = a.0;
+      lines_are = r.whole ∙ ap (λ ls. r.before ++ ls) cut;
+      ended = never_empty (λ x. x == 10) after;
+      spelled = a.1;
+      kept = a.2;
+      begun = begun_can (r.before ++ line ∷ []) e.0 (begun_more r.before line d e.0 a.0 r.begun a.1 e.1);
+    }
 
 -- where the text stands for a certificate, that one was read, unless memory ran out
 pub is_read : (text : List ℕ) (r : Result Certificate (OrMemory BadText)) → IfOk r (λ c. IsText text c) → IfErr r (λ e. IsTextError text e)

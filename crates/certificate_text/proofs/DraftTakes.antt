@@ -7,7 +7,7 @@ use Rattle.certificate.specs.RowView.{RowView}
 use Rattle.certificate_text.specs.declared.stage.Stage.{Stage}
 use Rattle.certificate_text.specs.declared.stage.Stage.TheVariants.{Start, Body, Totalled, Planned, Named, Shown}
 use Rattle.certificate_text.specs.Line.{RowLine, ShortLine}
-use Rattle.certificate_text.specs.DraftView.{DraftView, has_id, has_no_plan, number_in, number_of, takes_members, takes_members_at, with_member, next_in_body, next_at, next}
+use Rattle.certificate_text.specs.DraftView.{DraftView, has_id, has_no_plan, number_in, number_of, takes_members, takes_members_at, takes_row, takes_row_at, with_member, next_in_body, next_at, next}
 
 cond_yes : {A : Type 0} (b : Bool) (x y : A) → b ≡ true → cond b x y ≡ x
 cond_yes true x y h = refl
@@ -41,6 +41,30 @@ row_more d row b n h =
 
 pub is_some_of : {A : Type 0} (o : Option A) (x : A) → o ≡ Some x → IsSome o
 is_some_of o x h = ap is_some h
+
+-- a row can follow exactly where one of its id can
+pub row_some : (d : DraftView) (row : RowView) → takes_row row.id d ≡ true → IsSome (next d (RowLine row))
+row_some d row h = at d.stage refl h where
+  e : DraftView
+  e = record d { rows = d.rows ++ row ∷ [] }
+
+  at : (s : Stage) → d.stage ≡ s → takes_row_at s row.id d ≡ true → IsSome (next_at s d (RowLine row))
+  at Body b t = is_some_of (next_at Body d (RowLine row)) e (cond_yes (has_no_plan d && not (has_id row.id d.rows)) (Some e) None t)
+  at Start b t = absurd (grind arith)
+  at Named b t = absurd (grind arith)
+  at Totalled b t = absurd (grind arith)
+  at Planned b t = absurd (grind arith)
+  at Shown b t = absurd (grind arith)
+
+pub row_none : (d : DraftView) (row : RowView) → takes_row row.id d ≡ false → next d (RowLine row) ≡ None
+row_none d row h = at d.stage refl h where
+  at : (s : Stage) → d.stage ≡ s → takes_row_at s row.id d ≡ false → next_at s d (RowLine row) ≡ None
+  at Body b t = cond_no (has_no_plan d && not (has_id row.id d.rows)) (Some (record d { rows = d.rows ++ row ∷ [] })) None t
+  at Start b t = refl
+  at Named b t = refl
+  at Totalled b t = refl
+  at Planned b t = refl
+  at Shown b t = refl
 
 -- a member is taken where its id is found
 pub member_next : (d : DraftView) (id : List ℕ) → takes_members d ≡ true → next d (ShortLine id) ≡ with_member d (number_of id d)

@@ -5,10 +5,10 @@ use Rattle.std.proofs.KnownBytes.{Appends-trans}
 use Rattle.std.proofs.lemmas.Grind.{flat_map-append}
 use Rattle.std.proofs.lemmas.List.{take_more}
 use Rattle.std.specs.Io.KnownBytes.{Appends}
-use Rattle.cpu_list.specs.Output.{SendsFront}
-use Rattle.cpu_list.specs.Sending.{sends_part}
+use Rattle.byte_output.specs.Output.{SendsFront}
+use Rattle.byte_output.specs.Sending.{sends_part}
 
--- all of the parts before one that was read went out, and a front of that one
+-- all of the parts before one that was read went out, and a prefix of that one
 pub sends_item : {A : Type 0} (f : A → List ℕ) (old mid new : Option (List ℕ)) (xs : List A) (i : ℕ) (x : A) → i < length xs
     → Appends old mid (flat_map f (take i xs)) → x ≡ get_or xs i x → SendsFront mid new (f x) → SendsFront old new (flat_map f xs)
 sends_item f old mid new xs i x below before e front = sends_part f old mid new xs i x below before (subst (λ y. SendsFront mid new (f y)) e front)

@@ -75,6 +75,14 @@ is_id_of id (Some row) = bytes_eq id row.id
 abbrev pub has_no_plan : DraftView → Bool
 has_no_plan d = (length d.sets == 0) && (length d.prices == 0)
 
+-- a row of this id can follow
+abbrev pub takes_row_at : Stage → List ℕ → DraftView → Bool
+takes_row_at Body id d = has_no_plan d && not (has_id id d.rows)
+takes_row_at _ id d = false
+
+abbrev pub takes_row : List ℕ → DraftView → Bool
+takes_row id d = takes_row_at d.stage id d
+
 -- each row has its set and value
 abbrev pub is_held : DraftView → Bool
 is_held d = length d.sets == length d.rows

@@ -9,7 +9,6 @@ pub mod CertificateText
 pub mod FirstBadLine
 pub mod DraftView
 pub mod DraftRead
-pub mod RowStart
 pub mod Takes
 pub mod LineTaken
 pub mod TextError

@@ -1,16 +1,15 @@
 -- What becomes of a draft with a line of the text.
-use Rattle.std.specs.Prelude.{◌≡◌, ◌⊎◌, Some, None, ℕ, List, Result, Ok, Err, IsSome}
+use Rattle.std.specs.Prelude.{◌≡◌, Some, None, ℕ, List, Result, Ok, Err, IsSome}
 use Rattle.certificate_text.specs.Line.{LineView, Spells}
 use Rattle.certificate_text.specs.DraftView.{DraftView, next}
-use Rattle.certificate_text.specs.RowStart.{IsRowStart}
 use Rattle.certificate_text.specs.Takes.{TakesRoom}
 use Rattle.faults.specs.declared.or_memory.OrMemory.{OrMemory}
 use Rattle.faults.specs.declared.or_memory.OrMemory.TheVariants.{Memory, Fault}
 use Rattle.certificate_text.specs.declared.bad_line.BadLine.{BadLine}
 
--- a line that begins as a row's, or one that takes room and can follow
+-- a line that takes room and can follow
 abbrev pub AsksForRoom : DraftView → List ℕ → Type 0
-AsksForRoom d line = IsRowStart line ⊎ ((l : LineView) × Spells line l × TakesRoom l × IsSome (next d l))
+AsksForRoom d line = (l : LineView) × Spells line l × TakesRoom l × IsSome (next d l)
 
 -- the line can follow, and was taken; or it can't; or there was no room for it
 abbrev pub TakesLine : Result (Unit {0}) (OrMemory BadLine) → DraftView → List ℕ → DraftView → Type 0

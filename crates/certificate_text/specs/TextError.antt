@@ -1,5 +1,5 @@
 -- What reading a text answers.
-use Rattle.std.specs.Prelude.{◌≡◌, ◌≢◌, ◌⊎◌, ℕ, List, [], ◌∷◌, ◌++◌, Result, MatchResult}
+use Rattle.std.specs.Prelude.{◌≡◌, ◌≢◌, ℕ, List, [], ◌∷◌, ◌++◌, Result, MatchResult}
 use Rattle.faults.specs.declared.or_memory.OrMemory.{OrMemory}
 use Rattle.faults.specs.declared.or_memory.OrMemory.TheVariants.{Memory, Fault}
 use Rattle.certificate_text.specs.declared.certificates.Certificate.{Certificate}
@@ -7,26 +7,20 @@ use Rattle.certificate_text.specs.declared.reading.BadText.{BadText}
 use Rattle.certificate_text.specs.FirstBadLine.{CanBegin, IsFirstBadLine}
 use Rattle.certificate_text.specs.Line.{LineView, Spells}
 use Rattle.certificate_text.specs.Parts.{parts}
-use Rattle.certificate_text.specs.RowStart.{IsRowStart}
 use Rattle.certificate_text.specs.Takes.{TakesRoom}
 
--- some certificate begins with these lines and this one, of which something is kept
-pub record IsKeptLine (before : List (List ℕ)) (line : List ℕ) : Type 0 where
-  pub said : LineView
-  pub spelled : Spells line said
-  pub kept : TakesRoom said
-  pub begun : CanBegin (before ++ line ∷ [])
-
--- the text has a line for which memory is asked, and the lines before it were in order: it is a row's,
--- at least up to its demand, or it can follow
+-- the text has a line of which something is kept, and some certificate begins with the lines before it and this one: so
+-- memory is asked for only at a line that can follow
 pub record AsksForMemory (text : List ℕ) : Type 0 where
   pub before : List (List ℕ)
   pub line : List ℕ
   pub after : List (List ℕ)
+  pub said : LineView
   pub lines_are : parts 10 text ≡ before ++ line ∷ after
   pub ended : after ≢ []
-  pub begun : CanBegin before
-  pub asks : IsRowStart line ⊎ IsKeptLine before line
+  pub spelled : Spells line said
+  pub kept : TakesRoom said
+  pub begun : CanBegin (before ++ line ∷ [])
 
 -- the error names the first line that can't follow, or memory ran out at a line before
 abbrev pub IsTextError : List ℕ → OrMemory BadText → Type 0

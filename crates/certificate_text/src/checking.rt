@@ -113,6 +113,3 @@ fn check_members(problem: &Problem, members: &Members) -> Result<Verdict, CheckF
     let (asked, allowed) = check_shortage(problem, members.rows.as_slice())?;
     Ok(Verdict::Short(asked, allowed))
 }
-
-#[cfg(test)]
-mod tests;

@@ -45,7 +45,7 @@ impl Model for Draft {
 }
 
 impl Draft {
-    ghost use Rattle.certificate_text.specs.DraftView.{empty_draft, has_no_plan, is_held, is_id_of, number_of, takes_members};
+    ghost use Rattle.certificate_text.specs.DraftView.{empty_draft, has_id, has_no_plan, is_held, is_id_of, number_of, takes_members, takes_row};
     ghost use Rattle.certificate_text.specs.Finished.{finished};
 
     /// A draft of which nothing has been read.
@@ -96,6 +96,22 @@ impl Draft {
         ensures { result ≡ has_no_plan self.now }
     {
         self.sets.is_empty() && self.prices.is_empty()
+    }
+
+    /// Whether a row of this id can follow.
+    pub fn takes_row(&self, id: &[u8]) -> bool
+        ensures { result ≡ takes_row id.now self.now }
+    {
+        match self.stage {
+            Stage::Body => self.has_no_plan() && !self.has_row(id),
+            _ => false,
+        }
+    }
+
+    fn has_row(&self, id: &[u8]) -> bool
+        ensures { result ≡ has_id id.now self.now.rows }
+    {
+        self.rows.iter().any(|row| id == row.id.as_bytes())
     }
 
     /// Rows come before all sets, prices and members, and no two have one id.

@@ -50,6 +50,3 @@ pub fn read_id(alloc: Global, word: &[u8]) -> Result<String, OrMemory<BadLine>>
     };
     Ok(String::from_str(alloc, text)?)
 }
-
-#[cfg(test)]
-mod tests;

@@ -1,8 +1,8 @@
 ghost use Rattle.std.specs.Prelude.{◌≡◌, IfOk, IfErr};
 ghost use Rattle.faults.specs.declared.or_memory.OrMemory.TheVariants.{Memory};
-ghost use Rattle.certificate_text.specs.Line.{LineView, Spells};
+ghost use Rattle.certificate.specs.RowView.{RowView};
+ghost use Rattle.certificate_text.specs.Line.{LineView, RowLine, Spells};
 ghost use Rattle.certificate_text.specs.LineRead.{line_view};
-ghost use Rattle.certificate_text.specs.RowStart.{IsRowStart};
 ghost use Rattle.certificate_text.specs.OnBad.{OnBad};
 
 use crate::bad_line::BadLine;
@@ -29,8 +29,8 @@ pub enum Line<'a> {
 pub fn read_line(alloc: Global, line: &[u8]) -> Result<Line<'_>, OrMemory<BadLine>>
     ensures ok { IfOk result (λ l. Spells line.now (line_view l)) }
     ensures bad { OnBad result ((l : LineView) → Spells line.now l → ⊥) }
-    // The words before the offers are looked at first.
-    ensures memory { IfErr result (λ fault. fault ≡ Memory → IsRowStart line.now) }
+    // A line that is none of these is told as such.
+    ensures memory { IfErr result (λ fault. fault ≡ Memory → (row : RowView) × Spells line.now (RowLine row)) }
 {
     if line == b"numarun-certificate 1".as_slice() {
         return Ok(Line::Header);
@@ -69,4 +69,17 @@ pub fn read_line(alloc: Global, line: &[u8]) -> Result<Line<'_>, OrMemory<BadLin
         };
     }
     Err(OrMemory::Fault(BadLine))
+}
+
+/// The second word of a line, which in a row's line is its id.
+pub fn second_word(line: &[u8]) -> &[u8]
+    ensures { (row : RowView) → Spells line.now (RowLine row) → result.now ≡ row.id }
+{
+    let Some((_, rest)) = cut(line, b' ') else {
+        return line;
+    };
+    match cut(rest, b' ') {
+        Some((word, _)) => word,
+        None => rest,
+    }
 }

@@ -4,13 +4,12 @@ ghost use Rattle.certificate.specs.RowView.{RowView};
 ghost use Rattle.certificate.specs.declared.price_lists.Price.{Price};
 ghost use Rattle.faults.specs.declared.or_memory.OrMemory.TheVariants.{Memory};
 ghost use Rattle.certificate_text.specs.Line.{words, AreRowWords, AreHoldWords, ArePriceWords, AreTotalWords};
-ghost use Rattle.certificate_text.specs.RowStart.{AreRowStart};
 ghost use Rattle.certificate_text.specs.OnBad.{OnBad};
 
 use crate::bad_line::BadLine;
 use crate::cut::cut;
 use crate::decimal::{read_u32, read_u64};
-use crate::id::read_id;
+use crate::id::{is_id, read_id};
 use crate::list_word::read_cpus;
 use crate::offer::read_offers;
 use crate::word_pairs::{three, two};
@@ -19,11 +18,11 @@ use cpu_set::IdSet;
 use faults::OrMemory;
 use std::alloc::Global;
 
-/// ID DEMAND, and offers.
+/// ID DEMAND, and offers. Memory is wanted only for words that spell a row.
 pub fn read_row(alloc: Global, text: &[u8]) -> Result<Row, OrMemory<BadLine>>
     ensures ok { IfOk result (λ row. AreRowWords (words text.now) row) }
     ensures bad { OnBad result ((row : RowView) → AreRowWords (words text.now) row → ⊥) }
-    ensures memory { IfErr result (λ fault. fault ≡ Memory → AreRowStart (words text.now)) }
+    ensures memory { IfErr result (λ fault. fault ≡ Memory → (row : RowView) × AreRowWords (words text.now) row) }
 {
     let Some((id, rest)) = cut(text, b' ') else {
         return Err(OrMemory::Fault(BadLine));
@@ -31,8 +30,11 @@ pub fn read_row(alloc: Global, text: &[u8]) -> Result<Row, OrMemory<BadLine>>
     match cut(rest, b' ') {
         Some((demand, offers)) => {
             let demand = read_u32(demand).ok_or(BadLine)?;
-            let id = read_id(alloc, id)?;
+            if !is_id(id) {
+                return Err(OrMemory::Fault(BadLine));
+            }
             let offers = read_offers(alloc, offers)?;
+            let id = read_id(alloc, id)?;
             Ok(Row { id, demand, offers })
         }
         None => {

@@ -1,4 +1,6 @@
-ghost use Rattle.std.specs.Prelude.{IfOk, IfErr};
+ghost use Rattle.std.specs.Prelude.{Err, IfOk, IfErr};
+ghost use Rattle.certificate.specs.RowView.{RowView};
+ghost use Rattle.certificate_text.specs.Line.{RowLine, Spells};
 ghost use Rattle.certificate_text.specs.declared.certificates.Certificate.{Certificate};
 ghost use Rattle.certificate_text.specs.CertificateText.{IsText};
 ghost use Rattle.certificate_text.specs.LineTaken.{TakesLine};
@@ -8,7 +10,7 @@ use crate::Certificate;
 use crate::bad_line::BadLine;
 use crate::cut::cut;
 use crate::draft::Draft;
-use crate::line::read_line;
+use crate::line::{read_line, second_word};
 use faults::{Fault, OrMemory};
 use std::alloc::Global;
 
@@ -29,7 +31,8 @@ impl Fault for BadText {}
 /// A line feed ends each, one space stands between two words, and numbers have no leading zeros.
 ///
 /// # Errors
-/// E1, and [`BadText`] where the text is no certificate's. The lines before the one that wants memory are in order.
+/// E1, and [`BadText`] where the text is no certificate's. The line that wants memory and those before it are in order, so
+/// the first bad line is told as such unless memory ran out before it.
 pub fn read_text(alloc: Global, text: &[u8]) -> Result<Certificate, OrMemory<BadText>>
     // What is read is what the text stands for,
     ensures ok { IfOk result (λ c. IsText text.now c) }
@@ -70,8 +73,21 @@ fn read_lines(alloc: Global, text: &[u8]) -> Result<Certificate, OrMemory<BadTex
 fn take_line(alloc: Global, draft: &mut Draft, line: &[u8]) -> Result<(), OrMemory<BadLine>>
     ensures { TakesLine result draft.old line.now draft.new }
 {
-    draft.take(read_line(alloc, line)?)
+    match read_line(alloc, line) {
+        Ok(said) => draft.take(said),
+        Err(OrMemory::Memory) => Err(row_fault(draft, line)),
+        Err(OrMemory::Fault(BadLine)) => Err(OrMemory::Fault(BadLine)),
+    }
 }
 
-#[cfg(test)]
-mod tests;
+/// What stands against a row's line for which there is no memory: that it can't follow, or else that.
+fn row_fault(draft: &Draft, line: &[u8]) -> OrMemory<BadLine>
+    requires { (row : RowView) × Spells line.now (RowLine row) }
+    ensures { TakesLine (Err result) draft.now line.now draft.now }
+{
+    if draft.takes_row(second_word(line)) {
+        OrMemory::Memory
+    } else {
+        OrMemory::Fault(BadLine)
+    }
+}

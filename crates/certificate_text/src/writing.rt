@@ -2,7 +2,7 @@
 ghost use Rattle.std.specs.Prelude.{◌≡◌, ◌<◌, ◌^◌, ◌++◌, All, List, OnOk, length};
 ghost use Rattle.cpu_set.specs.Members.{InRange};
 ghost use Rattle.std.specs.List.{flat_map};
-ghost use Rattle.cpu_list.specs.Output.{Writes};
+ghost use Rattle.byte_output.specs.Output.{Writes};
 ghost use Rattle.certificate_text.specs.CertificateText.{CanBeText, IsText, hold_lines, id_at};
 ghost use Rattle.certificate_text.specs.declared.certificates.Certificate.TheVariants.{Plan, Short};
 ghost use Rattle.certificate_text.specs.Line.{HeaderLine, RowLine, HoldLine, PriceLine, TotalLine, ShortLine, EndLine};
@@ -10,8 +10,9 @@ ghost use Rattle.certificate_text.specs.Written.{offer_text, line_text, text_of,
 
 use crate::Certificate;
 use crate::laws::written_texts_are_read;
+use byte_output::{put, put_all};
 use certificate::{Offer, Price, Prices, Row};
-use cpu_list::{put, put_all, write_list};
+use cpu_list::write_list;
 use cpu_set::IdSet;
 use itoa::Buffer;
 use std::io;
@@ -207,7 +208,7 @@ fn write_either<W: Write>(certificate: &Certificate, w: &mut W) -> io::Result<()
 /// Writes the certificate as a text, which [`read_text`](crate::read_text) reads again. It takes no memory.
 ///
 /// # Errors
-/// As [`put`]: where it fails, a front of the text went out.
+/// As [`put`]: where it fails, a prefix of the text went out.
 pub fn write_text<W: Write>(certificate: &Certificate, w: &mut W) -> io::Result<()>
     // Ids are valid and no two rows have one; no set is empty; a plan has a set and a value for each row; a shortage
     // has members, which are rows, each after the one before.
@@ -220,6 +221,3 @@ pub fn write_text<W: Write>(certificate: &Certificate, w: &mut W) -> io::Result<
     written_texts_are_read();
     write_either(certificate, w)
 }
-
-#[cfg(test)]
-mod tests;

@@ -3,7 +3,7 @@ use Rattle.std.proofs.Common.{◌≡◌, ℕ, ◌+◌, ◌-◌, ◌≤◌, List,
 use Rattle.std.proofs.Math.Seq.{take-append_seam}
 use Rattle.std.proofs.KnownBytes.{Appends-kept, Appends-nil, Appends-trans}
 use Rattle.std.specs.Io.KnownBytes.{Appends, Keeps}
-use Rattle.cpu_list.specs.Output.{SendsFront, Writes}
+use Rattle.byte_output.specs.Output.{SendsFront, Writes}
 use Rattle.cli.specs.Pages.{TakesFront, TakesIfRoom, contents_of}
 use Rattle.cli.specs.declared.page.Page.{Page}
 use Rattle.cli.specs.declared.page.TheConstants.{ROOM}

@@ -1,7 +1,7 @@
 -- What numarun writes of an answer, and its exit status.
 use Rattle.std.specs.Prelude.{◌≡◌, ℕ, List, Option, Result, Ok, Err, MatchResult}
 use Rattle.std.specs.Io.KnownBytes.{Appends}
-use Rattle.cpu_list.specs.Output.{SendsFront}
+use Rattle.byte_output.specs.Output.{SendsFront}
 use Rattle.cli.specs.RefusalLine.{refusal_line}
 use Rattle.cli.specs.declared.refusal.Refusal.{Refusal}
 use Rattle.cli.specs.declared.write_fault.WriteFault.{WriteFault}

@@ -1,7 +1,7 @@
 -- What numarun answers to a script over a machine.
 use Rattle.std.specs.Prelude.{◌≡◌, ◌⊎◌, ℕ, List, Option, Some, None, Result, Ok, Err, MatchResult}
 use Rattle.std.specs.Io.KnownBytes.{Appends}
-use Rattle.cpu_list.specs.Output.{SendsFront}
+use Rattle.byte_output.specs.Output.{SendsFront}
 use Rattle.node.specs.NodeState.{NodeState}
 use Rattle.runtime.specs.Answered.{Answered}
 use Rattle.runtime.specs.RuntimeState.{RuntimeState, Told}

@@ -1,11 +1,11 @@
 //! What is printed, and the exit status.
 ghost use Rattle.std.specs.Prelude.{ℕ, List, string_bytes};
 ghost use Rattle.cli.specs.Answer.{WritesAnswer};
-ghost use Rattle.cpu_list.specs.Output.{Writes};
+ghost use Rattle.byte_output.specs.Output.{Writes};
 
 use crate::refusal::Refusal;
 use crate::write_fault::WriteFault;
-use cpu_list::put;
+use byte_output::put;
 use std::io;
 use std::io::Write;
 

@@ -4,7 +4,7 @@ ghost use Rattle.certificate_text.specs.TextError.{AsksForMemory};
 ghost use Rattle.cli.specs.CheckAnswer.{CheckAnswers, IsAnswerTo, verdict_line};
 ghost use Rattle.cli.specs.Wants.{WantsOnlyWhere};
 ghost use Rattle.cli.specs.declared.reading.TheConstants.{MOST_BYTES};
-ghost use Rattle.cpu_list.specs.Output.{Writes};
+ghost use Rattle.byte_output.specs.Output.{Writes};
 ghost use Rattle.certificate_text.specs.declared.checking.Verdict.TheVariants.{Short};
 
 use crate::answer::{Printed, tell};
@@ -13,7 +13,7 @@ use crate::reading::read_all;
 use crate::refusal::Refusal;
 use crate::write_fault::WriteFault;
 use certificate_text::{Verdict, check_text};
-use cpu_list::put_all;
+use byte_output::put_all;
 use itoa::Buffer;
 use std::alloc::Global;
 use std::io;

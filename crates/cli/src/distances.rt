@@ -6,14 +6,14 @@ ghost use Rattle.slit.specs.SlitFaultOf.{slit_fault};
 ghost use Rattle.cli.specs.SlitAnswer.{IsTableOrRefusal, SlitAnswers, entry_text, row_text, table_text};
 ghost use Rattle.cli.specs.Wants.{WantsOnlyWhere};
 ghost use Rattle.cli.specs.declared.reading.TheConstants.{MOST_BYTES};
-ghost use Rattle.cpu_list.specs.Output.{Writes};
+ghost use Rattle.byte_output.specs.Output.{Writes};
 
 use crate::answer::{Printed, tell};
 use crate::output::put_number_line;
 use crate::reading::read_all;
 use crate::refusal::Refusal;
 use crate::write_fault::WriteFault;
-use cpu_list::{put, put_all};
+use byte_output::{put, put_all};
 use itoa::Buffer;
 use slit::Slit;
 use std::alloc::Global;

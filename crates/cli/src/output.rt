@@ -2,9 +2,9 @@
 ghost use Rattle.std.specs.Prelude.{◌++◌, codes, decimal};
 ghost use Rattle.cli.specs.ErrorLine.{error_line};
 ghost use Rattle.cli.specs.RefusalLine.{argument_text, word_text};
-ghost use Rattle.cpu_list.specs.Output.{Writes};
+ghost use Rattle.byte_output.specs.Output.{Writes};
 
-use cpu_list::put_all;
+use byte_output::put_all;
 use itoa::Buffer;
 use std::io;
 use std::io::Write;

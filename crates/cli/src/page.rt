@@ -3,7 +3,7 @@ ghost use Rattle.std.specs.Io.KnownBytes.{Appends, Keeps, WriteAppends};
 ghost use Rattle.cli.specs.Pages.{TakesIfRoom, contents_of};
 
 use arrayvec::ArrayVec;
-use cpu_list::put;
+use byte_output::put;
 use std::io;
 use std::io::{ErrorKind, Write};
 

@@ -2,14 +2,15 @@ ghost use Rattle.std.specs.Prelude.{◌≡◌};
 ghost use Rattle.cli.specs.FaultRefusal.{machine_refusal, read_refusal, slit_refusal, verdict_refusal};
 ghost use Rattle.cli.specs.declared.refusal.Refusal.TheVariants.{List};
 ghost use Rattle.cli.specs.RefusalLine.{arguments_of, arguments_text, check_arguments_of, check_title_of, list_title_of, machine_arguments_of, machine_title_of, slit_arguments_of, slit_title_of, refusal_line, text_of, title_of};
-ghost use Rattle.cpu_list.specs.Output.{Writes};
+ghost use Rattle.byte_output.specs.Output.{Writes};
 
 use crate::answer::Printed;
 use crate::output::{put_argument, put_word};
 use crate::read_fault::ReadFault;
 use certificate::CheckFault;
 use certificate_text::VerdictFault;
-use cpu_list::{ListError, ListErrorKind, put, put_all};
+use byte_output::{put, put_all};
+use cpu_list::{ListError, ListErrorKind};
 use faults::OrMemory;
 use machine::MachineFault;
 use slit::SlitFault;

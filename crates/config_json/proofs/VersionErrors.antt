@@ -1,4 +1,4 @@
--- What is wrong with a text that is no version is never want of memory.
+-- What is wrong with a text that is no version is never lack of memory.
 use Rattle.std.proofs.Common.{◌≡◌, ℕ, ◌+◌, ◌-◌, ◌*◌, ◌^◌, ◌==◌, ◌&&◌, Bool, true, false, nat_le, nat_lt, cond, List, [], ◌∷◌, length, Result, Ok, Err, refl, sym, ap, ◌∙◌, arith}
 use Rattle.std.proofs.lemmas.Bool.{true≢false, false≢true}
 use Rattle.std.proofs.lemmas.Bool.Decides.{nat_tests}
@@ -99,7 +99,7 @@ version_reads text =
 not_memory : {A : Type 0} (r : Result A Error) → Reads r → r ≡ Err memory_error → ⊥
 not_memory r reads e = true≢false (sym (ap wants e) ∙ reads)
 
--- no text reads to want of memory
+-- no text reads to lack of memory
 version_is_read : (text : List ℕ) → version_parts text ≡ Err memory_error → ⊥
 version_is_read text = not_memory (version_parts text) (version_reads text)
 

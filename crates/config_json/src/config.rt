@@ -113,6 +113,3 @@ fn runnable(value: &Value) -> bool
         None => false,
     }
 }
-
-#[cfg(test)]
-mod tests;

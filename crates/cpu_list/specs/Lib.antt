@@ -5,7 +5,6 @@ pub mod FirstFaults
 pub mod ItemFaults
 pub mod ListText
 pub mod Output
-pub mod Parts
 pub mod Plain
 pub mod Sending
 pub mod TextAfter

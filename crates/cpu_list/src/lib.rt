@@ -4,14 +4,13 @@
 mod item;
 mod laws;
 mod list_error;
-mod output;
 mod printing;
 mod reading;
 mod writing;
 
+pub use byte_output::{put, put_all};
 pub use laws::{canonical_texts, first_faults, lists_stay_below, plain_texts};
 pub use list_error::{ListError, ListErrorKind};
-pub use output::{put, put_all};
 pub use printing::print;
 pub use reading::read;
 pub use writing::write_list;

@@ -77,6 +77,3 @@ pub fn read(text: &[u8], limit: u16) -> Result<IdSet, ListError>
     }
     Ok(set)
 }
-
-#[cfg(test)]
-mod tests;

@@ -1,9 +1,9 @@
 //! A set as text, to a writer.
 ghost use Rattle.std.specs.Prelude.{◌≡◌, ◌≤◌, ◌++◌, decimal};
 ghost use Rattle.cpu_list.specs.CanonicalList.{range_text, list_text};
-ghost use Rattle.cpu_list.specs.Output.{Writes};
+ghost use Rattle.byte_output.specs.Output.{Writes};
 
-use crate::output::put;
+use byte_output::put;
 use cpu_set::{IdSet, Ranges};
 use std::io;
 use std::io::Write;
@@ -37,7 +37,7 @@ fn put_item<W: Write>(separator: &[u8], first: u16, last: u16, w: &mut W) -> io:
 /// the empty text.
 ///
 /// # Errors
-/// As [`put`]: where it fails, a front of the text went out.
+/// As [`put`]: where it fails, a prefix of the text went out.
 pub fn write_list<W: Write>(set: &IdSet, w: &mut W) -> io::Result<()>
     ensures { Writes (W.contents w.old) (W.contents w.new) result (list_text set.now) }
 {
@@ -48,6 +48,3 @@ pub fn write_list<W: Write>(set: &IdSet, w: &mut W) -> io::Result<()>
     }
     Ok(())
 }
-
-#[cfg(test)]
-mod tests;

@@ -1,10 +1,10 @@
 -- Single bits as truth values, and words of them.
 use Rattle.std.proofs.Common.{◌≡◌, ℕ, ◌+◌, ◌*◌, ◌/◌, ◌%◌, ◌^◌, ◌-◌, ◌<◌, ◌≤◌, ◌==◌, not, ◌&&◌, ◌||◌, min, max, sym, ap, ◌∙◌, inl, inr, arith}
-use Rattle.std.specs.Prelude.{nat_le, bit_and, bit_or}
+use Rattle.std.specs.Prelude.{nat_le, bit_and, bit_or, bit_xor}
 use Rattle.std.proofs.lemmas.Bool.{cases_lt}
 use Rattle.std.proofs.lemmas.Bool.Decides.{nat_tests}
 use Rattle.std.specs.Int.{bit_at, bit_not, w64, trailing_zeros}
-use Rattle.std.proofs.lemmas.Nat.Bits.{bit_at-lt, bit_at_and, bit_at_or, bit_at_not, bit_at-zero, bit_at_above, bit_at-trailing_zeros, bit_at_mask_inside, bit_at_mask_below, bit_at_ones, bit_at_ones_above, ones_shl, ones_shr}
+use Rattle.std.proofs.lemmas.Nat.Bits.{bit_at-lt, bit_at_and, bit_at_or, bit_at_xor, bit_at_not, bit_at-zero, bit_at_above, bit_at-trailing_zeros, bit_at_mask_inside, bit_at_mask_below, bit_at_ones, bit_at_ones_above, ones_shl, ones_shr}
 use Rattle.std.proofs.lemmas.Nat.{pow-add}
 use Rattle.std.proofs.Math.Nat.{div-div-eq-div-mul, div-le_self}
 use Rattle.cpu_set.specs.Word.{NoBitFrom, IsFirstBit}
@@ -15,6 +15,9 @@ either a b la lb = grind (arith, nat_tests)
 both : (a b : ℕ) → a < 2 → b < 2 → (min a b == 1) ≡ ((a == 1) && (b == 1))
 both a b la lb = grind (arith, nat_tests)
 
+differ : (a b : ℕ) → a < 2 → b < 2 → ((a + b) % 2 == 1) ≡ (((a == 1) && not (b == 1)) || ((b == 1) && not (a == 1)))
+differ a b la lb = grind (arith, nat_tests)
+
 other : (a : ℕ) → a < 2 → (1 - a == 1) ≡ not (a == 1)
 other a la = grind (arith, nat_tests)
 
@@ -23,6 +26,9 @@ bit-or a b i = ap (λ v. v == 1) (bit_at_or a b i) ∙ either _ _ (bit_at-lt a i
 
 pub bit-and : (a b i : ℕ) → (bit_at (bit_and a b) i == 1) ≡ ((bit_at a i == 1) && (bit_at b i == 1))
 bit-and a b i = ap (λ v. v == 1) (bit_at_and a b i) ∙ both _ _ (bit_at-lt a i) (bit_at-lt b i)
+
+pub bit-xor : (a b i : ℕ) → (bit_at (bit_xor a b) i == 1) ≡ (((bit_at a i == 1) && not (bit_at b i == 1)) || ((bit_at b i == 1) && not (bit_at a i == 1)))
+bit-xor a b i = ap (λ v. v == 1) (bit_at_xor a b i) ∙ differ _ _ (bit_at-lt a i) (bit_at-lt b i)
 
 pub bit-not : (a i : ℕ) → a < 2 ^ 64 → i < 64 → (bit_at (bit_not w64 a) i == 1) ≡ not (bit_at a i == 1)
 bit-not a i fits lt = ap (λ v. v == 1) (bit_at_not w64 a i fits lt) ∙ other _ (bit_at-lt a i)

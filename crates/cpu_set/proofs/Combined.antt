@@ -1,10 +1,10 @@
 -- What an operation on words makes of their set.
-use Rattle.std.proofs.Common.{◌≡◌, ℕ, zero, suc, ◌+◌, ◌*◌, ◌/◌, ◌%◌, ◌^◌, ◌<◌, ◌≤◌, ◌==◌, Bool, true, false, not, ◌&&◌, ◌||◌, nat_lt, List, [], ◌∷◌, map, length, get_or, set, refl, sym, ap, ◌∙◌, inl, inr, arith}
-use Rattle.std.specs.Prelude.{nat_le, bit_and, bit_or, replicate}
+use Rattle.std.proofs.Common.{◌≡◌, ◌↔◌, ℕ, zero, suc, ◌+◌, ◌*◌, ◌/◌, ◌%◌, ◌^◌, ◌<◌, ◌≤◌, ◌==◌, Bool, true, false, not, ◌&&◌, ◌||◌, nat_lt, List, [], ◌∷◌, map, length, get_or, set, refl, sym, ap, ◌∙◌, inl, inr, arith}
+use Rattle.std.specs.Prelude.{nat_le, bit_and, bit_or, bit_xor, replicate}
 use Rattle.std.proofs.lemmas.Bool.{cases_eq, cases_lt}
 use Rattle.std.proofs.lemmas.Bool.Decides.{nat_tests}
 use Rattle.std.proofs.lemmas.List.{get_or_past, get_or-map, length-map, get_or-set_same, get_or-set_other, length-set, get_or-replicate, length-replicate}
-use Rattle.std.proofs.lemmas.Nat.{or_lt, and_le_l, le_or_l, le_or_r}
+use Rattle.std.proofs.lemmas.Nat.{or_lt, xor_lt, and_le_l, le_or_l, le_or_r}
 use Rattle.std.proofs.lemmas.Nat.Bits.{bit_at-zero, bit_at-lt, bit_at_set_same, bit_at_set_other, bit_at_clear_same, bit_at_clear_other, same_from_bits_below}
 use Rattle.std.proofs.lemmas.Simd.{get_or-zip2, length-zip2}
 use Rattle.std.specs.Int.{bit_at, bit_not, w64}
@@ -12,12 +12,12 @@ use Rattle.std.specs.Simd.Lanes.{zip2, fold_l}
 use Rattle.std.specs.FinSet as finset
 use Rattle.cpu_set.specs.Ids.{Ids}
 use Rattle.cpu_set.specs.Members.{IsComplement}
-use Rattle.cpu_set.specs.Pointwise.{same_members, contains-empty, contains-insert, contains-remove}
+use Rattle.cpu_set.specs.Pointwise.{same_members, contains-empty, contains-insert, contains-remove, contains-union, contains-difference}
 use Rattle.cpu_set.specs.Words.{has_bit, set_of_words, AreWords}
 use Rattle.cpu_set.specs.WordLaws.{contains-set_of_words, has_bit-past, has_bit-at}
 use Rattle.cpu_set.specs.declared.TheConstants.{CPU_LIMIT}
 use Rattle.cpu_set.specs.declared.id_set.TheConstants.{WORDS}
-use Rattle.cpu_set.proofs.Bits.{bit-or, bit-and, bit-not}
+use Rattle.cpu_set.proofs.Bits.{bit-or, bit-and, bit-xor, bit-not}
 
 -- a fact of each word, from that of the words there are
 pub each_word : (words : List ℕ) (P : ℕ → Type 0) → P 0 → ((k : ℕ) → k < length words → P (get_or words k 0)) → (k : ℕ) → P (get_or words k 0)
@@ -80,6 +80,13 @@ and_fits a b fits = let le : bit_and a b ≤ a = and_le_l a b in omega arith
 pub and-IsBitwise : IsBitwise bit_and (λ a b. a && b)
 and-IsBitwise = record { none = refl; fits = λ a b fa _. and_fits a b fa; bits = λ a b i _ _ _. bit-and a b i }
 
+-- one of the two alone
+abbrev pub differs : Bool → Bool → Bool
+differs a b = (a && not b) || (b && not a)
+
+pub xor-IsBitwise : IsBitwise bit_xor differs
+xor-IsBitwise = record { none = refl; fits = λ a b fa fb. xor_lt 64 a b fa fb; bits = λ a b i _ _ _. bit-xor a b i }
+
 -- a word without the bits of another
 abbrev pub without : ℕ → ℕ → ℕ
 without a b = bit_and a (bit_not w64 b)
@@ -124,6 +131,32 @@ IsComplement-not xs of_xs q =
     (λ lt. ap (λ v. bit_at v (q % 64) == 1) (get_or-map (bit_not w64) xs (q / 64) 0 0 (omega arith)) ∙ bit-not _ (q % 64) (of_xs.fit (q / 64)) (omega arith))
     (λ le. has_bit-past _ q (let size : length (map (bit_not w64) xs) ≡ length xs = length-map xs (bit_not w64) in omega arith))
     ∙ ap (λ v. nat_lt q CPU_LIMIT && not v) (sym (contains-set_of_words xs of_xs q))
+
+-- the numbers that are in one of two sets alone
+abbrev pub one_sided : Ids → Ids → Ids
+one_sided s t = finset.union (finset.difference s t) (finset.difference t s)
+
+pub contains-one_sided : (s t : Ids) (q : ℕ) → finset.contains (one_sided s t) q ≡ differs (finset.contains s q) (finset.contains t q)
+contains-one_sided s t q =
+    contains-union (finset.difference s t) (finset.difference t s) q
+    ∙ (λ i. contains-difference s t q i || contains-difference t s q i)
+
+alike : (a b : Bool) → differs a b ≡ false → a ≡ b
+alike true true e = refl
+alike true false e = e
+alike false true e = sym e
+alike false false e = refl
+
+none_differ : (a : Bool) → differs a a ≡ false
+none_differ true = refl
+none_differ false = refl
+
+-- no number is in one of two sets alone where they are the same
+pub same_one_sided : (s t : Ids) → (one_sided s t ≡ finset.empty) ↔ (s ≡ t)
+same_one_sided s t = (
+  λ none. same_members s t (λ q. alike _ _ (sym (contains-one_sided s t q) ∙ ap (λ u. finset.contains u q) none ∙ contains-empty q)),
+  λ e. same_members _ _ (λ q. contains-one_sided s t q ∙ ap (λ u. differs (finset.contains s q) (finset.contains u q)) (sym e) ∙ none_differ _ ∙ sym (contains-empty q)),
+)
 
 -- ---- one word
 

@@ -264,7 +264,7 @@ impl PartialEq for IdSet {
     ghost laws = { partial_equiv_from_equiv (decided is_same is_same_decides) };
 
     fn eq(&self, other: &IdSet) -> bool {
-        self.is_subset(other) && other.is_subset(self)
+        has_none(self.lanes() ^ other.lanes())
     }
 }
 
@@ -275,6 +275,3 @@ impl Eq for IdSet {
 
     ghost laws = { decided is_same is_same_decides };
 }
-
-#[cfg(test)]
-mod tests;

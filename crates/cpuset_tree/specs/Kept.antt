@@ -158,6 +158,6 @@ pub record ChangesAt (old new : Slab Cgroup) (key : ℕ) (f : Cgroup → Cgroup)
 abbrev pub bare : Resource → Cgroup → Cgroup
 bare r n = with_effective r set.empty n
 
--- the groups are the same, but for what is kept as effective of a resource
+-- the groups are the same, except for what is kept as effective of a resource
 abbrev pub OnlyKeptDiffers : Resource → Slab Cgroup → Slab Cgroup → Type 0
 OnlyKeptDiffers r old new = (key : ℕ) → option_map (bare r) (get new key) ≡ option_map (bare r) (get old key)

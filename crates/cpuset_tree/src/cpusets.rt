@@ -60,7 +60,7 @@ impl Tree {
 
     /// A tree of its root alone, which has the first serial and all of these CPUs and nodes in effect.
     ///
-    /// The only error is want of memory.
+    /// The only error is lack of memory.
     pub fn new(
         alloc: Global,
         online: IdSet,

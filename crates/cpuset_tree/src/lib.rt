@@ -8,8 +8,6 @@ mod fault;
 mod groups;
 pub mod laws;
 mod refresh;
-#[cfg(test)]
-mod tests;
 
 pub use cpusets::Tree;
 pub use fault::TreeFault;

@@ -11,7 +11,7 @@ use transport::{Answer, solve};
 
 /// The certificate of what the problem comes to; the problem is kept in it as it is.
 ///
-/// Nothing is refused but for want of memory.
+/// Nothing is refused except for lack of memory.
 pub fn decide(alloc: Global, problem: Problem) -> Result<Certificate, AllocError>
     requires fit { IsTrue (rows_fit problem) }
     requires rows { All CanWriteRow problem }
@@ -50,6 +50,3 @@ fn answered(problem: Problem, answer: Answer) -> Certificate
         },
     }
 }
-
-#[cfg(test)]
-mod tests;

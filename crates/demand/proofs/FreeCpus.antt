@@ -1,11 +1,11 @@
 -- The free CPUs and the allowed ones, number by number.
-use Rattle.std.proofs.Common.{◌≡◌, ℕ, suc, ◌+◌, ◌<◌, Bool, true, false, not, ◌&&◌, ◌||◌, nat_lt, refl, sym, ap, ◌∙◌, arith}
+use Rattle.std.proofs.Common.{◌≡◌, ℕ, ◌<◌, Bool, true, false, not, ◌&&◌, ◌||◌, nat_lt, refl, sym, ap, ◌∙◌, arith}
 use Rattle.std.proofs.lemmas.Bool.{false≢true}
 use Rattle.std.proofs.lemmas.Bool.Decides.{nat_tests}
 use Rattle.std.specs.FinSet as set
 use Rattle.cpu_set.specs.Ids.{Ids, is_empty}
-use Rattle.cpu_set.specs.Those.{those}
-use Rattle.cpu_set.specs.Pointwise.{contains-intersection, contains-difference}
+use Rattle.cpu_set.specs.Members.{InRange}
+use Rattle.cpu_set.specs.Pointwise.{same_members, contains-intersection, contains-difference}
 use Rattle.machine.specs.Layout.{Layout}
 use Rattle.machine.specs.Present.{present, IsPresent}
 use Rattle.cpu_set.specs.declared.TheConstants.{CPU_LIMIT}
@@ -64,26 +64,30 @@ free_is_unreserved m cpus c free = false_of_not _ (both_true _ _ free).1
 lower : (a b : ℕ) → nat_lt a b ≡ true → a < b
 lower a b is = grind (arith, nat_tests)
 
-pub those-zero : (p : ℕ → Bool) → those p 0 ≡ set.empty
-unfolding those
-those-zero p = refl
+free_in_reach : (free known near below : Bool) → (free ≡ true → known ≡ true) → (free ≡ true → below ≡ true) → (free && (known && near)) ≡ (below && (free && near))
+free_in_reach true true near true present in_range = refl
+free_in_reach true true near false present in_range = absurd (false≢true (in_range refl))
+free_in_reach true false near below present in_range = absurd (false≢true (present refl))
+free_in_reach false known near true present in_range = refl
+free_in_reach false known near false present in_range = refl
 
--- one number more, which passes
-pub those-in : (p : ℕ → Bool) (n m : ℕ) (s : Ids) → m ≡ n + 1 → s ≡ those p n → p n ≡ true → set.insert s n ≡ those p m
-unfolding those
-those-in p n m s next is passes = let e : m ≡ suc n = omega arith in rw (e, is, passes) refl
+below_limit : (c limit : ℕ) → c < limit → nat_lt c limit ≡ true
+below_limit c limit lt = grind (arith, nat_tests)
 
--- or does not
-pub those-out : (p : ℕ → Bool) (n m : ℕ) (s : Ids) → m ≡ n + 1 → s ≡ those p n → p n ≡ false → s ≡ those p m
-unfolding those
-those-out p n m s next is fails = let e : m ≡ suc n = omega arith in rw (e, is, fails) refl
-
--- the code's test of a CPU is the definition's
-pub given_is_allowed :
-    (m : Layout) (cpus homes free : Ids) (c : ℕ) (answer : Bool) → ((n : ℕ) → set.contains free n ≡ is_free m cpus n)
-    → answer ≡ (set.contains free c && nat_lt (weight m homes c) 255) → is_allowed m cpus homes c ≡ answer
-given_is_allowed m cpus homes free c answer each is =
-    sym (is ∙ ap (λ b. b && nat_lt (weight m homes c) 255) (each c))
+-- the free CPUs that are in reach are the allowed ones
+pub allowed_meet :
+    (m : Layout) (cpus homes free reach : Ids) → ((c : ℕ) → set.contains free c ≡ is_free m cpus c) → InRange free
+    → ((c : ℕ) → set.contains reach c ≡ (set.contains (present m) c && nat_lt (weight m homes c) 255))
+    → set.intersection free reach ≡ allowed_by m cpus homes
+unfolding allowed_by
+allowed_meet m cpus homes free reach are_free in_range are_reached =
+    same_members _ _ (λ c.
+    contains-intersection free reach c
+    ∙ ap (λ b. b && set.contains reach c) (are_free c)
+    ∙ ap (λ b. is_free m cpus c && b) (are_reached c)
+    ∙ free_in_reach (is_free m cpus c) (set.contains (present m) c) (nat_lt (weight m homes c) 255) (nat_lt c CPU_LIMIT)
+    (free_is_present m cpus c) (λ is. below_limit c CPU_LIMIT (in_range c (are_free c ∙ is)))
+    ∙ sym (contains-those (is_allowed m cpus homes) CPU_LIMIT c))
 
 -- what holds of an allowed CPU
 pub record IsGiven (m : Layout) (homes : Ids) (c : ℕ) : Type 0 where
@@ -104,5 +108,3 @@ pub allowed_is_given : (m : Layout) (cpus homes : Ids) (c : ℕ) → set.contain
 unfolding allowed_by
 allowed_is_given m cpus homes c has =
     given m cpus homes c (both_true _ _ (sym (contains-those (is_allowed m cpus homes) CPU_LIMIT c) ∙ has)).1
-
-pub ruleset allowed_cpus = (free_is_present, those-zero)

@@ -4,5 +4,3 @@ pub mod HomeNodes
 pub mod FreeCpus
 pub mod Rounding
 pub mod Asked
-pub mod Walk
-pub mod KnownNodes

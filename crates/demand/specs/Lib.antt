@@ -6,4 +6,3 @@ pub mod Allowed
 pub mod DemandFaultOf
 pub mod IsDemand
 pub mod FitsMachine
-pub mod Known

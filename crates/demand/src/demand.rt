@@ -87,6 +87,3 @@ fn is_pinned(count: Option<u32>, cpus: &IdSet) -> bool
 pub fn no_quota_asks_for_two_counts()
     ensures { IsOneCount }
 {}
-
-#[cfg(test)]
-mod tests;

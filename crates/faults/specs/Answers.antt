@@ -15,7 +15,7 @@ Gives (Ok x) expected = expected ≡ Ok x
 Gives (Err Memory) expected = Unit {0}
 Gives (Err (Fault e)) expected = expected ≡ Err e
 
--- the checks for this fault stand before the first growth: where there is one, want of memory is no answer, nor is a value
+-- the checks for this fault stand before the first growth: where there is one, lack of memory is no answer, nor is a value
 abbrev pub ChecksFirst : {T F : Type 0} → Result T (OrMemory F) → Option F → Type 0
 ChecksFirst (Ok x) fault = fault ≡ None
 ChecksFirst (Err Memory) fault = fault ≡ None

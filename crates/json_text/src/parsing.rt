@@ -27,6 +27,3 @@ pub fn parse<F: Drop>(alloc: Global, bytes: &[u8], not_json: F) -> Result<Value,
         Err(_) => Err(OrMemory::Fault(not_json)),
     }
 }
-
-#[cfg(test)]
-mod tests;

@@ -90,7 +90,7 @@ fn ids(answer: Result<IdSet, KernelFault>) -> Result<Reply, OrMemory<KernelFault
 
 /// Makes calls of a kernel, one after another, and keeps what they answered.
 ///
-/// The only error is want of memory for the answers, before the first call.
+/// The only error is lack of memory for the answers, before the first call.
 pub fn make_calls<K: Kernel>(
     alloc: Global,
     kernel: &mut K,

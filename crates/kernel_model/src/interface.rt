@@ -1,5 +1,5 @@
-ghost use Rattle.std.specs.Prelude.{◌≡◌, Some};
-ghost use Rattle.cpuset_tree.specs.Groups.{root_of, child_of, requested_cpus, requested_mems};
+ghost use Rattle.std.specs.Prelude.{◌≡◌, Some, true};
+ghost use Rattle.cpuset_tree.specs.Groups.{root_of, has_group, child_of, requested_cpus, requested_mems};
 ghost use Rattle.cpuset_tree.specs.Effective.{effective_cpus, effective_mems};
 ghost use Rattle.proctable.specs.Processes.{is_alive};
 ghost use Rattle.kernel_model.specs.KernelState.{KernelState};
@@ -131,4 +131,15 @@ pub trait Kernel {
     /// Refused: `NoCpu`.
     fn online_cpu(&mut self, cpu: u32) -> Result<(), KernelFault>
         ensures { ComesOnline (state self.old) cpu result (state self.new) };
+}
+
+/// The CPUs that a group requests, where the caller knows that it is in the tree.
+pub fn requested<K: Kernel>(kernel: &K, group: Group) -> IdSet
+    requires { has_group (K.state kernel.now).tree group ≡ true }
+    ensures { result ≡ requested_cpus (K.state kernel.now).tree group }
+{
+    match kernel.requested_cpus(group) {
+        Ok(cpus) => cpus,
+        Err(_) => unreachable!(),
+    }
 }

@@ -9,13 +9,11 @@ mod fused_kernel;
 mod interface;
 pub mod laws;
 mod model_kernel;
-#[cfg(test)]
-mod tests;
 
 pub use call::{Call, Reply, make_call, make_calls};
 pub use cpuset_tree::Group;
 pub use fault::KernelFault;
 pub use fused_kernel::{Fuse, FusedKernel};
-pub use interface::Kernel;
+pub use interface::{Kernel, requested};
 pub use model_kernel::ModelKernel;
 pub use proctable::LAST_PID;

@@ -55,7 +55,7 @@ impl Model for ModelKernel {
 impl ModelKernel {
     /// A kernel with its root group alone and no process, whose first process gets this pid.
     ///
-    /// The only error is want of memory.
+    /// The only error is lack of memory.
     pub fn new(
         alloc: Global,
         present: IdSet,

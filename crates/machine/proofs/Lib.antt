@@ -1,8 +1,10 @@
 pub mod BootLaws
 pub mod ItemLaws
+pub mod Marking
 pub mod NoFaultLaws
 pub mod NodeLaws
 pub mod NodeSteps
+pub mod Reaching
 pub mod RowSteps
 pub mod SoundLaws
 pub mod SubsetLaws

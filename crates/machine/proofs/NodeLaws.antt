@@ -117,7 +117,7 @@ of_one_node m c i j apart in_i in_j =
       ]
     ]
 
-node_found : (m : Layout) (c i : ℕ) → IsSound m → IsOfNode m c i → node_of m c ≡ i
+pub node_found : (m : Layout) (c i : ℕ) → IsSound m → IsOfNode m c i → node_of m c ≡ i
 node_found m c i sound has =
     let some : IsSome (position (λ s. set.contains s c) m.nodes) = IsOfNode-first m c (IsOfNode-IsPresent m c i has) in
     by_place (position (λ s. set.contains s c) m.nodes) refl some

@@ -1,17 +1,21 @@
 -- Reading the nodes one by one.
-use Rattle.std.proofs.Common.{◌≡◌, ℕ, ◌+◌, ◌<◌, inl, inr, List, [], ◌∷◌, ◌++◌, length, get_or, map, take, Option, Some, None, refl, sym, ap, ◌∙◌, arith}
+use Rattle.std.proofs.Common.{◌≡◌, ℕ, ◌+◌, ◌<◌, inl, inr, List, [], ◌∷◌, ◌++◌, length, get_or, map, take, Option, Some, None, subst, refl, sym, ap, ◌∙◌, arith}
 use Rattle.std.specs.Prelude.{AllPairs}
 use Rattle.std.proofs.lemmas.Bool.{cases_lt}
 use Rattle.std.proofs.lemmas.List.{take_more, take_all, map-append}
 use Rattle.std.proofs.lemmas.List.Quantifiers.{all_pairs_push}
 use Rattle.std.proofs.lemmas.List.Sums.{fold_push}
 use Rattle.std.specs.FinSet as set
+use Rattle.std.proofs.lemmas.Option.{none-some}
+use Rattle.faults.specs.First.{first_of}
 use Rattle.faults.specs.FirstLaws.{first_below-none, first_below-at}
 use Rattle.serde_json.specs.Data.{Data, null}
 use Rattle.cpu_set.specs.Ids.{Ids, IsDisjoint}
 use Rattle.machine.specs.declared.fault.MachineFault.{MachineFault}
+use Rattle.machine.specs.declared.field.Field.TheVariants.{Nodes}
+use Rattle.machine.specs.KindFaults.{list_fault, AreLists}
 use Rattle.machine.specs.Listed.{listed}
-use Rattle.machine.specs.NodesFault.{node_fault, first_node_fault}
+use Rattle.machine.specs.NodesFault.{twice_fault, node_fault, first_node_fault}
 use Rattle.machine.specs.Present.{union_of}
 use Rattle.machine.proofs.NodeLaws.{apart_from_each}
 
@@ -19,51 +23,76 @@ use Rattle.machine.proofs.NodeLaws.{apart_from_each}
 abbrev pub fault_at : List Data → ℕ → Option MachineFault
 fault_at ds i = node_fault (union_of (map listed (take i ds))) (get_or ds i null)
 
--- the nodes below i are without fault, and these are their sets
-pub record AreRead (ds : List Data) (i : ℕ) (all : List Ids) (union : Ids) : Type 0 where
+-- the nodes below i are without fault, and these are their CPUs
+pub record AreUnited (ds : List Data) (i : ℕ) (all : Ids) : Type 0 where
   pub none : (k : ℕ) → k < i → fault_at ds k ≡ None
-  pub sets : all ≡ map listed (take i ds)
-  pub earlier : union ≡ union_of all
-  pub apart : AllPairs IsDisjoint all
+  pub union : all ≡ union_of (map listed (take i ds))
+  pub apart : AllPairs IsDisjoint (map listed (take i ds))
 
-pub AreRead-none : (ds : List Data) (sets : List Ids) (earlier : Ids) → sets ≡ [] → earlier ≡ set.empty → AreRead ds 0 sets earlier
-AreRead-none ds sets earlier no_sets no_cpus = record {
+pub AreUnited-none : (ds : List Data) (all : Ids) → all ≡ set.empty → AreUnited ds 0 all
+AreUnited-none ds all none = record {
   none = λ k lt. absurd (omega arith);
-  sets = no_sets;
-  earlier = rw no_sets no_cpus;
-  apart = rw no_sets (λ i j d _ lt. absurd (omega arith));
+  union = none;
+  apart = λ i j d _ lt. absurd (omega arith);
 }
 
-here : (ds : List Data) (i : ℕ) (sets : List Ids) (earlier : Ids) → AreRead ds i sets earlier → fault_at ds i ≡ node_fault earlier (get_or ds i null)
-here ds i sets earlier read = ap (λ e. node_fault e (get_or ds i null)) (ap union_of (sym read.sets) ∙ sym read.earlier)
+here : (ds : List Data) (i : ℕ) (all : Ids) → AreUnited ds i all → fault_at ds i ≡ node_fault all (get_or ds i null)
+here ds i all united = ap (λ e. node_fault e (get_or ds i null)) (sym united.union)
 
-pub AreRead-more :
-    (ds : List Data) (i : ℕ) (sets more : List Ids) (earlier s : Ids) → AreRead ds i sets earlier → i < length ds
-    → node_fault earlier (get_or ds i null) ≡ None → s ≡ listed (get_or ds i null) → IsDisjoint earlier s
-    → more ≡ sets ++ s ∷ [] → AreRead ds (i + 1) more (set.union earlier s)
-AreRead-more ds i sets more earlier s read lt none is apart pushed = record {
-  none = λ k below. elim (cases_lt k i) [
-    | inl before ↦ read.none k before
-    | inr last ↦ let same : k ≡ i = omega arith in rw same (here ds i sets earlier read ∙ none)
-  ];
-  sets = pushed ∙ rw (take_more ds i null lt, map-append, read.sets, is) refl;
-  earlier = rw (pushed, fold_push, read.earlier) refl;
-  apart = rw pushed (all_pairs_push IsDisjoint sets s read.apart
-      (apart_from_each sets s (rw (← read.earlier) apart)));
-}
+pub AreUnited-more :
+    (ds : List Data) (i : ℕ) (all s : Ids) → AreUnited ds i all → i < length ds
+    → node_fault all (get_or ds i null) ≡ None → s ≡ listed (get_or ds i null) → IsDisjoint all s
+    → AreUnited ds (i + 1) (set.union all s)
+AreUnited-more ds i all s united lt none is apart =
+    let more : map listed (take (i + 1) ds) ≡ map listed (take i ds) ++ s ∷ [] = rw (take_more ds i null lt, map-append, is) refl in
+    record {
+      none = λ k below. elim (cases_lt k i) [
+        | inl before ↦ united.none k before
+        | inr last ↦ let same : k ≡ i = omega arith in rw same (here ds i all united ∙ none)
+      ];
+      union = rw (more, fold_push, united.union) refl;
+      apart = rw more (all_pairs_push IsDisjoint (map listed (take i ds)) s united.apart
+          (apart_from_each (map listed (take i ds)) s (rw (← united.union) apart)));
+    }
 
-pub AreRead-fault :
-    (ds : List Data) (i : ℕ) (sets : List Ids) (earlier : Ids) (e : MachineFault) → AreRead ds i sets earlier → i < length ds
-    → node_fault earlier (get_or ds i null) ≡ Some e → first_node_fault ds ≡ Some e
+pub AreUnited-fault :
+    (ds : List Data) (i : ℕ) (all : Ids) (e : MachineFault) → AreUnited ds i all → i < length ds
+    → node_fault all (get_or ds i null) ≡ Some e → first_node_fault ds ≡ Some e
 unfolding first_node_fault
-AreRead-fault ds i sets earlier e read lt at =
-    first_below-at (length ds) i (fault_at ds) e lt read.none (here ds i sets earlier read ∙ at)
+AreUnited-fault ds i all e united lt at =
+    first_below-at (length ds) i (fault_at ds) e lt united.none (here ds i all united ∙ at)
 
-pub AreRead-all :
-    (ds : List Data) (i : ℕ) (sets : List Ids) (earlier : Ids) → AreRead ds i sets earlier → i ≡ length ds
-    → (first_node_fault ds ≡ None) × (sets ≡ map listed ds)
+is_list_where_none : (earlier : Ids) (d : Data) → node_fault earlier d ≡ None → list_fault Nodes d ≡ None
+unfolding node_fault
+is_list_where_none earlier d none = by_list (list_fault Nodes d) refl
+  where
+    by_list : (f : Option MachineFault) → list_fault Nodes d ≡ f → list_fault Nodes d ≡ None
+    by_list None is = is
+    by_list (Some e) is = absurd (none-some e (sym none ∙ ap (λ f. first_of (f ∷ twice_fault earlier (listed d) ∷ [])) is))
+
+-- what holds once all nodes are read
+pub record AreNodes (ds : List Data) (all : Ids) : Type 0 where
+  pub none : first_node_fault ds ≡ None
+  pub union : all ≡ union_of (map listed ds)
+  pub apart : AllPairs IsDisjoint (map listed ds)
+  pub lists : AreLists Nodes ds
+
+pub AreUnited-all : (ds : List Data) (i : ℕ) (all : Ids) → AreUnited ds i all → i ≡ length ds → AreNodes ds all
 unfolding first_node_fault
-AreRead-all ds i sets earlier read all = (
-  first_below-none (length ds) (fault_at ds) (λ k lt. read.none k (omega arith)),
-  read.sets ∙ ap (map listed) (take_all i ds (omega arith)),
-)
+AreUnited-all ds i all united end =
+    let whole : take i ds ≡ ds = take_all i ds (omega arith) in
+    record {
+      none = first_below-none (length ds) (fault_at ds) (λ k lt. united.none k (omega arith));
+      union = united.union ∙ ap (λ l. union_of (map listed l)) whole;
+      apart = subst (λ l. AllPairs IsDisjoint (map listed l)) whole united.apart;
+      lists = λ k lt. is_list_where_none _ _ (united.none k (omega arith));
+    }
+
+-- the sets of the items below i, and of one item more
+pub are_read_more :
+    (ds : List Data) (i : ℕ) (sets : List Ids) (s : Ids) → sets ≡ map listed (take i ds) → i < length ds → s ≡ listed (get_or ds i null)
+    → sets ++ s ∷ [] ≡ map listed (take (i + 1) ds)
+are_read_more ds i sets s read lt is = rw (take_more ds i null lt, map-append, read, is) refl
+
+pub are_read_all : (ds : List Data) (i : ℕ) (sets : List Ids) → sets ≡ map listed (take i ds) → i ≡ length ds → sets ≡ map listed ds
+are_read_all ds i sets read end = read ∙ ap (map listed) (take_all i ds (omega arith))

@@ -2,7 +2,9 @@ pub mod Layout
 pub mod Present
 pub mod Nodes
 pub mod Weight
+pub mod Lowered
 pub mod IsSound
+pub mod Index
 pub mod FieldName
 pub mod Members
 pub mod Listed

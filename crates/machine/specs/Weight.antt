@@ -1,9 +1,11 @@
-use Rattle.std.specs.Prelude.{◌≡◌, ◌≢◌, ℕ, ◌<◌, ◌≤◌, true, min, map, fold}
+use Rattle.std.specs.Prelude.{◌≡◌, ◌≢◌, ℕ, ◌<◌, ◌≤◌, true, min, map, fold, List, length, slice_index_or}
 use Rattle.std.specs.FinSet as set
 use Rattle.cpu_set.specs.Ids.{Ids}
 use Rattle.cpu_set.specs.Members.{members}
+use Rattle.machine.specs.declared.TheConstants.{NODE_LIMIT}
 use Rattle.machine.specs.Layout.{Layout, node_count, distance}
 use Rattle.machine.specs.Nodes.{IsOfNode, node_of}
+use Rattle.machine.specs.Present.{IsPresent}
 
 -- Nodes of the machine, at least one.
 pub record AreHomes (m : Layout) (homes : Ids) : Type 0 where
@@ -26,3 +28,10 @@ weight m homes cpu = fold min 255 (map (distance m (node_of m cpu)) (members hom
 -- whatever the homes, these CPUs have one weight
 abbrev pub HaveOneWeight : Layout → Ids → Type 0
 HaveOneWeight m cpus = (homes : Ids) (a b : ℕ) → set.contains cpus a ≡ true → set.contains cpus b ≡ true → weight m homes a ≡ weight m homes b
+
+-- at each node its weight, which is that of its CPUs; behind the nodes the greatest distance
+pub record AreWeights (m : Layout) (homes : Ids) (weights : List ℕ) : Type 0 where
+  pub room : length weights ≡ NODE_LIMIT
+  pub least : (i : ℕ) → i < node_count m → IsLeast m homes i (slice_index_or weights i 255)
+  pub each : (cpu : ℕ) → IsPresent m cpu → slice_index_or weights (node_of m cpu) 255 ≡ weight m homes cpu
+  pub beyond : (i : ℕ) → node_count m ≤ i → slice_index_or weights i 255 ≡ 255

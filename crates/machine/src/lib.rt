@@ -8,6 +8,7 @@
 mod boot;
 mod fault;
 mod field;
+mod index;
 mod laws;
 mod lookup;
 mod machine;

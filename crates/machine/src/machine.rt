@@ -1,19 +1,22 @@
-ghost use Rattle.std.specs.Prelude.{◌≡◌, ◌≢◌, ℕ, ◌<◌, ◌≤◌, ◌↔◌, true, nat_lt, position, option_map, IfOk};
+ghost use Rattle.std.specs.Prelude.{◌≡◌, ◌≢◌, ℕ, ◌<◌, ◌≤◌, ◌↔◌, ◌&&◌, ◌==◌, true, nat_lt, length, option_map, IfOk};
 ghost use Rattle.serde_json.specs.View.{view};
 ghost use Rattle.std.specs.FinSet as set;
 ghost use Rattle.machine.specs.Layout.{Layout, node_count, cpus_of, distance};
 ghost use Rattle.machine.specs.Present.{present, IsPresent};
 ghost use Rattle.machine.specs.Nodes.{nodes_of, node_of, IsOfNode};
-ghost use Rattle.machine.specs.Weight.{weight, IsWeight, AreHomes, HaveOneWeight};
+ghost use Rattle.machine.specs.Weight.{weight, IsWeight, AreHomes, AreWeights, HaveOneWeight};
+ghost use Rattle.machine.specs.Lowered.{AreLocal, AreLowered};
+ghost use Rattle.machine.specs.declared.TheConstants.{NODE_LIMIT};
 ghost use Rattle.faults.specs.Answers.{Reports, Gives, ChecksFirst};
 
 use crate::boot::{read_offline, read_reserved};
 use crate::fault::MachineFault;
 use crate::field::Field;
+use crate::index::places_of;
 use crate::lookup::{array, find};
-use crate::node_sets::{read_nodes, union_of};
+use crate::node_sets::{sets_of, unite_nodes};
 use crate::table::read_distances;
-use crate::{MAX_BYTES, UNREACHABLE};
+use crate::{LOCAL, MAX_BYTES, NODE_LIMIT, UNREACHABLE};
 use cpu_set::IdSet;
 use faults::OrMemory;
 use json_text::parse;
@@ -25,18 +28,21 @@ use std::marker::Model;
 /// The nodes of a machine with their CPUs and distances, its reserved CPUs, and those online at boot.
 ///
 /// There are 1 to [`NODE_LIMIT`](crate::NODE_LIMIT) nodes. No CPU is in two of them, and a node may have
-/// none. The reserved CPUs are one or more of those that are online at boot.
+/// none. The reserved CPUs are one or more of those that are online at boot. Which CPUs are present, and the
+/// node of each, is worked out once, as the file is read.
 #[derive(Debug, Drop)]
 pub struct Machine {
     nodes: Vec<IdSet>,
     distances: Vec<u8>,
     reserved: IdSet,
     online: IdSet,
+    present: IdSet,
+    places: Vec<u8>,
 }
 
 impl Model for Machine {
     ghost use Rattle.machine.specs.Layout.{Layout, layout_code};
-    ghost use Rattle.machine.specs.IsSound.{IsSound};
+    ghost use Rattle.machine.specs.Index.{IsIndexed};
 
     ghost Value = { Layout };
 
@@ -49,12 +55,12 @@ impl Model for Machine {
       online = m.online;
     } };
 
-    ghost invariant = { λ m. IsSound (record {
+    ghost invariant = { λ m. IsIndexed (record {
       nodes = m.nodes.items;
       distances = m.distances.items;
       reserved = m.reserved;
       online = m.online;
-    }) };
+    }) m.present m.places.items };
 }
 
 impl Machine {
@@ -110,17 +116,20 @@ impl Machine {
             return Err(OrMemory::Fault(MachineFault::NotJson));
         }
         let items = array(find(value, Field::Nodes), Field::Nodes)?;
-        let sets = read_nodes(items)?;
-        let nodes = &sets[..items.len()];
+        let present = unite_nodes(items)?;
         let distances = read_distances(find(value, Field::Distances), slit, items.len())?;
-        let present = union_of(nodes);
         let reserved = read_reserved(find(value, Field::Reserved), &present)?;
         let offline = read_offline(find(value, Field::Offline), &present, &reserved)?;
+        present.stays_below_the_limit();
+        let nodes = sets_of(alloc, items)?;
+        let places = places_of(&nodes);
         Ok(Machine {
-            nodes: Vec::from_slice(alloc, nodes)?,
+            nodes,
             distances: Vec::from_slice(alloc, distances.as_slice())?,
             reserved,
             online: present.minus(&offline),
+            present,
+            places: Vec::from_slice(alloc, &places)?,
         })
     }
 
@@ -135,7 +144,7 @@ impl Machine {
     fn union(&self) -> IdSet
         ensures { result ≡ present self.now }
     {
-        union_of(&self.nodes)
+        self.present
     }
 
     fn count(&self) -> usize
@@ -180,6 +189,7 @@ impl Machine {
         requires { node < node_count self.now }
         ensures is { result ≡ cpus_of self.now node }
         ensures alike { HaveOneWeight self.now result }
+        ensures members { (c : ℕ) → set.contains result c ≡ (set.contains (present self.now) c && (node_of self.now c == node)) }
     {
         self.cpus_at(node)
     }
@@ -199,15 +209,15 @@ impl Machine {
         ensures node { IsOfNode self.now cpu result }
         ensures only { (i : ℕ) → IsOfNode self.now cpu i → i ≡ result }
     {
-        self.first_with(cpu).unwrap()
+        self.place_of(cpu)
     }
 
-    /// The first node that has the CPU.
-    fn first_with(&self, cpu: u16) -> Option<usize>
-        ensures place { result ≡ position (λ cpus. set.contains cpus cpu) self.now.nodes }
+    fn place_of(&self, cpu: u16) -> usize
+        requires { IsPresent self.now cpu }
+        ensures place { (i : ℕ) → IsOfNode self.now cpu i → result ≡ i }
         ensures sound { IsSound self.now }
     {
-        self.nodes.iter().position(|cpus| cpus.contains(cpu))
+        usize::from(self.places[cpu as usize])
     }
 
     /// The distance from node `i` to node `j`, [`LOCAL`](crate::LOCAL) to [`UNREACHABLE`].
@@ -239,7 +249,69 @@ impl Machine {
         }
         least
     }
-}
 
-#[cfg(test)]
-mod tests;
+    /// The weight of each node's CPUs for a container with these home nodes, node 0 first, and behind the
+    /// nodes [`UNREACHABLE`].
+    pub fn weights(&self, homes: &IdSet) -> [u8; NODE_LIMIT]
+        requires { AreHomes self.now homes.now }
+        ensures weights { AreWeights self.now homes.now result }
+        ensures sound { IsSound self.now }
+    {
+        if self.nodes().is_subset(homes) {
+            return self.local_weights();
+        }
+        self.least_weights(homes)
+    }
+
+    /// The weights where each node is a home.
+    fn local_weights(&self) -> [u8; NODE_LIMIT]
+        ensures { AreLocal (node_count self.now) result }
+    {
+        let mut local = [UNREACHABLE; NODE_LIMIT];
+        for node in 0..self.count() {
+            local[node] = LOCAL;
+        }
+        local
+    }
+
+    /// The weights, each the least of the distances to the homes.
+    #[tactic(auto, unfolding(crate::proofs::WeightLaws::least_below))]
+    fn least_weights(&self, homes: &IdSet) -> [u8; NODE_LIMIT]
+        requires { AreHomes self.now homes.now }
+        ensures { AreWeights self.now homes.now result }
+    {
+        let mut least = [UNREACHABLE; NODE_LIMIT];
+        for home in 0..self.count() {
+            if homes.contains(home as u16) {
+                self.lower(home, &mut least);
+            }
+        }
+        least
+    }
+
+    /// Lowers the weight of each node to its distance to this home, where that is less.
+    fn lower(&self, home: usize, least: &mut [u8; NODE_LIMIT])
+        requires home { home < node_count self.now }
+        requires room { length least.old ≡ NODE_LIMIT }
+        ensures { AreLowered self.now home least.old least.new (node_count self.now) }
+    {
+        for i in 0..self.count() {
+            least[i] = least[i].min(self.distance(i, home));
+        }
+    }
+
+    /// The present CPUs with a way to one of these home nodes.
+    pub fn in_reach(&self, homes: &IdSet) -> IdSet
+        requires { AreHomes self.now homes.now }
+        ensures { (c : ℕ) → set.contains result c ≡ (set.contains (present self.now) c && nat_lt (weight self.now homes.now c) 255) }
+    {
+        let weights = self.weights(homes);
+        let mut reach = self.union();
+        for i in 0..self.count() {
+            if weights[i] >= UNREACHABLE {
+                reach = reach.minus(&self.cpus_at(i));
+            }
+        }
+        reach
+    }
+}

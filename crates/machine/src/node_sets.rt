@@ -1,9 +1,11 @@
 //! The CPUs of each node, as the member `nodes` has them.
-ghost use Rattle.std.specs.Prelude.{◌≡◌, ◌≤◌, IfOk, OnOk, AllPairs, length, map, take, fold};
+ghost use Rattle.std.specs.Prelude.{◌≡◌, ◌≤◌, None, IfOk, OnOk, AllPairs, length, map};
 ghost use Rattle.std.specs.Result.{result_err};
 ghost use Rattle.std.specs.FinSet as set;
 ghost use Rattle.serde_json.specs.View.{view};
 ghost use Rattle.cpu_set.specs.Ids.{IsDisjoint};
+ghost use Rattle.machine.specs.declared.field.Field.TheVariants.{Nodes};
+ghost use Rattle.machine.specs.KindFaults.{list_fault, AreLists};
 ghost use Rattle.machine.specs.Present.{union_of};
 ghost use Rattle.machine.specs.Listed.{listed};
 ghost use Rattle.machine.specs.NodesFault.{twice_fault, node_fault, first_node_fault, nodes_fault};
@@ -14,38 +16,36 @@ use crate::field::Field;
 use crate::lookup::list;
 use cpu_set::IdSet;
 use serde_json::Value;
+use std::alloc::{AllocError, Global};
 
-/// The CPUs of each of the nodes in their order, and behind them empty sets.
+/// The CPUs of all nodes, of which no two have one in common.
 #[tactic(auto, using(crate::proofs::ItemLaws::item_counts), unfolding(crate::specs::NodesFault::nodes_fault))]
-pub(crate) fn read_nodes(items: &[Value]) -> Result<[IdSet; NODE_LIMIT], MachineFault>
+pub(crate) fn unite_nodes(items: &[Value]) -> Result<IdSet, MachineFault>
     ensures fault { nodes_fault (map view items.now) ≡ result_err result }
-    ensures sets { IfOk result (λ sets. take (length items.now) sets ≡ map listed (map view items.now)) }
-    ensures room { IfOk result (λ sets. length sets ≡ NODE_LIMIT) }
+    ensures union { IfOk result (λ all. all ≡ union_of (map listed (map view items.now))) }
     ensures some { OnOk result (1 ≤ length items.now) }
     ensures few { OnOk result (length items.now ≤ NODE_LIMIT) }
-    ensures apart { IfOk result (λ sets. AllPairs IsDisjoint (take (length items.now) sets)) }
+    ensures apart { OnOk result (AllPairs IsDisjoint (map listed (map view items.now))) }
+    ensures lists { OnOk result (AreLists Nodes (map view items.now)) }
 {
     if items.is_empty() || items.len() > NODE_LIMIT {
         return Err(MachineFault::NodeCount);
     }
-    read_sets(items)
+    unite(items)
 }
 
-fn read_sets(items: &[Value]) -> Result<[IdSet; NODE_LIMIT], MachineFault>
-    requires { length items.now ≤ NODE_LIMIT }
+fn unite(items: &[Value]) -> Result<IdSet, MachineFault>
     ensures fault { first_node_fault (map view items.now) ≡ result_err result }
-    ensures sets { IfOk result (λ sets. take (length items.now) sets ≡ map listed (map view items.now)) }
-    ensures room { IfOk result (λ sets. length sets ≡ NODE_LIMIT) }
-    ensures apart { IfOk result (λ sets. AllPairs IsDisjoint (take (length items.now) sets)) }
+    ensures union { IfOk result (λ all. all ≡ union_of (map listed (map view items.now))) }
+    ensures apart { OnOk result (AllPairs IsDisjoint (map listed (map view items.now))) }
+    ensures lists { OnOk result (AreLists Nodes (map view items.now)) }
 {
-    let mut sets = [IdSet::empty(); NODE_LIMIT];
-    let mut earlier = IdSet::empty();
-    for (i, item) in items.iter().enumerate() {
-        let cpus = read_node(item, &earlier)?;
-        sets[i] = cpus;
-        earlier = earlier.union(&cpus);
+    let mut all = IdSet::empty();
+    for item in items {
+        let cpus = read_node(item, &all)?;
+        all = all.union(&cpus);
     }
-    Ok(sets)
+    Ok(all)
 }
 
 /// The CPUs of one node, none of which an earlier one has.
@@ -71,10 +71,22 @@ fn check_apart(cpus: &IdSet, earlier: &IdSet) -> Result<(), MachineFault>
     }
 }
 
-/// The CPUs that are in one of the sets.
-pub(crate) fn union_of(sets: &[IdSet]) -> IdSet
-    ensures { result ≡ union_of sets.now }
+/// The CPUs of each node in their order.
+pub(crate) fn sets_of(alloc: Global, items: &[Value]) -> Result<Vec<IdSet>, AllocError>
+    requires { AreLists Nodes (map view items.now) }
+    ensures { IfOk result (λ sets. sets.items ≡ map listed (map view items.now)) }
 {
-    sets.iter()
-        .fold(IdSet::empty(), |all, cpus| all.union(cpus))
+    let mut sets = Vec::with_capacity(alloc, items.len())?;
+    for item in items {
+        sets.push(cpus_of(item))?;
+    }
+    Ok(sets)
+}
+
+/// The CPUs of a value that is a list.
+fn cpus_of(item: &Value) -> IdSet
+    requires { list_fault Nodes (view item.now) ≡ None }
+    ensures { result ≡ listed (view item.now) }
+{
+    list(item, Field::Nodes).unwrap()
 }

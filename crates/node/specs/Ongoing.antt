@@ -21,7 +21,7 @@ pub record Leads (Rest : List Entry → Type 0) (h : Holder) (entries : List Ent
   pub of : holder_of entry ≡ h
   pub rest : Rest later
 
--- each container has its entry, in their order, but for those whose first process has ended; and no other entry is there
+-- each container has its entry, in their order, except for those whose first process has ended; and no other entry is there
 abbrev pub AreOf : KernelState → List Entry → List Owner → Type 0
 AreOf k entries [] = entries ≡ []
 AreOf k entries (o ∷ later) =

@@ -10,7 +10,7 @@ ghost use Rattle.node.specs.IsNode.{HaveOtherIds, IsAsked};
 ghost use Rattle.node.specs.Owners.{owners_of};
 ghost use Rattle.node.specs.Rows.{row_of_container, rows_in, rows_of};
 ghost use Rattle.node.specs.Viewed.{seen, all_seen};
-ghost use Rattle.rows.specs.Weighed.{IsWeighed};
+ghost use Rattle.rows.specs.CachedOffers.{IsCached};
 
 use crate::container::Container;
 use crate::{CONTAINER_LIMIT, Node};
@@ -19,7 +19,7 @@ use cpu_set::IdSet;
 use indexmap::IndexMap;
 use kernel_model::Kernel;
 use machine::Machine;
-use rows::{Weighed, row_of};
+use rows::{CachedOffers, row_of};
 use std::alloc::{AllocError, Global};
 
 /// The row of a container over these CPUs, which are online, if it is live and asks for CPUs of its own.
@@ -30,19 +30,19 @@ fn row_in<K: Kernel>(
     online: &IdSet,
     id: &str,
     container: &Container,
-    known: &mut Vec<Weighed>,
+    cache: &mut Vec<CachedOffers>,
 ) -> Result<Option<Row>, AllocError>
     requires online { online.now ≡ (K.state kernel.now).tree.online }
     requires fits { FitsMachine machine.now container.now.demand }
-    requires known { All (IsWeighed machine.now) known.old.items }
+    requires cache { All (IsCached machine.now) cache.old.items }
     ensures row { IfOk result (λ row. row ≡ row_of_container (K.state kernel.now) machine.now (id.now, seen container.now)) }
     ensures fits { IfOk result (λ row. IfSome row (λ r. IsTrue (row_fits r))) }
-    ensures known { All (IsWeighed machine.now) known.new.items }
+    ensures cache { All (IsCached machine.now) cache.new.items }
 {
     if !kernel.first_alive(container.pid) {
         return Ok(None);
     }
-    row_of(alloc, machine, online, id, &container.demand, known)
+    row_of(alloc, machine, online, id, &container.demand, cache)
 }
 
 /// The live containers that ask for CPUs of their own, as a problem: a row for each over the CPUs that are online, in the
@@ -63,9 +63,9 @@ pub fn rows_in<K: Kernel>(
 {
     let online = kernel.online();
     let mut rows = Vec::with_capacity(alloc, containers.len())?;
-    let mut known = Vec::new(alloc);
+    let mut cache = Vec::new(alloc);
     for (id, container) in containers.iter() {
-        if let Some(row) = row_in(alloc, kernel, machine, &online, id, container, &mut known)? {
+        if let Some(row) = row_in(alloc, kernel, machine, &online, id, container, &mut cache)? {
             rows.push(row)?;
         }
     }

@@ -15,7 +15,7 @@ use certificate_text::written_texts_are_read;
 use rows::rows_weigh;
 
 /// Which kernels a node can be made over: those of which nothing was asked yet, and which have the machine's CPUs and nodes.
-/// Where no write of such a kernel fails, want of memory is all that can stand against a node over it.
+/// Where no write of such a kernel fails, lack of memory is all that can stand against a node over it.
 pub fn first_kernels()
     ensures unused { FirstIsUnused }
     ensures machine { FirstIsOfMachine }

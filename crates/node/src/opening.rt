@@ -2,7 +2,6 @@
 ghost use Rattle.std.specs.Prelude.{◌≡◌, ◌++◌, ◌∷◌, List, ℕ, true, drop, map, slice_index_or, option_to_list, IfOk};
 ghost use Rattle.std.specs.FinSet as set;
 ghost use Rattle.std.specs.Slice.Iter.{iter_rest};
-ghost use Rattle.cpuset_tree.specs.Groups.{has_group, requested_cpus};
 ghost use Rattle.apply_plan.specs.Targets.{ArePlaced};
 ghost use Rattle.apply_plan.specs.DueWrite.{held};
 ghost use Rattle.node.specs.NodeState.{ContainerState};
@@ -16,7 +15,7 @@ use apply_plan::{Entry, Handover};
 use cpu_set::IdSet;
 use demand::Kind;
 use indexmap::IndexMap;
-use kernel_model::{Group, Kernel};
+use kernel_model::{Kernel, requested};
 use rows::rows_weigh;
 use std::alloc::{AllocError, Global};
 use std::slice::Iter;
@@ -83,17 +82,6 @@ fn entries_in<K: Kernel>(
         }
     }
     Ok(entries)
-}
-
-/// What a group requests.
-fn requested<K: Kernel>(kernel: &K, group: Group) -> IdSet
-    requires { has_group (K.state kernel.now).tree group ≡ true }
-    ensures { result ≡ requested_cpus (K.state kernel.now).tree group }
-{
-    match kernel.requested_cpus(group) {
-        Ok(cpus) => cpus,
-        Err(_) => unreachable!(),
-    }
 }
 
 /// What the groups of the entries request.

@@ -4,8 +4,6 @@
 mod fault;
 pub mod laws;
 mod processes;
-#[cfg(test)]
-mod tests;
 
 pub use fault::ProcFault;
 pub use processes::{ProcTable, Process};

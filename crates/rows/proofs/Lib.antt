@@ -1,5 +1,4 @@
-pub mod FewerLemmas
 pub mod OfferLemmas
-pub mod NearestLemmas
+pub mod ChainLemmas
 pub mod LimitLemmas
-pub mod WeighedLemmas
+pub mod CacheLemmas

@@ -1,16 +1,18 @@
 -- The CPUs of one weight, and the offers of all weights.
-use Rattle.std.proofs.Common.{◌≡◌, ℕ, zero, suc, ◌+◌, ◌-◌, ◌<◌, ◌≤◌, Bool, true, false, cond, not, ◌&&◌, ◌==◌, nat_lt, nat_le, List, [], ◌∷◌, ◌++◌, refl, sym, ap, ◌∙◌, arith}
+use Rattle.std.proofs.Common.{◌≡◌, ℕ, zero, suc, ◌+◌, ◌<◌, ◌≤◌, Bool, true, false, cond, ◌&&◌, ◌==◌, nat_lt, List, [], ◌∷◌, ◌++◌, get_or, refl, sym, ap, ◌∙◌, arith}
 use Rattle.std.proofs.lemmas.Bool.{true≢false, false≢true}
 use Rattle.std.proofs.lemmas.Bool.Decides.{nat_tests}
 use Rattle.std.proofs.lemmas.List.FromFn.{filter_of_map_range_with_len_more}
 use Rattle.std.proofs.lemmas.List.{append-nil}
 use Rattle.std.specs.FinSet as set
 use Rattle.cpu_set.specs.Ids.{Ids}
-use Rattle.cpu_set.specs.Pointwise.{same_members, contains-empty, contains-difference}
+use Rattle.cpu_set.specs.Pointwise.{same_members, contains-empty, contains-intersection}
 use Rattle.machine.specs.Layout.{Layout}
-use Rattle.machine.specs.Weight.{weight}
+use Rattle.machine.specs.Nodes.{node_of}
+use Rattle.machine.specs.Present.{present}
+use Rattle.machine.specs.Weight.{weight, AreWeights}
 use Rattle.certificate.specs.declared.Offer.{Offer}
-use Rattle.rows.specs.Nearest.{AreInReach, IsNearest}
+use Rattle.rows.specs.Reach.{AreInReach}
 use Rattle.rows.specs.Offers.{of_weight, offer_at, has_some, offers_below, offers_of}
 
 tied : (p : ℕ → Bool) (q x : ℕ) → q ≡ x → p x ≡ p q
@@ -59,108 +61,62 @@ module _ (m : Layout) (homes cpus : Ids) where
       ∙ append-nil _
       ∙ none_between n k (λ c has above below. none c has above (omega (arith, below)))
 
--- which of the weights below a distance have been offered: those below some weight, of which the CPUs that are left have none
-pub record IsPeeled (m : Layout) (homes cpus left : Ids) (offers : List Offer) : Type 0 where
-  pub from : ℕ
-  pub below : from ≤ 255
-  pub offered : offers ≡ offers_below m homes cpus from
-  pub left_are : (c : ℕ) → set.contains left c ≡ (set.contains cpus c && nat_le from (weight m homes c))
+-- the code's set of a weight is the definition's
+pub are_of_weight :
+    (m : Layout) (homes cpus at here : Ids) (weights : List ℕ) (n : ℕ) → AreInReach m homes cpus → AreWeights m homes weights
+    → ((c : ℕ) → set.contains at c ≡ (set.contains (present m) c && (get_or weights (node_of m c) 255 == n)))
+    → here ≡ set.intersection at cpus → here ≡ of_weight m homes cpus n
+are_of_weight m homes cpus at here weights n reach are each is =
+    is ∙ same_members _ _ (λ c.
+    contains-intersection at cpus c ∙ ap (λ b. b && set.contains cpus c) (each c)
+    ∙ by_cpus c (set.contains cpus c) (set.contains (present m) c) refl refl
+    ∙ sym (contains-of_weight m homes cpus n c))
+  where
+    and_true : (b : Bool) → (b && true) ≡ b
+    and_true true = refl
+    and_true false = refl
 
-and_parts : (a b : Bool) → (a && b) ≡ true → (a ≡ true) × (b ≡ true)
-and_parts true b is = (refl, is)
-and_parts false b is = absurd (false≢true is)
+    and_false : (b : Bool) → (b && false) ≡ false
+    and_false true = refl
+    and_false false = refl
 
-at_least_zero : (b : Bool) (n : ℕ) → b ≡ (b && nat_le 0 n)
-at_least_zero true n = grind (arith, nat_tests)
-at_least_zero false n = refl
+    by_cpus : (c : ℕ) (a p : Bool) → set.contains cpus c ≡ a → set.contains (present m) c ≡ p
+        → ((p && (get_or weights (node_of m c) 255 == n)) && a) ≡ (a && (weight m homes c == n))
+    by_cpus c false p has there = and_false _
+    by_cpus c true false has there = absurd (false≢true (sym there ∙ (reach c has).0))
+    by_cpus c true true has there = and_true _ ∙ ap (λ w. w == n) (are.each c there)
 
--- none at first
-pub peeled_start : (m : Layout) (homes cpus left : Ids) (offers : List Offer) → left ≡ cpus → offers ≡ [] → IsPeeled m homes cpus left offers
-peeled_start m homes cpus left offers all none = record {
-  from = 0;
-  below = omega arith;
-  offered = none;
-  left_are = λ c. ap (λ s. set.contains s c) all ∙ at_least_zero (set.contains cpus c) (weight m homes c);
-}
+-- a weight that one of the CPUs has is offered
+pub offered : (m : Layout) (homes cpus here : Ids) (n v : ℕ) (offers more : List Offer) → v ≡ n → offers ≡ offers_below m homes cpus n
+    → here ≡ of_weight m homes cpus n → (here ≡ set.empty → ⊥) → more ≡ offers ++ record { weight = v; cpus = here } ∷ []
+    → more ≡ offers_below m homes cpus (n + 1)
+offered m homes cpus here n v offers more same before is some added =
+    added
+    ∙ ap (λ u. offers ++ record { weight = u; cpus = here } ∷ []) same
+    ∙ ap (λ l. l ++ record { weight = n; cpus = here } ∷ []) before
+    ∙ ap (λ s. offers_below m homes cpus n ++ record { weight = n; cpus = s } ∷ []) is
+    ∙ sym (one_more m homes cpus n ∙ ap (λ b. offers_below m homes cpus n ++ cond b (offer_at m homes cpus n ∷ []) []) (by_len (set.len (of_weight m homes cpus n)) refl))
+  where
+    by_len : (k : ℕ) → set.len (of_weight m homes cpus n) ≡ k → nat_lt 0 (set.len (of_weight m homes cpus n)) ≡ true
+    by_len zero e = absurd (some (is ∙ set.empty_of_len _ e))
+    by_len (suc k) e = grind (arith, nat_tests)
 
--- the nearest CPU is one of those that are left
-pub nearest_is_left : (m : Layout) (homes left : Ids) (offer : Offer) (nearest : IsNearest m homes (λ c. set.contains left c) offer) → set.contains left nearest.some.0 ≡ true
-nearest_is_left m homes left offer nearest = (and_parts _ _ (sym (nearest.exact nearest.some.0) ∙ nearest.some.1)).0
+-- and one that none has is not
+pub passed_over : (m : Layout) (homes cpus here : Ids) (n : ℕ) (offers : List Offer) → offers ≡ offers_below m homes cpus n
+    → here ≡ of_weight m homes cpus n → here ≡ set.empty → offers ≡ offers_below m homes cpus (n + 1)
+passed_over m homes cpus here n offers before is none =
+    before ∙ sym (one_more m homes cpus n
+    ∙ ap (λ b. offers_below m homes cpus n ++ cond b (offer_at m homes cpus n ∷ []) [])
+    (ap (λ s. nat_lt 0 (set.len s)) (sym is ∙ none) ∙ ap (nat_lt 0) (set.len-empty _))
+    ∙ append-nil _)
 
-module _ (m : Layout) (homes cpus left : Ids) (offers : List Offer) (p : IsPeeled m homes cpus left offers) (reach : AreInReach m homes cpus) where
-  abbrev v : ℕ → ℕ
-  v c = weight m homes c
+-- a weight that no node has is not offered
+pub none_offered : (m : Layout) (homes cpus : Ids) (weights : List ℕ) (n : ℕ) (offers : List Offer) → AreInReach m homes cpus → AreWeights m homes weights
+    → ((k : ℕ) → get_or weights k 255 ≡ n → ⊥) → offers ≡ offers_below m homes cpus n → offers ≡ offers_below m homes cpus (n + 1)
+none_offered m homes cpus weights n offers reach are none before =
+    passed_over m homes cpus (of_weight m homes cpus n) n offers before refl
+    (none_of m homes cpus n (λ c has is. none (node_of m c) (are.each c (reach c has).0 ∙ is)))
 
-  is_left : (c : ℕ) → set.contains left c ≡ true → (set.contains cpus c ≡ true) × (p.from ≤ v c)
-  is_left c has = let parts = and_parts _ _ (sym (p.left_are c) ∙ has) in (parts.0, grind (arith, nat_tests, parts.1))
-
-  still_left : (c : ℕ) → set.contains cpus c ≡ true → p.from ≤ v c → set.contains left c ≡ true
-  still_left c has above = p.left_are c ∙ rw has (grind (arith, nat_tests))
-
-  -- where none are left, all are offered
-  pub peeled_end : ((c : ℕ) → set.contains left c ≡ false) → offers ≡ offers_of m homes cpus
-  unfolding offers_of
-  peeled_end none =
-      let below : p.from ≤ 255 = p.below in
-      let all : p.from + (255 - p.from) ≡ 255 = omega arith in
-      p.offered
-      ∙ sym (none_between m homes cpus p.from (255 - p.from) (λ c has above under. true≢false (sym (still_left c has above) ∙ none c)))
-      ∙ ap (offers_below m homes cpus) all
-
-  module _ (offer : Offer) (nearest : IsNearest m homes (λ c. set.contains left c) offer) where
-    first : (set.contains left nearest.some.0 ≡ true) × (v nearest.some.0 ≡ offer.weight)
-    first = let parts = and_parts _ _ (sym (nearest.exact nearest.some.0) ∙ nearest.some.1) in (parts.0, grind (arith, nat_tests, parts.1))
-
-    from_here : p.from ≤ offer.weight
-    from_here = let above = (is_left nearest.some.0 first.0).1 in omega (arith, first.1)
-
-    in_reach : offer.weight < 255
-    in_reach = let near = (reach nearest.some.0 (is_left nearest.some.0 first.0).0).1 in omega (arith, first.1)
-
-    same_cpus : offer.cpus ≡ of_weight m homes cpus offer.weight
-    same_cpus = same_members _ _ (λ c.
-        nearest.exact c ∙ ap (λ b. b && (v c == offer.weight)) (p.left_are c)
-        ∙ kept (set.contains cpus c) (v c)
-        ∙ sym (contains-of_weight m homes cpus offer.weight c))
-      where
-        kept : (b : Bool) (n : ℕ) → ((b && nat_le p.from n) && (n == offer.weight)) ≡ (b && (n == offer.weight))
-        kept false n = refl
-        kept true n = let lower = from_here in grind (arith, nat_tests)
-
-    same_offer : offer ≡ offer_at m homes cpus offer.weight
-    same_offer = ap (λ s. record { weight = offer.weight; cpus = s }) same_cpus
-
-    one_offered : offers_below m homes cpus (offer.weight + 1) ≡ offers_below m homes cpus p.from ++ offer ∷ []
-    one_offered =
-        let lower : p.from ≤ offer.weight = from_here in
-        let up : p.from + (offer.weight - p.from) ≡ offer.weight = omega arith in
-        let gap : offers_below m homes cpus offer.weight ≡ offers_below m homes cpus p.from =
-        ap (offers_below m homes cpus) (sym up)
-        ∙ none_between m homes cpus p.from (offer.weight - p.from) (λ c has above under.
-        let least : offer.weight ≤ v c = nearest.least c (still_left c has above) in absurd (omega arith)) in
-        one_more m homes cpus offer.weight
-        ∙ ap (λ b. offers_below m homes cpus offer.weight ++ cond b (offer_at m homes cpus offer.weight ∷ []) [])
-        (offers_some m homes cpus offer.weight nearest.some.0 (is_left nearest.some.0 first.0).0 first.1)
-        ∙ ap (λ o. offers_below m homes cpus offer.weight ++ o ∷ []) (sym same_offer)
-        ∙ ap (λ l. l ++ offer ∷ []) gap
-
-    left_after : (c : ℕ) (a b : Bool) → set.contains cpus c ≡ a → nat_le p.from (v c) ≡ b
-        → ((a && b) && not ((a && b) && (v c == offer.weight))) ≡ (a && nat_le (offer.weight + 1) (v c))
-    left_after c false b has above = refl
-    left_after c true false has above = let lower : p.from ≤ offer.weight = from_here in grind (arith, nat_tests, above)
-    left_after c true true has above =
-        let least : offer.weight ≤ v c = nearest.least c (p.left_are c ∙ rw (has, above) refl) in
-        grind (arith, nat_tests)
-
-    -- the nearest of those that are left are offered next
-    pub peeled_more : (rest : Ids) (more : List Offer) → rest ≡ set.difference left offer.cpus → more ≡ offers ++ offer ∷ [] → IsPeeled m homes cpus rest more
-    peeled_more rest more taken added = record {
-      from = offer.weight + 1;
-      below = let near = in_reach in omega arith;
-      offered = added ∙ ap (λ l. l ++ offer ∷ []) p.offered ∙ sym one_offered;
-      left_are = λ c.
-          ap (λ s. set.contains s c) taken ∙ contains-difference left offer.cpus c
-          ∙ ap (λ b. set.contains left c && not b) (nearest.exact c)
-          ∙ ap (λ b. b && not (b && (v c == offer.weight))) (p.left_are c)
-          ∙ left_after c (set.contains cpus c) (nat_le p.from (v c)) refl refl;
-    }
+pub all_offered : (m : Layout) (homes cpus : Ids) (n : ℕ) (offers : List Offer) → offers ≡ offers_below m homes cpus n → n ≡ 255 → offers ≡ offers_of m homes cpus
+unfolding offers_of
+all_offered m homes cpus n offers are all = are ∙ ap (offers_below m homes cpus) all

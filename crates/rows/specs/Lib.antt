@@ -1,5 +1,6 @@
 pub mod Offers
 pub mod RowOf
 pub mod Weighs
-pub mod Nearest
-pub mod Weighed
+pub mod Reach
+pub mod Chains
+pub mod CachedOffers

@@ -3,11 +3,12 @@
 //! Which CPUs a row offers, and what each of them weighs, is decided here and nowhere else.
 #![tactic(auto)]
 
+mod cache;
+mod chains;
 mod laws;
 mod offers;
 mod row;
-mod weighed;
 
+pub use cache::CachedOffers;
 pub use laws::rows_weigh;
 pub use row::row_of;
-pub use weighed::Weighed;

@@ -2,9 +2,9 @@ ghost use Rattle.std.specs.Prelude.{◌≡◌, option_map, All, IsTrue, IfOk, If
 ghost use Rattle.certificate.specs.Limits.{row_fits};
 ghost use Rattle.demand.specs.FitsMachine.{FitsMachine};
 ghost use Rattle.rows.specs.RowOf.{row_of};
-ghost use Rattle.rows.specs.Weighed.{IsWeighed};
+ghost use Rattle.rows.specs.CachedOffers.{IsCached};
 
-use crate::weighed::{Weighed, offers_among};
+use crate::cache::{CachedOffers, offers_among};
 use certificate::Row;
 use cpu_set::IdSet;
 use demand::{Demand, Kind};
@@ -14,7 +14,7 @@ use std::alloc::{AllocError, Global};
 /// The row of a container that asks for CPUs of its own while these CPUs are online; a shared one has none.
 ///
 /// It offers the CPUs that the container may get and that are online. Each weighs as much as the distance from its node
-/// to the nearest home; there is one offer for each weight, the least weight first. Offers that are known are taken from
+/// to the nearest home; there is one offer for each weight, the least weight first. Offers that are cached are taken from
 /// there, and new ones are added.
 pub fn row_of(
     alloc: Global,
@@ -22,13 +22,13 @@ pub fn row_of(
     online: &IdSet,
     id: &str,
     demand: &Demand,
-    known: &mut Vec<Weighed>,
+    cache: &mut Vec<CachedOffers>,
 ) -> Result<Option<Row>, AllocError>
     requires fits { FitsMachine machine.now demand.now }
-    requires known { All (IsWeighed machine.now) known.old.items }
+    requires cache { All (IsCached machine.now) cache.old.items }
     ensures row { IfOk result (λ row. row ≡ row_of machine.now online.now id.now demand.now) }
     ensures fits { IfOk result (λ row. IfSome row (λ r. IsTrue (row_fits r))) }
-    ensures known { All (IsWeighed machine.now) known.new.items }
+    ensures cache { All (IsCached machine.now) cache.new.items }
 {
     let Kind::Pinned(count) = demand.kind else {
         return Ok(None);
@@ -37,9 +37,6 @@ pub fn row_of(
     Ok(Some(Row {
         id: String::from_str(alloc, id)?,
         demand: count,
-        offers: offers_among(alloc, machine, &demand.homes, &cpus, known)?,
+        offers: offers_among(alloc, machine, &demand.homes, &cpus, cache)?,
     }))
 }
-
-#[cfg(test)]
-mod tests;

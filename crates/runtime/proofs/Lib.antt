@@ -2,3 +2,5 @@ pub mod Listing
 pub mod SetTexts
 pub mod Entries
 pub mod ContainerLines
+pub mod Serving
+pub mod LastTold

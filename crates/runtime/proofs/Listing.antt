@@ -1,8 +1,8 @@
 -- The lines of a listing, one after another.
 use Rattle.std.proofs.Common.{◌≡◌, ℕ, List, ◌∷◌, ◌++◌, sym, subst, append_assoc, codes, Option, Result}
 use Rattle.std.specs.List.{flat_map}
-use Rattle.cpu_list.specs.Output.{Writes}
-use Rattle.cpu_list.specs.Sending.{HasSent, Writes-then}
+use Rattle.byte_output.specs.Output.{Writes}
+use Rattle.byte_output.specs.Sending.{HasSent, Writes-then}
 use Rattle.node.specs.declared.container.Status.{Status}
 use Rattle.runtime.specs.AnswerTexts.{entry_line, listing_text}
 

@@ -13,6 +13,7 @@ use Rattle.node.specs.declared.outcome.Outcome.{Outcome}
 use Rattle.node.specs.NodeState.{NodeState}
 use Rattle.node.specs.Calls.{Creates, Starts, Kills, Deletes}
 use Rattle.node.specs.Rebalance.{Begins, StepsOn, Rebalances, ShowsCertificate}
+use Rattle.node.specs.Written.{CreateWrites}
 use Rattle.node.specs.Machine.{InKernel}
 use Rattle.node.specs.Reads.{HasSets}
 use Rattle.node.specs.Listed.{listed}
@@ -26,11 +27,12 @@ use Rattle.runtime.specs.OutcomeTexts.{outcome_text, progress_line}
 use Rattle.runtime.specs.AnswerTexts.{of_either, of_kernel, of_kernel_fault, answer_text, done_line, pid_line, sets_line, listing_text, phase_line}
 use Rattle.runtime.specs.declared.refusal.Refusal.TheVariants.{Memory, Node, NoBundle}
 
--- a container of the bundle whose config was found; or there is no such bundle
+-- a container of the bundle whose config was found, with at most so many writes where the kernel refuses it; or there is no
+-- such bundle
 abbrev pub AnswersFound : NodeState → List ℕ → List ℕ → Option (List ℕ) → List ℕ → NodeState → Type 0
 AnswersFound old id bundle None text new = (text ≡ refusal_line NoBundle) × (new ≡ old)
 AnswersFound old id bundle (Some config) text new =
-    (r : Result ℕ (OrMemory NodeFault)) × Creates old id bundle config r new × (text ≡ answer_text pid_line of_either r)
+    (r : Result ℕ (OrMemory NodeFault)) × Creates old id bundle config r new × CreateWrites old id r new × (text ≡ answer_text pid_line of_either r)
 
 -- memory for the bundle's config was wanted
 abbrev pub WantsMemory : NodeState → List ℕ → NodeState → Type 0

@@ -6,3 +6,5 @@ pub mod OutcomeTexts
 pub mod Answered
 pub mod Boots
 pub mod ScriptLaws
+pub mod ConfigsServed
+pub mod CertificatesTold

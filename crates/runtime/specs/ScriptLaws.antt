@@ -2,6 +2,7 @@
 use Rattle.std.proofs.Common.{◌≡◌, ◌⊎◌, ℕ, ◌≤◌, List, [], ◌∷◌, ◌++◌, length, length-append, Option, Some, None, Result, Ok, Err, inl, inr, codes, get_or, refl, sym, ap, subst, ◌∙◌, arith, append_assoc}
 use Rattle.faults.specs.declared.or_memory.OrMemory.{OrMemory}
 use Rattle.std.specs.Prelude.{String}
+use Rattle.cpu_set.specs.Ids.{Ids}
 use Rattle.std.specs.declared.alloc.Global.{Global}
 use Rattle.certificate_text.specs.Written.{text_of}
 use Rattle.certificate_text.specs.declared.certificates.Certificate.{Certificate}
@@ -13,7 +14,7 @@ use Rattle.node.specs.declared.reads.Sets.{Sets}
 use Rattle.node.specs.declared.fault.NodeFault.{NodeFault}
 use Rattle.node.specs.declared.outcome.Outcome.{Outcome}
 use Rattle.node.specs.declared.outcome.Outcome.TheVariants.{Plan, Short}
-use Rattle.node.specs.Headline.{Headline, IsRebalanced}
+use Rattle.node.specs.Headline.{Headline, IsRebalanced, IsShort}
 use Rattle.node.specs.IsNode.{IsNode}
 use Rattle.node.specs.Listed.{listed}
 use Rattle.node.specs.NodeState.{NodeState}
@@ -138,6 +139,12 @@ PlansAreTold = (first old new : RuntimeState) (lines : List (List ℕ)) (text mo
     → IsNode first.node → Runs Answered first lines text old → Answered old ask.rebalance (codes "plan total " ++ more) new
     → (total : ℕ) × IsRebalanced old.node total new.node × (codes "plan total " ++ more ≡ outcome_text new.node (Plan total))
 
+-- and one that begins as a shortage's does is the text of a shortage, of which it holds
+abbrev pub ShortagesAreTold : Type 0
+ShortagesAreTold = (first old new : RuntimeState) (lines : List (List ℕ)) (text more : List ℕ)
+    → IsNode first.node → Runs Answered first lines text old → Answered old ask.rebalance (codes "short demand " ++ more) new
+    → (wanted : ℕ) × (allowed : Ids) × IsShort old.node wanted allowed new.node × (codes "short demand " ++ more ≡ outcome_text new.node (Short wanted allowed))
+
 -- a rebalance in the midst of a script: what was answered before it and behind it, and that it left what the headline says
 pub record IsRebalanceOf (first : RuntimeState) (before after : List (List ℕ)) (text : List ℕ) (last : RuntimeState) : Type 0 where
   pub old : RuntimeState
@@ -164,7 +171,7 @@ is_call : (told : Told) (old : NodeState) (command : Asked) (text : List ℕ) (n
     → IsCall told command old text new ⊎ IsNoCall told command old text new
 is_call told old (ask.create id bundle) text new (inl h) = inr (id, bundle, refl, h.1, inl h.0)
 is_call told old (ask.create id bundle) text new (inr (None, found, h)) = inr (id, bundle, refl, h.1, inr (h.0, found))
-is_call told old (ask.create id bundle) text new (inr (Some config, found, (r, h, e))) = inl (record { event = Create id bundle config r; its = (config, r, found, refl); step = h; answer = e })
+is_call told old (ask.create id bundle) text new (inr (Some config, found, (r, h, writes, e))) = inl (record { event = Create id bundle config r; its = (config, r, found, refl); step = h; answer = e })
 is_call told old (ask.start id) text new (r, h, e) = inl (record { event = Start id r; its = (r, refl); step = h; answer = e })
 is_call told old (ask.kill id signal) text new (r, h, e) = inl (record { event = Kill id signal r; its = (r, refl); step = h; answer = e })
 is_call told old (ask.delete id) text new (r, h, e) = inl (record { event = Delete id r; its = (r, refl); step = h; answer = e })
@@ -248,8 +255,19 @@ plans_are_told leaves first old new lines text more node run answered =
     let told = rebalances_are_told leaves first old new lines text (codes "plan total " ++ more) node run answered in
     plan_told old.node new.node more told.0 told.1 told.2
 
+short_told : (old new : NodeState) (more : List ℕ) (r : Result Outcome (OrMemory NodeFault)) → Headline old r new → codes "short demand " ++ more ≡ answer_text (outcome_text new) of_either r
+    → (wanted : ℕ) × (allowed : Ids) × IsShort old wanted allowed new × (codes "short demand " ++ more ≡ outcome_text new (Short wanted allowed))
+short_told old new more (Ok (Plan total)) h e = absurd (let same : 115 ≡ 112 = ap (λ t. get_or t 0 0) e in let f : ⊥ = omega (arith, same) in f)
+short_told old new more (Ok (Short wanted allowed)) h e = (wanted, allowed, h, e)
+short_told old new more (Err error) h e = absurd (let same : 115 ≡ 114 = ap (λ t. get_or t 0 0) e in let f : ⊥ = omega (arith, same) in f)
+
+pub shortages_are_told : RunsRebalance → ShortagesAreTold
+shortages_are_told leaves first old new lines text more node run answered =
+    let told = rebalances_are_told leaves first old new lines text (codes "short demand " ++ more) node run answered in
+    short_told old.node new.node more told.0 told.1 told.2
+
 -- lines that were answered, cut before one of them and behind it
-runs_cut : (old last : RuntimeState) (before after : List (List ℕ)) (line text : List ℕ) → Runs Answered old (before ++ line ∷ after) text last
+pub runs_cut : (old last : RuntimeState) (before after : List (List ℕ)) (line text : List ℕ) → Runs Answered old (before ++ line ∷ after) text last
     → (mid : RuntimeState) × (new : RuntimeState) × (earlier : List ℕ) × (answer : List ℕ) × (later : List ℕ)
     × Runs Answered old before earlier mid × AnswersLine Answered mid (kept line) answer new × Runs Answered new after later last
     × (text ≡ earlier ++ (answer ++ later))

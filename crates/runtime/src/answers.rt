@@ -1,11 +1,12 @@
 //! The texts that answer commands.
 ghost use Rattle.std.specs.Prelude.{◌≡◌, ◌++◌, codes};
-ghost use Rattle.cpu_list.specs.Output.{Writes};
+ghost use Rattle.byte_output.specs.Output.{Writes};
 ghost use Rattle.node.specs.Listed.{listed};
 ghost use Rattle.runtime.specs.AnswerTexts.{both_text, done_line, listing_text, phase_line, pid_line, set_text, sets_line};
 ghost use Rattle.runtime.specs.Answered.{state_line};
 
-use cpu_list::{put, put_all, write_list};
+use byte_output::{put, put_all};
+use cpu_list::write_list;
 use cpu_set::IdSet;
 use itoa::Buffer;
 use kernel_model::Kernel;

@@ -1,10 +1,12 @@
 //! What holds of the definitions alone.
 ghost use Rattle.std.specs.Prelude.{◌≡◌};
 ghost use Rattle.runtime.specs.Boots.{BootsNodes};
-ghost use Rattle.runtime.specs.ScriptLaws.{CommandsAreCalls, LinesAreCalls, PlansAreTold, RebalancesAreTold, ScriptsRebalance};
+ghost use Rattle.runtime.specs.CertificatesTold.{CertificatesAreTold};
+ghost use Rattle.runtime.specs.ConfigsServed.{ScriptsServeConfigs};
+ghost use Rattle.runtime.specs.ScriptLaws.{CommandsAreCalls, LinesAreCalls, PlansAreTold, RebalancesAreTold, ScriptsRebalance, ShortagesAreTold};
 
 use crate::FIRST_PID;
-use node::laws::{each_rebalance, first_kernels};
+use node::laws::{certificates_prove, each_rebalance, first_kernels, what_configs_get};
 
 /// Each command of a script is answered by the text of the call or event that it asks for, also where it only reads; but a
 /// `create` for which no config was found makes no call. So answered lines are at most one call or event each.
@@ -15,13 +17,34 @@ pub fn lines_are_calls()
 
 /// The headline of a rebalance that a script asks for, whatever lines were answered before it: the text that answers it
 /// is that of an outcome or of a refusal, and the node is then as the headline says of this. A text that begins with
-/// `plan total` is a plan's. So it is with each line of a whole script that asks for a rebalance.
+/// `plan total` is a plan's, and one that begins with `short demand` a shortage's. So it is with each line of a whole script
+/// that asks for a rebalance.
 pub fn rebalances_are_told()
     ensures told { RebalancesAreTold }
     ensures plans { PlansAreTold }
+    ensures shortages { ShortagesAreTold }
     ensures scripts { ScriptsRebalance }
 {
     each_rebalance();
+}
+
+/// What a script plans for the containers of its bundles, from a node of no container on: the headline holds of each line that
+/// asks for a rebalance, and after a plan each container that lives has in effect what the bytes of its bundle's config ask for.
+/// Nothing runs.
+pub fn scripts_serve_configs()
+    ensures { ScriptsServeConfigs }
+{
+    each_rebalance();
+    what_configs_get();
+}
+
+/// The text that answers `certificate` proves the verdict of the outcome that was told last to whoever checks it. Nothing runs.
+pub fn certificates_are_told()
+    ensures { CertificatesAreTold }
+{
+    each_rebalance();
+    node::laws::runs();
+    certificates_prove();
 }
 
 /// A node from the beginning, on a sound machine, is one of which all holds that the laws of nodes ask for. Nothing runs.

@@ -16,7 +16,10 @@ mod runner;
 
 pub use bundle_list::BundleList;
 pub use bundles::Bundles;
-pub use laws::{booted_nodes, lines_are_calls, rebalances_are_told, the_limits};
+pub use laws::{
+    booted_nodes, certificates_are_told, lines_are_calls, rebalances_are_told,
+    scripts_serve_configs, the_limits,
+};
 pub use opening::{FIRST_PID, boot};
 pub use refusal::Refusal;
 pub use runner::Runner;

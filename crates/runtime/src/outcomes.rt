@@ -1,14 +1,14 @@
 //! The texts of plans and shortages.
 ghost use Rattle.std.specs.Prelude.{◌≡◌, ◌<◌, ◌++◌, All, codes, length, zip};
 ghost use Rattle.std.specs.List.{flat_map};
-ghost use Rattle.cpu_list.specs.Output.{Writes};
+ghost use Rattle.byte_output.specs.Output.{Writes};
 ghost use Rattle.certificate_text.specs.Written.{CanWrite};
 ghost use Rattle.runtime.specs.OutcomeTexts.{container_lines, end_lines, first_line, hold_line, last_lines, member_line, need_line, outcome_text, pool_lines, progress_line, total_line};
 
 use crate::answers::{put_labelled, put_set};
 use certificate::Row;
 use certificate_text::Certificate;
-use cpu_list::{put, put_all};
+use byte_output::{put, put_all};
 use cpu_set::IdSet;
 use itoa::Buffer;
 use kernel_model::Kernel;

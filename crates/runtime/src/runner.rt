@@ -85,6 +85,3 @@ fn carry_out<K: Kernel + Drop, B: Bundles, W: Write>(
         Command::Online { cpu } => online(node, cpu, w),
     }
 }
-
-#[cfg(test)]
-mod tests;

@@ -11,7 +11,7 @@ use Rattle.script.specs.Ends.{Ends, EndsUnread, EndsUnwritten, IsGivenBy, SendsP
 use Rattle.script.specs.Lines.{is_feed, kept, lines_of, with_piece}
 use Rattle.script.specs.Runs.{AnswersLine, Runs}
 use Rattle.script.specs.Underway.{Extends, Feeds, StopsIn, Underway}
-use Rattle.script.specs.declared.running.TheConstants.{PIECE}
+use Rattle.script.specs.declared.running.TheConstants.{MOST_READS, PIECE}
 use Rattle.script.proofs.Feeds.{HasFeed, HasNoFeed}
 
 -- a line with a piece behind it
@@ -221,11 +221,14 @@ module _ {S : Type 0} (Answers : S → Asked → List ℕ → S → Type 0) wher
       (Runs-more old new newer u.lines u.rest text more u.run (let P : Option (List ℕ) → Type 0 = λ h. AnswersLine Answers new h more newer in subst P u.held_is answered))
 
   pub IsRunning-ends : (read read' read'' out out' out'' : Option (List ℕ)) (reads : ℕ) (old new newer : S) (held : Option (List ℕ)) (more : List ℕ)
-      → IsRunning read read' out out' reads old new held → Consumes read' read'' [] × IsAtEnd read'' → AnswersLine Answers new held more newer → Appends out' out'' more
+      → reads < MOST_READS → IsRunning read read' out out' reads old new held → Consumes read' read'' [] × IsAtEnd read'' → AnswersLine Answers new held more newer → Appends out' out'' more
       → Ends Answers read read'' out out'' old newer
-  IsRunning-ends read read' read'' out out' out'' reads old new newer held more r (taken, ended) answered written = record {
+  IsRunning-ends read read' read'' out out' out'' reads old new newer held more few r (taken, ended) answered written = record {
     input = r.input;
     text = r.text ++ more;
+    reads = reads;
+    few = few;
+    given = r.given;
     taken = Consumes-nothing read read' read'' r.input r.taken taken;
     ended = ended;
     run = last-run old new newer r.input r.text more held r.underway answered;
@@ -233,9 +236,9 @@ module _ {S : Type 0} (Answers : S → Asked → List ℕ → S → Type 0) wher
   }
 
   pub IsRunning-end_unwritten : (read read' read'' out out' out'' : Option (List ℕ)) (reads : ℕ) (old new newer : S) (held : Option (List ℕ)) (more : List ℕ)
-      → IsRunning read read' out out' reads old new held → Consumes read' read'' [] × IsAtEnd read'' → AnswersLine Answers new held more newer → SendsPart out' out'' more
+      → reads < MOST_READS → IsRunning read read' out out' reads old new held → Consumes read' read'' [] × IsAtEnd read'' → AnswersLine Answers new held more newer → SendsPart out' out'' more
       → EndsUnwritten Answers read read'' out out'' old newer
-  IsRunning-end_unwritten read read' read'' out out' out'' reads old new newer held more r (taken, ended) answered part = record {
+  IsRunning-end_unwritten read read' read'' out out' out'' reads old new newer held more few r (taken, ended) answered part = record {
     input = r.input;
     before = r.underway.lines;
     line = r.underway.rest;
@@ -243,6 +246,9 @@ module _ {S : Type 0} (Answers : S → Asked → List ℕ → S → Type 0) wher
     text = r.text;
     answer = more;
     mid = new;
+    reads = reads;
+    few = omega (arith, few);
+    given = r.given;
     taken = Consumes-nothing read read' read'' r.input r.taken taken;
     cut = lines-left old new r.input r.text held r.underway;
     whole = λ e. ended;
@@ -252,8 +258,8 @@ module _ {S : Type 0} (Answers : S → Asked → List ℕ → S → Type 0) wher
   }
 
   pub IsRunning-unwritten : (read read' read'' out out' out'' : Option (List ℕ)) (reads : ℕ) (old new newer : S) (held : Option (List ℕ)) (piece : List ℕ)
-      → IsRunning read read' out out' reads old new held → Consumes read' read'' piece → StopsIn Answers out' out'' piece new held newer → EndsUnwritten Answers read read'' out out'' old newer
-  IsRunning-unwritten read read' read'' out out' out'' reads old new newer held piece r taken s =
+      → reads < MOST_READS → (r : IsRunning read read' out out' reads old new held) → IsGivenBy (reads + 1) (r.input ++ piece) → Consumes read' read'' piece → StopsIn Answers out' out'' piece new held newer → EndsUnwritten Answers read read'' out out'' old newer
+  IsRunning-unwritten read read' read'' out out' out'' reads old new newer held piece few r given taken s =
       let u : Underway Answers old (r.input ++ s.fed) (r.text ++ s.text) s.last s.line = s.extends old r.input r.text r.underway in
       record {
         input = r.input ++ piece;
@@ -263,6 +269,9 @@ module _ {S : Type 0} (Answers : S → Asked → List ℕ → S → Type 0) wher
         text = r.text ++ s.text;
         answer = s.answer;
         mid = s.last;
+        reads = reads + 1;
+        few = omega (arith, few);
+        given = given;
         taken = Consumes-trans read read' read'' r.input piece r.taken taken;
         cut = ap (λ b. lines_of (r.input ++ b)) s.cut ∙ ap lines_of (sym (append_assoc r.input s.fed (10 ∷ s.rest))) ∙ u.cut (10 ∷ s.rest)
             ∙ ap (λ ls. u.lines ++ ls) (slice_split_at is_feed u.rest 10 s.rest u.partial refl);

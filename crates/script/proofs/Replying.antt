@@ -9,7 +9,7 @@ Appends-kept (Some xs) None c bytes p k = absurd p
 Appends-kept (Some xs) (Some ys) None bytes p k = absurd k
 Appends-kept (Some xs) (Some ys) (Some zs) bytes p k = k ∙ p
 
--- all of the bytes are a front of them
+-- all of the bytes are a prefix of them
 pub SendsPart-all : (old new : Option (List ℕ)) (bytes : List ℕ) → Appends old new bytes → SendsPart old new bytes
 SendsPart-all old new bytes all = record { sent = bytes; unsent = []; cut = sym (append-nil bytes); went_out = all }
 

@@ -8,44 +8,47 @@ use Rattle.script.specs.declared.running.TheConstants.{MOST_READS, PIECE}
 use Rattle.script.specs.declared.script_fault.ScriptFault.{ScriptFault}
 use Rattle.script.specs.declared.script_fault.ScriptFault.TheVariants.{Read, TooManyReads, Write}
 
--- a front of the bytes went out, perhaps all of them
+-- a prefix of the bytes went out, perhaps all of them
 pub record SendsPart (old new : Option (List ℕ)) (bytes : List ℕ) : Type 0 where
   pub sent : List ℕ
   pub unsent : List ℕ
   pub cut : bytes ≡ sent ++ unsent
   pub went_out : Appends old new sent
 
--- all of the text went out, and then a front of the last answer, perhaps all of it
+-- all of the text went out, and then a prefix of the last answer, perhaps all of it
 pub record SendsLast (old new : Option (List ℕ)) (text last : List ℕ) : Type 0 where
   pub mid : Option (List ℕ)
   pub went_out : Appends old mid text
   pub part : SendsPart mid new last
 
--- all of the bytes went out, or at an error a front of them
+-- all of the bytes went out, or at an error a prefix of them
 abbrev pub WritesPart : {E : Type 0} → Option (List ℕ) → Option (List ℕ) → Result (Unit {0}) E → List ℕ → Type 0
 WritesPart out out' (Ok done) bytes = Appends out out' bytes
 WritesPart out out' (Err e) bytes = SendsPart out out' bytes
 
--- a text that answers was written, or at an error a front of it
+-- a text that answers was written, or at an error a prefix of it
 pub record Replies {S E : Type 0} (Answers : List ℕ → S → Type 0) (out out' : Option (List ℕ)) (result : Result (Unit {0}) E) (new : S) : Type 0 where
   pub text : List ℕ
   pub answers : Answers text new
   pub written : WritesPart out out' result text
 
--- the whole input was read, and each of its lines was answered
+-- so many reads gave these bytes, each one of them at least and as many as are asked for at once at most
+abbrev pub IsGivenBy : ℕ → List ℕ → Type 0
+IsGivenBy reads input = (reads ≤ length input) × (length input ≤ reads * PIECE)
+
+-- the whole input was read, by fewer reads than are made at most, as one more met the end; and each of its lines was answered
 pub record Ends {S : Type 0} (Answers : S → Asked → List ℕ → S → Type 0) (read read' out out' : Option (List ℕ)) (old new : S) : Type 0 where
   pub input : List ℕ
   pub text : List ℕ
+  pub reads : ℕ
+  pub few : reads < MOST_READS
+  pub given : IsGivenBy reads input
   pub taken : Consumes read read' input
   pub ended : IsAtEnd read'
   pub run : Runs Answers old (lines_of input) text new
   pub went_out : Appends out out' text
 
--- so many reads gave these bytes, each one of them at least and as many as are asked for at once at most
-abbrev pub IsGivenBy : ℕ → List ℕ → Type 0
-IsGivenBy reads input = (reads ≤ length input) × (length input ≤ reads * PIECE)
-
--- so many reads gave bytes, and each line of these was answered, but for the last, whose end was not read
+-- so many reads gave bytes, and each line of these was answered, except for the last, whose end was not read
 pub record EndsUnread {S : Type 0} (Answers : S → Asked → List ℕ → S → Type 0) (read read' out out' : Option (List ℕ)) (reads : ℕ) (old new : S) : Type 0 where
   pub input : List ℕ
   pub lines : List (List ℕ)
@@ -57,7 +60,8 @@ pub record EndsUnread {S : Type 0} (Answers : S → Asked → List ℕ → S →
   pub run : Runs Answers old lines text new
   pub went_out : Appends out out' text
 
--- all lines before one were answered; that one was run, as the last of the input only where it ended, and of its answer a front went out
+-- all lines before one were answered; that one was run, as the last of the input only where it ended, and of its answer a front went out;
+-- and no more reads gave the input than are made at most
 pub record EndsUnwritten {S : Type 0} (Answers : S → Asked → List ℕ → S → Type 0) (read read' out out' : Option (List ℕ)) (old new : S) : Type 0 where
   pub input : List ℕ
   pub before : List (List ℕ)
@@ -66,6 +70,9 @@ pub record EndsUnwritten {S : Type 0} (Answers : S → Asked → List ℕ → S 
   pub text : List ℕ
   pub answer : List ℕ
   pub mid : S
+  pub reads : ℕ
+  pub few : reads ≤ MOST_READS
+  pub given : IsGivenBy reads input
   pub taken : Consumes read read' input
   pub cut : lines_of input ≡ before ++ line ∷ others
   pub whole : others ≡ [] → IsAtEnd read'

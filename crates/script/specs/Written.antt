@@ -1,6 +1,6 @@
 -- An answer that `put` writes.
 use Rattle.std.proofs.Common.{ℕ, List, Option, Result, Ok, Err}
-use Rattle.cpu_list.specs.Output.{SendsFront, Writes}
+use Rattle.byte_output.specs.Output.{SendsFront, Writes}
 use Rattle.script.specs.Ends.{Replies, SendsPart, WritesPart}
 
 pub SendsPart-front : (old new : Option (List ℕ)) (bytes : List ℕ) → SendsFront old new bytes → SendsPart old new bytes

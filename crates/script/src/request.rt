@@ -101,6 +101,3 @@ fn text(word: &[u8]) -> Option<&str>
         Err(_) => None,
     }
 }
-
-#[cfg(test)]
-mod tests;

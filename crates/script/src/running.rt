@@ -9,7 +9,7 @@ use crate::line_buffer::LineBuffer;
 use crate::request::read_request;
 use crate::script_fault::ScriptFault;
 use crate::target::Target;
-use cpu_list::put;
+use byte_output::put;
 use memchr::memchr;
 use std::io;
 use std::io::{Read, Write};
@@ -27,7 +27,7 @@ const PIECE: usize = 8192;
 ///
 /// # Errors
 /// `Read` where a read fails and `TooManyReads` where [`MOST_READS`] reads haven't come to the end: each line that ended
-/// was answered. `Write` where a write fails or takes no byte: a front of the answers went out, and the target is as
+/// was answered. `Write` where a write fails or takes no byte: a prefix of the answers went out, and the target is as
 /// after the command whose answer was being written.
 pub fn run_script<T: Target, R: Read, W: Write>(
     target: &mut T,
@@ -112,6 +112,3 @@ fn say<W: Write>(text: &[u8], w: &mut W) -> io::Result<()>
     put(text, w)?;
     w.flush()
 }
-
-#[cfg(test)]
-mod tests;

@@ -4,7 +4,7 @@ use thiserror::Error;
 /// Why a script was not run to its end.
 #[derive(Clone, Copy, Debug, PartialEq, Eq, Drop, Error)]
 pub enum ScriptFault {
-    /// E113: a read failed. All lines before were answered, but for the one whose end was not read.
+    /// E113: a read failed. All lines before were answered, except for the one whose end was not read.
     #[error("the script can't be read")]
     Read(ErrorKind),
     /// E113: the script didn't come to its end within [`MOST_READS`](crate::MOST_READS) reads. The lines that ended were

@@ -76,6 +76,3 @@ impl Slit {
         entry_at(&self.distances, self.count, i, j)
     }
 }
-
-#[cfg(test)]
-mod tests;

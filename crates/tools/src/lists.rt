@@ -1,7 +1,25 @@
 //! Lists as text.
 
+use anyhow::Result;
 use cpu_set::{CPU_LIMIT, IdSet};
 use std::alloc::Global;
+
+/// Prints what a list of numbers below the limit names, in its one spelling and as a set with its size, or its first fault.
+pub fn named<R: AllocGlobal + Print>(rt: &R, text: &[u8], limit: u16) -> Result<()> {
+    match cpu_list::read(text, limit) {
+        Ok(set) => {
+            let list = cpu_list::print(rt.alloc(), &set)?;
+            println!(rt; "{list}")?;
+            let size = std::mem::size_of::<IdSet>();
+            println!(rt; "{set:?} in {size} bytes")?;
+        }
+        Err(e) => {
+            let (kind, at) = (e.kind, e.at);
+            println!(rt; "{kind:?} {at}")?;
+        }
+    }
+    Ok(())
+}
 
 /// A set of 512 CPUs of which no two are neighbours, printed and read again.
 pub fn printed_and_read(alloc: Global, count: u32) -> Option<u64> {

@@ -1,8 +1,9 @@
 //! What `examples/` and `benches/` run; no part of the product.
 //!
-//! `tools ask MACHINE CONFIG..` prints what bundles ask for on a machine, and `tools solve` what comes of the
-//! problems of certificates on standard input. Else the first word is the name of a benchmark, and the second how
-//! often its work is done: what is printed is a sum over all answers, so that none of the work is idle.
+//! `tools ask MACHINE CONFIG..` prints what bundles ask for on a machine; `tools list LIMIT` what a list on standard
+//! input names, where the limit is at most that of a set, and `tools solve` what comes of the problems of certificates there.
+//! Else the first word is the name of a benchmark, and the second how often its work is done: what is printed is a sum over
+//! all answers, so that none of the work is idle.
 #![tactic(auto)]
 
 mod ask;
@@ -21,6 +22,10 @@ fn main(rt: HostRuntime) -> Result<()> {
     let words: Vec<String> = env::args(&rt)?.skip(1).collect(rt.alloc())?;
     match words.as_slice() {
         [name, paths @ ..] if name.as_str() == "ask" => ask::bundles(&rt, paths),
+        [name, limit] if name.as_str() == "list" => {
+            let limit: u16 = limit.as_str().parse()?;
+            lists::named(&rt, &input(&rt)?, limit.min(cpu_set::CPU_LIMIT))
+        }
         [name] if name.as_str() == "solve" => solving::each(&rt, &input(&rt)?),
         [name, count] => {
             let sum = benchmark(&rt, name.as_str(), count.as_str().parse()?)?;
@@ -28,7 +33,7 @@ fn main(rt: HostRuntime) -> Result<()> {
             Ok(())
         }
         _ => bail!(
-            "tools ask MACHINE CONFIG.., tools solve, or the name of a benchmark and a count"
+            "tools ask MACHINE CONFIG.., tools list LIMIT, tools solve, or the name of a benchmark and a count"
         ),
     }
 }

@@ -1,9 +1,7 @@
 //! Problems, solved.
-ghost use Rattle.std.specs.Prelude.{IsTrue};
-ghost use Rattle.certificate.specs.Limits.{rows_fit};
 
 use anyhow::{Result, bail};
-use certificate::{CheckFault, Problem, check_shortage};
+use certificate::{Problem, rows_fit};
 use certificate_text::{Certificate, read_text};
 use faults::OrMemory;
 use std::alloc::{AllocError, Global};
@@ -28,7 +26,7 @@ fn one<R: AllocGlobal + Print>(rt: &R, text: &[u8]) -> Result<()> {
     let Some(problem) = problem_of(rt.alloc(), text)? else {
         bail!("this is no certificate");
     };
-    if !are_within(&problem) {
+    if !rows_fit(problem.rows.as_slice()) {
         bail!("the rows are past their limits");
     }
     match solve(rt.alloc(), &problem)? {
@@ -63,7 +61,7 @@ fn one<R: AllocGlobal + Print>(rt: &R, text: &[u8]) -> Result<()> {
 /// A certificate's problem, solved so often.
 pub fn over_and_over(alloc: Global, text: &[u8], count: u32) -> Option<u64> {
     let problem = problem_of(alloc, text).ok()??;
-    if !are_within(&problem) {
+    if !rows_fit(problem.rows.as_slice()) {
         return None;
     }
     let mut sum: u64 = 0;
@@ -81,16 +79,6 @@ fn problem_of(alloc: Global, text: &[u8]) -> Result<Option<Problem>, AllocError>
         Ok(Certificate::Short { problem, .. }) => Ok(Some(problem)),
         Err(OrMemory::Memory) => Err(AllocError),
         Err(OrMemory::Fault(_)) => Ok(None),
-    }
-}
-
-/// Whether the rows are within their limits: where no members are named there is no shortage.
-fn are_within(problem: &Problem) -> bool
-    ensures { IsTrue result → IsTrue (rows_fit problem.now) }
-{
-    match check_shortage(problem, &[]) {
-        Err(CheckFault::NoShortage) => true,
-        _ => false,
     }
 }
 

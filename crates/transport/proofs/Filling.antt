@@ -1,5 +1,5 @@
 -- Searches for one row after another, and the rows one after another.
-use Rattle.std.proofs.Common.{◌≡◌, ℕ, zero, suc, ◌+◌, ◌*◌, ◌<◌, ◌≤◌, ◌^◌, List, [], ◌∷◌, length, map, get_or, refl, sym, ap, ◌∙◌, subst, inl, inr, arith}
+use Rattle.std.proofs.Common.{◌≡◌, ℕ, zero, suc, ◌+◌, ◌*◌, ◌<◌, ◌≤◌, ◌^◌, true, List, [], ◌∷◌, length, map, get_or, refl, sym, ap, ◌∙◌, subst, inl, inr, arith}
 use Rattle.std.proofs.Math.Nat.{mul-le-mul}
 use Rattle.std.proofs.Math.Numerals.{add-one}
 use Rattle.std.proofs.lemmas.Option.{slice_get_within}
@@ -20,6 +20,7 @@ use Rattle.twins.specs.Kinds.{offers_of, AreKinds}
 use Rattle.transport.specs.Weights.{weights, AreNewLines}
 use Rattle.transport.specs.States.{cell, shares_of, AreHoldings, IsNoHolder}
 use Rattle.transport.specs.Searches.{IsSearch, AreWeights}
+use Rattle.transport.specs.Queues.{is_reached, via, place, row_at}
 use Rattle.transport.specs.Settled.{IsSettled}
 use Rattle.transport.specs.Filled.{demand_of, IsDone, IsStuck}
 use Rattle.transport.specs.Filling.{IsFirst, IsHandedOut, CanFill, IsFilling, IsAtEnd, a_search, AreFilled}
@@ -30,6 +31,7 @@ use Rattle.transport.specs.declared.lines.Line.{Line}
 use Rattle.transport.proofs.Sums.{total_same, total_zero, hall}
 use Rattle.transport.proofs.Bidding.{lines_new, in_classes, in_rows, weight_low}
 use Rattle.transport.proofs.HandingOut.{taken_full}
+use Rattle.transport.proofs.Holders.{share_none}
 
 -- no search yet
 pub filling_none : (t : Table) (root : ℕ) (s : State) (lines : List Line) (turns : ℕ) → CanFill t root s lines turns → IsFilling t root s s lines turns turns
@@ -84,12 +86,13 @@ filling_more t root a b c lines lines' x y z f g less = record {
 pub end_more : (t : Table) (root : ℕ) (a b c : State) (tree : Tree) (lines : List Line) (x y z : ℕ) → IsFilling t root a b lines x y → IsAtEnd t root b c tree y z → IsAtEnd t root a c tree x z
 end_more t root a b c tree lines x y z f g = record {
   closed = g.closed;
+  root_at = g.root_at;
   on = g.on;
   lacks = g.lacks;
   handed = handed_more root a b c f.handed g.handed;
   most = (let m : z ≤ y + number b.unmet.items root * a_search a = subst (λ n. z ≤ y + number b.unmet.items root * n) (search_same root a b f.handed) g.most in
       omega (arith, f.most, m));
-  least = g.least;
+  least = omega (arith, f.kept, g.least);
 }
 
 -- of a class that there is not, nothing is held or free
@@ -326,12 +329,27 @@ module _ (t : Table) (sizes : List ℕ) (s : State) (lines : List Line) (row tur
         tree.queue.reached.items tree.takings.taken.items row (shared_after new e.handed e.closed.running.fit x.dual.tight) e.closed.only
         (λ g on. taken_full (weights t) new tree g e.closed.running on) x.holders lt e.on e.lacks;
     some = omega (arith, x.queue.counted, x.rooted);
-    at_least = omega (arith, x.queue.counted, x.listing.counted, e.least);
+    at_least = λ k on. omega (arith, not_after k on, h.at_least, x.queue.counted, x.listing.counted, e.least);
     at_most = up (total_up (demand_of t.rows.now) (suc row) (length t.rows.now) (omega (arith, lt))) (most_after after e.most);
   }
     where
       x : IsSearch (weights t) (cell new.holdings.items) new.values.items new.prices.items new.free.items tree.queue tree.notes tree.takings
       x = e.closed.running.search
+
+      -- the rows behind this one hold nothing, and so none of them is reached
+      not_held : (k g : ℕ) → row < k → cell new.holdings.items k g ≡ 0
+      not_held k g past = share_none k (shares_of new.holdings.items g) (e.handed.none k (λ same. absurd (omega (arith, past, same))) (h.fresh k (omega (arith, past))) g)
+
+      not_after : (k : ℕ) → is_reached tree.queue k ≡ true → k ≤ row
+      not_after k on = elim (cases_lt row k) [
+        | inl past ↦ elim (cases_lt 0 (place tree.queue k)) [
+          | inl behind ↦ (let i = x.entries k on behind in absurd (omega (arith, i.held, x.rooms k on, not_held k (via tree.queue k) past)))
+          | inr first ↦ (let zeroth : place tree.queue k ≡ 0 = omega (arith, first) in
+              let at : row_at tree.queue 0 ≡ k = subst (λ i. row_at tree.queue i ≡ k) zeroth (x.queue.placed k on) in
+              absurd (omega (arith, at, e.root_at, past)))
+        ]
+        | inr within ↦ omega (arith, within)
+      ]
 
       up : total (demand_of t.rows.now) (suc row) ≤ total (demand_of t.rows.now) (length t.rows.now) → after ≤ total (demand_of t.rows.now) (suc row) * (length t.rows.now + length sizes)
           → after ≤ asked t.rows.now * (length t.rows.now + length sizes)

@@ -107,7 +107,7 @@ module _ (ws : ℕ → ℕ → Option ℕ) (old mid : State) (t : Tree) (root : 
   pub prices_long : length mid.prices.items ≡ length old.prices.items
   prices_long = omega (arith, running.search.free_long, ap (λ (v : Vec ℕ Global). length v.items) rest.free, free_long)
 
-  -- all is as it was, but for values and prices
+  -- all is as it was, except for values and prices
   handed_none : IsHandedOut root old mid
   handed_none = record {
     values_long = values_long;
@@ -230,6 +230,7 @@ module _ (tb : Table) (root : ℕ) (old mid : State) (t : Tree) (before : List L
   pub no_exit : (after : ℕ) → after ≡ turns + (length t.queue.order.items + length t.takings.order.items) → IsClosed (weights tb) mid t → IsAtEnd tb root old mid t turns after
   no_exit after is closed = record {
     closed = closed;
+    root_at = root_at;
     on = on_root;
     lacks = rw rest.unmet lacks;
     handed = handed_none (weights tb) old mid t root running can.settled.free_long values_long rest root_at;

@@ -1,9 +1,9 @@
 -- Whose the shares of a class are.
-use Rattle.std.proofs.Common.{◌≡◌, ℕ, suc, ◌<◌, ◌≤◌, cond, List, [], ◌∷◌, ◌++◌, length, get_or, set, refl, sym, ap, ◌∙◌, inl, inr, arith}
+use Rattle.std.proofs.Common.{◌≡◌, ℕ, zero, suc, ◌<◌, ◌≤◌, cond, List, [], ◌∷◌, ◌++◌, length, get_or, set, refl, sym, ap, ◌∙◌, subst, inl, inr, arith}
 use Rattle.std.proofs.Math.Seq.{map-set_same}
 use Rattle.std.proofs.lemmas.List.{map-append, length-map, get_or-map, get_or_push, get_or_append_left, length_push}
 use Rattle.std.proofs.lemmas.List.Sums.{sum_by-cons}
-use Rattle.std.proofs.lemmas.Bool.{cases_lt, ne_eqb}
+use Rattle.std.proofs.lemmas.Bool.{cases_lt, eq-eqb, ne_eqb}
 use Rattle.twins.specs.Holdings.{share_of}
 use Rattle.transport.specs.Numbers.{number, IsIn, IsEachOnce}
 use Rattle.transport.specs.Shares.{amount_of, holders_of, HasNoShare}
@@ -55,3 +55,18 @@ none_seen k n xs seen all h = seen h.place (omega (arith, h.within, length-map x
 
 pub holder_at : (xs : List Share) (i : ℕ) (s d : Share) → i < length xs → s ≡ get_or xs i d → number (holders_of xs) i ≡ s.row
 holder_at xs i s d lt is = get_or-map (λ (x : Share). x.row) xs i d 0 lt ∙ ap (λ (x : Share). x.row) (sym is)
+
+-- where no row stands in two shares, each share is all that its row has
+pub share_once : (xs : List Share) (i : ℕ) (s d : Share) → IsEachOnce (holders_of xs) → i < length xs → s ≡ get_or xs i d → share_of s.row xs ≡ s.amount
+share_once [] i s d once lt is = absurd (omega (arith, lt))
+share_once (x ∷ xs) zero s d once lt is =
+    let apart : HasNoShare x.row xs = λ h. absurd (omega (arith, once 0 (suc h.place) (omega arith) (omega (arith, h.within)) (sym h.is))) in
+    let here : amount_of x.row x ≡ x.amount = ap (λ b. cond b x.amount 0) (eq-eqb x.row x.row refl) in
+    let whole : share_of x.row (x ∷ xs) ≡ x.amount = omega (arith, sum_by-cons (amount_of x.row) x xs, here, share_none x.row xs apart) in
+    subst (λ (y : Share). share_of y.row (x ∷ xs) ≡ y.amount) (sym is) whole
+share_once (x ∷ xs) (suc i) s d once lt is =
+    let its : number (holders_of xs) i ≡ s.row = holder_at xs i s d (omega (arith, lt)) is in
+    let other : x.row ≡ s.row → ⊥ = λ e. absurd (omega (arith, once 0 (suc i) (omega arith) (omega (arith, lt, length-map xs (λ (y : Share). y.row))) (e ∙ sym its))) in
+    let here : amount_of s.row x ≡ 0 = ap (λ b. cond b x.amount 0) (ne_eqb x.row s.row other) in
+    let rest : IsEachOnce (holders_of xs) = λ a b a_in b_in e. omega (arith, once (suc a) (suc b) (omega (arith, a_in)) (omega (arith, b_in)) e) in
+    omega (arith, sum_by-cons (amount_of s.row) x xs, here, share_once xs i s d rest (omega (arith, lt)) is)

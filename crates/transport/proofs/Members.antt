@@ -1,7 +1,7 @@
 -- The rows that are marked, as members of a shortage.
 use Rattle.std.proofs.Common.{◌≡◌, ℕ, zero, suc, ◌+◌, ◌<◌, ◌≤◌, Bool, true, false, cond, Option, Some, None, List, [], ◌∷◌, ◌++◌, length, get_or, slice_get, filter, refl, sym, ap, ◌∙◌, arith}
-use Rattle.std.specs.Prelude.{All, Contains}
-use Rattle.std.specs.List.{range_with_len, cons_option}
+use Rattle.std.specs.Prelude.{All, Contains, ◌||◌}
+use Rattle.std.specs.List.{range_with_len, cons_option, list_any}
 use Rattle.std.specs.List.Sorted.{IsStrictlyIncreasing}
 use Rattle.std.proofs.lemmas.List.{map-id}
 use Rattle.std.proofs.lemmas.List.FromFn.{filter_of_map_range_with_len_more, length-range_with_len, get_or-range_with_len}
@@ -73,6 +73,18 @@ pub places_pass : (marks : List Bool) (k : ℕ) → Contains (marked_places mark
 places_pass marks k here =
     let h = All-contains (λ (j : ℕ). (is_marked marks j ≡ true) × (j < 0 + length marks)) (marked_places marks) k (passing (is_marked marks) 0 (length marks)) here in
     h.0
+
+pub places_marked_all : (marks : List Bool) → All (λ k. is_marked marks k ≡ true) (marked_places marks)
+places_marked_all marks k d lt = (passing (is_marked marks) 0 (length marks) k d lt).0
+
+-- of numbers of which one passes the test, and each is such, one is both
+pub any_of_all : (P : ℕ → Type 0) (test : ℕ → Bool) (ks : List ℕ) → All P ks → list_any test ks ≡ true → (k : ℕ) × P k × (test k ≡ true)
+any_of_all P test [] all h = absurd (grind arith)
+any_of_all P test (k ∷ ks) all h = by_test (test k) refl (any_of_all P test ks (λ i d lt. all (suc i) d (omega (arith, lt))))
+  where
+    by_test : (b : Bool) → test k ≡ b → (list_any test ks ≡ true → (j : ℕ) × P j × (test j ≡ true)) → (j : ℕ) × P j × (test j ≡ true)
+    by_test true on more = (k, all 0 k (omega arith), on)
+    by_test false off more = more (ap (λ b. b || list_any test ks) (sym off) ∙ h)
 
 -- what the rows of these numbers ask for
 module _ (rows : List RowView) (test : ℕ → Bool) (demands : ℕ → ℕ) (each : (k : ℕ) (row : RowView) → slice_get rows k ≡ Some row → demands k ≡ row.demand) where

@@ -219,7 +219,7 @@ covered_past s ns k g w (Some e) (Some x) is l past = inr (record { exit = e; it
 pub better_same : (ws : ℕ → ℕ → Option ℕ) (s : State) (t : Tree) → IsRunning ws s t → IsBetter ws s t t
 better_same ws s t h = record { running = h; covers = λ k g w c. c; queue = refl; takings = refl }
 
--- the same tree but for its list of nearest classes
+-- the same tree except for its list of nearest classes
 abbrev pub with_nearest : Tree → Vec ℕ Global → Tree
 with_nearest t nearest = record { queue = t.queue; notes = t.notes; takings = t.takings; nearest = nearest }
 

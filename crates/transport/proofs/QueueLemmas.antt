@@ -1,17 +1,18 @@
 -- A queue of reached rows, row by row.
-use Rattle.std.proofs.Common.{◌≡◌, ℕ, ◌+◌, ◌<◌, ◌≤◌, Bool, true, false, cond, List, [], ◌∷◌, length, get_or, set, take, ◌⊎◌, refl, sym, ap, ◌∙◌, subst, inl, inr, arith}
+use Rattle.std.proofs.Common.{◌≡◌, ℕ, ◌+◌, ◌<◌, ◌≤◌, min, Bool, true, false, cond, List, [], ◌∷◌, length, get_or, set, take, ◌⊎◌, refl, sym, ap, ◌∙◌, subst, inl, inr, arith}
 use Rattle.std.specs.List.{count_by}
 use Rattle.std.proofs.lemmas.List.{length-set, get_or-set_same, get_or-set_other, length_push, get_or_push, get_or_append_left, get_or_past}
 use Rattle.std.proofs.lemmas.Option.{slice_get-get_or}
 use Rattle.std.proofs.lemmas.List.Sums.{sum_by-set, sum_by_more, get_or-le-sum_by}
 use Rattle.std.proofs.lemmas.Bool.{cases_eq, cases_lt, eq-eqb, ne_eqb}
-use Rattle.transport.specs.Numbers.{is_marked}
+use Rattle.transport.specs.Numbers.{is_marked, IsEachOnce}
 use Rattle.twins.specs.Holdings.{share_of}
-use Rattle.transport.specs.Shares.{amount_of, AllBelow}
+use Rattle.transport.specs.Shares.{amount_of, AllBelow, holders_of}
 use Rattle.transport.specs.Queues.{IsQueue, IsReached, IsKept, IsNewRow, IsGrown, is_reached, room, place, row_at}
 use Rattle.twins.specs.declared.holders.Share.{Share}
 use Rattle.transport.specs.declared.queues.Queue.{Queue}
 use Rattle.transport.proofs.Numbers.{not_both}
+use Rattle.transport.proofs.Holders.{share_once}
 
 pub marked_below : (bs : List Bool) (k : ℕ) → is_marked bs k ≡ true → k < length bs
 marked_below bs k h = elim (cases_lt k (length bs)) [
@@ -108,14 +109,13 @@ module _ (rows : ℕ) (old new : Queue) (k g amount : ℕ) (q : IsQueue rows old
     places = place_other j (other j on);
   }
 
-  pub fresh_reached : (most : ℕ) (shares : List Share) → 0 < amount → amount ≤ most → amount ≤ share_of k shares → IsNewRow old new g most shares k
-  fresh_reached most shares some less held =
+  pub fresh_reached : (most : ℕ) (shares : List Share) → 0 < amount → amount ≡ min most (share_of k shares) → IsNewRow old new g most shares k
+  fresh_reached most shares some is =
       let e : room new k ≡ amount = rw r.rooms (get_or-set_same old.room.items k amount 0 (omega (arith, q.room_long))) in
       record {
         by = rw r.by (get_or-set_same old.via.items k g 0 (omega (arith, q.via_long)));
         some_room = omega (arith, e);
-        less = omega (arith, e);
-        held = omega (arith, e);
+        rooms = e ∙ is;
         later = omega (arith, place_here);
       }
 
@@ -172,9 +172,9 @@ grown_skip old q g most shares i s d h lt is skip = record {
 pub grown_reach :
     (rows : ℕ) (old q new : Queue) (g most amount : ℕ) (shares : List Share) (i : ℕ) (s d : Share) → IsQueue rows q → IsGrown old q g most (take i shares) shares
     → i < length shares → s ≡ get_or shares i d → s.row < rows → is_reached q s.row ≡ false → IsReached q new s.row g amount
-    → 0 < amount → amount ≤ most → amount ≤ s.amount
+    → 0 < amount → amount ≡ min most s.amount → IsEachOnce (holders_of shares)
     → IsGrown old new g most (take (i + 1) shares) shares
-grown_reach rows old q new g most amount shares i s d queue h lt is in_rows off r some less part = record {
+grown_reach rows old q new g most amount shares i s d queue h lt is in_rows off r some part once = record {
   kept = λ k on.
       let before = h.kept k on in
       let now = kept_reached rows q new s.row g amount queue in_rows off r k before.reached in
@@ -184,18 +184,17 @@ grown_reach rows old q new g most amount shares i s d queue h lt is in_rows off 
   held = held;
 }
   where
-    own : amount ≤ share_of s.row shares
-    own = omega (arith, amount_le shares i s d lt is)
+    own : amount ≡ min most (share_of s.row shares)
+    own = part ∙ ap (min most) (sym (share_once shares i s d once lt is))
 
     mine : IsNewRow q new g most shares s.row
-    mine = fresh_reached rows q new s.row g amount queue in_rows off r most shares some less own
+    mine = fresh_reached rows q new s.row g amount queue in_rows off r most shares some own
 
     fresh_from : (k : ℕ) → IsNewRow old q g most shares k → IsKept q new k → IsNewRow old new g most shares k
     fresh_from k f kept = record {
       by = kept.by ∙ f.by;
       some_room = omega (arith, f.some_room, kept.rooms);
-      less = omega (arith, f.less, kept.rooms);
-      held = omega (arith, f.held, kept.rooms);
+      rooms = kept.rooms ∙ f.rooms;
       later = omega (arith, f.later, kept.places);
     }
 
@@ -203,8 +202,7 @@ grown_reach rows old q new g most amount shares i s d queue h lt is in_rows off 
     fresh_own k e = subst (λ n. IsNewRow old new g most shares n) (sym e) (record {
       by = mine.by;
       some_room = mine.some_room;
-      less = mine.less;
-      held = mine.held;
+      rooms = mine.rooms;
       later = omega (arith, mine.later, h.longer);
     })
 

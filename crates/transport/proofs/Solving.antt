@@ -23,7 +23,7 @@ prices_of_classes rows (Short members turns) h = tt
 
 pub turns_of : (rows : List RowView) (a : Answer) → IsSolved rows a → AreTurns rows a
 turns_of rows (Plan sets prices total turns) h = (h.at_least, h.within)
-turns_of rows (Short members turns) h = (h.at_least, h.within)
+turns_of rows (Short members turns) h = h.counted
 
 -- what follows from an answer
 pub if_ok : {A E : Type 0} {P Q : A → Type 0} → (r : Result A E) → ((a : A) → P a → Q a) → IfOk r P → IfOk r Q

@@ -99,11 +99,11 @@ module _ (ws : ℕ → ℕ → Option ℕ) (cells : ℕ → ℕ → ℕ) (values
       let before = grown.kept n.row note.there in
       record {
         taken = rw f.by now_taken;
-        held = rw f.by (omega (arith, f.held, held k));
+        held = rw f.by (omega (arith, f.rooms, held k));
         near = n;
         its = rw f.by its;
         before = omega (arith, f.later, before.places, near_place);
-        less = omega (arith, f.less, before.rooms);
+        less = omega (arith, f.rooms, before.rooms);
       }
 
   pub root_same : row_at r 0 ≡ row_at q 0
@@ -122,7 +122,7 @@ module _ (ws : ℕ → ℕ → Option ℕ) (cells : ℕ → ℕ → ℕ) (values
   close_new : (k : ℕ) → is_reached q k ≡ false → is_reached r k ≡ true → IsClose values r k
   close_new k not on =
       let f = grown.fresh k not on in
-      let t = s.dual.tight k g (omega (arith, f.held, f.some_room, held k)) in
+      let t = s.dual.tight k g (omega (arith, f.rooms, f.some_room, held k)) in
       let c = s.close n.row note.there in
       let low = fit.low k g t.weight t.its in
       let near_low = fit.low n.row g n.weight note.weighs in

@@ -58,7 +58,7 @@ shares_of_rows (s ∷ shares) rows below =
     let both = total_add (λ k. cond (s.row == k) s.amount 0) (λ k. share_of k shares) rows in
     omega (arith, rest, here, split, both, sum_by-cons (λ (t : Share). t.amount) s shares)
 
-count_total : (marks : List Bool) → total (λ i. cond {A = ℕ} (is_marked marks i) 1 0) (length marks) ≡ count_by (λ b. b) marks
+pub count_total : (marks : List Bool) → total (λ i. cond {A = ℕ} (is_marked marks i) 1 0) (length marks) ≡ count_by (λ b. b) marks
 count_total [] = refl
 count_total (b ∷ marks) = let rest = count_total marks in omega (arith, sum_by-cons (λ (t : Bool). cond {A = ℕ} t 1 0) b marks, rest)
 

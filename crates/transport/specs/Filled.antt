@@ -1,9 +1,9 @@
 -- What filling the rows ends with.
-use Rattle.std.specs.Prelude.{◌≡◌, ℕ, ◌+◌, ◌*◌, ◌<◌, ◌≤◌, Bool, List, map, length, slice_index_or}
+use Rattle.std.specs.Prelude.{◌≡◌, ℕ, ◌+◌, ◌*◌, ◌<◌, ◌≤◌, Bool, true, List, map, length, slice_index_or}
 use Rattle.std.specs.List.{count_by}
 use Rattle.certificate.specs.RowView.{RowView}
 use Rattle.certificate.specs.IsShortage.{asked}
-use Rattle.transport.specs.Numbers.{number}
+use Rattle.transport.specs.Numbers.{number, is_marked}
 use Rattle.transport.specs.Weights.{class_weight}
 use Rattle.transport.specs.Totals.{IsShared, IsHall}
 use Rattle.transport.specs.States.{cell}
@@ -28,13 +28,13 @@ pub record IsDone (rows : List RowView) (firsts sizes : List ℕ) (s : State) (t
   pub at_most : turns ≤ asked rows * (length rows + length sizes)
 
 -- the reached rows have weights for the classes taken up alone, and ask for more CPUs than these have;
--- a turn for each of these rows and classes at least
+-- two turns at least for each row before one of them, and one for each of these rows and classes
 pub record IsStuck (rows : List RowView) (firsts sizes : List ℕ) (reached taken : List Bool) (turns : ℕ) : Type 0 where
   pub reached_long : length reached ≡ length rows
   pub taken_long : length taken ≡ length sizes
   pub hall : IsHall (class_weight rows firsts) (demand_of rows) (number sizes) (length rows) (length sizes) reached taken
   pub some : 0 < count_by (λ b. b) reached
-  pub at_least : count_by (λ b. b) reached + count_by (λ b. b) taken ≤ turns
+  pub at_least : (k : ℕ) → is_marked reached k ≡ true → 2 * k + (count_by (λ b. b) reached + count_by (λ b. b) taken) ≤ turns
   pub at_most : turns ≤ asked rows * (length rows + length sizes)
 
 abbrev pub IsFilled : List RowView → List ℕ → List ℕ → Filled → Type 0

@@ -2,7 +2,7 @@
 use Rattle.std.specs.Prelude.{◌≡◌, ℕ, ◌+◌, ◌*◌, ◌<◌, ◌≤◌, ◌^◌, Bool, true, false, List, [], map, length}
 use Rattle.certificate.specs.RowView.{RowView}
 use Rattle.transport.specs.Numbers.{number}
-use Rattle.transport.specs.Queues.{is_reached}
+use Rattle.transport.specs.Queues.{is_reached, row_at}
 use Rattle.transport.specs.Weights.{weights, AreLines}
 use Rattle.transport.specs.Totals.{total, row_total, class_total, IsShared}
 use Rattle.transport.specs.States.{shares_of, cell, IsNoHolder}
@@ -69,11 +69,12 @@ pub record IsFilling (t : Table) (root : ℕ) (old new : State) (lines : List Li
 -- the last search for the row found no class with a free CPU
 pub record IsAtEnd (t : Table) (root : ℕ) (old new : State) (tree : Tree) (before after : ℕ) : Type 0 where
   pub closed : IsClosed (weights t) new tree
+  pub root_at : row_at tree.queue 0 ≡ root
   pub on : is_reached tree.queue root ≡ true
   pub lacks : 0 < number new.unmet.items root
   pub handed : IsHandedOut root old new
   pub most : after ≤ before + number old.unmet.items root * a_search old
-  pub least : length tree.queue.order.items + length tree.takings.order.items ≤ after
+  pub least : before + (length tree.queue.order.items + length tree.takings.order.items) ≤ after
 
 -- whether a search found a class: the row wants less than before, and the next search can begin
 abbrev pub IsSearched : Table → ℕ → State → State → List Line → Tree → ℕ → ℕ → Bool → Type 0

@@ -95,7 +95,7 @@ pub record IsArcNoted (ws : ℕ → ℕ → Option ℕ) (s : State) (k : ℕ) (o
   pub exit : new.notes.exit ≡ old.notes.exit
   pub own : is_taken new.takings arc.class ≡ false → IsCovered s.values.items s.prices.items new.notes k arc.class arc.weight
 
--- the first arcs of a row are noted, but for those of classes taken up
+-- the first arcs of a row are noted, except for those of classes taken up
 pub record HasNoted (ws : ℕ → ℕ → Option ℕ) (s : State) (k : ℕ) (old new : Tree) (arcs : List Arc) (upto : ℕ) : Type 0 where
   pub better : IsBetter ws s old new
   pub exit : new.notes.exit ≡ old.notes.exit

@@ -1,5 +1,5 @@
 -- The rows that a search has reached.
-use Rattle.std.specs.Prelude.{◌≡◌, ℕ, ◌<◌, ◌≤◌, Bool, true, false, List, [], ◌∷◌, ◌++◌, length, slice_set}
+use Rattle.std.specs.Prelude.{◌≡◌, ℕ, ◌<◌, ◌≤◌, min, Bool, true, false, List, [], ◌∷◌, ◌++◌, length, slice_set}
 use Rattle.std.specs.List.{count_by}
 use Rattle.transport.specs.Numbers.{number, is_marked}
 use Rattle.twins.specs.Holdings.{share_of}
@@ -65,12 +65,11 @@ pub record IsKept (old new : Queue) (k : ℕ) : Type 0 where
   pub rooms : room new k ≡ room old k
   pub places : place new k ≡ place old k
 
--- a row that is newly reached, through a class of which it holds some, with no more room than that
+-- a row that is newly reached, through a class of which it holds some, with room for all that it holds, up to some limit
 pub record IsNewRow (old new : Queue) (g most : ℕ) (shares : List Share) (k : ℕ) : Type 0 where
   pub by : via new k ≡ g
   pub some_room : 0 < room new k
-  pub less : room new k ≤ most
-  pub held : room new k ≤ share_of k shares
+  pub rooms : room new k ≡ min most (share_of k shares)
   pub later : length old.order.items ≤ place new k
 
 -- the holders of some of these shares are reached

@@ -1,6 +1,7 @@
 -- What a problem comes to: a least plan with what proves it, or a shortage.
-use Rattle.std.specs.Prelude.{◌≡◌, ℕ, ◌+◌, ◌*◌, ◌<◌, ◌≤◌, List, All, length}
+use Rattle.std.specs.Prelude.{◌≡◌, ℕ, ◌+◌, ◌*◌, ◌<◌, ◌≤◌, Bool, cond, List, All, Contains, length, is_some}
 use Rattle.std.specs.FinSet as set
+use Rattle.std.specs.List.{list_any}
 use Rattle.cpu_set.specs.Ids.{Ids}
 use Rattle.certificate.specs.RowView.{RowView}
 use Rattle.certificate.specs.PricesView.{PricesView}
@@ -10,7 +11,9 @@ use Rattle.certificate.specs.IsDealt.{IsDealt}
 use Rattle.certificate.specs.IsShortage.{asked, IsShortage, HasNoPlan}
 use Rattle.certificate.specs.declared.price_lists.Price.{Price}
 use Rattle.twins.specs.IsGrouping.{IsGrouping}
+use Rattle.twins.specs.ClassWeight.{class_weight}
 use Rattle.twins.specs.IsPriced.{class_prices}
+use Rattle.transport.specs.Totals.{total}
 use Rattle.transport.specs.declared.answers.Answer.{Answer}
 use Rattle.transport.specs.declared.answers.Answer.TheVariants.{Plan, Short}
 
@@ -26,6 +29,22 @@ pub record IsPricedByClass (rows : List RowView) (of_cpu : List Price) : Type 0 
 pub record IsWithinTurns (rows : List RowView) (turns : ℕ) : Type 0 where
   pub classes : List Ids
   pub grouping : IsGrouping rows classes
+  pub within : turns ≤ asked rows * (length rows + length classes)
+
+-- one of these rows has a weight for the class
+abbrev pub is_sought : List RowView → List Ids → List ℕ → ℕ → Bool
+is_sought rows classes members g = list_any (λ k. is_some (class_weight rows classes k g)) members
+
+-- how many classes these rows have weights for
+abbrev pub sought : List RowView → List Ids → List ℕ → ℕ
+sought rows classes members = total (λ g. cond {A = ℕ} (is_sought rows classes members g) 1 0) (length classes)
+
+-- the turns of a shortage: two for each row before a member, and in the last search one for each member and for each class that
+-- members have weights for; and as many as there are rows and classes at most, for each CPU that is asked for
+pub record AreShortTurns (rows : List RowView) (members : List ℕ) (turns : ℕ) : Type 0 where
+  pub classes : List Ids
+  pub grouping : IsGrouping rows classes
+  pub at_least : (k : ℕ) → Contains members k → 2 * k + (length members + sought rows classes members) ≤ turns
   pub within : turns ≤ asked rows * (length rows + length classes)
 
 -- a plan that its values and prices prove to be of least cost, that cost the total; or a shortage
@@ -49,10 +68,10 @@ ArePricesOfClasses rows (Plan sets prices total turns) =
     IsPricedByClass rows prices.of_cpu × All (λ p. (0 < p.amount) × (0 < set.len p.cpus)) prices.of_cpu
 ArePricesOfClasses rows (Short members turns) = Unit {0}
 
--- the first and the last of a way for each row of a plan, each member of a shortage, and not more than the bound
+-- the first and the last of a way for each row of a plan, and not more than the bound; or those of a shortage
 abbrev pub AreTurns : List RowView → Answer → Type 0
 AreTurns rows (Plan sets prices total turns) = (2 * length rows ≤ turns) × IsWithinTurns rows turns
-AreTurns rows (Short members turns) = (length members.items ≤ turns) × IsWithinTurns rows turns
+AreTurns rows (Short members turns) = AreShortTurns rows members.items turns
 
 -- a plan, with all of that
 pub record IsSolvedPlan (rows : List RowView) (sets : List Ids) (prices : PricesView) (total turns : ℕ) : Type 0 where
@@ -68,8 +87,7 @@ pub record IsSolvedPlan (rows : List RowView) (sets : List Ids) (prices : Prices
 pub record IsSolvedShortage (rows : List RowView) (members : List ℕ) (turns : ℕ) : Type 0 where
   pub shortage : IsShortage rows members
   pub none : HasNoPlan rows
-  pub at_least : length members ≤ turns
-  pub within : IsWithinTurns rows turns
+  pub counted : AreShortTurns rows members turns
 
 abbrev pub IsSolved : List RowView → Answer → Type 0
 IsSolved rows (Plan sets prices total turns) = IsSolvedPlan rows sets prices total turns

@@ -1,5 +1,6 @@
 ghost use Rattle.std.specs.Prelude.{◌≡◌, ℕ, ◌+◌, ◌<◌, ◌≤◌, false, length, IfOk, OnOk};
-ghost use Rattle.transport.specs.Shares.{AllBelow};
+ghost use Rattle.transport.specs.Numbers.{IsEachOnce};
+ghost use Rattle.transport.specs.Shares.{AllBelow, holders_of};
 ghost use Rattle.transport.specs.Queues.{IsQueue, IsUnreached, IsReached, IsGrown, is_reached};
 
 use crate::marks::unmark;
@@ -73,6 +74,7 @@ pub(crate) fn reach_holders(
 ) -> Result<(), AllocError>
     requires queue { IsQueue (length queue.old.reached.items) queue.old }
     requires rows { AllBelow (length queue.old.reached.items) shares.now }
+    requires once { IsEachOnce (holders_of shares.now) }
     requires room { 0 < room }
     ensures queue { OnOk result (IsQueue (length queue.old.reached.items) queue.new) }
     ensures grown { OnOk result (IsGrown queue.old queue.new class room shares.now shares.now) }

@@ -25,7 +25,7 @@ use twins::{
 
 /// A plan of the least cost with the values and prices that show it, or the rows of a shortage.
 ///
-/// Nothing is refused but for want of memory. `turns` counts the rows and the classes of twins that the
+/// Nothing is refused except for lack of memory. `turns` counts the rows and the classes of twins that the
 /// searches take up.
 pub fn solve(alloc: Global, problem: &Problem) -> Result<Answer, AllocError>
     requires { IsTrue (rows_fit problem.now) }
@@ -142,6 +142,3 @@ fn short(
     let members = places_of(alloc, reached)?;
     Ok(Answer::Short { members, turns })
 }
-
-#[cfg(test)]
-mod tests;

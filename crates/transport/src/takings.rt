@@ -1,7 +1,7 @@
 ghost use Rattle.std.specs.Prelude.{◌≡◌, ◌<◌, length, OnOk};
-ghost use Rattle.transport.specs.Shares.{AllBelow};
+ghost use Rattle.transport.specs.Shares.{AllBelow, holders_of};
 ghost use Rattle.transport.specs.Queues.{IsQueue, room};
-ghost use Rattle.transport.specs.Numbers.{IsListing};
+ghost use Rattle.transport.specs.Numbers.{IsListing, IsEachOnce};
 ghost use Rattle.transport.specs.Settled.{AreNoneTaken};
 ghost use Rattle.transport.specs.States.{IsTakenUp};
 
@@ -38,6 +38,7 @@ pub(crate) fn take_class(
 ) -> Result<(), AllocError>
     requires queue { IsQueue (length tree.old.queue.reached.items) tree.old.queue }
     requires rows { AllBelow (length tree.old.queue.reached.items) shares.now }
+    requires once { IsEachOnce (holders_of shares.now) }
     requires class { class < length tree.old.takings.taken.items }
     requires from { from < length tree.old.queue.room.items }
     requires room { 0 < room tree.old.queue from }

@@ -15,8 +15,6 @@ mod holders;
 mod kinds;
 mod laws;
 mod pricing;
-#[cfg(test)]
-mod tests;
 
 pub use classes::Classes;
 pub use dealing::deal;

@@ -2,7 +2,7 @@ use Rattle.std.proofs.Common.{◌<◌, drop}
 use Rattle.std.specs.Prelude.{◌^◌}
 use Rattle.cpu_set.specs.Members.{InRange}
 use Rattle.std.specs.List.{flat_map}
-use Rattle.cpu_list.specs.Sending.{HasSent}
+use Rattle.byte_output.specs.Sending.{HasSent}
 use Rattle.certificate_text.specs.CertificateText.{hold_lines}
 use Rattle.certificate_text.specs.Written.{line_text}
 use Rattle.certificate_text.proofs.HeldItems.{HoldUpTo}

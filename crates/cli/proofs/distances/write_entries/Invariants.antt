@@ -1,7 +1,7 @@
 use Rattle.std.proofs.Common.{◌-◌}
 use Rattle.std.specs.List.{flat_map, range_with_len}
 use Rattle.slit.specs.Table.{distance}
-use Rattle.cpu_list.specs.Sending.{HasSent}
+use Rattle.byte_output.specs.Sending.{HasSent}
 use Rattle.cli.specs.SlitAnswer.{entry_text}
 use Rattle.cli.proofs.distances.write_entries.Given as goal
 

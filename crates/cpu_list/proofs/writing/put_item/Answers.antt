@@ -1,5 +1,5 @@
 use Rattle.std.proofs.lemmas.Result.{err_from_is_err_and}
-use Rattle.cpu_list.specs.Sending.{SendsFront-more, Writes-then}
+use Rattle.byte_output.specs.Sending.{SendsFront-more, Writes-then}
 use Rattle.cpu_list.proofs.writing.put_item.Goals as goal
 
 pub returns-in_err-put : goal.returns-in_err-put

@@ -1,7 +1,7 @@
 use Rattle.std.proofs.Common.{[], ◌∷◌, decimal}
 use Rattle.std.proofs.lemmas.Result.{err_from_is_err_and}
 use Rattle.cpu_list.proofs.RangeText.{range_text-apart}
-use Rattle.cpu_list.specs.Sending.{SendsFront-more, SendsFront-then, Writes-then}
+use Rattle.byte_output.specs.Sending.{SendsFront-more, SendsFront-then, Writes-then}
 use Rattle.cpu_list.proofs.writing.put_range.Goals as goal
 
 pub returns-in_err-put : goal.returns-in_err-put

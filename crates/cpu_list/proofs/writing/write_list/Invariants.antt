@@ -1,6 +1,6 @@
 use Rattle.cpu_list.specs.CanonicalList.{list_text}
 use Rattle.cpu_list.specs.TextAfter.{text_after}
-use Rattle.cpu_list.specs.Sending.{HasSent}
+use Rattle.byte_output.specs.Sending.{HasSent}
 use Rattle.cpu_list.proofs.writing.write_list.Given as goal
 
 abbrev pub invariant-loop-first : goal.invariant-loop-first

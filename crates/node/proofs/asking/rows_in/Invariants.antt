@@ -1,5 +1,5 @@
 use Rattle.std.proofs.Common.{All}
-use Rattle.rows.specs.Weighed.{IsWeighed}
+use Rattle.rows.specs.CachedOffers.{IsCached}
 use Rattle.node.proofs.AskingLemmas.{IsSoFar}
 use Rattle.node.proofs.asking.rows_in.Given as goal
 
@@ -7,5 +7,5 @@ use Rattle.node.proofs.asking.rows_in.Given as goal
 abbrev pub invariant-loop-id : goal.invariant-loop-id
 invariant-loop-id g l = record {
   so_far : IsSoFar (g.K.Kernel.state l.kernel) l.machine l.containers.entries l.id-iterator l.rows.items;
-  known : All (IsWeighed l.machine) l.known.items;
+  cache : All (IsCached l.machine) l.cache.items;
 }

@@ -1,4 +1,4 @@
-use Rattle.cpu_list.specs.Sending.{HasSent}
+use Rattle.byte_output.specs.Sending.{HasSent}
 use Rattle.node.specs.Listed.{listed}
 use Rattle.runtime.specs.AnswerTexts.{listing_text}
 use Rattle.runtime.proofs.answers.put_listing.Given as goal

@@ -1,4 +1,4 @@
-use Rattle.runtime.specs.ScriptLaws.{plans_are_told, rebalances_are_told, scripts_rebalance}
+use Rattle.runtime.specs.ScriptLaws.{plans_are_told, rebalances_are_told, scripts_rebalance, shortages_are_told}
 use Rattle.runtime.proofs.laws.rebalances_are_told.Goals as goal
 
 pub returns-clause-told : goal.returns-clause-told
@@ -9,3 +9,6 @@ returns-clause-plans c = plans_are_told c.each_rebalance.ensures
 
 pub returns-clause-scripts : goal.returns-clause-scripts
 returns-clause-scripts c = scripts_rebalance c.each_rebalance.ensures
+
+pub returns-clause-shortages : goal.returns-clause-shortages
+returns-clause-shortages c = shortages_are_told c.each_rebalance.ensures

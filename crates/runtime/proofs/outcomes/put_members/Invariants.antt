@@ -1,6 +1,6 @@
 use Rattle.std.proofs.Common.{drop}
 use Rattle.std.specs.List.{flat_map}
-use Rattle.cpu_list.specs.Sending.{HasSent}
+use Rattle.byte_output.specs.Sending.{HasSent}
 use Rattle.runtime.specs.OutcomeTexts.{member_line}
 use Rattle.runtime.proofs.outcomes.put_members.Given as goal
 

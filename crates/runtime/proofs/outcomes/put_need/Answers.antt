@@ -1,5 +1,5 @@
 use Rattle.std.proofs.lemmas.Result.{err_from_is_err_and}
-use Rattle.cpu_list.specs.Sending.{SendsFront-more, SendsFront-then, Writes-then}
+use Rattle.byte_output.specs.Sending.{SendsFront-more, SendsFront-then, Writes-then}
 use Rattle.runtime.proofs.outcomes.put_need.Goals as goal
 
 pub returns-in_err-put_all : goal.returns-in_err-put_all

@@ -1,5 +1,5 @@
 use Rattle.std.proofs.lemmas.Result.{err_from_is_err_and}
-use Rattle.cpu_list.specs.Sending.{SendsFront-more, Writes-then}
+use Rattle.byte_output.specs.Sending.{SendsFront-more, Writes-then}
 use Rattle.runtime.specs.RefusalLine.{list_number, number_text, word_text}
 use Rattle.runtime.proofs.refusal.put_list_error.Goals as goal
 

@@ -13,17 +13,18 @@ returns-in-Err g c = (c.loop-reads.reads, search rules, IsRunning-unread g.T.Tar
 
 pub returns-in-Ok-answer_line : goal.returns-in-Ok-answer_line
 returns-in-Ok-answer_line g c =
-    IsRunning-ends g.T.Target.answers _ _ _ _ _ _ _ _ _ _ _ _ c.loop-reads.invariant (at_the_end _ _ c.in-Ok.count c.read.new.buf c.in-Ok.ensures.bytes c.if-count-eq0.true (search rules))
+    IsRunning-ends g.T.Target.answers _ _ _ _ _ _ _ _ _ _ _ _ (search rules) c.loop-reads.invariant (at_the_end _ _ c.in-Ok.count c.read.new.buf c.in-Ok.ensures.bytes c.if-count-eq0.true (search rules))
     c.in-Ok-answer_line.ensures.answers c.in-Ok-answer_line.ensures.written
 
 pub returns-in-Err-answer_line : goal.returns-in-Err-answer_line
 returns-in-Err-answer_line g c =
-    IsRunning-end_unwritten g.T.Target.answers _ _ _ _ _ _ _ _ _ _ _ _ c.loop-reads.invariant (at_the_end _ _ c.in-Ok.count c.read.new.buf c.in-Ok.ensures.bytes c.if-count-eq0.true (search rules))
+    IsRunning-end_unwritten g.T.Target.answers _ _ _ _ _ _ _ _ _ _ _ _ (search rules) c.loop-reads.invariant (at_the_end _ _ c.in-Ok.count c.read.new.buf c.in-Ok.ensures.bytes c.if-count-eq0.true (search rules))
     c.in-Err-answer_line.ensures.answers c.in-Err-answer_line.ensures.written
 
 pub returns-in-Err-feed : goal.returns-in-Err-feed
 returns-in-Err-feed g c =
-    IsRunning-unwritten g.T.Target.answers _ _ _ _ _ _ _ _ _ _ _ _ c.loop-reads.invariant c.in-Ok.ensures.bytes.0 c.in-Err-feed.ensures
+    IsRunning-unwritten g.T.Target.answers _ _ _ _ _ _ _ _ _ _ _ _ (search rules) c.loop-reads.invariant
+    (given-more _ _ c.read.new.buf c.in-Ok.count c.loop-reads.invariant.given (omega (arith, c.if-count-eq0.false)) c.in-Ok.ensures.bound.0 (search rules)) c.in-Ok.ensures.bytes.0 c.in-Err-feed.ensures
 
 pub loop-reads-preserved : goal.loop-reads-preserved
 loop-reads-preserved g c =

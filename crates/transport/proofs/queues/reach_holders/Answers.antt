@@ -23,7 +23,7 @@ loop-share-preserved c =
           record {
             queue = queue_reached _ _ _ _ _ _ inv.queue in_rows off w.in_ok-reach.ensures;
             grown = grown_reach _ _ _ _ _ _ _ _ _ s _ inv.queue inv.grown c.loop-share-test.true refl in_rows off w.in_ok-reach.ensures
-                (omega (arith, w.min.ensures, w.if-share-gt0.true, c.requires.room)) (omega (arith, w.min.ensures)) (omega (arith, w.min.ensures));
+                (omega (arith, w.min.ensures, w.if-share-gt0.true, c.requires.room)) (omega (arith, w.min.ensures)) c.requires.once;
           })
       | else-share-gt0 w ↦
           rw w.queue-is

@@ -1,7 +1,7 @@
 use Rattle.std.proofs.Common.{◌≡◌, false, Some, sym, ◌∙◌, subst, arith}
 use Rattle.std.proofs.lemmas.Result.{on_ok_weaker}
-use Rattle.transport.specs.Numbers.{is_marked}
-use Rattle.transport.specs.Shares.{AllBelow}
+use Rattle.transport.specs.Numbers.{is_marked, IsEachOnce}
+use Rattle.transport.specs.Shares.{AllBelow, holders_of}
 use Rattle.transport.specs.Searches.{near_of}
 use Rattle.transport.specs.States.{IsInReach, shares_of}
 use Rattle.transport.proofs.Numbers.{read_mark}
@@ -32,6 +32,9 @@ take_class-requires-clause-rows c =
     let h = c.requires.running.1 in
     subst (λ n. AllBelow n c.deref.result.now) (sym h.search.queue.reached_long)
     (shares_below _ _ _ _ _ h.holdings (are c))
+
+pub take_class-requires-clause-once : goal.take_class-requires-clause-once
+take_class-requires-clause-once c = subst (λ shares. IsEachOnce (holders_of shares)) (sym (are c)) (c.requires.running.1.holdings.once c.args.class)
 
 pub take_class-requires-clause-from : goal.take_class-requires-clause-from
 take_class-requires-clause-from c = (here (goal.at.take_class-requires-clause-from c).In-Some).in_rooms

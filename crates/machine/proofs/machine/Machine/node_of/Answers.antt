@@ -1,15 +1,16 @@
 use Rattle.std.proofs.Common.{sym, ◌∙◌}
-use Rattle.machine.proofs.NodeLaws.{IsOfNode-first, IsOfNode-at, of_one_node}
+use Rattle.machine.proofs.NodeLaws.{IsPresent-IsOfNode, node_found}
 use Rattle.machine.proofs.machine.Machine.node_of.Goals as goal
 
-pub unwrap-requires : goal.unwrap-requires
-unwrap-requires c = rw c.first_with.ensures.place (IsOfNode-first c.args.self.now c.args.cpu c.requires)
+pub returns-clause-is : goal.returns-clause-is
+returns-clause-is c =
+    let some = IsPresent-IsOfNode c.args.self.now c.args.cpu c.requires in
+    c.place_of.ensures.place some.0 some.1 ∙ sym (node_found c.args.self.now c.args.cpu some.0 c.place_of.ensures.sound some.1)
 
 pub returns-clause-node : goal.returns-clause-node
 returns-clause-node c =
-    IsOfNode-at c.args.self.now c.args.cpu _ (sym c.first_with.ensures.place ∙ c.unwrap.ensures)
+    let some = IsPresent-IsOfNode c.args.self.now c.args.cpu c.requires in
+    rw (c.place_of.ensures.place some.0 some.1) some.1
 
 pub returns-clause-only : goal.returns-clause-only
-returns-clause-only c = λ i of_node.
-    of_one_node c.args.self.now c.args.cpu i _ c.first_with.ensures.sound.apart of_node
-    (IsOfNode-at c.args.self.now c.args.cpu _ (sym c.first_with.ensures.place ∙ c.unwrap.ensures))
+returns-clause-only c = λ i of_node. sym (c.place_of.ensures.place i of_node)

@@ -1,0 +1,51 @@
+ghost use Rattle.std.specs.Prelude.{◌++◌, decimal};
+ghost use Rattle.byte_output.specs.Output.{Writes};
+ghost use Rattle.byte_output.specs.Parts.{bytes_of};
+
+use itoa::Buffer;
+use std::io;
+use std::io::{ErrorKind, Write};
+
+/// Writes all of the bytes. Unlike `write_all` it says what went out before a fault: a prefix of
+/// them, and not all.
+///
+/// # Errors
+/// The error of the first write that fails, or `WriteZero` where a write takes no byte.
+pub fn put<W: Write>(bytes: &[u8], w: &mut W) -> io::Result<()>
+    ensures { Writes (W.contents w.old) (W.contents w.new) result bytes.now }
+{
+    let mut rest = bytes;
+    while !rest.is_empty() {
+        let taken = w.write(rest)?;
+        if taken == 0 {
+            return Err(io::Error::from(ErrorKind::WriteZero));
+        }
+        rest = &rest[taken..];
+    }
+    Ok(())
+}
+
+/// Writes the parts, one after another.
+///
+/// # Errors
+/// As [`put`]: where it fails, a prefix of what the parts make together went out.
+pub fn put_all<W: Write>(parts: &[&[u8]], w: &mut W) -> io::Result<()>
+    ensures { Writes (W.contents w.old) (W.contents w.new) result (bytes_of parts.now) }
+{
+    for part in parts {
+        put(part, w)?;
+    }
+    Ok(())
+}
+
+/// Writes a number in decimal between two texts, as `pid 41\n`.
+///
+/// # Errors
+/// As [`put`]: where it fails, a prefix of what the three make together went out.
+pub fn put_number<W: Write>(before: &[u8], number: u64, after: &[u8], w: &mut W) -> io::Result<()>
+    ensures { Writes (W.contents w.old) (W.contents w.new) result (before.now ++ (decimal number ++ after.now)) }
+{
+    let mut digits = Buffer::new();
+    let number = digits.format(number).as_bytes();
+    put_all(&[before, number, after], w)
+}

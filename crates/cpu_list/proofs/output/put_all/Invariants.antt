@@ -1,7 +1,0 @@
-use Rattle.std.proofs.Common.{take}
-use Rattle.std.specs.Io.KnownBytes.{Appends}
-use Rattle.cpu_list.specs.Parts.{bytes_of}
-use Rattle.cpu_list.proofs.output.put_all.Given as goal
-
-abbrev pub invariant-loop-part : goal.invariant-loop-part
-invariant-loop-part g l = Appends (g.W.Write.contents l.fn.w) (g.W.Write.contents l.w) (bytes_of (take l.part-index l.parts))

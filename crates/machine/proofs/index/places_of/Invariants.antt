@@ -1,0 +1,6 @@
+use Rattle.machine.proofs.Marking.{ArePlaced}
+use Rattle.machine.proofs.index.places_of.Given as goal
+
+-- the CPUs of the nodes before this one are written
+abbrev pub invariant-loop-i : goal.invariant-loop-i
+invariant-loop-i l = ArePlaced l.nodes l.i l.places

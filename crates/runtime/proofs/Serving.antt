@@ -1,0 +1,134 @@
+-- The calls that make containers, as lines of a script.
+use Rattle.std.proofs.Common.{◌≡◌, ◌⊎◌, ℕ, Bool, true, false, List, [], ◌∷◌, ◌++◌, length, Option, Some, None, Result, Ok, inl, inr, refl, sym, ap, subst, ◌∙◌, arith}
+use Rattle.std.specs.Prelude.{nat_le, cond}
+use Rattle.std.specs.List.{Contains, AllByRecursion}
+use Rattle.std.proofs.lemmas.List.Elements.{Contains-append_cases, Contains-append_right, Contains-push_cases}
+use Rattle.faults.specs.declared.or_memory.OrMemory.{OrMemory}
+use Rattle.node.specs.declared.fault.NodeFault.{NodeFault}
+use Rattle.node.specs.declared.outcome.Outcome.TheVariants.{Plan}
+use Rattle.node.specs.NodeState.{ContainerState, NodeState}
+use Rattle.node.specs.Rebalance.{Rebalances}
+use Rattle.node.specs.Machine.{Event, Create, RunsRebalance}
+use Rattle.node.specs.Served.{HasAsked, RunsServeConfigs}
+use Rattle.script.specs.Commands.{Asked}
+use Rattle.script.specs.Commands as ask
+use Rattle.script.specs.Lines.{kept, words_of}
+use Rattle.script.specs.Requests.{Wanted, nothing, bad, asks, request_of}
+use Rattle.script.specs.Runs.{AnswersLine, AnswersRequest}
+use Rattle.script.specs.declared.line_buffer.TheConstants.{MOST_LINE_BYTES}
+use Rattle.runtime.specs.Answered.{Answered}
+use Rattle.runtime.specs.Found.{IsFound}
+use Rattle.runtime.specs.RuntimeState.{RuntimeState, Told}
+use Rattle.runtime.specs.ScriptLaws.{IsFor, CommandMakes, RequestMakes, LineMakes, LinesMake, lines_are_calls, runs_cut}
+use Rattle.runtime.specs.ConfigsServed.{HasItsConfig, ScriptsServeConfigs}
+
+-- a line that asks for the container of an id and a bundle, whose config is found
+pub record IsAskedBy (told : Told) (lines : List (List ℕ)) (id bundle config : List ℕ) : Type 0 where
+  pub line : List ℕ
+  pub there : Contains lines line
+  pub whole : kept line ≡ Some line
+  pub asked : request_of (words_of line) ≡ asks (ask.create id bundle)
+  pub found : IsFound told bundle (Some config)
+
+kept_line : (line read : List ℕ) → kept line ≡ Some read → read ≡ line
+kept_line line read h = at (nat_le (length line) MOST_LINE_BYTES) h where
+  at : (b : Bool) → cond b (Some line) None ≡ Some read → read ≡ line
+  at true e = cc
+  at false e = absurd (cc)
+
+none_there : (events : List Event) (event : Event) → events ≡ [] → Contains events event → ⊥
+none_there events event none h = omega (arith, h.1, ap length none)
+
+only_there : (events : List Event) (its event : Event) → events ≡ its ∷ [] → Contains events event → its ≡ event
+only_there events its event one h = by (Contains-push_cases [] its event (subst (λ (es : List Event). Contains es event) one h)) where
+  by : Contains [] event ⊎ (its ≡ event) → its ≡ event
+  by (inl none) = absurd (none_there [] event refl none)
+  by (inr is) = is
+
+-- the command of the call that makes this container
+by_command : (told : Told) (command : Asked) (event : Event) (id bundle config : List ℕ) (r : Result ℕ (OrMemory NodeFault)) → IsFor told command event → event ≡ Create id bundle config r
+    → (command ≡ ask.create id bundle) × IsFound told bundle (Some config)
+by_command told (ask.create i b) event id bundle config r (c, answer, found, is) e =
+    let same : Create i b c answer ≡ Create id bundle config r = sym is ∙ e in
+    let id_same : i ≡ id = cc in
+    let bundle_same : b ≡ bundle = cc in
+    let config_same : c ≡ config = cc in
+    (ap (λ x. ask.create x b) id_same ∙ ap (ask.create id) bundle_same, subst (λ x. IsFound told x (Some config)) bundle_same (subst (λ x. IsFound told b (Some x)) config_same found))
+by_command told (ask.start i) event id bundle config r (answer, is) e = absurd (cc)
+by_command told (ask.kill i signal) event id bundle config r (answer, is) e = absurd (cc)
+by_command told (ask.delete i) event id bundle config r (answer, is) e = absurd (cc)
+by_command told (ask.state i) event id bundle config r (answer, is) e = absurd (cc)
+by_command told ask.list event id bundle config r (answer, is) e = absurd (cc)
+by_command told (ask.sets i) event id bundle config r (answer, is) e = absurd (cc)
+by_command told ask.rebalance event id bundle config r (answer, is) e = absurd (cc)
+by_command told ask.begin event id bundle config r (answer, is) e = absurd (cc)
+by_command told ask.step event id bundle config r (answer, is) e = absurd (cc)
+by_command told ask.phase event id bundle config r (answer, is) e = absurd (cc)
+by_command told ask.certificate event id bundle config r (answer, is) e = absurd (cc)
+by_command told (ask.fork pid) event id bundle config r (answer, is) e = absurd (cc)
+by_command told (ask.exit pid) event id bundle config r (answer, is) e = absurd (cc)
+by_command told (ask.offline cpu) event id bundle config r (answer, is) e = absurd (cc)
+by_command told (ask.online cpu) event id bundle config r (answer, is) e = absurd (cc)
+
+module _ (told : Told) (id bundle config : List ℕ) (r : Result ℕ (OrMemory NodeFault)) where
+  by_request : (old : NodeState) (wanted : Wanted) (events : List Event) (text : List ℕ) (new : NodeState) → RequestMakes told old wanted events text new
+      → Contains events (Create id bundle config r) → (wanted ≡ asks (ask.create id bundle)) × IsFound told bundle (Some config)
+  by_request old nothing events text new m h = absurd (none_there events (Create id bundle config r) m.0 h)
+  by_request old bad events text new m h = absurd (none_there events (Create id bundle config r) m.0 h)
+  by_request old (asks command) events text new (inl (call, is)) h =
+      let c = by_command told command call.event id bundle config r call.its (only_there events call.event (Create id bundle config r) is h) in
+      (ap asks c.0, c.1)
+  by_request old (asks command) events text new (inr (other, none)) h = absurd (none_there events (Create id bundle config r) none h)
+
+  by_line : (old : NodeState) (line : List ℕ) (read : Option (List ℕ)) (events : List Event) (text : List ℕ) (new : NodeState) → kept line ≡ read → LineMakes told old read events text new
+      → Contains events (Create id bundle config r) → (kept line ≡ Some line) × (request_of (words_of line) ≡ asks (ask.create id bundle)) × IsFound told bundle (Some config)
+  by_line old line None events text new is m h = absurd (none_there events (Create id bundle config r) m.0 h)
+  by_line old line (Some l) events text new is m h =
+      let same : l ≡ line = kept_line line l is in
+      let c = by_request old (request_of (words_of l)) events text new m h in
+      (is ∙ ap Some same, ap (λ x. request_of (words_of x)) (sym same) ∙ c.0, c.1)
+
+  by_lines : (old : NodeState) (lines : List (List ℕ)) (events : List Event) (text : List ℕ) (new : NodeState) → LinesMake told old lines events text new
+      → Contains events (Create id bundle config r) → IsAskedBy told lines id bundle config
+  by_lines old [] events text new m h = absurd (none_there events (Create id bundle config r) m.0 h)
+  by_lines old (line ∷ lines) events text new (mid, here, later, first, more, m, ms, e, t) h =
+      by (by_lines mid lines later more new ms) (Contains-append_cases here later (Create id bundle config r) (subst (λ (es : List Event). Contains es (Create id bundle config r)) e h))
+    where
+      by : (Contains later (Create id bundle config r) → IsAskedBy told lines id bundle config)
+          → Contains here (Create id bundle config r) ⊎ Contains later (Create id bundle config r) → IsAskedBy told (line ∷ lines) id bundle config
+      by behind (inl there) =
+          let c = by_line old line (kept line) here first mid refl m there in
+          record { line = line; there = (0, omega arith, refl); whole = c.0; asked = c.1; found = c.2 }
+      by behind (inr there) =
+          let c = behind there in
+          record { line = c.line; there = Contains-append_right (line ∷ []) lines c.line c.there; whole = c.whole; asked = c.asked; found = c.found }
+
+all_more : {A : Type 0} (P Q : A → Type 0) → ((x : A) → P x → Q x) → (xs : List A) → AllByRecursion P xs → AllByRecursion Q xs
+all_more P Q follows [] h = h
+all_more P Q follows (x ∷ xs) h = (follows x h.0, all_more P Q follows xs h.1)
+
+pub scripts_serve_configs : RunsRebalance → RunsServeConfigs → ScriptsServeConfigs
+scripts_serve_configs leaves serves first last before after line text node none whole asked run =
+    let c = runs_cut first last before after line text run in
+    let answered : Answered c.0 ask.rebalance c.3 c.1 =
+    subst (λ wanted. AnswersRequest Answered c.0 wanted c.3 c.1) asked (subst (λ read. AnswersLine Answered c.0 read c.3 c.1) whole c.6) in
+    let calls = lines_are_calls first c.0 before c.2 c.5 in
+    record {
+      its = record {
+        old = c.0;
+        new = c.1;
+        outcome = answered.0.0;
+        earlier = c.2;
+        later = c.4;
+        run = c.5;
+        headline = leaves first.node calls.events c.0.node answered.0.0 c.1.node node calls.run answered.0.1;
+        rest = c.7;
+        told = c.8 ∙ ap (λ answer. c.2 ++ (answer ++ c.4)) answered.0.2;
+      };
+      serves = λ total is.
+          all_more (HasAsked calls.events c.1.node.machine c.1.node.kernel c.1.node.pool) (HasItsConfig first.told before c.1.node.machine c.1.node.kernel c.1.node.pool)
+          (λ e a. let l = by_lines first.told e.0 e.1.bundle a.config (Ok e.1.pid) first.node before calls.events c.2 c.0.node calls.made a.created in
+          record { line = l.line; config = a.config; said = a.said; there = l.there; whole = l.whole; asked = l.asked; found = l.found; said_so = a.said_so; has = a.has })
+          c.1.node.containers
+          (serves first.node calls.events c.0.node total c.1.node node none calls.run (subst (λ r. Rebalances c.0.node r c.1.node) is answered.0.1));
+    }

@@ -1,0 +1,5 @@
+use Rattle.runtime.proofs.Serving.{scripts_serve_configs}
+use Rattle.runtime.proofs.laws.scripts_serve_configs.Goals as goal
+
+pub returns : goal.returns
+returns c = scripts_serve_configs c.each_rebalance.ensures c.what_configs_get.ensures

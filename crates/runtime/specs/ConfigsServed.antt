@@ -1,0 +1,48 @@
+-- What the container of a bundle has once a script was answered a plan: the headline, by the script's lines and the bundles' bytes.
+use Rattle.std.specs.Prelude.{◌≡◌, ℕ, true, List, [], ◌∷◌, ◌++◌, Some, Ok}
+use Rattle.std.specs.List.{Contains, AllByRecursion}
+use Rattle.cpu_set.specs.Ids.{Ids}
+use Rattle.kernel_model.specs.KernelState.{KernelState}
+use Rattle.machine.specs.Layout.{Layout}
+use Rattle.config_json.specs.declared.Config.{Config as Said}
+use Rattle.config_json.specs.ConfigOf.{config_of}
+use Rattle.demand.specs.DemandFaultOf.{is_pinned}
+use Rattle.node.specs.declared.outcome.Outcome.TheVariants.{Plan}
+use Rattle.node.specs.NodeState.{ContainerState}
+use Rattle.node.specs.Status.{is_live}
+use Rattle.node.specs.IsNode.{IsNode}
+use Rattle.node.specs.Headline.{effective}
+use Rattle.node.specs.Served.{AreAsked}
+use Rattle.script.specs.Commands as ask
+use Rattle.script.specs.Lines.{kept, words_of}
+use Rattle.script.specs.Requests.{asks, request_of}
+use Rattle.script.specs.Runs.{Runs}
+use Rattle.runtime.specs.Answered.{Answered}
+use Rattle.runtime.specs.Found.{IsFound}
+use Rattle.runtime.specs.RuntimeState.{RuntimeState, Told}
+use Rattle.runtime.specs.ScriptLaws.{IsRebalanceOf}
+
+-- one of the lines asks for the container of this id and bundle, and while it lives it has in effect what the bytes of the
+-- bundle's config ask for
+pub record HasItsConfig (told : Told) (lines : List (List ℕ)) (m : Layout) (k : KernelState) (pool : Ids) (e : List ℕ × ContainerState) : Type 0 where
+  pub line : List ℕ
+  pub config : List ℕ
+  pub said : Said
+  pub there : Contains lines line
+  pub whole : kept line ≡ Some line
+  pub asked : request_of (words_of line) ≡ asks (ask.create e.0 e.1.bundle)
+  pub found : IsFound told e.1.bundle (Some config)
+  pub said_so : config_of config ≡ Ok said
+  pub has : is_live k e.1 ≡ true → AreAsked m k pool said.cpu (effective k e) (is_pinned said.cpu)
+
+-- a rebalance in the midst of a script, of which the headline holds, and after a plan each container has what its config asks for
+pub record IsServing (first : RuntimeState) (before after : List (List ℕ)) (text : List ℕ) (last : RuntimeState) : Type 0 where
+  pub its : IsRebalanceOf first before after text last
+  pub serves : (total : ℕ) → its.outcome ≡ Ok (Plan total)
+      → AllByRecursion (HasItsConfig first.told before its.new.node.machine its.new.node.kernel its.new.node.pool) its.new.node.containers
+
+-- each line of a script that asks for one is such, from a node of no container on
+abbrev pub ScriptsServeConfigs : Type 0
+ScriptsServeConfigs = (first last : RuntimeState) (before after : List (List ℕ)) (line text : List ℕ) → IsNode first.node → first.node.containers ≡ []
+    → kept line ≡ Some line → request_of (words_of line) ≡ asks ask.rebalance → Runs Answered first (before ++ line ∷ after) text last
+    → IsServing first before after text last

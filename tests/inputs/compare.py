@@ -1,0 +1,141 @@
+"""Compares what programs answer to single inputs with tables: `compare.py PROGRAM TOOLS`.
+
+An input is a line of its kind and its text, and below it stands the answer, each line behind `| `. The text has the escapes of
+Python's bytes; `<N TEXT>` is TEXT so many times, and `<FILE>` what a file of examples/ holds. `fronts A B KIND TEXT` is each
+front of the text, from A bytes to B. The kinds are explained in the tables."""
+
+import os
+import re
+import sys
+import tempfile
+
+HERE = os.path.dirname(os.path.abspath(__file__))
+TOP = os.path.dirname(os.path.dirname(HERE))
+sys.path[:0] = [os.path.join(HERE, ".."), os.path.join(HERE, "..", "scripts")]
+from program import run
+from transcripts import place
+
+TABLES = ["lists", "distances", "machines", "configs"]
+CONFIG = b'{"ociVersion":"1.0.2","root":{"path":"r"},"process":{"args":["x"]},"linux":{"resources":{"cpu":%s}}}'
+
+
+def text_of(kind, written):
+    """The bytes that a text of a table stands for; distance tables are written in hexadecimal."""
+    text = re.sub(rb"<(examples/[^>]*)>", lambda found: open(os.path.join(TOP, found[1].decode()), "rb").read(), written)
+    text = text.decode("unicode_escape").encode("latin-1")
+    text = re.sub(rb"<(\d+) ([^>]+)>", lambda found: found[2] * int(found[1]), text)
+    return bytes.fromhex(text.decode()) if kind in ("slit", "table") else text
+
+
+def inputs(table):
+    """(kind, text, the lines of the answer) of each input."""
+    found = []
+    for line in open(os.path.join(HERE, table), "rb").read().splitlines():
+        kind, _, rest = line.partition(b" ")
+        if kind == b"|":
+            found[-1][2].append(rest.decode())
+        elif line and not line.startswith(b"#"):
+            found.append((kind.decode(), rest, []))
+    for kind, rest, answer in found:
+        if kind == "fronts":
+            first, last, kind, rest = rest.split(b" ", 3)
+            for length in range(int(first), int(last) + 1):
+                yield kind.decode(), text_of(kind.decode(), rest)[:length], answer
+        else:
+            yield kind, text_of(kind, rest), answer
+
+
+def answered(words, given=b""):
+    """The lines of an answer; its status is 0, or 1 where it is a refusal."""
+    done = run(words, given)
+    if done.stderr or done.returncode != done.stdout.startswith(b"refused"):
+        return [str(done)[:1000]]
+    return done.stdout.decode().splitlines()
+
+
+class Machine:
+    """A machine, its table where it has one, and what containers of configs get there, one after another."""
+
+    def __init__(self, text):
+        self.text, self.table, self.configs, self.expected = text, None, [], []
+
+    def found(self, program):
+        commands = [line for k in range(len(self.configs))
+                    for line in (f"create c b{k}", "start c", "sets c", "rebalance", "certificate", "kill c 9", "delete c")]
+        bundles = {f"b{k}": config for k, config in enumerate(self.configs)}
+        lines = answered([program] + place(self.text, self.table, bundles), "\n".join(commands).encode())
+        for _ in self.configs:
+            created, started, sets, *lines = lines + [""] * 3
+            certificate, lines = self.certificate(lines)
+            yield created if created.startswith("refused") else self.shown(started, sets, certificate)
+
+    @staticmethod
+    def certificate(lines):
+        """The certificate, and what follows behind the container's removal."""
+        ends = [k for k, line in enumerate(lines) if line == "end"]
+        if len(ends) < 2:
+            return [], []
+        return lines[ends[0] + 1 : ends[1]], lines[ends[1] + 3 :]
+
+    @staticmethod
+    def shown(started, sets, certificate):
+        row = next((line.split(" ", 2)[2] for line in certificate if line.startswith("row ")), "shared")
+        homes = sets.split(" ")[5:6]
+        return ", ".join([row, f"homes {''.join(homes)}"] + [started] * (started != "ok"))
+
+
+def compare(what, found, expected):
+    if found != expected:
+        sys.exit(f"inputs: {what}: expected {expected}, found {found}")
+
+
+class Inputs:
+    """What the programs answer to each kind of input."""
+
+    def __init__(self, program, tools):
+        self.program, self.tools, self.machines = program, tools, []
+
+    def list(self, text):
+        return answered([self.program, "list", "--", text])
+
+    def below(self, text):
+        limit, _, text = text.partition(b" ")
+        return answered([self.tools, "list", limit], text)
+
+    def slit(self, text):
+        return answered([self.program, "slit", "-"], text)
+
+    def machine(self, text):
+        return answered([self.program] + place(text, None, {}), b"rebalance")
+
+    def gather(self, kind, text, answer):
+        """Keeps what makes up a machine and its containers."""
+        if kind == "on":
+            self.machines.append(Machine(text))
+        elif kind == "table":
+            self.machines[-1].table = text
+        else:
+            self.machines[-1].configs.append(CONFIG % text if kind == "cpu" else text)
+            self.machines[-1].expected += answer
+
+
+def main(program, tools):
+    tried, counts = Inputs(os.path.abspath(program), os.path.abspath(tools)), []
+    with tempfile.TemporaryDirectory() as folder:
+        os.chdir(folder)
+        for table in TABLES:
+            rows = list(inputs(table))
+            counts.append(f"{len(rows)} {table}")
+            for kind, text, answer in rows:
+                if kind in ("on", "table", "cpu", "config"):
+                    tried.gather(kind, text, answer)
+                else:
+                    compare(text[:1000], getattr(tried, kind)(text), answer)
+        for machine in tried.machines:
+            for config, found, expected in zip(machine.configs, machine.found(tried.program), machine.expected):
+                compare((machine.text[:300], config[:1000]), found, expected)
+        os.chdir("/")
+    print("inputs:", ", ".join(counts))
+
+
+main(*sys.argv[1:])
