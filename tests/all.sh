@@ -1,8 +1,8 @@
 #!/usr/bin/env bash
 # Everything: each name of docs/definitions.md; the proofs from nothing, the wrong bodies, the tests and the programs; then,
-# with the programs that this built, machine files made of recorded hosts, tables of inputs and of command lines, a second
-# checker, a second runtime, streams that fail, a solver that tries every plan, the scripts for those who operate machines, and
-# each of the program's growths refused in turn.
+# with the programs that this built, machine files made of recorded hosts, tables of inputs and of command lines, a second kernel,
+# a second checker, a second runtime, kernels and streams that fail, a solver that tries every plan, the scripts for those who
+# operate machines, and each of the program's growths refused in turn.
 set -euo pipefail
 cd "$(dirname "$0")/.."
 bash tests/definitions.sh
@@ -10,9 +10,11 @@ rt ci
 export PROGRAM=$PWD/crates/numarun/out/numarun TOOLS=$PWD/crates/tools/out/tools
 bash tests/describe-host.sh
 bash tests/inputs.sh
+bash tests/kernel.sh
 bash tests/command-line.sh
 bash tests/certificates.sh
 bash tests/scripts.sh
+bash tests/runs.sh
 bash tests/streams.sh
 bash tests/solver.sh
 bash tests/operators.sh

@@ -2,7 +2,8 @@
 # Runs the built program with each of its allocations refused in turn. What it does then has to be the line of E1 with its
 # status, or the whole answer; at least one refusal has to be seen as E1; and with nothing refused it is the whole answer.
 # The status is 1 while the words are collected, 2 while they are parsed, and 1 from then on.
-# Under a script one command may answer E1, and all others what they answer where that one is left out.
+# Under a script one command may answer E1, and all others what they answer where that one is left out; and what a create left that
+# was answered by E1 is read from the kernel.
 # Of the solver, over a plan and a shortage, a front of the answer and an error of status 1 stand for the line of E1.
 set -u
 top=$(cd "$(dirname "$0")/.." && pwd)
@@ -94,4 +95,5 @@ tools_growth() {
 { cat "$example"; printf 'numarun-certificate 1\nrow a 2 10:1-2\nrow b 1 10:1-2\nshort a\nshort b\nend\n'; } >"$work/problems"
 memory="memory allocation failed|out of memory"
 tools_growth "the solver" "$memory" "$work/problems" solve
+python3 -B "$top/tests/runs/over_memory.py" "$tools" "$work/refuse.so" || exit 1
 tools_growth "lists, printed" "$memory|no such benchmark, or a call that was refused" /dev/null lists 1

@@ -11,4 +11,4 @@ def run(words, given=b"", **more):
     try:
         return subprocess.run(words, input=given, capture_output=True, timeout=SECONDS, **more)
     except subprocess.TimeoutExpired:
-        sys.exit(f"{words} did not come to its end within {SECONDS} seconds; its input was {given[:2000]!r}")
+        sys.exit(f"{words} did not come to its end within {SECONDS} seconds; its input was {given[:1000]!r}")

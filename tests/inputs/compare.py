@@ -4,6 +4,7 @@ An input is a line of its kind and its text, and below it stands the answer, eac
 Python's bytes; `<N TEXT>` is TEXT so many times, and `<FILE>` what a file of examples/ holds. `fronts A B KIND TEXT` is each
 front of the text, from A bytes to B. The kinds are explained in the tables."""
 
+import json
 import os
 import re
 import sys
@@ -15,15 +16,21 @@ sys.path[:0] = [os.path.join(HERE, ".."), os.path.join(HERE, "..", "scripts")]
 from program import run
 from transcripts import place
 
-TABLES = ["lists", "distances", "machines", "configs"]
+TABLES = ["lists", "distances", "machines", "configs", "lines", "problems", "writes"]
+MACHINE = b'{"nodes":["0-3","4-7"],"distances":[[10,21],[21,10]],"reserved":"0"}'
+FAULTS = ["BrokenPipe", "Interrupted", "StorageFull", "OutOfMemory", "WriteZero"]
 CONFIG = b'{"ociVersion":"1.0.2","root":{"path":"r"},"process":{"args":["x"]},"linux":{"resources":{"cpu":%s}}}'
+
+
+def repeated(text):
+    return re.sub(rb"<(\d+) ([^>]+)>", lambda found: found[2] * int(found[1]), text)
 
 
 def text_of(kind, written):
     """The bytes that a text of a table stands for; distance tables are written in hexadecimal."""
     text = re.sub(rb"<(examples/[^>]*)>", lambda found: open(os.path.join(TOP, found[1].decode()), "rb").read(), written)
     text = text.decode("unicode_escape").encode("latin-1")
-    text = re.sub(rb"<(\d+) ([^>]+)>", lambda found: found[2] * int(found[1]), text)
+    text = repeated(text)
     return bytes.fromhex(text.decode()) if kind in ("slit", "table") else text
 
 
@@ -33,7 +40,7 @@ def inputs(table):
     for line in open(os.path.join(HERE, table), "rb").read().splitlines():
         kind, _, rest = line.partition(b" ")
         if kind == b"|":
-            found[-1][2].append(rest.decode())
+            found[-1][2].append(repeated(rest).decode())
         elif line and not line.startswith(b"#"):
             found.append((kind.decode(), rest, []))
     for kind, rest, answer in found:
@@ -53,6 +60,12 @@ def answered(words, given=b""):
     return done.stdout.decode().splitlines()
 
 
+def scripted(words, script):
+    """The lines that answer a script."""
+    done = run(words, script)
+    return done.stdout.decode().splitlines() if (done.returncode, done.stderr) == (0, b"") else [str(done)[:1000]]
+
+
 class Machine:
     """A machine, its table where it has one, and what containers of configs get there, one after another."""
 
@@ -63,7 +76,7 @@ class Machine:
         commands = [line for k in range(len(self.configs))
                     for line in (f"create c b{k}", "start c", "sets c", "rebalance", "certificate", "kill c 9", "delete c")]
         bundles = {f"b{k}": config for k, config in enumerate(self.configs)}
-        lines = answered([program] + place(self.text, self.table, bundles), "\n".join(commands).encode())
+        lines = scripted([program] + place(self.text, self.table, bundles), "\n".join(commands).encode())
         for _ in self.configs:
             created, started, sets, *lines = lines + [""] * 3
             certificate, lines = self.certificate(lines)
@@ -108,6 +121,61 @@ class Inputs:
     def machine(self, text):
         return answered([self.program] + place(text, None, {}), b"rebalance")
 
+    def run(self, text):
+        return scripted([self.program] + place(MACHINE, None, {}), text)
+
+    def written(self, what, text):
+        """What writers of some widths have in the end, of which each has a prefix of it before, and so many bytes for each write."""
+        wholes = set()
+        for width in (1, 2, 4, 9, 100_000):
+            for fault in FAULTS:
+                *parts, (end, whole) = (line.split(" ", 1) for line in answered([self.tools, "write", what, str(width), fault], text))
+                texts = [json.loads(part) for _, part in parts]
+                rising = all(len(a) < len(b) <= len(a) + width for a, b in zip(texts, texts[1:] + [json.loads(whole)]))
+                starts = all(json.loads(whole).startswith(part) for part in texts) and texts[:1] in ([], [""])
+                if end != "Ok" or not rising or not starts or {kind for kind, _ in parts} - {fault}:
+                    return [f"{what}, {width} bytes a write, {fault}: {parts}, {end} {whole}"]
+                wholes.add(json.loads(whole))
+        return wholes.pop().split("\n") if len(wholes) == 1 else [str(wholes)]
+
+    def bytes(self, text):
+        return self.written("bytes", text)
+
+    def parts(self, text):
+        return self.written("parts", text)
+
+    def set(self, text):
+        return self.written("list", text)
+
+    def copy(self, text):
+        return self.written("certificate", text)
+
+    @staticmethod
+    def problem(text):
+        rows = text.decode().split(" / ")
+        return ["numarun-certificate 1"] + [f"row r{k} {row}" for k, row in enumerate(rows)]
+
+    def alike(self, text):
+        given = "\n".join(self.problem(text) + ["short r0", "end", ""]).encode()
+        kinds, *classes = answered([self.tools, "twins"], given)
+        return [kinds] + sorted(classes)
+
+    def solved(self, text):
+        """The answer without values and prices, which the check is given; of many rows the number of those that lack CPUs."""
+        rows = self.problem(text)
+        *lines, turns = answered([self.tools, "solve"], "\n".join(rows + ["short r0", "end", ""]).encode())
+        words = [line.split(" ") for line in lines]
+        holds = [it for it in words if it[0] == "hold"]
+        told = [f"hold r{k} {it[1]} {it[2]}" for k, it in enumerate(holds)] + [" ".join(it) for it in words[len(holds) :] if it[0] != "short"]
+        told += [f"short r{it[1]}" for it in words if it[0] == "short"]
+        (verdict,) = answered([self.program, "check"], "\n".join(rows + told + ["end", ""]).encode())
+        if verdict != f"plan {lines[-1]}" and not (lines[-1].startswith("short") and verdict.startswith("short demand ")):
+            return [verdict]
+        shown = [" ".join(it[:2]) for it in words if it[0] != "price"]
+        if len(rows) > 100:
+            shown = [f"members {len(shown)}"] if lines[-1].startswith("short") else shown[-1:]
+        return shown + [turns]
+
     def gather(self, kind, text, answer):
         """Keeps what makes up a machine and its containers."""
         if kind == "on":
@@ -134,6 +202,8 @@ def main(program, tools):
         for machine in tried.machines:
             for config, found, expected in zip(machine.configs, machine.found(tried.program), machine.expected):
                 compare((machine.text[:300], config[:1000]), found, expected)
+            if len(machine.configs) != len(machine.expected):
+                sys.exit(f"inputs: {len(machine.configs)} configs with {len(machine.expected)} answers")
         os.chdir("/")
     print("inputs:", ", ".join(counts))
 

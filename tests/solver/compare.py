@@ -55,10 +55,13 @@ def whole_lack():
 
 
 def largest():
-    """Problems as large as may be, with their number of members where they are a shortage."""
-    return [(own_offers(40, 2), 0), (own_offers(1000, 1), 0), (own_offers(1000, 4), 0), (whole_lack(), 256),
-            ([("a", 1024, [(0, set(range(1024)))])], 0), ([("a", 1024, [(0, set(range(1023)))])], 1),
-            ([("a", 512, [(cpu, {cpu}) for cpu in range(1023)])], 0)]
+    """Problems as large as may be, with their number of members where they are a shortage, and the turns where they are known.
+    A row whose CPUs are all of different weights: the search for its nth one takes up the row, the n - 1 that it holds, and the next."""
+    each_a_class = [("a", 1024, [(33_554_431 - cpu, {cpu}) for cpu in range(1024)])]
+    return [(own_offers(40, 2), 0, None), (own_offers(1000, 1), 0, None), (own_offers(1000, 4), 0, None), (whole_lack(), 256, None),
+            ([("a", 1024, [(0, set(range(1024)))])], 0, 2), ([("a", 1024, [(0, set(range(1023)))])], 1, 4),
+            ([("a", 512, [(cpu, {cpu}) for cpu in range(1023)])], 0, sum(n + 1 for n in range(1, 513))),
+            (each_a_class, 0, sum(n + 1 for n in range(1, 1025)))]
 
 
 def problem(rows):
@@ -137,12 +140,14 @@ def answer_to(program, rows):
 def large_ones(program):
     """Compares what the solver answers to the largest problems."""
     counts = []
-    for rows, members in largest():
+    for rows, members, turns in largest():
         answer = answer_to(program, rows)
         for fault in faults(rows, answer):
             sys.exit(f"compare: {str(rows)[:1000]}: {fault[:1000]}: {answer[:1000]!r}")
         if answer.count("short ") != members:
             sys.exit(f"compare: {answer.count('short ')} members in place of {members}: {str(rows)[:1000]}")
+        if turns is not None and not answer.endswith(f"\nturns {turns}\n"):
+            sys.exit(f"compare: not {turns} turns: {answer[-100:]!r}: {str(rows)[:1000]}")
         counts.append(len(classes(rows)))
     print("compare: large problems of", ", ".join(map(str, counts)), "classes")
     if max(counts) < 512:

@@ -1,12 +1,16 @@
 //! Lists as text.
 
-use anyhow::Result;
+use anyhow::{Result, bail};
 use cpu_set::{CPU_LIMIT, IdSet};
 use std::alloc::Global;
 
 /// Prints what a list of numbers below the limit names, in its one spelling and as a set with its size, or its first fault.
-pub fn named<R: AllocGlobal + Print>(rt: &R, text: &[u8], limit: u16) -> Result<()> {
-    match cpu_list::read(text, limit) {
+pub fn named<R: AllocGlobal + Print>(rt: &R, words: &[String], text: &[u8]) -> Result<()> {
+    let [limit] = words else {
+        bail!("tools list LIMIT")
+    };
+    let limit: u16 = limit.as_str().parse()?;
+    match cpu_list::read(text, limit.min(CPU_LIMIT)) {
         Ok(set) => {
             let list = cpu_list::print(rt.alloc(), &set)?;
             println!(rt; "{list}")?;

@@ -1,40 +1,57 @@
 //! What `examples/` and `benches/` run; no part of the product.
 //!
-//! `tools ask MACHINE CONFIG..` prints what bundles ask for on a machine; `tools list LIMIT` what a list on standard
-//! input names, where the limit is at most that of a set, and `tools solve` what comes of the problems of certificates there.
-//! Else the first word is the name of a benchmark, and the second how often its work is done: what is printed is a sum over
-//! all answers, so that none of the work is idle.
+//! The first word is what is to be done, and most read standard input:
+//!
+//! - `tools ask MACHINE CONFIG..` prints what bundles ask for on a machine.
+//! - `tools list LIMIT`: what a list names, where the limit is at most that of a set.
+//! - `tools write WHAT WIDTH FAULT`: what a writer that fails has of a text.
+//! - `tools twins`: the kinds of the rows of certificates, and the classes of their CPUs; `tools solve`: what comes of them.
+//! - `tools kernel FAIL`: what a modelled kernel answers to calls.
+//! - `tools run FAIL MOST READ WIDTH WRITES WRITE MACHINE BUNDLE..`: a script over a kernel and streams that fail.
+//!
+//! Else it is the name of a benchmark, and the second word how often its work is done: what is printed is a sum over all
+//! answers, so that none of the work is idle.
 #![tactic(auto)]
 
+mod alike;
 mod ask;
+mod calls;
 mod files;
 mod hand_over;
 mod kernel;
+mod lent;
 mod lists;
+mod pieces;
+mod problems;
+mod runs;
 mod solving;
+mod writes;
 
 use anyhow::{Context, Result, bail};
 use std::alloc::Global;
 use std::env;
 use std::io::Read;
 
+const WORDS: &str =
+    "tools ask, list, write, twins, solve, kernel or run, or the name of a benchmark and a count";
+
 fn main(rt: HostRuntime) -> Result<()> {
     let words: Vec<String> = env::args(&rt)?.skip(1).collect(rt.alloc())?;
-    match words.as_slice() {
-        [name, paths @ ..] if name.as_str() == "ask" => ask::bundles(&rt, paths),
-        [name, limit] if name.as_str() == "list" => {
-            let limit: u16 = limit.as_str().parse()?;
-            lists::named(&rt, &input(&rt)?, limit.min(cpu_set::CPU_LIMIT))
-        }
-        [name] if name.as_str() == "solve" => solving::each(&rt, &input(&rt)?),
-        [name, count] => {
-            let sum = benchmark(&rt, name.as_str(), count.as_str().parse()?)?;
+    let (name, words) = words.as_slice().split_first().context(WORDS)?;
+    match name.as_str() {
+        "ask" => ask::bundles(&rt, words),
+        "list" => lists::named(&rt, words, &input(&rt)?),
+        "write" => writes::each_fault(&rt, words, &input(&rt)?),
+        "twins" => alike::each(&rt, &input(&rt)?),
+        "kernel" => calls::over_new(&rt, words, &input(&rt)?),
+        "run" => runs::over_files(&rt, words, &input(&rt)?),
+        "solve" if words.is_empty() => solving::each(&rt, &input(&rt)?),
+        name => {
+            let [count] = words else { bail!(WORDS) };
+            let sum = benchmark(&rt, name, count.as_str().parse()?)?;
             println!(rt; "{sum}")?;
             Ok(())
         }
-        _ => bail!(
-            "tools ask MACHINE CONFIG.., tools list LIMIT, tools solve, or the name of a benchmark and a count"
-        ),
     }
 }
 

@@ -1,35 +1,27 @@
 //! Problems, solved.
 
+use crate::problems::{problem_of, problems_of};
 use anyhow::{Result, bail};
 use certificate::{Problem, rows_fit};
-use certificate_text::{Certificate, read_text};
-use faults::OrMemory;
-use std::alloc::{AllocError, Global};
+use std::alloc::Global;
 use transport::{Answer, solve};
 
 /// Prints what comes of the problems of certificates, which stand one after another.
 pub fn each<R: AllocGlobal + Print>(rt: &R, texts: &[u8]) -> Result<()> {
-    let mut text = Vec::new(rt.alloc());
-    for byte in texts {
-        text.push(*byte)?;
-        if text.as_slice().ends_with(b"\nend\n") {
-            one(rt, &text)?;
-            text.clear();
-        }
+    let problems = problems_of(rt.alloc(), texts)?;
+    for problem in &problems {
+        one(rt, problem)?;
     }
     Ok(())
 }
 
-/// Prints what comes of a certificate's problem: what each row holds and its value, the prices and the total, or
-/// the numbers of the rows that lack CPUs; and the turns.
-fn one<R: AllocGlobal + Print>(rt: &R, text: &[u8]) -> Result<()> {
-    let Some(problem) = problem_of(rt.alloc(), text)? else {
-        bail!("this is no certificate");
-    };
+/// Prints what comes of a problem: what each row holds and its value, the prices and the total, or the numbers of the
+/// rows that lack CPUs; and the turns.
+fn one<R: AllocGlobal + Print>(rt: &R, problem: &Problem) -> Result<()> {
     if !rows_fit(problem.rows.as_slice()) {
         bail!("the rows are past their limits");
     }
-    match solve(rt.alloc(), &problem)? {
+    match solve(rt.alloc(), problem)? {
         Answer::Plan {
             plan,
             prices,
@@ -70,16 +62,6 @@ pub fn over_and_over(alloc: Global, text: &[u8], count: u32) -> Option<u64> {
         sum = sum.wrapping_add(turns_of(&answer));
     }
     Some(sum)
-}
-
-/// The problem of a certificate, where the text is one.
-fn problem_of(alloc: Global, text: &[u8]) -> Result<Option<Problem>, AllocError> {
-    match read_text(alloc, text) {
-        Ok(Certificate::Plan { problem, .. }) => Ok(Some(problem)),
-        Ok(Certificate::Short { problem, .. }) => Ok(Some(problem)),
-        Err(OrMemory::Memory) => Err(AllocError),
-        Err(OrMemory::Fault(_)) => Ok(None),
-    }
 }
 
 fn turns_of(answer: &Answer) -> u64 {
