@@ -48,7 +48,7 @@ pub fn each<R: AllocGlobal + Print, K: Kernel>(rt: &R, kernel: &mut K, calls: &s
             bail!("{line} is no call");
         };
         match make_call(kernel, &call) {
-            Ok(reply) => print(rt, reply, &mut seen)?,
+            Ok(reply) => print(rt, &reply, &mut seen)?,
             Err(OrMemory::Memory) => println!(rt; "refused Memory")?,
             Err(OrMemory::Fault(fault)) => println!(rt; "refused {fault:?}")?,
         }
@@ -57,23 +57,34 @@ pub fn each<R: AllocGlobal + Print, K: Kernel>(rt: &R, kernel: &mut K, calls: &s
 }
 
 /// Prints a reply, and keeps a group that it names.
-fn print<R: AllocGlobal + Print>(rt: &R, reply: Reply, seen: &mut Vec<Group>) -> Result<()> {
+fn print<R: AllocGlobal + Print>(rt: &R, reply: &Reply, seen: &mut Vec<Group>) -> Result<()> {
     match reply {
         Reply::Done => println!(rt; "ok")?,
-        Reply::Group(group) | Reply::Found(Some(group)) => {
-            let serial = group.serial;
-            println!(rt; "group {serial}")?;
-            seen.push(group)?;
-        }
+        Reply::Group(group) => print_group(rt, *group, seen)?,
+        Reply::Found(Some(group)) => print_group(rt, *group, seen)?,
         Reply::Found(None) => println!(rt; "none")?,
         Reply::Pid(pid) => println!(rt; "pid {pid}")?,
-        Reply::Ids(set) if set.is_empty() => println!(rt; "ids -")?,
-        Reply::Ids(set) => {
-            let list = cpu_list::print(rt.alloc(), &set)?;
-            println!(rt; "ids {list}")?;
-        }
+        Reply::Ids(set) => print_ids(rt, set)?,
         Reply::Alive(alive) => println!(rt; "{alive}")?,
     }
+    Ok(())
+}
+
+fn print_group<R: AllocGlobal + Print>(rt: &R, group: Group, seen: &mut Vec<Group>) -> Result<()> {
+    let serial = group.serial;
+    println!(rt; "group {serial}")?;
+    seen.push(group)?;
+    Ok(())
+}
+
+/// Prints a set; `-` is the empty one.
+fn print_ids<R: AllocGlobal + Print>(rt: &R, set: &IdSet) -> Result<()> {
+    if set.is_empty() {
+        println!(rt; "ids -")?;
+        return Ok(());
+    }
+    let list = cpu_list::print(rt.alloc(), set)?;
+    println!(rt; "ids {list}")?;
     Ok(())
 }
 
