@@ -6,9 +6,9 @@ ghost use Rattle.certificate_text.specs.Written.{CanWrite};
 ghost use Rattle.runtime.specs.OutcomeTexts.{container_lines, end_lines, first_line, hold_line, last_lines, member_line, need_line, outcome_text, pool_lines, progress_line, total_line};
 
 use crate::answers::{put_labelled, put_set};
+use byte_output::{put, put_all};
 use certificate::Row;
 use certificate_text::Certificate;
-use byte_output::{put, put_all};
 use cpu_set::IdSet;
 use itoa::Buffer;
 use kernel_model::Kernel;

@@ -4,8 +4,8 @@ ghost use Rattle.byte_output.specs.Output.{Writes};
 ghost use Rattle.runtime.specs.AnswerTexts.{of_either, of_kernel, of_kernel_fault};
 ghost use Rattle.runtime.specs.RefusalLine.{arguments_of, config_arguments, config_title, demand_arguments, demand_title, kernel_title, list_argument, list_number, node_arguments, node_title, number_text, refusal_line, title_of, word_text};
 
-use config_json::ConfigFault;
 use byte_output::{put, put_all};
+use config_json::ConfigFault;
 use cpu_list::{ListError, ListErrorKind};
 use demand::DemandFault;
 use faults::OrMemory;
