@@ -1,5 +1,6 @@
 // Makes streams fail: reads of standard input after READ bytes, or the WRITE-th write to standard output, from 1, which fails, or
-// takes no byte where NOTHING is set. With PIECES set, each read of standard input gives one byte at most.
+// takes no byte where NOTHING is set. With PIECES set, each read of standard input gives one byte at most; with SHORT set, each
+// write to standard output takes one byte at most.
 #define _GNU_SOURCE
 #include <errno.h>
 #include <stdlib.h>
@@ -33,6 +34,7 @@ ssize_t write(int to, const void *from, size_t size) {
         errno = EIO;
         return -1;
     }
+    if (to == 1 && getenv("SHORT") != NULL && size > 1) size = 1;
     return syscall(SYS_write, to, from, size);
 }
 

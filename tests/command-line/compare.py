@@ -105,6 +105,7 @@ def make_files(certificate):
         open(name, "wb").write(content)
     open("locked", "wb").write(text)
     os.chmod("locked", 0)
+    open("widest", "wb").truncate(67_108_864)
     open("long", "wb").truncate(67_108_865)
     os.mkdir("folder")
     os.mkdir("bundle")

@@ -1,6 +1,7 @@
 """Runs scripts with streams that fail: `streams.py PROGRAM STREAMS.SO TRANSCRIPT`. A read that fails after each count of the
 transcript's bytes leaves the answers to all whole lines before it, and E113; a write that fails, or takes no byte, leaves the
-writes before it. One byte a read leads to the same answers, and the bounds on reads are met exactly."""
+writes before it. One byte a read leads to the same answers, and the bounds on reads are met exactly. So it is with the commands
+that end with one answer, which is one write."""
 
 import os
 import sys
@@ -59,6 +60,27 @@ def each_write(program, words, machine, lines):
     return len(writes)
 
 
+def short_commands(program):
+    """Commands that end with one answer: each read of their input fails in turn, each write of one byte, and the one write that
+    the answer is."""
+    certificate = b"numarun-certificate 1\nrow a 1 10:1\nhold a 1 10\ntotal 10\nend\n"
+    table = b"SLIT\x30\0\0\0\x01\x53" + bytes(26) + b"\x02\0\0\0\0\0\0\0\x0a\x15\x15\x0a"
+    commands = [
+        (["check"], certificate, 0, b"plan total 10\n"), (["check", "-"], certificate[:-4], 1, b"refused E77 BadText 5\n"),
+        (["slit", "-"], table, 0, b"localities 2\n10 21\n21 10\n"), (["list", "0-2,7"], b"", 0, b"0-2,7\n"),
+        (["list", "5-3"], b"", 1, b"refused E12 Descending 0\n"), (["--version"], b"", 0, b"numarun 0.1.0\n"),
+    ]
+    for words, given, status, answer in commands:
+        for settings in ({"PIECES": "1"}, {"SHORT": "1"}, {"WRITE": "2"}):
+            program.expect("whole", words, given, (status, answer, b""), **settings)
+        for count in range(len(given) + 1 if given else 0):
+            program.expect("a read fails", words, given, (1, READ_FAULT, NO_READ), READ=str(count))
+        for kind in ({}, {"NOTHING": "1"}):
+            program.expect("the write fails", words, given, (1, b"", NO_WRITE), WRITE="1", **kind)
+            for number in range(len(answer)):
+                program.expect("a write fails", words, given, (1, answer[:number], NO_WRITE), WRITE=str(number + 1), SHORT="1", **kind)
+
+
 def long_answers():
     """A script with an answer that takes three pages."""
     bundles = {f"b{k}": config({"quota": 100000, "cpus": ",".join(map(str, range(k, 300, 3)))}) for k in (1, 2, 3)}
@@ -87,6 +109,7 @@ def main(program, library, transcript):
         reads = each_read(program, words, machine, told.script)
         writes = each_write(program, words, machine, told.script)
         bounds_on_reads(program, words)
+        short_commands(program)
         machine, bundles, lines = long_answers()
         writes += each_write(program, place(machine, None, bundles), Machine(machine, None), lines)
         os.chdir("/")

@@ -1,7 +1,5 @@
-pub mod KnownBytes
-pub mod Leaves
-pub mod PlainWords
-pub mod SetUp
-pub mod Rows
-pub mod Taking
 pub mod CheckAnswers
+pub mod Leaves
+pub mod Named
+pub mod PlainWords
+pub mod Rows

@@ -1,10 +1,9 @@
--- What numarun writes of an answer, and its exit status.
-use Rattle.std.specs.Prelude.{◌≡◌, ℕ, List, Option, Result, Ok, Err, MatchResult}
-use Rattle.std.specs.Io.KnownBytes.{Appends}
-use Rattle.byte_output.specs.Output.{SendsFront}
-use Rattle.cli.specs.RefusalLine.{refusal_line}
-use Rattle.cli.specs.declared.refusal.Refusal.{Refusal}
-use Rattle.cli.specs.declared.write_fault.WriteFault.{WriteFault}
+-- What numarun answers to an input, and its exit status.
+use Rattle.std.specs.Prelude.{◌≡◌, ℕ, List, Result, Ok, Err}
+use Rattle.inputs.specs.FaultRefusal.{read_refusal}
+use Rattle.inputs.specs.Readings.{Reading}
+use Rattle.inputs.specs.RefusalLine.{refusal_line}
+use Rattle.inputs.specs.declared.refusal.Refusal.{Refusal}
 
 -- the text of what was found, or the refusal's line
 abbrev pub answer_text : {T : Type 0} → (T → List ℕ) → Result T Refusal → List ℕ
@@ -16,8 +15,11 @@ abbrev pub status_of : {T : Type 0} → Result T Refusal → ℕ
 status_of (Ok found) = 0
 status_of (Err refusal) = 1
 
--- the answer was written and its status told, or at a fault a front of it was written
-abbrev pub WritesAnswer : {T : Type 0} → (T → List ℕ) → Option (List ℕ) → Option (List ℕ) → Result T Refusal → Result ℕ WriteFault → Type 0
-WritesAnswer text out out' answer result = MatchResult result
-    (λ status. (status ≡ status_of answer) × Appends out out' (answer_text text answer))
-    (λ fault. SendsFront out out' (answer_text text answer))
+-- an answer to bytes that could be had; or the refusal that says why they could not
+abbrev pub AnswersReading : {T : Type 0} → (List ℕ → Result T Refusal → Type 0) → Reading → Result T Refusal → Type 0
+AnswersReading answers (Ok bytes) answer = answers bytes answer
+AnswersReading answers (Err e) answer = answer ≡ Err (read_refusal e)
+
+-- one of the readings that there may be is answered
+abbrev pub AnswersInput : {T : Type 0} → (List ℕ → Result T Refusal → Type 0) → (Reading → Type 0) → Result T Refusal → Type 0
+AnswersInput answers reads answer = (reading : Reading) × reads reading × AnswersReading answers reading answer

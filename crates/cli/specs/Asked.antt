@@ -1,5 +1,6 @@
 -- What the words after the program's name ask for.
-use Rattle.std.specs.Prelude.{Option, Some, None, List, [], ◌∷◌, codes, bytes_eq, if◌then◌else◌, option_map, string_bytes, unwrap_or}
+use Rattle.std.specs.Borrow.{Bor}
+use Rattle.std.specs.Prelude.{Option, Some, None, List, [], ◌∷◌, codes, bytes_eq, if◌then◌else◌, option_map, unwrap_or}
 use Rattle.clap.specs.Words.{Row, Text, first_of, subcommand_of}
 use Rattle.cli.specs.CommandLine.{numarun}
 use Rattle.cli.specs.declared.words.Words.{Words}
@@ -13,12 +14,16 @@ pub data Asked : Type 0 where
   slit : Text → Asked
   run : Text → Option Text → Asked
 
--- what numarun is asked to do, its strings as texts
+-- the text of a word
+abbrev pub word_bytes : Bor Text → Text
+word_bytes word = word.now
+
+-- what numarun is asked to do, its words as texts
 abbrev pub asked : Words → Asked
-asked (words.Check file) = check (option_map string_bytes file)
-asked (words.List text) = list (string_bytes text)
-asked (words.Slit file) = slit (string_bytes file)
-asked (words.Run machine table) = run (string_bytes machine) (option_map string_bytes table)
+asked (words.Check file) = check (option_map word_bytes file)
+asked (words.List text) = list text.now
+asked (words.Slit file) = slit file.now
+asked (words.Run machine table) = run machine.now (option_map word_bytes table)
 
 -- the value of an argument that has to be given
 abbrev pub value : Text → List Row → Text

@@ -1,13 +1,8 @@
 -- The command line of numarun: its subcommands and what each takes.
-use Rattle.std.specs.Borrow.{Bor}
-use Rattle.std.specs.Prelude.{◌≡◌, List, [], ◌∷◌, Some, codes, map, true, false}
+use Rattle.std.specs.Prelude.{◌≡◌, List, [], ◌∷◌, Some, codes, true, false}
 use Rattle.clap.specs.Words.{App, Rule, Shape, Text, app_of, new_app, new_rule}
 use Rattle.clap.specs.declared.builder.command.Command.{Command}
 use Rattle.clap.specs.declared.builder.command.Command.TheViews.{out-Command}
-
--- the texts of words
-abbrev pub texts : List (Bor Text) → List Text
-texts words = map (λ (word : Bor Text). word.now) words
 
 -- a subcommand that takes these arguments
 abbrev pub command : Text → List Rule → Shape

@@ -1,40 +1,28 @@
 -- What the program does: which bytes go to which stream, and its exit status.
-use Rattle.std.specs.Prelude.{◌≡◌, ◌⊎◌, ℕ, List, [], Option, Some, None, Result, Ok, Err, IfSome, bytes_eq, codes, if◌then◌else◌, option_map, unwrap_or}
+use Rattle.std.specs.Prelude.{◌≡◌, ◌⊎◌, ℕ, List, [], Bool, true, false, Option, Some, None, Result, Ok, Err, bytes_eq, codes, unwrap_or}
+use Rattle.std.specs.declared.io.ErrorKind.{ErrorKind as SystemKind}
 use Rattle.clap.specs.Words.{IsAmong, Text}
 use Rattle.clap.specs.declared.error.kind.ErrorKind.{ErrorKind}
-use Rattle.clap.specs.declared.error.kind.ErrorKind.TheVariants.{DisplayHelp, DisplayVersion}
-use Rattle.certificate_text.specs.declared.checking.Verdict.{Verdict}
-use Rattle.cpu_set.specs.Ids.{Ids}
+use Rattle.clap.specs.declared.error.kind.ErrorKind.TheVariants.{DisplayHelp, DisplayVersion, OutOfMemory}
 use Rattle.node.specs.NodeState.{NodeState}
+use Rattle.runtime.specs.RuntimeState.{Told}
 use Rattle.script.specs.declared.script_fault.ScriptFault.{ScriptFault}
-use Rattle.slit.specs.Table.{Table}
-use Rattle.cli.specs.Answer.{answer_text, status_of}
 use Rattle.cli.specs.Asked.{Asked, asked_for, check, list, run, slit}
-use Rattle.cli.specs.CheckAnswer.{IsAnswerTo, verdict_line}
-use Rattle.cli.specs.ListAnswer.{IsSetOrRefusal, set_line}
 use Rattle.cli.specs.Mistakes.{mistakes}
-use Rattle.cli.specs.Notes.{note_of, note_on, shown, standard_input, unread_line, unwritten_line}
-use Rattle.cli.specs.Pages.{TakesIfRoom, contents_of}
+use Rattle.cli.specs.Named.{name_of, reads_named}
+use Rattle.cli.specs.Notes.{note_of, shown, standard_input, unread_line, unwritten_line}
+use Rattle.inputs.specs.Pages.{TakesIfRoom, contents_of}
+use Rattle.inputs.specs.Readings.{Reading, Reads}
 use Rattle.cli.specs.Ready.{SetsUp, refusal_of}
-use Rattle.cli.specs.RefusalLine.{refusal_line}
+use Rattle.inputs.specs.RefusalLine.{refusal_line}
 use Rattle.cli.specs.RunAnswer.{Plays, is_unread}
 use Rattle.cli.specs.Says.{Complains, Says}
-use Rattle.cli.specs.SlitAnswer.{IsTableOrRefusal, table_text}
+use Rattle.cli.specs.Tells.{Checks, Lists, Tabulates}
 use Rattle.cli.specs.declared.console.Console.{Console}
-use Rattle.cli.specs.declared.read_fault.ReadFault.{ReadFault}
-use Rattle.cli.specs.declared.refusal.Refusal.{Refusal}
-use Rattle.cli.specs.declared.refusal.Refusal.TheVariants as refusal
+use Rattle.inputs.specs.declared.read_fault.ReadFault.{ReadFault}
+use Rattle.inputs.specs.declared.refusal.Refusal.TheVariants as refusal
 use Rattle.cli.specs.declared.unready.Unready.{Unready}
 use Rattle.cli.specs.declared.unready.Unready.TheVariants as unready
-
--- the bytes of the input of this name, where they are known
-abbrev pub input_of : (Text → Option (List ℕ)) → Option (List ℕ) → Text → Option (List ℕ)
-input_of files input name = if bytes_eq name (codes "-") then input else files name
-
--- the input that a check names, or standard input
-abbrev pub name_of : Option Text → Text
-name_of None = codes "-"
-name_of (Some name) = name
 
 -- the words ask for the help or for the version
 abbrev pub IsRequest : ErrorKind → Type 0
@@ -57,43 +45,46 @@ module _ {W E : Type 0} (out : W → Option (List ℕ)) (err : E → Option (Lis
 
 -- the two streams before and after, as far as their bytes are known, and the exit status
 module _ {W E : Type 0} (out : W → Option (List ℕ)) (err : E → Option (List ℕ)) (old new : Console W E) (status : ℕ) where
-  -- the answer to an input that is called so
-  abbrev pub Answers : {T : Type 0} → (T → List ℕ) → Text → Result T Refusal → Type 0
-  Answers text name answer = Says out err old new status (answer_text text answer) (status_of answer) (note_on name answer)
+  -- the script was run over the node and the bundles
+  abbrev pub Performs : NodeState → Told → Option (List ℕ) → Option (List ℕ) → Type 0
+  Performs n told script script' = (mid : Console W E) × (end : Result (Unit {0}) ScriptFault)
+      × Plays n told script script' (contents_of out old.out) (contents_of out mid.out) end × (mid.err ≡ old.err) × Finishes out err mid new status end
 
-  abbrev pub Checks : Option (List ℕ) → Text → Type 0
-  Checks bytes name = (answer : Result Verdict Refusal) × IfSome bytes (λ all. IsAnswerTo all answer) × Answers verdict_line (shown name) answer
+  -- one of the two files is refused
+  abbrev pub Refuses : Text → Option Text → Unready → Type 0
+  Refuses machine table why = Says out err old new status (refusal_line (refusal_of why)) 1 (note_of (name_in machine table why) (refusal_of why))
 
-  abbrev pub Tabulates : Option (List ℕ) → Text → Type 0
-  Tabulates bytes name = (answer : Result Table Refusal) × IfSome bytes (λ all. IsTableOrRefusal all answer) × Answers table_text (shown name) answer
+  -- the files that may be opened under a name, the errors by which that may fail, and what the reading of one may answer
+  module _ {I : Type 0} (opens : Text → I → Type 0) (fails : Text → SystemKind → Type 0) (gives : I → Reading → Type 0) where
+    -- the script was run over the machine of these files, or one of the files is refused
+    abbrev pub Scripts : Told → Option (List ℕ) → Option (List ℕ) → Text → Option Text → Type 0
+    Scripts told script script' machine table =
+        ((n : NodeState) × SetsUp opens fails gives machine table (Ok n) × Performs n told script script')
+        ⊎ ((why : Unready) × SetsUp opens fails gives machine table (Err why) × Refuses machine table why)
 
-  abbrev pub Lists : Text → Type 0
-  Lists text = (answer : Result Ids Refusal) × IsSetOrRefusal text answer × Answers set_line [] answer
-
-  -- the script on standard input was run over the machine of these files, or one of the files is refused
-  abbrev pub Scripts : (Text → Option (List ℕ)) → Option (List ℕ) → Text → Option Text → Type 0
-  Scripts files input machine table =
-      ((n : NodeState) × SetsUp (files machine) (option_map files table) (Ok n)
-      × ((rest : Option (List ℕ)) × (mid : Console W E) × (end : Result (Unit {0}) ScriptFault)
-      × Plays n None input rest (contents_of out old.out) (contents_of out mid.out) end × (mid.err ≡ old.err) × Finishes out err mid new status end))
-      ⊎ ((why : Unready) × SetsUp (files machine) (option_map files table) (Err why)
-      × Says out err old new status (refusal_line (refusal_of why)) 1 (note_of (name_in machine table why) (refusal_of why)))
-
-  -- what is asked for is done, over these files and this standard input
-  abbrev pub Does : (Text → Option (List ℕ)) → Option (List ℕ) → Asked → Type 0
-  Does files input (check file) = Checks (input_of files input (name_of file)) (name_of file)
-  Does files input (list text) = Lists text
-  Does files input (slit file) = Tabulates (input_of files input file) file
-  Does files input (run machine table) = Scripts files input machine table
+    -- what is asked for is done, over these files, and over what the reading of standard input may answer and its bytes
+    abbrev pub Does : (Reading → Type 0) → Option (List ℕ) → Asked → Type 0
+    Does input script (check file) = Checks out err old new status (reads_named (Reads opens fails gives) input (name_of file)) (shown (name_of file))
+    Does input script (list text) = Lists out err old new status text
+    Does input script (slit file) = Tabulates out err old new status (reads_named (Reads opens fails gives) input file) (shown file)
+    Does input script (run machine table) = (script' : Option (List ℕ)) × Scripts None script script' machine table
 
   -- the help or the version goes to standard output with status 0, and what a mistake is to standard error with
   -- status 2; clap's contracts don't tell the text
   abbrev pub Explains : ErrorKind → Type 0
   Explains kind = (text : List ℕ) × (IsRequest kind → Says out err old new status text 0 []) × ((IsRequest kind → ⊥) → Complains out err old new status text)
 
-  -- the words are obeyed, or explained, or there is no memory to read them
-  abbrev pub Runs : (Text → Option (List ℕ)) → Option (List ℕ) → List Text → Type 0
-  Runs files input words =
-      ((mistakes words ≡ []) × Does files input (asked_for words))
-      ⊎ (((kind : ErrorKind) × IsAmong kind (mistakes words) × Explains kind)
-      ⊎ Says out err old new status (refusal_line refusal.Memory) 2 [])
+  -- memory is short for the words
+  abbrev pub LacksMemory : Type 0
+  LacksMemory = Says out err old new status (refusal_line refusal.Memory) 2 []
+
+  -- a mistake of this kind is explained, or there is no memory for its text
+  abbrev pub ExplainsOrLacks : Type 0 → ErrorKind → Type 0
+  ExplainsOrLacks lacks kind = Explains kind ⊎ (lacks × LacksMemory)
+
+  -- the words are obeyed or explained, or there is no memory to parse them
+  abbrev pub Runs : (List Text → ErrorKind → Type 0) → Type 0 → (Asked → Type 0) → List Text → Type 0
+  Runs fails lacks does words =
+      ((mistakes words ≡ []) × does (asked_for words))
+      ⊎ (((kind : ErrorKind) × IsAmong kind (mistakes words) × fails words kind × ExplainsOrLacks lacks kind)
+      ⊎ (fails words OutOfMemory × LacksMemory))

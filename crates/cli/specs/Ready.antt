@@ -1,55 +1,75 @@
 -- What is ready before a script begins: the node of a machine file, perhaps with a distance table beside it.
-use Rattle.std.specs.Prelude.{◌≡◌, ℕ, ◌≤◌, Bool, true, false, List, length, Option, Some, None, Result, Ok, Err, ⊤, IfSome}
+use Rattle.std.specs.Prelude.{◌≡◌, ◌⊎◌, ℕ, List, Option, Some, None, Result, Ok, Err}
+use Rattle.std.specs.declared.io.ErrorKind.{ErrorKind}
 use Rattle.machine.specs.Layout.{Layout}
-use Rattle.machine.specs.MachineOf.{machine_of}
+use Rattle.machine.specs.MachineOf.{machine_of, text_fault}
 use Rattle.node.specs.NodeState.{NodeState}
 use Rattle.runtime.specs.Boots.{Boots}
-use Rattle.slit.specs.Describes.{Describes}
 use Rattle.slit.specs.Table.{Table}
+use Rattle.cli.specs.Answer.{AnswersInput}
+use Rattle.inputs.specs.FaultRefusal.{read_refusal}
+use Rattle.inputs.specs.Readings.{IsUnopened, Reading}
 use Rattle.cli.specs.SlitAnswer.{IsTableOrRefusal}
-use Rattle.cli.specs.StoppedReads.{IsReadFaultOf}
-use Rattle.cli.specs.declared.reading.TheConstants.{MOST_BYTES}
-use Rattle.cli.specs.declared.refusal.Refusal.{Refusal}
-use Rattle.cli.specs.declared.refusal.Refusal.TheVariants as refusal
+use Rattle.inputs.specs.declared.read_fault.ReadFault.{ReadFault}
+use Rattle.inputs.specs.declared.refusal.Refusal.{Refusal}
+use Rattle.inputs.specs.declared.refusal.Refusal.TheVariants as refusal
 use Rattle.cli.specs.declared.unready.Unready.{Unready}
 use Rattle.cli.specs.declared.unready.Unready.TheVariants as unready
+use Rattle.faults.specs.declared.or_memory.OrMemory.{OrMemory}
 
 abbrev pub refusal_of : Unready → Refusal
 refusal_of (unready.Machine why) = why
 refusal_of (unready.Slit why) = why
 
--- the node of the machine that the text describes beside the table, or what is wrong with the text; no one can know
--- beforehand whether memory suffices
+-- the node of the machine that the text describes beside the table, or what is wrong with the text; lack of memory only where
+-- no fault shows before it is read as JSON
 abbrev pub IsReady : Option Table → List ℕ → Result NodeState Refusal → Type 0
 IsReady table text (Ok n) = (m : Layout) × (machine_of table text ≡ Ok m) × Boots m n
 IsReady table text (Err (refusal.Machine fault)) = machine_of table text ≡ Err fault
-IsReady table text (Err refusal.Memory) = ⊤
+IsReady table text (Err refusal.Memory) = text_fault text ≡ None
 IsReady table text (Err _) = ⊥
 
--- the table that the bytes describe, where there is a reader of a table
-abbrev pub IsTableIn : Option (Option (List ℕ)) → Option Table → Type 0
-IsTableIn None table = table ≡ None
-IsTableIn (Some read) table = (t : Table) × (table ≡ Some t) × IfSome read (λ bytes. (length bytes ≤ MOST_BYTES) × Describes bytes t)
+-- of open inputs of a machine file and of a table, if there is one
+module _ {I : Type 0} (gives : I → Reading → Type 0) where
+  -- the table that the input holds
+  abbrev pub IsTableIn : Option I → Option Table → Type 0
+  IsTableIn None found = found ≡ None
+  IsTableIn (Some input) found = (t : Table) × (found ≡ Some t) × AnswersInput IsTableOrRefusal (gives input) (Ok t)
 
--- what the text in the machine file leads to beside that table
-abbrev pub LeadsTo : Option (List ℕ) → Option (Option (List ℕ)) → Result NodeState Refusal → Type 0
-LeadsTo read slit answer = (table : Option Table) × IsTableIn slit table × IfSome read (λ text. (length text ≤ MOST_BYTES) × IsReady table text answer)
+  -- why it holds none
+  abbrev pub IsBadTable : Option I → Refusal → Type 0
+  IsBadTable None why = ⊥
+  IsBadTable (Some input) why = AnswersInput IsTableOrRefusal (gives input) (Err why)
 
--- what is wrong with the table
-abbrev pub IsBadTable : Option (Option (List ℕ)) → Refusal → Type 0
-IsBadTable None why = ⊥
-IsBadTable (Some read) why = IfSome read (λ bytes. IsTableOrRefusal bytes (Err why))
+  -- the machine file was read, and then the table
+  abbrev pub LeadsTo : I → Option I → Result NodeState Refusal → Type 0
+  LeadsTo machine table answer = (text : List ℕ) × gives machine (Ok text) × ((found : Option Table) × IsTableIn table found × IsReady found text answer)
 
--- whether this says that an input can't be opened or read, or passes a bound
-abbrev pub is_read_fault : Refusal → Bool
-is_read_fault (refusal.ReadFault fault) = true
-is_read_fault _ = false
+  -- the machine file can't be read
+  abbrev pub IsUnread : I → Refusal → Type 0
+  IsUnread machine why = (e : OrMemory ReadFault) × gives machine (Err e) × (why ≡ read_refusal e)
 
--- the node that the two readers lead to, or why there is none: the machine file can't be read, the table is refused, or
--- then the machine; a table is not refused for what stands in it before the machine file was read whole
-abbrev pub SetsUp : Option (List ℕ) → Option (Option (List ℕ)) → Result NodeState Unready → Type 0
-SetsUp read slit (Ok n) = LeadsTo read slit (Ok n)
-SetsUp read slit (Err (unready.Slit why)) = (is_read_fault why ≡ false → IfSome read (λ text. length text ≤ MOST_BYTES)) × IsBadTable slit why
-SetsUp read slit (Err (unready.Machine (refusal.ReadFault fault))) = IfSome read (λ text. IsReadFaultOf text fault)
-SetsUp read slit (Err (unready.Machine refusal.Memory)) = ⊤
-SetsUp read slit (Err (unready.Machine why)) = LeadsTo read slit (Err why)
+  -- the node that the two lead to; or, in this order, the machine file can't be read, the table is refused, or the machine is
+  abbrev pub Readies : I → Option I → Result NodeState Unready → Type 0
+  Readies machine table (Ok n) = LeadsTo machine table (Ok n)
+  Readies machine table (Err (unready.Slit why)) = ((text : List ℕ) × gives machine (Ok text)) × IsBadTable table why
+  Readies machine table (Err (unready.Machine why)) = IsUnread machine why ⊎ LeadsTo machine table (Err why)
+
+-- of files by their names
+module _ {S I : Type 0} (opens : S → I → Type 0) (fails : S → ErrorKind → Type 0) (gives : I → Reading → Type 0) where
+  -- a file can't be opened, which is this refusal
+  abbrev pub IsClosed : S → Refusal → Type 0
+  IsClosed name why = (fault : ReadFault) × IsUnopened opens fails gives name fault × (why ≡ refusal.ReadFault fault)
+
+  -- the machine file is open, and so is the table's, if there is one; or that can't be opened
+  abbrev pub SetsUpBeside : I → Option S → Result NodeState Unready → Type 0
+  SetsUpBeside machine None result = Readies gives machine None result
+  SetsUpBeside machine (Some name) result =
+      ((table : I) × opens name table × Readies gives machine (Some table) result)
+      ⊎ ((why : Refusal) × IsClosed name why × (result ≡ Err (unready.Slit why)))
+
+  -- both files are opened, the machine's first, and then read
+  abbrev pub SetsUp : S → Option S → Result NodeState Unready → Type 0
+  SetsUp name table result =
+      ((machine : I) × opens name machine × SetsUpBeside machine table result)
+      ⊎ ((why : Refusal) × IsClosed name why × (result ≡ Err (unready.Machine why)))

@@ -1,15 +1,11 @@
 -- What numarun answers to the bytes of a distance table.
-use Rattle.std.specs.Prelude.{◌≡◌, ℕ, ◌≤◌, ◌==◌, if◌then◌else◌, List, [], ◌++◌, length, Option, Some, Result, Ok, Err, ⊤, IfSome, codes, decimal}
+use Rattle.std.specs.Prelude.{◌≡◌, ℕ, ◌==◌, if◌then◌else◌, List, [], ◌++◌, Some, None, Result, Ok, Err, codes, decimal}
 use Rattle.std.specs.List.{flat_map, range_with_len}
 use Rattle.slit.specs.Describes.{Describes}
 use Rattle.slit.specs.SlitFaultOf.{slit_fault}
 use Rattle.slit.specs.Table.{Table, distance}
-use Rattle.cli.specs.Answer.{WritesAnswer}
-use Rattle.cli.specs.StoppedReads.{IsReadFaultOf}
-use Rattle.cli.specs.declared.reading.TheConstants.{MOST_BYTES}
-use Rattle.cli.specs.declared.refusal.Refusal.{Refusal}
-use Rattle.cli.specs.declared.refusal.Refusal.TheVariants as refusal
-use Rattle.cli.specs.declared.write_fault.WriteFault.{WriteFault}
+use Rattle.inputs.specs.declared.refusal.Refusal.{Refusal}
+use Rattle.inputs.specs.declared.refusal.Refusal.TheVariants as refusal
 
 -- an entry of a row, behind a space unless it is the first
 abbrev pub entry_text : ℕ → ℕ → List ℕ
@@ -23,16 +19,9 @@ row_text t i = flat_map (λ j. entry_text j (distance t i j)) (range_with_len 0 
 abbrev pub table_text : Table → List ℕ
 table_text t = (codes "localities " ++ (decimal t.localities ++ codes "\n")) ++ flat_map (row_text t) (range_with_len 0 t.localities)
 
--- the table that the bytes describe, or their first fault; no one can know beforehand whether memory suffices or a read fails
+-- the table that the bytes describe, or their first fault; lack of memory only where they have none
 abbrev pub IsTableOrRefusal : List ℕ → Result Table Refusal → Type 0
-IsTableOrRefusal bytes (Ok t) = (length bytes ≤ MOST_BYTES) × Describes bytes t
-IsTableOrRefusal bytes (Err (refusal.Slit fault)) = (length bytes ≤ MOST_BYTES) × (slit_fault bytes ≡ Some fault)
-IsTableOrRefusal bytes (Err (refusal.ReadFault fault)) = IsReadFaultOf bytes fault
-IsTableOrRefusal bytes (Err refusal.Memory) = ⊤
+IsTableOrRefusal bytes (Ok t) = Describes bytes t
+IsTableOrRefusal bytes (Err (refusal.Slit fault)) = slit_fault bytes ≡ Some fault
+IsTableOrRefusal bytes (Err refusal.Memory) = slit_fault bytes ≡ None
 IsTableOrRefusal bytes (Err _) = ⊥
-
--- the answer to all that the reader had was written
-pub record SlitAnswers (read out out' : Option (List ℕ)) (result : Result ℕ WriteFault) : Type 0 where
-  pub answer : Result Table Refusal
-  pub right : IfSome read (λ bytes. IsTableOrRefusal bytes answer)
-  pub written : WritesAnswer table_text out out' answer result

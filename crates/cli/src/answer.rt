@@ -1,51 +1,58 @@
-//! What is printed, and the exit status.
-ghost use Rattle.std.specs.Prelude.{ℕ, List, string_bytes};
-ghost use Rattle.cli.specs.Answer.{WritesAnswer};
-ghost use Rattle.byte_output.specs.Output.{Writes};
+//! What is read of an input, and printed.
+ghost use Rattle.std.specs.Prelude.{ℕ, List, Result};
+ghost use Rattle.cli.specs.Answer.{AnswersInput};
+ghost use Rattle.cli.specs.Tells.{Answers};
+ghost use Rattle.inputs.specs.Readings.{Reads};
+ghost use Rattle.inputs.specs.declared.refusal.Refusal.{Refusal};
 
-use crate::refusal::Refusal;
-use crate::write_fault::WriteFault;
-use byte_output::put;
-use std::io;
+use crate::console::{Console, REFUSED, print_then_note};
+use crate::note::Note;
+use crate::printed::Printed;
+use inputs::{Input, ReadFault, Refusal, Source};
+use std::alloc::Global;
 use std::io::Write;
 
-/// What can be printed.
-pub trait Printed {
-    /// The text that is printed.
-    ghost text: { Self → List ℕ };
+/// What is read from an input's bytes, and printed.
+pub trait Answer: Printed {
+    /// What bytes may be answered by.
+    ghost answers: { List ℕ → Result Self Refusal → Type 0 };
 
-    fn print<W: Write>(&self, w: &mut W) -> io::Result<()>
-        ensures { Writes (W.contents w.old) (W.contents w.new) result (text self.now) };
+    /// What the bytes say, or why they are refused.
+    fn from_bytes(alloc: Global, bytes: &[u8]) -> Result<Self, Refusal>
+        ensures { answers bytes.now result };
 }
 
-/// Writes what was found, or the refusal's line. The status is 0, or 1 for a refusal.
-pub fn tell<T: Printed, W: Write>(answer: &Result<T, Refusal>, w: &mut W) -> Result<u8, WriteFault>
-    ensures { WritesAnswer T.text (W.contents w.old) (W.contents w.new) answer.now result }
+/// What an open input says, or why it is refused.
+pub fn answer_in<T: Answer, I: Input>(alloc: Global, input: I) -> Result<T, Refusal>
+    ensures { AnswersInput T.answers (I.gives input) result }
+{
+    let bytes = input.read_whole(alloc)?;
+    T::from_bytes(alloc, bytes.as_slice())
+}
+
+/// What a source says, or why it is refused.
+pub fn answer_of<T: Answer, S: Source>(alloc: Global, source: S) -> Result<T, Refusal>
+    ensures { AnswersInput T.answers (Reads S.opens S.fails S.Input.gives source) result }
+{
+    match source.open() {
+        Ok(input) => answer_in(alloc, input),
+        Err(error) => Err(Refusal::ReadFault(ReadFault::from(error))),
+    }
+}
+
+/// Prints the answer to the input that is called so, and beside a refused reading why it was; the status is 0, or 1 for a
+/// refusal and for an answer that can't be written.
+pub fn print_answer<T: Printed, W: Write, E: Write>(
+    answer: &Result<T, Refusal>,
+    name: &str,
+    console: &mut Console<W, E>,
+) -> u8
+    ensures { Answers W.contents E.contents console.old console.new result T.text name.now answer.now }
 {
     match answer {
-        Ok(found) => {
-            found.print(w)?;
-            Ok(0)
-        }
+        Ok(found) => print_then_note(found, 0, &None, console),
         Err(refusal) => {
-            refusal.write(w)?;
-            Ok(1)
+            print_then_note(refusal, REFUSED, &Note::beside(*refusal, name), console)
         }
-    }
-}
-
-impl Printed for String {
-    ghost text = { string_bytes };
-
-    fn print<W: Write>(&self, w: &mut W) -> io::Result<()> {
-        put(self.as_bytes(), w)
-    }
-}
-
-impl Printed for &str {
-    ghost text = { λ text. text.now };
-
-    fn print<W: Write>(&self, w: &mut W) -> io::Result<()> {
-        put(self.as_bytes(), w)
     }
 }

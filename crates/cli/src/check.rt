@@ -1,53 +1,64 @@
 //! `numarun check`.
-ghost use Rattle.std.specs.Prelude.{◌≤◌, IfSome, length};
-ghost use Rattle.certificate_text.specs.TextError.{AsksForMemory};
-ghost use Rattle.cli.specs.CheckAnswer.{CheckAnswers, IsAnswerTo, verdict_line};
-ghost use Rattle.cli.specs.Wants.{WantsOnlyWhere};
-ghost use Rattle.cli.specs.declared.reading.TheConstants.{MOST_BYTES};
-ghost use Rattle.byte_output.specs.Output.{Writes};
 ghost use Rattle.certificate_text.specs.declared.checking.Verdict.TheVariants.{Short};
+ghost use Rattle.byte_output.specs.Output.{Writes};
+ghost use Rattle.cli.specs.CheckAnswer.{IsAnswerTo, verdict_line};
+ghost use Rattle.cli.specs.Named.{reads_named};
+ghost use Rattle.cli.specs.Notes.{shown};
+ghost use Rattle.cli.specs.Tells.{Checks};
+ghost use Rattle.inputs.specs.Readings.{Reads};
 
-use crate::answer::{Printed, tell};
-use crate::output::put_number_line;
-use crate::reading::read_all;
-use crate::refusal::Refusal;
-use crate::write_fault::WriteFault;
+use crate::answer::{Answer, answer_of, print_answer};
+use crate::console::Console;
+use crate::note::STANDARD_INPUT;
+use crate::opens::{NamedFile, Opens};
+use crate::printed::Printed;
 use byte_output::put_all;
 use certificate_text::{Verdict, check_text};
+use inputs::{Input, Opened, Refusal, Source, put_number_line};
 use itoa::Buffer;
 use std::alloc::Global;
 use std::io;
-use std::io::{Read, Write};
+use std::io::Write;
 
-/// Checks the certificate that the reader has left, and writes what the check finds as one line:
-/// `plan total N`, `short demand N cpus M`, or why the certificate is refused. The status is 0, or 1 for a refusal.
-///
-/// # Errors
-/// Where the line can't be written; a front of it then went out.
-pub fn do_check<R: Read, W: Write>(
+/// Checks the certificate in the source that is called so, and prints what the check finds as one line:
+/// `plan total N`, `short demand N cpus M`, or why the certificate is refused. The status is 0, or 1 for a refusal and for
+/// a line that can't be written.
+pub fn do_check<S: Source, W: Write, E: Write>(
     alloc: Global,
-    reader: &mut R,
-    w: &mut W,
-) -> Result<u8, WriteFault>
-    ensures { CheckAnswers (R.remaining reader.old) (W.contents w.old) (W.contents w.new) result }
+    source: S,
+    name: &str,
+    console: &mut Console<W, E>,
+) -> u8
+    ensures { Checks W.contents E.contents console.old console.new result (Reads S.opens S.fails S.Input.gives source) name.now }
 {
-    tell(&judge(alloc, reader), w)
+    let answer: Result<Verdict, Refusal> = answer_of(alloc, source);
+    print_answer(&answer, name, console)
 }
 
-/// What the check finds in all that the reader has left.
-pub fn judge<R: Read>(alloc: Global, reader: &mut R) -> Result<Verdict, Refusal>
-    ensures { IfSome (R.remaining reader.old) (λ bytes. IsAnswerTo bytes result) }
+/// Checks the certificate of this name; `-` is standard input.
+pub fn check_named<F: Opens, I: Input, W: Write, E: Write>(
+    alloc: Global,
+    name: &str,
+    files: &F,
+    input: I,
+    console: &mut Console<W, E>,
+) -> u8
+    ensures { Checks W.contents E.contents console.old console.new result
+        (reads_named (Reads (F.opens files.now) (F.fails files.now) F.File.gives) (I.gives input) name.now) (shown name.now) }
 {
-    let bytes = read_all(alloc, reader)?;
-    judge_text(alloc, bytes.as_slice())
+    if name == "-" {
+        do_check(alloc, Opened(input), STANDARD_INPUT, console)
+    } else {
+        do_check(alloc, NamedFile { files, name }, name, console)
+    }
 }
 
-/// What the check finds in a text that was read. Memory is wanted only at a line of it, after lines that are in order.
-pub fn judge_text(alloc: Global, text: &[u8]) -> Result<Verdict, Refusal>
-    ensures answer { length text.now ≤ MOST_BYTES → IsAnswerTo text.now result }
-    ensures memory { WantsOnlyWhere (AsksForMemory text.now) result }
-{
-    Ok(check_text(alloc, text)?)
+impl Answer for Verdict {
+    ghost answers = { IsAnswerTo };
+
+    fn from_bytes(alloc: Global, bytes: &[u8]) -> Result<Verdict, Refusal> {
+        Ok(check_text(alloc, bytes)?)
+    }
 }
 
 impl Printed for Verdict {
@@ -79,6 +90,3 @@ fn put_shortage<W: Write>(asked: u64, allowed: u32, w: &mut W) -> io::Result<()>
         w,
     )
 }
-
-#[cfg(test)]
-mod tests;

@@ -1,8 +1,10 @@
 //! What numarun can be told, in the builder's terms.
-ghost use Rattle.std.specs.Prelude.{◌≡◌, IfOk, codes, false};
-ghost use Rattle.clap.specs.Words.{app_of, FailsBy, fault_of, rule_of, subcommand_of, subcommand_rows_of};
-ghost use Rattle.cli.specs.CommandLine.{IsLeaf, check_command, list_command, numarun, option, required, run_command, slit_command, texts};
+ghost use Rattle.std.specs.Prelude.{◌≡◌, ◌⊎◌, ⊤, IfOk, codes, false};
+ghost use Rattle.clap.specs.Words.{IsAmong, app_of, fault_of, rule_of};
+ghost use Rattle.clap.specs.declared.error.kind.ErrorKind.TheVariants.{OutOfMemory};
+ghost use Rattle.cli.specs.CommandLine.{IsLeaf, check_command, list_command, numarun, option, required, run_command, slit_command};
 
+use crate::words::Grammar;
 use clap::{Arg, ArgMatches, Command, Error};
 use std::alloc::{AllocError, Global};
 
@@ -132,9 +134,20 @@ fn command_line<'a>(alloc: Global) -> Result<Command<'a>, AllocError>
         .subcommand(run(alloc)?)
 }
 
-pub fn matches_of<'a>(alloc: Global, words: &'a [&'a str]) -> Result<ArgMatches<'a>, Error>
-    ensures matches { IfOk result (λ m. subcommand_rows_of m ≡ subcommand_of numarun (texts words.entry.now)) }
-    ensures fails { FailsBy (fault_of numarun (texts words.entry.now)) result }
-{
-    command_line(alloc)?.try_get_matches_from(words)
+/// The command line of numarun, taken apart by clap.
+#[derive(Clone, Copy)]
+pub struct CommandLine;
+
+impl Grammar for CommandLine {
+    ghost fails = { λ _ words kind. (kind ≡ OutOfMemory) ⊎ IsAmong kind (fault_of numarun words) };
+
+    ghost lacks = { λ _. ⊤ };
+
+    fn matches<'a>(&self, alloc: Global, words: &'a [String]) -> Result<ArgMatches<'a>, Error> {
+        command_line(alloc)?.try_get_matches_from(words)
+    }
+
+    fn text(&self, alloc: Global, error: &Error) -> Result<String, AllocError> {
+        error.to_string(alloc)
+    }
 }

@@ -1,54 +1,66 @@
 //! `numarun slit`.
-ghost use Rattle.std.specs.Prelude.{◌≡◌, ◌++◌, ◌<◌, ◌≤◌, IfSome, None, codes, length};
+ghost use Rattle.std.specs.Prelude.{◌≡◌, ◌++◌, ◌<◌, codes};
 ghost use Rattle.std.specs.List.{flat_map, range_with_len};
 ghost use Rattle.slit.specs.Table.{distance};
-ghost use Rattle.slit.specs.SlitFaultOf.{slit_fault};
-ghost use Rattle.cli.specs.SlitAnswer.{IsTableOrRefusal, SlitAnswers, entry_text, row_text, table_text};
-ghost use Rattle.cli.specs.Wants.{WantsOnlyWhere};
-ghost use Rattle.cli.specs.declared.reading.TheConstants.{MOST_BYTES};
 ghost use Rattle.byte_output.specs.Output.{Writes};
+ghost use Rattle.cli.specs.Named.{reads_named};
+ghost use Rattle.cli.specs.Notes.{shown};
+ghost use Rattle.cli.specs.Tells.{Tabulates};
+ghost use Rattle.inputs.specs.Readings.{Reads};
+ghost use Rattle.cli.specs.SlitAnswer.{IsTableOrRefusal, entry_text, row_text, table_text};
 
-use crate::answer::{Printed, tell};
-use crate::output::put_number_line;
-use crate::reading::read_all;
-use crate::refusal::Refusal;
-use crate::write_fault::WriteFault;
+use crate::answer::{Answer, answer_of, print_answer};
+use crate::console::Console;
+use crate::note::STANDARD_INPUT;
+use crate::opens::{NamedFile, Opens};
+use crate::printed::Printed;
 use byte_output::{put, put_all};
+use inputs::{Input, Opened, Refusal, Source, put_number_line};
 use itoa::Buffer;
 use slit::Slit;
 use std::alloc::Global;
 use std::io;
-use std::io::{Read, Write};
+use std::io::Write;
 
-/// Writes the distance table that the reader has left: a line `localities N`, and then for each locality a
-/// line of its distances to all of them; or why the bytes are no table. The status is 0, or 1 for a refusal.
-///
-/// # Errors
-/// Where the lines can't be written; a front of them then went out.
-pub fn do_slit<R: Read, W: Write>(
+/// Prints the distance table in the source that is called so: a line `localities N`, and then for each locality a
+/// line of its distances to all of them; or why the bytes are no table. The status is 0, or 1 for a refusal and for lines
+/// that can't be written.
+pub fn do_slit<S: Source, W: Write, E: Write>(
     alloc: Global,
-    reader: &mut R,
-    w: &mut W,
-) -> Result<u8, WriteFault>
-    ensures { SlitAnswers (R.remaining reader.old) (W.contents w.old) (W.contents w.new) result }
+    source: S,
+    name: &str,
+    console: &mut Console<W, E>,
+) -> u8
+    ensures { Tabulates W.contents E.contents console.old console.new result (Reads S.opens S.fails S.Input.gives source) name.now }
 {
-    tell(&read_table(alloc, reader), w)
+    let answer: Result<Slit, Refusal> = answer_of(alloc, source);
+    print_answer(&answer, name, console)
 }
 
-/// The table in all that the reader has left.
-pub fn read_table<R: Read>(alloc: Global, reader: &mut R) -> Result<Slit, Refusal>
-    ensures { IfSome (R.remaining reader.old) (λ bytes. IsTableOrRefusal bytes result) }
+/// Prints the distance table of this name; `-` is standard input.
+pub fn slit_named<F: Opens, I: Input, W: Write, E: Write>(
+    alloc: Global,
+    name: &str,
+    files: &F,
+    input: I,
+    console: &mut Console<W, E>,
+) -> u8
+    ensures { Tabulates W.contents E.contents console.old console.new result
+        (reads_named (Reads (F.opens files.now) (F.fails files.now) F.File.gives) (I.gives input) name.now) (shown name.now) }
 {
-    let bytes = read_all(alloc, reader)?;
-    table_of(alloc, bytes.as_slice())
+    if name == "-" {
+        do_slit(alloc, Opened(input), STANDARD_INPUT, console)
+    } else {
+        do_slit(alloc, NamedFile { files, name }, name, console)
+    }
 }
 
-/// The table that bytes which were read describe. Memory is wanted only where they describe one.
-pub fn table_of(alloc: Global, bytes: &[u8]) -> Result<Slit, Refusal>
-    ensures answer { length bytes.now ≤ MOST_BYTES → IsTableOrRefusal bytes.now result }
-    ensures memory { WantsOnlyWhere (slit_fault bytes.now ≡ None) result }
-{
-    Ok(Slit::read(alloc, bytes)?)
+impl Answer for Slit {
+    ghost answers = { IsTableOrRefusal };
+
+    fn from_bytes(alloc: Global, bytes: &[u8]) -> Result<Slit, Refusal> {
+        Ok(Slit::read(alloc, bytes)?)
+    }
 }
 
 impl Printed for Slit {
@@ -102,6 +114,3 @@ fn write_entry<W: Write>(table: &Slit, i: usize, j: usize, w: &mut W) -> io::Res
         put_all(&[b" ".as_slice(), entry], w)
     }
 }
-
-#[cfg(test)]
-mod tests;

@@ -1,7 +1,11 @@
 //! Bundles that are folders.
+ghost use Rattle.std.specs.Prelude.{◌≡◌, IfOk, None, option_map};
+ghost use Rattle.runtime.specs.Found.{IsFound};
+ghost use Rattle.cli.specs.Configs.{IsConfigOf};
+
 use crate::opens::Opens;
-use crate::reading::read_all;
 use faults::OrMemory;
+use inputs::Input;
 use runtime::Bundles;
 use std::alloc::{AllocError, Global};
 
@@ -9,26 +13,35 @@ use std::alloc::{AllocError, Global};
 const CONFIG: &str = "/config.json";
 
 /// Bundles that are folders with a `config.json`, by the folders' names. What is in them is not known.
-#[derive(Clone, Copy)]
+#[derive(Drop)]
 pub struct Folders<'a, F> {
     alloc: Global,
-    files: &'a F,
+    /// What opens the configs.
+    pub files: &'a F,
 }
 
 impl<'a, F> Folders<'a, F> {
-    pub fn new(alloc: Global, files: &'a F) -> Folders<'a, F> {
+    pub fn new(alloc: Global, files: &'a F) -> Folders<'a, F>
+        ensures { result.files.now ≡ files.now }
+    {
         Folders { alloc, files }
     }
 }
 
 impl<F: Opens> Bundles for Folders<'_, F> {
-    fn config(&mut self, bundle: &str) -> Result<Option<Vec<u8>>, AllocError> {
+    fn config(&mut self, bundle: &str) -> Result<Option<Vec<u8>>, AllocError>
+        ensures found { IfOk result (λ found. IsFound None bundle.now (option_map (λ config. config.items) found)) }
+        ensures same { self.new.files.now ≡ self.old.files.now }
+        ensures config { IfOk result (λ found. IsConfigOf (F.opens self.old.files.now) (F.fails self.old.files.now) F.File.gives
+            bundle.now (option_map (λ config. config.items) found)) }
+    {
         let mut path = String::from_str(self.alloc, bundle)?;
         path.push_str(CONFIG)?;
-        let Ok(mut file) = self.files.open(path.as_str()) else {
-            return Ok(None);
+        let file = match self.files.open(path.as_str()) {
+            Ok(file) => file,
+            Err(_) => return Ok(None),
         };
-        match read_all(self.alloc, &mut file) {
+        match file.read_whole(self.alloc) {
             Ok(bytes) => Ok(Some(bytes)),
             Err(OrMemory::Memory) => Err(AllocError),
             Err(OrMemory::Fault(_)) => Ok(None),

@@ -1,28 +1,27 @@
 //! `numarun list`.
-ghost use Rattle.cli.specs.ListAnswer.{IsSetOrRefusal, ListAnswers, set_line};
+ghost use Rattle.cli.specs.ListAnswer.{IsSetOrRefusal, set_line};
+ghost use Rattle.cli.specs.Tells.{Lists};
 
-use crate::answer::{Printed, tell};
-use crate::refusal::Refusal;
-use crate::write_fault::WriteFault;
+use crate::answer::print_answer;
+use crate::console::Console;
+use crate::printed::Printed;
 use byte_output::put;
 use cpu_list::{read, write_list};
 use cpu_set::{CPU_LIMIT, IdSet};
+use inputs::Refusal;
 use std::io;
 use std::io::Write;
 
-/// Writes the one spelling of the list's set and a line feed, or why the text is no list of numbers below
-/// [`CPU_LIMIT`](cpu_set::CPU_LIMIT). The status is 0, or 1 for a refusal.
-///
-/// # Errors
-/// Where the line can't be written; a front of it then went out.
-pub fn do_list<W: Write>(text: &[u8], w: &mut W) -> Result<u8, WriteFault>
-    ensures { ListAnswers text.now (W.contents w.old) (W.contents w.new) result }
+/// Prints the one spelling of the list's set and a line feed, or why the text is no list of numbers below
+/// [`CPU_LIMIT`](cpu_set::CPU_LIMIT). The status is 0, or 1 for a refusal and for a line that can't be written.
+pub fn do_list<W: Write, E: Write>(text: &str, console: &mut Console<W, E>) -> u8
+    ensures { Lists W.contents E.contents console.old console.new result text.now }
 {
-    tell(&set_of(text), w)
+    print_answer(&set_of(text.as_bytes()), "", console)
 }
 
 /// The set that the text names.
-pub fn set_of(text: &[u8]) -> Result<IdSet, Refusal>
+fn set_of(text: &[u8]) -> Result<IdSet, Refusal>
     ensures { IsSetOrRefusal text.now result }
 {
     Ok(read(text, CPU_LIMIT)?)
@@ -36,6 +35,3 @@ impl Printed for IdSet {
         put(b"\n", w)
     }
 }
-
-#[cfg(test)]
-mod tests;

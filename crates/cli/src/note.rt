@@ -2,10 +2,8 @@ ghost use Rattle.std.specs.Prelude.{◌≡◌, option_map};
 ghost use Rattle.cli.specs.Notes.{note_of, note_text, shown, standard_input};
 ghost use Rattle.cli.specs.declared.note.Note.{Note};
 
-use crate::answer::Printed;
-use crate::output::put_error_line;
-use crate::read_fault::ReadFault;
-use crate::refusal::Refusal;
+use crate::printed::Printed;
+use inputs::{ReadFault, Refusal, put_error_line};
 use std::io;
 use std::io::Write;
 

@@ -1,20 +1,26 @@
 //! Where named files come from.
-ghost use Rattle.std.specs.Prelude.{◌≡◌, ℕ, List, Option, None, Some, IfOk, IfSome};
+ghost use Rattle.std.specs.Prelude.{◌≡◌, ℕ, List, IfErr, IfOk, ⊤};
+ghost use Rattle.std.specs.IoError.{error_kind};
+ghost use Rattle.std.specs.declared.io.ErrorKind.{ErrorKind};
 
-use std::io::Read;
+use inputs::{Input, Source};
 use std::rt::Files;
 use std::{fs, io};
 
 /// What opens files by their names.
 pub trait Opens {
-    type File: Read + Drop;
+    type File: Input;
 
-    /// The bytes of the file of a name, where they are known.
-    ghost bytes: { Self → List ℕ → Option (List ℕ) } = { λ _ _. None };
+    /// The files that may be opened under a name.
+    ghost opens: { Self → List ℕ → Self.File → Type 0 };
+
+    /// The kinds of error by which the opening of a name may fail.
+    ghost fails: { Self → List ℕ → ErrorKind → Type 0 };
 
     /// The file of this name, from its first byte on.
     fn open(&self, name: &str) -> io::Result<Self::File>
-        ensures { IfOk result (λ file. IfSome (bytes self.now name.now) (λ all. Self.File.remaining file ≡ Some all)) };
+        ensures ok { IfOk result (opens self.now name.now) }
+        ensures err { IfErr result (λ error. fails self.now name.now (error_kind error)) };
 }
 
 /// The system's files. What they hold is not known.
@@ -36,7 +42,30 @@ impl<'a, R> Disk<'a, R> {
 impl<R: Files> Opens for Disk<'_, R> {
     type File = R::File;
 
+    ghost opens = { λ _ _ _. ⊤ };
+
+    ghost fails = { λ _ _ _. ⊤ };
+
     fn open(&self, name: &str) -> io::Result<R::File> {
         fs::open(self.rt, name)
+    }
+}
+
+/// The file of a name.
+#[derive(Drop)]
+pub struct NamedFile<'a, F> {
+    pub files: &'a F,
+    pub name: &'a str,
+}
+
+impl<F: Opens> Source for NamedFile<'_, F> {
+    type Input = F::File;
+
+    ghost opens = { λ source input. F.opens source.files.now source.name.now input };
+
+    ghost fails = { λ source kind. F.fails source.files.now source.name.now kind };
+
+    fn open(self) -> io::Result<F::File> {
+        self.files.open(self.name)
     }
 }

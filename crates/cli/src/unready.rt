@@ -1,7 +1,7 @@
-use crate::refusal::Refusal;
+use inputs::Refusal;
 
 /// Why a script is not begun: what is wrong with the machine file, or with the distance table beside it.
-#[derive(Clone, Copy, Debug, PartialEq, Eq)]
+#[derive(Clone, Copy)]
 pub enum Unready {
     Machine(Refusal),
     Slit(Refusal),

@@ -1,52 +1,79 @@
-ghost use Rattle.std.specs.Prelude.{◌≡◌, [], IfOk, IfErr, OnOk, Some, option_map, string_bytes};
-ghost use Rattle.clap.specs.Words.{first_of, found_of, rows_of, subcommand_rows_of};
-ghost use Rattle.cli.specs.CommandLine.{texts};
+ghost use Rattle.std.specs.Prelude.{◌≡◌, ℕ, List, [], IfOk, IfErr, OnErr, OnOk, map, option_map, string_bytes};
+ghost use Rattle.clap.specs.Words.{FailsBy, fault_of, first_of, found_of, kind_of, rows_of, subcommand_of, subcommand_rows_of};
+ghost use Rattle.clap.specs.declared.error.kind.ErrorKind.{ErrorKind};
 ghost use Rattle.cli.specs.Asked.{asked, asked_by, asked_for, asked_in, value};
+ghost use Rattle.cli.specs.CommandLine.{numarun};
 ghost use Rattle.cli.specs.Mistakes.{HasCause, mistakes, IsFaultOf};
 
-use crate::command_line::matches_of;
 use clap::error::ErrorKind;
 use clap::{ArgMatches, Error};
 use faults::OrMemory;
 use std::alloc::{AllocError, Global};
 
+/// What takes the words of a command line apart, and words what is wrong with them.
+pub trait Grammar {
+    /// The kinds of error by which words may fail.
+    ghost fails: { Self → List (List ℕ) → ErrorKind → Type 0 };
+
+    /// Whether there may be no memory for an error's text.
+    ghost lacks: { Self → Type 0 };
+
+    /// The matches of the words, which are not empty.
+    ///
+    /// # Errors
+    /// A mistake in the words, their request for the help, or lack of memory.
+    fn matches<'a>(&self, alloc: Global, words: &'a [String]) -> Result<ArgMatches<'a>, Error>
+        ensures matches { IfOk result (λ m. subcommand_rows_of m ≡ subcommand_of numarun (map string_bytes words.entry.now)) }
+        ensures kinds { FailsBy (fault_of numarun (map string_bytes words.entry.now)) result }
+        ensures fails { IfErr result (λ error. fails self.now (map string_bytes words.entry.now) (kind_of error)) };
+
+    /// The text of an error.
+    ///
+    /// The only error is lack of memory.
+    fn text(&self, alloc: Global, error: &Error) -> Result<String, AllocError>
+        ensures { OnErr result (lacks self.now) };
+}
+
 /// What numarun is asked to do.
-#[derive(Debug, PartialEq, Eq, Drop)]
-pub enum Words {
+#[derive(Debug, Drop)]
+pub enum Words<'a> {
     /// Check the certificate in the file, or where there is none the one on standard input.
     Check {
-        file: Option<String>,
+        file: Option<&'a str>,
     },
     /// Print the list of CPUs in its one spelling.
     List {
-        text: String,
+        text: &'a str,
     },
     /// Print the distance table in the file.
     Slit {
-        file: String,
+        file: &'a str,
     },
     /// Run the script on standard input over the machine of a file, its distances perhaps in a table of their own.
     Run {
-        machine: String,
-        slit: Option<String>,
+        machine: &'a str,
+        slit: Option<&'a str>,
     },
 }
 
 /// What the words after the program's name ask for; no words ask for a check of standard input.
 ///
 /// # Errors
-/// `Fault` has the mistake in the words, or their request for the help. `Memory` comes where there is none for the
-/// parse.
-pub fn parse(alloc: Global, words: &[&str]) -> Result<Words, OrMemory<Error>>
-    ensures ok { IfOk result (λ asks. asked asks ≡ asked_for (texts words.now)) }
-    ensures accepted { OnOk result (mistakes (texts words.now) ≡ []) }
-    ensures err { IfErr result (HasCause (texts words.now)) }
+/// `Fault` has the mistake in the words, or their request for the help. `Memory` comes where the grammar had none.
+pub fn parse<'a, G: Grammar>(
+    alloc: Global,
+    grammar: &G,
+    words: &'a [String],
+) -> Result<Words<'a>, OrMemory<Error>>
+    ensures ok { IfOk result (λ asks. asked asks ≡ asked_for (map string_bytes words.entry.now)) }
+    ensures accepted { OnOk result (mistakes (map string_bytes words.entry.now) ≡ []) }
+    ensures err { IfErr result (HasCause (G.fails grammar.now (map string_bytes words.entry.now)) (map string_bytes words.entry.now)) }
 {
     if words.is_empty() {
         return Ok(Words::Check { file: None });
     }
-    match matches_of(alloc, words) {
-        Ok(matches) => Ok(asked_words(alloc, &matches)?),
+    match grammar.matches(alloc, words) {
+        Ok(matches) => Ok(asked_words(&matches)),
         Err(error) => Err(fault(error)),
     }
 }
@@ -60,51 +87,45 @@ fn fault(error: Error) -> OrMemory<Error>
     }
 }
 
-fn asked_words(alloc: Global, matches: &ArgMatches) -> Result<Words, AllocError>
-    ensures { IfOk result (λ asks. asked asks ≡ asked_in (subcommand_rows_of matches.now)) }
+fn asked_words<'a>(matches: &ArgMatches<'a>) -> Words<'a>
+    ensures { asked result ≡ asked_in (subcommand_rows_of matches.now) }
 {
     match matches.subcommand() {
-        Some((name, given)) => asked_by(alloc, name, given),
-        None => Ok(Words::Check { file: None }),
+        Some((name, given)) => asked_by(name, given),
+        None => Words::Check { file: None },
     }
 }
 
-fn asked_by(alloc: Global, name: &str, given: &ArgMatches) -> Result<Words, AllocError>
-    ensures { IfOk result (λ asks. asked asks ≡ asked_by (name.now, rows_of (found_of given.now))) }
+fn asked_by<'a>(name: &str, given: &ArgMatches<'a>) -> Words<'a>
+    ensures { asked result ≡ asked_by (name.now, rows_of (found_of given.now)) }
 {
     match name {
-        "list" => Ok(Words::List {
-            text: value(alloc, given, "text")?,
-        }),
-        "slit" => Ok(Words::Slit {
-            file: value(alloc, given, "file")?,
-        }),
-        "run" => Ok(Words::Run {
-            machine: value(alloc, given, "machine")?,
-            slit: text(alloc, given, "slit")?,
-        }),
-        _ => Ok(Words::Check {
-            file: text(alloc, given, "file")?,
-        }),
+        "list" => Words::List {
+            text: value(given, "text"),
+        },
+        "slit" => Words::Slit {
+            file: value(given, "file"),
+        },
+        "run" => Words::Run {
+            machine: value(given, "machine"),
+            slit: text(given, "slit"),
+        },
+        _ => Words::Check {
+            file: text(given, "file"),
+        },
     }
 }
 
 /// The value of an argument that has to be given.
-fn value(alloc: Global, given: &ArgMatches, id: &str) -> Result<String, AllocError>
-    ensures { IfOk result (λ found. string_bytes found ≡ value id.now (rows_of (found_of given.now))) }
+fn value<'a>(given: &ArgMatches<'a>, id: &str) -> &'a str
+    ensures { result.now ≡ value id.now (rows_of (found_of given.now)) }
 {
-    String::from_str(alloc, given.get_str(id).unwrap_or(""))
+    given.get_str(id).unwrap_or("")
 }
 
 /// The value of an argument, if it was given.
-fn text(alloc: Global, given: &ArgMatches, id: &str) -> Result<Option<String>, AllocError>
-    ensures { IfOk result (λ value. option_map string_bytes value ≡ first_of id.now (rows_of (found_of given.now))) }
+fn text<'a>(given: &ArgMatches<'a>, id: &str) -> Option<&'a str>
+    ensures { option_map (λ word. word.now) result ≡ first_of id.now (rows_of (found_of given.now)) }
 {
-    match given.get_str(id) {
-        Some(value) => Ok(Some(String::from_str(alloc, value)?)),
-        None => Ok(None),
-    }
+    given.get_str(id)
 }
-
-#[cfg(test)]
-mod tests;

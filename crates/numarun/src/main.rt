@@ -1,7 +1,7 @@
 //! numarun, the CPU-pinning part of a container runtime, as a program.
 #![tactic(auto)]
 
-use cli::{Console, Disk, start};
+use cli::{CommandLine, Console, Disk, start};
 use std::env;
 use std::process::ExitCode;
 
@@ -10,9 +10,10 @@ fn main(rt: HostRuntime) -> ExitCode {
     let mut console = Console::new(rt.stdout(), rt.stderr());
     ExitCode::from(start(
         rt.alloc(),
+        &CommandLine,
         arguments,
         &Disk::new(&rt),
-        &mut rt.stdin(),
+        rt.stdin(),
         &mut console,
     ))
 }

@@ -1,11 +1,8 @@
 -- The value of an argument, by the entries of the matches and by their rows.
-use Rattle.std.proofs.Common.{rules}
+use Rattle.std.proofs.Common.{◌∙◌}
 use Rattle.clap.proofs.WalkLemmas.{first_value-rows}
 use Rattle.clap.specs.Words.{found_of}
 use Rattle.cli.proofs.words.text.Goals as goal
 
-pub returns-in_ok-from_str-in-Some : goal.returns-in_ok-from_str-in-Some
-returns-in_ok-from_str-in-Some c = rw (← first_value-rows (found_of c.args.given.now) c.args.id.now) (search rules)
-
-pub returns-in-None : goal.returns-in-None
-returns-in-None c = rw (← first_value-rows (found_of c.args.given.now) c.args.id.now) (search rules)
+pub returns : goal.returns
+returns c = c.get_str.ensures ∙ first_value-rows (found_of c.args.given.now) c.args.id.now

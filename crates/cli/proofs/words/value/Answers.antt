@@ -1,6 +1,5 @@
 -- The value of an argument, by the entries of the matches and by their rows.
 use Rattle.std.proofs.Common.{◌≡◌, ℕ, List, [], Option, None, Some, Bor, unwrap_or, option_map, refl, ap, ◌∙◌}
-use Rattle.std.proofs.lemmas.Result.{IfOk-weaker}
 use Rattle.clap.proofs.WalkLemmas.{first_value-rows}
 use Rattle.clap.specs.Words.{found_of}
 use Rattle.cli.proofs.words.value.Goals as goal
@@ -11,7 +10,6 @@ now-unwrap_or None empty e = e
 now-unwrap_or (Some s) empty e = refl
 
 pub returns : goal.returns
-returns c = IfOk-weaker c.from_str.result _ _
-    (λ found e. e ∙ ap (λ (s : Bor (List ℕ)). s.now) c.unwrap_or.ensures ∙ now-unwrap_or c.get_str.result _ refl
-    ∙ ap (λ (o : Option (List ℕ)). unwrap_or o []) (c.get_str.ensures ∙ first_value-rows (found_of c.args.given.now) c.args.id.now))
-    c.from_str.ensures.ok
+returns c =
+    ap (λ (s : Bor (List ℕ)). s.now) c.unwrap_or.ensures ∙ now-unwrap_or c.get_str.result _ refl
+    ∙ ap (λ (o : Option (List ℕ)). unwrap_or o []) (c.get_str.ensures ∙ first_value-rows (found_of c.args.given.now) c.args.id.now)

@@ -1,0 +1,19 @@
+-- The input that a check names, and the script on standard input.
+use Rattle.std.proofs.Common.{◌≡◌, ◌∙◌, ℕ, Bor, List, ap, option_map, refl, subst}
+use Rattle.inputs.specs.Readings.{Reads}
+use Rattle.cli.proofs.Named.{name_of-or_hyphen}
+use Rattle.cli.specs.Asked.{word_bytes}
+use Rattle.cli.specs.Named.{name_of, reads_named}
+use Rattle.cli.specs.Notes.{shown}
+use Rattle.cli.specs.Tells.{Checks}
+use Rattle.cli.proofs.program.dispatch.Goals as goal
+
+pub returns-in-Check : goal.returns-in-Check
+returns-in-Check g c =
+    let called : c.unwrap_or.result.now ≡ name_of (option_map word_bytes c.in-Check.file) =
+    ap (λ (word : Bor (List ℕ)). word.now) c.unwrap_or.ensures ∙ name_of-or_hyphen c.in-Check.file _ refl in
+    rw c.in-Check.is (subst (λ (name : List ℕ). Checks g.W.Write.contents g.E.Write.contents c.args.console.now c.check_named.new.console c.check_named.result
+    (reads_named (Reads (g.F.Opens.opens c.args.files.now) (g.F.Opens.fails c.args.files.now) g.F.File.Input.gives) (g.R.Input.gives c.args.input) name) (shown name)) called c.check_named.ensures)
+
+pub returns-in-Run : goal.returns-in-Run
+returns-in-Run g c = rw c.in-Run.is (g.R.Read.remaining c.do_run.new.script, c.do_run.ensures)

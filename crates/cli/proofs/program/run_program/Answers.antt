@@ -1,0 +1,12 @@
+-- The words are explained, or memory is short.
+use Rattle.std.proofs.Common.{inl, inr}
+use Rattle.clap.specs.Words.{kind_of}
+use Rattle.cli.proofs.program.run_program.Goals as goal
+
+pub returns : goal.returns
+returns g c =
+    let cause = rw c.in-Err-Fault.field-0-is at c.in-Err-Fault.ensures.err in
+    inr (inl (kind_of c.in-Err-Fault.error, cause.0, cause.1, c.print_usage.ensures))
+
+pub returns-in-Err-Memory : goal.returns-in-Err-Memory
+returns-in-Err-Memory g c = inr (inr (rw c.in-Err-Memory.field-0-is at c.in-Err-Memory.ensures.err, c.print_then_note.ensures))

@@ -1,4 +1,0 @@
-use Rattle.cli.proofs.scripts.play.Goals as goal
-
-pub returns : goal.returns
-returns g c = (c.run_script.new.target, rw c.new-runner.ensures at c.run_script.ensures)

@@ -1,0 +1,171 @@
+//! `numarun run`.
+ghost use Rattle.std.specs.Prelude.{◌≡◌, IfErr, IfOk, option_map};
+ghost use Rattle.cli.specs.Program.{Finishes, Scripts, name_in};
+ghost use Rattle.cli.specs.Ready.{IsBadTable, IsReady, IsTableIn, Readies, SetsUp};
+ghost use Rattle.cli.specs.RunAnswer.{Plays, is_unread};
+
+use crate::answer::answer_in;
+use crate::console::{Console, REFUSED, UNWRITTEN, print_then_note};
+use crate::note::{Note, STANDARD_INPUT};
+use crate::opens::Opens;
+use crate::unready::Unready;
+use inputs::{Input, ReadFault, Refusal};
+use kernel_model::ModelKernel;
+use machine::Machine;
+use node::Node;
+use runtime::{Bundles, Runner, boot};
+use script::{ScriptFault, run_script};
+use slit::Slit;
+use std::alloc::{AllocError, Global};
+use std::io::{Read, Write};
+
+/// Runs the script that the reader has left over the machine in this file, with the distances in that one if it is named,
+/// and prints its answers; or why one of the files is refused. Both are opened before either is read. Where the script
+/// can't be read to its end, the last line says so. The status is 0, or 1 for a refusal of a file or of the script, and for
+/// an answer that can't be written.
+pub fn do_run<F: Opens, B: Bundles + Drop, R: Read, W: Write, E: Write>(
+    alloc: Global,
+    machine: &str,
+    table: Option<&str>,
+    files: &F,
+    bundles: B,
+    script: &mut R,
+    console: &mut Console<W, E>,
+) -> u8
+    ensures { Scripts W.contents E.contents console.old console.new result (F.opens files.now) (F.fails files.now) F.File.gives
+        (B.told bundles) (R.remaining script.old) (R.remaining script.new)
+        machine.now (option_map (λ name. name.now) table.entry) }
+{
+    match set_up(alloc, machine, table, files) {
+        Ok(node) => {
+            let end = play(node, bundles, script, &mut console.out);
+            finish(end, console)
+        }
+        Err(unready) => {
+            let refusal = unready.refusal();
+            let note = Note::beside(refusal, name_in(machine, table, unready));
+            print_then_note(&refusal, REFUSED, &note, console)
+        }
+    }
+}
+
+/// The name of the file that is refused.
+fn name_in<'a>(machine: &'a str, table: Option<&'a str>, unready: Unready) -> &'a str
+    ensures { result.now ≡ name_in machine.now (option_map (λ name. name.now) table.entry) unready }
+{
+    match unready {
+        Unready::Machine(_) => machine,
+        Unready::Slit(_) => table.unwrap_or(""),
+    }
+}
+
+/// The node of the machine in this file, with the distances in that one if it is named. Both are opened first.
+fn set_up<F: Opens>(
+    alloc: Global,
+    machine: &str,
+    table: Option<&str>,
+    files: &F,
+) -> Result<Node<ModelKernel>, Unready>
+    ensures { SetsUp (F.opens files.now) (F.fails files.now) F.File.gives machine.now
+        (option_map (λ name. name.now) table.entry) result }
+{
+    let machine = match files.open(machine) {
+        Ok(file) => file,
+        Err(error) => return Err(Unready::Machine(Refusal::ReadFault(ReadFault::from(error)))),
+    };
+    let Some(name) = table else {
+        return ready(alloc, machine, None);
+    };
+    match files.open(name) {
+        Ok(table) => ready(alloc, machine, Some(table)),
+        Err(error) => Err(Unready::Slit(Refusal::ReadFault(ReadFault::from(error)))),
+    }
+}
+
+/// The node of the machine in an open input, with the distances in the other one if it is there.
+fn ready<I: Input>(
+    alloc: Global,
+    machine: I,
+    table: Option<I>,
+) -> Result<Node<ModelKernel>, Unready>
+    ensures { Readies I.gives machine table result }
+{
+    let text = match machine.read_whole(alloc) {
+        Ok(text) => text,
+        Err(error) => return Err(Unready::Machine(Refusal::from(error))),
+    };
+    let table = match table_in(alloc, table) {
+        Ok(table) => table,
+        Err(refusal) => return Err(Unready::Slit(refusal)),
+    };
+    match start_up(alloc, text.as_slice(), table.as_ref()) {
+        Ok(node) => Ok(node),
+        Err(refusal) => Err(Unready::Machine(refusal)),
+    }
+}
+
+/// The distance table in the input, where there is one.
+fn table_in<I: Input>(alloc: Global, table: Option<I>) -> Result<Option<Slit>, Refusal>
+    ensures table { IfOk result (IsTableIn I.gives table) }
+    ensures refused { IfErr result (IsBadTable I.gives table) }
+{
+    match table {
+        None => Ok(None),
+        Some(input) => Ok(Some(answer_in(alloc, input)?)),
+    }
+}
+
+/// The node of the machine that a text describes, with a table beside it or without.
+fn start_up(alloc: Global, text: &[u8], table: Option<&Slit>) -> Result<Node<ModelKernel>, Refusal>
+    ensures { IsReady (option_map (λ t. t.now) table.entry) text.now result }
+{
+    let machine = Machine::read(alloc, text, table)?;
+    match boot(alloc, machine) {
+        Ok(node) => Ok(node),
+        Err(AllocError) => Err(Refusal::Memory),
+    }
+}
+
+/// Runs the script that the reader has left over a node and bundles, and writes its answers.
+fn play<B: Bundles + Drop, R: Read, W: Write>(
+    node: Node<ModelKernel>,
+    bundles: B,
+    script: &mut R,
+    w: &mut W,
+) -> Result<(), ScriptFault>
+    ensures { Plays node (B.told bundles) (R.remaining script.old) (R.remaining script.new) (W.contents w.old) (W.contents w.new) result }
+{
+    let mut runner = Runner::new(node, bundles);
+    run_script(&mut runner, script, w)
+}
+
+/// Ends a script: says why it could not be read to its end, or why its answers could not be written.
+fn finish<W: Write, E: Write>(end: Result<(), ScriptFault>, console: &mut Console<W, E>) -> u8
+    ensures { Finishes W.contents E.contents console.old console.new result end }
+{
+    let Err(fault) = end else {
+        return print_then_note(&"", 0, &None, console);
+    };
+    match unread(fault) {
+        Some(fault) => {
+            let refusal = Refusal::ReadFault(fault);
+            let note = Note::beside(refusal, STANDARD_INPUT);
+            print_then_note(&refusal, REFUSED, &note, console)
+        }
+        None => {
+            console.err.tell(UNWRITTEN.as_bytes());
+            REFUSED
+        }
+    }
+}
+
+/// Why the script could not be read, unless an answer could not be written.
+fn unread(fault: ScriptFault) -> Option<ReadFault>
+    ensures { is_unread fault result }
+{
+    match fault {
+        ScriptFault::Read(kind) => Some(ReadFault::told(kind)),
+        ScriptFault::TooManyReads => Some(ReadFault::TooManyReads),
+        ScriptFault::Write => None,
+    }
+}
