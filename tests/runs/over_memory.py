@@ -35,13 +35,13 @@ def answered(tools, library, number, script, asked):
 
 
 def each(tools, library, script, asked, expected):
-    """Compares what is answered where each allocation is refused, but for one of the node's group or of a call that asks the kernel;
-    the whole answer is the last of what is expected. How many allocations there are."""
+    """Compares what is answered where each allocation is refused, except one of the node's group, of the writer, or of a call that
+    asks the kernel; the whole answer is the last of what is expected. How many allocations there are."""
     seen, number, was = [], 0, True
     while was:
         number += 1
         found, was = answered(tools, library, number, script, asked)
-        if found is not None and found[0] != "Memory" and "refused Memory" not in found:
+        if found is not None and found[0] not in ("Memory", "Err(Write)") and "refused Memory" not in found:
             if found not in expected or not was and found != expected[-1]:
                 sys.exit(f"over memory: allocation {number}: {found} is none of {expected}")
             seen.append(expected.index(found))
