@@ -1,4 +1,4 @@
-//! Bytes and numbers to a writer, where a fault has to say how far they came.
+//! Bytes and numbers to a writer, where an error has to tell how far they came.
 #![tactic(auto)]
 
 mod output;

@@ -18,8 +18,8 @@ use cpu_set::IdSet;
 /// Checks that a plan is of least cost, by values and prices: the plan's cost, or the first cause why not.
 ///
 /// The causes come in the order of [`CheckFault`], the last of which is none of a plan. Takes no memory.
-/// Each set is passed whole, and most of them once: only an offer whose weight is below its row's value
-/// meets the prices, one after another.
+/// A set takes a few steps for each of its ranges. Only the CPUs of an offer whose weight is below its row's value take
+/// a step each: a look at a table of their prices.
 pub fn check_plan(problem: &Problem, plan: &Plan, prices: &Prices) -> Result<u64, CheckFault>
     // A yes: within the limits, a plan of this cost, and values and prices give the same number as a bound.
     ensures proved { IfOk result (λ total. IsProved problem.now plan.now prices.now total) }
@@ -55,10 +55,9 @@ fn checked_cost(rows: &[Row], sets: &[IdSet], prices: &Prices) -> Result<u64, Ch
     check_rows(rows, sets)?;
     check_apart(sets)?;
     let values = prices.values.as_slice();
-    let of_cpu = prices.of_cpu.as_slice();
-    check_values(rows, values, of_cpu)?;
+    check_values(rows, values, &prices.of_cpu)?;
     let total = plan_cost(rows, sets);
-    if worth(rows, values) != total + price_sum(of_cpu) {
+    if worth(rows, values) != total + price_sum(&prices.of_cpu) {
         return Err(CheckFault::Gap);
     }
     Ok(total)

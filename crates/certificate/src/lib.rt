@@ -7,10 +7,10 @@
 //! names ask together for more CPUs than the union of their offers has.
 #![tactic(auto)]
 
+mod amounts;
 mod check_faults;
 mod checks;
 mod costs;
-mod has_cpus;
 mod laws;
 mod limit_checks;
 mod limits;
@@ -20,6 +20,7 @@ mod price_lists;
 mod problems;
 mod row_checks;
 mod rows;
+mod set_checks;
 mod shortages;
 mod value_checks;
 
@@ -34,7 +35,7 @@ pub use limit_checks::rows_fit;
 pub use limits::{MAX_AMOUNT, MAX_DEMAND, MAX_ROWS, MAX_WEIGHT};
 pub use offers::Offers;
 pub use plans::Plan;
-pub use price_lists::{Price, Prices};
+pub use price_lists::{Price, PriceList, Prices};
 pub use problems::Problem;
 pub use rows::{Offer, Row};
 pub use shortages::{check_shortage, offered_to};

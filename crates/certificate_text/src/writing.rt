@@ -11,7 +11,7 @@ ghost use Rattle.certificate_text.specs.Written.{offer_text, line_text, text_of,
 use crate::Certificate;
 use crate::laws::written_texts_are_read;
 use byte_output::{put, put_all};
-use certificate::{Offer, Price, Prices, Row};
+use certificate::{Offer, Offers, Price, PriceList, Prices, Row};
 use cpu_list::write_list;
 use cpu_set::IdSet;
 use itoa::Buffer;
@@ -29,12 +29,13 @@ fn put_offer<W: Write>(offer: &Offer, w: &mut W) -> io::Result<()>
     write_list(&offer.cpus, w)
 }
 
-fn put_offers<W: Write>(offers: &[Offer], w: &mut W) -> io::Result<()>
+fn put_offers<W: Write>(offers: &Offers, w: &mut W) -> io::Result<()>
     ensures written { Writes (W.contents w.old) (W.contents w.new) result (flat_map offer_text offers.now) }
     ensures held { OnOk result (All IsOfferHeld offers.now) }
 {
-    for offer in offers {
-        put_offer(offer, w)?;
+    for at in 0..offers.len() {
+        let offer = offers.offer(at);
+        put_offer(&offer, w)?;
     }
     Ok(())
 }
@@ -54,7 +55,7 @@ fn put_row<W: Write>(row: &Row, w: &mut W) -> io::Result<()>
         ],
         w,
     )?;
-    put_offers(row.offers.as_slice(), w)?;
+    put_offers(&row.offers, w)?;
     put(b"\n", w)
 }
 
@@ -104,12 +105,13 @@ fn put_price<W: Write>(price: &Price, w: &mut W) -> io::Result<()>
     put(b"\n", w)
 }
 
-fn put_prices<W: Write>(prices: &[Price], w: &mut W) -> io::Result<()>
+fn put_prices<W: Write>(prices: &PriceList, w: &mut W) -> io::Result<()>
     ensures written { Writes (W.contents w.old) (W.contents w.new) result (flat_map (λ price. line_text (PriceLine price)) prices.now) }
     ensures held { OnOk result (All IsPriceHeld prices.now) }
 {
-    for price in prices {
-        put_price(price, w)?;
+    for at in 0..prices.len() {
+        let price = prices.price(at);
+        put_price(&price, w)?;
     }
     Ok(())
 }
@@ -167,7 +169,7 @@ fn write_plan<W: Write>(
 {
     put_head(rows, w)?;
     put_holds(rows, sets, prices.values.as_slice(), w)?;
-    put_prices(prices.of_cpu.as_slice(), w)?;
+    put_prices(&prices.of_cpu, w)?;
     put_total(total, w)
 }
 

@@ -1,5 +1,6 @@
 pub mod CanonicalLaws
 pub mod CanonicalList
+pub mod FaultTitle
 pub mod FirstFault
 pub mod FirstFaults
 pub mod ItemFaults

@@ -60,7 +60,7 @@ fn read_config(
     wanted(Config::read(alloc, config), machine)
 }
 
-/// What `create` answers where the kernel refuses.
+/// What `create` returns where the kernel refuses.
 fn late_answer(error: OrMemory<KernelFault>) -> OrMemory<NodeFault>
     ensures { result ≡ late_answer error }
 {
@@ -128,7 +128,7 @@ impl<K: Kernel + Drop> Node<K> {
     }
 
     /// Creates a container of a bundle with this config: its group on the reserved CPUs and its homes, and in it its
-    /// first process, whose pid is the answer.
+    /// first process, whose pid is returned.
     ///
     /// # Errors
     /// In this order: `Busy`, `BadId`, `IdInUse`, `TooManyContainers`, `Config`, `Demand`; and then of the kernel

@@ -15,7 +15,7 @@ use certificate_text::written_texts_are_read;
 use rows::rows_weigh;
 
 /// Which kernels a node can be made over: those of which nothing was asked yet, and which have the machine's CPUs and nodes.
-/// Where no write of such a kernel fails, lack of memory is all that can stand against a node over it.
+/// Where no write of such a kernel fails, lack of memory is the only error of making a node over it.
 pub fn first_kernels()
     ensures unused { FirstIsUnused }
     ensures machine { FirstIsOfMachine }
@@ -49,7 +49,7 @@ pub fn runs()
 
 /// How long a hand-over lasts that is stepped, whatever calls and events fall between its steps: nothing runs.
 ///
-/// It stays open while they answer that more are to come, and it ends within two steps for each of its containers; one that
+/// It stays open while they return that more are to come, and it ends within two steps for each of its containers; one that
 /// has none ends with its first step.
 pub fn each_handover()
     ensures { HandoversEnd }
@@ -59,7 +59,7 @@ pub fn each_handover()
     apply_plan::laws::runs();
 }
 
-/// The kernel in the midst of `create`, whatever that answers: nothing runs.
+/// The kernel in the midst of `create`, whatever that returns: nothing runs.
 ///
 /// From the kernel before it to the one that it leaves there are single calls alone, and after each of them no CPU but
 /// reserved ones is requested for a live pinned container and for another live one, and each live one requests some.
@@ -116,8 +116,8 @@ pub fn certificates_prove()
     written_texts_are_read();
 }
 
-/// There are at most 256 containers, and the group below which they have theirs is `numarun`.
+/// There are at most 1,024 containers, and the group below which they have theirs is `numarun`.
 pub fn the_limits()
-    ensures containers { CONTAINER_LIMIT ≡ 256 }
+    ensures containers { CONTAINER_LIMIT ≡ 1_024 }
     ensures name { GROUP_NAME.now ≡ codes "numarun" }
 {}

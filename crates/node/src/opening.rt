@@ -95,7 +95,7 @@ fn found_of<K: Kernel>(
 {
     let mut found = Vec::with_capacity(alloc, entries.len())?;
     for entry in entries {
-        found.push(requested(kernel, entry.group))?;
+        found.push(*requested(kernel, entry.group))?;
     }
     Ok(found)
 }

@@ -27,7 +27,8 @@ pub fn kernel_of(alloc: Global, machine: &Machine) -> Result<ModelKernel, AllocE
 
 /// A node with no container, over a modelled kernel that has the machine's CPUs and nodes.
 ///
-/// The only error is want of memory: of a kernel that is new, and of which no write fails, nothing else stands against the
+/// # Errors
+/// Lack of memory: of a kernel that is new, and of which no write fails, nothing else refuses the
 /// node's group.
 pub fn boot(alloc: Global, machine: Machine) -> Result<Node<ModelKernel>, AllocError>
     ensures { IfOk result (Boots machine) }

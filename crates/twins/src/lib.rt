@@ -14,6 +14,7 @@ mod grouping;
 mod holders;
 mod kinds;
 mod laws;
+mod offer_sets;
 mod pricing;
 
 pub use classes::Classes;

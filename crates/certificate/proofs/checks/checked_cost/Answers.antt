@@ -19,12 +19,12 @@ check_rows-requires c = (facts_of c.is_within_limits.ensures c.if-not-is_within_
 
 pub check_values-requires-clause-prices_fit : goal.check_values-requires-clause-prices_fit
 check_values-requires-clause-prices_fit c =
-    rw (c.as_slice-of_cpu.ensures.value ∙ ap (λ (p : PricesView). p.of_cpu) c.prices.view_is)
+    rw (ap (λ (p : PricesView). p.of_cpu) c.prices.view_is)
     (facts_of c.is_within_limits.ensures c.if-not-is_within_limits.false).prices_are
 
 pub price_sum-requires : goal.price_sum-requires
 price_sum-requires c =
-    rw (c.as_slice-of_cpu.ensures.value ∙ ap (λ (p : PricesView). p.of_cpu) c.prices.view_is)
+    rw (ap (λ (p : PricesView). p.of_cpu) c.prices.view_is)
     (facts_of c.is_within_limits.ensures c.if-not-is_within_limits.false).prices_are
 
 pub check_values-requires-clause-fit : goal.check_values-requires-clause-fit
@@ -81,13 +81,13 @@ returns-in_err-check_values-clause-cause c =
       met = rows_fault-says c.args.rows.now c.args.sets.now facts.same_sets c.in_ok-check_rows.ensures.in_range c.in_ok-check_rows.ensures.fault;
       apart = apart_fault-says c.args.sets.now c.in_ok-check_rows.ensures.in_range c.in_ok-check_apart.ensures;
     })
-    (rw (c.as_slice-values.ensures.value ∙ ap (λ (p : PricesView). p.values) c.prices.view_is, c.as_slice-of_cpu.ensures.value ∙ ap (λ (p : PricesView). p.of_cpu) c.prices.view_is) at c.in_err-check_values.ensures))
+    (rw (c.as_slice-values.ensures.value ∙ ap (λ (p : PricesView). p.values) c.prices.view_is, ap (λ (p : PricesView). p.of_cpu) c.prices.view_is) at c.in_err-check_values.ensures))
 
 pub returns-then-worth-total-clause-cause : goal.returns-then-worth-total-clause-cause
 returns-then-worth-total-clause-cause c =
     let facts = facts_of c.is_within_limits.ensures c.if-not-is_within_limits.false in
     let values = c.as_slice-values.ensures.value ∙ ap (λ (p : PricesView). p.values) c.prices.view_is in
-    let of_cpu = c.as_slice-of_cpu.ensures.value ∙ ap (λ (p : PricesView). p.of_cpu) c.prices.view_is in (
+    let of_cpu = ap (λ (p : PricesView). p.of_cpu) c.prices.view_is in (
       sym c.is_within_limits.ensures ∙ c.if-not-is_within_limits.false,
       record {
         met = rows_fault-says c.args.rows.now c.args.sets.now facts.same_sets c.in_ok-check_rows.ensures.in_range c.in_ok-check_rows.ensures.fault;

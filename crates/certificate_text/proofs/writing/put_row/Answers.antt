@@ -12,14 +12,14 @@ returns-in_err-put_all-clause-written g c =
 pub returns-in_err-put_offers-clause-written : goal.returns-in_err-put_offers-clause-written
 returns-in_err-put_offers-clause-written g c =
     let p = err_from_is_err_and c.from_residual-in_err-put_offers.result c.from_residual-in_err-put_offers.ensures.1 in
-    rw (p.1, ← c.row.view_is) (SendsFront-then _ _ _ _ _ (rw (c.as_slice.ensures, c.as_bytes.ensures.value, c.as_slice-2.ensures, c.as_bytes-demand.ensures.value, c.format.ensures.text, append-nil (decimal c.row.inside.demand)) at c.in_ok-put_all.ensures) (SendsFront-more _ _ _ _ (rw c.as_slice-3.ensures at c.in_err-put_offers.ensures.written)))
+    rw (p.1, ← c.row.view_is) (SendsFront-then _ _ _ _ _ (rw (c.as_slice.ensures, c.as_bytes.ensures.value, c.as_slice-2.ensures, c.as_bytes-demand.ensures.value, c.format.ensures.text, append-nil (decimal c.row.inside.demand)) at c.in_ok-put_all.ensures) (SendsFront-more _ _ _ _ (c.in_err-put_offers.ensures.written)))
 
 pub returns-clause-written : goal.returns-clause-written
 returns-clause-written g c =
     rw (← c.row.view_is) (Writes-then _ _ _ c.put.result _ _ (rw (c.as_slice.ensures, c.as_bytes.ensures.value, c.as_slice-2.ensures, c.as_bytes-demand.ensures.value, c.format.ensures.text, append-nil (decimal c.row.inside.demand)) at c.in_ok-put_all.ensures)
-    (Writes-then _ _ _ c.put.result _ _ (rw c.as_slice-3.ensures at c.in_ok-put_offers.ensures.written) c.put.ensures))
+    (Writes-then _ _ _ c.put.result _ _ (c.in_ok-put_offers.ensures.written) c.put.ensures))
 
 pub returns-clause-held : goal.returns-clause-held
 returns-clause-held g c =
     on_ok _ c.put.result
-    (rw (← c.row.view_is) (record { demand = search rules; offers = rw c.as_slice-3.ensures at c.in_ok-put_offers.ensures.held }))
+    (rw (← c.row.view_is) (record { demand = search rules; offers = c.in_ok-put_offers.ensures.held }))
