@@ -2,6 +2,8 @@
 use Rattle.std.proofs.Common.{◌≡◌, ◌↔◌, ◌⊎◌, ℕ, suc, Bool, true, false, not, ◌&&◌, ◌||◌, ◌-◌, ◌≤◌, List, [], ◌∷◌, length, take, drop, get_or, refl, sym, ap, ◌∙◌, inl, inr, arith}
 use Rattle.std.proofs.lemmas.Bool.{ne_eqb, false≢true}
 use Rattle.std.proofs.lemmas.List.{take_all}
+use Rattle.std.specs.Borrow.{Bor}
+use Rattle.faults.specs.Calls.{behind}
 use Rattle.std.specs.Prelude.{cond, Option, Some, None, is_none, option_map, find, Result, Ok, Err, is_ok, if◌then◌else◌}
 use Rattle.std.specs.Ordering.{nat_cmp}
 use Rattle.std.specs.FinSet as set
@@ -115,6 +117,11 @@ none_by_test s test means passes = is_empty-empty s (means.0 passes)
 pub flipped : (b : Bool) → not b ≡ false → b ≡ true
 flipped true e = refl
 flipped false e = sym e
+
+-- a read by reference is of a group that is there where its value is
+pub ok_behind : {A F : Type 0} (r : Result (Bor A) F) → is_ok r ≡ is_ok (behind r)
+ok_behind (Ok reference) = refl
+ok_behind (Err fault) = refl
 
 -- a read that is answered is of a group that is there
 pub read_is_there : {A F : Type 0} (there : Bool) (value : A) (fault : F) → is_ok {T = A} {E = F} (if there then Ok value else Err fault) ≡ there

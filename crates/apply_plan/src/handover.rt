@@ -23,6 +23,8 @@ pub enum Progress {
 }
 
 /// Containers on their way to the CPUs that they are to have.
+///
+/// Of n entries a step looks at O(n) and `finish` at O(n) in all, each by two reads of the kernel at most.
 #[derive(Debug, Drop)]
 pub struct Handover {
     entries: Vec<Entry>,
@@ -61,7 +63,7 @@ impl Handover {
     }
 
     /// Makes the write that is due, or none.
-    fn advance<K: Kernel>(&self, kernel: &mut K) -> Result<Progress, KernelFault>
+    fn step_body<K: Kernel>(&self, kernel: &mut K) -> Result<Progress, KernelFault>
         requires { ArePlaced (K.state kernel.old) self.now.entries }
         ensures step { Steps self.now (K.state kernel.old) result (K.state kernel.new) }
         ensures placed { ArePlaced (K.state kernel.new) self.now.entries }
@@ -104,11 +106,11 @@ impl Handover {
         ensures rest { KeepsRest self.old (K.state kernel.old) (K.state kernel.new) }
         ensures placed { ArePlaced (K.state kernel.new) self.old.entries }
     {
-        self.advance(kernel)
+        self.step_body(kernel)
     }
 
     /// Makes all writes, in two walks.
-    fn run_out<K: Kernel>(&self, kernel: &mut K) -> Result<(), KernelFault>
+    fn finish_body<K: Kernel>(&self, kernel: &mut K) -> Result<(), KernelFault>
         requires { ArePlaced (K.state kernel.old) self.now.entries }
         ensures finishes { Finishes self.now (K.state kernel.old) result (K.state kernel.new) }
         ensures valid { IsHandover self.now }
@@ -147,6 +149,6 @@ impl Handover {
         ensures rest { KeepsRest self.old (K.state kernel.old) (K.state kernel.new) }
         ensures placed { ArePlaced (K.state kernel.new) self.old.entries }
     {
-        self.run_out(kernel)
+        self.finish_body(kernel)
     }
 }

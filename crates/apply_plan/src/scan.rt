@@ -1,5 +1,5 @@
 //! The entries looked through for the write that is due.
-ghost use Rattle.std.specs.Prelude.{◌≡◌, true, IfSome, is_none, find};
+ghost use Rattle.std.specs.Prelude.{◌≡◌, true, IfSome, is_none, find, option_copied};
 ghost use Rattle.cpuset_tree.specs.Groups.{has_group};
 ghost use Rattle.apply_plan.specs.Kept.{kept};
 ghost use Rattle.apply_plan.specs.Targets.{HaveSomeTarget, IsPlaced, ArePlaced};
@@ -27,15 +27,15 @@ fn kept_of(reserved: &IdSet, target: &IdSet, cpus: &IdSet) -> IdSet
 }
 
 /// What a live container requests that does not hold its target.
-fn held_on_the_way<K: Kernel>(kernel: &K, entry: &Entry) -> Option<IdSet>
+fn held_on_the_way<'a, K: Kernel>(kernel: &'a K, entry: &Entry) -> Option<&'a IdSet>
     requires { has_group (K.state kernel.now).tree entry.now.group ≡ true }
-    ensures { result ≡ its_way (K.state kernel.now) entry.now }
+    ensures { option_copied result ≡ its_way (K.state kernel.now) entry.now }
 {
     if !kernel.first_alive(entry.pid) {
         return None;
     }
     let held = requested(kernel, entry.group);
-    if held == entry.target {
+    if *held == entry.target {
         return None;
     }
     Some(held)
@@ -61,7 +61,7 @@ pub fn release_of<K: Kernel>(kernel: &K, reserved: &IdSet, entry: &Entry) -> Opt
     ensures { result ≡ its_release (K.state kernel.now) reserved.now entry.now }
 {
     if kernel.first_alive(entry.pid) {
-        release_from(reserved, entry, &requested(kernel, entry.group))
+        release_from(reserved, entry, requested(kernel, entry.group))
     } else {
         None
     }
@@ -91,7 +91,7 @@ pub fn due<K: Kernel>(kernel: &K, reserved: &IdSet, entries: &[Entry]) -> Option
         let Some(held) = held_on_the_way(kernel, entry) else {
             continue;
         };
-        if let Some(write) = release_from(reserved, entry, &held) {
+        if let Some(write) = release_from(reserved, entry, held) {
             return Some(write);
         }
         if first_move.is_none() {

@@ -1,6 +1,6 @@
-//! Bytes and numbers to a writer, where a fault has to say how far they came.
+//! Bytes and numbers to a writer, where an error has to tell how far they came.
 #![tactic(auto)]
 
 mod output;
 
-pub use output::{put, put_all};
+pub use output::{put, put_all, put_number};

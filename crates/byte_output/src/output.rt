@@ -6,7 +6,7 @@ use itoa::Buffer;
 use std::io;
 use std::io::{ErrorKind, Write};
 
-/// Writes all of the bytes. Unlike `write_all` it says what went out before a fault: a prefix of
+/// Writes all of the bytes. Unlike `write_all` it tells what went out before an error: a prefix of
 /// them, and not all.
 ///
 /// # Errors

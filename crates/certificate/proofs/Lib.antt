@@ -12,3 +12,7 @@ pub mod LimitWords
 pub mod Exact
 pub mod Causes
 pub mod Shown
+pub mod OffersKept
+pub mod PricesKept
+pub mod Elements
+pub mod Noting

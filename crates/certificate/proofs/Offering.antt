@@ -1,40 +1,31 @@
 -- What offers know of themselves, as they come.
-use Rattle.std.proofs.Common.{◌≡◌, ℕ, ◌+◌, ◌-◌, ◌≤◌, ◌<◌, Bool, true, false, ◌||◌, List, [], ◌∷◌, ◌++◌, length, get_or, refl, sym, ap, subst, ◌∙◌, inl, inr, arith}
-use Rattle.std.specs.FinSet as set
-use Rattle.std.proofs.lemmas.Bool.{cases_eq, cases_lt}
-use Rattle.std.proofs.lemmas.List.{get_or_append_left, get_or_push, length_push}
-use Rattle.std.proofs.lemmas.List.Folds.{list_any-append}
-use Rattle.cpu_set.specs.Ids.{Ids}
-use Rattle.cpu_set.specs.Pointwise.{contains-empty, contains-union}
-use Rattle.certificate.specs.ApartTest.{is_in_one}
-use Rattle.certificate.specs.Offers.{is_some-weight_in}
+use Rattle.certificate.specs.Limits.{is_rising}
 use Rattle.certificate.specs.RisingOffers.{AreRising, AreTold}
 use Rattle.certificate.specs.declared.rows.Offer.{Offer}
+use Rattle.std.proofs.Common.{Bool, List, [], ap, arith, get_or, inl, inr, length, refl, subst, sym, true, ℕ, ◌++◌, ◌+◌, ◌-◌, ◌<◌, ◌∷◌, ◌≡◌, ◌≤◌}
+use Rattle.std.proofs.lemmas.Bool.{cases_eq, cases_lt}
+use Rattle.std.proofs.lemmas.List.{get_or_append_left, get_or_push, length_push}
 
-pub told_none : AreTold [] set.empty true 0
+pub told_none : AreTold [] true 0
 told_none = record {
-  cpus = λ c. contains-empty c;
   rising = (λ on i j d before lt. absurd (omega (arith, lt)), λ up. refl);
   none = λ e. refl;
   last = λ i d e. absurd (omega (arith, e));
 }
 
 -- all of them are below the bound where they rise
-below : (offers : List Offer) (all : Ids) (least : ℕ) → AreTold offers all true least → (i : ℕ) (d : Offer) → i < length offers → (get_or offers i d).weight < least
-below offers all least told i d lt = elim (cases_eq (i + 1) (length offers)) [
+below : (offers : List Offer) (least : ℕ) → AreTold offers true least → (i : ℕ) (d : Offer) → i < length offers → (get_or offers i d).weight < least
+below offers least told i d lt = elim (cases_eq (i + 1) (length offers)) [
   | inl e ↦ omega (arith, told.last i d e)
   | inr ne ↦ omega (arith, told.last (length offers - 1) d (omega (arith, lt)), told.rising.0 refl i (length offers - 1) d (omega (arith, lt, ne)) (omega (arith, lt)))
 ]
 
 -- one offer more; they still rise where they did and it weighs at least the bound
 pub told_more :
-    (offers : List Offer) (o : Offer) (cpus : Ids) (is_rising still : Bool) (least : ℕ) → AreTold offers cpus is_rising least
+    (offers : List Offer) (o : Offer) (is_rising still : Bool) (least : ℕ) → AreTold offers is_rising least
     → (still ≡ true → (is_rising ≡ true) × (least ≤ o.weight)) → (is_rising ≡ true → least ≤ o.weight → still ≡ true)
-    → AreTold (offers ++ o ∷ []) (set.union cpus o.cpus) still (o.weight + 1)
-told_more offers o cpus is_rising still least told rises stays = record {
-  cpus = λ c.
-      contains-union cpus o.cpus c ∙ ap (λ b. b || set.contains o.cpus c) (told.cpus c ∙ is_some-weight_in offers c)
-      ∙ sym (one_more c) ∙ sym (is_some-weight_in (offers ++ o ∷ []) c);
+    → AreTold (offers ++ o ∷ []) still (o.weight + 1)
+told_more offers o is_rising still least told rises stays = record {
   rising = (λ on. up (rises on).0 (rises on).1, λ all. stays (told.rising.1 (front all)) (above all));
   none = λ e. absurd (omega (arith, e, length_push offers o));
   last = λ i d e. ap (λ (p : Offer). p.weight + 1) (sym (last i d (omega (arith, e, length_push offers o))));
@@ -50,7 +41,7 @@ told_more offers o cpus is_rising still least told rises stays = record {
     up on over i j d before lt = elim (cases_lt j (length offers)) [
       | inl b ↦ rw (earlier i d (omega (arith, b, before)), earlier j d b) (told.rising.0 on i j d before b)
       | inr a ↦ rw (earlier i d (omega (arith, lt, before, length_push offers o)), last j d (omega (arith, a, lt, length_push offers o)))
-          (omega (arith, below offers cpus least (subst (λ b. AreTold offers cpus b least) on told) i d (omega (arith, lt, before, length_push offers o)), over))
+          (omega (arith, below offers least (subst (λ b. AreTold offers b least) on told) i d (omega (arith, lt, before, length_push offers o)), over))
     ]
 
     front : AreRising (offers ++ o ∷ []) → AreRising offers
@@ -68,12 +59,3 @@ told_more offers o cpus is_rising still least told rises stays = record {
             all k (length offers) o (omega (arith, ne)) (omega (arith, length_push offers o)),
           ))
     ]
-
-    or_false : (b : Bool) → (b || false) ≡ b
-    or_false true = refl
-    or_false false = refl
-
-    one_more : (c : ℕ) → is_in_one (λ (o : Offer). o.cpus) (offers ++ o ∷ []) c ≡ (is_in_one (λ (o : Offer). o.cpus) offers c || set.contains o.cpus c)
-    one_more c =
-        list_any-append (λ (p : Offer). set.contains p.cpus c) offers (o ∷ [])
-        ∙ ap (λ b. is_in_one (λ (p : Offer). p.cpus) offers c || b) (or_false (set.contains o.cpus c))

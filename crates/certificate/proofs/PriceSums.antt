@@ -35,7 +35,7 @@ one_added p false None apart = omega arith
 one_added p false (Some q) apart = omega arith
 
 -- the price of a CPU, by one price more
-price_more :
+pub price_more :
     (prices : List Price) (k : ℕ) (p : Price) → k < length prices → p ≡ get_or prices k p → are_apart (λ (q : Price). q.cpus) prices ≡ true
     → (c : ℕ) → price (take (k + 1) prices) c ≡ price (take k prices) c + cond {A = ℕ} (set.contains p.cpus c) 1 0 * p.amount
 price_more prices k p lt is apart c =

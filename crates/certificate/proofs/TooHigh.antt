@@ -1,24 +1,26 @@
 -- Where a value is above weight and price.
-use Rattle.std.proofs.Common.{◌≡◌, ℕ, ◌+◌, ◌-◌, ◌<◌, ◌≤◌, Bool, true, false, not, cond, ◌&&◌, ◌||◌, Option, Some, None, option_map, unwrap_or, List, [], ◌∷◌, refl, sym, ap, ◌∙◌, arith, nat_le, nat_lt}
-use Rattle.std.specs.Prelude.{find}
-use Rattle.std.specs.List.{list_any, list_all}
-use Rattle.std.specs.Option.{option_map_or}
-use Rattle.std.specs.FinSet as set
-use Rattle.std.proofs.lemmas.Bool.{leb-true}
-use Rattle.std.proofs.lemmas.Bool.Decides.{nat_tests}
-use Rattle.cpu_set.specs.Ids.{Ids}
-use Rattle.cpu_set.specs.SetLaws.{none_of_empty}
-use Rattle.certificate.specs.RowView.{RowView}
-use Rattle.certificate.specs.Price.{price}
-use Rattle.certificate.specs.Limits.{is_disjoint, are_apart, row_fits, prices_fit}
-use Rattle.certificate.specs.IsOfferTooHigh.{is_offer_too_high, is_dear}
-use Rattle.certificate.specs.PlanFault.{is_too_high}
-use Rattle.certificate.specs.declared.rows.Offer.{Offer}
-use Rattle.certificate.specs.declared.price_lists.Price.{Price}
-use Rattle.certificate.specs.Tests.{is_false, and_left, and_right, not_true}
-use Rattle.certificate.specs.ApartTest.{is_in_one, is_disjoint-says}
+use Rattle.certificate.specs.ApartTest.{is_disjoint-says, is_in_one}
+use Rattle.certificate.specs.IsOfferTooHigh.{is_offer_too_high}
+use Rattle.certificate.specs.Lesser.{lesser}
+use Rattle.certificate.specs.Limits.{are_apart, is_disjoint, row_fits}
 use Rattle.certificate.specs.OfferLaws.{offers_apart, row_offers_fit}
-use Rattle.certificate.proofs.PriceSums.{prices_apart}
+use Rattle.certificate.specs.PlanFault.{is_too_high}
+use Rattle.certificate.specs.Price.{price}
+use Rattle.certificate.specs.RowView.{RowView}
+use Rattle.certificate.specs.Tests.{and_left, and_right, is_false, not_true, or_left, or_right}
+use Rattle.certificate.specs.declared.price_lists.Price.{Price}
+use Rattle.certificate.specs.declared.rows.Offer.{Offer}
+use Rattle.cpu_set.specs.Ids.{Ids}
+use Rattle.cpu_set.specs.Least.{least_that}
+use Rattle.cpu_set.specs.LeastLaws.{least-none, least-none_says, least-some, least-some_says}
+use Rattle.cpu_set.specs.Members.{IsCpu}
+use Rattle.std.proofs.Common.{Bool, List, None, Some, [], ap, arith, cond, false, inl, inr, nat_le, nat_lt, refl, sym, true, ℕ, ◌&&◌, ◌+◌, ◌-◌, ◌<◌, ◌||◌, ◌∙◌, ◌∷◌, ◌≡◌, ◌≤◌}
+use Rattle.std.proofs.lemmas.Bool.{cases_lt, cond-false, cond-true, le-leb}
+use Rattle.std.proofs.lemmas.Bool.Decides.{nat_tests}
+use Rattle.std.specs.List.{list_all, list_any}
+use Rattle.std.specs.Option.{option_map_or}
+use Rattle.std.specs.Prelude.{Option, find, option_map}
+use Rattle.std.specs.FinSet as set
 
 -- ---- things whose sets are apart
 
@@ -73,44 +75,96 @@ too_high_is prices row value c fit =
     ∙ by_weight (price prices c) value (find (λ (o : Offer). set.contains o.cpus c) row.offers)
 
 -- no offer is too high that is not below the value with its weight alone
-pub never_too_high : (prices : List Price) (value : ℕ) (o : Offer) (s : Ids) (c : ℕ) → value ≤ o.weight → s ≡ set.empty → set.contains s c ≡ is_offer_too_high prices value o c
-never_too_high prices value o s c le empty = none_of_empty s empty c ∙ none_below (set.contains o.cpus c) o.weight (price prices c) le
-  where
-    none_below : (b : Bool) (w p : ℕ) → value ≤ w → false ≡ (b && nat_lt (w + p) value)
-    none_below b w p le = grind (arith, nat_tests)
+pub none_below : (b : Bool) (w p value : ℕ) → value ≤ w → (b && nat_lt (w + p) value) ≡ false
+none_below b w p value le = grind (arith, nat_tests)
 
 pub less_than_the_rest : (w p value : ℕ) (b : Bool) → w < value → (b && nat_lt p (value - w)) ≡ (b && nat_lt (w + p) value)
 less_than_the_rest w p value b lt = grind (arith, nat_tests)
 
--- ---- prices
+-- tests that agree have one least CPU
+pub least_same : (f g : ℕ → Bool) → ((q : ℕ) → f q ≡ g q) → least_that f ≡ least_that g
+least_same f g e = λ i. least_that (λ q. e q i)
 
-not_under_zero : (amount : ℕ) → 0 < amount → nat_le amount 0 ≡ false
-not_under_zero amount some = is_false _ (λ e. let le : amount ≤ 0 = leb-true amount 0 e in omega arith)
+either : (a b : Bool) → a ≡ false → b ≡ false → (a || b) ≡ false
+either a b p q = rw (p, q) refl
 
-dear_is : (prices : List Price) (amount c : ℕ) → 0 < amount → prices_fit prices ≡ true → list_any (λ p. is_dear amount p c) prices ≡ nat_le amount (price prices c)
-dear_is prices amount c some fit =
-    one_passes_first (λ (p : Price). p.cpus) (λ p. nat_le amount p.amount) c prices (prices_apart prices fit)
-    ∙ by_price (find (λ (p : Price). set.contains p.cpus c) prices)
+lower : (k n : ℕ) → k < n → IsCpu n → IsCpu k
+lower k n lt is_cpu = omega arith
+
+least_at : (f g : ℕ → Bool) (m n : Option ℕ) → least_that f ≡ m → least_that g ≡ n → least_that (λ q. f q || g q) ≡ lesser m n
+least_at f g None None e h = least-none _ (λ q is_cpu. either _ _ (least-none_says f e q is_cpu) (least-none_says g h q is_cpu))
+least_at f g None (Some n) e h =
+    let is = least-some_says g n h in
+    least-some _ n (record {
+      is_cpu = is.is_cpu;
+      passes = or_right _ _ is.passes;
+      least = λ k lt. either _ _ (least-none_says f e k (lower k n lt is.is_cpu)) (is.least k lt);
+    })
+least_at f g (Some m) None e h =
+    let is = least-some_says f m e in
+    least-some _ m (record {
+      is_cpu = is.is_cpu;
+      passes = or_left _ _ is.passes;
+      least = λ k lt. either _ _ (is.least k lt) (least-none_says g h k (lower k m lt is.is_cpu));
+    })
+least_at f g (Some m) (Some n) e h =
+    let one = least-some_says f m e in
+    let two = least-some_says g n h in
+    elim (cases_lt n m) [
+      | inl lt ↦
+          least-some _ n (record {
+            is_cpu = two.is_cpu;
+            passes = or_right _ _ two.passes;
+            least = λ k low. either _ _ (one.least k (omega arith)) (two.least k low);
+          })
+          ∙ ap Some (sym (cond-false _ _ _ (nat_le_false m n lt)))
+      | inr le ↦
+          least-some _ m (record {
+            is_cpu = one.is_cpu;
+            passes = or_left _ _ one.passes;
+            least = λ k low. either _ _ (one.least k low) (two.least k (omega arith));
+          })
+          ∙ ap Some (sym (cond-true _ _ _ (le-leb m n le)))
+    ]
   where
-    by_price : (found : Option Price) → option_map_or (λ (p : Price). nat_le amount p.amount) found false ≡ nat_le amount (unwrap_or (option_map (λ (p : Price). p.amount) found) 0)
-    by_price None = sym (not_under_zero amount some)
-    by_price (Some p) = refl
+    nat_le_false : (m n : ℕ) → n < m → nat_le m n ≡ false
+    nat_le_false m n lt = grind (arith, nat_tests)
 
-not_dear : (amount p : ℕ) → not (nat_le amount p) ≡ nat_lt p amount
-not_dear amount p = grind (arith, nat_tests)
+-- the least CPU that passes one of two tests
+pub least_of_either : (f g : ℕ → Bool) → least_that (λ q. f q || g q) ≡ lesser (least_that f) (least_that g)
+least_of_either f g = least_at f g _ _ refl refl
 
--- what the dear prices leave of a set are the CPUs whose price is below the amount
-pub cheaper_is :
-    (prices : List Price) (amount c : ℕ) (b : Bool) → 0 < amount → prices_fit prices ≡ true
-    → (b && not (list_any (λ p. is_dear amount p c) prices)) ≡ (b && nat_lt (price prices c) amount)
-cheaper_is prices amount c b some fit = ap (λ a. b && not a) (dear_is prices amount c some fit) ∙ ap (λ a. b && a) (not_dear amount (price prices c))
+-- the least CPU of a test, by tests that agree on all CPUs
+pub least_among : (f g : ℕ → Bool) → ((q : ℕ) → IsCpu q → f q ≡ g q) → least_that f ≡ least_that g
+least_among f g same = at (least_that f) refl
+  where
+    at : (found : Option ℕ) → least_that f ≡ found → least_that f ≡ least_that g
+    at None e = e ∙ sym (least-none g (λ q is_cpu. sym (same q is_cpu) ∙ least-none_says f e q is_cpu))
+    at (Some n) e =
+        let is = least-some_says f n e in
+        e ∙ sym (least-some g n (record {
+          is_cpu = is.is_cpu;
+          passes = sym (same n is.is_cpu) ∙ is.passes;
+          least = λ k lt. sym (same k (lower k n lt is.is_cpu)) ∙ is.least k lt;
+        }))
 
--- one price more takes its CPUs where it is dear
-pub left_more : (a b d : Bool) → ((a && not b) && not d) ≡ (a && not (b || d))
-left_more true true d = refl
-left_more true false d = refl
-left_more false b d = refl
+-- a test of one of two, and another test
+pub either_and : (a b c : Bool) → ((a || b) && c) ≡ ((a && c) || (b && c))
+either_and true b true = refl
+either_and true true false = refl
+either_and true false false = refl
+either_and false b c = refl
 
-pub all_kept : (b : Bool) → b ≡ (b && true)
-all_kept true = refl
-all_kept false = refl
+-- ---- the CPUs of one range
+
+pub range_passes : (first q last p amount : ℕ) → first ≤ q → q ≤ last → p < amount → ((nat_le first q && nat_le q last) && nat_lt p amount) ≡ true
+range_passes first q last p amount from to lt = grind (arith, nat_tests)
+
+pub range_below : (first q last p amount : ℕ) → q < first → ((nat_le first q && nat_le q last) && nat_lt p amount) ≡ false
+range_below first q last p amount low = grind (arith, nat_tests)
+
+pub range_above : (first q last p amount : ℕ) → last < q → ((nat_le first q && nat_le q last) && nat_lt p amount) ≡ false
+range_above first q last p amount high = grind (arith, nat_tests)
+
+pub range_dear : (first q last p amount : ℕ) → amount ≤ p → ((nat_le first q && nat_le q last) && nat_lt p amount) ≡ false
+range_dear first q last p amount le = grind (arith, nat_tests)

@@ -1,8 +1,11 @@
+pub mod FaultTitle
 pub mod RowView
 pub mod SetsCode
 pub mod PricesView
 pub mod Weight
 pub mod RisingOffers
+pub mod OffersOf
+pub mod PricesOf
 pub mod IsPlan
 pub mod Cost
 pub mod IsLeast
@@ -13,6 +16,8 @@ pub mod IsDealt
 pub mod Limits
 pub mod AreWithin
 pub mod IsOfferTooHigh
+pub mod AreAmounts
+pub mod Lesser
 pub mod IsProved
 pub mod IsShown
 pub mod PlanFault

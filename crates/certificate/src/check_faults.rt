@@ -1,3 +1,6 @@
+ghost use Rattle.std.specs.Prelude.{◌≡◌};
+ghost use Rattle.certificate.specs.FaultTitle.{check_title};
+
 /// Why a plan or a shortage is refused: the first cause that stands, in the order of this list.
 #[derive(Clone, Copy, Debug, PartialEq, Eq)]
 pub enum CheckFault {
@@ -19,4 +22,21 @@ pub enum CheckFault {
     Gap,
     /// E76: the members ask together for no more CPUs than the union of their offers has.
     NoShortage,
+}
+
+impl CheckFault {
+    /// The number and the name that a refusal's line has.
+    pub fn title(self) -> &'static str
+        ensures { result.now ≡ check_title self }
+    {
+        match self {
+            CheckFault::BadProblem => "E70 BadProblem",
+            CheckFault::WrongCount { .. } => "E71 WrongCount",
+            CheckFault::NotAllowed { .. } => "E72 NotAllowed",
+            CheckFault::HeldTwice { .. } => "E73 HeldTwice",
+            CheckFault::ValueTooHigh { .. } => "E74 ValueTooHigh",
+            CheckFault::Gap => "E75 Gap",
+            CheckFault::NoShortage => "E76 NoShortage",
+        }
+    }
 }

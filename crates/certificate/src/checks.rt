@@ -18,8 +18,8 @@ use cpu_set::IdSet;
 /// Checks that a plan is of least cost, by values and prices: the plan's cost, or the first cause why not.
 ///
 /// The causes come in the order of [`CheckFault`], the last of which is none of a plan. Takes no memory.
-/// Each set is passed whole, and most of them once: only an offer whose weight is below its row's value
-/// meets the prices, one after another.
+/// A set takes a few steps for each of its ranges. Only the CPUs of an offer whose weight is below its row's value take
+/// a step each: a look at a table of their prices.
 pub fn check_plan(problem: &Problem, plan: &Plan, prices: &Prices) -> Result<u64, CheckFault>
     // A yes: within the limits, a plan of this cost, and values and prices give the same number as a bound.
     ensures proved { IfOk result (λ total. IsProved problem.now plan.now prices.now total) }
@@ -38,12 +38,12 @@ pub fn check_plan(problem: &Problem, plan: &Plan, prices: &Prices) -> Result<u64
     // it is in order.
     ensures cause { IfErr result (λ fault. IsCause problem.now plan.now prices.now fault) }
 {
-    checked_cost(problem.rows.as_slice(), plan.sets.as_slice(), prices)
+    check_plan_body(problem.rows.as_slice(), plan.sets.as_slice(), prices)
 }
 
 /// The plan's cost, or the first fault: the checks in their order.
 #[tactic(auto, unfolding(crate::specs::PlanFault::plan_fault))]
-fn checked_cost(rows: &[Row], sets: &[IdSet], prices: &Prices) -> Result<u64, CheckFault>
+fn check_plan_body(rows: &[Row], sets: &[IdSet], prices: &Prices) -> Result<u64, CheckFault>
     ensures fault { plan_fault rows.now sets.now prices.now ≡ result_err result }
     ensures cost { IfOk result (λ total. total ≡ cost rows.now sets.now) }
     ensures in_range { OnOk result (All InRange sets.now) }
@@ -55,10 +55,9 @@ fn checked_cost(rows: &[Row], sets: &[IdSet], prices: &Prices) -> Result<u64, Ch
     check_rows(rows, sets)?;
     check_apart(sets)?;
     let values = prices.values.as_slice();
-    let of_cpu = prices.of_cpu.as_slice();
-    check_values(rows, values, of_cpu)?;
+    check_values(rows, values, &prices.of_cpu)?;
     let total = plan_cost(rows, sets);
-    if worth(rows, values) != total + price_sum(of_cpu) {
+    if worth(rows, values) != total + price_sum(&prices.of_cpu) {
         return Err(CheckFault::Gap);
     }
     Ok(total)

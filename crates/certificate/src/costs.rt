@@ -11,7 +11,7 @@ ghost use Rattle.certificate.specs.IsProved.{IsProved};
 ghost use Rattle.certificate.specs.Price.{all_prices};
 ghost use Rattle.certificate.specs.Limits.{offers_fit, row_fits, values_fit, prices_fit};
 
-use crate::{MAX_AMOUNT, MAX_DEMAND, MAX_ROWS, MAX_WEIGHT, Offer, Price, Prices, Row};
+use crate::{MAX_AMOUNT, MAX_DEMAND, MAX_ROWS, MAX_WEIGHT, Offers, PriceList, Prices, Row};
 use cpu_set::{CPU_LIMIT, IdSet};
 
 /// What a plan costs: the weights of the CPUs that its rows hold, summed. A CPU without a weight in its row
@@ -35,17 +35,18 @@ fn row_cost(row: &Row, held: &IdSet) -> u64
     ensures cost { result ≡ row_cost row.now held.now }
     ensures small { result ≤ CPU_LIMIT * MAX_WEIGHT }
 {
-    offers_cost(row.offers.as_slice(), held)
+    offers_cost(&row.offers, held)
 }
 
 /// The weights of the CPUs held, summed offer by offer: no CPU is in two.
-fn offers_cost(offers: &[Offer], held: &IdSet) -> u64
+fn offers_cost(offers: &Offers, held: &IdSet) -> u64
     requires { IsTrue (offers_fit offers.now) }
     ensures cost { result ≡ sum_by (λ cpu. unwrap_or (weight_in offers.now cpu) 0) (members held.now) }
     ensures small { result ≤ CPU_LIMIT * MAX_WEIGHT }
 {
     let mut cost = 0;
-    for offer in offers {
+    for at in 0..offers.len() {
+        let offer = offers.offer(at);
         cost += u64::from(offer.weight) * u64::from(shared_count(held, &offer.cpus));
     }
     cost
@@ -70,18 +71,18 @@ pub fn proved_cost(rows: &[Row], prices: &Prices) -> u64
     ensures { (sets : List Ids) (total : ℕ) → IsProved rows.now sets prices.now total → result ≡ total }
 {
     let values = prices.values.as_slice();
-    let of_cpu = prices.of_cpu.as_slice();
-    worth(rows, values) - price_sum(of_cpu)
+    worth(rows, values) - price_sum(&prices.of_cpu)
 }
 
 /// The prices of all CPUs, summed price by price: no CPU has two.
-pub(crate) fn price_sum(prices: &[Price]) -> u64
+pub(crate) fn price_sum(prices: &PriceList) -> u64
     requires { IsTrue (prices_fit prices.now) }
     ensures sum { result ≡ all_prices prices.now }
     ensures small { result ≤ CPU_LIMIT * MAX_AMOUNT }
 {
     let mut sum = 0;
-    for price in prices {
+    for at in 0..prices.len() {
+        let price = prices.price(at);
         sum += price.amount * u64::from(price.cpus.count());
     }
     sum

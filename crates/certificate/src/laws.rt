@@ -30,10 +30,10 @@ pub fn what_is_within_the_limits()
     ensures all { LimitsMean }
 {}
 
-/// The limits: 256 rows, 1,024 CPUs that a row asks for, weights below 2^25, values and prices up to 2^40.
+/// The limits: 1,024 rows, 4,096 CPUs that a row asks for, weights below 2^25, values and prices up to 2^40.
 pub fn the_limits()
-    ensures rows { MAX_ROWS ≡ 256 }
-    ensures demand { MAX_DEMAND ≡ 1_024 }
+    ensures rows { MAX_ROWS ≡ 1_024 }
+    ensures demand { MAX_DEMAND ≡ 4_096 }
     ensures weight { MAX_WEIGHT ≡ 33_554_431 }
     ensures amount { MAX_AMOUNT ≡ 1_099_511_627_776 }
 {}

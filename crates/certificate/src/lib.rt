@@ -7,11 +7,11 @@
 //! names ask together for more CPUs than the union of their offers has.
 #![tactic(auto)]
 
+mod amounts;
 mod check_faults;
 mod checks;
 mod costs;
-mod has_cpus;
-mod laws;
+pub mod laws;
 mod limit_checks;
 mod limits;
 mod offers;
@@ -20,21 +20,18 @@ mod price_lists;
 mod problems;
 mod row_checks;
 mod rows;
+mod set_checks;
 mod shortages;
 mod value_checks;
 
 pub use check_faults::CheckFault;
 pub use checks::check_plan;
 pub use costs::proved_cost;
-pub use laws::{
-    a_shortage_leaves_no_plan, no_plan_is_below_a_bound, the_limits, what_is_proved_has_no_fault,
-    what_is_within_the_limits,
-};
 pub use limit_checks::rows_fit;
 pub use limits::{MAX_AMOUNT, MAX_DEMAND, MAX_ROWS, MAX_WEIGHT};
 pub use offers::Offers;
 pub use plans::Plan;
-pub use price_lists::{Price, Prices};
+pub use price_lists::{Price, PriceList, Prices};
 pub use problems::Problem;
 pub use rows::{Offer, Row};
 pub use shortages::{check_shortage, offered_to};

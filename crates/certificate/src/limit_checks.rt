@@ -1,10 +1,9 @@
 //! The test that a problem, a plan and its prices, or the members of a shortage, can be checked at all.
 ghost use Rattle.std.specs.Prelude.{◌≡◌, nat_le, nat_lt, length};
 ghost use Rattle.std.specs.List.{list_all};
-ghost use Rattle.certificate.specs.Limits.{are_apart, offers_fit, row_fits, rows_fit, prices_fit, values_fit, is_within_limits, is_rising, are_row_numbers, is_shortage_within_limits};
+ghost use Rattle.certificate.specs.Limits.{offers_fit, row_fits, rows_fit, prices_fit, values_fit, is_within_limits, is_rising, are_row_numbers, is_shortage_within_limits};
 
-use crate::has_cpus::HasCpus;
-use crate::{MAX_AMOUNT, MAX_DEMAND, MAX_ROWS, MAX_WEIGHT, Offer, Price, Prices, Row};
+use crate::{MAX_AMOUNT, MAX_DEMAND, MAX_ROWS, MAX_WEIGHT, Offers, PriceList, Prices, Row};
 use cpu_set::IdSet;
 
 /// Whether a plan and its prices can be checked at all: nothing is past its limit, no CPU has two
@@ -18,7 +17,7 @@ pub(crate) fn is_within_limits(rows: &[Row], sets: &[IdSet], prices: &Prices) ->
         && sets.len() == rows.len()
         && values.len() == rows.len()
         && values_fit(values)
-        && prices_fit(prices.of_cpu.as_slice())
+        && prices_fit(&prices.of_cpu)
 }
 
 /// Whether a shortage can be checked at all: no row is past its limit, and the members are numbers of
@@ -63,20 +62,25 @@ fn each_row_fits(rows: &[Row]) -> bool
 fn row_fits(row: &Row) -> bool
     ensures { result ≡ row_fits row.now }
 {
-    1 <= row.demand && row.demand <= MAX_DEMAND && offers_fit(row.offers.as_slice())
+    1 <= row.demand && row.demand <= MAX_DEMAND && offers_fit(&row.offers)
 }
 
 #[tactic(auto, unfolding(crate::specs::Limits::offers_fit))]
-fn offers_fit(offers: &[Offer]) -> bool
+fn offers_fit(offers: &Offers) -> bool
     ensures { result ≡ offers_fit offers.now }
 {
-    weights_fit(offers) && are_apart(offers)
+    weights_fit(offers) && offers.are_apart()
 }
 
-fn weights_fit(offers: &[Offer]) -> bool
+fn weights_fit(offers: &Offers) -> bool
     ensures { result ≡ list_all (λ o. nat_le o.weight MAX_WEIGHT) offers.now }
 {
-    offers.iter().all(|offer| offer.weight <= MAX_WEIGHT)
+    for at in 0..offers.len() {
+        if offers.weight(at) > MAX_WEIGHT {
+            return false;
+        }
+    }
+    true
 }
 
 fn values_fit(values: &[u64]) -> bool
@@ -86,28 +90,19 @@ fn values_fit(values: &[u64]) -> bool
 }
 
 #[tactic(auto, unfolding(crate::specs::Limits::prices_fit))]
-fn prices_fit(prices: &[Price]) -> bool
+fn prices_fit(prices: &PriceList) -> bool
     ensures { result ≡ prices_fit prices.now }
 {
-    amounts_fit(prices) && are_apart(prices)
+    amounts_fit(prices) && prices.are_apart()
 }
 
-fn amounts_fit(prices: &[Price]) -> bool
+fn amounts_fit(prices: &PriceList) -> bool
     ensures { result ≡ list_all (λ p. nat_le p.amount MAX_AMOUNT) prices.now }
 {
-    prices.iter().all(|price| price.amount <= MAX_AMOUNT)
-}
-
-/// Whether no CPU is in two of them.
-fn are_apart<T: HasCpus>(items: &[T]) -> bool
-    ensures { result ≡ are_apart T.set_of items.now }
-{
-    let mut seen = IdSet::empty();
-    for item in items {
-        if !seen.is_disjoint(item.cpus()) {
+    for at in 0..prices.len() {
+        if prices.amount(at) > MAX_AMOUNT {
             return false;
         }
-        seen = seen.union(item.cpus());
     }
     true
 }

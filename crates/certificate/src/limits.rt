@@ -1,7 +1,7 @@
 use cpu_set::CPU_LIMIT;
 
 /// A problem has at most so many rows.
-pub const MAX_ROWS: usize = 256;
+pub const MAX_ROWS: usize = 1_024;
 
 /// A row asks for at most so many CPUs, and for one at least.
 pub const MAX_DEMAND: u32 = CPU_LIMIT as u32;

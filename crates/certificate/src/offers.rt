@@ -1,18 +1,24 @@
-ghost use Rattle.std.specs.Prelude.{◌≡◌, ◌↔◌, ℕ, ◌++◌, [], ◌∷◌, IsTrue, IfOk, OnOk, OnErr, is_some};
+ghost use Rattle.std.specs.Prelude.{◌≡◌, ◌↔◌, ℕ, ◌<◌, ◌++◌, [], ◌∷◌, All, IsTrue, IfOk, OnOk, OnErr, is_some, length, slice_index_or};
 ghost use Rattle.std.specs.FinSet as set;
 ghost use Rattle.certificate.specs.Weight.{weight_in};
+ghost use Rattle.cpu_set.specs.Ranges.{in_ranges};
+ghost use Rattle.certificate.specs.Limits.{are_apart};
 ghost use Rattle.certificate.specs.RisingOffers.{AreRising};
 
 use crate::Offer;
-use cpu_set::IdSet;
+use crate::set_checks::are_apart;
+use cpu_set::{CPU_LIMIT, IdSet};
 use std::alloc::{AllocError, Global};
 use std::marker::Model;
+use tagged_sets::TaggedSets;
 
-/// The offers of a row, in the order in which they came, with their CPUs and whether their weights rise.
+/// The offers of a row, in the order in which they came, and whether their weights rise.
+///
+/// An offer takes as much memory as its CPUs have ranges.
 #[derive(Debug, Drop)]
 pub struct Offers {
-    items: Vec<Offer>,
-    cpus: IdSet,
+    // The CPUs of each offer, with its weight.
+    sets: TaggedSets<u32>,
     is_rising: bool,
     // The least weight with which the next offer weighs more than the last.
     least: u64,
@@ -23,14 +29,15 @@ impl Model for Offers {
     ghost use Rattle.certificate.specs.RowView.{offers_code};
     ghost use Rattle.certificate.specs.declared.rows.Offer.{Offer};
     ghost use Rattle.certificate.specs.RisingOffers.{AreTold};
+    ghost use Rattle.certificate.specs.OffersOf.{offers_of};
 
     ghost Value = { List Offer };
 
     ghost coded = { offers_code };
 
-    ghost view = { λ a. a.items.items };
+    ghost view = { λ a. offers_of a.sets };
 
-    ghost invariant = { λ a. AreTold a.items.items a.cpus a.is_rising a.least };
+    ghost invariant = { λ a. AreTold (offers_of a.sets) a.is_rising a.least };
 }
 
 impl Offers {
@@ -39,8 +46,7 @@ impl Offers {
         ensures { result ≡ [] }
     {
         Offers {
-            items: Vec::new(alloc),
-            cpus: IdSet::empty(),
+            sets: TaggedSets::new(alloc),
             is_rising: true,
             least: 0,
         }
@@ -52,12 +58,11 @@ impl Offers {
         ensures err { OnErr result (self.new ≡ self.old) }
     {
         let weight = u64::from(offer.weight);
-        self.items.push(offer)?;
+        self.sets.push(offer.weight, &offer.cpus)?;
         if weight < self.least {
             self.is_rising = false;
         }
         self.least = weight + 1;
-        self.cpus = self.cpus.union(&offer.cpus);
         Ok(())
     }
 
@@ -65,27 +70,65 @@ impl Offers {
     pub fn copy(&self, alloc: Global) -> Result<Offers, AllocError>
         ensures { IfOk result (λ same. same ≡ self.now) }
     {
-        let items = self.items.to_vec(alloc)?;
+        let sets = self.sets.copy(alloc)?;
         Ok(Offers {
-            items,
-            cpus: self.cpus,
+            sets,
             is_rising: self.is_rising,
             least: self.least,
         })
     }
 
-    /// The offers, the first that came first.
-    pub fn as_slice(&self) -> &[Offer]
-        ensures { result.now ≡ self.now }
+    /// How many offers there are.
+    pub fn len(&self) -> usize
+        ensures { result ≡ length self.now }
     {
-        self.items.as_slice()
+        self.sets.len()
+    }
+
+    /// The offer at a place; the first that came is at 0.
+    pub fn offer(&self, at: usize) -> Offer
+        requires { at < length self.now }
+        ensures { result ≡ slice_index_or self.now at result }
+    {
+        Offer {
+            weight: self.sets.tag(at),
+            cpus: self.sets.cpus(at),
+        }
+    }
+
+    /// The weight of the offer at a place.
+    pub fn weight(&self, at: usize) -> u32
+        requires { at < length self.now }
+        ensures { (d : Offer) → result ≡ (slice_index_or self.now at d).weight }
+    {
+        self.sets.tag(at)
+    }
+
+    /// The CPUs of the offer at a place, as ranges from a first CPU up to a last.
+    pub fn ranges(&self, at: usize) -> &[(u16, u16)]
+        requires { at < length self.now }
+        ensures members { (d : Offer) (cpu : ℕ) → in_ranges result.now cpu ≡ set.contains (slice_index_or self.now at d).cpus cpu }
+        ensures below { All (λ r. r.1 < CPU_LIMIT) result.now }
+    {
+        self.sets.ranges(at)
+    }
+
+    /// The offers in a list, each with a whole set.
+    pub fn to_vec(&self, alloc: Global) -> Result<Vec<Offer>, AllocError>
+        ensures { IfOk result (λ list. list.items ≡ self.now) }
+    {
+        let mut list = Vec::with_capacity(alloc, self.len())?;
+        for at in 0..self.len() {
+            list.push(self.offer(at))?;
+        }
+        Ok(list)
     }
 
     /// The CPUs that are in one of the offers.
-    pub fn cpus(&self) -> &IdSet
-        ensures { (cpu : ℕ) → set.contains result.now cpu ≡ is_some (weight_in self.now cpu) }
+    pub fn cpus(&self) -> IdSet
+        ensures { (cpu : ℕ) → set.contains result cpu ≡ is_some (weight_in self.now cpu) }
     {
-        &self.cpus
+        self.sets.all()
     }
 
     /// Whether each offer weighs more than all before it.
@@ -93,5 +136,19 @@ impl Offers {
         ensures { IsTrue result ↔ AreRising self.now }
     {
         self.is_rising
+    }
+
+    /// Whether both are the same offers in the same order.
+    pub fn is_same(&self, other: &Offers) -> bool
+        ensures { IsTrue result ↔ (self.now ≡ other.now) }
+    {
+        self.sets.is_same(&other.sets)
+    }
+
+    /// Whether no CPU is in two of them.
+    pub(crate) fn are_apart(&self) -> bool
+        ensures { result ≡ are_apart (λ o. o.cpus) self.now }
+    {
+        are_apart(&self.sets)
     }
 }

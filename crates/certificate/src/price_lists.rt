@@ -1,5 +1,13 @@
-use cpu_set::IdSet;
+ghost use Rattle.std.specs.Prelude.{◌≡◌, ℕ, ◌<◌, ◌++◌, [], ◌∷◌, All, OnOk, OnErr, length, slice_index_or};
+ghost use Rattle.std.specs.FinSet as set;
+ghost use Rattle.cpu_set.specs.Ranges.{in_ranges};
+ghost use Rattle.certificate.specs.Limits.{are_apart};
+
+use crate::set_checks::are_apart;
+use cpu_set::{CPU_LIMIT, IdSet};
+use std::alloc::{AllocError, Global};
 use std::marker::Model;
+use tagged_sets::TaggedSets;
 
 /// The numbers by which a plan shows that no plan costs less.
 #[derive(Debug, Drop)]
@@ -9,7 +17,7 @@ pub struct Prices {
     /// None is above [`MAX_AMOUNT`](crate::MAX_AMOUNT).
     pub values: Vec<u64>,
     /// The prices of CPUs. A CPU in none of them has the price 0.
-    pub of_cpu: Vec<Price>,
+    pub of_cpu: PriceList,
 }
 
 /// CPUs of one price.
@@ -27,5 +35,88 @@ impl Model for Prices {
 
     ghost coded = { prices_code };
 
-    ghost view = { λ a. record { values = a.values.items; of_cpu = a.of_cpu.items } };
+    ghost view = { λ a. record { values = a.values.items; of_cpu = a.of_cpu } };
+}
+
+/// The prices of CPUs, in the order in which they came.
+///
+/// A price takes as much memory as its CPUs have ranges.
+#[derive(Debug, Drop)]
+pub struct PriceList {
+    // The CPUs of each price, with its amount.
+    sets: TaggedSets<u64>,
+}
+
+impl Model for PriceList {
+    ghost use Rattle.std.specs.Prelude.{List};
+    ghost use Rattle.certificate.specs.PricesView.{price_list_code};
+    ghost use Rattle.certificate.specs.declared.price_lists.Price.{Price};
+    ghost use Rattle.certificate.specs.PricesOf.{prices_of};
+
+    ghost Value = { List Price };
+
+    ghost coded = { price_list_code };
+
+    ghost view = { λ a. prices_of a.sets };
+}
+
+impl PriceList {
+    /// No prices. Takes no memory.
+    pub fn new(alloc: Global) -> PriceList
+        ensures { result ≡ [] }
+    {
+        PriceList {
+            sets: TaggedSets::new(alloc),
+        }
+    }
+
+    /// Adds a price after the others.
+    pub fn push(&mut self, price: Price) -> Result<(), AllocError>
+        ensures ok { OnOk result (self.new ≡ self.old ++ price ∷ []) }
+        ensures err { OnErr result (self.new ≡ self.old) }
+    {
+        self.sets.push(price.amount, &price.cpus)
+    }
+
+    /// How many prices there are.
+    pub fn len(&self) -> usize
+        ensures { result ≡ length self.now }
+    {
+        self.sets.len()
+    }
+
+    /// The price at a place; the first that came is at 0.
+    pub fn price(&self, at: usize) -> Price
+        requires { at < length self.now }
+        ensures { result ≡ slice_index_or self.now at result }
+    {
+        Price {
+            amount: self.sets.tag(at),
+            cpus: self.sets.cpus(at),
+        }
+    }
+
+    /// The amount of the price at a place.
+    pub fn amount(&self, at: usize) -> u64
+        requires { at < length self.now }
+        ensures { (d : Price) → result ≡ (slice_index_or self.now at d).amount }
+    {
+        self.sets.tag(at)
+    }
+
+    /// The CPUs of the price at a place, as ranges from a first CPU up to a last.
+    pub fn ranges(&self, at: usize) -> &[(u16, u16)]
+        requires { at < length self.now }
+        ensures members { (d : Price) (cpu : ℕ) → in_ranges result.now cpu ≡ set.contains (slice_index_or self.now at d).cpus cpu }
+        ensures below { All (λ r. r.1 < CPU_LIMIT) result.now }
+    {
+        self.sets.ranges(at)
+    }
+
+    /// Whether no CPU has two of them.
+    pub(crate) fn are_apart(&self) -> bool
+        ensures { result ≡ are_apart (λ p. p.cpus) self.now }
+    {
+        are_apart(&self.sets)
+    }
 }

@@ -41,7 +41,7 @@ fn check_row(k: usize, row: &Row, held: &IdSet) -> Result<(), CheckFault>
 fn first_not_allowed(row: &Row, held: &IdSet) -> Option<u16>
     ensures { result ≡ least_that (is_not_allowed row.now held.now) }
 {
-    held.minus(row.offers.cpus()).first()
+    held.minus(&row.offers.cpus()).first()
 }
 
 /// Whether no CPU is in two of the sets; else the first set that has a CPU of an earlier one.

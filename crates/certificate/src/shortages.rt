@@ -81,7 +81,7 @@ pub fn offered_to(rows: &[Row], members: &[usize]) -> IdSet
     let mut offered = IdSet::empty();
     for k in members {
         let row = &rows[*k];
-        offered = offered.union(row.offers.cpus());
+        offered = offered.union(&row.offers.cpus());
     }
     offered
 }

@@ -8,7 +8,7 @@ use crate::line::Line;
 use crate::line_words::Hold;
 use crate::stage::Stage;
 use crate::{Certificate, Members};
-use certificate::{Plan, Price, Prices, Problem, Row};
+use certificate::{Plan, Price, PriceList, Prices, Problem, Row};
 use cpu_set::IdSet;
 use faults::OrMemory;
 use std::alloc::Global;
@@ -23,7 +23,7 @@ pub struct Draft {
     ids: BTreeSet<String>,
     sets: Vec<IdSet>,
     values: Vec<u64>,
-    prices: Vec<Price>,
+    prices: PriceList,
     members: Vec<usize>,
     /// The first row after the members.
     from: usize,
@@ -58,7 +58,7 @@ impl Draft {
             ids: BTreeSet::new(alloc),
             sets: Vec::new(alloc),
             values: Vec::new(alloc),
-            prices: Vec::new(alloc),
+            prices: PriceList::new(alloc),
             members: Vec::new(alloc),
             from: 0,
             total: 0,
@@ -95,7 +95,7 @@ impl Draft {
     fn has_no_plan(&self) -> bool
         ensures { result ≡ has_no_plan self.now }
     {
-        self.sets.is_empty() && self.prices.is_empty()
+        self.sets.is_empty() && self.prices.len() == 0
     }
 
     /// Whether a row of this id can follow.

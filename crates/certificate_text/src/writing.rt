@@ -10,11 +10,10 @@ ghost use Rattle.certificate_text.specs.Written.{offer_text, line_text, text_of,
 
 use crate::Certificate;
 use crate::laws::written_texts_are_read;
-use byte_output::{put, put_all};
-use certificate::{Offer, Price, Prices, Row};
+use byte_output::{put, put_all, put_number};
+use certificate::{Offer, Offers, Price, PriceList, Prices, Row};
 use cpu_list::write_list;
 use cpu_set::IdSet;
-use itoa::Buffer;
 use std::io;
 use std::io::Write;
 
@@ -23,18 +22,18 @@ fn put_offer<W: Write>(offer: &Offer, w: &mut W) -> io::Result<()>
     ensures held { IsOfferHeld offer.now }
 {
     offer.cpus.stays_below_the_limit();
-    let mut digits = Buffer::new();
-    let weight = digits.format(offer.weight).as_bytes();
-    put_all(&[b" ".as_slice(), weight, b":".as_slice()], w)?;
+    let weight = offer.weight;
+    put_number(b" ", u64::from(weight), b":", w)?;
     write_list(&offer.cpus, w)
 }
 
-fn put_offers<W: Write>(offers: &[Offer], w: &mut W) -> io::Result<()>
+fn put_offers<W: Write>(offers: &Offers, w: &mut W) -> io::Result<()>
     ensures written { Writes (W.contents w.old) (W.contents w.new) result (flat_map offer_text offers.now) }
     ensures held { OnOk result (All IsOfferHeld offers.now) }
 {
-    for offer in offers {
-        put_offer(offer, w)?;
+    for at in 0..offers.len() {
+        let offer = offers.offer(at);
+        put_offer(&offer, w)?;
     }
     Ok(())
 }
@@ -43,18 +42,10 @@ fn put_row<W: Write>(row: &Row, w: &mut W) -> io::Result<()>
     ensures written { Writes (W.contents w.old) (W.contents w.new) result (line_text (RowLine row.now)) }
     ensures held { OnOk result (IsRowHeld row.now) }
 {
-    let mut digits = Buffer::new();
-    let demand = digits.format(row.demand).as_bytes();
-    put_all(
-        &[
-            b"row ".as_slice(),
-            row.id.as_bytes(),
-            b" ".as_slice(),
-            demand,
-        ],
-        w,
-    )?;
-    put_offers(row.offers.as_slice(), w)?;
+    let demand = row.demand;
+    put_all(&[b"row ".as_slice(), row.id.as_bytes()], w)?;
+    put_number(b" ", u64::from(demand), b"", w)?;
+    put_offers(&row.offers, w)?;
     put(b"\n", w)
 }
 
@@ -73,11 +64,9 @@ fn put_hold<W: Write>(id: &[u8], cpus: &IdSet, value: u64, w: &mut W) -> io::Res
     ensures held { InRange cpus.now × (value < 2 ^ 64) }
 {
     cpus.stays_below_the_limit();
-    let mut digits = Buffer::new();
-    let value = digits.format(value).as_bytes();
     put_all(&[b"hold ".as_slice(), id, b" ".as_slice()], w)?;
     write_list(cpus, w)?;
-    put_all(&[b" ".as_slice(), value, b"\n".as_slice()], w)
+    put_number(b" ", value, b"\n", w)
 }
 
 fn put_holds<W: Write>(rows: &[Row], sets: &[IdSet], values: &[u64], w: &mut W) -> io::Result<()>
@@ -97,19 +86,19 @@ fn put_price<W: Write>(price: &Price, w: &mut W) -> io::Result<()>
     ensures held { IsPriceHeld price.now }
 {
     price.cpus.stays_below_the_limit();
-    let mut digits = Buffer::new();
-    let amount = digits.format(price.amount).as_bytes();
-    put_all(&[b"price ".as_slice(), amount, b" ".as_slice()], w)?;
+    let amount = price.amount;
+    put_number(b"price ", amount, b" ", w)?;
     write_list(&price.cpus, w)?;
     put(b"\n", w)
 }
 
-fn put_prices<W: Write>(prices: &[Price], w: &mut W) -> io::Result<()>
+fn put_prices<W: Write>(prices: &PriceList, w: &mut W) -> io::Result<()>
     ensures written { Writes (W.contents w.old) (W.contents w.new) result (flat_map (λ price. line_text (PriceLine price)) prices.now) }
     ensures held { OnOk result (All IsPriceHeld prices.now) }
 {
-    for price in prices {
-        put_price(price, w)?;
+    for at in 0..prices.len() {
+        let price = prices.price(at);
+        put_price(&price, w)?;
     }
     Ok(())
 }
@@ -138,9 +127,7 @@ fn put_members<W: Write>(rows: &[Row], members: &[usize], w: &mut W) -> io::Resu
 fn put_total<W: Write>(total: u64, w: &mut W) -> io::Result<()>
     ensures { Writes (W.contents w.old) (W.contents w.new) result (line_text (TotalLine total) ++ line_text EndLine) }
 {
-    let mut digits = Buffer::new();
-    let total = digits.format(total).as_bytes();
-    put_all(&[b"total ".as_slice(), total, b"\nend\n".as_slice()], w)
+    put_number(b"total ", total, b"\nend\n", w)
 }
 
 /// The first line, and the rows.
@@ -167,7 +154,7 @@ fn write_plan<W: Write>(
 {
     put_head(rows, w)?;
     put_holds(rows, sets, prices.values.as_slice(), w)?;
-    put_prices(prices.of_cpu.as_slice(), w)?;
+    put_prices(&prices.of_cpu, w)?;
     put_total(total, w)
 }
 

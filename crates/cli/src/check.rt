@@ -12,10 +12,9 @@ use crate::console::Console;
 use crate::note::STANDARD_INPUT;
 use crate::opens::{NamedFile, Opens};
 use crate::printed::Printed;
-use byte_output::put_all;
+use byte_output::put_number;
 use certificate_text::{Verdict, check_text};
 use inputs::{Input, Opened, Refusal, Source, put_number_line};
-use itoa::Buffer;
 use std::alloc::Global;
 use std::io;
 use std::io::Write;
@@ -75,18 +74,6 @@ impl Printed for Verdict {
 fn put_shortage<W: Write>(asked: u64, allowed: u32, w: &mut W) -> io::Result<()>
     ensures { Writes (W.contents w.old) (W.contents w.new) result (verdict_line (Short asked allowed)) }
 {
-    let mut digits = Buffer::new();
-    let mut more_digits = Buffer::new();
-    let demand = digits.format(asked).as_bytes();
-    let cpus = more_digits.format(allowed).as_bytes();
-    put_all(
-        &[
-            b"short demand ".as_slice(),
-            demand,
-            b" cpus ".as_slice(),
-            cpus,
-            b"\n".as_slice(),
-        ],
-        w,
-    )
+    put_number(b"short demand ", asked, b" cpus ", w)?;
+    put_number(b"", u64::from(allowed), b"\n", w)
 }

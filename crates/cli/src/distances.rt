@@ -14,9 +14,8 @@ use crate::console::Console;
 use crate::note::STANDARD_INPUT;
 use crate::opens::{NamedFile, Opens};
 use crate::printed::Printed;
-use byte_output::{put, put_all};
+use byte_output::{put, put_number};
 use inputs::{Input, Opened, Refusal, Source, put_number_line};
-use itoa::Buffer;
 use slit::Slit;
 use std::alloc::Global;
 use std::io;
@@ -106,11 +105,6 @@ fn write_entry<W: Write>(table: &Slit, i: usize, j: usize, w: &mut W) -> io::Res
     requires j_is_locality { j < table.now.localities }
     ensures { Writes (W.contents w.old) (W.contents w.new) result (entry_text j (distance table.now i j)) }
 {
-    let mut digits = Buffer::new();
-    let entry = digits.format(table.distance(i, j)).as_bytes();
-    if j == 0 {
-        put(entry, w)
-    } else {
-        put_all(&[b" ".as_slice(), entry], w)
-    }
+    let separator: &[u8] = if j == 0 { b"" } else { b" " };
+    put_number(separator, u64::from(table.distance(i, j)), b"", w)
 }

@@ -1,3 +1,4 @@
+pub mod FaultTitle
 pub mod Members
 pub mod Checks
 pub mod VersionFault

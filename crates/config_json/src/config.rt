@@ -37,13 +37,13 @@ impl Config {
     /// for each looked-at member in turn, `Missing` where it is required and absent, `BadField` where it
     /// is of another kind, and for the version `BadVersion`. The members are `ociVersion`; `root`,
     /// `root.path`; `linux`, `linux.resources`, `linux.resources.cpu`, and its `quota`, `period`, `cpus`
-    /// and `mems`. A member that is null counts as absent, of one that stands twice the last counts,
+    /// and `mems`. A member that is null counts as absent, of one that is given twice the last counts,
     /// and all others are ignored. A quota is a whole number of 64 bits with a sign, a period one
     /// without, written with neither fraction nor exponent.
     ///
     /// Before memory is asked for, it is known whether there are too many bytes or none, and whether they
     /// are UTF-8. Once the JSON value is there, only a version with pre-release or build metadata and the
-    /// texts of a value without fault want memory.
+    /// texts of a value without fault take memory.
     #[tactic(auto, unfolding(crate::specs::ConfigOf::config_of))]
     pub fn read(alloc: Global, bytes: &[u8]) -> Result<Config, OrMemory<ConfigFault>>
         ensures value { Gives result (config_of bytes.now) }

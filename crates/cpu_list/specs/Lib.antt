@@ -1,10 +1,9 @@
 pub mod CanonicalLaws
 pub mod CanonicalList
+pub mod FaultTitle
 pub mod FirstFault
 pub mod FirstFaults
 pub mod ItemFaults
 pub mod ListText
-pub mod Output
 pub mod Plain
-pub mod Sending
 pub mod TextAfter

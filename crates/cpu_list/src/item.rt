@@ -23,7 +23,7 @@ pub(crate) fn first_piece(text: &[u8]) -> &[u8]
     text
 }
 
-/// How many blanks stand before the first byte of the piece's item.
+/// How many blanks precede the first byte of the piece's item.
 pub(crate) fn indent(piece: &[u8]) -> usize
     ensures value { result ≡ indent piece.now }
     ensures within { result ≤ length piece.now }

@@ -8,7 +8,6 @@ mod printing;
 mod reading;
 mod writing;
 
-pub use byte_output::{put, put_all};
 pub use laws::{canonical_texts, first_faults, lists_stay_below, plain_texts};
 pub use list_error::{ListError, ListErrorKind};
 pub use printing::print;

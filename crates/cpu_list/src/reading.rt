@@ -34,7 +34,7 @@ fn add_piece(set: &mut IdSet, piece: &[u8], limit: u16) -> Result<(), ListErrorK
     Ok(())
 }
 
-/// Adds what the first item of a list names, and answers how long it is, with the blanks round it.
+/// Adds what the first item of a list names, and returns its length with the blanks around it.
 fn add_first(set: &mut IdSet, text: &[u8], limit: u16) -> Result<usize, ListErrorKind>
     requires { limit ≤ CPU_LIMIT }
     ensures long { IfOk result (λ long. long ≡ length (before_first is_comma text.now)) }
@@ -53,7 +53,7 @@ fn add_first(set: &mut IdSet, text: &[u8], limit: u16) -> Result<usize, ListErro
 
 /// Reads a list of numbers below the limit, as `0-2,7`: cpuset(7), List Format.
 ///
-/// Blanks (space, tab, line feed) may stand round an item, items may be empty, repeat, overlap and
+/// Blanks (space, tab, line feed) may surround an item, items may be empty, repeat, overlap and
 /// come in any order, and numbers may have leading zeros.
 ///
 /// # Errors

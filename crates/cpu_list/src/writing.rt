@@ -1,43 +1,28 @@
 //! A set as text, to a writer.
-ghost use Rattle.std.specs.Prelude.{◌≡◌, ◌≤◌, ◌++◌, decimal};
+ghost use Rattle.std.specs.Prelude.{◌≡◌, ◌≤◌, ◌++◌};
 ghost use Rattle.cpu_list.specs.CanonicalList.{range_text, list_text};
 ghost use Rattle.byte_output.specs.Output.{Writes};
 
-use byte_output::put;
+use byte_output::put_number;
 use cpu_set::{IdSet, Ranges};
 use std::io;
 use std::io::Write;
 
-fn put_number<W: Write>(n: u16, w: &mut W) -> io::Result<()>
-    ensures { Writes (W.contents w.old) (W.contents w.new) result (decimal n) }
-{
-    let mut buffer = itoa::Buffer::new();
-    put(buffer.format(n).as_bytes(), w)
-}
-
-fn put_range<W: Write>(first: u16, last: u16, w: &mut W) -> io::Result<()>
-    ensures { Writes (W.contents w.old) (W.contents w.new) result (range_text (first, last)) }
-{
-    put_number(first, w)?;
-    if first == last {
-        return Ok(());
-    }
-    put(b"-", w)?;
-    put_number(last, w)
-}
-
 fn put_item<W: Write>(separator: &[u8], first: u16, last: u16, w: &mut W) -> io::Result<()>
     ensures { Writes (W.contents w.old) (W.contents w.new) result (separator.now ++ range_text (first, last)) }
 {
-    put(separator, w)?;
-    put_range(first, last, w)
+    put_number(separator, u64::from(first), b"", w)?;
+    if first == last {
+        return Ok(());
+    }
+    put_number(b"-", u64::from(last), b"", w)
 }
 
 /// Writes the set's one spelling: rising ranges as long as possible, as `0-2,7`. The empty set is
 /// the empty text.
 ///
 /// # Errors
-/// As [`put`]: where it fails, a prefix of the text went out.
+/// As [`put_number`]: where it fails, a prefix of the text went out.
 pub fn write_list<W: Write>(set: &IdSet, w: &mut W) -> io::Result<()>
     ensures { Writes (W.contents w.old) (W.contents w.new) result (list_text set.now) }
 {

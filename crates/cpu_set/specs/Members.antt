@@ -24,8 +24,3 @@ members s = filter (set.contains s) cpus
 -- the numbers that a set may have and does not
 abbrev pub IsComplement : Ids → Ids → Type 0
 IsComplement s t = (n : ℕ) → set.contains t n ≡ (nat_lt n CPU_LIMIT && not (set.contains s n))
-
--- the second set has each number of the first moved up by one, below the limit
-pub record IsMovedUp (s t : Ids) : Type 0 where
-  pub none_at_0 : set.contains t 0 ≡ false
-  pub moved : (n : ℕ) → set.contains t (n + 1) ≡ (nat_lt (n + 1) CPU_LIMIT && set.contains s n)

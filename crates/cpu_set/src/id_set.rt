@@ -1,7 +1,7 @@
 ghost use Rattle.std.specs.Prelude.{◌≡◌, ℕ, ◌+◌, ◌*◌, ◌<◌, ◌≤◌, ◌↔◌, ◌||◌, ◌&&◌, ◌==◌, nat_le, not, length, IsTrue, IfSome, MatchOption};
 ghost use Rattle.std.specs.FinSet as set;
 ghost use Rattle.cpu_set.specs.Ids.{IsDisjoint, NoneFrom, IsFirstFrom};
-ghost use Rattle.cpu_set.specs.Members.{IsCpu, InRange, IsComplement, IsMovedUp, members};
+ghost use Rattle.cpu_set.specs.Members.{IsCpu, InRange, IsComplement, members};
 ghost use Rattle.cpu_set.specs.Words.{AreWords, set_of_words};
 
 use crate::CPU_LIMIT;
@@ -121,20 +121,6 @@ impl IdSet {
         ensures { IsComplement self.now result }
     {
         IdSet::of_lanes(!self.lanes())
-    }
-
-    /// Each number moved up by one; one that would reach the limit falls out.
-    pub fn moved_up(&self) -> IdSet
-        ensures { IsMovedUp self.now result }
-    {
-        let mut words = [0; WORDS];
-        let mut carried = 0;
-        for k in 0..WORDS {
-            let word = self.words[k];
-            words[k] = (word << 1) | carried;
-            carried = word >> (WORD_BITS - 1);
-        }
-        IdSet { words }
     }
 
     /// Whether no number is in both sets.

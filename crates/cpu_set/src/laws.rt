@@ -5,14 +5,14 @@ ghost use Rattle.cpu_set.specs.SetLaws.{EmptyWhereNone, DisjointWhereMeetIsEmpty
 
 use crate::CPU_LIMIT;
 
-/// `least_that` answers the least CPU that passes, and none just where none passes.
+/// `least_that` is the least CPU that passes, and none where none passes.
 pub fn least_cpus()
     ensures is_least { LeastIsLeast }
     ensures passes { LeastPasses }
     ensures none { NoneWhereNone }
 {}
 
-/// Of the CPUs of a set `least_that` answers what `first` does, so too of a difference and of what
+/// Of the CPUs of a set `least_that` is what `first` returns, so too of a difference and of what
 /// two sets share.
 pub fn least_members()
     ensures first { LeastIsFirst }
@@ -28,7 +28,7 @@ pub fn set_laws()
     ensures counted { MembersAreCounted }
 {}
 
-/// Numbers are below 1,024.
+/// Numbers are below 4,096.
 pub fn the_limits()
-    ensures cpus { CPU_LIMIT ≡ 1_024 }
+    ensures cpus { CPU_LIMIT ≡ 4_096 }
 {}

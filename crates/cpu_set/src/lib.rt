@@ -14,4 +14,4 @@ pub use laws::{least_cpus, least_members, set_laws, the_limits};
 pub use ranges::Ranges;
 
 /// CPU numbers are below this limit, and so are all numbers in a set.
-pub const CPU_LIMIT: u16 = 1_024;
+pub const CPU_LIMIT: u16 = 4_096;

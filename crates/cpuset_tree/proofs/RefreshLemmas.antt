@@ -154,8 +154,8 @@ OthersGranted-online s keys online nodes root next sound now key n at quiet = be
         (or_right (is_from root.serial n.parent) (n.group.serial == root.serial) (eq-eqb n.group.serial root.serial (ap (λ (h : Group). h.serial) is))))
     below (Some p) of =
         was
-        ∙ ap (λ (o : Option Group). standing o n.cpus.requested online (λ q. effective_kept Cpus (get s q.key))) of
-        ∙ sym (ap (λ (o : Option Group). standing o n.cpus.requested now (λ q. effective_kept Cpus (get s q.key))) of)
+        ∙ ap (λ (o : Option Group). standing o n.shares.value.cpus.requested online (λ q. effective_kept Cpus (get s q.key))) of
+        ∙ sym (ap (λ (o : Option Group). standing o n.shares.value.cpus.requested now (λ q. effective_kept Cpus (get s q.key))) of)
 
 -- one group more keeps what it has in effect, by a change of it alone
 AllKept-more : (r : Resource) (old new : Slab Cgroup) (top : Ids) (key : ℕ) (older : List ℕ) (m : Cgroup) (f : Cgroup → Cgroup)

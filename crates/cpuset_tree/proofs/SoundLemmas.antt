@@ -76,7 +76,7 @@ module _ (old new : Slab Cgroup) (keys : List ℕ) (online nodes : Ids) (root : 
           ∙ ap (λ (x : Share). granted x.requested above) (sym (shares r))
           ∙ ap (λ (o : Option Group). standing o (share_of r n).requested (top_of r online nodes) (effective (requested_of r) (top_of r online nodes) (listed old keys))) (sym of))
 
-      elder : (parent : Option Group) → parent ≡ Some p → root_among (record { group = n.group; parent = parent; name = (entry_of_kept n).name; cpus = n.cpus.requested; mems = n.mems.requested } ∷ listed new keys) ≡ root_among (listed new keys)
+      elder : (parent : Option Group) → parent ≡ Some p → root_among (record { group = n.group; parent = parent; name = (entry_of_kept n).name; cpus = n.shares.value.cpus.requested; mems = n.shares.value.mems.requested } ∷ listed new keys) ≡ root_among (listed new keys)
       elder None e = absurd (none-some p e)
       elder (Some q) e = refl
 

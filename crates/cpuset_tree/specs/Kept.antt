@@ -9,6 +9,7 @@ use Rattle.cpuset_tree.specs.declared.groups.Cgroup.{Cgroup}
 use Rattle.cpuset_tree.specs.declared.groups.Resource.{Resource}
 use Rattle.cpuset_tree.specs.declared.groups.Resource.TheVariants.{Cpus, Mems}
 use Rattle.cpuset_tree.specs.declared.groups.Share.{Share}
+use Rattle.cpuset_tree.specs.declared.groups.Shares.{Shares}
 use Rattle.cpuset_tree.specs.TreeState.{GroupEntry, TreeState}
 use Rattle.cpuset_tree.specs.TreeChanges.{requesting_cpus, requesting_mems, with_cpus, with_mems}
 use Rattle.cpuset_tree.specs.Groups.{entry_of, entry_among, root_among}
@@ -17,7 +18,7 @@ use Rattle.cpuset_tree.specs.Effective.{standing, effective, effective_cpus, eff
 -- what a kept group is to the tree's callers
 abbrev pub entry_of_kept : Cgroup → GroupEntry
 entry_of_kept n =
-    record { group = n.group; parent = n.parent; name = string_bytes n.name; cpus = n.cpus.requested; mems = n.mems.requested }
+    record { group = n.group; parent = n.parent; name = string_bytes n.name; cpus = n.shares.value.cpus.requested; mems = n.shares.value.mems.requested }
 
 -- the older groups, with the one that is kept before them
 abbrev pub before : Option Cgroup → List GroupEntry → List GroupEntry
@@ -47,8 +48,8 @@ IsOrder s keys = (next : ℕ) × IsInOrder s next keys
 
 -- a group's share of a resource
 abbrev pub share_of : Resource → Cgroup → Share
-share_of Cpus n = n.cpus
-share_of Mems n = n.mems
+share_of Cpus n = n.shares.value.cpus
+share_of Mems n = n.shares.value.mems
 
 -- the share of a group that requests nothing
 abbrev pub unrequested : Ids → Share
@@ -88,7 +89,7 @@ pub record IsSound (s : Slab Cgroup) (keys : List ℕ) (online nodes : Ids) (roo
 abbrev pub IsKeptOf : TreeState → Group → Option Cgroup → Type 0
 IsKeptOf s g None = entry_of s g ≡ None
 IsKeptOf s g (Some n) =
-    (entry_of s g ≡ Some (entry_of_kept n)) × (n.cpus.effective ≡ effective_cpus s g) × (n.mems.effective ≡ effective_mems s g)
+    (entry_of s g ≡ Some (entry_of_kept n)) × (n.shares.value.cpus.effective ≡ effective_cpus s g) × (n.shares.value.mems.effective ≡ effective_mems s g)
 
 -- what is kept of a resource as a group's effective set, and nothing where there is no group
 abbrev pub effective_kept : Resource → Option Cgroup → Ids
@@ -99,15 +100,19 @@ effective_kept r (Some n) = (share_of r n).effective
 abbrev pub stands : Resource → Slab Cgroup → Ids → Cgroup → Ids
 stands r s top n = standing n.parent (share_of r n).requested top (λ p. effective_kept r (get s p.key))
 
+-- the group, with these shares
+abbrev pub with_shares : Shares → Cgroup → Cgroup
+with_shares shares n = record n { shares = record n.shares { value = shares } }
+
 -- the group, requesting this of a resource
 abbrev pub with_requested : Resource → Ids → Cgroup → Cgroup
-with_requested Cpus ids n = record n { cpus = record n.cpus { requested = ids } }
-with_requested Mems ids n = record n { mems = record n.mems { requested = ids } }
+with_requested Cpus ids n = with_shares (record n.shares.value { cpus = record n.shares.value.cpus { requested = ids } }) n
+with_requested Mems ids n = with_shares (record n.shares.value { mems = record n.shares.value.mems { requested = ids } }) n
 
 -- the group, with this in effect of a resource
 abbrev pub with_effective : Resource → Ids → Cgroup → Cgroup
-with_effective Cpus ids n = record n { cpus = record n.cpus { effective = ids } }
-with_effective Mems ids n = record n { mems = record n.mems { effective = ids } }
+with_effective Cpus ids n = with_shares (record n.shares.value { cpus = record n.shares.value.cpus { effective = ids } }) n
+with_effective Mems ids n = with_shares (record n.shares.value { mems = record n.shares.value.mems { effective = ids } }) n
 
 -- the entry, requesting this of a resource if it is this group's
 abbrev pub requesting : Resource → Group → Ids → GroupEntry → GroupEntry

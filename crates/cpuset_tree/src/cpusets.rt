@@ -3,12 +3,12 @@ ghost use Rattle.std.specs.Option.{option_copied};
 ghost use Rattle.cpuset_tree.specs.Groups.{root_of, has_group, is_root, child_of, has_children, requested_cpus, requested_mems};
 ghost use Rattle.cpuset_tree.specs.Effective.{effective_cpus, effective_mems};
 ghost use Rattle.cpuset_tree.specs.TreeChanges.{IsFirstTree, without_group, with_cpus, with_mems, with_online};
-ghost use Rattle.faults.specs.Calls.{Decides};
+ghost use Rattle.faults.specs.Calls.{Decides, behind};
 ghost use Rattle.cpuset_tree.specs.TreeAnswers.{Makes, AddsGroup, remove_refusal, write_refusal, read_of};
 ghost use Rattle.cpuset_tree.specs.TreeWellFormed.{IsWellFormed};
 ghost use Rattle.cpuset_tree.specs.TreeLaws.{RunsUpThePath};
 
-use crate::groups::{Cgroup, Resource, Share, request_at};
+use crate::groups::{Cgroup, Resource, Shares, request_at};
 use crate::refresh::{refresh, refresh_written};
 use crate::{Group, SERIAL_LIMIT, TreeFault};
 use cpu_set::IdSet;
@@ -22,6 +22,10 @@ use std::marker::Model;
 ///
 /// At the root the online CPUs are in effect, and all nodes. In another group those of its parent's that it
 /// requests are, or all of its parent's where it requests none of them.
+///
+/// What is in effect is kept up to date by the writes, so that each read takes O(1) steps. Of g groups `find`, `make` and
+/// `remove` take O(g); `write_cpus` and `write_mems` O(1) where the group is newer than each group with children, else O(g);
+/// `set_online` O(g).
 #[derive(Drop)]
 pub struct Tree {
     alloc: Global,
@@ -56,11 +60,12 @@ impl Model for Tree {
 }
 
 impl Tree {
-    ghost use Rattle.cpuset_tree.specs.Kept.{IsKeptOf, top_of, with_request};
+    ghost use Rattle.cpuset_tree.specs.Kept.{IsKeptOf, top_of, unrequested, with_request};
 
     /// A tree of its root alone, which has the first serial and all of these CPUs and nodes in effect.
     ///
-    /// The only error is lack of memory.
+    /// # Errors
+    /// Lack of memory.
     pub fn new(
         alloc: Global,
         online: IdSet,
@@ -72,6 +77,7 @@ impl Tree {
     {
         let mut groups = Slab::new(alloc);
         let mut order = VecDeque::new(alloc);
+        let shares = Box::new(alloc, Shares::unrequested(online, nodes))?;
         groups.reserve(1)?;
         let key = groups.vacant_key();
         order.push_front(key)?;
@@ -83,8 +89,7 @@ impl Tree {
             group: root,
             parent: None,
             name: String::new(alloc),
-            cpus: Share::unrequested(online),
-            mems: Share::unrequested(nodes),
+            shares,
         });
         Ok(Tree {
             alloc,
@@ -165,14 +170,15 @@ impl Tree {
 
     /// Makes a group below the parent, which requests nothing and so has all of its parent's in effect.
     ///
-    /// Refused, in this order: [`TreeFault::NoGroup`], [`TreeFault::Exists`], [`TreeFault::NoSerials`].
+    /// # Errors
+    /// In this order: [`TreeFault::NoGroup`], [`TreeFault::Exists`], [`TreeFault::NoSerials`].
     pub fn make(&mut self, parent: Group, name: &str) -> Result<Group, OrMemory<TreeFault>>
         ensures { Makes self.old parent name.now result self.new }
     {
         let Some(above) = self.node(parent) else {
             return Err(OrMemory::Fault(TreeFault::NoGroup));
         };
-        let (cpus, mems) = (above.cpus.effective, above.mems.effective);
+        let shares = Shares::unrequested(above.shares.cpus.effective, above.shares.mems.effective);
         if self.child(parent, name).is_some() {
             return Err(OrMemory::Fault(TreeFault::Exists));
         }
@@ -180,24 +186,19 @@ impl Tree {
             return Err(OrMemory::Fault(TreeFault::NoSerials));
         }
         let name = String::from_str(self.alloc, name)?;
-        Ok(self.add(parent, name, cpus, mems)?)
+        Ok(self.add(parent, name, shares)?)
     }
 
-    /// Adds a group with the sets that its parent has in effect.
-    fn add(
-        &mut self,
-        parent: Group,
-        name: String,
-        cpus: IdSet,
-        mems: IdSet,
-    ) -> Result<Group, AllocError>
+    /// Adds a group that has in effect what its parent has.
+    fn add(&mut self, parent: Group, name: String, shares: Shares) -> Result<Group, AllocError>
         requires serial { self.old.next_serial < SERIAL_LIMIT }
         requires parent { has_group self.old parent ≡ true }
-        requires cpus { cpus ≡ effective_cpus self.old parent }
-        requires mems { mems ≡ effective_mems self.old parent }
+        requires cpus { shares.cpus ≡ unrequested (effective_cpus self.old parent) }
+        requires mems { shares.mems ≡ unrequested (effective_mems self.old parent) }
         ensures ok { IfOk result (λ g. AddsGroup self.old parent (string_bytes name) g self.new) }
         ensures err { OnErr result (self.new ≡ self.old) }
     {
+        let shares = Box::new(self.alloc, shares)?;
         self.groups.reserve(1)?;
         let group = Group {
             key: self.groups.vacant_key(),
@@ -208,8 +209,7 @@ impl Tree {
             group,
             parent: Some(parent),
             name,
-            cpus: Share::unrequested(cpus),
-            mems: Share::unrequested(mems),
+            shares,
         });
         self.newest_parent = self.newest_parent.max(parent.serial);
         self.next_serial += 1;
@@ -218,7 +218,8 @@ impl Tree {
 
     /// Removes a group, whose handle is stale from then on.
     ///
-    /// Refused, in this order: [`TreeFault::NoGroup`], [`TreeFault::IsRoot`], [`TreeFault::HasChildren`].
+    /// # Errors
+    /// In this order: [`TreeFault::NoGroup`], [`TreeFault::IsRoot`], [`TreeFault::HasChildren`].
     pub fn remove(&mut self, group: Group) -> Result<(), TreeFault>
         ensures { Decides (remove_refusal self.old group) (λ _ new. new ≡ without_group self.old group) self.old result self.new }
     {
@@ -227,9 +228,10 @@ impl Tree {
         Ok(())
     }
 
-    /// Whether a group can be removed, or what stands against it.
+    /// Whether a group can be removed, or why not.
     ///
-    /// Refused, in this order: [`TreeFault::NoGroup`], [`TreeFault::IsRoot`], [`TreeFault::HasChildren`].
+    /// # Errors
+    /// In this order: [`TreeFault::NoGroup`], [`TreeFault::IsRoot`], [`TreeFault::HasChildren`].
     pub fn removable(&self, group: Group) -> Result<(), TreeFault>
         ensures { MatchResult result (λ _. remove_refusal self.now group ≡ None) (λ fault. remove_refusal self.now group ≡ Some fault) }
     {
@@ -256,7 +258,8 @@ impl Tree {
 
     /// Writes the CPUs that a group requests, and brings it and what is below it up to date.
     ///
-    /// Refused, in this order: [`TreeFault::NoGroup`], [`TreeFault::IsRoot`].
+    /// # Errors
+    /// In this order: [`TreeFault::NoGroup`], [`TreeFault::IsRoot`].
     pub fn write_cpus(&mut self, group: Group, cpus: IdSet) -> Result<(), TreeFault>
         ensures { Decides (write_refusal self.old group) (λ _ new. new ≡ with_cpus self.old group cpus) self.old result self.new }
     {
@@ -267,7 +270,8 @@ impl Tree {
 
     /// Writes the memory nodes that a group requests, and brings it and what is below it up to date.
     ///
-    /// Refused, in this order: [`TreeFault::NoGroup`], [`TreeFault::IsRoot`].
+    /// # Errors
+    /// In this order: [`TreeFault::NoGroup`], [`TreeFault::IsRoot`].
     pub fn write_mems(&mut self, group: Group, mems: IdSet) -> Result<(), TreeFault>
         ensures { Decides (write_refusal self.old group) (λ _ new. new ≡ with_mems self.old group mems) self.old result self.new }
     {
@@ -330,43 +334,52 @@ impl Tree {
 
     /// The CPUs that a group requests.
     ///
-    /// Refused: [`TreeFault::NoGroup`].
-    pub fn cpus(&self, group: Group) -> Result<IdSet, TreeFault>
-        ensures { result ≡ read_of self.now group (requested_cpus self.now group) }
+    /// # Errors
+    /// [`TreeFault::NoGroup`].
+    pub fn cpus(&self, group: Group) -> Result<&IdSet, TreeFault>
+        ensures { behind result ≡ read_of self.now group (requested_cpus self.now group) }
     {
-        Ok(self.node(group).ok_or(TreeFault::NoGroup)?.cpus.requested)
+        let kept = self.node(group).ok_or(TreeFault::NoGroup)?;
+        Ok(&kept.shares.cpus.requested)
     }
 
     /// The CPUs that a group has in effect.
     ///
-    /// Refused: [`TreeFault::NoGroup`].
-    pub fn effective_cpus(&self, group: Group) -> Result<IdSet, TreeFault>
-        ensures { result ≡ read_of self.now group (effective_cpus self.now group) }
+    /// # Errors
+    /// [`TreeFault::NoGroup`].
+    pub fn effective_cpus(&self, group: Group) -> Result<&IdSet, TreeFault>
+        ensures { behind result ≡ read_of self.now group (effective_cpus self.now group) }
     {
-        Ok(self.node(group).ok_or(TreeFault::NoGroup)?.cpus.effective)
+        let kept = self.node(group).ok_or(TreeFault::NoGroup)?;
+        Ok(&kept.shares.cpus.effective)
     }
 
     /// The memory nodes that a group requests.
     ///
-    /// Refused: [`TreeFault::NoGroup`].
-    pub fn mems(&self, group: Group) -> Result<IdSet, TreeFault>
-        ensures { result ≡ read_of self.now group (requested_mems self.now group) }
+    /// # Errors
+    /// [`TreeFault::NoGroup`].
+    pub fn mems(&self, group: Group) -> Result<&IdSet, TreeFault>
+        ensures { behind result ≡ read_of self.now group (requested_mems self.now group) }
     {
-        Ok(self.node(group).ok_or(TreeFault::NoGroup)?.mems.requested)
+        let kept = self.node(group).ok_or(TreeFault::NoGroup)?;
+        Ok(&kept.shares.mems.requested)
     }
 
     /// The memory nodes that a group has in effect.
     ///
-    /// Refused: [`TreeFault::NoGroup`].
-    pub fn effective_mems(&self, group: Group) -> Result<IdSet, TreeFault>
-        ensures { result ≡ read_of self.now group (effective_mems self.now group) }
+    /// # Errors
+    /// [`TreeFault::NoGroup`].
+    pub fn effective_mems(&self, group: Group) -> Result<&IdSet, TreeFault>
+        ensures { behind result ≡ read_of self.now group (effective_mems self.now group) }
     {
-        Ok(self.node(group).ok_or(TreeFault::NoGroup)?.mems.effective)
+        let kept = self.node(group).ok_or(TreeFault::NoGroup)?;
+        Ok(&kept.shares.mems.effective)
     }
 
     /// The group's child of this name, if it has one.
     ///
-    /// Refused: [`TreeFault::NoGroup`].
+    /// # Errors
+    /// [`TreeFault::NoGroup`].
     pub fn find(&self, parent: Group, name: &str) -> Result<Option<Group>, TreeFault>
         ensures { result ≡ read_of self.now parent (child_of self.now parent name.now) }
     {

@@ -31,9 +31,21 @@ pub struct Share {
     pub effective: IdSet,
 }
 
+impl Shares {
+    /// The shares of a group that requests nothing.
+    pub fn unrequested(cpus: IdSet, mems: IdSet) -> Shares
+        ensures { result ≡ record { cpus = unrequested cpus; mems = unrequested mems } }
+    {
+        Shares {
+            cpus: Share::unrequested(cpus),
+            mems: Share::unrequested(mems),
+        }
+    }
+}
+
 impl Share {
     /// The share of a group that requests nothing.
-    pub fn unrequested(effective: IdSet) -> Share
+    fn unrequested(effective: IdSet) -> Share
         ensures { result ≡ unrequested effective }
     {
         Share {
@@ -43,14 +55,20 @@ impl Share {
     }
 }
 
-/// What a tree keeps of one group.
+/// A group's share of each resource.
+#[derive(Clone, Copy)]
+pub struct Shares {
+    pub cpus: Share,
+    pub mems: Share,
+}
+
+/// What a tree keeps of one group. Its sets are kept apart, so that a search for a name does not walk past them.
 #[derive(Drop)]
 pub struct Cgroup {
     pub group: Group,
     pub parent: Option<Group>,
     pub name: String,
-    pub cpus: Share,
-    pub mems: Share,
+    pub shares: Box<Shares>,
 }
 
 impl Cgroup {
@@ -66,8 +84,8 @@ impl Cgroup {
         ensures { result.now ≡ share_of resource self.now }
     {
         match resource {
-            Resource::Cpus => &self.cpus,
-            Resource::Mems => &self.mems,
+            Resource::Cpus => &self.shares.cpus,
+            Resource::Mems => &self.shares.mems,
         }
     }
 
@@ -76,8 +94,8 @@ impl Cgroup {
         ensures { self.new ≡ with_requested resource ids self.old }
     {
         match resource {
-            Resource::Cpus => self.cpus.requested = ids,
-            Resource::Mems => self.mems.requested = ids,
+            Resource::Cpus => self.shares.cpus.requested = ids,
+            Resource::Mems => self.shares.mems.requested = ids,
         }
     }
 
@@ -86,8 +104,8 @@ impl Cgroup {
         ensures { self.new ≡ with_effective resource ids self.old }
     {
         match resource {
-            Resource::Cpus => self.cpus.effective = ids,
-            Resource::Mems => self.mems.effective = ids,
+            Resource::Cpus => self.shares.cpus.effective = ids,
+            Resource::Mems => self.shares.mems.effective = ids,
         }
     }
 

@@ -11,8 +11,8 @@ use Rattle.certificate.specs.IsPlan.{Meets}
 use Rattle.certificate.specs.IsShortage.{chosen, asked, offered, IsShortage}
 use Rattle.certificate.specs.AreWithin.{IsRowWithin, LimitsMean}
 use Rattle.transport.specs.Solved.{IsRight, IsDecided, AreTwinsDealt, ArePricesOfClasses}
-use Rattle.transport.specs.declared.answers.Answer.{Answer}
-use Rattle.transport.specs.declared.answers.Answer.TheVariants as answer
+use Rattle.transport.specs.declared.solver.Answer.{Answer}
+use Rattle.transport.specs.declared.solver.Answer.TheVariants as answer
 use Rattle.certificate_text.specs.Written.{CanWrite, CanWriteRow}
 use Rattle.decision.specs.Decides.{Decides, answered}
 use Rattle.certificate_text.specs.CertificateText.{HaveOwnIds, HasShortText}

@@ -10,8 +10,8 @@ use Rattle.certificate.specs.IsProved.{IsProved}
 use Rattle.certificate.specs.IsShortage.{IsShortage, HasNoPlan}
 use Rattle.certificate_text.specs.declared.certificates.Certificate.{Certificate}
 use Rattle.certificate_text.specs.declared.certificates.Certificate.TheVariants.{Plan, Short}
-use Rattle.transport.specs.declared.answers.Answer.{Answer}
-use Rattle.transport.specs.declared.answers.Answer.TheVariants as answer
+use Rattle.transport.specs.declared.solver.Answer.{Answer}
+use Rattle.transport.specs.declared.solver.Answer.TheVariants as answer
 use Rattle.transport.specs.Solved.{IsPricedByClass}
 
 -- a plan of the rows that no plan undercuts, as its values and prices prove, and of twins the lower one to the earlier row;

@@ -4,7 +4,7 @@ ghost use Rattle.certificate_text.specs.CertificateText.{HaveOwnIds};
 ghost use Rattle.certificate_text.specs.Written.{CanWrite, CanWriteRow};
 ghost use Rattle.decision.specs.Decides.{Decides, answered};
 
-use certificate::{Problem, what_is_within_the_limits};
+use certificate::Problem;
 use certificate_text::{Certificate, Members};
 use std::alloc::{AllocError, Global};
 use transport::{Answer, solve};
@@ -23,7 +23,7 @@ pub fn decide(alloc: Global, problem: Problem) -> Result<Certificate, AllocError
     // It can be written as text.
     ensures can { IfOk result CanWrite }
 {
-    what_is_within_the_limits();
+    certificate::laws::what_is_within_the_limits();
     let answer = solve(alloc, &problem)?;
     Ok(answered(problem, answer))
 }

@@ -1,3 +1,4 @@
+pub mod FaultTitle
 pub mod AsksFor
 pub mod Quota
 pub mod Named

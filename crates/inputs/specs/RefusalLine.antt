@@ -1,13 +1,15 @@
 -- The line that a refusal is printed as: `refused`, its number, its name, and each argument after a space.
 use Rattle.std.specs.Prelude.{ℕ, List, [], ◌∷◌, ◌++◌, codes, decimal}
 use Rattle.std.specs.List.{flat_map}
-use Rattle.cpu_list.specs.declared.list_error.ListErrorKind.{ListErrorKind}
-use Rattle.cpu_list.specs.declared.list_error.ListErrorKind.TheVariants.{BadItem, TooLarge, Descending}
+use Rattle.cpu_list.specs.FaultTitle.{list_title}
+use Rattle.machine.specs.FaultTitle.{machine_title}
 use Rattle.machine.specs.FieldName.{name_of}
 use Rattle.machine.specs.declared.fault.MachineFault.{MachineFault}
 use Rattle.machine.specs.declared.fault.MachineFault.TheVariants as machine
+use Rattle.slit.specs.FaultTitle.{slit_title}
 use Rattle.slit.specs.declared.fault.SlitFault.{SlitFault}
 use Rattle.slit.specs.declared.fault.SlitFault.TheVariants.{TooShort, BadSignature, BadCount, BadLength, BadSum, ReservedValue, BadDiagonal}
+use Rattle.certificate.specs.FaultTitle.{check_title}
 use Rattle.certificate.specs.declared.check_faults.CheckFault.{CheckFault}
 use Rattle.certificate.specs.declared.check_faults.CheckFault.TheVariants.{BadProblem, WrongCount, NotAllowed, HeldTwice, ValueTooHigh, Gap, NoShortage}
 use Rattle.inputs.specs.declared.refusal.Arguments.{Arguments}
@@ -26,22 +28,6 @@ word_text word = codes " " ++ word
 abbrev pub arguments_text : List ℕ → List ℕ
 arguments_text numbers = flat_map argument_text numbers
 
--- the number and the name of what is wrong with a list's item
-abbrev pub list_title_of : ListErrorKind → List ℕ
-list_title_of BadItem = codes "E10 BadItem"
-list_title_of TooLarge = codes "E11 TooLarge"
-list_title_of Descending = codes "E12 Descending"
-
--- the number and the name of what is wrong with a distance table
-abbrev pub slit_title_of : SlitFault → List ℕ
-slit_title_of TooShort = codes "E15 TooShort"
-slit_title_of BadSignature = codes "E16 BadSignature"
-slit_title_of BadLength = codes "E17 BadLength"
-slit_title_of BadCount = codes "E18 BadCount"
-slit_title_of BadSum = codes "E19 BadSum"
-slit_title_of (ReservedValue row column) = codes "E20 ReservedValue"
-slit_title_of (BadDiagonal row) = codes "E21 BadDiagonal"
-
 -- where it stands: the row and the column, or the row
 abbrev pub slit_arguments_of : SlitFault → List ℕ
 slit_arguments_of TooShort = []
@@ -51,19 +37,6 @@ slit_arguments_of BadCount = []
 slit_arguments_of BadSum = []
 slit_arguments_of (ReservedValue row column) = row ∷ column ∷ []
 slit_arguments_of (BadDiagonal row) = row ∷ []
-
--- the number and the name of what is wrong with a machine file
-abbrev pub machine_title_of : MachineFault → List ℕ
-machine_title_of machine.NotJson = codes "E25 NotJson"
-machine_title_of (machine.BadField field) = codes "E26 BadField"
-machine_title_of machine.NodeCount = codes "E27 NodeCount"
-machine_title_of (machine.CpuTwice cpu) = codes "E28 CpuTwice"
-machine_title_of machine.BothDistances = codes "E29 BothDistances"
-machine_title_of machine.NoDistances = codes "E30 NoDistances"
-machine_title_of machine.WrongSize = codes "E31 WrongSize"
-machine_title_of (machine.BadDistance row column) = codes "E32 BadDistance"
-machine_title_of machine.BadReserved = codes "E33 BadReserved"
-machine_title_of machine.BadOffline = codes "E34 BadOffline"
 
 -- the member's name, the CPU, or the row and the column
 abbrev pub machine_arguments_of : MachineFault → List ℕ
@@ -78,16 +51,6 @@ machine_arguments_of (machine.BadDistance row column) = arguments_text (row ∷ 
 machine_arguments_of machine.BadReserved = []
 machine_arguments_of machine.BadOffline = []
 
--- the number and the name of what the check found
-abbrev pub check_title_of : CheckFault → List ℕ
-check_title_of BadProblem = codes "E70 BadProblem"
-check_title_of (WrongCount row) = codes "E71 WrongCount"
-check_title_of (NotAllowed row cpu) = codes "E72 NotAllowed"
-check_title_of (HeldTwice cpu) = codes "E73 HeldTwice"
-check_title_of (ValueTooHigh row cpu) = codes "E74 ValueTooHigh"
-check_title_of Gap = codes "E75 Gap"
-check_title_of NoShortage = codes "E76 NoShortage"
-
 -- where the check found it: the row, the CPU, or the row and then the CPU
 abbrev pub check_arguments_of : CheckFault → List ℕ
 check_arguments_of BadProblem = []
@@ -101,10 +64,10 @@ check_arguments_of NoShortage = []
 -- the number and the name of a refusal
 abbrev pub title_of : Refusal → List ℕ
 title_of refusal.Memory = codes "E1 Memory"
-title_of (refusal.List error) = list_title_of error.kind
-title_of (refusal.Slit fault) = slit_title_of fault
-title_of (refusal.Machine fault) = machine_title_of fault
-title_of (refusal.Check fault) = check_title_of fault
+title_of (refusal.List error) = list_title error.kind
+title_of (refusal.Slit fault) = slit_title fault
+title_of (refusal.Machine fault) = machine_title fault
+title_of (refusal.Check fault) = check_title fault
 title_of (refusal.BadText line) = codes "E77 BadText"
 title_of (refusal.ReadFault fault) = codes "E113 ReadFault"
 

@@ -4,8 +4,7 @@ ghost use Rattle.inputs.specs.ErrorLine.{error_line};
 ghost use Rattle.inputs.specs.RefusalLine.{argument_text, word_text};
 ghost use Rattle.byte_output.specs.Output.{Writes};
 
-use byte_output::put_all;
-use itoa::Buffer;
+use byte_output::{put_all, put_number};
 use std::io;
 use std::io::Write;
 
@@ -13,18 +12,14 @@ use std::io::Write;
 pub fn put_number_line<W: Write>(label: &[u8], number: u64, w: &mut W) -> io::Result<()>
     ensures { Writes (W.contents w.old) (W.contents w.new) result (label.now ++ (decimal number ++ codes "\n")) }
 {
-    let mut digits = Buffer::new();
-    let number = digits.format(number).as_bytes();
-    put_all(&[label, number, b"\n".as_slice()], w)
+    put_number(label, number, b"\n", w)
 }
 
 /// Writes a number behind a space.
 pub fn put_argument<W: Write>(number: u64, w: &mut W) -> io::Result<()>
     ensures { Writes (W.contents w.old) (W.contents w.new) result (argument_text number) }
 {
-    let mut digits = Buffer::new();
-    let number = digits.format(number).as_bytes();
-    put_all(&[b" ".as_slice(), number], w)
+    put_number(b" ", number, b"", w)
 }
 
 /// Writes a word behind a space.

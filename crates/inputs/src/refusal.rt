@@ -1,7 +1,7 @@
 ghost use Rattle.std.specs.Prelude.{◌≡◌};
 ghost use Rattle.inputs.specs.FaultRefusal.{machine_refusal, read_refusal, slit_refusal, verdict_refusal};
 ghost use Rattle.inputs.specs.declared.refusal.Refusal.TheVariants.{List};
-ghost use Rattle.inputs.specs.RefusalLine.{arguments_of, arguments_text, check_arguments_of, check_title_of, list_title_of, machine_arguments_of, machine_title_of, slit_arguments_of, slit_title_of, refusal_line, text_of, title_of};
+ghost use Rattle.inputs.specs.RefusalLine.{arguments_of, arguments_text, check_arguments_of, machine_arguments_of, slit_arguments_of, refusal_line, text_of, title_of};
 ghost use Rattle.byte_output.specs.Output.{Writes};
 
 use crate::output::{put_argument, put_word};
@@ -9,7 +9,7 @@ use crate::read_fault::ReadFault;
 use byte_output::{put, put_all};
 use certificate::CheckFault;
 use certificate_text::VerdictFault;
-use cpu_list::{ListError, ListErrorKind};
+use cpu_list::ListError;
 use faults::OrMemory;
 use machine::MachineFault;
 use slit::SlitFault;
@@ -51,10 +51,10 @@ impl Refusal {
     {
         match self {
             Refusal::Memory => "E1 Memory",
-            Refusal::List(error) => list_title(error.kind),
-            Refusal::Slit(fault) => slit_title(fault),
-            Refusal::Machine(fault) => machine_title(fault),
-            Refusal::Check(fault) => check_title(fault),
+            Refusal::List(error) => error.kind.title(),
+            Refusal::Slit(fault) => fault.title(),
+            Refusal::Machine(fault) => fault.title(),
+            Refusal::Check(fault) => fault.title(),
             Refusal::BadText { .. } => "E77 BadText",
             Refusal::ReadFault(_) => "E113 ReadFault",
         }
@@ -103,30 +103,6 @@ impl Arguments {
     }
 }
 
-fn list_title(kind: ListErrorKind) -> &'static str
-    ensures { result.now ≡ list_title_of kind }
-{
-    match kind {
-        ListErrorKind::BadItem => "E10 BadItem",
-        ListErrorKind::TooLarge => "E11 TooLarge",
-        ListErrorKind::Descending => "E12 Descending",
-    }
-}
-
-fn slit_title(fault: SlitFault) -> &'static str
-    ensures { result.now ≡ slit_title_of fault }
-{
-    match fault {
-        SlitFault::TooShort => "E15 TooShort",
-        SlitFault::BadSignature => "E16 BadSignature",
-        SlitFault::BadLength => "E17 BadLength",
-        SlitFault::BadCount => "E18 BadCount",
-        SlitFault::BadSum => "E19 BadSum",
-        SlitFault::ReservedValue(_, _) => "E20 ReservedValue",
-        SlitFault::BadDiagonal(_) => "E21 BadDiagonal",
-    }
-}
-
 fn slit_arguments(fault: SlitFault) -> Arguments
     ensures { text_of result ≡ arguments_text (slit_arguments_of fault) }
 {
@@ -138,23 +114,6 @@ fn slit_arguments(fault: SlitFault) -> Arguments
         | SlitFault::BadLength
         | SlitFault::BadCount
         | SlitFault::BadSum => Arguments::None,
-    }
-}
-
-fn machine_title(fault: MachineFault) -> &'static str
-    ensures { result.now ≡ machine_title_of fault }
-{
-    match fault {
-        MachineFault::NotJson => "E25 NotJson",
-        MachineFault::BadField(_) => "E26 BadField",
-        MachineFault::NodeCount => "E27 NodeCount",
-        MachineFault::CpuTwice(_) => "E28 CpuTwice",
-        MachineFault::BothDistances => "E29 BothDistances",
-        MachineFault::NoDistances => "E30 NoDistances",
-        MachineFault::WrongSize => "E31 WrongSize",
-        MachineFault::BadDistance(_, _) => "E32 BadDistance",
-        MachineFault::BadReserved => "E33 BadReserved",
-        MachineFault::BadOffline => "E34 BadOffline",
     }
 }
 
@@ -172,20 +131,6 @@ fn machine_arguments(fault: MachineFault) -> Arguments
         | MachineFault::WrongSize
         | MachineFault::BadReserved
         | MachineFault::BadOffline => Arguments::None,
-    }
-}
-
-fn check_title(fault: CheckFault) -> &'static str
-    ensures { result.now ≡ check_title_of fault }
-{
-    match fault {
-        CheckFault::BadProblem => "E70 BadProblem",
-        CheckFault::WrongCount { .. } => "E71 WrongCount",
-        CheckFault::NotAllowed { .. } => "E72 NotAllowed",
-        CheckFault::HeldTwice { .. } => "E73 HeldTwice",
-        CheckFault::ValueTooHigh { .. } => "E74 ValueTooHigh",
-        CheckFault::Gap => "E75 Gap",
-        CheckFault::NoShortage => "E76 NoShortage",
     }
 }
 

@@ -13,6 +13,7 @@ pub use Rattle.proctable.specs.TableAnswers
 pub use Rattle.proctable.specs.TableWellFormed
 pub use Rattle.proctable.specs.TableLaws
 pub use Rattle.proctable.specs.TableLemmas
+pub mod FaultTitle
 pub mod Faults
 pub mod KernelState
 pub mod Refusals

@@ -1,4 +1,5 @@
 ghost use Rattle.std.specs.Prelude.{◌≡◌, IfOk, OnErr};
+ghost use Rattle.faults.specs.Calls.{behind};
 ghost use Rattle.kernel_model.specs.Runs.{Step, Run, reply_at_once};
 
 use crate::{Kernel, KernelFault};
@@ -74,23 +75,24 @@ pub fn make_call<K: Kernel>(kernel: &mut K, call: &Call) -> Result<Reply, OrMemo
     }
 }
 
-/// The reply of a call that answers nothing.
+/// The reply of a call that returns nothing.
 fn done(answer: Result<(), KernelFault>) -> Result<Reply, OrMemory<KernelFault>>
     ensures { result ≡ reply_at_once (λ _. Reply.Done) answer }
 {
     answer.map(|_| Reply::Done).map_err(OrMemory::Fault)
 }
 
-/// The reply of a call that answers a set.
-fn ids(answer: Result<IdSet, KernelFault>) -> Result<Reply, OrMemory<KernelFault>>
-    ensures { result ≡ reply_at_once Reply.Ids answer }
+/// The reply of a call that returns a set.
+fn ids(answer: Result<&IdSet, KernelFault>) -> Result<Reply, OrMemory<KernelFault>>
+    ensures { result ≡ reply_at_once Reply.Ids (behind answer.entry) }
 {
-    answer.map(Reply::Ids).map_err(OrMemory::Fault)
+    answer.map(|ids| Reply::Ids(*ids)).map_err(OrMemory::Fault)
 }
 
 /// Makes calls of a kernel, one after another, and keeps what they answered.
 ///
-/// The only error is lack of memory for the answers, before the first call.
+/// # Errors
+/// Lack of memory for the answers, before the first call.
 pub fn make_calls<K: Kernel>(
     alloc: Global,
     kernel: &mut K,

@@ -1,4 +1,5 @@
 ghost use Rattle.std.specs.Prelude.{◌≡◌};
+ghost use Rattle.kernel_model.specs.FaultTitle.{kernel_title};
 ghost use Rattle.kernel_model.specs.Faults.{of_tree, of_tree_error, of_proc, of_proc_error};
 
 use cpuset_tree::TreeFault;
@@ -8,28 +9,49 @@ use proctable::ProcFault;
 /// Why a kernel refuses a call, or that a write failed.
 #[derive(Clone, Copy, Debug, PartialEq, Eq)]
 pub enum KernelFault {
-    /// No group has this key and serial, as after its removal.
+    /// E40: no group has this key and serial, as after its removal.
     NoGroup,
-    /// The parent has a child of that name.
+    /// E41: the parent has a child of that name.
     Exists,
-    /// A group with children can't be removed.
+    /// E42: a group with children can't be removed.
     HasChildren,
-    /// A group with processes can't be removed.
+    /// E43: a group with processes can't be removed.
     HasProcesses,
-    /// The root can't be removed or written.
+    /// E44: the root can't be removed or written.
     IsRoot,
-    /// The last pid was given.
+    /// E45: the last pid was given.
     NoPids,
-    /// No such process is alive.
+    /// E46: no such process is alive.
     NoProcess,
-    /// The next serial would be one that is never given.
+    /// E47: the next serial would be one that is never given.
     NoSerials,
-    /// The write failed.
+    /// E50: the write failed.
     Failed,
-    /// A reserved CPU can't go offline.
+    /// E51: a reserved CPU can't go offline.
     Reserved,
-    /// No such CPU is present.
+    /// E52: no such CPU is present.
     NoCpu,
+}
+
+impl KernelFault {
+    /// The number and the name that a refusal's line has.
+    pub fn title(self) -> &'static str
+        ensures { result.now ≡ kernel_title self }
+    {
+        match self {
+            KernelFault::NoGroup => "E40 NoGroup",
+            KernelFault::Exists => "E41 Exists",
+            KernelFault::HasChildren => "E42 HasChildren",
+            KernelFault::HasProcesses => "E43 HasProcesses",
+            KernelFault::IsRoot => "E44 IsRoot",
+            KernelFault::NoPids => "E45 NoPids",
+            KernelFault::NoProcess => "E46 NoProcess",
+            KernelFault::NoSerials => "E47 NoSerials",
+            KernelFault::Failed => "E50 KernelFault",
+            KernelFault::Reserved => "E51 Reserved",
+            KernelFault::NoCpu => "E52 NoCpu",
+        }
+    }
 }
 
 impl Fault for KernelFault {}

@@ -141,19 +141,19 @@ impl<K: Kernel> Kernel for FusedKernel<K> {
         self.inner.find_group(parent, name)
     }
 
-    fn requested_cpus(&self, group: Group) -> Result<IdSet, KernelFault> {
+    fn requested_cpus(&self, group: Group) -> Result<&IdSet, KernelFault> {
         self.inner.requested_cpus(group)
     }
 
-    fn effective_cpus(&self, group: Group) -> Result<IdSet, KernelFault> {
+    fn effective_cpus(&self, group: Group) -> Result<&IdSet, KernelFault> {
         self.inner.effective_cpus(group)
     }
 
-    fn requested_mems(&self, group: Group) -> Result<IdSet, KernelFault> {
+    fn requested_mems(&self, group: Group) -> Result<&IdSet, KernelFault> {
         self.inner.requested_mems(group)
     }
 
-    fn effective_mems(&self, group: Group) -> Result<IdSet, KernelFault> {
+    fn effective_mems(&self, group: Group) -> Result<&IdSet, KernelFault> {
         self.inner.effective_mems(group)
     }
 

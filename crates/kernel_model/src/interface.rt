@@ -1,4 +1,5 @@
 ghost use Rattle.std.specs.Prelude.{◌≡◌, Some, true};
+ghost use Rattle.faults.specs.Calls.{behind};
 ghost use Rattle.cpuset_tree.specs.Groups.{root_of, has_group, child_of, requested_cpus, requested_mems};
 ghost use Rattle.cpuset_tree.specs.Effective.{effective_cpus, effective_mems};
 ghost use Rattle.proctable.specs.Processes.{is_alive};
@@ -17,45 +18,51 @@ use faults::OrMemory;
 /// online CPUs, the memory nodes, the live processes with their groups and first processes, the next pid and the next
 /// serial, how many writes failed, and how many were made. Each call is one case of it.
 ///
-/// Each of the calls from `make_group` to `end_group` is a write: it is counted, whatever it answers, and may answer
-/// [`KernelFault::Failed`] in place of any other answer, which is counted as a failure too and changes nothing else. No
+/// Each of the calls from `make_group` to `end_group` is a write: it is counted, whatever it returns, and may return
+/// [`KernelFault::Failed`] in place of anything else, which is counted as a failure too and changes nothing else. No
 /// other call is counted.
 pub trait Kernel {
     ghost state: { Self → KernelState };
 
     /// Makes a group below the parent, which requests nothing.
     ///
-    /// Refused, in this order: `NoGroup`, `Exists`, `NoSerials`.
+    /// # Errors
+    /// In this order: `NoGroup`, `Exists`, `NoSerials`.
     fn make_group(&mut self, parent: Group, name: &str) -> Result<Group, OrMemory<KernelFault>>
         ensures { MakesGroup (state self.old) parent name.now result (state self.new) };
 
     /// Removes a group.
     ///
-    /// Refused, in this order: `NoGroup`, `IsRoot`, `HasChildren`, `HasProcesses`.
+    /// # Errors
+    /// In this order: `NoGroup`, `IsRoot`, `HasChildren`, `HasProcesses`.
     fn remove_group(&mut self, group: Group) -> Result<(), KernelFault>
         ensures { RemovesGroup (state self.old) group result (state self.new) };
 
     /// Writes the CPUs that a group requests.
     ///
-    /// Refused, in this order: `NoGroup`, `IsRoot`.
+    /// # Errors
+    /// In this order: `NoGroup`, `IsRoot`.
     fn write_cpus(&mut self, group: Group, cpus: IdSet) -> Result<(), KernelFault>
         ensures { WritesCpus (state self.old) group cpus result (state self.new) };
 
     /// Writes the memory nodes that a group requests.
     ///
-    /// Refused, in this order: `NoGroup`, `IsRoot`.
+    /// # Errors
+    /// In this order: `NoGroup`, `IsRoot`.
     fn write_mems(&mut self, group: Group, mems: IdSet) -> Result<(), KernelFault>
         ensures { WritesMems (state self.old) group mems result (state self.new) };
 
     /// Makes a first process in a group.
     ///
-    /// Refused, in this order: `NoGroup`, `NoPids`.
+    /// # Errors
+    /// In this order: `NoGroup`, `NoPids`.
     fn spawn(&mut self, group: Group) -> Result<u32, OrMemory<KernelFault>>
         ensures { Spawns (state self.old) group result (state self.new) };
 
     /// Ends all processes of a group.
     ///
-    /// Refused: `NoGroup`.
+    /// # Errors
+    /// `NoGroup`.
     fn end_group(&mut self, group: Group) -> Result<(), KernelFault>
         ensures { EndsGroup (state self.old) group result (state self.new) };
 
@@ -68,33 +75,38 @@ pub trait Kernel {
 
     /// The group's child of this name, if it has one.
     ///
-    /// Refused: `NoGroup`.
+    /// # Errors
+    /// `NoGroup`.
     fn find_group(&self, parent: Group, name: &str) -> Result<Option<Group>, KernelFault>
         ensures { result ≡ read_of (state self.now) parent (child_of (state self.now).tree parent name.now) };
 
     /// The CPUs that a group requests.
     ///
-    /// Refused: `NoGroup`.
-    fn requested_cpus(&self, group: Group) -> Result<IdSet, KernelFault>
-        ensures { result ≡ read_of (state self.now) group (requested_cpus (state self.now).tree group) };
+    /// # Errors
+    /// `NoGroup`.
+    fn requested_cpus(&self, group: Group) -> Result<&IdSet, KernelFault>
+        ensures { behind result ≡ read_of (state self.now) group (requested_cpus (state self.now).tree group) };
 
     /// The CPUs that a group has in effect.
     ///
-    /// Refused: `NoGroup`.
-    fn effective_cpus(&self, group: Group) -> Result<IdSet, KernelFault>
-        ensures { result ≡ read_of (state self.now) group (effective_cpus (state self.now).tree group) };
+    /// # Errors
+    /// `NoGroup`.
+    fn effective_cpus(&self, group: Group) -> Result<&IdSet, KernelFault>
+        ensures { behind result ≡ read_of (state self.now) group (effective_cpus (state self.now).tree group) };
 
     /// The memory nodes that a group requests.
     ///
-    /// Refused: `NoGroup`.
-    fn requested_mems(&self, group: Group) -> Result<IdSet, KernelFault>
-        ensures { result ≡ read_of (state self.now) group (requested_mems (state self.now).tree group) };
+    /// # Errors
+    /// `NoGroup`.
+    fn requested_mems(&self, group: Group) -> Result<&IdSet, KernelFault>
+        ensures { behind result ≡ read_of (state self.now) group (requested_mems (state self.now).tree group) };
 
     /// The memory nodes that a group has in effect.
     ///
-    /// Refused: `NoGroup`.
-    fn effective_mems(&self, group: Group) -> Result<IdSet, KernelFault>
-        ensures { result ≡ read_of (state self.now) group (effective_mems (state self.now).tree group) };
+    /// # Errors
+    /// `NoGroup`.
+    fn effective_mems(&self, group: Group) -> Result<&IdSet, KernelFault>
+        ensures { behind result ≡ read_of (state self.now) group (effective_mems (state self.now).tree group) };
 
     /// The CPUs that are online.
     fn online(&self) -> IdSet
@@ -110,33 +122,37 @@ pub trait Kernel {
 
     /// A process forks: the new one is in its group and belongs to its first process.
     ///
-    /// Refused, in this order: `NoProcess`, `NoPids`.
+    /// # Errors
+    /// In this order: `NoProcess`, `NoPids`.
     fn fork(&mut self, parent: u32) -> Result<u32, OrMemory<KernelFault>>
         ensures { Forks (state self.old) parent result (state self.new) };
 
     /// A process ends, and all that belong to it if it is a first one.
     ///
-    /// Refused: `NoProcess`.
+    /// # Errors
+    /// `NoProcess`.
     fn exit(&mut self, pid: u32) -> Result<(), KernelFault>
         ensures { Exits (state self.old) pid result (state self.new) };
 
     /// A CPU goes offline, or stays so.
     ///
-    /// Refused, in this order: `NoCpu`, `Reserved`.
+    /// # Errors
+    /// In this order: `NoCpu`, `Reserved`.
     fn offline(&mut self, cpu: u32) -> Result<(), KernelFault>
         ensures { GoesOffline (state self.old) cpu result (state self.new) };
 
     /// A CPU comes online, or stays so.
     ///
-    /// Refused: `NoCpu`.
+    /// # Errors
+    /// `NoCpu`.
     fn online_cpu(&mut self, cpu: u32) -> Result<(), KernelFault>
         ensures { ComesOnline (state self.old) cpu result (state self.new) };
 }
 
 /// The CPUs that a group requests, where the caller knows that it is in the tree.
-pub fn requested<K: Kernel>(kernel: &K, group: Group) -> IdSet
+pub fn requested<K: Kernel>(kernel: &K, group: Group) -> &IdSet
     requires { has_group (K.state kernel.now).tree group ≡ true }
-    ensures { result ≡ requested_cpus (K.state kernel.now).tree group }
+    ensures { result.now ≡ requested_cpus (K.state kernel.now).tree group }
 {
     match kernel.requested_cpus(group) {
         Ok(cpus) => cpus,

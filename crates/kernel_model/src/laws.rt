@@ -5,7 +5,7 @@ ghost use Rattle.kernel_model.specs.Names.{FirstHasOwnNames, StepsKeepNames, Run
 
 use crate::LAST_PID;
 
-/// What each call leaves of groups and processes, and that each write is counted, whatever it answers; nothing runs.
+/// What each call leaves of groups and processes, and that each write is counted, whatever it returns; nothing runs.
 pub fn cases()
     ensures events { EventsKeepGroups }
     ensures writes { WritesKeepProcesses }
@@ -16,7 +16,7 @@ pub fn cases()
     ensures each { CountsEachWrite }
 {}
 
-/// When nothing stands against a call, and what does where it is refused; nothing runs.
+/// When a call is not refused, and why it is where it is; nothing runs.
 pub fn refusals()
     ensures free { CallsAreFree }
     ensures causes { RefusalsHaveCauses }

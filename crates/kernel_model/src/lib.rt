@@ -1,5 +1,5 @@
 //! The modelled kernel: groups, processes and CPUs in memory, and the trait [`Kernel`] that says what each call of a
-//! kernel answers and changes.
+//! kernel returns and changes.
 #![tactic(auto)]
 
 mod call;

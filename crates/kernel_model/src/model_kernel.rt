@@ -55,7 +55,8 @@ impl Model for ModelKernel {
 impl ModelKernel {
     /// A kernel with its root group alone and no process, whose first process gets this pid.
     ///
-    /// The only error is lack of memory.
+    /// # Errors
+    /// Lack of memory.
     pub fn new(
         alloc: Global,
         present: IdSet,
@@ -151,19 +152,19 @@ impl Kernel for ModelKernel {
         Ok(self.tree.find(parent, name)?)
     }
 
-    fn requested_cpus(&self, group: Group) -> Result<IdSet, KernelFault> {
+    fn requested_cpus(&self, group: Group) -> Result<&IdSet, KernelFault> {
         Ok(self.tree.cpus(group)?)
     }
 
-    fn effective_cpus(&self, group: Group) -> Result<IdSet, KernelFault> {
+    fn effective_cpus(&self, group: Group) -> Result<&IdSet, KernelFault> {
         Ok(self.tree.effective_cpus(group)?)
     }
 
-    fn requested_mems(&self, group: Group) -> Result<IdSet, KernelFault> {
+    fn requested_mems(&self, group: Group) -> Result<&IdSet, KernelFault> {
         Ok(self.tree.mems(group)?)
     }
 
-    fn effective_mems(&self, group: Group) -> Result<IdSet, KernelFault> {
+    fn effective_mems(&self, group: Group) -> Result<&IdSet, KernelFault> {
         Ok(self.tree.effective_mems(group)?)
     }
 

@@ -1,3 +1,4 @@
+pub mod FaultTitle
 pub mod Layout
 pub mod Present
 pub mod Nodes

@@ -1,3 +1,6 @@
+ghost use Rattle.std.specs.Prelude.{◌≡◌};
+ghost use Rattle.machine.specs.FaultTitle.{machine_title};
+
 use crate::field::Field;
 use faults::Fault;
 
@@ -5,26 +8,46 @@ use faults::Fault;
 /// causes are looked for.
 #[derive(Clone, Copy, Debug, PartialEq, Eq)]
 pub enum MachineFault {
-    /// The text has more than [`MAX_BYTES`](crate::MAX_BYTES) bytes, is not JSON, or is no object.
+    /// E25: the text has more than [`MAX_BYTES`](crate::MAX_BYTES) bytes, is not JSON, or is no object.
     NotJson,
-    /// A member that has to be there is absent, is of another kind, or is no list of CPUs.
+    /// E26: a member that has to be there is absent, is of another kind, or is no list of CPUs.
     BadField(Field),
-    /// There is no node, or more than [`NODE_LIMIT`](crate::NODE_LIMIT).
+    /// E27: there is no node, or more than [`NODE_LIMIT`](crate::NODE_LIMIT).
     NodeCount,
-    /// The least CPU of a node that an earlier node has too.
+    /// E28: the least CPU of a node that an earlier node has too.
     CpuTwice(u16),
-    /// There are distances in the text, and a SLIT.
+    /// E29: there are distances in the text, and a SLIT.
     BothDistances,
-    /// There are neither.
+    /// E30: there are neither.
     NoDistances,
-    /// There are not as many rows, columns or localities as nodes.
+    /// E31: there are not as many rows, columns or localities as nodes.
     WrongSize,
-    /// The entry in this row and column is 0 to 9, above 255, or on the diagonal and not 10.
+    /// E32: the entry in this row and column is 0 to 9, above 255, or on the diagonal and not 10.
     BadDistance(usize, usize),
-    /// No CPU is reserved, or one that is not present.
+    /// E33: no CPU is reserved, or one that is not present.
     BadReserved,
-    /// A CPU is offline that is not present, or that is reserved.
+    /// E34: a CPU is offline that is not present, or that is reserved.
     BadOffline,
+}
+
+impl MachineFault {
+    /// The number and the name that a refusal's line has.
+    pub fn title(self) -> &'static str
+        ensures { result.now ≡ machine_title self }
+    {
+        match self {
+            MachineFault::NotJson => "E25 NotJson",
+            MachineFault::BadField(_) => "E26 BadField",
+            MachineFault::NodeCount => "E27 NodeCount",
+            MachineFault::CpuTwice(_) => "E28 CpuTwice",
+            MachineFault::BothDistances => "E29 BothDistances",
+            MachineFault::NoDistances => "E30 NoDistances",
+            MachineFault::WrongSize => "E31 WrongSize",
+            MachineFault::BadDistance(_, _) => "E32 BadDistance",
+            MachineFault::BadReserved => "E33 BadReserved",
+            MachineFault::BadOffline => "E34 BadOffline",
+        }
+    }
 }
 
 impl Fault for MachineFault {}

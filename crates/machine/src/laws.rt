@@ -11,8 +11,8 @@ pub fn sound_machines_are_read()
     ensures { SoundIsRead }
 {}
 
-/// A machine has at most 64 nodes, and a machine file at most 1,048,576 bytes.
+/// A machine has at most 128 nodes, and a machine file at most 1,048,576 bytes.
 pub fn the_limits()
-    ensures nodes { NODE_LIMIT ≡ 64 }
+    ensures nodes { NODE_LIMIT ≡ 128 }
     ensures bytes { MAX_BYTES ≡ 1_048_576 }
 {}

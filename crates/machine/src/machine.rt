@@ -72,7 +72,7 @@ impl Machine {
     /// `nodes` has a list of CPUs as text for each node, node 0 first; an empty text is a node without
     /// CPUs. `distances` has a row of whole numbers for each node; it is absent where a SLIT is given.
     /// `reserved` is a list as text, and so is `offline`, which may be absent. A member that is null
-    /// counts as absent, of one that stands twice the last counts, and all others are ignored.
+    /// counts as absent, of one that is given twice the last counts, and all others are ignored.
     ///
     /// # Errors
     ///

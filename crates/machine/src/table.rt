@@ -21,7 +21,7 @@ use slit::Slit;
 /// As many entries as there may be.
 const ENTRY_LIMIT: usize = NODE_LIMIT * NODE_LIMIT;
 
-/// The distances between so many nodes by rows, from one of the two places where they may stand.
+/// The distances between so many nodes by rows, from one of the two places where they may be given.
 #[tactic(auto, unfolding(crate::specs::DistancesFault::distances_fault))]
 pub(crate) fn read_distances(
     found: Option<&Value>,

@@ -1,3 +1,4 @@
+pub mod FaultTitle
 pub mod NodeState
 pub mod Status
 pub mod Owners

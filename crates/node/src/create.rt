@@ -60,7 +60,7 @@ fn read_config(
     wanted(Config::read(alloc, config), machine)
 }
 
-/// What `create` answers where the kernel refuses.
+/// What `create` returns where the kernel refuses.
 fn late_answer(error: OrMemory<KernelFault>) -> OrMemory<NodeFault>
     ensures { result ≡ late_answer error }
 {
@@ -91,7 +91,7 @@ impl<K: Kernel + Drop> Node<K> {
     }
 
     /// Creates a container.
-    fn try_create(
+    fn create_body(
         &mut self,
         id: &str,
         bundle: &str,
@@ -128,7 +128,7 @@ impl<K: Kernel + Drop> Node<K> {
     }
 
     /// Creates a container of a bundle with this config: its group on the reserved CPUs and its homes, and in it its
-    /// first process, whose pid is the answer.
+    /// first process, whose pid is returned.
     ///
     /// # Errors
     /// In this order: `Busy`, `BadId`, `IdInUse`, `TooManyContainers`, `Config`, `Demand`; and then of the kernel
@@ -150,6 +150,6 @@ impl<K: Kernel + Drop> Node<K> {
         ensures late { (fault : KernelFault) → result ≡ Err (Fault (Kernel fault)) → LateCause self.old id.now fault self.new }
     {
         self.holds();
-        self.try_create(id, bundle, config)
+        self.create_body(id, bundle, config)
     }
 }

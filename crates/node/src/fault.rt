@@ -1,3 +1,6 @@
+ghost use Rattle.std.specs.Prelude.{◌≡◌};
+ghost use Rattle.node.specs.FaultTitle.{node_title};
+
 use config_json::ConfigFault;
 use demand::DemandFault;
 use faults::Fault;
@@ -6,29 +9,29 @@ use kernel_model::KernelFault;
 /// Why a node refuses a call, or that a write of the kernel failed in it.
 #[derive(Clone, Copy, Debug, PartialEq, Eq)]
 pub enum NodeFault {
-    /// A hand-over is open.
+    /// E90: a hand-over is open.
     Busy,
-    /// The id is not 1 to 64 ASCII letters, digits, `_`, `-`, `.` and `+`, or it is `.` or `..`.
+    /// E91: the id is not 1 to 64 ASCII letters, digits, `_`, `-`, `.` and `+`, or it is `.` or `..`.
     BadId,
-    /// A container has the id.
+    /// E92: a container has the id.
     IdInUse,
-    /// There are as many containers as there may be.
+    /// E93: there are as many containers as there may be.
     TooManyContainers,
-    /// No container has the id.
+    /// E94: no container has the id.
     NoContainer,
-    /// The container is not `created`.
+    /// E95: the container is not `created`.
     NotCreated,
-    /// The container's config names nothing to run.
+    /// E96: the container's config names nothing to run.
     NotRunnable,
-    /// The signal is none of those that end a process.
+    /// E97: the signal is none of those that end a process.
     BadSignal,
-    /// The container is neither `created` nor `running`.
+    /// E98: the container is neither `created` nor `running`.
     NotLive,
-    /// The container is not `stopped`.
+    /// E99: the container is not `stopped`.
     NotStopped,
-    /// No hand-over is open.
+    /// E100: no hand-over is open.
     NoHandover,
-    /// No plan and no shortage was worked out yet.
+    /// E101: no plan and no shortage was worked out yet.
     NoAnswer,
     /// The container's config can't be read.
     Config(ConfigFault),
@@ -36,6 +39,31 @@ pub enum NodeFault {
     Demand(DemandFault),
     /// The kernel has no pid or no serial left, or a write of it failed.
     Kernel(KernelFault),
+}
+
+impl NodeFault {
+    /// The number and the name that a refusal's line has.
+    pub fn title(self) -> &'static str
+        ensures { result.now ≡ node_title self }
+    {
+        match self {
+            NodeFault::Busy => "E90 Busy",
+            NodeFault::BadId => "E91 BadId",
+            NodeFault::IdInUse => "E92 IdInUse",
+            NodeFault::TooManyContainers => "E93 TooManyContainers",
+            NodeFault::NoContainer => "E94 NoContainer",
+            NodeFault::NotCreated => "E95 NotCreated",
+            NodeFault::NotRunnable => "E96 NotRunnable",
+            NodeFault::BadSignal => "E97 BadSignal",
+            NodeFault::NotLive => "E98 NotLive",
+            NodeFault::NotStopped => "E99 NotStopped",
+            NodeFault::NoHandover => "E100 NoHandover",
+            NodeFault::NoAnswer => "E101 NoAnswer",
+            NodeFault::Config(fault) => fault.title(),
+            NodeFault::Demand(fault) => fault.title(),
+            NodeFault::Kernel(fault) => fault.title(),
+        }
+    }
 }
 
 impl Fault for NodeFault {}

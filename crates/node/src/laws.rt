@@ -10,12 +10,10 @@ ghost use Rattle.node.specs.Served.{RunsServeConfigs};
 ghost use Rattle.node.specs.UnusedLemmas.{FirstIsUnused, FirstIsOfMachine, FirstWantsMemory};
 
 use crate::{CONTAINER_LIMIT, GROUP_NAME};
-use apply_plan::laws::{effects, steps};
 use certificate_text::written_texts_are_read;
-use rows::rows_weigh;
 
 /// Which kernels a node can be made over: those of which nothing was asked yet, and which have the machine's CPUs and nodes.
-/// Where no write of such a kernel fails, lack of memory is all that can stand against a node over it.
+/// Where no write of such a kernel fails, lack of memory is the only error of making a node over it.
 pub fn first_kernels()
     ensures unused { FirstIsUnused }
     ensures machine { FirstIsOfMachine }
@@ -42,24 +40,24 @@ pub fn runs()
     ensures single { RebalancesAreSteps }
     ensures said { ContainersAreSaid }
 {
-    rows_weigh();
-    steps();
-    effects();
+    rows::laws::rows_weigh();
+    apply_plan::laws::steps();
+    apply_plan::laws::effects();
 }
 
 /// How long a hand-over lasts that is stepped, whatever calls and events fall between its steps: nothing runs.
 ///
-/// It stays open while they answer that more are to come, and it ends within two steps for each of its containers; one that
+/// It stays open while they return that more are to come, and it ends within two steps for each of its containers; one that
 /// has none ends with its first step.
 pub fn each_handover()
     ensures { HandoversEnd }
 {
-    rows_weigh();
-    steps();
+    rows::laws::rows_weigh();
+    apply_plan::laws::steps();
     apply_plan::laws::runs();
 }
 
-/// The kernel in the midst of `create`, whatever that answers: nothing runs.
+/// The kernel in the midst of `create`, whatever that returns: nothing runs.
 ///
 /// From the kernel before it to the one that it leaves there are single calls alone, and after each of them no CPU but
 /// reserved ones is requested for a live pinned container and for another live one, and each live one requests some.
@@ -79,9 +77,9 @@ pub fn each_create()
 pub fn each_rebalance()
     ensures { RunsRebalance }
 {
-    rows_weigh();
-    steps();
-    effects();
+    rows::laws::rows_weigh();
+    apply_plan::laws::steps();
+    apply_plan::laws::effects();
 }
 
 /// What a plan gives to the container of a config, after any list of calls and events from a node of no container on; nothing
@@ -92,9 +90,9 @@ pub fn each_rebalance()
 pub fn what_configs_get()
     ensures { RunsServeConfigs }
 {
-    rows_weigh();
-    steps();
-    effects();
+    rows::laws::rows_weigh();
+    apply_plan::laws::steps();
+    apply_plan::laws::effects();
 }
 
 /// Whose the rows of a node's problem are: each is a live pinned container's, in their order, so that a shortage of the
@@ -103,7 +101,7 @@ pub fn whose_rows()
     ensures rows { RowsAreAsking }
     ensures short { ShortStands }
 {
-    rows_weigh();
+    rows::laws::rows_weigh();
 }
 
 /// The text of what a node worked out last proves its verdict to whoever checks it; after a rebalance that is the total that
@@ -116,8 +114,8 @@ pub fn certificates_prove()
     written_texts_are_read();
 }
 
-/// There are at most 256 containers, and the group below which they have theirs is `numarun`.
+/// There are at most 1,024 containers, and the group below which they have theirs is `numarun`.
 pub fn the_limits()
-    ensures containers { CONTAINER_LIMIT ≡ 256 }
+    ensures containers { CONTAINER_LIMIT ≡ 1_024 }
     ensures name { GROUP_NAME.now ≡ codes "numarun" }
 {}

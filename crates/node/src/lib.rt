@@ -31,4 +31,4 @@ pub use phase::Phase;
 pub use reads::Sets;
 
 /// How many containers there may be, stopped ones included.
-pub const CONTAINER_LIMIT: usize = 256;
+pub const CONTAINER_LIMIT: usize = 1_024;

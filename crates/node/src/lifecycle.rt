@@ -51,7 +51,7 @@ impl<K: Kernel + Drop> Node<K> {
     }
 
     /// Ends all processes of a container.
-    fn try_kill(&mut self, id: &str, signal: &str) -> Result<(), NodeFault>
+    fn kill_body(&mut self, id: &str, signal: &str) -> Result<(), NodeFault>
         ensures { Kills self.old id.now signal.now result self.new }
     {
         if !is_ending(signal) {
@@ -70,7 +70,7 @@ impl<K: Kernel + Drop> Node<K> {
     }
 
     /// Removes a stopped container and its group.
-    fn try_delete(&mut self, id: &str) -> Result<(), NodeFault>
+    fn delete_body(&mut self, id: &str) -> Result<(), NodeFault>
         ensures { Deletes self.old id.now result self.new }
     {
         if self.phase.is_underway() {
@@ -99,7 +99,7 @@ impl<K: Kernel + Drop> Node<K> {
         // One writing call of the kernel, or none where the refusal is the node's own.
         ensures made { self.new.kernel.writes ≡ self.old.kernel.writes + one_write result }
     {
-        self.try_kill(id, signal)
+        self.kill_body(id, signal)
     }
 
     /// Removes a stopped container and its group.
@@ -112,6 +112,6 @@ impl<K: Kernel + Drop> Node<K> {
         // One writing call of the kernel, or none where the refusal is the node's own.
         ensures made { self.new.kernel.writes ≡ self.old.kernel.writes + one_write result }
     {
-        self.try_delete(id)
+        self.delete_body(id)
     }
 }

@@ -20,6 +20,10 @@ use std::marker::Model;
 pub const GROUP_NAME: &str = "numarun";
 
 /// The containers of one machine, over a kernel that nobody else writes.
+///
+/// A container is found by its id in O(1) expected steps. Of c containers and p live processes `create`, `kill` and
+/// `delete` take O(c + p) steps and `step` O(c log p), as the modelled kernel's calls do; `rebalance` and `begin` take
+/// those of the rows, of [`decision::decide`] and of the hand-over.
 #[derive(Drop)]
 pub struct Node<K: Kernel + Drop> {
     pub(crate) alloc: Global,
@@ -143,7 +147,7 @@ impl<K: Kernel + Drop> Node<K> {
         self.pool
     }
 
-    /// How the last hand-over stands.
+    /// How far the last hand-over has come.
     pub fn phase(&self) -> Phase
         ensures { result ≡ self.now.phase }
     {

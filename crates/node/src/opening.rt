@@ -16,7 +16,6 @@ use cpu_set::IdSet;
 use demand::Kind;
 use indexmap::IndexMap;
 use kernel_model::{Kernel, requested};
-use rows::rows_weigh;
 use std::alloc::{AllocError, Global};
 use std::slice::Iter;
 
@@ -95,7 +94,7 @@ fn found_of<K: Kernel>(
 {
     let mut found = Vec::with_capacity(alloc, entries.len())?;
     for entry in entries {
-        found.push(requested(kernel, entry.group))?;
+        found.push(*requested(kernel, entry.group))?;
     }
     Ok(found)
 }
@@ -115,7 +114,7 @@ impl<K: Kernel + Drop> Node<K> {
         ensures ongoing { IfOk result (λ p. seen_ongoing p.1 ≡ opened self.now sets.now) }
         ensures stands { IfOk result (λ p. IsOngoing self.now.kernel (owners_of self.now.containers) (seen_ongoing p.1)) }
     {
-        rows_weigh();
+        rows::laws::rows_weigh();
         let pool = pool_of(&self.kernel.online(), sets);
         let entries = entries_in(self.alloc, &self.kernel, &self.containers, sets, &pool)?;
         let found = found_of(self.alloc, &self.kernel, &entries)?;

@@ -1,6 +1,6 @@
 ghost use Rattle.std.specs.Prelude.{◌≡◌};
 
-/// How the last hand-over from one plan to the next stands.
+/// How far the last hand-over from one plan to the next has come.
 #[derive(Clone, Copy, Debug, PartialEq, Eq)]
 pub enum Phase {
     /// It ended, or there was none.

@@ -17,14 +17,13 @@ ghost use Rattle.node.specs.Rebalance.{Begins, Finishes, Rebalances, WorksOut, I
 
 use crate::ongoing::Ongoing;
 use crate::{Node, NodeFault, Outcome, Phase};
-use apply_plan::laws::{effects, runs, steps};
+use apply_plan::laws;
 use certificate::{Problem, check_shortage, offered_to};
 use certificate_text::Certificate;
 use cpu_set::IdSet;
 use decision::decide;
 use faults::OrMemory;
 use kernel_model::{Kernel, KernelFault};
-use rows::rows_weigh;
 use std::alloc::AllocError;
 
 /// How many CPUs the members of a shortage ask for together, and those that one of them may get.
@@ -104,7 +103,7 @@ impl<K: Kernel + Drop> Node<K> {
         requires { is_underway self.old.phase ≡ true }
         ensures { Finishes self.old result self.new }
     {
-        steps();
+        laws::steps();
         let Some(mut ongoing) = self.ongoing.take() else {
             unreachable!()
         };
@@ -121,7 +120,7 @@ impl<K: Kernel + Drop> Node<K> {
     }
 
     /// Works out a plan and makes all writes of its hand-over.
-    fn move_all(&mut self) -> Result<Outcome, OrMemory<NodeFault>>
+    fn rebalance_body(&mut self) -> Result<Outcome, OrMemory<NodeFault>>
         ensures { Rebalances self.old result self.new }
     {
         let outcome = match self.begin() {
@@ -153,12 +152,12 @@ impl<K: Kernel + Drop> Node<K> {
         // Exactly the writing calls that the hand-over to what is in effect after it had to come.
         ensures made { RebalanceWrites self.old result self.new }
     {
-        rows_weigh();
-        steps();
-        effects();
-        runs();
+        rows::laws::rows_weigh();
+        laws::steps();
+        laws::effects();
+        laws::runs();
         self.holds();
-        self.move_all()
+        self.rebalance_body()
     }
 
     /// The certificate of the last plan or shortage that was worked out: it can be written as text, and its own check

@@ -11,7 +11,7 @@ use kernel_model::Kernel;
 
 impl<K: Kernel + Drop> Node<K> {
     /// Makes the write that is due.
-    fn advance(&mut self) -> Result<Progress, NodeFault>
+    fn step_body(&mut self) -> Result<Progress, NodeFault>
         ensures steps { StepsOn self.old result self.new }
         ensures few { (o : Ongoing) → self.old.ongoing ≡ Some o → writes_to_come o.targets self.old.kernel ≤ 2 * length o.targets.entries }
     {
@@ -57,6 +57,6 @@ impl<K: Kernel + Drop> Node<K> {
     {
         apply_plan::laws::steps();
         self.holds();
-        self.advance()
+        self.step_body()
     }
 }

@@ -24,6 +24,9 @@ pub struct Process {
 }
 
 /// The live processes. Their pids rise and are never used again.
+///
+/// Of p live processes `alive` and `group_of` take O(log p) steps, `spawn` and `fork` those of a search and a push, and
+/// `count_in`, `exit` and `end_in` O(p).
 #[derive(Drop)]
 pub struct ProcTable {
     live: Vec<Process>,
@@ -67,7 +70,7 @@ impl ProcTable {
         let _ = &self.live;
     }
 
-    /// The place of a pid among those of the live processes, which rise, or where it would stand.
+    /// The place of a pid among those of the live processes, which rise, or where it would be.
     fn search(&self, pid: u32) -> Result<usize, usize>
         ensures found { IfOk result (IsAt self.now.live pid) }
         ensures absent { IfErr result (λ _. process_of self.now pid ≡ None) }
@@ -110,7 +113,8 @@ impl ProcTable {
 
     /// Makes a first process in a group.
     ///
-    /// Refused: [`ProcFault::NoPids`].
+    /// # Errors
+    /// [`ProcFault::NoPids`].
     pub fn spawn(&mut self, group: Group) -> Result<u32, OrMemory<ProcFault>>
         ensures { Spawns self.old group result self.new }
     {
@@ -122,7 +126,8 @@ impl ProcTable {
 
     /// Makes a process in its parent's group, which belongs to its parent's first process.
     ///
-    /// Refused, in this order: [`ProcFault::NoProcess`], [`ProcFault::NoPids`].
+    /// # Errors
+    /// In this order: [`ProcFault::NoProcess`], [`ProcFault::NoPids`].
     pub fn fork(&mut self, parent: u32) -> Result<u32, OrMemory<ProcFault>>
         ensures { Forks self.old parent result self.new }
     {
@@ -149,7 +154,8 @@ impl ProcTable {
 
     /// Ends a process, and all that belong to it if it is a first one.
     ///
-    /// Refused: [`ProcFault::NoProcess`].
+    /// # Errors
+    /// [`ProcFault::NoProcess`].
     pub fn exit(&mut self, pid: u32) -> Result<(), ProcFault>
         ensures { Decides (exit_refusal self.old pid) (λ _ new. new ≡ exited self.old pid) self.old result self.new }
     {

@@ -5,10 +5,9 @@
 
 mod cache;
 mod chains;
-mod laws;
+pub mod laws;
 mod offers;
 mod row;
 
 pub use cache::CachedOffers;
-pub use laws::rows_weigh;
 pub use row::row_of;

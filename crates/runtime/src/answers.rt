@@ -5,10 +5,9 @@ ghost use Rattle.node.specs.Listed.{listed};
 ghost use Rattle.runtime.specs.AnswerTexts.{both_text, done_line, listing_text, phase_line, pid_line, set_text, sets_line};
 ghost use Rattle.runtime.specs.Answered.{state_line};
 
-use byte_output::{put, put_all};
+use byte_output::{put, put_all, put_number};
 use cpu_list::write_list;
 use cpu_set::IdSet;
-use itoa::Buffer;
 use kernel_model::Kernel;
 use node::{Node, Phase, Sets};
 use std::io;
@@ -23,9 +22,7 @@ pub fn put_done<W: Write>(w: &mut W) -> io::Result<()>
 pub fn put_pid<W: Write>(pid: u32, w: &mut W) -> io::Result<()>
     ensures { Writes (W.contents w.old) (W.contents w.new) result (pid_line pid) }
 {
-    let mut digits = Buffer::new();
-    let number = digits.format(pid).as_bytes();
-    put_all(&[b"pid ".as_slice(), number, b"\n".as_slice()], w)
+    put_number(b"pid ", u64::from(pid), b"\n", w)
 }
 
 pub fn put_state<W: Write>(text: &String, w: &mut W) -> io::Result<()>

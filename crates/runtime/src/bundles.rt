@@ -11,7 +11,8 @@ pub trait Bundles {
 
     /// The bytes of the bundle's config, or none where there is no such bundle or its config can't be read.
     ///
-    /// The only error is want of memory.
+    /// # Errors
+    /// Lack of memory.
     fn config(&mut self, bundle: &str) -> Result<Option<Vec<u8>>, AllocError>
         ensures found { IfOk result (λ found. IsFound (told self.old) bundle.now (option_map (λ config. config.items) found)) }
         ensures same { told self.new ≡ told self.old };

@@ -6,7 +6,6 @@ ghost use Rattle.runtime.specs.ConfigsServed.{ScriptsServeConfigs};
 ghost use Rattle.runtime.specs.ScriptLaws.{CommandsAreCalls, LinesAreCalls, PlansAreTold, RebalancesAreTold, ScriptsRebalance, ShortagesAreTold};
 
 use crate::FIRST_PID;
-use node::laws::{certificates_prove, each_rebalance, first_kernels, what_configs_get};
 
 /// Each command of a script is answered by the text of the call or event that it asks for, also where it only reads; but a
 /// `create` for which no config was found makes no call. So answered lines are at most one call or event each.
@@ -25,7 +24,7 @@ pub fn rebalances_are_told()
     ensures shortages { ShortagesAreTold }
     ensures scripts { ScriptsRebalance }
 {
-    each_rebalance();
+    node::laws::each_rebalance();
 }
 
 /// What a script plans for the containers of its bundles, from a node of no container on: the headline holds of each line that
@@ -34,24 +33,24 @@ pub fn rebalances_are_told()
 pub fn scripts_serve_configs()
     ensures { ScriptsServeConfigs }
 {
-    each_rebalance();
-    what_configs_get();
+    node::laws::each_rebalance();
+    node::laws::what_configs_get();
 }
 
 /// The text that answers `certificate` proves the verdict of the outcome that was told last to whoever checks it. Nothing runs.
 pub fn certificates_are_told()
     ensures { CertificatesAreTold }
 {
-    each_rebalance();
+    node::laws::each_rebalance();
     node::laws::runs();
-    certificates_prove();
+    node::laws::certificates_prove();
 }
 
 /// A node from the beginning, on a sound machine, is one of which all holds that the laws of nodes ask for. Nothing runs.
 pub fn booted_nodes()
     ensures { BootsNodes }
 {
-    first_kernels();
+    node::laws::first_kernels();
     node::laws::runs();
     kernel_model::laws::runs();
 }

@@ -5,7 +5,6 @@ use faults::OrMemory;
 use kernel_model::ModelKernel;
 use machine::Machine;
 use node::Node;
-use node::laws::first_kernels;
 use std::alloc::{AllocError, Global};
 
 /// The pid that the first process of a modelled kernel gets.
@@ -27,7 +26,8 @@ pub fn kernel_of(alloc: Global, machine: &Machine) -> Result<ModelKernel, AllocE
 
 /// A node with no container, over a modelled kernel that has the machine's CPUs and nodes.
 ///
-/// The only error is want of memory: of a kernel that is new, and of which no write fails, nothing else stands against the
+/// # Errors
+/// Lack of memory: of a kernel that is new, and of which no write fails, nothing else refuses the
 /// node's group.
 pub fn boot(alloc: Global, machine: Machine) -> Result<Node<ModelKernel>, AllocError>
     ensures { IfOk result (Boots machine) }
@@ -36,7 +36,7 @@ pub fn boot(alloc: Global, machine: Machine) -> Result<Node<ModelKernel>, AllocE
     match Node::new(alloc, kernel, machine) {
         Ok(node) => Ok(node),
         Err(not_opened) => {
-            first_kernels();
+            node::laws::first_kernels();
             not_opened.kernel.never_fails();
             match not_opened.error {
                 OrMemory::Memory => Err(AllocError),

@@ -6,11 +6,10 @@ ghost use Rattle.certificate_text.specs.Written.{CanWrite};
 ghost use Rattle.runtime.specs.OutcomeTexts.{container_lines, end_lines, first_line, hold_line, last_lines, member_line, need_line, outcome_text, pool_lines, progress_line, total_line};
 
 use crate::answers::{put_labelled, put_set};
-use byte_output::{put, put_all};
+use byte_output::{put, put_all, put_number};
 use certificate::Row;
 use certificate_text::Certificate;
 use cpu_set::IdSet;
-use itoa::Buffer;
 use kernel_model::Kernel;
 use node::{Node, Outcome, Progress};
 use std::io;
@@ -74,20 +73,13 @@ fn put_containers<W: Write>(certificate: &Certificate, w: &mut W) -> io::Result<
 fn put_total<W: Write>(total: u64, w: &mut W) -> io::Result<()>
     ensures { Writes (W.contents w.old) (W.contents w.new) result (total_line total) }
 {
-    let mut digits = Buffer::new();
-    let total = digits.format(total).as_bytes();
-    put_all(&[b"plan total ".as_slice(), total, b"\n".as_slice()], w)
+    put_number(b"plan total ", total, b"\n", w)
 }
 
 fn put_need<W: Write>(asked: u64, allowed: &IdSet, w: &mut W) -> io::Result<()>
     ensures { Writes (W.contents w.old) (W.contents w.new) result (need_line asked allowed.now) }
 {
-    let mut digits = Buffer::new();
-    let asked = digits.format(asked).as_bytes();
-    put_all(
-        &[b"short demand ".as_slice(), asked, b" allowed ".as_slice()],
-        w,
-    )?;
+    put_number(b"short demand ", asked, b" allowed ", w)?;
     put_set(allowed, w)?;
     put(b"\n", w)
 }

@@ -2,14 +2,13 @@
 ghost use Rattle.std.specs.Prelude.{◌≡◌};
 ghost use Rattle.byte_output.specs.Output.{Writes};
 ghost use Rattle.runtime.specs.AnswerTexts.{of_either, of_kernel, of_kernel_fault};
-ghost use Rattle.runtime.specs.RefusalLine.{arguments_of, config_arguments, config_title, demand_arguments, demand_title, kernel_title, list_argument, list_number, node_arguments, node_title, number_text, refusal_line, title_of, word_text};
+ghost use Rattle.runtime.specs.RefusalLine.{arguments_of, config_arguments, demand_arguments, list_argument, node_arguments, number_text, refusal_line, title_of, word_text};
 
-use byte_output::{put, put_all};
+use byte_output::{put, put_all, put_number};
 use config_json::ConfigFault;
-use cpu_list::{ListError, ListErrorKind};
+use cpu_list::ListError;
 use demand::DemandFault;
 use faults::OrMemory;
-use itoa::Buffer;
 use kernel_model::KernelFault;
 use node::NodeFault;
 use std::io;
@@ -33,7 +32,7 @@ impl Refusal {
     {
         match self {
             Refusal::Memory => "E1 Memory",
-            Refusal::Node(fault) => node_title(fault),
+            Refusal::Node(fault) => fault.title(),
             Refusal::NoBundle => "E111 NoBundle",
         }
     }
@@ -51,7 +50,7 @@ impl Refusal {
     /// Writes the refusal's line.
     ///
     /// # Errors
-    /// That of the first write that fails or takes no byte; a front of the line then went out.
+    /// That of the first write that fails or takes no byte; a prefix of the line then went out.
     pub fn write<W: Write>(self, w: &mut W) -> io::Result<()>
         ensures { Writes (W.contents w.old) (W.contents w.new) result (refusal_line self) }
     {
@@ -97,18 +96,17 @@ fn put_word<W: Write>(word: &str, w: &mut W) -> io::Result<()>
     put_all(&[b" ".as_slice(), word.as_bytes()], w)
 }
 
-fn put_number<W: Write>(number: u64, w: &mut W) -> io::Result<()>
+fn put_argument<W: Write>(number: u64, w: &mut W) -> io::Result<()>
     ensures { Writes (W.contents w.old) (W.contents w.new) result (number_text number) }
 {
-    let mut digits = Buffer::new();
-    put_word(digits.format(number), w)
+    put_number(b" ", number, b"", w)
 }
 
 fn put_list_error<W: Write>(error: ListError, w: &mut W) -> io::Result<()>
     ensures { Writes (W.contents w.old) (W.contents w.new) result (list_argument error) }
 {
-    put_word(list_number(error.kind), w)?;
-    put_number(error.at as u64, w)
+    put_word(error.kind.code(), w)?;
+    put_argument(error.at as u64, w)
 }
 
 fn put_node_arguments<W: Write>(fault: NodeFault, w: &mut W) -> io::Result<()>
@@ -139,84 +137,8 @@ fn put_demand_arguments<W: Write>(fault: DemandFault, w: &mut W) -> io::Result<(
     match fault {
         DemandFault::BadCpus(error) | DemandFault::BadMems(error) => put_list_error(error, w),
         DemandFault::NoSuchCpu(number) | DemandFault::NoSuchNode(number) => {
-            put_number(u64::from(number), w)
+            put_argument(u64::from(number), w)
         }
         DemandFault::QuotaTooLarge | DemandFault::NothingAllowed => Ok(()),
-    }
-}
-
-fn list_number(kind: ListErrorKind) -> &'static str
-    ensures { result.now ≡ list_number kind }
-{
-    match kind {
-        ListErrorKind::BadItem => "E10",
-        ListErrorKind::TooLarge => "E11",
-        ListErrorKind::Descending => "E12",
-    }
-}
-
-fn config_title(fault: ConfigFault) -> &'static str
-    ensures { result.now ≡ config_title fault }
-{
-    match fault {
-        ConfigFault::TooLong => "E55 TooLong",
-        ConfigFault::NotJson => "E56 NotJson",
-        ConfigFault::NotObject => "E57 NotObject",
-        ConfigFault::Missing(_) => "E58 Missing",
-        ConfigFault::BadVersion => "E59 BadVersion",
-        ConfigFault::BadField(_) => "E60 BadField",
-    }
-}
-
-fn demand_title(fault: DemandFault) -> &'static str
-    ensures { result.now ≡ demand_title fault }
-{
-    match fault {
-        DemandFault::BadCpus(_) => "E62 BadCpus",
-        DemandFault::NoSuchCpu(_) => "E63 NoSuchCpu",
-        DemandFault::BadMems(_) => "E64 BadMems",
-        DemandFault::NoSuchNode(_) => "E65 NoSuchNode",
-        DemandFault::QuotaTooLarge => "E66 QuotaTooLarge",
-        DemandFault::NothingAllowed => "E67 NothingAllowed",
-    }
-}
-
-fn kernel_title(fault: KernelFault) -> &'static str
-    ensures { result.now ≡ kernel_title fault }
-{
-    match fault {
-        KernelFault::NoGroup => "E40 NoGroup",
-        KernelFault::Exists => "E41 Exists",
-        KernelFault::HasChildren => "E42 HasChildren",
-        KernelFault::HasProcesses => "E43 HasProcesses",
-        KernelFault::IsRoot => "E44 IsRoot",
-        KernelFault::NoPids => "E45 NoPids",
-        KernelFault::NoProcess => "E46 NoProcess",
-        KernelFault::NoSerials => "E47 NoSerials",
-        KernelFault::Failed => "E50 KernelFault",
-        KernelFault::Reserved => "E51 Reserved",
-        KernelFault::NoCpu => "E52 NoCpu",
-    }
-}
-
-fn node_title(fault: NodeFault) -> &'static str
-    ensures { result.now ≡ node_title fault }
-{
-    match fault {
-        NodeFault::Busy => "E90 Busy",
-        NodeFault::BadId => "E91 BadId",
-        NodeFault::IdInUse => "E92 IdInUse",
-        NodeFault::TooManyContainers => "E93 TooManyContainers",
-        NodeFault::NoContainer => "E94 NoContainer",
-        NodeFault::NotCreated => "E95 NotCreated",
-        NodeFault::NotRunnable => "E96 NotRunnable",
-        NodeFault::BadSignal => "E97 BadSignal",
-        NodeFault::NotLive => "E98 NotLive",
-        NodeFault::NotStopped => "E99 NotStopped",
-        NodeFault::NoHandover => "E100 NoHandover",
-        NodeFault::NoAnswer => "E101 NoAnswer",
-        NodeFault::Config(fault) => config_title(fault),
-        NodeFault::Demand(fault) => demand_title(fault),
-        NodeFault::Kernel(fault) => kernel_title(fault),
     }
 }

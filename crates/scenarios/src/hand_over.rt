@@ -81,7 +81,10 @@ fn is_safe<K: Kernel>(kernel: &K, entries: &[Entry]) -> bool {
         if !kernel.first_alive(entry.pid) {
             continue;
         }
-        let held = kernel.requested_cpus(entry.group).unwrap_or(IdSet::empty());
+        let held = kernel
+            .requested_cpus(entry.group)
+            .copied()
+            .unwrap_or(IdSet::empty());
         let own = held.minus(&set("0"));
         if held.is_empty()
             || !own.is_disjoint(&pinned)
@@ -101,7 +104,7 @@ fn is_safe<K: Kernel>(kernel: &K, entries: &[Entry]) -> bool {
 /// Whether each live container requests its target.
 fn is_over<K: Kernel>(kernel: &K, entries: &[Entry]) -> bool {
     entries.iter().all(|entry| {
-        !kernel.first_alive(entry.pid) || kernel.requested_cpus(entry.group) == Ok(entry.target)
+        !kernel.first_alive(entry.pid) || kernel.requested_cpus(entry.group) == Ok(&entry.target)
     })
 }
 

@@ -23,7 +23,7 @@ const PIECE: usize = 8192;
 /// Runs a script over the target: the reader's lines are carried out one after another, and answered to the writer.
 /// Bytes are read as they come, and the writer is flushed behind each answer. It takes no memory of its own.
 ///
-/// A line feed ends a line. What stands behind the last one is a line too, where the input ends there.
+/// A line feed ends a line. What follows the last one is a line too, where the input ends there.
 ///
 /// # Errors
 /// `Read` where a read fails and `TooManyReads` where [`MOST_READS`] reads haven't come to the end: each line that ended
@@ -58,7 +58,7 @@ pub fn run_script<T: Target, R: Read, W: Write>(
     Err(ScriptFault::TooManyReads)
 }
 
-/// Takes bytes more of the script, and answers each line that ends in them.
+/// Takes more bytes of the script, and answers each line that ends in them.
 fn feed<T: Target, W: Write>(
     target: &mut T,
     line: &mut LineBuffer,

@@ -10,7 +10,7 @@ fn is_blank(byte: u8) -> bool
     byte == b' ' || byte == b'\t' || byte == b'\r'
 }
 
-/// How many blanks stand before the line's first word.
+/// How many blanks precede the line's first word.
 fn indent(line: &[u8]) -> usize
     ensures count { result ≡ prefix_len is_blank line.now }
     ensures within { result ≤ length line.now }
@@ -23,7 +23,7 @@ fn indent(line: &[u8]) -> usize
     line.len()
 }
 
-/// How many bytes stand before the line's first blank.
+/// How many bytes precede the line's first blank.
 fn word_len(line: &[u8]) -> usize
     ensures count { result ≡ position_or_len is_blank line.now }
     ensures within { result ≤ length line.now }
@@ -36,7 +36,7 @@ fn word_len(line: &[u8]) -> usize
     line.len()
 }
 
-/// The line's first word, and what stands behind it.
+/// The line's first word, and what follows it.
 pub fn next_word(line: &[u8]) -> Option<(&[u8], &[u8])>
     ensures { MatchOption result (words_of line.now ≡ []) (λ p. words_of line.now ≡ p.0.now ∷ words_of p.1.now) }
 {

@@ -1,3 +1,4 @@
+pub mod FaultTitle
 pub mod Table
 pub mod AreDistances
 pub mod Header

@@ -21,7 +21,7 @@ pub use laws::the_limits;
 pub use slit::Slit;
 
 /// The most localities that a table may have.
-pub const MAX_LOCALITIES: usize = 64;
+pub const MAX_LOCALITIES: usize = 128;
 
 /// The distance of a locality to itself, to which all others are relative.
 pub const LOCAL: u8 = 10;

@@ -6,7 +6,7 @@ use kernel_model::{Group, Kernel, ModelKernel};
 use scenarios::{handover, step_out};
 use std::alloc::Global;
 
-const CONTAINERS: u16 = 256;
+const CONTAINERS: u16 = 1_024;
 
 const CPUS_EACH: u16 = 3;
 

@@ -1,11 +1,11 @@
-//! The modelled kernel: 256 groups below one, and a process that forks.
+//! The modelled kernel: 1,024 groups below one, and a process that forks.
 
 use cpu_set::IdSet;
 use cpuset_tree::{Group, Tree};
 use proctable::ProcTable;
 use std::alloc::Global;
 
-const LEAVES: usize = 256;
+const LEAVES: usize = 1_024;
 
 const CPUS: u16 = 64;
 

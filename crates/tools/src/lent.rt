@@ -46,19 +46,19 @@ impl<K: Kernel> Kernel for Lent<'_, K> {
         self.kernel.find_group(parent, name)
     }
 
-    fn requested_cpus(&self, group: Group) -> Result<IdSet, KernelFault> {
+    fn requested_cpus(&self, group: Group) -> Result<&IdSet, KernelFault> {
         self.kernel.requested_cpus(group)
     }
 
-    fn effective_cpus(&self, group: Group) -> Result<IdSet, KernelFault> {
+    fn effective_cpus(&self, group: Group) -> Result<&IdSet, KernelFault> {
         self.kernel.effective_cpus(group)
     }
 
-    fn requested_mems(&self, group: Group) -> Result<IdSet, KernelFault> {
+    fn requested_mems(&self, group: Group) -> Result<&IdSet, KernelFault> {
         self.kernel.requested_mems(group)
     }
 
-    fn effective_mems(&self, group: Group) -> Result<IdSet, KernelFault> {
+    fn effective_mems(&self, group: Group) -> Result<&IdSet, KernelFault> {
         self.kernel.effective_mems(group)
     }
 

@@ -25,7 +25,7 @@ pub fn named<R: AllocGlobal + Print>(rt: &R, words: &[String], text: &[u8]) -> R
     Ok(())
 }
 
-/// A set of 512 CPUs of which no two are neighbours, printed and read again.
+/// A set of half of the CPUs, of which no two are neighbours, printed and read again.
 pub fn printed_and_read(alloc: Global, count: u32) -> Option<u64> {
     let mut set = IdSet::empty();
     for n in 0..CPU_LIMIT / 2 {

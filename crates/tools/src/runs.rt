@@ -7,7 +7,6 @@ use anyhow::{Result, bail};
 use kernel_model::{FusedKernel, Kernel, ModelKernel};
 use machine::Machine;
 use node::Node;
-use node::laws::first_kernels;
 use runtime::{BundleList, FIRST_PID, Runner};
 use script::run_script;
 use std::fs;
@@ -101,7 +100,7 @@ fn run<R: AllocGlobal + Print>(
         FIRST_PID,
     )?;
     let mut kernel = FusedKernel::new(kernel, fail);
-    first_kernels();
+    node::laws::first_kernels();
     let lent = Lent {
         kernel: &mut kernel,
     };

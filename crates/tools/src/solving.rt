@@ -32,7 +32,8 @@ fn one<R: AllocGlobal + Print>(rt: &R, problem: &Problem) -> Result<()> {
                 let held = cpu_list::print(rt.alloc(), set)?;
                 println!(rt; "hold {held} {value}")?;
             }
-            for price in prices.of_cpu.as_slice() {
+            for at in 0..prices.of_cpu.len() {
+                let price = prices.of_cpu.price(at);
                 let cpus = cpu_list::print(rt.alloc(), &price.cpus)?;
                 let amount = price.amount;
                 println!(rt; "price {amount} {cpus}")?;

@@ -1,4 +1,4 @@
--- A row's offers in rising weight, and a line of which none is opened.
+-- A row's offers in rising weight, and sorted arcs of which none is opened.
 use Rattle.std.proofs.Common.{◌≡◌, ℕ, Vec, Global, zero, suc, ◌+◌, ◌<◌, ◌≤◌, Bool, true, false, cond, List, [], ◌∷◌, ◌++◌, map, length, get_or, Some, None, option_map, slice_get, nat_lt, refl, sym, ap, ◌∙◌, subst, inl, inr, arith}
 use Rattle.std.specs.Prelude.{find, All, AllPairs, Contains}
 use Rattle.std.specs.List.Sorted.{IsPermutation, IsNonDecreasingBy}
@@ -16,22 +16,22 @@ use Rattle.certificate.specs.AreWithin.{AreRowsWithin}
 use Rattle.certificate.specs.declared.rows.Offer.{Offer}
 use Rattle.certificate.specs.RisingOffers.{AreRising}
 use Rattle.twins.specs.Kinds.{offers_of, kind_at, AreKinds}
-use Rattle.transport.specs.Weights.{class_weight, AreLines, AreNewLines}
-use Rattle.transport.specs.declared.tables.Table.{Table}
+use Rattle.transport.specs.Weights.{class_weight, AreSortedArcs, AreNewSortedArcs}
+use Rattle.transport.specs.declared.instance.Instance.{Instance}
 use Rattle.certificate.specs.declared.limits.TheConstants.{MAX_WEIGHT}
 use Rattle.transport.specs.Numbers.{number}
 use Rattle.transport.specs.Searches.{weight_limit}
-use Rattle.transport.specs.Lines.{weight_of, IsToCome, IsNewLine, AreArcs, IsLine}
+use Rattle.transport.specs.SortedArcs.{weight_of, IsToCome, IsNewSortedArcs, AreArcs, IsSortedArcs}
 use Rattle.transport.specs.Orders.{bid_at, bids_in, offered, IsBid, AreBids, AreAllBids, IsOrder}
-use Rattle.transport.specs.declared.orders.Bid.{Bid}
-use Rattle.transport.specs.declared.orders.Order.TheVariants.{AsOffered, ByWeight}
-use Rattle.transport.specs.declared.lines.Line.{Line}
+use Rattle.transport.specs.declared.arcs.WeightedOffer.{WeightedOffer}
+use Rattle.transport.specs.declared.arcs.OfferOrder.TheVariants.{AsOffered, ByWeight}
+use Rattle.transport.specs.declared.arcs.SortedArcs.{SortedArcs}
 
 pub bids_none : (offers : List Offer) → AreAllBids offers [] 0
 bids_none offers = record { its = All-nil (IsBid offers); all = λ o x lt is. absurd (omega arith) }
 
 -- one offer more
-pub bids_more : (offers : List Offer) (bids : List Bid) (k : ℕ) (x : Offer) → slice_get offers k ≡ Some x → AreAllBids offers bids k → AreAllBids offers (bids ++ record { weight = x.weight; offer = k } ∷ []) (k + 1)
+pub bids_more : (offers : List Offer) (bids : List WeightedOffer) (k : ℕ) (x : Offer) → slice_get offers k ≡ Some x → AreAllBids offers bids k → AreAllBids offers (bids ++ record { weight = x.weight; offer = k } ∷ []) (k + 1)
 bids_more offers bids k x is h = record {
   its = All-push (IsBid offers) bids b h.its (record { offer = x; its = is; weight = refl });
   all = λ o y lt its. elim (cases_lt o k) [
@@ -40,7 +40,7 @@ bids_more offers bids k x is h = record {
   ];
 }
   where
-    b : Bid
+    b : WeightedOffer
     b = record { weight = x.weight; offer = k }
 
     last : (o : ℕ) (y : Offer) → o ≡ k → slice_get offers o ≡ Some y → Contains (bids ++ b ∷ []) (record { weight = y.weight; offer = o })
@@ -49,13 +49,13 @@ bids_more offers bids k x is h = record {
         subst (λ (w : Offer). Contains (bids ++ b ∷ []) (record { weight = w.weight; offer = o })) (sym same)
         (subst (λ n. Contains (bids ++ b ∷ []) (record { weight = x.weight; offer = n })) (sym e) (Contains-push bids b))
 
-pub bids_sorted : (offers : List Offer) (bids sorted : List Bid) (n : ℕ) → AreAllBids offers bids n → IsPermutation bids sorted → AreAllBids offers sorted n
+pub bids_sorted : (offers : List Offer) (bids sorted : List WeightedOffer) (n : ℕ) → AreAllBids offers bids n → IsPermutation bids sorted → AreAllBids offers sorted n
 bids_sorted offers bids sorted n h p = record {
   its = All-permutation (IsBid offers) bids sorted p h.its;
   all = λ o x lt is. Contains-permutation bids sorted _ p (h.all o x lt is);
 }
 
-pub bids_rise : (offers : List Offer) (bids : List Bid) (n : ℕ) → AreAllBids offers bids n → IsNonDecreasingBy (λ (b : Bid). b.weight) bids → AreBids offers bids
+pub bids_rise : (offers : List Offer) (bids : List WeightedOffer) (n : ℕ) → AreAllBids offers bids n → IsNonDecreasingBy (λ (b : WeightedOffer). b.weight) bids → AreBids offers bids
 bids_rise offers bids n h up = record {
   rising = λ i j le lt. up i j _ le lt;
   its = λ i lt. h.its i _ lt;
@@ -83,7 +83,7 @@ order_as_offered offers up = record {
     none : Offer
     none = record { weight = 0; cpus = set.empty }
 
-    bid : ℕ → Bid
+    bid : ℕ → WeightedOffer
     bid i = record { weight = (get_or offers i none).weight; offer = i }
 
     long : length (offered offers) ≡ length offers
@@ -110,7 +110,7 @@ bid_as_offered offers i o lt is =
     none = record { weight = 0; cpus = set.empty }
 
 -- and all of them sorted by weight are
-pub order_by_weight : (offers : List Offer) (bids : Vec Bid Global) → AreAllBids offers bids.items (length offers) → length bids.items ≡ length offers → IsNonDecreasingBy (λ (b : Bid). b.weight) bids.items → IsOrder offers (ByWeight bids)
+pub order_by_weight : (offers : List Offer) (bids : Vec WeightedOffer Global) → AreAllBids offers bids.items (length offers) → length bids.items ≡ length offers → IsNonDecreasingBy (λ (b : WeightedOffer). b.weight) bids.items → IsOrder offers (ByWeight bids)
 order_by_weight offers bids all long up = record { bids = bids_rise offers bids.items (length offers) all up; all = all; long = long }
 
 -- where no CPU is in two offers, each offer that has a CPU gives its weight
@@ -134,9 +134,9 @@ first_has (o ∷ offers) c (suc i) x apart is has = elim (cases_Bool (set.contai
 
 -- and there is an offer for each weight
 record IsOfferAt (offers : List Offer) (c w : ℕ) : Type 0 where
-  place : ℕ
+  index : ℕ
   offer : Offer
-  its : slice_get offers place ≡ Some offer
+  its : slice_get offers index ≡ Some offer
   has : set.contains offer.cpus c ≡ true
   weighs : offer.weight ≡ w
 
@@ -146,8 +146,8 @@ offer_of (o ∷ offers) c w e = go (set.contains o.cpus c) refl e (offer_of offe
   where
     go : (b : Bool) → set.contains o.cpus c ≡ b → option_map (λ (o : Offer). o.weight) (cond b (Some o) (find (λ (o : Offer). set.contains o.cpus c) offers)) ≡ Some w
         → (weight_in offers c ≡ Some w → IsOfferAt offers c w) → IsOfferAt (o ∷ offers) c w
-    go true on e later = record { place = 0; offer = o; its = refl; has = on; weighs = (let same : Some o.weight ≡ Some w = e in cc) }
-    go false off e later = let a = later e in record { place = suc a.place; offer = a.offer; its = a.its; has = a.has; weighs = a.weighs }
+    go true on e later = record { index = 0; offer = o; its = refl; has = on; weighs = (let same : Some o.weight ≡ Some w = e in cc) }
+    go false off e later = let a = later e in record { index = suc a.index; offer = a.offer; its = a.its; has = a.has; weighs = a.weighs }
 
 -- a class has a weight only where it is one of the classes
 pub in_classes : (offers : List Offer) (firsts : List ℕ) (g w : ℕ) → weight_of offers firsts g ≡ Some w → g < length firsts
@@ -177,9 +177,9 @@ pub weight_low : (rows : List RowView) (firsts : List ℕ) (k g w : ℕ) → Are
 weight_low rows firsts k g w fit e =
     let lt = in_rows rows firsts k g w e in
     let o = offer_of (offers_of rows k) (number firsts g) w (sym (in_offers (offers_of rows k) firsts g (in_classes (offers_of rows k) firsts g w e)) ∙ e) in
-    let here = get_or_from_slice_get (offers_of rows k) o.place o.offer o.offer o.its in
-    let low = weights k lt o.place o.offer (slice_get_within (offers_of rows k) o.place o.offer o.its) in
-    let same : (get_or (offers_of rows k) o.place o.offer).weight ≡ o.offer.weight = ap (λ (x : Offer). x.weight) here in
+    let here = get_or_from_slice_get (offers_of rows k) o.index o.offer o.offer o.its in
+    let low = weights k lt o.index o.offer (slice_get_within (offers_of rows k) o.index o.offer o.its) in
+    let same : (get_or (offers_of rows k) o.index o.offer).weight ≡ o.offer.weight = ap (λ (x : Offer). x.weight) here in
     omega (arith, low, same, o.weighs)
   where
     none : RowView
@@ -188,8 +188,8 @@ weight_low rows firsts k g w fit e =
     weights : (k : ℕ) → k < length rows → All (λ (o : Offer). o.weight ≤ MAX_WEIGHT) (offers_of rows k)
     weights k lt = subst (All (λ (o : Offer). o.weight ≤ MAX_WEIGHT)) (sym (get_or-map (λ (r : RowView). r.offers) rows k none [] lt)) (fit.each k none lt).weights
 
-pub new_line : (offers : List Offer) (firsts free : List ℕ) (l : Line) → AllPairs (λ (o p : Offer). IsDisjoint o.cpus p.cpus) offers → length firsts ≤ length free → IsNewLine offers l → IsLine (weight_of offers firsts) offers firsts free l
-new_line offers firsts free l apart long h = record {
+pub new_line : (offers : List Offer) (firsts residual : List ℕ) (l : SortedArcs) → AllPairs (λ (o p : Offer). IsDisjoint o.cpus p.cpus) offers → length firsts ≤ length residual → IsNewSortedArcs offers l → IsSortedArcs (weight_of offers firsts) offers firsts residual l
+new_line offers firsts residual l apart long h = record {
   order = h.order;
   opened_in = omega (arith, h.opened);
   arcs = rw (h.opened, h.arcs) none;
@@ -204,15 +204,15 @@ new_line offers firsts free l apart long h = record {
     to_come g w e =
         let lt = in_classes offers firsts g w e in
         let o = offer_of offers (number firsts g) w (sym (in_offers offers firsts g lt) ∙ e) in
-        let c = h.order.all.all o.place o.offer (slice_get_within offers o.place o.offer o.its) o.its in
-        let b : bid_at (bids_in offers l.order) c.0 ≡ record { weight = o.offer.weight; offer = o.place } = get_or_default (bids_in offers l.order) c.0 _ _ c.1 ∙ c.2 in
+        let c = h.order.all.all o.index o.offer (slice_get_within offers o.index o.offer o.its) o.its in
+        let b : bid_at (bids_in offers l.order) c.0 ≡ record { weight = o.offer.weight; offer = o.index } = get_or_default (bids_in offers l.order) c.0 _ _ c.1 ∙ c.2 in
         record {
-          place = c.0;
+          index = c.0;
           from = omega arith;
           within = c.1;
           has = record {
             offer = o.offer;
-            its = ap (λ (x : Bid). slice_get offers x.offer) b ∙ o.its;
+            its = ap (λ (x : WeightedOffer). slice_get offers x.offer) b ∙ o.its;
             in_range = lt;
             has = o.has;
             weight = o.weighs;
@@ -227,9 +227,9 @@ new_line offers firsts free l apart long h = record {
       all = λ g w e. inr (to_come g w e);
     }
 
--- one row's line more
-pub lines_more : (rows : List RowView) (kinds : List ℕ) (lines : List Line) (k : ℕ) (l : Line) → AreNewLines rows kinds lines k
-    → (kind_at kinds k ≡ k → IsNewLine (offers_of rows k) l) → AreNewLines rows kinds (lines ++ l ∷ []) (k + 1)
+-- one row's sorted arcs more
+pub lines_more : (rows : List RowView) (kinds : List ℕ) (lines : List SortedArcs) (k : ℕ) (l : SortedArcs) → AreNewSortedArcs rows kinds lines k
+    → (kind_at kinds k ≡ k → IsNewSortedArcs (offers_of rows k) l) → AreNewSortedArcs rows kinds (lines ++ l ∷ []) (k + 1)
 lines_more rows kinds lines k l h own = record {
   long = omega (arith, length_push lines l, h.long);
   each = λ j m is. elim (cases_lt j (length lines)) [
@@ -238,18 +238,18 @@ lines_more rows kinds lines k l h own = record {
   ];
 }
   where
-    last : (j : ℕ) (m : Line) → slice_get (lines ++ l ∷ []) j ≡ Some m → length lines ≡ j → kind_at kinds j ≡ j → IsNewLine (offers_of rows j) m
+    last : (j : ℕ) (m : SortedArcs) → slice_get (lines ++ l ∷ []) j ≡ Some m → length lines ≡ j → kind_at kinds j ≡ j → IsNewSortedArcs (offers_of rows j) m
     last j m is e first =
         let same : l ≡ m = sym (get_or_push lines l m j e) ∙ get_or_from_slice_get (lines ++ l ∷ []) j m m is in
-        let place : k ≡ j = sym h.long ∙ e in
-        subst (IsNewLine (offers_of rows j)) same (subst (λ x. kind_at kinds x ≡ x → IsNewLine (offers_of rows x) l) place own first)
+        let index : k ≡ j = sym h.long ∙ e in
+        subst (IsNewSortedArcs (offers_of rows j)) same (subst (λ x. kind_at kinds x ≡ x → IsNewSortedArcs (offers_of rows x) l) index own first)
 
-pub lines_new : (t : Table) (free : List ℕ) (lines : List Line) → AreRowsWithin t.rows.now → AreKinds t.rows.now (length t.rows.now) t.kinds.now → length t.firsts ≤ length free
-    → AreNewLines t.rows.now t.kinds.now lines (length t.rows.now) → AreLines t free lines
-lines_new t free lines fit kinds long h = record {
+pub lines_new : (t : Instance) (residual : List ℕ) (lines : List SortedArcs) → AreRowsWithin t.rows.now → AreKinds t.rows.now (length t.rows.now) t.kinds.now → length t.firsts ≤ length residual
+    → AreNewSortedArcs t.rows.now t.kinds.now lines (length t.rows.now) → AreSortedArcs t residual lines
+lines_new t residual lines fit kinds long h = record {
   long = h.long;
   kinds = kinds;
-  each = λ k l is first. new_line (offers_of t.rows.now k) t.firsts free l (apart k (omega (arith, slice_get_within lines k l is, h.long))) long (h.each k l is first);
+  each = λ k l is first. new_line (offers_of t.rows.now k) t.firsts residual l (apart k (omega (arith, slice_get_within lines k l is, h.long))) long (h.each k l is first);
 }
   where
     none : RowView

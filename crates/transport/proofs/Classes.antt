@@ -19,7 +19,7 @@ use Rattle.twins.specs.ClassWeight as twins
 use Rattle.transport.specs.Numbers.{number, IsEachOnce}
 use Rattle.twins.specs.Kinds.{offers_of}
 use Rattle.transport.specs.Weights.{class_weight}
-use Rattle.transport.specs.Firsts.{first_of}
+use Rattle.transport.specs.Representatives.{first_of}
 
 -- a set with members has a least one
 has_first : (s : Ids) → InRange s → 0 < set.len s → least_that (set.contains s) ≡ Some (first_of s)

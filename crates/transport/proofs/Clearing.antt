@@ -4,23 +4,23 @@ use Rattle.std.proofs.lemmas.List.{length-set, get_or-set_same, get_or-set_other
 use Rattle.std.proofs.lemmas.Bool.{cases_eq, cases_Bool}
 use Rattle.transport.specs.Numbers.{number, is_marked, IsIn}
 use Rattle.transport.specs.Settled.{IsForgotten}
-use Rattle.transport.specs.declared.notes.Near.{Near}
+use Rattle.transport.specs.declared.labels.Label.{Label}
 use Rattle.transport.proofs.Numbers.{not_both}
 
 -- the number stands in the list, not before that place
 pub record IsToCome (ns : List ℕ) (from n : ℕ) : Type 0 where
-  pub place : ℕ
-  pub later : from ≤ place
-  pub within : place < length ns
-  pub is : number ns place ≡ n
+  pub index : ℕ
+  pub later : from ≤ index
+  pub within : index < length ns
+  pub is : number ns index ≡ n
 
 to_come : (ns : List ℕ) (n : ℕ) → IsIn ns n → IsToCome ns 0 n
-to_come ns n h = record { place = h.place; later = omega arith; within = h.within; is = h.is }
+to_come ns n h = record { index = h.index; later = omega arith; within = h.within; is = h.is }
 
 still_to_come : (ns : List ℕ) (i n : ℕ) → (n ≡ number ns i → ⊥) → IsToCome ns i n → IsToCome ns (i + 1) n
-still_to_come ns i n ne h = elim (cases_eq h.place i) [
+still_to_come ns i n ne h = elim (cases_eq h.index i) [
   | inl same ↦ absurd (ne (sym h.is ∙ ap (λ j. number ns j) same))
-  | inr other ↦ record { place = h.place; later = omega (arith, h.later, other); within = h.within; is = h.is }
+  | inr other ↦ record { index = h.index; later = omega (arith, h.later, other); within = h.within; is = h.is }
 ]
 
 none_to_come : (ns : List ℕ) (from n : ℕ) → length ns ≤ from → IsToCome ns from n → ⊥
@@ -50,52 +50,52 @@ unmarking_end old marks places from h past k = elim (cases_Bool (is_marked marks
 ]
 
 -- of the classes so far none is noted any more
-abbrev pub note_at : List (Option Near) → ℕ → Option Near
-note_at nears g = get_or nears g None
+abbrev pub note_at : List (Option Label) → ℕ → Option Label
+note_at of_class g = get_or of_class g None
 
-pub record Forgetting (old nears : List (Option Near)) (classes : List ℕ) (upto : ℕ) : Type 0 where
-  pub long : length nears ≡ length old
-  pub none : (i : ℕ) → i < upto → note_at nears (number classes i) ≡ None
-  pub left : (g : ℕ) (n : Near) → note_at nears g ≡ Some n → note_at old g ≡ Some n
+pub record Forgetting (old of_class : List (Option Label)) (classes : List ℕ) (upto : ℕ) : Type 0 where
+  pub long : length of_class ≡ length old
+  pub none : (i : ℕ) → i < upto → note_at of_class (number classes i) ≡ None
+  pub left : (g : ℕ) (n : Label) → note_at of_class g ≡ Some n → note_at old g ≡ Some n
 
-pub forgetting_none : (nears : List (Option Near)) (classes : List ℕ) → Forgetting nears nears classes 0
-forgetting_none nears classes = record { long = refl; none = λ i lt. absurd (omega arith); left = λ g n is. is }
+pub forgetting_none : (of_class : List (Option Label)) (classes : List ℕ) → Forgetting of_class of_class classes 0
+forgetting_none of_class classes = record { long = refl; none = λ i lt. absurd (omega arith); left = λ g n is. is }
 
-not_noted : (o : Option Near) (n : Near) → o ≡ Some n → o ≡ None → ⊥
+not_noted : (o : Option Label) (n : Label) → o ≡ Some n → o ≡ None → ⊥
 not_noted o n some none = let e : Some n ≡ None = sym some ∙ none in cc
 
-pub forgetting_more : (old nears : List (Option Near)) (classes : List ℕ) (i g : ℕ) → Forgetting old nears classes i → g ≡ number classes i → number classes i < length old → Forgetting old (set nears g None) classes (i + 1)
-forgetting_more old nears classes i g h is within = record {
-  long = length-set nears g None ∙ h.long;
+pub forgetting_more : (old of_class : List (Option Label)) (classes : List ℕ) (i g : ℕ) → Forgetting old of_class classes i → g ≡ number classes i → number classes i < length old → Forgetting old (set of_class g None) classes (i + 1)
+forgetting_more old of_class classes i g h is within = record {
+  long = length-set of_class g None ∙ h.long;
   none = λ j lt. elim (cases_eq (number classes j) g) [
     | inl same ↦ here (number classes j) same
     | inr other ↦ elim (cases_eq j i) [
       | inl last ↦ absurd (other (ap (number classes) last ∙ sym is))
-      | inr before ↦ get_or-set_other nears g (number classes j) None None other ∙ h.none j (omega (arith, lt, before))
+      | inr before ↦ get_or-set_other of_class g (number classes j) None None other ∙ h.none j (omega (arith, lt, before))
     ]
   ];
   left = λ k n its. elim (cases_eq k g) [
     | inl same ↦ absurd (not_noted _ n its (here k same))
-    | inr other ↦ h.left k n (sym (get_or-set_other nears g k None None other) ∙ its)
+    | inr other ↦ h.left k n (sym (get_or-set_other of_class g k None None other) ∙ its)
   ];
 }
   where
-    here : (k : ℕ) → k ≡ g → note_at (set nears g None) k ≡ None
-    here k same = ap (note_at (set nears g None)) same ∙ get_or-set_same nears g None None (omega (arith, is, within, h.long))
+    here : (k : ℕ) → k ≡ g → note_at (set of_class g None) k ≡ None
+    here k same = ap (note_at (set of_class g None)) same ∙ get_or-set_same of_class g None None (omega (arith, is, within, h.long))
 
-pub forgetting_end : (old nears : List (Option Near)) (classes : List ℕ) (upto : ℕ) → Forgetting old nears classes upto → length classes ≤ upto → IsForgotten old nears classes
-forgetting_end old nears classes upto h past = record {
+pub forgetting_end : (old of_class : List (Option Label)) (classes : List ℕ) (upto : ℕ) → Forgetting old of_class classes upto → length classes ≤ upto → IsForgotten old of_class classes
+forgetting_end old of_class classes upto h past = record {
   long = h.long;
-  none = λ g p. subst (λ x. note_at nears x ≡ None) p.is (h.none p.place (omega (arith, p.within, past)));
+  none = λ g p. subst (λ x. note_at of_class x ≡ None) p.is (h.none p.index (omega (arith, p.within, past)));
   left = h.left;
 }
 
 -- each noted class stands in one list or in the other
-pub both_forgotten : (old mid new : List (Option Near)) (xs ys : List ℕ) → ((g : ℕ) (n : Near) → note_at old g ≡ Some n → IsIn xs g ⊎ IsIn ys g) → IsForgotten old mid xs → IsForgotten mid new ys
+pub both_forgotten : (old mid new : List (Option Label)) (xs ys : List ℕ) → ((g : ℕ) (n : Label) → note_at old g ≡ Some n → IsIn xs g ⊎ IsIn ys g) → IsForgotten old mid xs → IsForgotten mid new ys
     → (g : ℕ) → note_at new g ≡ None
 both_forgotten old mid new xs ys all f h g = none (note_at new g) refl
   where
-    none : (o : Option Near) → note_at new g ≡ o → o ≡ None
+    none : (o : Option Label) → note_at new g ≡ o → o ≡ None
     none None is = refl
     none (Some n) is = elim (all g n (f.left g n (h.left g n is))) [
       | inl x ↦ absurd (not_noted _ n (h.left g n is) (f.none g x))

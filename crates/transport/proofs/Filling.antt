@@ -17,24 +17,24 @@ use Rattle.transport.specs.Duals.{IsTight}
 use Rattle.transport.specs.Numbers.{number, IsEachOnce}
 use Rattle.transport.specs.Totals.{total, row_total, class_total, IsShared}
 use Rattle.twins.specs.Kinds.{offers_of, AreKinds}
-use Rattle.transport.specs.Weights.{weights, AreNewLines}
+use Rattle.transport.specs.Weights.{weights, AreNewSortedArcs}
 use Rattle.transport.specs.States.{cell, shares_of, AreHoldings, IsNoHolder}
 use Rattle.transport.specs.Searches.{IsSearch, AreWeights}
-use Rattle.transport.specs.Queues.{is_reached, via, place, row_at}
+use Rattle.transport.specs.ReachedRows.{is_reached, parent_class, index, row_at}
 use Rattle.transport.specs.Settled.{IsSettled}
 use Rattle.transport.specs.Filled.{demand_of, IsDone, IsStuck}
 use Rattle.transport.specs.Filling.{IsFirst, IsHandedOut, CanFill, IsFilling, IsAtEnd, a_search, AreFilled}
-use Rattle.transport.specs.declared.states.State.{State}
-use Rattle.transport.specs.declared.tables.Table.{Table}
-use Rattle.transport.specs.declared.trees.Tree.{Tree}
-use Rattle.transport.specs.declared.lines.Line.{Line}
+use Rattle.transport.specs.declared.assignment.Assignment.{Assignment}
+use Rattle.transport.specs.declared.instance.Instance.{Instance}
+use Rattle.transport.specs.declared.tree.SearchTree.{SearchTree}
+use Rattle.transport.specs.declared.arcs.SortedArcs.{SortedArcs}
 use Rattle.transport.proofs.Sums.{total_same, total_zero, hall}
 use Rattle.transport.proofs.Bidding.{lines_new, in_classes, in_rows, weight_low}
 use Rattle.transport.proofs.HandingOut.{taken_full}
 use Rattle.transport.proofs.Holders.{share_none}
 
 -- no search yet
-pub filling_none : (t : Table) (root : ℕ) (s : State) (lines : List Line) (turns : ℕ) → CanFill t root s lines turns → IsFilling t root s s lines turns turns
+pub filling_none : (t : Instance) (root : ℕ) (s : Assignment) (lines : List SortedArcs) (turns : ℕ) → CanFill t root s lines turns → IsFilling t root s s lines turns turns
 filling_none t root s lines turns can = record {
   settled = can.settled;
   lines_are = can.lines_are;
@@ -54,7 +54,7 @@ filling_none t root s lines turns can = record {
   least = λ lt. absurd (omega (arith, lt));
 }
 
-handed_more : (root : ℕ) (a b c : State) → IsHandedOut root a b → IsHandedOut root b c → IsHandedOut root a c
+handed_more : (root : ℕ) (a b c : Assignment) → IsHandedOut root a b → IsHandedOut root b c → IsHandedOut root a c
 handed_more root a b c f g = record {
   values_long = g.values_long ∙ f.values_long;
   prices_long = g.prices_long ∙ f.prices_long;
@@ -65,12 +65,12 @@ handed_more root a b c f g = record {
   none = λ k ne none. g.none k ne (f.none k ne none);
 }
 
-search_same : (root : ℕ) (a b : State) → IsHandedOut root a b → a_search b ≡ a_search a
+search_same : (root : ℕ) (a b : Assignment) → IsHandedOut root a b → a_search b ≡ a_search a
 search_same root a b h = omega (arith, h.values_long, h.prices_long)
 
 -- a search more
-pub filling_more : (t : Table) (root : ℕ) (a b c : State) (lines lines' : List Line) (x y z : ℕ) → IsFilling t root a b lines x y → IsFilling t root b c lines' y z
-    → number c.unmet.items root < number b.unmet.items root → IsFilling t root a c lines' x z
+pub filling_more : (t : Instance) (root : ℕ) (a b c : Assignment) (lines lines' : List SortedArcs) (x y z : ℕ) → IsFilling t root a b lines x y → IsFilling t root b c lines' y z
+    → number c.deficit.items root < number b.deficit.items root → IsFilling t root a c lines' x z
 filling_more t root a b c lines lines' x y z f g less = record {
   settled = g.settled;
   lines_are = g.lines_are;
@@ -78,34 +78,34 @@ filling_more t root a b c lines lines' x y z f g less = record {
   kept = omega (arith, f.kept, g.kept);
   fewer = omega (arith, f.fewer, less);
   unsought = λ same. absurd (omega (arith, same, f.fewer, less));
-  most = (let m : z + number c.unmet.items root * a_search a ≤ y + number b.unmet.items root * a_search a = subst (λ n. z + number c.unmet.items root * n ≤ y + number b.unmet.items root * n) (search_same root a b f.handed) g.most in
+  most = (let m : z + number c.deficit.items root * a_search a ≤ y + number b.deficit.items root * a_search a = subst (λ n. z + number c.deficit.items root * n ≤ y + number b.deficit.items root * n) (search_same root a b f.handed) g.most in
       omega (arith, f.most, m));
   least = λ lt. omega (arith, g.least less, f.kept);
 }
 
-pub end_more : (t : Table) (root : ℕ) (a b c : State) (tree : Tree) (lines : List Line) (x y z : ℕ) → IsFilling t root a b lines x y → IsAtEnd t root b c tree y z → IsAtEnd t root a c tree x z
+pub end_more : (t : Instance) (root : ℕ) (a b c : Assignment) (tree : SearchTree) (lines : List SortedArcs) (x y z : ℕ) → IsFilling t root a b lines x y → IsAtEnd t root b c tree y z → IsAtEnd t root a c tree x z
 end_more t root a b c tree lines x y z f g = record {
   closed = g.closed;
   root_at = g.root_at;
   on = g.on;
   lacks = g.lacks;
   handed = handed_more root a b c f.handed g.handed;
-  most = (let m : z ≤ y + number b.unmet.items root * a_search a = subst (λ n. z ≤ y + number b.unmet.items root * n) (search_same root a b f.handed) g.most in
+  most = (let m : z ≤ y + number b.deficit.items root * a_search a = subst (λ n. z ≤ y + number b.deficit.items root * n) (search_same root a b f.handed) g.most in
       omega (arith, f.most, m));
   least = omega (arith, f.kept, g.least);
 }
 
 -- of a class that there is not, nothing is held or free
-class_none : (rows classes : ℕ) (s : State) (g : ℕ) → AreHoldings rows classes s.holdings.items → length s.free.items ≡ classes → classes ≤ g
-    → class_total (cell s.holdings.items) (length s.values.items) g + number s.free.items g ≡ 0
+class_none : (rows classes : ℕ) (s : Assignment) (g : ℕ) → AreHoldings rows classes s.holdings.items → length s.residual.items ≡ classes → classes ≤ g
+    → class_total (cell s.holdings.items) (length s.values.items) g + number s.residual.items g ≡ 0
 class_none rows classes s g h long past =
     let none : shares_of s.holdings.items g ≡ [] = get_or_past s.holdings.items g [] (omega (arith, h.long, past)) in
-    let free : number s.free.items g ≡ 0 = get_or_past s.free.items g 0 (omega (arith, long, past)) in
+    let residual : number s.residual.items g ≡ 0 = get_or_past s.residual.items g 0 (omega (arith, long, past)) in
     let held = total_same (λ k. cell s.holdings.items k g) (λ k. 0) (length s.values.items) (λ k lt. ap (share_of k) none) in
-    omega (arith, held, total_zero (length s.values.items), free)
+    omega (arith, held, total_zero (length s.values.items), residual)
 
 -- the next search can begin
-pub can_go_on : (t : Table) (root : ℕ) (a b : State) (before lines : List Line) (x y : ℕ) → CanFill t root a before x → IsFilling t root a b lines x y → CanFill t root b lines y
+pub can_go_on : (t : Instance) (root : ℕ) (a b : Assignment) (before lines : List SortedArcs) (x y : ℕ) → CanFill t root a before x → IsFilling t root a b lines x y → CanFill t root b lines y
 can_go_on t root a b before lines x y can f = record {
   settled = f.settled;
   lines_are = f.lines_are;
@@ -114,13 +114,13 @@ can_go_on t root a b before lines x y can f = record {
   sizes = sizes;
   in_rows = omega (arith, can.in_rows, f.handed.values_long);
   wants = omega (arith, f.fewer, can.wants);
-  fresh = λ all. (let same : number b.unmet.items root ≡ number a.unmet.items root = omega (arith, all, f.fewer, can.wants) in
+  fresh = λ all. (let same : number b.deficit.items root ≡ number a.deficit.items root = omega (arith, all, f.fewer, can.wants) in
       rw (f.unsought same) (can.fresh (sym same ∙ all)));
-  fits = (let e : number b.unmet.items root * a_search b ≡ number b.unmet.items root * a_search a = ap (λ n. number b.unmet.items root * n) (search_same root a b f.handed) in
+  fits = (let e : number b.deficit.items root * a_search b ≡ number b.deficit.items root * a_search a = ap (λ n. number b.deficit.items root * n) (search_same root a b f.handed) in
       omega (arith, e, f.most, can.fits));
 }
   where
-    sizes : (g : ℕ) → class_total (cell b.holdings.items) (length b.values.items) g + number b.free.items g < 2 ^ 32
+    sizes : (g : ℕ) → class_total (cell b.holdings.items) (length b.values.items) g + number b.residual.items g < 2 ^ 32
     sizes g = elim (cases_lt g (length a.prices.items)) [
       | inl lt ↦ (let e : class_total (cell b.holdings.items) (length b.values.items) g ≡ class_total (cell b.holdings.items) (length a.values.items) g =
           ap (λ n. class_total (cell b.holdings.items) n g) f.handed.values_long in
@@ -189,8 +189,8 @@ grow x y a after le most =
     omega (arith, most, up)
 
 -- before the first row
-module _ (t : Table) (sizes : List ℕ) (s : State) (lines : List Line) (fit : AreRowsWithin t.rows.now) (kinds : AreKinds t.rows.now (length t.rows.now) t.kinds.now)
-    (long : length t.firsts ≡ length sizes) (h : IsFirst t.rows.now sizes s) (new : AreNewLines t.rows.now t.kinds.now lines (length t.rows.now)) where
+module _ (t : Instance) (sizes : List ℕ) (s : Assignment) (lines : List SortedArcs) (fit : AreRowsWithin t.rows.now) (kinds : AreKinds t.rows.now (length t.rows.now) t.kinds.now)
+    (long : length t.firsts ≡ length sizes) (h : IsFirst t.rows.now sizes s) (new : AreNewSortedArcs t.rows.now t.kinds.now lines (length t.rows.now)) where
   no_cell : (k g : ℕ) → cell s.holdings.items k g ≡ 0
   no_cell k g = ap (share_of k) (h.holdings g)
 
@@ -212,7 +212,7 @@ module _ (t : Table) (sizes : List ℕ) (s : State) (lines : List Line) (fit : A
       tight = λ k g some. absurd (omega (arith, some, no_cell k g));
       zero = λ g some. h.prices g;
     };
-    free_long = ap length h.free ∙ sym h.prices_long;
+    free_long = ap length h.residual ∙ sym h.prices_long;
     values_low = λ k. omega (arith, h.values k);
     prices_low = λ g. omega (arith, h.prices g);
     holdings = record {
@@ -232,31 +232,31 @@ module _ (t : Table) (sizes : List ℕ) (s : State) (lines : List Line) (fit : A
   filled_first = record {
     values_long = h.values_long;
     prices_long = h.prices_long;
-    unmet_long = ap length h.unmet ∙ length-map t.rows.now (λ (r : RowView). r.demand);
+    unmet_long = ap length h.deficit ∙ length-map t.rows.now (λ (r : RowView). r.demand);
     settled = first_settled;
-    lines_are = lines_new t s.free.items lines fit kinds (omega (arith, long, ap length h.free)) new;
+    lines_are = lines_new t s.residual.items lines fit kinds (omega (arith, long, ap length h.residual)) new;
     shared = record {
-      by_row = λ k lt. omega (arith, no_row_total k, ap (λ u. number u k) h.unmet);
-      by_class = λ g lt. omega (arith, no_class_total g, ap (λ f. number f g) h.free);
+      by_row = λ k lt. omega (arith, no_row_total k, ap (λ u. number u k) h.deficit);
+      by_class = λ g lt. omega (arith, no_class_total g, ap (λ f. number f g) h.residual);
       rows_in = λ k g some. absurd (omega (arith, some, no_cell k g));
     };
     met = λ k lt. absurd (omega (arith, lt));
-    unfilled = λ k le. ap (λ u. number u k) h.unmet;
+    unfilled = λ k le. ap (λ u. number u k) h.deficit;
     fresh = λ k le. no_holder k;
     at_least = omega arith;
     at_most = omega arith;
   }
 
 -- the row that is next
-module _ (t : Table) (sizes : List ℕ) (s : State) (lines : List Line) (row turns : ℕ) (h : AreFilled t sizes s lines row turns) (fit : AreRowsWithin t.rows.now) (lt : row < length t.rows.now) where
-  wants : number s.unmet.items row ≡ demand_of t.rows.now row
+module _ (t : Instance) (sizes : List ℕ) (s : Assignment) (lines : List SortedArcs) (row turns : ℕ) (h : AreFilled t sizes s lines row turns) (fit : AreRowsWithin t.rows.now) (lt : row < length t.rows.now) where
+  wants : number s.deficit.items row ≡ demand_of t.rows.now row
   wants = h.unfilled row (omega arith)
 
   search_is : a_search s ≡ length t.rows.now + length sizes
   search_is = omega (arith, h.values_long, h.prices_long)
 
   -- what comes of it is within the turns of the rows so far and this one
-  most_after : (after : ℕ) → after ≤ turns + number s.unmet.items row * a_search s → after ≤ total (demand_of t.rows.now) (suc row) * (length t.rows.now + length sizes)
+  most_after : (after : ℕ) → after ≤ turns + number s.deficit.items row * a_search s → after ≤ total (demand_of t.rows.now) (suc row) * (length t.rows.now + length sizes)
   most_after after most =
       spend (total (demand_of t.rows.now) row) (total (demand_of t.rows.now) (suc row)) (demand_of t.rows.now row) (length t.rows.now + length sizes) turns after
       (total_last (demand_of t.rows.now) row) h.at_most (rw (wants, search_is) at most)
@@ -272,15 +272,15 @@ module _ (t : Table) (sizes : List ℕ) (s : State) (lines : List Line) (row tur
     wants = omega (arith, wants);
     fresh = λ all. h.fresh row (omega arith);
     fits =
-        let all = most_after (turns + number s.unmet.items row * a_search s) (omega arith) in
+        let all = most_after (turns + number s.deficit.items row * a_search s) (omega arith) in
         let low = turns_low t.rows.now row (length t.rows.now + length sizes) fit lt (omega (arith, few, fit.few)) in
         below (total (demand_of t.rows.now) (suc row) * (length t.rows.now + length sizes)) all low;
   }
     where
-      below : (x : ℕ) → turns + number s.unmet.items row * a_search s ≤ x → x ≤ most_turns → turns + number s.unmet.items row * a_search s < 2 ^ 64
+      below : (x : ℕ) → turns + number s.deficit.items row * a_search s ≤ x → x ≤ most_turns → turns + number s.deficit.items row * a_search s < 2 ^ 64
       below x all low = omega (arith, all, low)
 
-      fits_sizes : (g : ℕ) → class_total (cell s.holdings.items) (length s.values.items) g + number s.free.items g < 2 ^ 32
+      fits_sizes : (g : ℕ) → class_total (cell s.holdings.items) (length s.values.items) g + number s.residual.items g < 2 ^ 32
       fits_sizes g = elim (cases_lt g (length sizes)) [
         | inl there ↦ (let e : class_total (cell s.holdings.items) (length s.values.items) g ≡ class_total (cell s.holdings.items) (length t.rows.now) g =
             ap (λ n. class_total (cell s.holdings.items) n g) h.values_long in
@@ -288,9 +288,9 @@ module _ (t : Table) (sizes : List ℕ) (s : State) (lines : List Line) (row tur
         | inr past ↦ omega (arith, class_none (length s.values.items) (length s.prices.items) s g h.settled.holdings h.settled.free_long (omega (arith, past, h.prices_long)))
       ]
 
-  module _ (new : State) (d : IsHandedOut row s new) (w : AreWeights (weights t) (length new.values.items) (length new.prices.items))
+  module _ (new : Assignment) (d : IsHandedOut row s new) (w : AreWeights (weights t) (length new.values.items) (length new.prices.items))
       (tight : (k g : ℕ) → 0 < cell new.holdings.items k g → IsTight (weights t) new.values.items new.prices.items k g) where
-    shared_after : IsShared (demand_of t.rows.now) (number sizes) (length t.rows.now) (length sizes) (cell new.holdings.items) new.free.items new.unmet.items
+    shared_after : IsShared (demand_of t.rows.now) (number sizes) (length t.rows.now) (length sizes) (cell new.holdings.items) new.residual.items new.deficit.items
     shared_after = record {
       by_row = λ k k_in. rw h.prices_long at (d.by_row k (omega (arith, k_in, h.values_long))) ∙ h.shared.by_row k k_in;
       by_class = λ g g_in. rw h.values_long at (d.by_class g (omega (arith, g_in, h.prices_long))) ∙ h.shared.by_class g g_in;
@@ -299,7 +299,7 @@ module _ (t : Table) (sizes : List ℕ) (s : State) (lines : List Line) (row tur
     }
 
   -- the row has what it asks for
-  pub filled_more : (new : State) (lines' : List Line) (after : ℕ) → IsFilling t row s new lines' turns after → number new.unmet.items row ≡ 0 → AreFilled t sizes new lines' (row + 1) after
+  pub filled_more : (new : Assignment) (lines' : List SortedArcs) (after : ℕ) → IsFilling t row s new lines' turns after → number new.deficit.items row ≡ 0 → AreFilled t sizes new lines' (row + 1) after
   filled_more new lines' after f none = record {
     values_long = f.handed.values_long ∙ h.values_long;
     prices_long = f.handed.prices_long ∙ h.prices_long;
@@ -314,38 +314,38 @@ module _ (t : Table) (sizes : List ℕ) (s : State) (lines : List Line) (row tur
     at_most = rw add-one (most_after after (omega (arith, f.most)));
   }
     where
-      met : (k : ℕ) → k < row + 1 → number new.unmet.items k ≡ 0
+      met : (k : ℕ) → k < row + 1 → number new.deficit.items k ≡ 0
       met k k_in = elim (cases_eq k row) [
-        | inl same ↦ ap (number new.unmet.items) same ∙ none
+        | inl same ↦ ap (number new.deficit.items) same ∙ none
         | inr ne ↦ f.handed.others k ne ∙ h.met k (omega (arith, k_in, ne))
       ]
 
   -- it can't have it
-  pub stuck_at_end : (new : State) (tree : Tree) (after : ℕ) → IsAtEnd t row s new tree turns after → IsStuck t.rows.now t.firsts sizes tree.queue.reached.items tree.takings.taken.items after
+  pub stuck_at_end : (new : Assignment) (tree : SearchTree) (after : ℕ) → IsAtEnd t row s new tree turns after → IsStuck t.rows.now t.firsts sizes tree.reached_rows.reached.items tree.tree_classes.taken.items after
   stuck_at_end new tree after e = record {
-    reached_long = x.queue.reached_long ∙ e.handed.values_long ∙ h.values_long;
+    reached_long = x.reached_rows.reached_long ∙ e.handed.values_long ∙ h.values_long;
     taken_long = x.taken_long ∙ e.handed.prices_long ∙ h.prices_long;
-    hall = hall (weights t) (demand_of t.rows.now) (number sizes) (length t.rows.now) (length sizes) (cell new.holdings.items) new.free.items new.unmet.items
-        tree.queue.reached.items tree.takings.taken.items row (shared_after new e.handed e.closed.running.fit x.dual.tight) e.closed.only
+    hall = hall (weights t) (demand_of t.rows.now) (number sizes) (length t.rows.now) (length sizes) (cell new.holdings.items) new.residual.items new.deficit.items
+        tree.reached_rows.reached.items tree.tree_classes.taken.items row (shared_after new e.handed e.closed.running.fit x.dual.tight) e.closed.only
         (λ g on. taken_full (weights t) new tree g e.closed.running on) x.holders lt e.on e.lacks;
-    some = omega (arith, x.queue.counted, x.rooted);
-    at_least = λ k on. omega (arith, not_after k on, h.at_least, x.queue.counted, x.listing.counted, e.least);
+    some = omega (arith, x.reached_rows.counted, x.rooted);
+    at_least = λ k on. omega (arith, not_after k on, h.at_least, x.reached_rows.counted, x.listing.counted, e.least);
     at_most = up (total_up (demand_of t.rows.now) (suc row) (length t.rows.now) (omega (arith, lt))) (most_after after e.most);
   }
     where
-      x : IsSearch (weights t) (cell new.holdings.items) new.values.items new.prices.items new.free.items tree.queue tree.notes tree.takings
+      x : IsSearch (weights t) (cell new.holdings.items) new.values.items new.prices.items new.residual.items tree.reached_rows tree.labels tree.tree_classes
       x = e.closed.running.search
 
       -- the rows behind this one hold nothing, and so none of them is reached
       not_held : (k g : ℕ) → row < k → cell new.holdings.items k g ≡ 0
       not_held k g past = share_none k (shares_of new.holdings.items g) (e.handed.none k (λ same. absurd (omega (arith, past, same))) (h.fresh k (omega (arith, past))) g)
 
-      not_after : (k : ℕ) → is_reached tree.queue k ≡ true → k ≤ row
+      not_after : (k : ℕ) → is_reached tree.reached_rows k ≡ true → k ≤ row
       not_after k on = elim (cases_lt row k) [
-        | inl past ↦ elim (cases_lt 0 (place tree.queue k)) [
-          | inl behind ↦ (let i = x.entries k on behind in absurd (omega (arith, i.held, x.rooms k on, not_held k (via tree.queue k) past)))
-          | inr first ↦ (let zeroth : place tree.queue k ≡ 0 = omega (arith, first) in
-              let at : row_at tree.queue 0 ≡ k = subst (λ i. row_at tree.queue i ≡ k) zeroth (x.queue.placed k on) in
+        | inl past ↦ elim (cases_lt 0 (index tree.reached_rows k)) [
+          | inl behind ↦ (let i = x.entries k on behind in absurd (omega (arith, i.held, x.rooms k on, not_held k (parent_class tree.reached_rows k) past)))
+          | inr first ↦ (let zeroth : index tree.reached_rows k ≡ 0 = omega (arith, first) in
+              let at : row_at tree.reached_rows 0 ≡ k = subst (λ i. row_at tree.reached_rows i ≡ k) zeroth (x.reached_rows.placed k on) in
               absurd (omega (arith, at, e.root_at, past)))
         ]
         | inr within ↦ omega (arith, within)
@@ -356,7 +356,7 @@ module _ (t : Table) (sizes : List ℕ) (s : State) (lines : List Line) (row tur
       up le most = rw (← asked_is t.rows.now) (grow (total (demand_of t.rows.now) (suc row)) (total (demand_of t.rows.now) (length t.rows.now)) (length t.rows.now + length sizes) after le most)
 
 -- all rows have what they ask for
-pub done_at_end : (t : Table) (sizes : List ℕ) (s : State) (lines : List Line) (row turns : ℕ) → AreFilled t sizes s lines row turns → row ≡ length t.rows.now → IsDone t.rows.now t.firsts sizes s turns
+pub done_at_end : (t : Instance) (sizes : List ℕ) (s : Assignment) (lines : List SortedArcs) (row turns : ℕ) → AreFilled t sizes s lines row turns → row ≡ length t.rows.now → IsDone t.rows.now t.firsts sizes s turns
 done_at_end t sizes s lines row turns h all = record {
   values_long = h.values_long;
   prices_long = h.prices_long;

@@ -6,32 +6,32 @@ use Rattle.std.proofs.lemmas.List.Sums.{count_by-le-length}
 use Rattle.std.proofs.lemmas.Bool.{cases_eq, cases_lt, cases_Bool, eq-eqb, ne_eqb}
 use Rattle.certificate.specs.declared.rows.Offer.{Offer}
 use Rattle.transport.specs.Numbers.{number}
-use Rattle.transport.specs.Queues.{is_reached, place, room, row_at}
+use Rattle.transport.specs.ReachedRows.{is_reached, index, bottleneck, row_at}
 use Rattle.transport.specs.Searches.{is_taken}
 use Rattle.transport.specs.Totals.{row_total, class_total}
-use Rattle.transport.specs.Lines.{IsLine}
-use Rattle.transport.specs.Looks.{arc_at}
+use Rattle.transport.specs.SortedArcs.{IsSortedArcs}
+use Rattle.transport.specs.Scans.{arc_at}
 use Rattle.twins.specs.Kinds.{offers_of}
-use Rattle.transport.specs.Weights.{weights, AreLines}
+use Rattle.transport.specs.Weights.{weights, AreSortedArcs}
 use Rattle.transport.specs.States.{cell, IsRunning}
 use Rattle.transport.specs.Answers.{IsClosed, IsFound, IsAnswer, IsSameRest}
 use Rattle.transport.specs.Pushes.{in_hand}
 use Rattle.transport.specs.Pushed.{IsPushed}
 use Rattle.transport.specs.Settled.{IsTreeOf}
 use Rattle.transport.specs.Filling.{IsHandedOut, CanFill, IsFilling, IsAtEnd, a_search}
-use Rattle.transport.specs.declared.notes.Exit.{Exit}
-use Rattle.transport.specs.declared.states.State.{State}
-use Rattle.transport.specs.declared.tables.Table.{Table}
-use Rattle.transport.specs.declared.trees.Tree.{Tree}
-use Rattle.transport.specs.declared.lines.Line.{Line}
-use Rattle.transport.proofs.QueueLemmas.{marked_below}
+use Rattle.transport.specs.declared.labels.FreeEnd.{FreeEnd}
+use Rattle.transport.specs.declared.assignment.Assignment.{Assignment}
+use Rattle.transport.specs.declared.instance.Instance.{Instance}
+use Rattle.transport.specs.declared.tree.SearchTree.{SearchTree}
+use Rattle.transport.specs.declared.arcs.SortedArcs.{SortedArcs}
+use Rattle.transport.proofs.ReachedRowsLemmas.{marked_below}
 use Rattle.transport.proofs.Starting.{count_less, tidy_running}
 use Rattle.transport.proofs.Settling.{settled_pushed}
 
--- a line stays one where no more CPUs are free
-line_free : (ws : ℕ → Option ℕ) (offers : List Offer) (firsts free less : List ℕ) (l : Line) → IsLine ws offers firsts free l → length less ≡ length free
-    → ((g : ℕ) → number less g ≤ number free g) → IsLine ws offers firsts less l
-line_free ws offers firsts free less l h long down = record {
+-- sorted arcs stay so where no more CPUs are free
+line_free : (ws : ℕ → Option ℕ) (offers : List Offer) (firsts residual less : List ℕ) (l : SortedArcs) → IsSortedArcs ws offers firsts residual l → length less ≡ length residual
+    → ((g : ℕ) → number less g ≤ number residual g) → IsSortedArcs ws offers firsts less l
+line_free ws offers firsts residual less l h long down = record {
   order = h.order;
   opened_in = h.opened_in;
   arcs = h.arcs;
@@ -42,54 +42,54 @@ line_free ws offers firsts free less l h long down = record {
   firsts_in = omega (arith, h.firsts_in, long);
 }
 
-pub lines_free : (t : Table) (free less : List ℕ) (lines : List Line) → AreLines t free lines → length less ≡ length free → ((g : ℕ) → number less g ≤ number free g) → AreLines t less lines
-lines_free t free less lines h long down = record {
+pub lines_free : (t : Instance) (residual less : List ℕ) (lines : List SortedArcs) → AreSortedArcs t residual lines → length less ≡ length residual → ((g : ℕ) → number less g ≤ number residual g) → AreSortedArcs t less lines
+lines_free t residual less lines h long down = record {
   long = h.long;
   kinds = h.kinds;
-  each = λ k l is first. line_free (weights t k) (offers_of t.rows.now k) t.firsts free less l (h.each k l is first) long down;
+  each = λ k l is first. line_free (weights t k) (offers_of t.rows.now k) t.firsts residual less l (h.each k l is first) long down;
 }
 
--- no row has more room than the root
-room_here : (ws : ℕ → ℕ → Option ℕ) (s : State) (t : Tree) (k : ℕ) → IsRunning ws s t → is_reached t.queue k ≡ true → place t.queue k ≡ 0 → room t.queue k ≤ room t.queue (row_at t.queue 0)
+-- no row has a greater bottleneck than the root
+room_here : (ws : ℕ → ℕ → Option ℕ) (s : Assignment) (t : SearchTree) (k : ℕ) → IsRunning ws s t → is_reached t.reached_rows k ≡ true → index t.reached_rows k ≡ 0 → bottleneck t.reached_rows k ≤ bottleneck t.reached_rows (row_at t.reached_rows 0)
 room_here ws s t k h on e =
-    let same : row_at t.queue 0 ≡ k = ap (λ i. row_at t.queue i) (sym e) ∙ h.search.queue.placed k on in
-    omega (arith, ap (λ j. room t.queue j) same)
+    let same : row_at t.reached_rows 0 ≡ k = ap (λ i. row_at t.reached_rows i) (sym e) ∙ h.search.reached_rows.placed k on in
+    omega (arith, ap (λ j. bottleneck t.reached_rows j) same)
 
-room_below : (ws : ℕ → ℕ → Option ℕ) (s : State) (t : Tree) → IsRunning ws s t → (n k : ℕ) → place t.queue k ≤ n → is_reached t.queue k ≡ true → room t.queue k ≤ room t.queue (row_at t.queue 0)
+room_below : (ws : ℕ → ℕ → Option ℕ) (s : Assignment) (t : SearchTree) → IsRunning ws s t → (n k : ℕ) → index t.reached_rows k ≤ n → is_reached t.reached_rows k ≡ true → bottleneck t.reached_rows k ≤ bottleneck t.reached_rows (row_at t.reached_rows 0)
 room_below ws s t h zero k le on = room_here ws s t k h on (omega (arith, le))
-room_below ws s t h (suc n) k le on = elim (cases_lt 0 (place t.queue k)) [
+room_below ws s t h (suc n) k le on = elim (cases_lt 0 (index t.reached_rows k)) [
   | inl deep ↦ step deep (room_below ws s t h n)
   | inr root ↦ room_here ws s t k h on (omega (arith, root))
 ]
   where
-    step : 0 < place t.queue k → ((k : ℕ) → place t.queue k ≤ n → is_reached t.queue k ≡ true → room t.queue k ≤ room t.queue (row_at t.queue 0)) → room t.queue k ≤ room t.queue (row_at t.queue 0)
+    step : 0 < index t.reached_rows k → ((k : ℕ) → index t.reached_rows k ≤ n → is_reached t.reached_rows k ≡ true → bottleneck t.reached_rows k ≤ bottleneck t.reached_rows (row_at t.reached_rows 0)) → bottleneck t.reached_rows k ≤ bottleneck t.reached_rows (row_at t.reached_rows 0)
     step deep before =
         let e = h.search.entries k on deep in
         omega (arith, e.less, before e.near.row (omega (arith, e.before, le)) (h.search.noted _ e.near e.its).there)
 
-pub room_root : (ws : ℕ → ℕ → Option ℕ) (s : State) (t : Tree) (k : ℕ) → IsRunning ws s t → is_reached t.queue k ≡ true → room t.queue k ≤ room t.queue (row_at t.queue 0)
-room_root ws s t k h on = room_below ws s t h (place t.queue k) k (omega arith) on
+pub room_root : (ws : ℕ → ℕ → Option ℕ) (s : Assignment) (t : SearchTree) (k : ℕ) → IsRunning ws s t → is_reached t.reached_rows k ≡ true → bottleneck t.reached_rows k ≤ bottleneck t.reached_rows (row_at t.reached_rows 0)
+room_root ws s t k h on = room_below ws s t h (index t.reached_rows k) k (omega arith) on
 
 -- rows and classes that are taken up are few
-pub rows_few : (ws : ℕ → ℕ → Option ℕ) (s : State) (t : Tree) → IsRunning ws s t → length t.queue.order.items ≤ length s.values.items
-rows_few ws s t h = let q = h.search.queue in omega (arith, q.counted, q.reached_long, count_by-le-length {X = Bool} (λ b. b) t.queue.reached.items)
+pub rows_few : (ws : ℕ → ℕ → Option ℕ) (s : Assignment) (t : SearchTree) → IsRunning ws s t → length t.reached_rows.order.items ≤ length s.values.items
+rows_few ws s t h = let q = h.search.reached_rows in omega (arith, q.counted, q.reached_long, count_by-le-length {X = Bool} (λ b. b) t.reached_rows.reached.items)
 
-pub classes_few : (ws : ℕ → ℕ → Option ℕ) (s : State) (t : Tree) → IsRunning ws s t → length t.takings.order.items ≤ length s.prices.items
-classes_few ws s t h = omega (arith, h.search.listing.counted, h.search.taken_long, count_by-le-length {X = Bool} (λ b. b) t.takings.taken.items)
+pub classes_few : (ws : ℕ → ℕ → Option ℕ) (s : Assignment) (t : SearchTree) → IsRunning ws s t → length t.tree_classes.order.items ≤ length s.prices.items
+classes_few ws s t h = omega (arith, h.search.listing.counted, h.search.taken_long, count_by-le-length {X = Bool} (λ b. b) t.tree_classes.taken.items)
 
-pub taken_full : (ws : ℕ → ℕ → Option ℕ) (s : State) (t : Tree) (g : ℕ) → IsRunning ws s t → is_taken t.takings g ≡ true → number s.free.items g ≡ 0
+pub taken_full : (ws : ℕ → ℕ → Option ℕ) (s : Assignment) (t : SearchTree) (g : ℕ) → IsRunning ws s t → is_taken t.tree_classes g ≡ true → number s.residual.items g ≡ 0
 taken_full ws s t g h on = let l = h.search.linked g on in (h.search.noted g l.near l.its).full
 
--- one class fewer where an exit was found
-pub classes_fewer : (ws : ℕ → ℕ → Option ℕ) (s : State) (t : Tree) (e : Exit) → IsFound ws s t e → length t.takings.order.items < length s.prices.items
+-- one class fewer where a free end was found
+pub classes_fewer : (ws : ℕ → ℕ → Option ℕ) (s : Assignment) (t : SearchTree) (e : FreeEnd) → IsFound ws s t e → length t.tree_classes.order.items < length s.prices.items
 classes_fewer ws s t e f =
-    let x = f.running.search.exit e f.its in
+    let x = f.running.search.free_end e f.its in
     let lt = f.running.fit.class _ _ _ x.weighs in
-    omega (arith, f.running.search.listing.counted, f.running.search.taken_long, count_less t.takings.taken.items e.class (omega (arith, lt, f.running.search.taken_long)) not_taken)
+    omega (arith, f.running.search.listing.counted, f.running.search.taken_long, count_less t.tree_classes.taken.items e.class (omega (arith, lt, f.running.search.taken_long)) not_taken)
   where
-    not_taken : is_taken t.takings e.class ≡ false
-    not_taken = elim (cases_Bool (is_taken t.takings e.class)) [
-      | inl on ↦ (let x = f.running.search.exit e f.its in absurd (omega (arith, x.some_free, taken_full ws s t e.class f.running on)))
+    not_taken : is_taken t.tree_classes e.class ≡ false
+    not_taken = elim (cases_Bool (is_taken t.tree_classes e.class)) [
+      | inl on ↦ (let x = f.running.search.free_end e f.its in absurd (omega (arith, x.some_free, taken_full ws s t e.class f.running on)))
       | inr off ↦ off
     ]
 
@@ -101,57 +101,57 @@ one_more v u a lt =
     let le : (v + 1) * a ≤ u * a = mul-le-mul up same in
     omega (arith, le)
 
--- a search: `old` is the state before it, `mid` after it
-module _ (ws : ℕ → ℕ → Option ℕ) (old mid : State) (t : Tree) (root : ℕ) (running : IsRunning ws mid t) (free_long : length old.free.items ≡ length old.prices.items)
-    (values_long : length mid.values.items ≡ length old.values.items) (rest : IsSameRest old mid) (root_at : row_at t.queue 0 ≡ root) where
+-- a search: `old` is the assignment before it, `mid` after it
+module _ (ws : ℕ → ℕ → Option ℕ) (old mid : Assignment) (t : SearchTree) (root : ℕ) (running : IsRunning ws mid t) (free_long : length old.residual.items ≡ length old.prices.items)
+    (values_long : length mid.values.items ≡ length old.values.items) (rest : IsSameRest old mid) (root_at : row_at t.reached_rows 0 ≡ root) where
   pub prices_long : length mid.prices.items ≡ length old.prices.items
-  prices_long = omega (arith, running.search.free_long, ap (λ (v : Vec ℕ Global). length v.items) rest.free, free_long)
+  prices_long = omega (arith, running.search.free_long, ap (λ (v : Vec ℕ Global). length v.items) rest.residual, free_long)
 
   -- all is as it was, except for values and prices
   handed_none : IsHandedOut root old mid
   handed_none = record {
     values_long = values_long;
     prices_long = prices_long;
-    unmet_long = ap (λ (v : Vec ℕ Global). length v.items) rest.unmet;
-    by_row = λ k lt. rw (rest.holdings, rest.unmet) refl;
-    by_class = λ g lt. rw (rest.holdings, rest.free) refl;
-    others = λ k ne. rw rest.unmet refl;
+    unmet_long = ap (λ (v : Vec ℕ Global). length v.items) rest.deficit;
+    by_row = λ k lt. rw (rest.holdings, rest.deficit) refl;
+    by_class = λ g lt. rw (rest.holdings, rest.residual) refl;
+    others = λ k ne. rw rest.deficit refl;
     none = λ k ne none. rw rest.holdings none;
   }
 
-  root_on : is_reached t.queue root ≡ true
-  root_on = subst (λ k. is_reached t.queue k ≡ true) root_at (running.search.queue.on 0 running.search.rooted)
+  root_on : is_reached t.reached_rows root ≡ true
+  root_on = subst (λ k. is_reached t.reached_rows k ≡ true) root_at (running.search.reached_rows.on 0 running.search.rooted)
 
-  -- CPUs were moved from the root to the exit
-  module _ (new : State) (e : Exit) (amount : ℕ) (p : IsPushed mid new t e amount) (f : IsFound ws mid t e)
-      (unmet_long : length old.unmet.items ≡ length old.values.items) (in_rows : root < length old.values.items)
-      (less : amount ≤ number old.unmet.items root) (few : amount ≤ number mid.free.items e.class) where
-    exit_in : e.class < length mid.free.items
-    exit_in = let x = running.search.exit e f.its in omega (arith, running.fit.class _ _ _ x.weighs, running.search.free_long)
+  -- CPUs were moved from the root to the free end
+  module _ (new : Assignment) (e : FreeEnd) (amount : ℕ) (p : IsPushed mid new t e amount) (f : IsFound ws mid t e)
+      (unmet_long : length old.deficit.items ≡ length old.values.items) (in_rows : root < length old.values.items)
+      (less : amount ≤ number old.deficit.items root) (few : amount ≤ number mid.residual.items e.class) where
+    exit_in : e.class < length mid.residual.items
+    exit_in = let x = running.search.free_end e f.its in omega (arith, running.fit.class _ _ _ x.weighs, running.search.free_long)
 
-    unmet_is : new.unmet.items ≡ set old.unmet.items root (number old.unmet.items root - amount)
-    unmet_is = p.unmet ∙ rw (rest.unmet, root_at) refl
+    unmet_is : new.deficit.items ≡ set old.deficit.items root (number old.deficit.items root - amount)
+    unmet_is = p.deficit ∙ rw (rest.deficit, root_at) refl
 
-    pub unmet_root : number new.unmet.items root ≡ number old.unmet.items root - amount
-    unmet_root = rw unmet_is (get_or-set_same old.unmet.items root _ 0 (omega (arith, unmet_long, in_rows)))
+    pub unmet_root : number new.deficit.items root ≡ number old.deficit.items root - amount
+    unmet_root = rw unmet_is (get_or-set_same old.deficit.items root _ 0 (omega (arith, unmet_long, in_rows)))
 
-    unmet_other : (k : ℕ) → (k ≡ root → ⊥) → number new.unmet.items k ≡ number old.unmet.items k
-    unmet_other k ne = rw unmet_is (get_or-set_other old.unmet.items root k _ 0 ne)
+    unmet_other : (k : ℕ) → (k ≡ root → ⊥) → number new.deficit.items k ≡ number old.deficit.items k
+    unmet_other k ne = rw unmet_is (get_or-set_other old.deficit.items root k _ 0 ne)
 
-    free_same : number new.free.items e.class ≡ number mid.free.items e.class - amount
-    free_same = rw p.free (get_or-set_same mid.free.items e.class _ 0 exit_in)
+    free_same : number new.residual.items e.class ≡ number mid.residual.items e.class - amount
+    free_same = rw p.residual (get_or-set_same mid.residual.items e.class _ 0 exit_in)
 
-    free_other : (g : ℕ) → (g ≡ e.class → ⊥) → number new.free.items g ≡ number mid.free.items g
-    free_other g ne = rw p.free (get_or-set_other mid.free.items e.class g _ 0 ne)
+    free_other : (g : ℕ) → (g ≡ e.class → ⊥) → number new.residual.items g ≡ number mid.residual.items g
+    free_other g ne = rw p.residual (get_or-set_other mid.residual.items e.class g _ 0 ne)
 
-    pub free_down : (g : ℕ) → number new.free.items g ≤ number mid.free.items g
+    pub free_down : (g : ℕ) → number new.residual.items g ≤ number mid.residual.items g
     free_down g = elim (cases_eq g e.class) [
-      | inl same ↦ subst (λ h. number new.free.items h ≤ number mid.free.items h) (sym same) (omega (arith, free_same))
+      | inl same ↦ subst (λ h. number new.residual.items h ≤ number mid.residual.items h) (sym same) (omega (arith, free_same))
       | inr ne ↦ omega (arith, free_other g ne)
     ]
 
-    pub new_free_long : length new.free.items ≡ length mid.free.items
-    new_free_long = ap length p.free ∙ length-set _ _ _
+    pub new_free_long : length new.residual.items ≡ length mid.residual.items
+    new_free_long = ap length p.residual ∙ length-set _ _ _
 
     row_root : row_total (cell new.holdings.items) (length old.prices.items) root ≡ row_total (cell old.holdings.items) (length old.prices.items) root + amount
     row_root = rw (← rest.holdings, ← prices_long, ← root_at) p.by_root
@@ -163,9 +163,9 @@ module _ (ws : ℕ → ℕ → Option ℕ) (old mid : State) (t : Tree) (root : 
     class_is g lt = rw (← rest.holdings, ← values_long) (p.by_class g (omega (arith, lt, prices_long)))
 
     by_row : (k : ℕ) → k < length old.values.items
-        → row_total (cell new.holdings.items) (length old.prices.items) k + number new.unmet.items k ≡ row_total (cell old.holdings.items) (length old.prices.items) k + number old.unmet.items k
+        → row_total (cell new.holdings.items) (length old.prices.items) k + number new.deficit.items k ≡ row_total (cell old.holdings.items) (length old.prices.items) k + number old.deficit.items k
     by_row k lt = elim (cases_eq k root) [
-      | inl same ↦ subst (λ j. row_total (cell new.holdings.items) (length old.prices.items) j + number new.unmet.items j ≡ row_total (cell old.holdings.items) (length old.prices.items) j + number old.unmet.items j)
+      | inl same ↦ subst (λ j. row_total (cell new.holdings.items) (length old.prices.items) j + number new.deficit.items j ≡ row_total (cell old.holdings.items) (length old.prices.items) j + number old.deficit.items j)
           (sym same) (omega (arith, row_root, unmet_root, less))
       | inr ne ↦ omega (arith, row_other k lt ne, unmet_other k ne)
     ]
@@ -176,16 +176,16 @@ module _ (ws : ℕ → ℕ → Option ℕ) (old mid : State) (t : Tree) (root : 
     hand_other : (g : ℕ) → (g ≡ e.class → ⊥) → in_hand e.class amount g ≡ 0
     hand_other g ne = ap (λ b. cond b amount 0) (ne_eqb g e.class ne)
 
-    free_old : (g : ℕ) → number mid.free.items g ≡ number old.free.items g
-    free_old g = rw rest.free refl
+    free_old : (g : ℕ) → number mid.residual.items g ≡ number old.residual.items g
+    free_old g = rw rest.residual refl
 
     by_class : (g : ℕ) → g < length old.prices.items
-        → class_total (cell new.holdings.items) (length old.values.items) g + number new.free.items g ≡ class_total (cell old.holdings.items) (length old.values.items) g + number old.free.items g
+        → class_total (cell new.holdings.items) (length old.values.items) g + number new.residual.items g ≡ class_total (cell old.holdings.items) (length old.values.items) g + number old.residual.items g
     by_class g lt = elim (cases_eq g e.class) [
       | inl same ↦ (let c = class_is g lt in
           let h : in_hand e.class amount g ≡ amount = ap (in_hand e.class amount) same ∙ hand_here in
-          let f : number new.free.items g ≡ number mid.free.items e.class - amount = ap (number new.free.items) same ∙ free_same in
-          let m : number mid.free.items e.class ≡ number old.free.items g = free_old e.class ∙ ap (number old.free.items) (sym same) in
+          let f : number new.residual.items g ≡ number mid.residual.items e.class - amount = ap (number new.residual.items) same ∙ free_same in
+          let m : number mid.residual.items e.class ≡ number old.residual.items g = free_old e.class ∙ ap (number old.residual.items) (sym same) in
           omega (arith, c, h, f, m, few))
       | inr ne ↦ omega (arith, class_is g lt, hand_other g ne, free_other g ne, free_old g)
     ]
@@ -201,99 +201,99 @@ module _ (ws : ℕ → ℕ → Option ℕ) (old mid : State) (t : Tree) (root : 
       none = λ k ne none. p.none k (λ e. ne (e ∙ root_at)) (rw rest.holdings none);
     }
 
-pub answer_running : (ws : ℕ → ℕ → Option ℕ) (s : State) (t : Tree) (found : Option Exit) → IsAnswer ws s t found → IsRunning ws s t
+pub answer_running : (ws : ℕ → ℕ → Option ℕ) (s : Assignment) (t : SearchTree) (found : Option FreeEnd) → IsAnswer ws s t found → IsRunning ws s t
 answer_running ws s t None a = a.running
 answer_running ws s t (Some e) a = a.running
 
--- the search's end in the words of `search_for`: `lines` are those after the search
-module _ (tb : Table) (root : ℕ) (old mid : State) (t : Tree) (before : List Line) (lines : List Line) (turns : ℕ) (can : CanFill tb root old before turns) (lacks : 0 < number old.unmet.items root)
-    (running : IsRunning (weights tb) mid t) (rows : length tb.rows.now ≡ length mid.values.items) (rest : IsSameRest old mid) (root_at : row_at t.queue 0 ≡ root)
-    (room_is : room t.queue root ≡ number old.unmet.items root) (are : AreLines tb mid.free.items lines) where
+-- the search's end in the words of `augment_once`: `lines` are those after the search
+module _ (tb : Instance) (root : ℕ) (old mid : Assignment) (t : SearchTree) (before : List SortedArcs) (lines : List SortedArcs) (turns : ℕ) (can : CanFill tb root old before turns) (lacks : 0 < number old.deficit.items root)
+    (running : IsRunning (weights tb) mid t) (rows : length tb.rows.now ≡ length mid.values.items) (rest : IsSameRest old mid) (root_at : row_at t.reached_rows 0 ≡ root)
+    (room_is : bottleneck t.reached_rows root ≡ number old.deficit.items root) (are : AreSortedArcs tb mid.residual.items lines) where
   values_long : length mid.values.items ≡ length old.values.items
   values_long = sym rows ∙ can.rows
 
   prices_are : length mid.prices.items ≡ length old.prices.items
   prices_are = prices_long (weights tb) old mid t root running can.settled.free_long values_long rest root_at
 
-  on_root : is_reached t.queue root ≡ true
+  on_root : is_reached t.reached_rows root ≡ true
   on_root = root_on (weights tb) old mid t root running can.settled.free_long values_long rest root_at
 
-  a_row : a_search old ≤ number old.unmet.items root * a_search old
-  a_row = let e = one_more 0 (number old.unmet.items root) (a_search old) lacks in omega (arith, e)
+  a_row : a_search old ≤ number old.deficit.items root * a_search old
+  a_row = let e = one_more 0 (number old.deficit.items root) (a_search old) lacks in omega (arith, e)
 
-  taken_up : length t.queue.order.items + length t.takings.order.items ≤ a_search old
+  taken_up : length t.reached_rows.order.items + length t.tree_classes.order.items ≤ a_search old
   taken_up = omega (arith, rows_few (weights tb) mid t running, classes_few (weights tb) mid t running, values_long, prices_are)
 
-  pub turns_fit : turns + (length t.queue.order.items + length t.takings.order.items) < 2 ^ 64
+  pub turns_fit : turns + (length t.reached_rows.order.items + length t.tree_classes.order.items) < 2 ^ 64
   turns_fit = omega (arith, taken_up, a_row, can.fits)
 
-  pub no_exit : (after : ℕ) → after ≡ turns + (length t.queue.order.items + length t.takings.order.items) → IsClosed (weights tb) mid t → IsAtEnd tb root old mid t turns after
+  pub no_exit : (after : ℕ) → after ≡ turns + (length t.reached_rows.order.items + length t.tree_classes.order.items) → IsClosed (weights tb) mid t → IsAtEnd tb root old mid t turns after
   no_exit after is closed = record {
     closed = closed;
     root_at = root_at;
     on = on_root;
-    lacks = rw rest.unmet lacks;
+    lacks = rw rest.deficit lacks;
     handed = handed_none (weights tb) old mid t root running can.settled.free_long values_long rest root_at;
     most = omega (arith, taken_up, a_row, is);
     least = omega (arith, is);
   }
 
-  module _ (e : Exit) (f : IsFound (weights tb) mid t e) where
-    taken_up_exit : length t.queue.order.items + length t.takings.order.items + 1 ≤ a_search old
+  module _ (e : FreeEnd) (f : IsFound (weights tb) mid t e) where
+    taken_up_exit : length t.reached_rows.order.items + length t.tree_classes.order.items + 1 ≤ a_search old
     taken_up_exit = omega (arith, rows_few (weights tb) mid t running, classes_fewer (weights tb) mid t e f, values_long, prices_are)
 
-    pub turns_fit_exit : turns + (length t.queue.order.items + length t.takings.order.items) + 1 < 2 ^ 64
+    pub turns_fit_exit : turns + (length t.reached_rows.order.items + length t.tree_classes.order.items) + 1 < 2 ^ 64
     turns_fit_exit = omega (arith, taken_up_exit, a_row, can.fits)
 
-    there : is_reached t.queue e.near.row ≡ true
-    there = (running.search.exit e f.its).there
+    there : is_reached t.reached_rows e.near.row ≡ true
+    there = (running.search.free_end e f.its).there
 
-    pub exit_row : e.near.row < length t.queue.room.items
-    exit_row = omega (arith, marked_below t.queue.reached.items e.near.row there, running.search.queue.reached_long, running.search.queue.room_long)
+    pub exit_row : e.near.row < length t.reached_rows.bottleneck.items
+    exit_row = omega (arith, marked_below t.reached_rows.reached.items e.near.row there, running.search.reached_rows.reached_long, running.search.reached_rows.room_long)
 
-    pub exit_class : e.class < length mid.free.items
-    exit_class = omega (arith, running.fit.class _ _ _ (running.search.exit e f.its).weighs, running.search.free_long)
+    pub exit_class : e.class < length mid.residual.items
+    exit_class = omega (arith, running.fit.class _ _ _ (running.search.free_end e f.its).weighs, running.search.free_long)
 
-    pub room_unmet : room t.queue e.near.row ≤ number mid.unmet.items (row_at t.queue 0)
+    pub room_unmet : bottleneck t.reached_rows e.near.row ≤ number mid.deficit.items (row_at t.reached_rows 0)
     room_unmet =
         let a = room_root (weights tb) mid t e.near.row running there in
-        let b : room t.queue (row_at t.queue 0) ≡ number old.unmet.items root = ap (room t.queue) root_at ∙ room_is in
-        let d : number mid.unmet.items (row_at t.queue 0) ≡ number old.unmet.items root = rw (rest.unmet, root_at) refl in
+        let b : bottleneck t.reached_rows (row_at t.reached_rows 0) ≡ number old.deficit.items root = ap (bottleneck t.reached_rows) root_at ∙ room_is in
+        let d : number mid.deficit.items (row_at t.reached_rows 0) ≡ number old.deficit.items root = rw (rest.deficit, root_at) refl in
         omega (arith, a, b, d)
 
-    pub unmet_long : length mid.unmet.items ≡ length mid.values.items
-    unmet_long = omega (arith, ap (λ (v : Vec ℕ Global). length v.items) rest.unmet, can.unmet_long, values_long)
+    pub unmet_long : length mid.deficit.items ≡ length mid.values.items
+    unmet_long = omega (arith, ap (λ (v : Vec ℕ Global). length v.items) rest.deficit, can.unmet_long, values_long)
 
-    pub sizes_fit : (g : ℕ) → class_total (cell mid.holdings.items) (length mid.values.items) g + number mid.free.items g < 2 ^ 32
-    sizes_fit = rw (rest.holdings, rest.free, values_long) can.sizes
+    pub sizes_fit : (g : ℕ) → class_total (cell mid.holdings.items) (length mid.values.items) g + number mid.residual.items g < 2 ^ 32
+    sizes_fit = rw (rest.holdings, rest.residual, values_long) can.sizes
 
-    module _ (new : State) (amount : ℕ) (p : IsPushed mid new t e amount) (is : amount ≡ min (room t.queue e.near.row) (number mid.free.items e.class)) where
-      less : amount ≤ number old.unmet.items root
-      less = let d : number mid.unmet.items (row_at t.queue 0) ≡ number old.unmet.items root = rw (rest.unmet, root_at) refl in omega (arith, room_unmet, d, is)
+    module _ (new : Assignment) (amount : ℕ) (p : IsPushed mid new t e amount) (is : amount ≡ min (bottleneck t.reached_rows e.near.row) (number mid.residual.items e.class)) where
+      less : amount ≤ number old.deficit.items root
+      less = let d : number mid.deficit.items (row_at t.reached_rows 0) ≡ number old.deficit.items root = rw (rest.deficit, root_at) refl in omega (arith, room_unmet, d, is)
 
-      few : amount ≤ number mid.free.items e.class
+      few : amount ≤ number mid.residual.items e.class
       few = omega (arith, is)
 
       some : 0 < amount
-      some = omega (arith, is, running.search.rooms e.near.row there, (running.search.exit e f.its).some_free)
+      some = omega (arith, is, running.search.rooms e.near.row there, (running.search.free_end e f.its).some_free)
 
-      root_now : number new.unmet.items root ≡ number old.unmet.items root - amount
+      root_now : number new.deficit.items root ≡ number old.deficit.items root - amount
       root_now = unmet_root (weights tb) old mid t root running can.settled.free_long values_long rest root_at new e amount p f can.unmet_long can.in_rows less few
 
-      pub fewer : number new.unmet.items root < number old.unmet.items root
+      pub fewer : number new.deficit.items root < number old.deficit.items root
       fewer = omega (arith, root_now, some, less)
 
-      pub pushed : (after : ℕ) → after ≡ turns + (length t.queue.order.items + length t.takings.order.items) + 1 → IsFilling tb root old new lines turns after
+      pub pushed : (after : ℕ) → after ≡ turns + (length t.reached_rows.order.items + length t.tree_classes.order.items) + 1 → IsFilling tb root old new lines turns after
       pushed after after_is = record {
         settled = settled_pushed (weights tb) mid new t e amount f p;
-        lines_are = lines_free tb mid.free.items new.free.items lines are
+        lines_are = lines_free tb mid.residual.items new.residual.items lines are
             (new_free_long (weights tb) old mid t root running can.settled.free_long values_long rest root_at new e amount p f can.unmet_long can.in_rows less few)
             (free_down (weights tb) old mid t root running can.settled.free_long values_long rest root_at new e amount p f can.unmet_long can.in_rows less few);
         handed = handed_pushed (weights tb) old mid t root running can.settled.free_long values_long rest root_at new e amount p f can.unmet_long can.in_rows less few;
         kept = omega (arith, after_is);
         fewer = omega (arith, fewer);
         unsought = λ same. absurd (omega (arith, same, fewer));
-        most = omega (arith, taken_up_exit, one_more (number new.unmet.items root) (number old.unmet.items root) (a_search old) fewer, after_is);
+        most = omega (arith, taken_up_exit, one_more (number new.deficit.items root) (number old.deficit.items root) (a_search old) fewer, after_is);
         least = λ lt. omega (arith, running.search.rooted, after_is);
       }
 

@@ -9,7 +9,7 @@ use Rattle.cpu_set.specs.Members.{IsCpu}
 use Rattle.cpu_set.specs.Pointwise.{contains-empty, contains-insert}
 use Rattle.cpu_set.specs.declared.TheConstants.{CPU_LIMIT}
 use Rattle.transport.specs.Numbers.{number, IsEachOnce}
-use Rattle.transport.specs.Firsts.{IsIndex}
+use Rattle.transport.specs.Representatives.{IsIndex}
 use Rattle.transport.proofs.Numbers.{not_both}
 
 pub index_none : (cpus : List ℕ) (s : Ids) (class_of : List ℕ) → length class_of ≡ CPU_LIMIT → ((g : ℕ) → IsCpu (number cpus g)) → s ≡ finset.empty → IsIndex cpus s class_of 0
@@ -31,7 +31,7 @@ index_more cpus s class_of g cpu h once lt is = record {
   long = length-set class_of cpu g ∙ h.long;
   in_range = h.in_range;
   first = λ c has. elim (cases_eq c cpu) [
-    | inl e ↦ record { place = g; within = lt; is = sym is ∙ sym e }
+    | inl e ↦ record { index = g; within = lt; is = sym is ∙ sym e }
     | inr ne ↦ h.first c (sym (contains-insert s cpu c ∙ ap (λ b. b || finset.contains s c) (ne_eqb c cpu ne)) ∙ has)
   ];
   all = λ j below. elim (cases_eq j g) [

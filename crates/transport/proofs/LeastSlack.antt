@@ -5,28 +5,28 @@ use Rattle.std.proofs.lemmas.Bool.{cases_lt}
 use Rattle.transport.specs.Numbers.{number, IsIn}
 use Rattle.transport.specs.Searches.{near_of, is_taken, IsSlack}
 use Rattle.transport.specs.States.{IsLeastOf, IsLeastUpTo, IsLesser, IsTakenOrUnseen}
-use Rattle.transport.specs.declared.notes.Near.{Near}
-use Rattle.transport.specs.declared.notes.Exit.{Exit}
-use Rattle.transport.specs.declared.notes.Notes.{Notes}
-use Rattle.transport.specs.declared.takings.Takings.{Takings}
+use Rattle.transport.specs.declared.labels.Label.{Label}
+use Rattle.transport.specs.declared.labels.FreeEnd.{FreeEnd}
+use Rattle.transport.specs.declared.labels.Labels.{Labels}
+use Rattle.transport.specs.declared.tree.TreeClasses.{TreeClasses}
 use Rattle.transport.proofs.Numbers.{not_both, in_push, in_last}
 
 -- no slack of the class is less
-abbrev IsAtLeast : List ℕ → List ℕ → Notes → Takings → ℕ → ℕ → Type 0
-IsAtLeast values prices ns ts by g = (n : Near) → near_of ns g ≡ Some n → is_taken ts g ≡ false → by + number values n.row ≤ n.weight + number prices g
+abbrev IsAtLeast : List ℕ → List ℕ → Labels → TreeClasses → ℕ → ℕ → Type 0
+IsAtLeast values prices ns ts by g = (n : Label) → near_of ns g ≡ Some n → is_taken ts g ≡ false → by + number values n.row ≤ n.weight + number prices g
 
-pub least_none : (values prices : List ℕ) (ns : Notes) (ts : Takings) (xs nearest : List ℕ) → ns.exit ≡ None → IsLeastUpTo values prices ns ts (take 0 xs) nearest None
-least_none values prices ns ts xs nearest none = record { exit = none; noted = λ i n lt. absurd (omega arith) }
+pub least_none : (values prices : List ℕ) (ns : Labels) (ts : TreeClasses) (xs nearest : List ℕ) → ns.free_end ≡ None → IsLeastUpTo values prices ns ts (take 0 xs) nearest None
+least_none values prices ns ts xs nearest none = record { free_end = none; noted = λ i n lt. absurd (omega arith) }
 
-pub least_exit : (values prices : List ℕ) (ns : Notes) (ts : Takings) (xs nearest : List ℕ) (e : Exit) (by : ℕ) → nearest ≡ [] → ns.exit ≡ Some e → by + number values e.near.row ≡ e.near.weight + number prices e.class
+pub least_exit : (values prices : List ℕ) (ns : Labels) (ts : TreeClasses) (xs nearest : List ℕ) (e : FreeEnd) (by : ℕ) → nearest ≡ [] → ns.free_end ≡ Some e → by + number values e.near.row ≡ e.near.weight + number prices e.class
     → IsLeastUpTo values prices ns ts (take 0 xs) nearest (Some by)
 least_exit values prices ns ts xs nearest e by empty is equal = record {
-  exit = λ f its. (let same : f ≡ e = (let both : Some f ≡ Some e = sym its ∙ is in cc) in
+  free_end = λ f its. (let same : f ≡ e = (let both : Some f ≡ Some e = sym its ∙ is in cc) in
       subst (λ x. by + number values x.near.row ≤ x.near.weight + number prices x.class) (sym same) (omega (arith, equal)));
   noted = λ i n lt. absurd (omega arith);
   each = λ i lt. absurd (omega (arith, lt, ap length empty));
   all = λ i lt. absurd (omega arith);
-  attained = inl (record { exit = e; its = is; equal = equal });
+  attained = inl (record { free_end = e; its = is; equal = equal });
 }
 
 -- what holds of each class so far, and of the next
@@ -41,14 +41,14 @@ at_next P xs i x lt is before here j within = elim (cases_lt j i) [
     at_end e = rw (e, get_or-take (i + 1) xs i 0 (omega arith), ← is) here
 
 -- a class that is taken up or was not seen
-pub least_skip : (values prices : List ℕ) (ns : Notes) (ts : Takings) (xs nearest : List ℕ) (i x : ℕ) (least : Option ℕ) → i < length xs → x ≡ number xs i → IsTakenOrUnseen ns ts x
+pub least_skip : (values prices : List ℕ) (ns : Labels) (ts : TreeClasses) (xs nearest : List ℕ) (i x : ℕ) (least : Option ℕ) → i < length xs → x ≡ number xs i → IsTakenOrUnseen ns ts x
     → IsLeastUpTo values prices ns ts (take i xs) nearest least → IsLeastUpTo values prices ns ts (take (i + 1) xs) nearest least
 least_skip values prices ns ts xs nearest i x None lt is skip h = record {
-  exit = h.exit;
+  free_end = h.free_end;
   noted = λ j n within. at_next (IsTakenOrUnseen ns ts) xs i x lt is (λ k w m. h.noted k m w) skip j within n;
 }
 least_skip values prices ns ts xs nearest i x (Some by) lt is skip h = record {
-  exit = h.exit;
+  free_end = h.free_end;
   noted = λ j n within. at_next (IsAtLeast values prices ns ts by) xs i x lt is (λ k w m. h.noted k m w) (λ m its off. absurd (not_both _ (skip m its) off)) j within n;
   each = h.each;
   all = at_next (λ g. IsSlack values prices ns ts g by → IsIn nearest g) xs i x lt is h.all (λ s. absurd (not_both _ (skip s.near s.its) s.left));
@@ -56,7 +56,7 @@ least_skip values prices ns ts xs nearest i x (Some by) lt is skip h = record {
 }
 
 -- a slack
-module _ (values prices : List ℕ) (ns : Notes) (ts : Takings) (xs old new : List ℕ) (i x slack by : ℕ) (lt : i < length xs) (is : x ≡ number xs i) (s : IsSlack values prices ns ts x slack) where
+module _ (values prices : List ℕ) (ns : Labels) (ts : TreeClasses) (xs old new : List ℕ) (i x slack by : ℕ) (lt : i < length xs) (is : x ≡ number xs i) (s : IsSlack values prices ns ts x slack) where
   here : (b : ℕ) → b ≤ slack → IsAtLeast values prices ns ts b x
   here b within m its off =
       let same : s.near ≡ m = (let both : Some s.near ≡ Some m = sym s.its ∙ its in cc) in
@@ -71,7 +71,7 @@ module _ (values prices : List ℕ) (ns : Notes) (ts : Takings) (xs old new : Li
 
   least_still : by < slack → IsLeastOf values prices ns ts (take i xs) old by → IsLeastOf values prices ns ts (take (i + 1) xs) old by
   least_still less h = record {
-    exit = h.exit;
+    free_end = h.free_end;
     noted = λ j n w. at_next (IsAtLeast values prices ns ts by) xs i x lt is (λ k v m. h.noted k m v) (here by (omega (arith, less))) j w n;
     each = h.each;
     all = at_next (λ g. IsSlack values prices ns ts g by → IsIn old g) xs i x lt is h.all (λ at. absurd (apart slack x less (here slack (omega arith)) at));
@@ -80,7 +80,7 @@ module _ (values prices : List ℕ) (ns : Notes) (ts : Takings) (xs old new : Li
 
   least_shared : by ≡ slack → IsLeastOf values prices ns ts (take i xs) old by → IsLeastOf values prices ns ts (take (i + 1) xs) (old ++ x ∷ []) by
   least_shared e h = record {
-    exit = h.exit;
+    free_end = h.free_end;
     noted = λ j n w. at_next (IsAtLeast values prices ns ts by) xs i x lt is (λ k v m. h.noted k m v) (here by (omega (arith, e))) j w n;
     each = each;
     all = at_next (λ g. IsSlack values prices ns ts g by → IsIn (old ++ x ∷ []) g) xs i x lt is (λ k v at. in_push old x _ (h.all k v at)) (λ at. in_last old x);
@@ -94,9 +94,9 @@ module _ (values prices : List ℕ) (ns : Notes) (ts : Takings) (xs old new : Li
       ]
 
   less_exit : (least : Option ℕ) → ((b : ℕ) → least ≡ Some b → by < b) → IsLeastUpTo values prices ns ts (take i xs) old least
-      → (e : Exit) → ns.exit ≡ Some e → by + number values e.near.row ≤ e.near.weight + number prices e.class
-  less_exit None less h e its = let no : Some e ≡ None = sym its ∙ h.exit in cc
-  less_exit (Some b) less h e its = omega (arith, less b refl, h.exit e its)
+      → (e : FreeEnd) → ns.free_end ≡ Some e → by + number values e.near.row ≤ e.near.weight + number prices e.class
+  less_exit None less h e its = let no : Some e ≡ None = sym its ∙ h.free_end in cc
+  less_exit (Some b) less h e its = omega (arith, less b refl, h.free_end e its)
 
   less_before : (least : Option ℕ) → ((b : ℕ) → least ≡ Some b → by < b) → IsLeastUpTo values prices ns ts (take i xs) old least
       → (j : ℕ) → j < length (take i xs) → IsAtLeast values prices ns ts (by + 1) (number (take i xs) j)
@@ -106,7 +106,7 @@ module _ (values prices : List ℕ) (ns : Notes) (ts : Takings) (xs old new : Li
   least_less : (least : Option ℕ) → ((b : ℕ) → least ≡ Some b → by < b) → by ≡ slack → IsLeastUpTo values prices ns ts (take i xs) old least
       → IsLeastOf values prices ns ts (take (i + 1) xs) (x ∷ []) by
   least_less least less e h = record {
-    exit = less_exit least less h;
+    free_end = less_exit least less h;
     noted = λ j n w. at_next (IsAtLeast values prices ns ts by) xs i x lt is (λ k v m its off. (let le = less_before least less h k v m its off in omega (arith, le))) (here by (omega (arith, e))) j w n;
     each = each;
     all = at_next (λ g. IsSlack values prices ns ts g by → IsIn (x ∷ []) g) xs i x lt is (λ k v at. absurd (apart (by + 1) _ (omega arith) (less_before least less h k v) at)) (λ at. in_last [] x);
@@ -126,5 +126,5 @@ module _ (values prices : List ℕ) (ns : Notes) (ts : Takings) (xs old new : Li
     ]
   ]
 
-pub least_some : (values prices : List ℕ) (ns : Notes) (ts : Takings) (done nearest : List ℕ) (by : ℕ) (least : Option ℕ) → least ≡ Some by → IsLeastUpTo values prices ns ts done nearest least → IsLeastOf values prices ns ts done nearest by
+pub least_some : (values prices : List ℕ) (ns : Labels) (ts : TreeClasses) (done nearest : List ℕ) (by : ℕ) (least : Option ℕ) → least ≡ Some by → IsLeastUpTo values prices ns ts done nearest least → IsLeastOf values prices ns ts done nearest by
 least_some values prices ns ts done nearest by least is h = subst (IsLeastUpTo values prices ns ts done nearest) is h

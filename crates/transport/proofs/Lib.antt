@@ -4,13 +4,13 @@ pub mod Clearing
 pub mod Filling
 pub mod HandingOut
 pub mod LeastSlack
-pub mod LineLemmas
+pub mod SortedArcsLemmas
 pub mod Indexing
-pub mod Looking
-pub mod Noting
+pub mod Scanning
+pub mod Labelling
 pub mod Numbers
 pub mod Pushing
-pub mod QueueLemmas
+pub mod ReachedRowsLemmas
 pub mod Rising
 pub mod Running
 pub mod Sharing

@@ -19,14 +19,14 @@ raised_none xs order by = record { long = refl; on = λ i h. absurd (omega arith
 
 pub in_push : (order : List ℕ) (n k : ℕ) → IsIn order k → IsIn (order ++ n ∷ []) k
 in_push order n k h = record {
-  place = h.place;
+  index = h.index;
   within = omega (arith, length_push order n, h.within);
-  is = get_or_append_left order (n ∷ []) 0 h.place h.within ∙ h.is;
+  is = get_or_append_left order (n ∷ []) 0 h.index h.within ∙ h.is;
 }
 
 pub in_last : (order : List ℕ) (n : ℕ) → IsIn (order ++ n ∷ []) n
 in_last order n = record {
-  place = length order;
+  index = length order;
   within = omega (arith, length_push order n);
   is = get_or_push order n 0 (length order) refl;
 }
@@ -47,7 +47,7 @@ raised_push old new order n by h apart lt = record {
     earlier : (i : ℕ) → i < length order → number (set new n (number new n + by)) (number (order ++ n ∷ []) i) ≡ number old (number (order ++ n ∷ []) i) + by
     earlier i before =
         rw (get_or_append_left order (n ∷ []) 0 i before)
-        (get_or-set_other new n (number order i) _ 0 (λ e. apart (record { place = i; within = before; is = e })) ∙ h.on i before)
+        (get_or-set_other new n (number order i) _ 0 (λ e. apart (record { index = i; within = before; is = e })) ∙ h.on i before)
 
     last : (i : ℕ) → i ≡ length order → number (set new n (number new n + by)) (number (order ++ n ∷ []) i) ≡ number old (number (order ++ n ∷ []) i) + by
     last i e =
@@ -66,8 +66,8 @@ raised_more old new order i n by h lt is once within =
     apart : IsIn (take i order) n → ⊥
     apart here =
         let short : length (take i order) ≡ i = length-take-le i order (omega arith) in
-        let e = get_or-take i order here.place 0 (omega (arith, short, here.within)) in
-        let same : here.place ≡ i = once here.place i (omega (arith, short, here.within)) lt (sym e ∙ here.is ∙ is) in
+        let e = get_or-take i order here.index 0 (omega (arith, short, here.within)) in
+        let same : here.index ≡ i = once here.index i (omega (arith, short, here.within)) lt (sym e ∙ here.is ∙ is) in
         omega (arith, short, here.within)
 
 -- a marked place's number is raised, and no other
@@ -76,10 +76,10 @@ pub raised_marked :
     → (k : ℕ) → is_marked marks k ≡ true → number new k ≡ number old k + by
 raised_marked old new order marks by h listing k here =
     let p = listing.all k here in
-    subst (λ n. number new n ≡ number old n + by) p.is (h.on p.place p.within)
+    subst (λ n. number new n ≡ number old n + by) p.is (h.on p.index p.within)
 
 pub raised_others :
     (old new order : List ℕ) (marks : List Bool) (by : ℕ) → IsRaised old new order by → IsListing order marks
     → (k : ℕ) → is_marked marks k ≡ false → number new k ≡ number old k
 raised_others old new order marks by h listing k not =
-    h.off k (λ here. not_both (is_marked marks k) (subst (λ n. is_marked marks n ≡ true) here.is (listing.on here.place here.within)) not)
+    h.off k (λ here. not_both (is_marked marks k) (subst (λ n. is_marked marks n ≡ true) here.is (listing.on here.index here.within)) not)

@@ -24,10 +24,10 @@ use Rattle.twins.specs.declared.holders.Share.{Share}
 use Rattle.transport.specs.Numbers.{number}
 use Rattle.transport.specs.Totals.{total}
 use Rattle.transport.specs.Filled.{demand_of, IsDone}
-use Rattle.transport.specs.Firsts.{first_of}
+use Rattle.transport.specs.Representatives.{first_of}
 use Rattle.transport.specs.Searches.{most}
 use Rattle.transport.specs.Solved.{IsSolvedPlan}
-use Rattle.transport.specs.declared.states.State.{State}
+use Rattle.transport.specs.declared.assignment.Assignment.{Assignment}
 use Rattle.transport.proofs.Totals.{total_of_list, shares_of_rows}
 use Rattle.transport.proofs.Classes.{weighs_as_class, size_of_class, no_size_past}
 
@@ -45,7 +45,7 @@ small_values (n ∷ ns) low =
     both (nat_le n MAX_AMOUNT) (values_fit ns) (small_value n (low 0)) (small_values ns (λ k. low (suc k)))
 
 module _
-    (rows : List RowView) (classes : List Ids) (s : State) (turns : ℕ) (grouping : IsGrouping rows classes)
+    (rows : List RowView) (classes : List Ids) (s : Assignment) (turns : ℕ) (grouping : IsGrouping rows classes)
     (done : IsDone rows (map first_of classes) (map (λ s. set.len s) classes) s turns) where
   sizes_long : length (map (λ (s : Ids). set.len s) classes) ≡ length classes
   sizes_long = length-map classes (λ (s : Ids). set.len s)
@@ -66,15 +66,15 @@ module _
   held_is : (g : ℕ) → total (λ k. cell s.holdings.items k g) (length rows) ≡ held_of s.holdings.items g
   held_is g = shares_of_rows (get_or s.holdings.items g []) (length rows) (shares_below g)
 
-  held_and_free : (g : ℕ) → g < length classes → held_of s.holdings.items g + number s.free.items g ≡ set.len (class_at classes g)
+  held_and_free : (g : ℕ) → g < length classes → held_of s.holdings.items g + number s.residual.items g ≡ set.len (class_at classes g)
   held_and_free g lt =
       omega (arith, held_is g, done.shared.by_class g (omega (arith, sizes_long, lt)), size_of_class rows classes grouping g lt)
 
   none_past : (g : ℕ) → length classes ≤ g → held_of s.holdings.items g ≡ 0
   none_past g past = ap (λ shares. sum_by (λ (t : Share). t.amount) shares) (get_or_past s.holdings.items g [] (omega (arith, holdings_long, past)))
 
-  pub room : (g : ℕ) → held_of s.holdings.items g ≤ set.len (class_at classes g)
-  room g = elim (cases_lt g (length classes)) [
+  pub bottleneck : (g : ℕ) → held_of s.holdings.items g ≤ set.len (class_at classes g)
+  bottleneck g = elim (cases_lt g (length classes)) [
     | inl lt ↦ omega (arith, held_and_free g lt)
     | inr past ↦ omega (arith, none_past g past)
   ]
@@ -113,7 +113,7 @@ module _
       subst (λ xs. All (All (λ (t : Share). t.row < n)) xs) (sym same) (subst (λ m. All (All (λ (t : Share). t.row < m)) s.holdings.items) count rows_in)
 
   pub room_at : (holdings : List (List Share)) → holdings ≡ s.holdings.items → (g : ℕ) → held_of holdings g ≤ set.len (class_at classes g)
-  room_at holdings same g = subst (λ xs. held_of xs g ≤ set.len (class_at classes g)) (sym same) (room g)
+  room_at holdings same g = subst (λ xs. held_of xs g ≤ set.len (class_at classes g)) (sym same) (bottleneck g)
 
   proved_plan :
       (sets : List Ids) → IsTrue (rows_fit rows) → IsDeal classes s.holdings.items sets → length sets ≡ length rows → ClassesProvePlans

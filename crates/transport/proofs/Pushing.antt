@@ -1,17 +1,17 @@
 -- CPUs moved along the way from the root to a class with a free CPU, row by row.
 use Rattle.std.proofs.Common.{◌≡◌, ℕ, ◌+◌, ◌<◌, ◌≤◌, true, cond, List, Option, Some, refl, sym, ap, ◌∙◌, subst, inl, inr, arith}
 use Rattle.std.proofs.lemmas.Bool.{cases_eq, eq-eqb, ne_eqb}
-use Rattle.transport.specs.Queues.{is_reached, room, place}
+use Rattle.transport.specs.ReachedRows.{is_reached, bottleneck, index}
 use Rattle.transport.specs.Duals.{IsTight}
 use Rattle.transport.specs.Totals.{row_total, class_total}
 use Rattle.transport.specs.Pushes.{IsPushing, IsGiven, IsGivenUp, in_hand}
-use Rattle.transport.specs.declared.queues.Queue.{Queue}
-use Rattle.transport.specs.declared.notes.Near.{Near}
+use Rattle.transport.specs.declared.tree.ReachedRows.{ReachedRows}
+use Rattle.transport.specs.declared.labels.Label.{Label}
 use Rattle.transport.proofs.Sums.{total_change, total_same}
 
--- at the start, the exit's class is in hand
-pub pushing_start : (ws : ℕ → ℕ → Option ℕ) (values prices : List ℕ) (q : Queue) (cells : ℕ → ℕ → ℕ) (rows classes row g amount : ℕ)
-    → ((k h : ℕ) → 0 < cells k h → IsTight ws values prices k h) → is_reached q row ≡ true → IsTight ws values prices row g → amount ≤ room q row
+-- at the start, the free end's class is in hand
+pub pushing_start : (ws : ℕ → ℕ → Option ℕ) (values prices : List ℕ) (q : ReachedRows) (cells : ℕ → ℕ → ℕ) (rows classes row g amount : ℕ)
+    → ((k h : ℕ) → 0 < cells k h → IsTight ws values prices k h) → is_reached q row ≡ true → IsTight ws values prices row g → amount ≤ bottleneck q row
     → IsPushing ws values prices q cells cells rows classes row g g amount
 pushing_start ws values prices q cells rows classes row g amount tight on link less = record {
   on = on;
@@ -57,10 +57,10 @@ class_kept : (old new : ℕ → ℕ → ℕ) (g rows : ℕ) → ((k : ℕ) → n
 class_kept old new g rows h = total_same (λ k. new k g) (λ k. old k g) rows (λ k lt. h k)
 
 -- the row takes the class in hand and gives up the class through which it was reached, which goes on to the row before it
-module _ (ws : ℕ → ℕ → Option ℕ) (values prices : List ℕ) (q : Queue) (start cells mid new : ℕ → ℕ → ℕ) (rows classes row g h first amount : ℕ) (n : Near)
+module _ (ws : ℕ → ℕ → Option ℕ) (values prices : List ℕ) (q : ReachedRows) (start cells mid new : ℕ → ℕ → ℕ) (rows classes row g h first amount : ℕ) (n : Label)
     (p : IsPushing ws values prices q start cells rows classes row g first amount)
     (fit : (k j w : ℕ) → ws k j ≡ Some w → j < classes) (in_rows : row < rows)
-    (before : place q n.row < place q row) (there : is_reached q n.row ≡ true) (link : IsTight ws values prices n.row h) (less : room q row ≤ room q n.row)
+    (before : index q n.row < index q row) (there : is_reached q n.row ≡ true) (link : IsTight ws values prices n.row h) (less : bottleneck q row ≤ bottleneck q n.row)
     (give : IsGiven cells mid row g amount) (take : IsGivenUp mid new row h amount) where
   g_in : g < classes
   g_in = fit row g p.link.weight p.link.its
@@ -123,11 +123,11 @@ module _ (ws : ℕ → ℕ → Option ℕ) (values prices : List ℕ) (q : Queue
     by_class = λ j lt. omega (arith, mid_class j, new_class j, p.by_class j lt);
   }
     where
-      far : (k : ℕ) → place q k ≤ place q n.row → k ≡ row → ⊥
-      far k upto e = let same = ap (λ x. place q x) e in omega (arith, same, upto, before)
+      far : (k : ℕ) → index q k ≤ index q n.row → k ≡ row → ⊥
+      far k upto e = let same = ap (λ x. index q x) e in omega (arith, same, upto, before)
 
 -- at the root the class in hand stays
-module _ (ws : ℕ → ℕ → Option ℕ) (values prices : List ℕ) (q : Queue) (start cells new : ℕ → ℕ → ℕ) (rows classes row g first amount : ℕ)
+module _ (ws : ℕ → ℕ → Option ℕ) (values prices : List ℕ) (q : ReachedRows) (start cells new : ℕ → ℕ → ℕ) (rows classes row g first amount : ℕ)
     (p : IsPushing ws values prices q start cells rows classes row g first amount)
     (fit : (k j w : ℕ) → ws k j ≡ Some w → j < classes) (in_rows : row < rows) (give : IsGiven cells new row g amount) where
   pub end_tight : (k j : ℕ) → 0 < new k j → IsTight ws values prices k j

@@ -4,31 +4,31 @@ use Rattle.std.proofs.lemmas.List.Sums.{count_by-le-length}
 use Rattle.std.proofs.lemmas.Bool.{cases_Bool}
 use Rattle.certificate.specs.declared.limits.TheConstants.{MAX_ROWS}
 use Rattle.transport.specs.Numbers.{number}
-use Rattle.transport.specs.Queues.{IsQueue, is_reached, place, row_at}
+use Rattle.transport.specs.ReachedRows.{IsReachedRows, is_reached, index, row_at}
 use Rattle.transport.specs.Duals.{IsTight}
 use Rattle.transport.specs.Searches.{is_taken, IsLinked, weight_limit, most, top, IsClose, IsSearch, IsCovered, AllCovered, IsLeast, IsAttained, AreWeights}
-use Rattle.transport.specs.declared.queues.Queue.{Queue}
-use Rattle.transport.specs.declared.notes.Exit.{Exit}
-use Rattle.transport.specs.declared.notes.Notes.{Notes}
-use Rattle.transport.specs.declared.takings.Takings.{Takings}
+use Rattle.transport.specs.declared.tree.ReachedRows.{ReachedRows}
+use Rattle.transport.specs.declared.labels.FreeEnd.{FreeEnd}
+use Rattle.transport.specs.declared.labels.Labels.{Labels}
+use Rattle.transport.specs.declared.tree.TreeClasses.{TreeClasses}
 
-module _ (ws : ℕ → ℕ → Option ℕ) (cells : ℕ → ℕ → ℕ) (values prices free new news : List ℕ) (q : Queue) (ns : Notes) (ts : Takings) (by : ℕ)
-    (fit : AreWeights ws (length values) (length prices)) (s : IsSearch ws cells values prices free q ns ts)
+module _ (ws : ℕ → ℕ → Option ℕ) (cells : ℕ → ℕ → ℕ) (values prices residual new news : List ℕ) (q : ReachedRows) (ns : Labels) (ts : TreeClasses) (by : ℕ)
+    (fit : AreWeights ws (length values) (length prices)) (s : IsSearch ws cells values prices residual q ns ts)
     (all : AllCovered ws values prices q ns ts (length q.order.items)) (least : IsLeast values prices ns ts by)
     (rv : (k : ℕ) → is_reached q k ≡ true → number new k ≡ number values k + by)
     (ov : (k : ℕ) → is_reached q k ≡ false → number new k ≡ number values k)
     (rp : (g : ℕ) → is_taken ts g ≡ true → number news g ≡ number prices g + by)
     (op : (g : ℕ) → is_taken ts g ≡ false → number news g ≡ number prices g) where
   covered_at : (k g w : ℕ) → is_reached q k ≡ true → is_taken ts g ≡ false → ws k g ≡ Some w → IsCovered values prices ns k g w
-  covered_at k g w on off its = all.covered k g w on (s.queue.within k on) its off
+  covered_at k g w on off its = all.covered k g w on (s.reached_rows.within k on) its off
 
-  exit_free : (e : Exit) → ns.exit ≡ Some e → number prices e.class ≡ 0
-  exit_free e is = s.dual.zero e.class (s.exit e is).some_free
+  exit_free : (e : FreeEnd) → ns.free_end ≡ Some e → number prices e.class ≡ 0
+  exit_free e is = s.dual.zero e.class (s.free_end e is).some_free
 
   room_by : (k g w : ℕ) → is_taken ts g ≡ false → IsCovered values prices ns k g w → number values k + by ≤ w + number prices g
   room_by k g w off c = elim c [
     | inl c ↦ omega (arith, c.least, least.noted g c.near c.its off)
-    | inr c ↦ omega (arith, c.least, least.exit c.exit c.its, exit_free c.exit c.its)
+    | inr c ↦ omega (arith, c.least, least.free_end c.free_end c.its, exit_free c.free_end c.its)
   ]
 
   pub room_to_rise : (k g w : ℕ) → is_reached q k ≡ true → is_taken ts g ≡ false → ws k g ≡ Some w → number values k + by ≤ w + number prices g
@@ -55,17 +55,17 @@ module _ (ws : ℕ → ℕ → Option ℕ) (cells : ℕ → ℕ → ℕ) (values
     ]
   ]
 
-  full : (g : ℕ) → is_taken ts g ≡ true → number free g ≡ 0
+  full : (g : ℕ) → is_taken ts g ≡ true → number residual g ≡ 0
   full g taken = let l = s.linked g taken in (s.noted g l.near l.its).full
 
-  zero_new : (g : ℕ) → 0 < number free g → number news g ≡ 0
+  zero_new : (g : ℕ) → 0 < number residual g → number news g ≡ 0
   zero_new g some = elim (cases_Bool (is_taken ts g)) [
     | inl taken ↦ absurd (omega (arith, full g taken, some))
     | inr off ↦ op g off ∙ s.dual.zero g some
   ]
 
   root_on : is_reached q (row_at q 0) ≡ true
-  root_on = s.queue.on 0 s.rooted
+  root_on = s.reached_rows.on 0 s.rooted
 
   linked_new : (g : ℕ) → is_taken ts g ≡ true → IsLinked new news ns g
   linked_new g taken =
@@ -77,16 +77,16 @@ module _ (ws : ℕ → ℕ → Option ℕ) (cells : ℕ → ℕ → ℕ) (values
       let c = s.close k on in
       record { up = omega (arith, c.up, rv k on, rv (row_at q 0) root_on); down = omega (arith, c.down, rv k on, rv (row_at q 0) root_on) }
 
-  few : (k : ℕ) → is_reached q k ≡ true → place q k < MAX_ROWS
+  few : (k : ℕ) → is_reached q k ≡ true → index q k < MAX_ROWS
   few k on =
-      omega (arith, s.queue.within k on, s.queue.counted, count_by-le-length {X = Bool} (λ b. b) q.reached.items, s.queue.reached_long, fit.few)
+      omega (arith, s.reached_rows.within k on, s.reached_rows.counted, count_by-le-length {X = Bool} (λ b. b) q.reached.items, s.reached_rows.reached_long, fit.few)
 
   -- some reached row is low after the raise
   module _ (at : IsAttained values prices ns ts by) where
     low_row : (k : ℕ) → is_reached q k ≡ true → number values k + by ≤ weight_limit + most + most
     low_row k on = elim at [
-      | inl e ↦ near_low e.exit.near.row (s.exit e.exit e.its).there
-          (omega (arith, e.equal, exit_free e.exit e.its, fit.low _ _ _ (s.exit e.exit e.its).weighs))
+      | inl e ↦ near_low e.free_end.near.row (s.free_end e.free_end e.its).there
+          (omega (arith, e.equal, exit_free e.free_end e.its, fit.low _ _ _ (s.free_end e.free_end e.its).weighs))
       | inr c ↦ near_low c.1.near.row (s.noted c.0 c.1.near c.1.its).there
           (omega (arith, c.1.equal, s.prices_low c.0 c.1.left, fit.low _ _ _ (s.noted c.0 c.1.near c.1.its).weighs))
     ]
@@ -109,9 +109,9 @@ module _ (ws : ℕ → ℕ → Option ℕ) (cells : ℕ → ℕ → ℕ) (values
       | inr off ↦ omega (arith, op g off, s.prices_low g off)
     ]
 
-    pub search_raised : length new ≡ length values → length news ≡ length prices → IsSearch ws cells new news free q ns ts
+    pub search_raised : length new ≡ length values → length news ≡ length prices → IsSearch ws cells new news residual q ns ts
     search_raised long longs = record {
-      queue = subst (λ n. IsQueue n q) (sym long) s.queue;
+      reached_rows = subst (λ n. IsReachedRows n q) (sym long) s.reached_rows;
       listing = s.listing;
       taken_long = s.taken_long ∙ sym longs;
       nears_long = s.nears_long ∙ sym longs;
@@ -129,7 +129,7 @@ module _ (ws : ℕ → ℕ → Option ℕ) (cells : ℕ → ℕ → ℕ) (values
       noted_in = λ i lt. omega (arith, s.noted_in i lt, longs);
       linked = linked_new;
       holders = s.holders;
-      exit = s.exit;
+      free_end = s.free_end;
       close = close_new;
       others_low = λ k not. omega (arith, ov k not, s.others_low k not);
       prices_low = λ g off. omega (arith, op g off, s.prices_low g off);
@@ -140,7 +140,7 @@ module _ (ws : ℕ → ℕ → Option ℕ) (cells : ℕ → ℕ → ℕ) (values
   covered_new : (k g w : ℕ) → is_reached q k ≡ true → is_taken ts g ≡ false → IsCovered values prices ns k g w → IsCovered new news ns k g w
   covered_new k g w on off c = elim c [
     | inl c ↦ inl (record { near = c.near; its = c.its; least = omega (arith, c.least, rv k on, rv c.near.row (s.noted g c.near c.its).there) })
-    | inr c ↦ inr (record { exit = c.exit; its = c.its; least = omega (arith, c.least, rv k on, op g off, rv c.exit.near.row (s.exit c.exit c.its).there) })
+    | inr c ↦ inr (record { free_end = c.free_end; its = c.its; least = omega (arith, c.least, rv k on, op g off, rv c.free_end.near.row (s.free_end c.free_end c.its).there) })
   ]
 
   pub covered_raised : AllCovered ws new news q ns ts (length q.order.items)

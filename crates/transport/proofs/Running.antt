@@ -1,30 +1,30 @@
--- A step of a search, for a state and a tree.
+-- A step of a search, for an assignment and a tree.
 use Rattle.std.proofs.Common.{◌≡◌, ℕ, zero, suc, ◌∷◌, take, ◌+◌, ◌<◌, ◌≤◌, Bool, true, false, List, [], length, get_or, Option, Some, None, Vec, Global, refl, sym, ap, ◌∙◌, subst, inl, inr, arith}
 use Rattle.std.proofs.lemmas.List.{get_or_read, get_or-set_same, get_or-set_other, length_push, length-take-le, get_or-take}
 use Rattle.std.proofs.lemmas.Bool.{cases_lt}
 use Rattle.transport.specs.Numbers.{number, IsListing, IsRaised}
 use Rattle.twins.specs.Holdings.{share_of}
 use Rattle.transport.specs.Shares.{AllBelow}
-use Rattle.transport.specs.Queues.{IsQueue, is_reached, room}
+use Rattle.transport.specs.ReachedRows.{IsReachedRows, is_reached, bottleneck}
 use Rattle.transport.specs.Searches.{near_of, is_taken, IsLeast, IsAttained}
-use Rattle.transport.specs.States.{shares_of, cell, AreHoldings, IsRunning, HasLooked, IsTakenUp, HasTaken, IsInReach, IsSameRoot}
+use Rattle.transport.specs.States.{shares_of, cell, AreHoldings, IsRunning, HasScanned, IsTakenUp, HasTaken, IsInReach, IsSameRoot}
 use Rattle.twins.specs.declared.holders.Share.{Share}
-use Rattle.transport.specs.declared.states.State.{State}
-use Rattle.transport.specs.declared.trees.Tree.{Tree}
-use Rattle.transport.specs.declared.notes.Near.{Near}
-use Rattle.transport.specs.declared.notes.Exit.{Exit}
-use Rattle.transport.specs.declared.queues.Queue.{Queue}
+use Rattle.transport.specs.declared.assignment.Assignment.{Assignment}
+use Rattle.transport.specs.declared.tree.SearchTree.{SearchTree}
+use Rattle.transport.specs.declared.labels.Label.{Label}
+use Rattle.transport.specs.declared.labels.FreeEnd.{FreeEnd}
+use Rattle.transport.specs.declared.tree.ReachedRows.{ReachedRows}
 use Rattle.transport.proofs.Numbers.{raised_marked, raised_others, not_both}
-use Rattle.transport.proofs.QueueLemmas.{marked_below}
+use Rattle.transport.proofs.ReachedRowsLemmas.{marked_below}
 use Rattle.transport.proofs.Rising.{search_raised, covered_raised}
 use Rattle.transport.proofs.Taking.{search_taken, covered_taken, root_same}
 
--- a queue lists its reached rows
-pub queue_lists : (rows : ℕ) (q : Queue) → IsQueue rows q → IsListing q.order.items q.reached.items
+-- the order lists the reached rows
+pub queue_lists : (rows : ℕ) (q : ReachedRows) → IsReachedRows rows q → IsListing q.order.items q.reached.items
 queue_lists rows q h = record {
   on = h.on;
-  all = λ k on. record { place = number q.place.items k; within = h.within k on; is = h.placed k on };
-  once = λ i j a b e. sym (h.at i a) ∙ ap (λ k. number q.place.items k) e ∙ h.at j b;
+  all = λ k on. record { index = number q.index.items k; within = h.within k on; is = h.placed k on };
+  once = λ i j a b e. sym (h.at i a) ∙ ap (λ k. number q.index.items k) e ∙ h.at j b;
   counted = h.counted;
 }
 
@@ -35,90 +35,90 @@ listed_below order marks n h long i lt = omega (arith, marked_below marks (numbe
 pub shares_read : (holdings : List (List Share)) (g n : ℕ) (v : List Share) → g < n → length holdings ≡ n → v ≡ get_or holdings g v → v ≡ shares_of holdings g
 shares_read holdings g n v low long is = get_or_read holdings g v (omega (arith, low, long)) is []
 
-module _ (ws : ℕ → ℕ → Option ℕ) (s : State) (old new : Tree) (g : ℕ) (n : Near) (shares : List Share) (h : IsRunning ws s old) (its : near_of old.notes g ≡ Some n) (left : is_taken old.takings g ≡ false)
+module _ (ws : ℕ → ℕ → Option ℕ) (s : Assignment) (old new : SearchTree) (g : ℕ) (n : Label) (shares : List Share) (h : IsRunning ws s old) (its : near_of old.labels g ≡ Some n) (left : is_taken old.tree_classes g ≡ false)
     (equal : number s.values.items n.row ≡ n.weight + number s.prices.items g) (in_range : g < length s.prices.items) (are : shares ≡ shares_of s.holdings.items g) (up : IsTakenUp old new g n.row shares) where
   held : (k : ℕ) → share_of k shares ≡ cell s.holdings.items k g
   held k = ap (λ xs. share_of k xs) are
 
-  queue : IsQueue (length s.values.items) new.queue
-  queue = subst (λ m. IsQueue m new.queue) h.search.queue.reached_long up.queue
+  reached_rows : IsReachedRows (length s.values.items) new.reached_rows
+  reached_rows = subst (λ m. IsReachedRows m new.reached_rows) h.search.reached_rows.reached_long up.reached_rows
 
   pub running_taken : IsRunning ws s new
   running_taken = record {
     fit = h.fit;
-    search = rw up.notes (search_taken ws (cell s.holdings.items) s.values.items s.prices.items s.free.items old.queue new.queue old.notes old.takings new.takings g n shares h.fit h.search its left equal up.taken queue up.grown held in_range);
+    search = rw up.labels (search_taken ws (cell s.holdings.items) s.values.items s.prices.items s.residual.items old.reached_rows new.reached_rows old.labels old.tree_classes new.tree_classes g n shares h.fit h.search its left equal up.taken reached_rows up.grown held in_range);
     holdings = h.holdings;
   }
 
-  pub running_root : IsSameRoot old.queue new.queue
+  pub running_root : IsSameRoot old.reached_rows new.reached_rows
   running_root = record {
-    row = root_same ws (cell s.holdings.items) s.values.items s.prices.items s.free.items old.queue new.queue old.notes old.takings new.takings g n shares h.fit h.search its left equal up.taken queue up.grown held in_range;
-    rooms = (up.grown.kept _ (h.search.queue.on 0 h.search.rooted)).rooms;
+    row = root_same ws (cell s.holdings.items) s.values.items s.prices.items s.residual.items old.reached_rows new.reached_rows old.labels old.tree_classes new.tree_classes g n shares h.fit h.search its left equal up.taken reached_rows up.grown held in_range;
+    rooms = (up.grown.kept _ (h.search.reached_rows.on 0 h.search.rooted)).rooms;
   }
 
-  pub looked_taken : (looked : ℕ) → looked ≤ length old.queue.order.items → HasLooked ws s old looked → HasLooked ws s new looked
+  pub looked_taken : (looked : ℕ) → looked ≤ length old.reached_rows.order.items → HasScanned ws s old looked → HasScanned ws s new looked
   looked_taken looked less all =
-      rw up.notes (covered_taken ws (cell s.holdings.items) s.values.items s.prices.items s.free.items old.queue new.queue old.notes old.takings new.takings g n shares h.fit h.search its left equal up.taken queue up.grown held in_range looked less all)
+      rw up.labels (covered_taken ws (cell s.holdings.items) s.values.items s.prices.items s.residual.items old.reached_rows new.reached_rows old.labels old.tree_classes new.tree_classes g n shares h.fit h.search its left equal up.taken reached_rows up.grown held in_range looked less all)
 
-module _ (ws : ℕ → ℕ → Option ℕ) (old new : State) (t : Tree) (by : ℕ) (h : IsRunning ws old t) (looked : HasLooked ws old t (length t.queue.order.items))
-    (least : IsLeast old.values.items old.prices.items t.notes t.takings by) (at : IsAttained old.values.items old.prices.items t.notes t.takings by)
-    (values : IsRaised old.values.items new.values.items t.queue.order.items by) (prices : IsRaised old.prices.items new.prices.items t.takings.order.items by)
-    (free : new.free ≡ old.free) (holdings : new.holdings ≡ old.holdings) where
-  rows_listed : IsListing t.queue.order.items t.queue.reached.items
-  rows_listed = queue_lists _ t.queue h.search.queue
+module _ (ws : ℕ → ℕ → Option ℕ) (old new : Assignment) (t : SearchTree) (by : ℕ) (h : IsRunning ws old t) (looked : HasScanned ws old t (length t.reached_rows.order.items))
+    (least : IsLeast old.values.items old.prices.items t.labels t.tree_classes by) (at : IsAttained old.values.items old.prices.items t.labels t.tree_classes by)
+    (values : IsRaised old.values.items new.values.items t.reached_rows.order.items by) (prices : IsRaised old.prices.items new.prices.items t.tree_classes.order.items by)
+    (residual : new.residual ≡ old.residual) (holdings : new.holdings ≡ old.holdings) where
+  rows_listed : IsListing t.reached_rows.order.items t.reached_rows.reached.items
+  rows_listed = queue_lists _ t.reached_rows h.search.reached_rows
 
-  rv : (k : ℕ) → is_reached t.queue k ≡ true → number new.values.items k ≡ number old.values.items k + by
+  rv : (k : ℕ) → is_reached t.reached_rows k ≡ true → number new.values.items k ≡ number old.values.items k + by
   rv = raised_marked _ _ _ _ by values rows_listed
 
-  ov : (k : ℕ) → is_reached t.queue k ≡ false → number new.values.items k ≡ number old.values.items k
+  ov : (k : ℕ) → is_reached t.reached_rows k ≡ false → number new.values.items k ≡ number old.values.items k
   ov = raised_others _ _ _ _ by values rows_listed
 
-  rp : (g : ℕ) → is_taken t.takings g ≡ true → number new.prices.items g ≡ number old.prices.items g + by
+  rp : (g : ℕ) → is_taken t.tree_classes g ≡ true → number new.prices.items g ≡ number old.prices.items g + by
   rp = raised_marked _ _ _ _ by prices h.search.listing
 
-  op : (g : ℕ) → is_taken t.takings g ≡ false → number new.prices.items g ≡ number old.prices.items g
+  op : (g : ℕ) → is_taken t.tree_classes g ≡ false → number new.prices.items g ≡ number old.prices.items g
   op = raised_others _ _ _ _ by prices h.search.listing
 
   pub running_raised : IsRunning ws new t
   running_raised = record {
     fit = rw (values.long, prices.long) h.fit;
-    search = rw (free, holdings) (search_raised ws (cell old.holdings.items) old.values.items old.prices.items old.free.items new.values.items new.prices.items t.queue t.notes t.takings by h.fit h.search looked least rv ov rp op at values.long prices.long);
+    search = rw (residual, holdings) (search_raised ws (cell old.holdings.items) old.values.items old.prices.items old.residual.items new.values.items new.prices.items t.reached_rows t.labels t.tree_classes by h.fit h.search looked least rv ov rp op at values.long prices.long);
     holdings = rw (values.long, prices.long, holdings) h.holdings;
   }
 
-  pub looked_raised : HasLooked ws new t (length t.queue.order.items)
-  looked_raised = covered_raised ws (cell old.holdings.items) old.values.items old.prices.items old.free.items new.values.items new.prices.items t.queue t.notes t.takings by h.fit h.search looked least rv ov rp op
+  pub looked_raised : HasScanned ws new t (length t.reached_rows.order.items)
+  looked_raised = covered_raised ws (cell old.holdings.items) old.values.items old.prices.items old.residual.items new.values.items new.prices.items t.reached_rows t.labels t.tree_classes by h.fit h.search looked least rv ov rp op
 
 -- a read of what a class is noted with
-pub near_read : (nears : List (Option Near)) (g n : ℕ) (x y : Option Near) → g < n → length nears ≡ n → x ≡ get_or nears g x → x ≡ y → get_or nears g None ≡ y
-near_read nears g n x y lt long is e = sym (get_or_read nears g x (omega (arith, lt, long)) is None) ∙ e
+pub near_read : (of_class : List (Option Label)) (g n : ℕ) (x y : Option Label) → g < n → length of_class ≡ n → x ≡ get_or of_class g x → x ≡ y → get_or of_class g None ≡ y
+near_read of_class g n x y lt long is e = sym (get_or_read of_class g x (omega (arith, lt, long)) is None) ∙ e
 
-pub in_reach : (ws : ℕ → ℕ → Option ℕ) (s : State) (t : Tree) (g : ℕ) (n : Near) → IsRunning ws s t → is_reached t.queue n.row ≡ true → ws n.row g ≡ Some n.weight → IsInReach s t g n
+pub in_reach : (ws : ℕ → ℕ → Option ℕ) (s : Assignment) (t : SearchTree) (g : ℕ) (n : Label) → IsRunning ws s t → is_reached t.reached_rows n.row ≡ true → ws n.row g ≡ Some n.weight → IsInReach s t g n
 in_reach ws s t g n h there weighs =
-    let row : n.row < length t.queue.reached.items = marked_below t.queue.reached.items n.row there in
+    let row : n.row < length t.reached_rows.reached.items = marked_below t.reached_rows.reached.items n.row there in
     record {
       class = h.fit.class n.row g n.weight weighs;
-      row = omega (arith, row, h.search.queue.reached_long);
+      row = omega (arith, row, h.search.reached_rows.reached_long);
       fits = h.search.prices_fit g;
       below = h.search.dual.below n.row g n.weight weighs;
-      in_rooms = omega (arith, row, h.search.queue.reached_long, h.search.queue.room_long);
+      in_rooms = omega (arith, row, h.search.reached_rows.reached_long, h.search.reached_rows.room_long);
       some_room = h.search.rooms n.row there;
     }
 
-pub noted_in_reach : (ws : ℕ → ℕ → Option ℕ) (s : State) (t : Tree) (g : ℕ) (n : Near) → IsRunning ws s t → near_of t.notes g ≡ Some n → IsInReach s t g n
+pub noted_in_reach : (ws : ℕ → ℕ → Option ℕ) (s : Assignment) (t : SearchTree) (g : ℕ) (n : Label) → IsRunning ws s t → near_of t.labels g ≡ Some n → IsInReach s t g n
 noted_in_reach ws s t g n h its = let o = h.search.noted g n its in in_reach ws s t g n h o.there o.weighs
 
-pub exit_in_reach : (ws : ℕ → ℕ → Option ℕ) (s : State) (t : Tree) (e : Exit) → IsRunning ws s t → t.notes.exit ≡ Some e → IsInReach s t e.class e.near
-exit_in_reach ws s t e h its = let o = h.search.exit e its in in_reach ws s t e.class e.near h o.there o.weighs
+pub exit_in_reach : (ws : ℕ → ℕ → Option ℕ) (s : Assignment) (t : SearchTree) (e : FreeEnd) → IsRunning ws s t → t.labels.free_end ≡ Some e → IsInReach s t e.class e.near
+exit_in_reach ws s t e h its = let o = h.search.free_end e its in in_reach ws s t e.class e.near h o.there o.weighs
 
 -- a class that stays, and one that is taken up
-pub taken_none : (s : State) (t : Tree) (done : List ℕ)
-    → ((i : ℕ) (n : Near) → i < length done → near_of t.notes (number done i) ≡ Some n → number s.values.items n.row ≡ n.weight + number s.prices.items (number done i) → is_taken t.takings (number done i) ≡ true)
+pub taken_none : (s : Assignment) (t : SearchTree) (done : List ℕ)
+    → ((i : ℕ) (n : Label) → i < length done → near_of t.labels (number done i) ≡ Some n → number s.values.items n.row ≡ n.weight + number s.prices.items (number done i) → is_taken t.tree_classes (number done i) ≡ true)
     → HasTaken s t t done
 taken_none s t done all = record {
   running = λ ws h. h;
   looked = λ ws upto less h all. all;
-  notes = refl;
+  labels = refl;
   nearest = refl;
   longer = omega arith;
   root = λ ws h. record { row = refl; rooms = refl };
@@ -127,52 +127,52 @@ taken_none s t done all = record {
   grew = inl refl;
 }
 
-pub taken_start : (s : State) (t : Tree) (xs : List ℕ) → HasTaken s t t (take 0 xs)
+pub taken_start : (s : Assignment) (t : SearchTree) (xs : List ℕ) → HasTaken s t t (take 0 xs)
 taken_start s t xs = taken_none s t [] (λ i n lt. absurd (omega arith))
 
-pub taken_left : (s : State) (t : Tree) (g : ℕ) → ((n : Near) → near_of t.notes g ≡ Some n → number s.values.items n.row ≡ n.weight + number s.prices.items g → is_taken t.takings g ≡ true) → HasTaken s t t (g ∷ [])
+pub taken_left : (s : Assignment) (t : SearchTree) (g : ℕ) → ((n : Label) → near_of t.labels g ≡ Some n → number s.values.items n.row ≡ n.weight + number s.prices.items g → is_taken t.tree_classes g ≡ true) → HasTaken s t t (g ∷ [])
 taken_left s t g all = taken_none s t (g ∷ []) go
   where
-    go : (i : ℕ) (n : Near) → i < 1 → near_of t.notes (number (g ∷ []) i) ≡ Some n → number s.values.items n.row ≡ n.weight + number s.prices.items (number (g ∷ []) i) → is_taken t.takings (number (g ∷ []) i) ≡ true
+    go : (i : ℕ) (n : Label) → i < 1 → near_of t.labels (number (g ∷ []) i) ≡ Some n → number s.values.items n.row ≡ n.weight + number s.prices.items (number (g ∷ []) i) → is_taken t.tree_classes (number (g ∷ []) i) ≡ true
     go zero n lt = all n
     go (suc i) n lt = absurd (omega arith)
 
-pub taken_one : (s : State) (old new : Tree) (g : ℕ) (n : Near) (shares : List Share) → near_of old.notes g ≡ Some n → is_taken old.takings g ≡ false
-    → number s.values.items n.row ≡ n.weight + number s.prices.items g → g < length s.prices.items → length old.takings.taken.items ≡ length s.prices.items
+pub taken_one : (s : Assignment) (old new : SearchTree) (g : ℕ) (n : Label) (shares : List Share) → near_of old.labels g ≡ Some n → is_taken old.tree_classes g ≡ false
+    → number s.values.items n.row ≡ n.weight + number s.prices.items g → g < length s.prices.items → length old.tree_classes.taken.items ≡ length s.prices.items
     → shares ≡ shares_of s.holdings.items g → IsTakenUp old new g n.row shares → HasTaken s old new (g ∷ [])
 taken_one s old new g n shares its left equal in_range long are up = record {
   running = λ ws h. running_taken ws s old new g n shares h its left equal in_range are up;
   looked = λ ws upto less h all. looked_taken ws s old new g n shares h its left equal in_range are up upto less all;
-  notes = up.notes;
+  labels = up.labels;
   nearest = up.nearest;
   longer = up.grown.longer;
   root = λ ws h. running_root ws s old new g n shares h its left equal in_range are up;
-  kept = λ h on. rw up.taken.taken (get_or-set_other old.takings.taken.items g h true false (λ e. not_both _ (subst (λ x. is_taken old.takings x ≡ true) e on) left) ∙ on);
+  kept = λ h on. rw up.taken.taken (get_or-set_other old.tree_classes.taken.items g h true false (λ e. not_both _ (subst (λ x. is_taken old.tree_classes x ≡ true) e on) left) ∙ on);
   all = all;
-  grew = inr (omega (arith, ap length up.taken.order, length_push old.takings.order.items g));
+  grew = inr (omega (arith, ap length up.taken.order, length_push old.tree_classes.order.items g));
 }
   where
-    here : is_taken new.takings g ≡ true
-    here = rw up.taken.taken (get_or-set_same old.takings.taken.items g true false (omega (arith, long)))
+    here : is_taken new.tree_classes g ≡ true
+    here = rw up.taken.taken (get_or-set_same old.tree_classes.taken.items g true false (omega (arith, long)))
 
-    all : (i : ℕ) (m : Near) → i < 1 → near_of old.notes (number (g ∷ []) i) ≡ Some m → number s.values.items m.row ≡ m.weight + number s.prices.items (number (g ∷ []) i) → is_taken new.takings (number (g ∷ []) i) ≡ true
+    all : (i : ℕ) (m : Label) → i < 1 → near_of old.labels (number (g ∷ []) i) ≡ Some m → number s.values.items m.row ≡ m.weight + number s.prices.items (number (g ∷ []) i) → is_taken new.tree_classes (number (g ∷ []) i) ≡ true
     all zero m lt is e = here
     all (suc i) m lt is e = absurd (omega arith)
 
-pub taken_more : (s : State) (a b d : Tree) (xs : List ℕ) (i x : ℕ) → i < length xs → x ≡ number xs i → HasTaken s a b (take i xs) → HasTaken s b d (x ∷ []) → HasTaken s a d (take (i + 1) xs)
+pub taken_more : (s : Assignment) (a b d : SearchTree) (xs : List ℕ) (i x : ℕ) → i < length xs → x ≡ number xs i → HasTaken s a b (take i xs) → HasTaken s b d (x ∷ []) → HasTaken s a d (take (i + 1) xs)
 taken_more s a b d xs i x lt is f g = record {
   running = λ ws h. g.running ws (f.running ws h);
   looked = λ ws upto less h all. g.looked ws upto (omega (arith, f.longer, less)) (f.running ws h) (f.looked ws upto less h all);
-  notes = g.notes ∙ f.notes;
+  labels = g.labels ∙ f.labels;
   nearest = g.nearest ∙ f.nearest;
   longer = omega (arith, f.longer, g.longer);
   root = λ ws h. (let p = f.root ws h in let r = g.root ws (f.running ws h) in
-      record { row = r.row ∙ p.row; rooms = subst (λ k. room d.queue k ≡ room b.queue k) p.row r.rooms ∙ p.rooms });
+      record { row = r.row ∙ p.row; rooms = subst (λ k. bottleneck d.reached_rows k ≡ bottleneck b.reached_rows k) p.row r.rooms ∙ p.rooms });
   kept = λ k on. g.kept k (f.kept k on);
   all = λ j n within. all j n (omega (arith, within, length-take-le (i + 1) xs (omega arith)));
   grew = elim f.grew [
-    | inl same ↦ elim g.grew [ inl again ↦ inl (again ∙ same) | inr more ↦ inr (subst (λ ts. length ts.order.items < length d.takings.order.items) same more) ]
-    | inr more ↦ inr (elim g.grew [ inl again ↦ subst (λ ts. length a.takings.order.items < length ts.order.items) (sym again) more | inr on ↦ omega (arith, more, on) ])
+    | inl same ↦ elim g.grew [ inl again ↦ inl (again ∙ same) | inr more ↦ inr (subst (λ ts. length ts.order.items < length d.tree_classes.order.items) same more) ]
+    | inr more ↦ inr (elim g.grew [ inl again ↦ subst (λ ts. length a.tree_classes.order.items < length ts.order.items) (sym again) more | inr on ↦ omega (arith, more, on) ])
   ];
 }
   where
@@ -182,33 +182,33 @@ taken_more s a b d xs i x lt is f g = record {
     before : (j : ℕ) → j < i → number (take (i + 1) xs) j ≡ number xs j
     before j h = get_or-take (i + 1) xs j 0 (omega arith)
 
-    early : (j : ℕ) (n : Near) → j < i → near_of a.notes (number xs j) ≡ Some n → number s.values.items n.row ≡ n.weight + number s.prices.items (number xs j) → is_taken d.takings (number xs j) ≡ true
+    early : (j : ℕ) (n : Label) → j < i → near_of a.labels (number xs j) ≡ Some n → number s.values.items n.row ≡ n.weight + number s.prices.items (number xs j) → is_taken d.tree_classes (number xs j) ≡ true
     early j n h its e =
         let same = get_or-take i xs j 0 h in
         g.kept (number xs j) (rw same at (f.all j n (omega (arith, short, h)) (rw same its) (rw same e)))
 
-    late : (n : Near) → near_of a.notes x ≡ Some n → number s.values.items n.row ≡ n.weight + number s.prices.items x → is_taken d.takings x ≡ true
-    late n its e = g.all 0 n (omega arith) (rw f.notes its) e
+    late : (n : Label) → near_of a.labels x ≡ Some n → number s.values.items n.row ≡ n.weight + number s.prices.items x → is_taken d.tree_classes x ≡ true
+    late n its e = g.all 0 n (omega arith) (rw f.labels its) e
 
-    all : (j : ℕ) (n : Near) → j < i + 1 → near_of a.notes (number (take (i + 1) xs) j) ≡ Some n → number s.values.items n.row ≡ n.weight + number s.prices.items (number (take (i + 1) xs) j) → is_taken d.takings (number (take (i + 1) xs) j) ≡ true
+    all : (j : ℕ) (n : Label) → j < i + 1 → near_of a.labels (number (take (i + 1) xs) j) ≡ Some n → number s.values.items n.row ≡ n.weight + number s.prices.items (number (take (i + 1) xs) j) → is_taken d.tree_classes (number (take (i + 1) xs) j) ≡ true
     all j n within = elim (cases_lt j i) [
       | inl h ↦ rw (before j h) (early j n h)
       | inr h ↦ at_end (omega arith)
     ]
       where
-        at_end : j ≡ i → near_of a.notes (number (take (i + 1) xs) j) ≡ Some n → number s.values.items n.row ≡ n.weight + number s.prices.items (number (take (i + 1) xs) j) → is_taken d.takings (number (take (i + 1) xs) j) ≡ true
+        at_end : j ≡ i → near_of a.labels (number (take (i + 1) xs) j) ≡ Some n → number s.values.items n.row ≡ n.weight + number s.prices.items (number (take (i + 1) xs) j) → is_taken d.tree_classes (number (take (i + 1) xs) j) ≡ true
         at_end e = rw (e, get_or-take (i + 1) xs i 0 (omega arith), ← is) (late n)
 
 pub shares_below : (rows classes : ℕ) (holdings : List (List Share)) (g : ℕ) (shares : List Share) → AreHoldings rows classes holdings → shares ≡ shares_of holdings g → AllBelow rows shares
 shares_below rows classes holdings g shares h are = rw are (h.rows_in g)
 
-pub taken_unseen : (s : State) (t : Tree) (g : ℕ) → near_of t.notes g ≡ None → HasTaken s t t (g ∷ [])
+pub taken_unseen : (s : Assignment) (t : SearchTree) (g : ℕ) → near_of t.labels g ≡ None → HasTaken s t t (g ∷ [])
 taken_unseen s t g none = taken_left s t g (λ n its e. (let no : Some n ≡ None = sym its ∙ none in cc))
 
-pub taken_far : (s : State) (t : Tree) (g by : ℕ) (m : Near) → near_of t.notes g ≡ Some m → by + number s.values.items m.row ≡ m.weight + number s.prices.items g → (by ≡ 0 → ⊥) → HasTaken s t t (g ∷ [])
+pub taken_far : (s : Assignment) (t : SearchTree) (g by : ℕ) (m : Label) → near_of t.labels g ≡ Some m → by + number s.values.items m.row ≡ m.weight + number s.prices.items g → (by ≡ 0 → ⊥) → HasTaken s t t (g ∷ [])
 taken_far s t g by m is slack some = taken_left s t g far
   where
-    far : (n : Near) → near_of t.notes g ≡ Some n → number s.values.items n.row ≡ n.weight + number s.prices.items g → is_taken t.takings g ≡ true
+    far : (n : Label) → near_of t.labels g ≡ Some n → number s.values.items n.row ≡ n.weight + number s.prices.items g → is_taken t.tree_classes g ≡ true
     far n its e =
         let same : n ≡ m = (let both : Some n ≡ Some m = sym its ∙ is in cc) in
         let e2 : number s.values.items m.row ≡ m.weight + number s.prices.items g = subst (λ x. number s.values.items x.row ≡ x.weight + number s.prices.items g) same e in

@@ -6,22 +6,22 @@ use Rattle.transport.specs.Numbers.{number}
 use Rattle.transport.specs.Answers.{IsFound}
 use Rattle.transport.specs.Pushed.{IsPushed}
 use Rattle.transport.specs.Settled.{IsSettled}
-use Rattle.transport.specs.declared.notes.Exit.{Exit}
-use Rattle.transport.specs.declared.states.State.{State}
-use Rattle.transport.specs.declared.trees.Tree.{Tree}
+use Rattle.transport.specs.declared.labels.FreeEnd.{FreeEnd}
+use Rattle.transport.specs.declared.assignment.Assignment.{Assignment}
+use Rattle.transport.specs.declared.tree.SearchTree.{SearchTree}
 use Rattle.transport.proofs.Starting.{found_values_low, found_prices_low}
 
-module _ (ws : ℕ → ℕ → Option ℕ) (old new : State) (t : Tree) (e : Exit) (amount : ℕ) (h : IsFound ws old t e) (p : IsPushed old new t e amount) where
-  free_in : e.class < length old.free.items
+module _ (ws : ℕ → ℕ → Option ℕ) (old new : Assignment) (t : SearchTree) (e : FreeEnd) (amount : ℕ) (h : IsFound ws old t e) (p : IsPushed old new t e amount) where
+  free_in : e.class < length old.residual.items
   free_in =
-      let x = h.running.search.exit e h.its in
+      let x = h.running.search.free_end e h.its in
       omega (arith, h.running.fit.class e.near.row e.class e.near.weight x.weighs, h.running.search.free_long)
 
-  free_less : (g : ℕ) → number new.free.items g ≤ number old.free.items g
+  free_less : (g : ℕ) → number new.residual.items g ≤ number old.residual.items g
   free_less g = elim (cases_eq g e.class) [
-    | inl same ↦ (let f : number new.free.items g ≡ number old.free.items e.class - amount = rw (p.free, same) (get_or-set_same old.free.items e.class _ 0 free_in) in
-        omega (arith, f, ap (λ k. number old.free.items k) same))
-    | inr ne ↦ (let f : number new.free.items g ≡ number old.free.items g = rw p.free (get_or-set_other old.free.items e.class g _ 0 ne) in omega (arith, f))
+    | inl same ↦ (let f : number new.residual.items g ≡ number old.residual.items e.class - amount = rw (p.residual, same) (get_or-set_same old.residual.items e.class _ 0 free_in) in
+        omega (arith, f, ap (λ k. number old.residual.items k) same))
+    | inr ne ↦ (let f : number new.residual.items g ≡ number old.residual.items g = rw p.residual (get_or-set_other old.residual.items e.class g _ 0 ne) in omega (arith, f))
   ]
 
   pub settled_pushed : IsSettled ws new
@@ -32,7 +32,7 @@ module _ (ws : ℕ → ℕ → Option ℕ) (old new : State) (t : Tree) (e : Exi
       tight = rw (p.values, p.prices) (p.tight ws h);
       zero = λ g some. rw p.prices (h.running.search.dual.zero g (omega (arith, some, free_less g)));
     };
-    free_long = rw p.prices (ap length p.free ∙ length-set _ _ _ ∙ h.running.search.free_long);
+    free_long = rw p.prices (ap length p.residual ∙ length-set _ _ _ ∙ h.running.search.free_long);
     values_low = rw p.values (found_values_low ws old t e h);
     prices_low = rw p.prices (found_prices_low ws old t e h);
     holdings = rw (p.values, p.prices) p.holdings;

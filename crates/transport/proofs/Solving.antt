@@ -2,8 +2,8 @@
 use Rattle.std.proofs.Common.{List, Result, IfOk, Ok, Err}
 use Rattle.certificate.specs.RowView.{RowView}
 use Rattle.transport.specs.Solved.{IsRight, IsDecided, AreTwinsDealt, ArePricesOfClasses, AreTurns, IsSolved}
-use Rattle.transport.specs.declared.answers.Answer.{Answer}
-use Rattle.transport.specs.declared.answers.Answer.TheVariants.{Plan, Short}
+use Rattle.transport.specs.declared.solver.Answer.{Answer}
+use Rattle.transport.specs.declared.solver.Answer.TheVariants.{Plan, Short}
 
 pub right_of : (rows : List RowView) (a : Answer) → IsSolved rows a → IsRight rows a
 right_of rows (Plan sets prices total turns) h = h.proved

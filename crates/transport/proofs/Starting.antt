@@ -1,4 +1,4 @@
--- A search at its start, and the bounds after it has found an exit.
+-- A search at its start, and the bounds after it has found a free end.
 use Rattle.std.proofs.Common.{◌≡◌, ℕ, zero, suc, ◌<◌, ◌≤◌, Bool, true, false, cond, List, [], ◌∷◌, length, get_or, replicate, Option, Some, None, refl, sym, ap, ◌∙◌, subst, inl, inr, arith}
 use Rattle.std.specs.List.{count_by}
 use Rattle.std.proofs.lemmas.Bool.{cases_Bool, cases_lt}
@@ -6,19 +6,19 @@ use Rattle.std.proofs.lemmas.List.{length_push, length-replicate, get_or-replica
 use Rattle.std.proofs.lemmas.List.Sums.{sum_by-cons, count_by-le-length}
 use Rattle.certificate.specs.declared.limits.TheConstants.{MAX_ROWS}
 use Rattle.transport.specs.Numbers.{number, is_marked}
-use Rattle.transport.specs.Queues.{IsQueue, IsUnreached, IsAtRoot, IsReached, is_reached, place, room, row_at}
+use Rattle.transport.specs.ReachedRows.{IsReachedRows, IsUnreached, IsAtRoot, IsReached, is_reached, index, bottleneck, row_at}
 use Rattle.transport.specs.Searches.{is_taken, IsSearch, IsClose, most}
 use Rattle.transport.specs.States.{cell, IsRunning}
 use Rattle.transport.specs.Answers.{IsFound}
 use Rattle.transport.specs.Settled.{IsSettled, IsFresh, IsTidy, IsTreeOf}
-use Rattle.transport.specs.declared.notes.Near.{Near}
-use Rattle.transport.specs.declared.notes.Exit.{Exit}
-use Rattle.transport.specs.declared.states.State.{State}
-use Rattle.transport.specs.declared.trees.Tree.{Tree}
+use Rattle.transport.specs.declared.labels.Label.{Label}
+use Rattle.transport.specs.declared.labels.FreeEnd.{FreeEnd}
+use Rattle.transport.specs.declared.assignment.Assignment.{Assignment}
+use Rattle.transport.specs.declared.tree.SearchTree.{SearchTree}
 use Rattle.transport.proofs.Numbers.{not_both}
-use Rattle.transport.proofs.QueueLemmas.{queue_reached}
+use Rattle.transport.proofs.ReachedRowsLemmas.{queue_reached}
 use Rattle.transport.proofs.Running.{listed_below}
-use Rattle.transport.specs.declared.queues.Queue.{Queue}
+use Rattle.transport.specs.declared.tree.ReachedRows.{ReachedRows}
 
 pub count_none : (bs : List Bool) → ((k : ℕ) → is_marked bs k ≡ false) → count_by (λ b. b) bs ≡ 0
 count_none [] h = refl
@@ -44,8 +44,8 @@ replicate_default n i a = elim (cases_lt i n) [
   | inr past ↦ get_or_past (replicate n a) i a (omega (arith, length-replicate n a, past))
 ]
 
--- a queue in which no row is reached
-pub queue_none : (rows : ℕ) (q : Queue) → IsUnreached rows q → IsQueue rows q
+-- no row is reached
+pub queue_none : (rows : ℕ) (q : ReachedRows) → IsUnreached rows q → IsReachedRows rows q
 queue_none rows q h = record {
   reached_long = h.reached_long;
   via_long = h.via_long;
@@ -59,13 +59,13 @@ queue_none rows q h = record {
 }
 
 -- a tree before the first search
-pub tidy_none : (rows classes : ℕ) (t : Tree) → IsUnreached rows t.queue → t.notes.nears.items ≡ replicate classes None → t.notes.noted.items ≡ []
-    → t.takings.taken.items ≡ replicate classes false → t.takings.order.items ≡ [] → IsTidy rows classes t
-tidy_none rows classes t queue nears noted taken order = record {
-  queue = queue_none rows t.queue queue;
-  nears_long = ap length nears ∙ length-replicate {A = Option Near} classes None;
+pub tidy_none : (rows classes : ℕ) (t : SearchTree) → IsUnreached rows t.reached_rows → t.labels.of_class.items ≡ replicate classes None → t.labels.noted.items ≡ []
+    → t.tree_classes.taken.items ≡ replicate classes false → t.tree_classes.order.items ≡ [] → IsTidy rows classes t
+tidy_none rows classes t reached_rows of_class noted taken order = record {
+  reached_rows = queue_none rows t.reached_rows reached_rows;
+  nears_long = ap length of_class ∙ length-replicate {A = Option Label} classes None;
   noted = record {
-    all = λ g n is. (let no_note : Some n ≡ None = sym is ∙ ap (λ ns. get_or ns g None) nears ∙ replicate_default classes g None in cc);
+    all = λ g n is. (let no_note : Some n ≡ None = sym is ∙ ap (λ ns. get_or ns g None) of_class ∙ replicate_default classes g None in cc);
     noted_in = λ i lt. absurd (omega (arith, lt, ap length noted));
     taken_in = λ i lt. absurd (omega (arith, lt, ap length order));
   };
@@ -74,16 +74,16 @@ tidy_none rows classes t queue nears noted taken order = record {
     on = λ i lt. absurd (omega (arith, lt, ap length order));
     all = λ k on. absurd (not_both _ on (none k));
     once = λ i j lt. absurd (omega (arith, lt, ap length order));
-    counted = count_none t.takings.taken.items none ∙ sym (ap length order);
+    counted = count_none t.tree_classes.taken.items none ∙ sym (ap length order);
   };
 }
   where
-    none : (g : ℕ) → is_taken t.takings g ≡ false
+    none : (g : ℕ) → is_taken t.tree_classes g ≡ false
     none g = ap (λ bs. is_marked bs g) taken ∙ replicate_default classes g false
 
 -- and the one in which the first row is
-module _ (rows root amount : ℕ) (old new : Queue) (in_rows : root < rows) (h : IsUnreached rows old) (r : IsReached old new root 0 amount) where
-  now : IsQueue rows new
+module _ (rows root amount : ℕ) (old new : ReachedRows) (in_rows : root < rows) (h : IsUnreached rows old) (r : IsReached old new root 0 amount) where
+  now : IsReachedRows rows new
   now = queue_reached rows old new root 0 amount (queue_none rows old h) in_rows (h.none root) r
 
   one_row : length new.order.items ≡ 1
@@ -94,70 +94,70 @@ module _ (rows root amount : ℕ) (old new : Queue) (in_rows : root < rows) (h :
 
   only_root : (k : ℕ) → is_reached new k ≡ true → k ≡ root
   only_root k on =
-      let p : place new k ≡ 0 = omega (arith, now.within k on, one_row) in
+      let p : index new k ≡ 0 = omega (arith, now.within k on, one_row) in
       sym (now.placed k on) ∙ ap (λ i. row_at new i) p ∙ first_row
 
   pub queue_at_root : IsAtRoot rows root amount new
   queue_at_root = record {
-    queue = now;
+    reached_rows = now;
     one = one_row;
     root_at = first_row;
     only = only_root;
-    some_room = rw r.rooms (get_or-set_same old.room.items root amount 0 (omega (arith, in_rows, h.room_long)));
+    some_room = rw r.rooms (get_or-set_same old.bottleneck.items root amount 0 (omega (arith, in_rows, h.room_long)));
   }
 
 -- all that a search marked and noted is named by its lists
-pub tidy_running : (ws : ℕ → ℕ → Option ℕ) (s : State) (t : Tree) → IsRunning ws s t → IsTreeOf s t
+pub tidy_running : (ws : ℕ → ℕ → Option ℕ) (s : Assignment) (t : SearchTree) → IsRunning ws s t → IsTreeOf s t
 tidy_running ws s t h = record {
-  queue = h.search.queue;
+  reached_rows = h.search.reached_rows;
   nears_long = h.search.nears_long;
   noted = record {
-    all = λ g n is. elim (cases_Bool (is_taken t.takings g)) [
+    all = λ g n is. elim (cases_Bool (is_taken t.tree_classes g)) [
       | inl on ↦ inr (h.search.listing.all g on)
       | inr off ↦ inl (h.search.listed g n is off)
     ];
     noted_in = λ i lt. omega (arith, h.search.noted_in i lt, h.search.nears_long);
-    taken_in = λ i lt. omega (arith, listed_below t.takings.order.items t.takings.taken.items (length s.prices.items) h.search.listing h.search.taken_long i lt, h.search.nears_long);
+    taken_in = λ i lt. omega (arith, listed_below t.tree_classes.order.items t.tree_classes.taken.items (length s.prices.items) h.search.listing h.search.taken_long i lt, h.search.nears_long);
   };
   taken_long = h.search.taken_long;
   taken = h.search.listing;
 }
 
-module _ (ws : ℕ → ℕ → Option ℕ) (s : State) (t : Tree) (root amount : ℕ) (h : IsSettled ws s) (f : IsFresh (length s.values.items) (length s.prices.items) root amount t) (some : 0 < amount) where
-  no_taken : (g : ℕ) → is_taken t.takings g ≡ true → ⊥
-  no_taken g on = not_both _ on (f.takings.taken g)
+module _ (ws : ℕ → ℕ → Option ℕ) (s : Assignment) (t : SearchTree) (root amount : ℕ) (h : IsSettled ws s) (f : IsFresh (length s.values.items) (length s.prices.items) root amount t) (some : 0 < amount) where
+  no_taken : (g : ℕ) → is_taken t.tree_classes g ≡ true → ⊥
+  no_taken g on = not_both _ on (f.tree_classes.taken g)
 
-  at_root : place t.queue root ≡ 0
-  at_root = ap (λ k. place t.queue k) (sym f.at_root.root_at) ∙ f.at_root.queue.at 0 (omega (arith, f.at_root.one))
+  at_root : index t.reached_rows root ≡ 0
+  at_root = ap (λ k. index t.reached_rows k) (sym f.at_root.root_at) ∙ f.at_root.reached_rows.at 0 (omega (arith, f.at_root.one))
 
-  close_root : IsClose s.values.items t.queue root
+  close_root : IsClose s.values.items t.reached_rows root
   close_root =
-      let e : number s.values.items (row_at t.queue 0) ≡ number s.values.items root = ap (λ k. number s.values.items k) f.at_root.root_at in
+      let e : number s.values.items (row_at t.reached_rows 0) ≡ number s.values.items root = ap (λ k. number s.values.items k) f.at_root.root_at in
       record { up = omega (arith, e, at_root); down = omega (arith, e, at_root) }
 
-  search_start : IsSearch ws (cell s.holdings.items) s.values.items s.prices.items s.free.items t.queue t.notes t.takings
+  search_start : IsSearch ws (cell s.holdings.items) s.values.items s.prices.items s.residual.items t.reached_rows t.labels t.tree_classes
   search_start = record {
-    queue = f.at_root.queue;
+    reached_rows = f.at_root.reached_rows;
     listing = record {
-      on = λ i lt. absurd (omega (arith, lt, ap length f.takings.order));
+      on = λ i lt. absurd (omega (arith, lt, ap length f.tree_classes.order));
       all = λ k on. absurd (no_taken k on);
-      once = λ i j lt. absurd (omega (arith, lt, ap length f.takings.order));
-      counted = count_none t.takings.taken.items f.takings.taken ∙ sym (ap length f.takings.order);
+      once = λ i j lt. absurd (omega (arith, lt, ap length f.tree_classes.order));
+      counted = count_none t.tree_classes.taken.items f.tree_classes.taken ∙ sym (ap length f.tree_classes.order);
     };
-    taken_long = f.takings.taken_long;
-    nears_long = f.notes.nears_long;
+    taken_long = f.tree_classes.taken_long;
+    nears_long = f.labels.nears_long;
     free_long = h.free_long;
     dual = h.dual;
     rooted = omega (arith, f.at_root.one);
-    entries = λ k on deep. (let e = ap (λ x. place t.queue x) (f.at_root.only k on) in absurd (omega (arith, e, deep, at_root)));
-    rooms = λ k on. (let e = ap (λ x. room t.queue x) (f.at_root.only k on) in omega (arith, e, f.at_root.some_room, some));
-    noted = λ g n is. (let no_note : Some n ≡ None = sym is ∙ f.notes.nears g in cc);
-    listed = λ g n is. (let no_note : Some n ≡ None = sym is ∙ f.notes.nears g in cc);
-    noted_in = λ i lt. absurd (omega (arith, lt, ap length f.notes.noted));
+    entries = λ k on deep. (let e = ap (λ x. index t.reached_rows x) (f.at_root.only k on) in absurd (omega (arith, e, deep, at_root)));
+    rooms = λ k on. (let e = ap (λ x. bottleneck t.reached_rows x) (f.at_root.only k on) in omega (arith, e, f.at_root.some_room, some));
+    noted = λ g n is. (let no_note : Some n ≡ None = sym is ∙ f.labels.of_class g in cc);
+    listed = λ g n is. (let no_note : Some n ≡ None = sym is ∙ f.labels.of_class g in cc);
+    noted_in = λ i lt. absurd (omega (arith, lt, ap length f.labels.noted));
     linked = λ g on. absurd (no_taken g on);
     holders = λ k g on. absurd (no_taken g on);
-    exit = λ e is. (let no_exit : Some e ≡ None = sym is ∙ f.notes.exit in cc);
-    close = λ k on. subst (IsClose s.values.items t.queue) (sym (f.at_root.only k on)) close_root;
+    free_end = λ e is. (let no_exit : Some e ≡ None = sym is ∙ f.labels.free_end in cc);
+    close = λ k on. subst (IsClose s.values.items t.reached_rows) (sym (f.at_root.only k on)) close_root;
     others_low = λ k off. h.values_low k;
     prices_low = λ g off. h.prices_low g;
     values_fit = λ k. omega (arith, h.values_low k);
@@ -167,28 +167,28 @@ module _ (ws : ℕ → ℕ → Option ℕ) (s : State) (t : Tree) (root amount :
   pub running_start : IsRunning ws s t
   running_start = record { fit = h.fit; search = search_start; holdings = h.holdings }
 
--- once an exit is at slack 0 all values and prices are low again
-module _ (ws : ℕ → ℕ → Option ℕ) (s : State) (t : Tree) (e : Exit) (h : IsFound ws s t e) where
-  few : (k : ℕ) → is_reached t.queue k ≡ true → place t.queue k < MAX_ROWS
+-- once a free end is at slack 0 all values and prices are low again
+module _ (ws : ℕ → ℕ → Option ℕ) (s : Assignment) (t : SearchTree) (e : FreeEnd) (h : IsFound ws s t e) where
+  few : (k : ℕ) → is_reached t.reached_rows k ≡ true → index t.reached_rows k < MAX_ROWS
   few k on =
-      let q = h.running.search.queue in
-      omega (arith, q.within k on, q.counted, count_by-le-length {X = Bool} (λ b. b) t.queue.reached.items, q.reached_long, h.running.fit.few)
+      let q = h.running.search.reached_rows in
+      omega (arith, q.within k on, q.counted, count_by-le-length {X = Bool} (λ b. b) t.reached_rows.reached.items, q.reached_long, h.running.fit.few)
 
-  reached_low : (k : ℕ) → is_reached t.queue k ≡ true → number s.values.items k ≤ most
+  reached_low : (k : ℕ) → is_reached t.reached_rows k ≡ true → number s.values.items k ≤ most
   reached_low k on =
-      let x = h.running.search.exit e h.its in
+      let x = h.running.search.free_end e h.its in
       let a = h.running.search.close k on in
       let b = h.running.search.close e.near.row x.there in
       omega (arith, a.up, b.down, few k on, few e.near.row x.there, h.equal, h.running.search.dual.zero e.class x.some_free, h.running.fit.low e.near.row e.class e.near.weight x.weighs)
 
   pub found_values_low : (k : ℕ) → number s.values.items k ≤ most
-  found_values_low k = elim (cases_Bool (is_reached t.queue k)) [
+  found_values_low k = elim (cases_Bool (is_reached t.reached_rows k)) [
     | inl on ↦ reached_low k on
     | inr off ↦ h.running.search.others_low k off
   ]
 
   pub found_prices_low : (g : ℕ) → number s.prices.items g ≤ most
-  found_prices_low g = elim (cases_Bool (is_taken t.takings g)) [
+  found_prices_low g = elim (cases_Bool (is_taken t.tree_classes g)) [
     | inl on ↦ (let l = h.running.search.linked g on in omega (arith, l.equal, found_values_low l.near.row))
     | inr off ↦ h.running.search.prices_low g off
   ]

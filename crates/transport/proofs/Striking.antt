@@ -2,26 +2,26 @@
 use Rattle.std.proofs.Common.{◌≡◌, ℕ, zero, suc, ◌<◌, Bool, true, false, cond, not, List, [], ◌∷◌, length, get_or, filter, Option, None, Vec, Global, refl, sym, ap, ◌∙◌, subst, inl, inr, arith}
 use Rattle.transport.specs.Numbers.{number, IsIn}
 use Rattle.transport.specs.Searches.{near_of, IsSearch, IsCovered}
-use Rattle.transport.specs.States.{cell, IsRunning, HasLooked, IsStruck}
-use Rattle.transport.specs.declared.notes.Near.{Near}
-use Rattle.transport.specs.declared.notes.Notes.{Notes}
-use Rattle.transport.specs.declared.states.State.{State}
-use Rattle.transport.specs.declared.trees.Tree.{Tree}
+use Rattle.transport.specs.States.{cell, IsRunning, HasScanned, IsStruck}
+use Rattle.transport.specs.declared.labels.Label.{Label}
+use Rattle.transport.specs.declared.labels.Labels.{Labels}
+use Rattle.transport.specs.declared.assignment.Assignment.{Assignment}
+use Rattle.transport.specs.declared.tree.SearchTree.{SearchTree}
 
 -- what passes the test stands in the filter
 in_filter_at : (test : ℕ → Bool) (ns : List ℕ) (i : ℕ) → i < length ns → test (number ns i) ≡ true → IsIn (filter test ns) (number ns i)
 in_filter_at test [] i lt on = absurd (omega arith)
-in_filter_at test (n ∷ ns) zero lt on = subst (λ b. IsIn (cond b (n ∷ filter test ns) (filter test ns)) n) (sym on) (record { place = 0; within = omega arith; is = refl })
+in_filter_at test (n ∷ ns) zero lt on = subst (λ b. IsIn (cond b (n ∷ filter test ns) (filter test ns)) n) (sym on) (record { index = 0; within = omega arith; is = refl })
 in_filter_at test (n ∷ ns) (suc i) lt on = later (test n) (in_filter_at test ns i (omega arith) on)
   where
     later : (b : Bool) → IsIn (filter test ns) (number ns i) → IsIn (cond b (n ∷ filter test ns) (filter test ns)) (number ns i)
-    later true p = record { place = suc p.place; within = omega (arith, p.within); is = p.is }
+    later true p = record { index = suc p.index; within = omega (arith, p.within); is = p.is }
     later false p = p
 
 pub in_filter : (test : ℕ → Bool) (ns : List ℕ) (n : ℕ) → IsIn ns n → test n ≡ true → IsIn (filter test ns) n
 in_filter test ns n p on =
     subst (IsIn (filter test ns)) p.is
-    (in_filter_at test ns p.place p.within (ap test p.is ∙ on))
+    (in_filter_at test ns p.index p.within (ap test p.is ∙ on))
 
 -- numbers of the filter are below what those of the list are
 filter_below : (test : ℕ → Bool) (ns : List ℕ) (bound : ℕ) → ((i : ℕ) → i < length ns → number ns i < bound) → (i : ℕ) → i < length (filter test ns) → number (filter test ns) i < bound
@@ -35,31 +35,31 @@ filter_below test (n ∷ ns) bound all i lt = by_test (filter_below test ns boun
     by_test rest true (suc j) within = rest j (omega arith)
     by_test rest false j within = rest j within
 
-module _ (ws : ℕ → ℕ → Option ℕ) (s : State) (t : Tree) (ns : Notes) (x : IsStruck t.takings.taken.items t.notes ns) where
-  abbrev pub struck : Tree
-  struck = record { queue = t.queue; notes = ns; takings = t.takings; nearest = t.nearest }
+module _ (ws : ℕ → ℕ → Option ℕ) (s : Assignment) (t : SearchTree) (ns : Labels) (x : IsStruck t.tree_classes.taken.items t.labels ns) where
+  abbrev pub struck : SearchTree
+  struck = record { reached_rows = t.reached_rows; labels = ns; tree_classes = t.tree_classes; nearest = t.nearest }
 
-  near_same : (g : ℕ) → near_of ns g ≡ near_of t.notes g
-  near_same g = ap (λ (v : Vec (Option Near) Global). get_or v.items g None) x.nears
+  near_same : (g : ℕ) → near_of ns g ≡ near_of t.labels g
+  near_same g = ap (λ (v : Vec (Option Label) Global). get_or v.items g None) x.of_class
 
-  search_struck : IsSearch ws (cell s.holdings.items) s.values.items s.prices.items s.free.items t.queue t.notes t.takings
-      → IsSearch ws (cell s.holdings.items) s.values.items s.prices.items s.free.items t.queue ns t.takings
+  search_struck : IsSearch ws (cell s.holdings.items) s.values.items s.prices.items s.residual.items t.reached_rows t.labels t.tree_classes
+      → IsSearch ws (cell s.holdings.items) s.values.items s.prices.items s.residual.items t.reached_rows ns t.tree_classes
   search_struck h = record {
-    queue = h.queue;
+    reached_rows = h.reached_rows;
     listing = h.listing;
     taken_long = h.taken_long;
-    nears_long = ap (λ (v : Vec (Option Near) Global). length v.items) x.nears ∙ h.nears_long;
+    nears_long = ap (λ (v : Vec (Option Label) Global). length v.items) x.of_class ∙ h.nears_long;
     free_long = h.free_long;
     dual = h.dual;
     rooted = h.rooted;
     entries = λ k on deep. (let e = h.entries k on deep in record { taken = e.taken; held = e.held; near = e.near; its = near_same _ ∙ e.its; before = e.before; less = e.less });
     rooms = h.rooms;
     noted = λ g n is. h.noted g n (sym (near_same g) ∙ is);
-    listed = λ g n is off. rw x.noted (in_filter _ t.notes.noted.items g (h.listed g n (sym (near_same g) ∙ is) off) (ap not off));
-    noted_in = rw x.noted (filter_below _ t.notes.noted.items (length s.prices.items) h.noted_in);
+    listed = λ g n is off. rw x.noted (in_filter _ t.labels.noted.items g (h.listed g n (sym (near_same g) ∙ is) off) (ap not off));
+    noted_in = rw x.noted (filter_below _ t.labels.noted.items (length s.prices.items) h.noted_in);
     linked = λ g on. (let l = h.linked g on in record { near = l.near; its = near_same g ∙ l.its; equal = l.equal });
     holders = h.holders;
-    exit = λ e is. h.exit e (sym x.exit ∙ is);
+    free_end = λ e is. h.free_end e (sym x.free_end ∙ is);
     close = h.close;
     others_low = h.others_low;
     prices_low = h.prices_low;
@@ -67,14 +67,14 @@ module _ (ws : ℕ → ℕ → Option ℕ) (s : State) (t : Tree) (ns : Notes) (
     prices_fit = h.prices_fit;
   }
 
-  covered_struck : (k g w : ℕ) → IsCovered s.values.items s.prices.items t.notes k g w → IsCovered s.values.items s.prices.items ns k g w
+  covered_struck : (k g w : ℕ) → IsCovered s.values.items s.prices.items t.labels k g w → IsCovered s.values.items s.prices.items ns k g w
   covered_struck k g w c = elim c [
     | inl c ↦ inl (record { near = c.near; its = near_same g ∙ c.its; least = c.least })
-    | inr c ↦ inr (record { exit = c.exit; its = x.exit ∙ c.its; least = c.least })
+    | inr c ↦ inr (record { free_end = c.free_end; its = x.free_end ∙ c.its; least = c.least })
   ]
 
   pub running_struck : IsRunning ws s t → IsRunning ws s struck
   running_struck h = record { fit = h.fit; search = search_struck h.search; holdings = h.holdings }
 
-  pub looked_struck : (upto : ℕ) → HasLooked ws s t upto → HasLooked ws s struck upto
+  pub looked_struck : (upto : ℕ) → HasScanned ws s t upto → HasScanned ws s struck upto
   looked_struck upto all = record { covered = λ k g w on here its off. covered_struck k g w (all.covered k g w on here its off) }

@@ -67,12 +67,12 @@ cond_zero true n = omega arith
 cond_zero false n = omega arith
 
 -- what the marked rows hold of the marked classes
-module _ (ws : ℕ → ℕ → Option ℕ) (demands sizes : ℕ → ℕ) (rows classes : ℕ) (cells : ℕ → ℕ → ℕ) (free unmet : List ℕ) (reached taken : List Bool) (root : ℕ)
-    (s : IsShared demands sizes rows classes cells free unmet)
+module _ (ws : ℕ → ℕ → Option ℕ) (demands sizes : ℕ → ℕ) (rows classes : ℕ) (cells : ℕ → ℕ → ℕ) (residual deficit : List ℕ) (reached taken : List Bool) (root : ℕ)
+    (s : IsShared demands sizes rows classes cells residual deficit)
     (only : (k g w : ℕ) → is_marked reached k ≡ true → ws k g ≡ Some w → is_marked taken g ≡ true)
-    (full : (g : ℕ) → is_marked taken g ≡ true → number free g ≡ 0)
+    (full : (g : ℕ) → is_marked taken g ≡ true → number residual g ≡ 0)
     (holders : (k g : ℕ) → is_marked taken g ≡ true → 0 < cells k g → is_marked reached k ≡ true)
-    (in_rows : root < rows) (on : is_marked reached root ≡ true) (lacks : 0 < number unmet root) where
+    (in_rows : root < rows) (on : is_marked reached root ≡ true) (lacks : 0 < number deficit root) where
   part : ℕ → ℕ → ℕ
   part k g = cond (is_marked taken g) (cells k g) 0
 
@@ -124,11 +124,11 @@ module _ (ws : ℕ → ℕ → Option ℕ) (demands sizes : ℕ → ℕ) (rows c
   }
 
 -- worth, cost and prices
-module _ (ws : ℕ → ℕ → Option ℕ) (demands sizes : ℕ → ℕ) (rows classes : ℕ) (values prices : List ℕ) (cells : ℕ → ℕ → ℕ) (free unmet : List ℕ)
-    (s : IsShared demands sizes rows classes cells free unmet)
+module _ (ws : ℕ → ℕ → Option ℕ) (demands sizes : ℕ → ℕ) (rows classes : ℕ) (values prices : List ℕ) (cells : ℕ → ℕ → ℕ) (residual deficit : List ℕ)
+    (s : IsShared demands sizes rows classes cells residual deficit)
     (tight : (k g : ℕ) → 0 < cells k g → IsTight ws values prices k g)
-    (zero_price : (g : ℕ) → 0 < number free g → number prices g ≡ 0)
-    (met : (k : ℕ) → k < rows → number unmet k ≡ 0) where
+    (zero_price : (g : ℕ) → 0 < number residual g → number prices g ≡ 0)
+    (met : (k : ℕ) → k < rows → number deficit k ≡ 0) where
   at_cell : (k g : ℕ) → cells k g * number values k ≡ cells k g * weight_or_0 (ws k g) + cells k g * number prices g
   at_cell k g = elim (cases_lt 0 (cells k g)) [
     | inl some ↦ (let t = tight k g some in go t.weight t.its t.equal)
@@ -150,12 +150,12 @@ module _ (ws : ℕ → ℕ → Option ℕ) (demands sizes : ℕ → ℕ) (rows c
       ∙ total_add _ _ classes
 
   at_class : (g : ℕ) → g < classes → total (λ k. cells k g * number prices g) rows ≡ sizes g * number prices g
-  at_class g lt = total_scale (λ k. cells k g) (number prices g) rows ∙ elim (cases_lt 0 (number free g)) [
+  at_class g lt = total_scale (λ k. cells k g) (number prices g) rows ∙ elim (cases_lt 0 (number residual g)) [
     | inl some ↦ rw (zero_price g some) (omega arith)
     | inr le ↦ ap (λ x. x * number prices g) (sized (omega (arith, le)))
   ]
     where
-      sized : number free g ≡ 0 → class_total cells rows g ≡ sizes g
+      sized : number residual g ≡ 0 → class_total cells rows g ≡ sizes g
       sized e = omega (arith, s.by_class g lt, e)
 
   pub balanced : IsBalanced ws demands sizes values prices cells rows classes

@@ -4,15 +4,15 @@ use Rattle.std.proofs.lemmas.List.{length-set, length_push, get_or-set_same, get
 use Rattle.std.proofs.lemmas.Bool.{cases_lt, cases_Bool}
 use Rattle.transport.specs.Numbers.{number, is_marked, IsIn, IsListing}
 use Rattle.twins.specs.Holdings.{share_of}
-use Rattle.transport.specs.Queues.{IsQueue, IsGrown, is_reached, via, room, place, row_at}
-use Rattle.transport.specs.Searches.{near_of, is_taken, IsNoted, IsLinked, IsEntered, IsClose, IsSearch, AllCovered, IsTaken, AreWeights}
+use Rattle.transport.specs.ReachedRows.{IsReachedRows, IsGrown, is_reached, parent_class, bottleneck, index, row_at}
+use Rattle.transport.specs.Searches.{near_of, is_taken, IsLabelled, IsLinked, IsEntered, IsClose, IsSearch, AllCovered, IsTaken, AreWeights}
 use Rattle.twins.specs.declared.holders.Share.{Share}
-use Rattle.transport.specs.declared.queues.Queue.{Queue}
-use Rattle.transport.specs.declared.notes.Near.{Near}
-use Rattle.transport.specs.declared.notes.Notes.{Notes}
-use Rattle.transport.specs.declared.takings.Takings.{Takings}
+use Rattle.transport.specs.declared.tree.ReachedRows.{ReachedRows}
+use Rattle.transport.specs.declared.labels.Label.{Label}
+use Rattle.transport.specs.declared.labels.Labels.{Labels}
+use Rattle.transport.specs.declared.tree.TreeClasses.{TreeClasses}
 use Rattle.transport.proofs.Numbers.{not_both, in_push, in_last}
-use Rattle.transport.proofs.QueueLemmas.{count-set, marked_more}
+use Rattle.transport.proofs.ReachedRowsLemmas.{count-set, marked_more}
 
 pub listing_push :
     (order : List ℕ) (marks : List Bool) (g : ℕ) → IsListing order marks → g < length marks → is_marked marks g ≡ false
@@ -51,11 +51,11 @@ listing_push order marks g h lt off = record {
       ]
     ]
 
-module _ (ws : ℕ → ℕ → Option ℕ) (cells : ℕ → ℕ → ℕ) (values prices free : List ℕ) (q r : Queue) (ns : Notes) (ts us : Takings) (g : ℕ) (n : Near) (shares : List Share)
-    (fit : AreWeights ws (length values) (length prices)) (s : IsSearch ws cells values prices free q ns ts) (its : near_of ns g ≡ Some n) (left : is_taken ts g ≡ false)
+module _ (ws : ℕ → ℕ → Option ℕ) (cells : ℕ → ℕ → ℕ) (values prices residual : List ℕ) (q r : ReachedRows) (ns : Labels) (ts us : TreeClasses) (g : ℕ) (n : Label) (shares : List Share)
+    (fit : AreWeights ws (length values) (length prices)) (s : IsSearch ws cells values prices residual q ns ts) (its : near_of ns g ≡ Some n) (left : is_taken ts g ≡ false)
     (equal : number values n.row ≡ n.weight + number prices g) (taken : IsTaken ts us g)
-    (queue : IsQueue (length values) r) (grown : IsGrown q r g (room q n.row) shares shares) (held : (k : ℕ) → share_of k shares ≡ cells k g) (in_range : g < length prices) where
-  note : IsNoted ws free q g n
+    (reached_rows : IsReachedRows (length values) r) (grown : IsGrown q r g (bottleneck q n.row) shares shares) (held : (k : ℕ) → share_of k shares ≡ cells k g) (in_range : g < length prices) where
+  note : IsLabelled ws residual q g n
   note = s.noted g n its
 
   now_taken : is_taken us g ≡ true
@@ -76,14 +76,14 @@ module _ (ws : ℕ → ℕ → Option ℕ) (cells : ℕ → ℕ → ℕ) (values
   was_out : (k : ℕ) → is_reached r k ≡ false → is_reached q k ≡ false
   was_out k off = elim (cases_Bool (is_reached q k)) [ inl on ↦ absurd (not_both _ (grown.kept k on).reached off) | inr not ↦ not ]
 
-  near_place : place q n.row < length q.order.items
-  near_place = s.queue.within n.row note.there
+  near_place : index q n.row < length q.order.items
+  near_place = s.reached_rows.within n.row note.there
 
-  entered_old : (k : ℕ) → is_reached q k ≡ true → 0 < place r k → IsEntered cells r ns us k
+  entered_old : (k : ℕ) → is_reached q k ≡ true → 0 < index r k → IsEntered cells r ns us k
   entered_old k on deep =
       let kept = grown.kept k on in
       let e = s.entries k on (omega (arith, kept.places, deep)) in
-      let before = grown.kept e.near.row (s.noted (via q k) e.near e.its).there in
+      let before = grown.kept e.near.row (s.noted (parent_class q k) e.near e.its).there in
       record {
         taken = rw kept.by (still_taken _ e.taken);
         held = rw (kept.by, kept.rooms) e.held;
@@ -108,10 +108,10 @@ module _ (ws : ℕ → ℕ → Option ℕ) (cells : ℕ → ℕ → ℕ) (values
 
   pub root_same : row_at r 0 ≡ row_at q 0
   root_same =
-      let on = s.queue.on 0 s.rooted in
+      let on = s.reached_rows.on 0 s.rooted in
       let kept = grown.kept (row_at q 0) on in
-      let zero : place r (row_at q 0) ≡ 0 = kept.places ∙ s.queue.at 0 s.rooted in
-      ap (λ i. row_at r i) (sym zero) ∙ queue.placed (row_at q 0) kept.reached
+      let zero : index r (row_at q 0) ≡ 0 = kept.places ∙ s.reached_rows.at 0 s.rooted in
+      ap (λ i. row_at r i) (sym zero) ∙ reached_rows.placed (row_at q 0) kept.reached
 
   close_old : (k : ℕ) → is_reached q k ≡ true → IsClose values r k
   close_old k on =
@@ -131,9 +131,9 @@ module _ (ws : ℕ → ℕ → Option ℕ) (cells : ℕ → ℕ → ℕ) (values
         down = rw root_same (omega (arith, c.down, t.equal, equal, low, near_low, f.later, near_place));
       }
 
-  pub search_taken : IsSearch ws cells values prices free r ns us
+  pub search_taken : IsSearch ws cells values prices residual r ns us
   search_taken = record {
-    queue = queue;
+    reached_rows = reached_rows;
     listing = rw (taken.taken, taken.order) (listing_push ts.order.items ts.taken.items g s.listing (omega (arith, s.taken_long, in_range)) left);
     taken_long = ap length taken.taken ∙ length-set _ _ _ ∙ s.taken_long;
     nears_long = s.nears_long;
@@ -156,7 +156,7 @@ module _ (ws : ℕ → ℕ → Option ℕ) (cells : ℕ → ℕ → ℕ) (values
       | inl e ↦ grown.held k (omega (arith, held k, subst (λ x. 0 < cells k x) e some))
       | inr was ↦ (grown.kept k (s.holders k h was some)).reached
     ];
-    exit = λ e is. (let o = s.exit e is in record { there = (grown.kept e.near.row o.there).reached; weighs = o.weighs; some_free = o.some_free });
+    free_end = λ e is. (let o = s.free_end e is in record { there = (grown.kept e.near.row o.there).reached; weighs = o.weighs; some_free = o.some_free });
     close = λ k on. elim (cases_Bool (is_reached q k)) [ inl was ↦ close_old k was | inr not ↦ close_new k not on ];
     others_low = λ k off. s.others_low k (was_out k off);
     prices_low = λ h off. s.prices_low h (was_left h off);
@@ -164,7 +164,7 @@ module _ (ws : ℕ → ℕ → Option ℕ) (cells : ℕ → ℕ → ℕ) (values
     prices_fit = s.prices_fit;
   }
 
-  -- a row that is newly reached was not looked at yet
+  -- a row that is newly reached was not scanned yet
   pub covered_taken : (looked : ℕ) → looked ≤ length q.order.items → AllCovered ws values prices q ns ts looked → AllCovered ws values prices r ns us looked
   covered_taken looked less all = record {
     covered = λ k h w on here weighs off. elim (cases_Bool (is_reached q k)) [

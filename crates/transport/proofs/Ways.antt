@@ -1,119 +1,119 @@
--- The way from the root to an exit, as CPUs move along it.
+-- The way from the root to a free end, as CPUs move along it.
 use Rattle.std.proofs.Common.{◌≡◌, ℕ, ◌+◌, ◌-◌, ◌<◌, ◌≤◌, ◌^◌, cond, List, length, get_or, set, Option, Some, refl, sym, ap, ◌∙◌, subst, inl, inr, arith}
 use Rattle.std.proofs.lemmas.Bool.{cases_eq, eq-eqb, ne_eqb}
 use Rattle.transport.specs.Numbers.{number}
-use Rattle.transport.specs.Queues.{via, room, place}
+use Rattle.transport.specs.ReachedRows.{parent_class, bottleneck, index}
 use Rattle.transport.specs.Duals.{IsTight}
 use Rattle.transport.specs.Searches.{near_of, IsEntered}
 use Rattle.transport.specs.States.{shares_of, cell, IsRunning, IsNoHolder}
 use Rattle.transport.specs.Answers.{IsFound}
 use Rattle.transport.specs.Totals.{class_total}
 use Rattle.transport.specs.Pushes.{IsPushing, IsGiven, IsGivenUp, in_hand}
-use Rattle.transport.specs.declared.notes.Near.{Near}
-use Rattle.transport.specs.declared.notes.Exit.{Exit}
-use Rattle.transport.specs.declared.states.State.{State}
-use Rattle.transport.specs.declared.trees.Tree.{Tree}
+use Rattle.transport.specs.declared.labels.Label.{Label}
+use Rattle.transport.specs.declared.labels.FreeEnd.{FreeEnd}
+use Rattle.transport.specs.declared.assignment.Assignment.{Assignment}
+use Rattle.transport.specs.declared.tree.SearchTree.{SearchTree}
 use Rattle.transport.proofs.Numbers.{read_number}
-use Rattle.transport.proofs.QueueLemmas.{marked_below}
+use Rattle.transport.proofs.ReachedRowsLemmas.{marked_below}
 use Rattle.transport.proofs.Sums.{total_at_least}
 use Rattle.transport.proofs.Holders.{share_none}
 use Rattle.transport.proofs.Pushing.{pushing_start, pushing_more}
 
-pub way_start : (ws : ℕ → ℕ → Option ℕ) (s : State) (t : Tree) (e : Exit) (amount : ℕ) → IsFound ws s t e → amount ≤ room t.queue e.near.row
-    → IsPushing ws s.values.items s.prices.items t.queue (cell s.holdings.items) (cell s.holdings.items) (length s.values.items) (length s.prices.items) e.near.row e.class e.class amount
+pub way_start : (ws : ℕ → ℕ → Option ℕ) (s : Assignment) (t : SearchTree) (e : FreeEnd) (amount : ℕ) → IsFound ws s t e → amount ≤ bottleneck t.reached_rows e.near.row
+    → IsPushing ws s.values.items s.prices.items t.reached_rows (cell s.holdings.items) (cell s.holdings.items) (length s.values.items) (length s.prices.items) e.near.row e.class e.class amount
 way_start ws s t e amount h less =
-    let x = h.running.search.exit e h.its in
-    pushing_start ws s.values.items s.prices.items t.queue (cell s.holdings.items) _ _ e.near.row e.class amount h.running.search.dual.tight x.there
+    let x = h.running.search.free_end e h.its in
+    pushing_start ws s.values.items s.prices.items t.reached_rows (cell s.holdings.items) _ _ e.near.row e.class amount h.running.search.dual.tight x.there
     (record { weight = e.near.weight; its = x.weighs; equal = h.equal }) less
 
-module _ (ws : ℕ → ℕ → Option ℕ) (s : State) (t : Tree) (row g first amount : ℕ) (cells : ℕ → ℕ → ℕ) (h : IsRunning ws s t)
-    (p : IsPushing ws s.values.items s.prices.items t.queue (cell s.holdings.items) cells (length s.values.items) (length s.prices.items) row g first amount) where
+module _ (ws : ℕ → ℕ → Option ℕ) (s : Assignment) (t : SearchTree) (row g first amount : ℕ) (cells : ℕ → ℕ → ℕ) (h : IsRunning ws s t)
+    (p : IsPushing ws s.values.items s.prices.items t.reached_rows (cell s.holdings.items) cells (length s.values.items) (length s.prices.items) row g first amount) where
   pub way_row : row < length s.values.items
-  way_row = omega (arith, marked_below t.queue.reached.items row p.on, h.search.queue.reached_long)
+  way_row = omega (arith, marked_below t.reached_rows.reached.items row p.on, h.search.reached_rows.reached_long)
 
   pub way_class : g < length s.prices.items
   way_class = h.fit.class row g p.link.weight p.link.its
 
   -- what the row is given fits
-  pub way_fits : amount ≤ number s.free.items first → class_total (cell s.holdings.items) (length s.values.items) g + number s.free.items g < 2 ^ 32 → cells row g + amount < 2 ^ 32
+  pub way_fits : amount ≤ number s.residual.items first → class_total (cell s.holdings.items) (length s.values.items) g + number s.residual.items g < 2 ^ 32 → cells row g + amount < 2 ^ 32
   way_fits enough small =
       let own : in_hand g amount g ≡ amount = ap (λ b. cond b amount 0) (eq-eqb g g refl) in
       omega (arith, total_at_least (λ k. cells k g) (length s.values.items) row way_row, p.by_class g way_class, own, from_first, small)
     where
-      from_first : in_hand first amount g ≤ number s.free.items g
+      from_first : in_hand first amount g ≤ number s.residual.items g
       from_first = elim (cases_eq g first) [
         | inl e ↦ (let all : in_hand first amount g ≡ amount = ap (λ b. cond b amount 0) (eq-eqb g first e) in
-            omega (arith, all, enough, ap (λ x. number s.free.items x) e))
+            omega (arith, all, enough, ap (λ x. number s.residual.items x) e))
         | inr ne ↦ (let none : in_hand first amount g ≡ 0 = ap (λ b. cond b amount 0) (ne_eqb g first ne) in omega (arith, none))
       ]
 
-  module _ (deep : 0 < place t.queue row) where
-    way_entered : IsEntered (cell s.holdings.items) t.queue t.notes t.takings row
+  module _ (deep : 0 < index t.reached_rows row) where
+    way_entered : IsEntered (cell s.holdings.items) t.reached_rows t.labels t.tree_classes row
     way_entered = h.search.entries row p.on deep
 
     -- a row that holds nothing is not on the way
     pub way_holds : (k : ℕ) → IsNoHolder k s.holdings.items → k ≡ row → ⊥
     way_holds k none e =
-        let held : 0 < cell s.holdings.items row (via t.queue row) = omega (arith, way_entered.held, h.search.rooms row p.on) in
-        let no : cell s.holdings.items k (via t.queue row) ≡ 0 = share_none k (shares_of s.holdings.items (via t.queue row)) (none (via t.queue row)) in
-        omega (arith, held, no, ap (λ j. cell s.holdings.items j (via t.queue row)) e)
+        let held : 0 < cell s.holdings.items row (parent_class t.reached_rows row) = omega (arith, way_entered.held, h.search.rooms row p.on) in
+        let no : cell s.holdings.items k (parent_class t.reached_rows row) ≡ 0 = share_none k (shares_of s.holdings.items (parent_class t.reached_rows row)) (none (parent_class t.reached_rows row)) in
+        omega (arith, held, no, ap (λ j. cell s.holdings.items j (parent_class t.reached_rows row)) e)
 
-    pub way_near : Near
+    pub way_near : Label
     way_near = way_entered.near
 
-    pub way_near_of : near_of t.notes (via t.queue row) ≡ Some way_near
+    pub way_near_of : near_of t.labels (parent_class t.reached_rows row) ≡ Some way_near
     unfolding way_near
     way_near_of = way_entered.its
 
-    pub way_before : place t.queue way_near.row < place t.queue row
+    pub way_before : index t.reached_rows way_near.row < index t.reached_rows row
     unfolding way_near
     way_before = way_entered.before
 
-    pub way_via : via t.queue row < length s.prices.items
-    way_via = let o = h.search.noted (via t.queue row) way_entered.near way_entered.its in h.fit.class _ _ _ o.weighs
+    pub way_via : parent_class t.reached_rows row < length s.prices.items
+    way_via = let o = h.search.noted (parent_class t.reached_rows row) way_entered.near way_entered.its in h.fit.class _ _ _ o.weighs
 
-    way_link : IsTight ws s.values.items s.prices.items way_near.row (via t.queue row)
+    way_link : IsTight ws s.values.items s.prices.items way_near.row (parent_class t.reached_rows row)
     unfolding way_near
     way_link =
-        let l = h.search.linked (via t.queue row) way_entered.taken in
-        let o = h.search.noted (via t.queue row) way_entered.near way_entered.its in
+        let l = h.search.linked (parent_class t.reached_rows row) way_entered.taken in
+        let o = h.search.noted (parent_class t.reached_rows row) way_entered.near way_entered.its in
         let same : l.near ≡ way_entered.near = (let both : Some l.near ≡ Some way_entered.near = sym l.its ∙ way_entered.its in cc) in
         record {
           weight = way_entered.near.weight;
           its = o.weighs;
-          equal = subst (λ (n : Near). number s.values.items n.row ≡ n.weight + number s.prices.items (via t.queue row)) same l.equal;
+          equal = subst (λ (n : Label). number s.values.items n.row ≡ n.weight + number s.prices.items (parent_class t.reached_rows row)) same l.equal;
         }
 
     -- the row holds as much of the class that it gives up
-    pub way_held : (mid : ℕ → ℕ → ℕ) → IsGiven cells mid row g amount → amount ≤ mid row (via t.queue row)
-    way_held mid give = elim (cases_eq (via t.queue row) g) [
+    pub way_held : (mid : ℕ → ℕ → ℕ) → IsGiven cells mid row g amount → amount ≤ mid row (parent_class t.reached_rows row)
+    way_held mid give = elim (cases_eq (parent_class t.reached_rows row) g) [
       | inl e ↦ (let f = ap (λ x. mid row x) e in omega (arith, f, give.given))
-      | inr ne ↦ omega (arith, give.others row (via t.queue row) (λ a b. ne b), p.same row (via t.queue row) p.on (omega arith), way_entered.held, p.less)
+      | inr ne ↦ omega (arith, give.others row (parent_class t.reached_rows row) (λ a b. ne b), p.same row (parent_class t.reached_rows row) p.on (omega arith), way_entered.held, p.less)
     ]
 
-    pub way_more : (mid new : ℕ → ℕ → ℕ) → IsGiven cells mid row g amount → IsGivenUp mid new row (via t.queue row) amount
-        → IsPushing ws s.values.items s.prices.items t.queue (cell s.holdings.items) new (length s.values.items) (length s.prices.items) way_near.row (via t.queue row) first amount
+    pub way_more : (mid new : ℕ → ℕ → ℕ) → IsGiven cells mid row g amount → IsGivenUp mid new row (parent_class t.reached_rows row) amount
+        → IsPushing ws s.values.items s.prices.items t.reached_rows (cell s.holdings.items) new (length s.values.items) (length s.prices.items) way_near.row (parent_class t.reached_rows row) first amount
     unfolding way_near
     way_more mid new give take =
-        pushing_more ws s.values.items s.prices.items t.queue (cell s.holdings.items) cells mid new (length s.values.items) (length s.prices.items) row g (via t.queue row) first amount way_entered.near
-        p h.fit.class way_row way_entered.before (h.search.noted (via t.queue row) way_entered.near way_entered.its).there way_link way_entered.less give take
+        pushing_more ws s.values.items s.prices.items t.reached_rows (cell s.holdings.items) cells mid new (length s.values.items) (length s.prices.items) row g (parent_class t.reached_rows row) first amount way_entered.near
+        p h.fit.class way_row way_entered.before (h.search.noted (parent_class t.reached_rows row) way_entered.near way_entered.its).there way_link way_entered.less give take
 
-    pub way_held_of : (mid : ℕ → ℕ → ℕ) (v : ℕ) → v ≡ via t.queue row → IsGiven cells mid row g amount → amount ≤ mid row v
+    pub way_held_of : (mid : ℕ → ℕ → ℕ) (v : ℕ) → v ≡ parent_class t.reached_rows row → IsGiven cells mid row g amount → amount ≤ mid row v
     way_held_of mid v e give = let f = ap (λ x. mid row x) e in omega (arith, f, way_held mid give)
 
-    pub way_via_of : (v : ℕ) → v ≡ via t.queue row → v < length s.prices.items
+    pub way_via_of : (v : ℕ) → v ≡ parent_class t.reached_rows row → v < length s.prices.items
     way_via_of v e = omega (arith, e, way_via)
 
-    next_row : (v r : ℕ) → v ≡ via t.queue row → ((n : Near) → near_of t.notes v ≡ Some n → r ≡ n.row) → r ≡ way_near.row
-    next_row v r e f = f way_near (subst (λ x. near_of t.notes x ≡ Some way_near) (sym e) way_near_of)
+    next_row : (v r : ℕ) → v ≡ parent_class t.reached_rows row → ((n : Label) → near_of t.labels v ≡ Some n → r ≡ n.row) → r ≡ way_near.row
+    next_row v r e f = f way_near (subst (λ x. near_of t.labels x ≡ Some way_near) (sym e) way_near_of)
 
-    pub way_smaller : (v r : ℕ) → v ≡ via t.queue row → ((n : Near) → near_of t.notes v ≡ Some n → r ≡ n.row) → place t.queue r < place t.queue row
-    way_smaller v r e f = let x = ap (λ k. place t.queue k) (next_row v r e f) in omega (arith, x, way_before)
+    pub way_smaller : (v r : ℕ) → v ≡ parent_class t.reached_rows row → ((n : Label) → near_of t.labels v ≡ Some n → r ≡ n.row) → index t.reached_rows r < index t.reached_rows row
+    way_smaller v r e f = let x = ap (λ k. index t.reached_rows k) (next_row v r e f) in omega (arith, x, way_before)
 
-    pub way_step : (mid new : ℕ → ℕ → ℕ) (v r : ℕ) → v ≡ via t.queue row → ((n : Near) → near_of t.notes v ≡ Some n → r ≡ n.row) → IsGiven cells mid row g amount → IsGivenUp mid new row v amount
-        → IsPushing ws s.values.items s.prices.items t.queue (cell s.holdings.items) new (length s.values.items) (length s.prices.items) r v first amount
+    pub way_step : (mid new : ℕ → ℕ → ℕ) (v r : ℕ) → v ≡ parent_class t.reached_rows row → ((n : Label) → near_of t.labels v ≡ Some n → r ≡ n.row) → IsGiven cells mid row g amount → IsGivenUp mid new row v amount
+        → IsPushing ws s.values.items s.prices.items t.reached_rows (cell s.holdings.items) new (length s.values.items) (length s.prices.items) r v first amount
     way_step mid new v r e f give take =
-        let P = λ (x y : ℕ). IsPushing ws s.values.items s.prices.items t.queue (cell s.holdings.items) new (length s.values.items) (length s.prices.items) x y first amount in
+        let P = λ (x y : ℕ). IsPushing ws s.values.items s.prices.items t.reached_rows (cell s.holdings.items) new (length s.values.items) (length s.prices.items) x y first amount in
         subst (λ x. P x v) (sym (next_row v r e f)) (subst (λ y. P way_near.row y) (sym e) (way_more mid new give (subst (λ y. IsGivenUp mid new row y amount) e take)))
 
 pub set_as : (xs ys : List ℕ) (i n x a : ℕ) → xs ≡ ys → i < n → length xs ≡ n → x ≡ get_or xs i x → set xs i (x - a) ≡ set ys i (number ys i - a)

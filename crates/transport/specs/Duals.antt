@@ -9,7 +9,7 @@ pub record IsTight (ws : ℕ → ℕ → Option ℕ) (values prices : List ℕ) 
   pub equal : number values k ≡ weight + number prices g
 
 -- values and prices that are below the weights, tight where CPUs are held, and 0 where a CPU is free
-pub record IsDual (ws : ℕ → ℕ → Option ℕ) (values prices : List ℕ) (cells : ℕ → ℕ → ℕ) (free : List ℕ) : Type 0 where
+pub record IsDual (ws : ℕ → ℕ → Option ℕ) (values prices : List ℕ) (cells : ℕ → ℕ → ℕ) (residual : List ℕ) : Type 0 where
   pub below : (k g w : ℕ) → ws k g ≡ Some w → number values k ≤ w + number prices g
   pub tight : (k g : ℕ) → 0 < cells k g → IsTight ws values prices k g
-  pub zero : (g : ℕ) → 0 < number free g → number prices g ≡ 0
+  pub zero : (g : ℕ) → 0 < number residual g → number prices g ≡ 0

@@ -8,9 +8,9 @@ use Rattle.transport.specs.Weights.{class_weight}
 use Rattle.transport.specs.Totals.{IsShared, IsHall}
 use Rattle.transport.specs.States.{cell}
 use Rattle.transport.specs.Settled.{IsSettled}
-use Rattle.transport.specs.declared.states.State.{State}
-use Rattle.transport.specs.declared.fills.Filled.{Filled}
-use Rattle.transport.specs.declared.fills.Filled.TheVariants.{Done, Stuck}
+use Rattle.transport.specs.declared.assignment.Assignment.{Assignment}
+use Rattle.transport.specs.declared.augment.Filled.{Filled}
+use Rattle.transport.specs.declared.augment.Filled.TheVariants.{Done, Stuck}
 
 -- how many CPUs row k asks for
 abbrev pub demand_of : List RowView → ℕ → ℕ
@@ -18,12 +18,12 @@ demand_of rows k = slice_index_or (map (λ r. r.demand) rows) k 0
 
 -- each row holds as many CPUs as it asks for, and values and prices show that this costs the least;
 -- two turns for each row at least, one for the row and one for a class
-pub record IsDone (rows : List RowView) (firsts sizes : List ℕ) (s : State) (turns : ℕ) : Type 0 where
+pub record IsDone (rows : List RowView) (firsts sizes : List ℕ) (s : Assignment) (turns : ℕ) : Type 0 where
   pub values_long : length s.values.items ≡ length rows
   pub prices_long : length s.prices.items ≡ length sizes
   pub settled : IsSettled (class_weight rows firsts) s
-  pub shared : IsShared (demand_of rows) (number sizes) (length rows) (length sizes) (cell s.holdings.items) s.free.items s.unmet.items
-  pub met : (k : ℕ) → k < length rows → number s.unmet.items k ≡ 0
+  pub shared : IsShared (demand_of rows) (number sizes) (length rows) (length sizes) (cell s.holdings.items) s.residual.items s.deficit.items
+  pub met : (k : ℕ) → k < length rows → number s.deficit.items k ≡ 0
   pub at_least : 2 * length rows ≤ turns
   pub at_most : turns ≤ asked rows * (length rows + length sizes)
 
@@ -38,5 +38,5 @@ pub record IsStuck (rows : List RowView) (firsts sizes : List ℕ) (reached take
   pub at_most : turns ≤ asked rows * (length rows + length sizes)
 
 abbrev pub IsFilled : List RowView → List ℕ → List ℕ → Filled → Type 0
-IsFilled rows firsts sizes (Done state turns) = IsDone rows firsts sizes state turns
+IsFilled rows firsts sizes (Done assignment turns) = IsDone rows firsts sizes assignment turns
 IsFilled rows firsts sizes (Stuck reached taken turns) = IsStuck rows firsts sizes reached.items taken.items turns

@@ -11,9 +11,9 @@ is_marked bs k = slice_index_or bs k false
 
 -- the number stands in the list
 pub record IsIn (ns : List ℕ) (n : ℕ) : Type 0 where
-  pub place : ℕ
-  pub within : place < length ns
-  pub is : number ns place ≡ n
+  pub index : ℕ
+  pub within : index < length ns
+  pub is : number ns index ≡ n
 
 -- a list names the marked places, each once
 pub record IsListing (order : List ℕ) (marks : List Bool) : Type 0 where

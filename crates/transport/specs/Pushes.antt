@@ -1,10 +1,10 @@
 -- CPUs on their way along the rows that a search has reached.
 use Rattle.std.specs.Prelude.{◌≡◌, ℕ, ◌+◌, ◌<◌, ◌≤◌, ◌==◌, true, cond, List, Option}
-use Rattle.transport.specs.Queues.{is_reached, room, place}
+use Rattle.transport.specs.ReachedRows.{is_reached, bottleneck, index}
 use Rattle.transport.specs.Duals.{IsTight}
 use Rattle.transport.specs.Totals.{row_total, class_total}
-use Rattle.transport.specs.declared.queues.Queue.{Queue}
-use Rattle.transport.specs.declared.states.State.{State}
+use Rattle.transport.specs.declared.tree.ReachedRows.{ReachedRows}
+use Rattle.transport.specs.declared.assignment.Assignment.{Assignment}
 
 -- so many CPUs of a class, where it is the one in hand
 abbrev pub in_hand : ℕ → ℕ → ℕ → ℕ
@@ -20,18 +20,18 @@ pub record IsGivenUp (old new : ℕ → ℕ → ℕ) (k g amount : ℕ) : Type 0
   pub others : (i j : ℕ) → (i ≡ k → j ≡ g → ⊥) → new i j ≡ old i j
 
 -- the CPUs in hand are of class g and go to this row; they came from class `first`
-pub record IsPushing (ws : ℕ → ℕ → Option ℕ) (values prices : List ℕ) (q : Queue) (start cells : ℕ → ℕ → ℕ) (rows classes row g first amount : ℕ) : Type 0 where
+pub record IsPushing (ws : ℕ → ℕ → Option ℕ) (values prices : List ℕ) (q : ReachedRows) (start cells : ℕ → ℕ → ℕ) (rows classes row g first amount : ℕ) : Type 0 where
   pub on : is_reached q row ≡ true
   pub link : IsTight ws values prices row g
-  pub less : amount ≤ room q row
-  pub same : (k h : ℕ) → is_reached q k ≡ true → place q k ≤ place q row → cells k h ≡ start k h
+  pub less : amount ≤ bottleneck q row
+  pub same : (k h : ℕ) → is_reached q k ≡ true → index q k ≤ index q row → cells k h ≡ start k h
   pub tight : (k h : ℕ) → 0 < cells k h → IsTight ws values prices k h
   pub by_row : (k : ℕ) → k < rows → row_total cells classes k ≡ row_total start classes k
   pub by_class : (h : ℕ) → h < classes → class_total cells rows h + in_hand g amount h ≡ class_total start rows h + in_hand first amount h
 
 -- holdings alone change
-pub record IsSameButHoldings (old new : State) : Type 0 where
+pub record IsSameButHoldings (old new : Assignment) : Type 0 where
   pub values : new.values ≡ old.values
   pub prices : new.prices ≡ old.prices
-  pub free : new.free ≡ old.free
-  pub unmet : new.unmet ≡ old.unmet
+  pub residual : new.residual ≡ old.residual
+  pub deficit : new.deficit ≡ old.deficit

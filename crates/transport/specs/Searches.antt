@@ -2,46 +2,46 @@
 use Rattle.std.specs.Prelude.{◌≡◌, ℕ, ◌+◌, ◌*◌, ◌<◌, ◌≤◌, Bool, true, false, List, [], ◌∷◌, ◌++◌, Option, Some, None, ◌⊎◌, length, slice_index_or, slice_set}
 use Rattle.certificate.specs.declared.limits.TheConstants.{MAX_ROWS, MAX_WEIGHT}
 use Rattle.transport.specs.Numbers.{number, is_marked, IsIn, IsListing}
-use Rattle.transport.specs.Queues.{IsQueue, is_reached, via, room, place, row_at}
+use Rattle.transport.specs.ReachedRows.{IsReachedRows, is_reached, parent_class, bottleneck, index, row_at}
 use Rattle.transport.specs.Duals.{IsDual}
-use Rattle.transport.specs.declared.queues.Queue.{Queue}
-use Rattle.transport.specs.declared.notes.Near.{Near}
-use Rattle.transport.specs.declared.notes.Exit.{Exit}
-use Rattle.transport.specs.declared.notes.Notes.{Notes}
-use Rattle.transport.specs.declared.takings.Takings.{Takings}
+use Rattle.transport.specs.declared.tree.ReachedRows.{ReachedRows}
+use Rattle.transport.specs.declared.labels.Label.{Label}
+use Rattle.transport.specs.declared.labels.FreeEnd.{FreeEnd}
+use Rattle.transport.specs.declared.labels.Labels.{Labels}
+use Rattle.transport.specs.declared.tree.TreeClasses.{TreeClasses}
 
-abbrev pub near_of : Notes → ℕ → Option Near
-near_of ns g = slice_index_or ns.nears.items g None
+abbrev pub near_of : Labels → ℕ → Option Label
+near_of ns g = slice_index_or ns.of_class.items g None
 
-abbrev pub is_taken : Takings → ℕ → Bool
+abbrev pub is_taken : TreeClasses → ℕ → Bool
 is_taken ts g = is_marked ts.taken.items g
 
 -- a class is noted with a reached row that has a weight for it, and has no free CPU
-pub record IsNoted (ws : ℕ → ℕ → Option ℕ) (free : List ℕ) (q : Queue) (g : ℕ) (n : Near) : Type 0 where
+pub record IsLabelled (ws : ℕ → ℕ → Option ℕ) (residual : List ℕ) (q : ReachedRows) (g : ℕ) (n : Label) : Type 0 where
   pub there : is_reached q n.row ≡ true
   pub weighs : ws n.row g ≡ Some n.weight
-  pub full : number free g ≡ 0
+  pub full : number residual g ≡ 0
 
 -- a class with a free CPU, and a reached row that has a weight for it
-pub record IsExit (ws : ℕ → ℕ → Option ℕ) (free : List ℕ) (q : Queue) (e : Exit) : Type 0 where
+pub record IsFreeEnd (ws : ℕ → ℕ → Option ℕ) (residual : List ℕ) (q : ReachedRows) (e : FreeEnd) : Type 0 where
   pub there : is_reached q e.near.row ≡ true
   pub weighs : ws e.near.row e.class ≡ Some e.near.weight
-  pub some_free : 0 < number free e.class
+  pub some_free : 0 < number residual e.class
 
 -- a row's value is the weight with which the class is noted, with the price
-pub record IsLinked (values prices : List ℕ) (ns : Notes) (g : ℕ) : Type 0 where
-  pub near : Near
+pub record IsLinked (values prices : List ℕ) (ns : Labels) (g : ℕ) : Type 0 where
+  pub near : Label
   pub its : near_of ns g ≡ Some near
   pub equal : number values near.row ≡ near.weight + number prices g
 
 -- a reached row holds some of the class through which it was reached, and the row before it was reached earlier
-pub record IsEntered (cells : ℕ → ℕ → ℕ) (q : Queue) (ns : Notes) (ts : Takings) (k : ℕ) : Type 0 where
-  pub taken : is_taken ts (via q k) ≡ true
-  pub held : room q k ≤ cells k (via q k)
-  pub near : Near
-  pub its : near_of ns (via q k) ≡ Some near
-  pub before : place q near.row < place q k
-  pub less : room q k ≤ room q near.row
+pub record IsEntered (cells : ℕ → ℕ → ℕ) (q : ReachedRows) (ns : Labels) (ts : TreeClasses) (k : ℕ) : Type 0 where
+  pub taken : is_taken ts (parent_class q k) ≡ true
+  pub held : bottleneck q k ≤ cells k (parent_class q k)
+  pub near : Label
+  pub its : near_of ns (parent_class q k) ≡ Some near
+  pub before : index q near.row < index q k
+  pub less : bottleneck q k ≤ bottleneck q near.row
 
 -- no weight is as high as this
 abbrev pub weight_limit : ℕ
@@ -56,26 +56,26 @@ abbrev pub top : ℕ
 top = 4 * most
 
 -- a row's value is as far from the root's as the classes between them allow
-pub record IsClose (values : List ℕ) (q : Queue) (k : ℕ) : Type 0 where
-  pub up : number values k ≤ number values (row_at q 0) + place q k * weight_limit
-  pub down : number values (row_at q 0) ≤ number values k + place q k * weight_limit
+pub record IsClose (values : List ℕ) (q : ReachedRows) (k : ℕ) : Type 0 where
+  pub up : number values k ≤ number values (row_at q 0) + index q k * weight_limit
+  pub down : number values (row_at q 0) ≤ number values k + index q k * weight_limit
 
-pub record IsSearch (ws : ℕ → ℕ → Option ℕ) (cells : ℕ → ℕ → ℕ) (values prices free : List ℕ) (q : Queue) (ns : Notes) (ts : Takings) : Type 0 where
-  pub queue : IsQueue (length values) q
+pub record IsSearch (ws : ℕ → ℕ → Option ℕ) (cells : ℕ → ℕ → ℕ) (values prices residual : List ℕ) (q : ReachedRows) (ns : Labels) (ts : TreeClasses) : Type 0 where
+  pub reached_rows : IsReachedRows (length values) q
   pub listing : IsListing ts.order.items ts.taken.items
   pub taken_long : length ts.taken.items ≡ length prices
-  pub nears_long : length ns.nears.items ≡ length prices
-  pub free_long : length free ≡ length prices
-  pub dual : IsDual ws values prices cells free
+  pub nears_long : length ns.of_class.items ≡ length prices
+  pub free_long : length residual ≡ length prices
+  pub dual : IsDual ws values prices cells residual
   pub rooted : 0 < length q.order.items
-  pub entries : (k : ℕ) → is_reached q k ≡ true → 0 < place q k → IsEntered cells q ns ts k
-  pub rooms : (k : ℕ) → is_reached q k ≡ true → 0 < room q k
-  pub noted : (g : ℕ) (n : Near) → near_of ns g ≡ Some n → IsNoted ws free q g n
-  pub listed : (g : ℕ) (n : Near) → near_of ns g ≡ Some n → is_taken ts g ≡ false → IsIn ns.noted.items g
+  pub entries : (k : ℕ) → is_reached q k ≡ true → 0 < index q k → IsEntered cells q ns ts k
+  pub rooms : (k : ℕ) → is_reached q k ≡ true → 0 < bottleneck q k
+  pub noted : (g : ℕ) (n : Label) → near_of ns g ≡ Some n → IsLabelled ws residual q g n
+  pub listed : (g : ℕ) (n : Label) → near_of ns g ≡ Some n → is_taken ts g ≡ false → IsIn ns.noted.items g
   pub noted_in : (i : ℕ) → i < length ns.noted.items → number ns.noted.items i < length prices
   pub linked : (g : ℕ) → is_taken ts g ≡ true → IsLinked values prices ns g
   pub holders : (k g : ℕ) → is_taken ts g ≡ true → 0 < cells k g → is_reached q k ≡ true
-  pub exit : (e : Exit) → ns.exit ≡ Some e → IsExit ws free q e
+  pub free_end : (e : FreeEnd) → ns.free_end ≡ Some e → IsFreeEnd ws residual q e
   pub close : (k : ℕ) → is_reached q k ≡ true → IsClose values q k
   pub others_low : (k : ℕ) → is_reached q k ≡ false → number values k ≤ most
   pub prices_low : (g : ℕ) → is_taken ts g ≡ false → number prices g ≤ most
@@ -83,50 +83,50 @@ pub record IsSearch (ws : ℕ → ℕ → Option ℕ) (cells : ℕ → ℕ → �
   pub prices_fit : (g : ℕ) → number prices g ≤ top
 
 -- a class is noted with a row that is no further from it
-pub record IsNearer (values : List ℕ) (ns : Notes) (k g w : ℕ) : Type 0 where
-  pub near : Near
+pub record IsNearer (values : List ℕ) (ns : Labels) (k g w : ℕ) : Type 0 where
+  pub near : Label
   pub its : near_of ns g ≡ Some near
   pub least : near.weight + number values k ≤ w + number values near.row
 
--- the exit is no further from its row than the class from this one
-pub record IsPastExit (values prices : List ℕ) (ns : Notes) (k g w : ℕ) : Type 0 where
-  pub exit : Exit
-  pub its : ns.exit ≡ Some exit
-  pub least : exit.near.weight + number values k ≤ w + number prices g + number values exit.near.row
+-- the free end is no further from its row than the class from this one
+pub record IsPastFreeEnd (values prices : List ℕ) (ns : Labels) (k g w : ℕ) : Type 0 where
+  pub free_end : FreeEnd
+  pub its : ns.free_end ≡ Some free_end
+  pub least : free_end.near.weight + number values k ≤ w + number prices g + number values free_end.near.row
 
-abbrev pub IsCovered : List ℕ → List ℕ → Notes → ℕ → ℕ → ℕ → Type 0
-IsCovered values prices ns k g w = IsNearer values ns k g w ⊎ IsPastExit values prices ns k g w
+abbrev pub IsCovered : List ℕ → List ℕ → Labels → ℕ → ℕ → ℕ → Type 0
+IsCovered values prices ns k g w = IsNearer values ns k g w ⊎ IsPastFreeEnd values prices ns k g w
 
 -- the classes of the rows up to some place that are not taken up
-pub record AllCovered (ws : ℕ → ℕ → Option ℕ) (values prices : List ℕ) (q : Queue) (ns : Notes) (ts : Takings) (looked : ℕ) : Type 0 where
-  pub covered : (k g w : ℕ) → is_reached q k ≡ true → place q k < looked → ws k g ≡ Some w → is_taken ts g ≡ false → IsCovered values prices ns k g w
+pub record AllCovered (ws : ℕ → ℕ → Option ℕ) (values prices : List ℕ) (q : ReachedRows) (ns : Labels) (ts : TreeClasses) (looked : ℕ) : Type 0 where
+  pub covered : (k g w : ℕ) → is_reached q k ≡ true → index q k < looked → ws k g ≡ Some w → is_taken ts g ≡ false → IsCovered values prices ns k g w
 
 -- one class more is taken up
-pub record IsTaken (old new : Takings) (g : ℕ) : Type 0 where
+pub record IsTaken (old new : TreeClasses) (g : ℕ) : Type 0 where
   pub taken : new.taken.items ≡ slice_set old.taken.items g true
   pub order : new.order.items ≡ old.order.items ++ g ∷ []
 
--- a slack, where neither the exit's nor that of a noted class is less
-pub record IsLeast (values prices : List ℕ) (ns : Notes) (ts : Takings) (by : ℕ) : Type 0 where
-  pub exit : (e : Exit) → ns.exit ≡ Some e → by + number values e.near.row ≤ e.near.weight + number prices e.class
-  pub noted : (g : ℕ) (n : Near) → near_of ns g ≡ Some n → is_taken ts g ≡ false → by + number values n.row ≤ n.weight + number prices g
+-- a slack, where neither the free end's nor that of a noted class is less
+pub record IsLeast (values prices : List ℕ) (ns : Labels) (ts : TreeClasses) (by : ℕ) : Type 0 where
+  pub free_end : (e : FreeEnd) → ns.free_end ≡ Some e → by + number values e.near.row ≤ e.near.weight + number prices e.class
+  pub noted : (g : ℕ) (n : Label) → near_of ns g ≡ Some n → is_taken ts g ≡ false → by + number values n.row ≤ n.weight + number prices g
 
--- the exit lies at that slack
-pub record IsExitAt (values prices : List ℕ) (ns : Notes) (by : ℕ) : Type 0 where
-  pub exit : Exit
-  pub its : ns.exit ≡ Some exit
-  pub equal : by + number values exit.near.row ≡ exit.near.weight + number prices exit.class
+-- the free end lies at that slack
+pub record IsFreeEndAt (values prices : List ℕ) (ns : Labels) (by : ℕ) : Type 0 where
+  pub free_end : FreeEnd
+  pub its : ns.free_end ≡ Some free_end
+  pub equal : by + number values free_end.near.row ≡ free_end.near.weight + number prices free_end.class
 
 -- a noted class that is not taken up lies at that slack
-pub record IsSlack (values prices : List ℕ) (ns : Notes) (ts : Takings) (g by : ℕ) : Type 0 where
-  pub near : Near
+pub record IsSlack (values prices : List ℕ) (ns : Labels) (ts : TreeClasses) (g by : ℕ) : Type 0 where
+  pub near : Label
   pub its : near_of ns g ≡ Some near
   pub left : is_taken ts g ≡ false
   pub equal : by + number values near.row ≡ near.weight + number prices g
 
--- the exit lies at that slack, or some class
-abbrev pub IsAttained : List ℕ → List ℕ → Notes → Takings → ℕ → Type 0
-IsAttained values prices ns ts by = IsExitAt values prices ns by ⊎ ((g : ℕ) × IsSlack values prices ns ts g by)
+-- the free end lies at that slack, or some class
+abbrev pub IsAttained : List ℕ → List ℕ → Labels → TreeClasses → ℕ → Type 0
+IsAttained values prices ns ts by = IsFreeEndAt values prices ns by ⊎ ((g : ℕ) × IsSlack values prices ns ts g by)
 
 -- rows and weights are within their limits
 pub record AreWeights (ws : ℕ → ℕ → Option ℕ) (rows classes : ℕ) : Type 0 where

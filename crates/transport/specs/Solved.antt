@@ -14,8 +14,8 @@ use Rattle.twins.specs.IsGrouping.{IsGrouping}
 use Rattle.twins.specs.ClassWeight.{class_weight}
 use Rattle.twins.specs.IsPriced.{class_prices}
 use Rattle.transport.specs.Totals.{total}
-use Rattle.transport.specs.declared.answers.Answer.{Answer}
-use Rattle.transport.specs.declared.answers.Answer.TheVariants.{Plan, Short}
+use Rattle.transport.specs.declared.solver.Answer.{Answer}
+use Rattle.transport.specs.declared.solver.Answer.TheVariants.{Plan, Short}
 
 -- a price for each class of twins whose price is not 0, and no other
 pub record IsPricedByClass (rows : List RowView) (of_cpu : List Price) : Type 0 where

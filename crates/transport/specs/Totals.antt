@@ -20,9 +20,9 @@ abbrev pub class_total : (ℕ → ℕ → ℕ) → ℕ → ℕ → ℕ
 class_total cells rows g = total (λ k. cells k g) rows
 
 -- what each row holds and lacks is its demand, and what is held and free of each class is its size
-pub record IsShared (demands sizes : ℕ → ℕ) (rows classes : ℕ) (cells : ℕ → ℕ → ℕ) (free unmet : List ℕ) : Type 0 where
-  pub by_row : (k : ℕ) → k < rows → row_total cells classes k + number unmet k ≡ demands k
-  pub by_class : (g : ℕ) → g < classes → class_total cells rows g + number free g ≡ sizes g
+pub record IsShared (demands sizes : ℕ → ℕ) (rows classes : ℕ) (cells : ℕ → ℕ → ℕ) (residual deficit : List ℕ) : Type 0 where
+  pub by_row : (k : ℕ) → k < rows → row_total cells classes k + number deficit k ≡ demands k
+  pub by_class : (g : ℕ) → g < classes → class_total cells rows g + number residual g ≡ sizes g
   pub rows_in : (k g : ℕ) → 0 < cells k g → (k < rows) × (g < classes)
 
 -- the worth of the values is the cost and the prices of all CPUs

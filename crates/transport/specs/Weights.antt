@@ -2,24 +2,24 @@
 use Rattle.std.specs.Prelude.{◌≡◌, ℕ, Option, Some, List, length, slice_get}
 use Rattle.certificate.specs.RowView.{RowView}
 use Rattle.twins.specs.Kinds.{offers_of, kind_at, AreKinds}
-use Rattle.transport.specs.Lines.{weight_of, IsLine, IsNewLine}
-use Rattle.transport.specs.declared.lines.Line.{Line}
-use Rattle.transport.specs.declared.tables.Table.{Table}
+use Rattle.transport.specs.SortedArcs.{weight_of, IsSortedArcs, IsNewSortedArcs}
+use Rattle.transport.specs.declared.arcs.SortedArcs.{SortedArcs}
+use Rattle.transport.specs.declared.instance.Instance.{Instance}
 
 -- the weight of a class in a row, if it has one
 abbrev pub class_weight : List RowView → List ℕ → ℕ → ℕ → Option ℕ
 class_weight rows firsts k g = weight_of (offers_of rows k) firsts g
 
-abbrev pub weights : Table → ℕ → ℕ → Option ℕ
+abbrev pub weights : Instance → ℕ → ℕ → Option ℕ
 weights t = class_weight t.rows.now t.firsts
 
--- those of the first rows that are the first of their kind have their lines, of which no offer is opened
-pub record AreNewLines (rows : List RowView) (kinds : List ℕ) (lines : List Line) (upto : ℕ) : Type 0 where
+-- those of the first rows that are the first of their kind have their sorted arcs, of which no offer is opened
+pub record AreNewSortedArcs (rows : List RowView) (kinds : List ℕ) (lines : List SortedArcs) (upto : ℕ) : Type 0 where
   pub long : length lines ≡ upto
-  pub each : (k : ℕ) (l : Line) → slice_get lines k ≡ Some l → kind_at kinds k ≡ k → IsNewLine (offers_of rows k) l
+  pub each : (k : ℕ) (l : SortedArcs) → slice_get lines k ≡ Some l → kind_at kinds k ≡ k → IsNewSortedArcs (offers_of rows k) l
 
--- each row that is the first of its kind has its line, and the rows of a kind share it
-pub record AreLines (t : Table) (free : List ℕ) (lines : List Line) : Type 0 where
+-- each row that is the first of its kind has its sorted arcs, and the rows of a kind share them
+pub record AreSortedArcs (t : Instance) (residual : List ℕ) (lines : List SortedArcs) : Type 0 where
   pub long : length lines ≡ length t.rows.now
   pub kinds : AreKinds t.rows.now (length t.rows.now) t.kinds.now
-  pub each : (k : ℕ) (l : Line) → slice_get lines k ≡ Some l → kind_at t.kinds.now k ≡ k → IsLine (weights t k) (offers_of t.rows.now k) t.firsts free l
+  pub each : (k : ℕ) (l : SortedArcs) → slice_get lines k ≡ Some l → kind_at t.kinds.now k ≡ k → IsSortedArcs (weights t k) (offers_of t.rows.now k) t.firsts residual l

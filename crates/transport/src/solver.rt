@@ -1,27 +1,21 @@
 //! The plan or the shortage that a problem comes to.
 ghost use Rattle.std.specs.Prelude.{◌≡◌, ◌≤◌, IsTrue, IfOk, length, map};
-ghost use Rattle.std.specs.FinSet as set;
 ghost use Rattle.certificate.specs.AreWithin.{AreRowsWithin};
 ghost use Rattle.certificate.specs.Limits.{rows_fit};
 ghost use Rattle.twins.specs.IsGrouping.{IsGrouping};
 ghost use Rattle.twins.specs.Kinds.{AreKinds};
 ghost use Rattle.transport.specs.Filled.{IsDone, IsStuck, IsFilled};
-ghost use Rattle.transport.specs.Firsts.{first_of};
+ghost use Rattle.transport.specs.Representatives.{first_of};
 ghost use Rattle.transport.specs.Solved.{IsRight, IsDecided, AreTwinsDealt, ArePricesOfClasses, AreTurns, IsSolved};
+ghost use Rattle.transport.specs.Places.{marked_places};
+ghost use Rattle.std.specs.FinSet as set;
 
-use crate::outlines::sizes_of;
-use crate::places::places_of;
-use crate::{Answer, Filled, Firsts, State, Table, fill};
-use certificate::{
-    Plan, Prices, Problem, Row, a_shortage_leaves_no_plan, no_plan_is_below_a_bound, proved_cost,
-    what_is_within_the_limits,
-};
+use crate::instance::sizes_of;
+use crate::{Assignment, Filled, Instance, Representatives, assign_all};
+use certificate::{Plan, Prices, Problem, Row, proved_cost};
 use cpu_set::{CPU_LIMIT, IdSet};
 use std::alloc::{AllocError, Global};
-use twins::{
-    Classes, classes_prove_plans, closed_rows_are_short, deal, deals_of_twins_are_dealt, group,
-    kinds_of, prices_of,
-};
+use twins::{Classes, deal, group, kinds_of, prices_of};
 
 /// A plan of the least cost with the values and prices that show it, or the rows of a shortage.
 ///
@@ -47,19 +41,19 @@ pub fn solve(alloc: Global, problem: &Problem) -> Result<Answer, AllocError>
     // each row of a plan, and one for each member of a shortage.
     ensures turns { IfOk result (AreTurns problem.now) }
 {
-    solved(alloc, problem)
+    solve_body(alloc, problem)
 }
 
-fn solved(alloc: Global, problem: &Problem) -> Result<Answer, AllocError>
+fn solve_body(alloc: Global, problem: &Problem) -> Result<Answer, AllocError>
     requires { IsTrue (rows_fit problem.now) }
     ensures { IfOk result (IsSolved problem.now) }
 {
-    what_is_within_the_limits();
+    certificate::laws::what_is_within_the_limits();
     let rows = problem.rows.as_slice();
     let kinds = kinds_of(alloc, rows)?;
     let classes = group(alloc, problem, &kinds)?;
     match filled(alloc, rows, &kinds, classes.sets.as_slice())? {
-        Filled::Done { state, turns } => planned(alloc, problem, &classes, state, turns),
+        Filled::Done { assignment, turns } => planned(alloc, problem, &classes, assignment, turns),
         Filled::Stuck {
             reached,
             taken,
@@ -81,14 +75,14 @@ fn filled(
     requires few { length classes.now ≤ CPU_LIMIT }
     ensures { IfOk result (IsFilled rows.now (map first_of classes.now) (map (λ s. set.len s) classes.now)) }
 {
-    let firsts = Firsts::new(alloc, classes)?;
+    let firsts = Representatives::new(alloc, classes)?;
     let sizes = sizes_of(alloc, classes)?;
-    let table = Table {
+    let instance = Instance {
         rows,
         kinds,
         firsts,
     };
-    fill(alloc, &table, &sizes)
+    assign_all(alloc, &instance, &sizes)
 }
 
 /// The plan of rows that have what they ask for, of each class so many CPUs.
@@ -96,23 +90,23 @@ fn planned(
     alloc: Global,
     problem: &Problem,
     classes: &Classes,
-    state: State,
+    assignment: Assignment,
     turns: u64,
 ) -> Result<Answer, AllocError>
     requires fit { IsTrue (rows_fit problem.now) }
     requires grouping { IsGrouping problem.now classes.now }
-    requires done { IsDone problem.now (map first_of classes.now) (map (λ s. set.len s) classes.now) state turns }
+    requires done { IsDone problem.now (map first_of classes.now) (map (λ s. set.len s) classes.now) assignment turns }
     ensures { IfOk result (IsSolved problem.now) }
 {
-    classes_prove_plans();
-    deals_of_twins_are_dealt();
-    no_plan_is_below_a_bound();
+    twins::laws::classes_prove_plans();
+    twins::laws::deals_of_twins_are_dealt();
+    certificate::laws::no_plan_is_below_a_bound();
     let rows = problem.rows.as_slice();
-    let sets = deal(alloc, rows.len(), classes, &state.holdings)?;
-    let of_cpu = prices_of(alloc, classes, &state.prices)?;
+    let sets = deal(alloc, rows.len(), classes, &assignment.holdings)?;
+    let of_cpu = prices_of(alloc, classes, &assignment.prices)?;
     let plan = Plan { sets };
     let prices = Prices {
-        values: state.values,
+        values: assignment.values,
         of_cpu,
     };
     let total = proved_cost(rows, &prices);
@@ -137,8 +131,42 @@ fn short(
     requires stuck { IsStuck problem.now (map first_of classes.now) (map (λ s. set.len s) classes.now) reached.now taken.now turns }
     ensures { IfOk result (IsSolved problem.now) }
 {
-    closed_rows_are_short();
-    a_shortage_leaves_no_plan();
+    twins::laws::closed_rows_are_short();
+    certificate::laws::a_shortage_leaves_no_plan();
     let members = places_of(alloc, reached)?;
     Ok(Answer::Short { members, turns })
+}
+
+/// What a problem comes to.
+#[derive(Debug, Drop)]
+pub enum Answer {
+    /// A plan of the least cost, with the values and prices that show it.
+    Plan {
+        plan: Plan,
+        prices: Prices,
+        /// What the plan costs.
+        total: u64,
+        /// How many rows and classes the searches took up.
+        turns: u64,
+    },
+    /// No plan: rows that together ask for more CPUs than they may have.
+    Short {
+        /// The rows' numbers, rising.
+        members: Vec<usize>,
+        /// How many rows and classes the searches took up.
+        turns: u64,
+    },
+}
+
+/// The places of the marks, rising.
+pub(crate) fn places_of(alloc: Global, marks: &[bool]) -> Result<Vec<usize>, AllocError>
+    ensures { IfOk result (λ places. places.items ≡ marked_places marks.now) }
+{
+    let mut places = Vec::new(alloc);
+    for (k, mark) in marks.iter().enumerate() {
+        if *mark {
+            places.push(k)?;
+        }
+    }
+    Ok(places)
 }

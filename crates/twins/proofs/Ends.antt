@@ -1,33 +1,41 @@
 -- Where the ranges of a set begin, and what lies behind them.
-use Rattle.std.proofs.Common.{◌≡◌, ℕ, ◌+◌, ◌<◌, Bool, true, false, not, ◌&&◌, ◌||◌, nat_lt, refl, sym, ap, ◌∙◌, arith}
-use Rattle.std.proofs.lemmas.Bool.{true≢false}
-use Rattle.std.proofs.lemmas.Bool.Decides.{nat_tests}
-use Rattle.std.specs.FinSet as set
 use Rattle.cpu_set.specs.Ids.{Ids}
-use Rattle.cpu_set.specs.Members.{IsCpu, IsComplement, IsMovedUp}
-use Rattle.cpu_set.specs.Pointwise.{contains-empty, contains-union, contains-difference}
+use Rattle.cpu_set.specs.Members.{IsComplement, IsCpu}
+use Rattle.cpu_set.specs.Pointwise.{contains-empty, contains-insert}
 use Rattle.cpu_set.specs.declared.TheConstants.{CPU_LIMIT}
+use Rattle.std.proofs.Common.{Bool, ap, arith, false, inl, inr, nat_lt, not, refl, sym, true, ℕ, ◌&&◌, ◌+◌, ◌<◌, ◌∙◌, ◌≡◌, ◌≤◌}
+use Rattle.std.proofs.lemmas.Bool.{cases_eq, cases_lt, eq-eqb, le-leb, or_left, or_right, true≢false}
+use Rattle.std.proofs.lemmas.Bool.Decides.{nat_tests}
+use Rattle.std.specs.Prelude.{nat_le}
+use Rattle.std.specs.FinSet as set
 
-neither : (n limit : ℕ) (below here moved : Bool) → moved ≡ (nat_lt n limit && below) → n < limit → ((here && not moved) || (moved && not here)) ≡ false → below ≡ here
-neither n limit below here moved is lt off = grind (arith, nat_tests)
+-- a number that a range does not begin with, and that is not right behind it, is in the range as the number below is
+pub no_end :
+    (first last cpu : ℕ) → (cpu + 1 ≡ first → ⊥) → (cpu + 1 ≡ last + 1 → ⊥)
+    → (nat_le first cpu && nat_le cpu last) ≡ (nat_le first (cpu + 1) && nat_le (cpu + 1) last)
+no_end first last cpu begins ends = λ i. from i && upto i
+  where
+    le_false : (a b : ℕ) → b < a → nat_le a b ≡ false
+    le_false a b lt = grind (arith, nat_tests)
 
--- a number that is no end is in the set as the number below is
-pub same_below :
-    (cpus behind ends : Ids) → IsMovedUp cpus behind → ends ≡ set.union (set.difference cpus behind) (set.difference behind cpus)
-    → (cpu : ℕ) → IsCpu (cpu + 1) → set.contains ends (cpu + 1) ≡ false → set.contains cpus cpu ≡ set.contains cpus (cpu + 1)
-same_below cpus behind ends moved are cpu fits off =
-    neither (cpu + 1) CPU_LIMIT _ _ _ (moved.moved cpu) fits
-    (sym (ap (λ s. set.contains s (cpu + 1)) are ∙ contains-union _ _ (cpu + 1) ∙ (λ i. contains-difference cpus behind (cpu + 1) i || contains-difference behind cpus (cpu + 1) i)) ∙ off)
+    from : nat_le first cpu ≡ nat_le first (cpu + 1)
+    from = elim (cases_lt cpu first) [
+      | inl lt ↦ (let low : cpu + 1 < first = elim (cases_eq (cpu + 1) first) [ inl e ↦ absurd (begins e) | inr ne ↦ omega (arith, lt, ne) ] in le_false first cpu lt ∙ sym (le_false first (cpu + 1) low))
+      | inr le ↦ le-leb first cpu le ∙ sym (le-leb first (cpu + 1) (omega (arith, le)))
+    ]
 
-in_either : (a b : Bool) → (a ≡ true → (a || b) ≡ true) × ((a || b) ≡ false → (a ≡ false) × (b ≡ false))
-in_either a b = (λ e. grind (arith, nat_tests), λ e. (grind (arith, nat_tests), grind (arith, nat_tests)))
+    upto : nat_le cpu last ≡ nat_le (cpu + 1) last
+    upto = elim (cases_lt last cpu) [
+      | inl lt ↦ le_false cpu last lt ∙ sym (le_false (cpu + 1) last (omega (arith, lt)))
+      | inr le ↦ (let low : cpu + 1 ≤ last = elim (cases_eq (cpu + 1) (last + 1)) [ inl e ↦ absurd (ends e) | inr ne ↦ omega (arith, le, ne) ] in le-leb cpu last le ∙ sym (le-leb (cpu + 1) last low))
+    ]
 
--- what is in one set is in both together, and what is not in both together is in neither
-pub stays_in : (s t : Ids) (q : ℕ) → set.contains s q ≡ true → set.contains (set.union s t) q ≡ true
-stays_in s t q here = contains-union s t q ∙ (in_either _ _).0 here
+-- what is in a set stays there where a number is added, and that number is there
+pub stays_inserted : (s : Ids) (k q : ℕ) → set.contains s q ≡ true → set.contains (set.insert s k) q ≡ true
+stays_inserted s k q here = contains-insert s k q ∙ or_right _ _ here
 
-pub out_of_both : (s t : Ids) (q : ℕ) → set.contains (set.union s t) q ≡ false → (set.contains s q ≡ false) × (set.contains t q ≡ false)
-out_of_both s t q off = (in_either _ _).1 (sym (contains-union s t q) ∙ off)
+pub is_inserted : (s : Ids) (k : ℕ) → set.contains (set.insert s k) k ≡ true
+is_inserted s k = contains-insert s k k ∙ or_left _ _ (eq-eqb k k refl)
 
 -- what is out of a set that has grown was out of it
 pub off_before : (b c : Bool) → (b ≡ true → c ≡ true) → c ≡ false → b ≡ false

@@ -9,17 +9,6 @@ use Rattle.certificate.specs.declared.rows.Offer.{Offer}
 use Rattle.twins.specs.Kinds.{offers_of, kind_at, IsKindOf, AreKinds, IsNextKind}
 use Rattle.twins.proofs.Splitting.{twins_more}
 
--- offers of one weight and the same CPUs are the same
-same_offer : (o p : Offer) → o.weight ≡ p.weight → o.cpus ≡ p.cpus → o ≡ p
-same_offer o p w s = λ i. record { weight = w i; cpus = s i }
-
--- one offer more is the same
-pub same_so_far :
-    (some others : List Offer) (i : ℕ) (one other : Offer) → i < length some → i < length others → one ≡ get_or some i one → other ≡ get_or others i other
-    → one.weight ≡ other.weight → one.cpus ≡ other.cpus → take i some ≡ take i others → take (i + 1) some ≡ take (i + 1) others
-same_so_far some others i one other lt lt' is other_is weighs cpus before =
-    take_more_same some others i one lt lt' before (sym is ∙ same_offer one other weighs cpus ∙ other_is ∙ get_or_default others i other one lt')
-
 pub own_offers : (rows : List RowView) (k : ℕ) (row : RowView) → k < length rows → row ≡ get_or rows k row → row.offers ≡ offers_of rows k
 own_offers rows k row lt is = ap (λ (r : RowView). r.offers) is ∙ sym (get_or-map (λ (r : RowView). r.offers) rows k row [] lt)
 

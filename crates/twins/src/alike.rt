@@ -6,7 +6,8 @@ ghost use Rattle.certificate.specs.Limits.{offers_fit};
 ghost use Rattle.certificate.specs.declared.rows.Offer.{Offer};
 ghost use Rattle.twins.specs.IsPart.{is_same_weight, HasAt};
 
-use certificate::{Offer, Offers};
+use crate::offer_sets::OfferSets;
+use certificate::Offer;
 use cpu_set::IdSet;
 
 /// Notes at each CPU that is the lowest of an offer the place of that offer.
@@ -21,7 +22,7 @@ pub(crate) fn note_places(offers: &[Offer], hints: &mut [usize]) {
 }
 
 /// The place of an offer that has the CPU. Where none has it, none is looked at.
-fn place_of(offers: &Offers, hints: &[usize], cpu: u16) -> Option<usize>
+fn place_of(offers: &OfferSets, hints: &[usize], cpu: u16) -> Option<usize>
     ensures { MatchOption result (weight_in offers.now cpu ≡ None) (HasAt offers.now cpu) }
 {
     if !offers.cpus().contains(cpu) {
@@ -64,7 +65,7 @@ fn has(offers: &[Offer], at: usize, cpu: u16) -> bool
 /// Those of some CPUs that have the weight of one of them, or that have none as it has none.
 ///
 /// Where the offers are by rising weight, one alone has the CPUs of a weight.
-pub(crate) fn alike(offers: &Offers, hints: &[usize], cpu: u16, among: &IdSet) -> IdSet
+pub(crate) fn alike(offers: &OfferSets, hints: &[usize], cpu: u16, among: &IdSet) -> IdSet
     requires { IsTrue (offers_fit offers.now) }
     ensures { (q : ℕ) → set.contains result q
         ≡ (set.contains among.now q && is_same_weight (weight_in offers.now cpu) (weight_in offers.now q)) }
@@ -82,7 +83,7 @@ pub(crate) fn alike(offers: &Offers, hints: &[usize], cpu: u16, among: &IdSet) -
 }
 
 /// Whether some CPUs are all in an offer that has the lowest of them, so that they have one weight.
-pub(crate) fn are_in_one(offers: &Offers, hints: &[usize], cpus: &IdSet) -> bool
+pub(crate) fn are_in_one(offers: &OfferSets, hints: &[usize], cpus: &IdSet) -> bool
     requires { IsTrue (offers_fit offers.now) }
     ensures { IsTrue result → (a b : ℕ) → set.contains cpus.now a ≡ true → set.contains cpus.now b ≡ true → weight_in offers.now a ≡ weight_in offers.now b }
 {

@@ -1,13 +1,14 @@
 //! Runs of CPUs that no row tells apart, and the edges between them.
-ghost use Rattle.std.specs.Prelude.{◌≡◌, ℕ, ◌+◌, true, false, IsTrue, length};
+ghost use Rattle.std.specs.Prelude.{◌≡◌, ℕ, ◌+◌, ◌<◌, ◌&&◌, true, false, nat_le, All, IsTrue, length};
 ghost use Rattle.std.specs.FinSet as set;
 ghost use Rattle.cpu_set.specs.Members.{IsCpu};
+ghost use Rattle.cpu_set.specs.Ranges.{in_ranges};
 ghost use Rattle.certificate.specs.Weight.{weight_in};
 ghost use Rattle.twins.specs.Edges.{AreEdges, IsRun};
 ghost use Rattle.twins.specs.Kinds.{AreKinds};
 
-use certificate::{Offer, Row};
-use cpu_set::IdSet;
+use certificate::{Offers, Row};
+use cpu_set::{CPU_LIMIT, IdSet};
 
 /// The CPUs that some row may tell from the CPU below. From each of them up to the next all CPUs are twins.
 ///
@@ -25,28 +26,54 @@ pub(crate) fn edges_of(rows: &[Row], kinds: &[usize], offered: &IdSet) -> IdSet
                 return IdSet::empty().complement();
             }
             let row = &rows[k];
-            add_edges(&mut edges, row.offers.as_slice());
+            add_edges(&mut edges, &row.offers);
         }
     }
     edges
 }
 
 /// Adds the CPUs that some offer tells from the CPU below.
-fn add_edges(edges: &mut IdSet, offers: &[Offer])
+fn add_edges(edges: &mut IdSet, offers: &Offers)
     ensures kept { (cpu : ℕ) → set.contains edges.old cpu ≡ true → set.contains edges.new cpu ≡ true }
     ensures told { (cpu : ℕ) → IsCpu (cpu + 1) → set.contains edges.new (cpu + 1) ≡ false → weight_in offers.now cpu ≡ weight_in offers.now (cpu + 1) }
 {
-    for offer in offers {
-        *edges = edges.union(&ends_of(&offer.cpus));
+    for at in 0..offers.len() {
+        let cpus = offers.ranges(at);
+        add_ends(edges, cpus);
     }
 }
 
-/// The lowest CPU of each range of a set, and the CPU behind the range.
-fn ends_of(cpus: &IdSet) -> IdSet
-    ensures { (cpu : ℕ) → IsCpu (cpu + 1) → set.contains result (cpu + 1) ≡ false → set.contains cpus.now cpu ≡ set.contains cpus.now (cpu + 1) }
+/// Adds the lowest CPU of each range, and the CPU behind it.
+fn add_ends(edges: &mut IdSet, ranges: &[(u16, u16)])
+    requires { All (λ r. r.1 < CPU_LIMIT) ranges.now }
+    ensures kept { (cpu : ℕ) → set.contains edges.old cpu ≡ true → set.contains edges.new cpu ≡ true }
+    ensures told { (cpu : ℕ) → IsCpu (cpu + 1) → set.contains edges.new (cpu + 1) ≡ false → in_ranges ranges.now cpu ≡ in_ranges ranges.now (cpu + 1) }
 {
-    let behind = cpus.moved_up();
-    cpus.minus(&behind).union(&behind.minus(cpus))
+    for range in ranges {
+        let (first, last) = *range;
+        add_ends_of(edges, first, last);
+    }
+}
+
+/// Adds the lowest CPU of a range, and the CPU behind it.
+fn add_ends_of(edges: &mut IdSet, first: u16, last: u16)
+    requires { last < CPU_LIMIT }
+    ensures kept { (cpu : ℕ) → set.contains edges.old cpu ≡ true → set.contains edges.new cpu ≡ true }
+    ensures told { (cpu : ℕ) → IsCpu (cpu + 1) → set.contains edges.new (cpu + 1) ≡ false → (nat_le first cpu && nat_le cpu last) ≡ (nat_le first (cpu + 1) && nat_le (cpu + 1) last) }
+{
+    add(edges, first);
+    add(edges, last + 1);
+}
+
+/// Adds a CPU; a number that no CPU has is left out.
+fn add(edges: &mut IdSet, cpu: u16)
+    ensures kept { (q : ℕ) → set.contains edges.old q ≡ true → set.contains edges.new q ≡ true }
+    ensures there { IsCpu cpu → set.contains edges.new cpu ≡ true }
+{
+    if cpu >= CPU_LIMIT {
+        return;
+    }
+    edges.insert(cpu);
 }
 
 /// Whether some CPUs lie in one run: no edge is above one of them and not above another.

@@ -1,7 +1,8 @@
 //! Classes of twins, by splitting sets of CPUs row by row.
-ghost use Rattle.std.specs.Prelude.{◌≡◌, ℕ, ◌<◌, ◌≤◌, ◌+◌, IsTrue, IfOk, OnOk, All, length};
+ghost use Rattle.std.specs.Prelude.{◌≡◌, ℕ, ◌<◌, ◌≤◌, ◌+◌, IsTrue, IfOk, OnOk, All, length, slice_index_or};
 ghost use Rattle.std.specs.List.{list_all};
 ghost use Rattle.std.specs.FinSet as set;
+ghost use Rattle.certificate.specs.RowView.{RowView};
 ghost use Rattle.certificate.specs.Limits.{row_fits};
 ghost use Rattle.certificate.specs.IsShortage.{is_offered};
 ghost use Rattle.twins.specs.IsGrouping.{IsGrouping};
@@ -12,6 +13,7 @@ ghost use Rattle.twins.specs.IsPart.{IsPart, IsUnsplit, ArePieces, IsSplit, IsPu
 use crate::Classes;
 use crate::alike::{alike, are_in_one, note_places};
 use crate::edges::{are_in_one_run, edges_of};
+use crate::offer_sets::OfferSets;
 use certificate::{Problem, Row};
 use cpu_set::{CPU_LIMIT, IdSet};
 use std::alloc::{AllocError, Global};
@@ -70,7 +72,7 @@ fn offered_cpus(rows: &[Row]) -> IdSet
 {
     let mut offered = IdSet::empty();
     for row in rows {
-        offered = offered.union(row.offers.cpus());
+        offered = offered.union(&row.offers.cpus());
     }
     offered
 }
@@ -96,11 +98,12 @@ fn split_all(
         return Ok(Vec::new(alloc));
     }
     let row = &rows[k];
-    let offers = row.offers.as_slice();
-    note_places(offers, hints);
-    let mut parts = Vec::with_capacity(alloc, sets.len() + offers.len())?;
+    let offers = OfferSets::of(alloc, &row.offers)?;
+    let items = offers.as_slice();
+    note_places(items, hints);
+    let mut parts = Vec::with_capacity(alloc, sets.len() + items.len())?;
     for part in sets {
-        split(rows, k, hints, edges, part, &mut parts, alone)?;
+        split(rows, k, &offers, hints, edges, part, &mut parts, alone)?;
     }
     Ok(parts)
 }
@@ -109,6 +112,7 @@ fn split_all(
 fn split(
     rows: &[Row],
     k: usize,
+    offers: &OfferSets,
     hints: &[usize],
     edges: &IdSet,
     part: &IdSet,
@@ -117,14 +121,13 @@ fn split(
 ) -> Result<(), AllocError>
     requires fit { IsTrue (list_all row_fits rows.now) }
     requires there { k < length rows.now }
+    requires offers { (d : RowView) → offers.now ≡ (slice_index_or rows.now k d).offers }
     requires edges { AreEdges rows.now edges.now }
     requires part { IsPart rows.now k part.now }
     requires parts { All (IsPart rows.now (k + 1)) parts.old.items }
     requires alone { All (IsPart rows.now (length rows.now)) alone.old.items }
     ensures { OnOk result (IsSplit rows.now (k + 1) part.now parts.old.items alone.old.items parts.new.items alone.new.items) }
 {
-    let row = &rows[k];
-    let offers = &row.offers;
     if are_in_one(offers, hints, part) {
         parts.push(*part)?;
         return Ok(());

@@ -2,13 +2,13 @@
 ghost use Rattle.std.specs.Prelude.{◌≡◌, ◌+◌, ◌<◌, IsTrue, IfOk, length};
 ghost use Rattle.twins.specs.Kinds.{AreKinds, IsNextKind};
 
-use certificate::{Offer, Row};
+use certificate::Row;
 use cpu_set::CPU_LIMIT;
 use std::alloc::{AllocError, Global};
 
 /// For each row the first of its kind: an earlier one with the same offers, or itself where none is known.
 ///
-/// Each row is compared with one earlier row alone: the latest whose first offer begins with the same CPU.
+/// Each row is compared with one earlier row alone: the latest whose first offer has a first range with the same end.
 pub fn kinds_of(alloc: Global, rows: &[Row]) -> Result<Vec<usize>, AllocError>
     ensures { IfOk result (λ kinds. AreKinds rows.now (length rows.now) kinds.items) }
 {
@@ -23,14 +23,19 @@ pub fn kinds_of(alloc: Global, rows: &[Row]) -> Result<Vec<usize>, AllocError>
     Ok(kinds)
 }
 
-/// The lowest CPU of the row's first offer, and 0 where there is none. Rows of other offers mostly differ in it.
+/// The last CPU of the first range of the row's first offer, and 0 where there is none. Rows of other offers mostly differ
+/// in it.
 fn first_offered(row: &Row) -> u16
     ensures { result < CPU_LIMIT }
 {
-    match row.offers.as_slice().first() {
-        Some(offer) => offer.cpus.first().unwrap_or(0),
-        None => 0,
+    if row.offers.len() == 0 {
+        return 0;
     }
+    let cpus = row.offers.ranges(0);
+    if cpus.is_empty() {
+        return 0;
+    }
+    cpus[0].1
 }
 
 /// The kind of row `k`: that of row `j`, where that one is earlier and has the same offers.
@@ -44,28 +49,9 @@ fn kind_of(rows: &[Row], kinds: &[usize], k: usize, j: usize) -> usize
     }
     let earlier = &rows[j];
     let row = &rows[k];
-    let before = earlier.offers.as_slice();
-    let offers = row.offers.as_slice();
-    if are_same(before, offers) {
+    if earlier.offers.is_same(&row.offers) {
         kinds[j]
     } else {
         k
     }
-}
-
-/// Whether two rows have the same offers in the same order.
-fn are_same(some: &[Offer], others: &[Offer]) -> bool
-    ensures { IsTrue result → some.now ≡ others.now }
-{
-    if some.len() != others.len() {
-        return false;
-    }
-    for at in 0..some.len() {
-        let one = &some[at];
-        let other = &others[at];
-        if one.weight != other.weight || one.cpus != other.cpus {
-            return false;
-        }
-    }
-    true
 }

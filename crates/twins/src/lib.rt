@@ -13,7 +13,8 @@ mod edges;
 mod grouping;
 mod holders;
 mod kinds;
-mod laws;
+pub mod laws;
+mod offer_sets;
 mod pricing;
 
 pub use classes::Classes;
@@ -21,7 +22,4 @@ pub use dealing::deal;
 pub use grouping::group;
 pub use holders::{Holders, Share};
 pub use kinds::kinds_of;
-pub use laws::{
-    classes_prove_plans, closed_rows_are_short, deals_of_twins_are_dealt, members_weigh_the_same,
-};
 pub use pricing::prices_of;

@@ -3,23 +3,23 @@ ghost use Rattle.std.specs.Prelude.{◌≡◌, IfOk, OnOk, length};
 ghost use Rattle.twins.specs.IsPriced.{class_prices, with_price};
 
 use crate::Classes;
-use certificate::Price;
+use certificate::{Price, PriceList};
 use cpu_set::IdSet;
 use std::alloc::{AllocError, Global};
 
 /// A price for each class whose price is not 0. For a class of the price 0 none is written.
-pub fn prices_of(alloc: Global, classes: &Classes, prices: &[u64]) -> Result<Vec<Price>, AllocError>
+pub fn prices_of(alloc: Global, classes: &Classes, prices: &[u64]) -> Result<PriceList, AllocError>
     requires { length prices.now ≡ length classes.now }
-    ensures { IfOk result (λ of_cpu. of_cpu.items ≡ class_prices classes.now prices.now) }
+    ensures { IfOk result (λ of_cpu. of_cpu ≡ class_prices classes.now prices.now) }
 {
     prices_of_sets(alloc, classes.sets.as_slice(), prices)
 }
 
-fn prices_of_sets(alloc: Global, sets: &[IdSet], prices: &[u64]) -> Result<Vec<Price>, AllocError>
+fn prices_of_sets(alloc: Global, sets: &[IdSet], prices: &[u64]) -> Result<PriceList, AllocError>
     requires { length prices.now ≡ length sets.now }
-    ensures { IfOk result (λ of_cpu. of_cpu.items ≡ class_prices sets.now prices.now) }
+    ensures { IfOk result (λ of_cpu. of_cpu ≡ class_prices sets.now prices.now) }
 {
-    let mut of_cpu = Vec::new(alloc);
+    let mut of_cpu = PriceList::new(alloc);
     for g in 0..sets.len() {
         add(&mut of_cpu, prices[g], sets[g])?;
     }
@@ -27,8 +27,8 @@ fn prices_of_sets(alloc: Global, sets: &[IdSet], prices: &[u64]) -> Result<Vec<P
 }
 
 /// Adds the price of a set, unless it is 0.
-fn add(of_cpu: &mut Vec<Price>, amount: u64, cpus: IdSet) -> Result<(), AllocError>
-    ensures { OnOk result (of_cpu.new.items ≡ with_price of_cpu.old.items amount cpus) }
+fn add(of_cpu: &mut PriceList, amount: u64, cpus: IdSet) -> Result<(), AllocError>
+    ensures { OnOk result (of_cpu.new ≡ with_price of_cpu.old amount cpus) }
 {
     if amount == 0 {
         return Ok(());

@@ -4,14 +4,14 @@ use Rattle.std.specs.Prelude.{is_ok}
 use Rattle.cpuset_tree.specs.Groups.{same_group, has_group, requested_cpus}
 use Rattle.cpuset_tree.specs.GroupLemmas.{same_group_itself}
 use Rattle.kernel_model.specs.declared.KernelFault.TheVariants.{NoGroup}
-use Rattle.apply_plan.proofs.ConditionLemmas.{read_is_there, not_root, is_the_root, flipped}
+use Rattle.apply_plan.proofs.ConditionLemmas.{ok_behind, read_is_there, not_root, is_the_root, flipped}
 use Rattle.apply_plan.proofs.conditions.is_placed.Goals as goal
 
 pub returns-then-ne : goal.returns-then-ne
 returns-then-ne g c =
     let tree = (g.K.Kernel.state c.args.kernel.now).tree in
     let there : c.is_ok.result ≡ has_group tree c.args.group =
-    c.is_ok.ensures.value ∙ ap is_ok c.requested_cpus.ensures ∙ read_is_there (has_group tree c.args.group) (requested_cpus tree c.args.group) NoGroup in (
+    c.is_ok.ensures.value ∙ ok_behind c.requested_cpus.result ∙ ap is_ok c.requested_cpus.ensures ∙ read_is_there (has_group tree c.args.group) (requested_cpus tree c.args.group) NoGroup in (
       λ yes. record {
         there = sym there ∙ yes;
         below = not_root tree c.root.result c.args.group c.root.ensures.well_formed.tree c.root.ensures.root

@@ -1,6 +1,6 @@
 use Rattle.std.proofs.Common.{◌≡◌, Bool, not, false, sym, ap, ◌∙◌, inl, inr}
 use Rattle.std.specs.Prelude.{option_map}
-use Rattle.std.specs.Option.{option_or}
+use Rattle.std.specs.Option.{option_or, option_copied}
 use Rattle.apply_plan.specs.declared.entry.Entry.{Entry}
 use Rattle.apply_plan.specs.DueWrite.{must_release, must_move, move_of}
 use Rattle.apply_plan.specs.Walks.{release_from}
@@ -13,7 +13,7 @@ pub loop-entry-preserved-in_default : goal.loop-entry-preserved-in_default
 loop-entry-preserved-in_default g c =
     let k = g.K.Kernel.state c.args.kernel.now in
     let e = c.entry-item.result in
-    let stays : must_move k e ≡ false = way_none k e (sym c.held_on_the_way.ensures ∙ c.in_default.is) in
+    let stays : must_move k e ≡ false = way_none k e (sym c.held_on_the_way.ensures ∙ ap option_copied c.in_default.is) in
     let keeps : must_release k c.args.reserved.now e ≡ false =
     keeps_its_target k c.args.reserved.now e
     (all_at _ c.args.entries.now c.loop-entry.entry-index e c.requires.some c.loop-entry-test.true c.entry-item.is) stays in
@@ -27,7 +27,7 @@ pub returns-in-Some-release_from : goal.returns-in-Some-release_from
 returns-in-Some-release_from g c =
     let k = g.K.Kernel.state c.args.kernel.now in
     let e = c.entry-item.result in
-    let way = way_some k e c.in-Some.held (sym c.held_on_the_way.ensures ∙ c.in-Some.is) in
+    let way = way_some k e c.in-Some.held.now (sym c.held_on_the_way.ensures ∙ ap option_copied c.in-Some.is) in
     release_is_due k c.args.reserved.now c.args.entries.now c.loop-entry.entry-index e c.in-Some-release_from.write
     c.loop-entry-test.true c.entry-item.is c.loop-entry.invariant.releases
     (sym c.in-Some-release_from.is ∙ c.release_from.ensures ∙ ap (release_from c.args.reserved.now e) (sym way.1) ∙ release_from_is k c.args.reserved.now e way.0)
@@ -36,7 +36,7 @@ pub loop-entry-preserved : goal.loop-entry-preserved
 loop-entry-preserved g c =
     let k = g.K.Kernel.state c.args.kernel.now in
     let e = c.entry-item.result in
-    let way = way_some k e c.in-Some.held (sym c.held_on_the_way.ensures ∙ c.in-Some.is) in
+    let way = way_some k e c.in-Some.held.now (sym c.held_on_the_way.ensures ∙ ap option_copied c.in-Some.is) in
     let stays : must_release k c.args.reserved.now e ≡ false =
     release_none k c.args.reserved.now e
     (sym (c.release_from.ensures ∙ ap (release_from c.args.reserved.now e) (sym way.1) ∙ release_from_is k c.args.reserved.now e way.0) ∙ c.in_default-release_from.is) in

@@ -3,5 +3,5 @@ use Rattle.cpu_set.specs.Members.{members}
 use Rattle.certificate.specs.Weight.{weight_in}
 use Rattle.certificate.proofs.costs.offers_cost.Given as goal
 
-abbrev pub invariant-loop-offer : goal.invariant-loop-offer
-invariant-loop-offer l = l.cost ≡ sum_by (λ cpu. unwrap_or (weight_in (take l.offer-index l.offers) cpu) 0) (members l.held)
+abbrev pub invariant-loop-at : goal.invariant-loop-at
+invariant-loop-at l = l.cost ≡ sum_by (λ cpu. unwrap_or (weight_in (take l.at l.offers) cpu) 0) (members l.held)

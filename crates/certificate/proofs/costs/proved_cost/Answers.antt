@@ -2,7 +2,6 @@ use Rattle.std.proofs.Common.{ap, ◌∙◌}
 use Rattle.certificate.specs.PricesView.{PricesView}
 use Rattle.certificate.proofs.LimitFacts.{limit_facts}
 use Rattle.certificate.proofs.costs.proved_cost.Goals as goal
-use Rattle.certificate.proofs.costs.proved_cost.Goals.{After-as_slice-of_cpu}
 
 pub worth-requires-clause-few : goal.worth-requires-clause-few
 worth-requires-clause-few c = (limit_facts _ _ _ c.requires.2.limits).few
@@ -17,4 +16,4 @@ pub worth-requires-clause-same : goal.worth-requires-clause-same
 worth-requires-clause-same c = rw (c.as_slice-values.ensures.value ∙ ap (λ (p : PricesView). p.values) c.prices.view_is) (limit_facts _ _ _ c.requires.2.limits).same_values
 
 pub price_sum-requires : goal.price_sum-requires
-price_sum-requires c = rw (c.as_slice-of_cpu.ensures.value ∙ ap (λ (p : PricesView). p.of_cpu) c.prices.view_is) (limit_facts _ _ _ c.requires.2.limits).prices_are
+price_sum-requires c = rw (ap (λ (p : PricesView). p.of_cpu) c.prices.view_is) (limit_facts _ _ _ c.requires.2.limits).prices_are

@@ -15,14 +15,14 @@ loop-k-init c = rw c.empty-offered.ensures contains-empty
 at : (c : After-union-offered) → IsRowAt c.args.rows.now c.args.members.now c.loop-k.k-index c.index-rows-k.result
 at c = (c.loop-k-test.true, c.requires c.loop-k.k-index 0 c.loop-k-test.true, c.index-rows-k.is)
 
-its : (c : After-union-offered) (cpu : ℕ) → set.contains c.cpus.result.now cpu ≡ is_some (weight c.index-rows-k.result cpu)
+its : (c : After-union-offered) (cpu : ℕ) → set.contains c.cpus.result cpu ≡ is_some (weight c.index-rows-k.result cpu)
 its c cpu =
     c.cpus.ensures cpu
     ∙ ap (λ offers. is_some (weight_in offers cpu)) (ap (λ (r : RowView). r.offers) c.row.view_is)
 
 pub loop-k-preserved : goal.loop-k-preserved
 loop-k-preserved c = rw c.union-offered.ensures
-    (offered_more c.args.rows.now c.args.members.now c.loop-k.k-index c.index-rows-k.result c.loop-k.offered c.cpus.result.now (at c) c.loop-k.invariant (its c))
+    (offered_more c.args.rows.now c.args.members.now c.loop-k.k-index c.index-rows-k.result c.loop-k.offered c.cpus.result (at c) c.loop-k.invariant (its c))
 
 pub returns : goal.returns
 returns c = λ cpu.

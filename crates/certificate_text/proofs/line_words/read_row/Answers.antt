@@ -1,4 +1,4 @@
-use Rattle.std.proofs.Common.{◌≡◌, ◌∷◌, [], ap, ◌∙◌, rules}
+use Rattle.std.proofs.Common.{◌∷◌, [], ap, ◌∙◌, rules}
 use Rattle.std.proofs.lemmas.Result.{err_from_is_err_and}
 use Rattle.certificate_text.specs.Line.{words}
 use Rattle.certificate_text.proofs.line_words.read_row.Goals as goal

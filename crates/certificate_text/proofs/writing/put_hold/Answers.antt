@@ -14,5 +14,5 @@ returns-in_err-write_list-clause-written g c =
 
 pub returns-clause-written : goal.returns-clause-written
 returns-clause-written g c =
-    Writes-then _ _ _ c.put_all-2.result _ _ (rw (c.as_slice.ensures, c.as_slice-2.ensures) at c.in_ok-put_all.ensures)
-    (Writes-then _ _ _ c.put_all-2.result _ _ c.in_ok-write_list.ensures (rw (c.as_slice-3.ensures, c.as_bytes-value.ensures.value, c.format.ensures.text, c.as_slice-4.ensures) at c.put_all-2.ensures))
+    Writes-then _ _ _ c.put_number.result _ _ (rw (c.as_slice.ensures, c.as_slice-2.ensures) at c.in_ok-put_all.ensures)
+    (Writes-then _ _ _ c.put_number.result _ _ c.in_ok-write_list.ensures c.put_number.ensures)

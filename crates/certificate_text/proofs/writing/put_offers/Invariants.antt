@@ -5,8 +5,8 @@ use Rattle.certificate_text.specs.Written.{offer_text, IsOfferHeld}
 use Rattle.certificate_text.proofs.HeldItems.{HoldUpTo}
 use Rattle.certificate_text.proofs.writing.put_offers.Given as goal
 
-abbrev pub invariant-loop-offer : goal.invariant-loop-offer
-invariant-loop-offer g l = record {
-  sent : Appends (g.W.Write.contents l.fn.w) (g.W.Write.contents l.w) (flat_map offer_text (take l.offer-index l.offers));
-  held : HoldUpTo IsOfferHeld l.offers l.offer-index;
+abbrev pub invariant-loop-at : goal.invariant-loop-at
+invariant-loop-at g l = record {
+  sent : Appends (g.W.Write.contents l.fn.w) (g.W.Write.contents l.w) (flat_map offer_text (take l.at l.offers));
+  held : HoldUpTo IsOfferHeld l.offers l.at;
 }

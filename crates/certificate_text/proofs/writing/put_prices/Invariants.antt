@@ -6,8 +6,8 @@ use Rattle.certificate_text.specs.Written.{line_text, IsPriceHeld}
 use Rattle.certificate_text.proofs.HeldItems.{HoldUpTo}
 use Rattle.certificate_text.proofs.writing.put_prices.Given as goal
 
-abbrev pub invariant-loop-price : goal.invariant-loop-price
-invariant-loop-price g l = record {
-  sent : Appends (g.W.Write.contents l.fn.w) (g.W.Write.contents l.w) (flat_map (λ price. line_text (PriceLine price)) (take l.price-index l.prices));
-  held : HoldUpTo IsPriceHeld l.prices l.price-index;
+abbrev pub invariant-loop-at : goal.invariant-loop-at
+invariant-loop-at g l = record {
+  sent : Appends (g.W.Write.contents l.fn.w) (g.W.Write.contents l.w) (flat_map (λ price. line_text (PriceLine price)) (take l.at l.prices));
+  held : HoldUpTo IsPriceHeld l.prices l.at;
 }

@@ -21,13 +21,13 @@ returns-in_err-put_prices-clause-written g c =
     let p = err_from_is_err_and c.from_residual-in_err-put_prices.result c.from_residual-in_err-put_prices.ensures.1 in
     rw (p.1, text_of-plan c.args.rows.now c.args.sets.now c.args.prices.now c.args.total, ← c.prices.view_is)
     (SendsFront-then _ _ _ _ _ c.in_ok-put_head.ensures.written (SendsFront-then _ _ _ _ _ (rw c.as_slice.ensures.value at c.in_ok-put_holds.ensures.written)
-    (SendsFront-more _ _ _ _ (rw c.as_slice-2.ensures.value at c.in_err-put_prices.ensures.written))))
+    (SendsFront-more _ _ _ _ (c.in_err-put_prices.ensures.written))))
 
 pub returns-clause-written : goal.returns-clause-written
 returns-clause-written g c =
     rw (text_of-plan c.args.rows.now c.args.sets.now c.args.prices.now c.args.total, ← c.prices.view_is)
     (Writes-then _ _ _ c.put_total.result _ _ c.in_ok-put_head.ensures.written (Writes-then _ _ _ c.put_total.result _ _ (rw c.as_slice.ensures.value at c.in_ok-put_holds.ensures.written)
-    (Writes-then _ _ _ c.put_total.result _ _ (rw c.as_slice-2.ensures.value at c.in_ok-put_prices.ensures.written) c.put_total.ensures)))
+    (Writes-then _ _ _ c.put_total.result _ _ (c.in_ok-put_prices.ensures.written) c.put_total.ensures)))
 
 pub returns-clause-held : goal.returns-clause-held
 returns-clause-held g c =
@@ -36,6 +36,6 @@ returns-clause-held g c =
       c.in_ok-put_head.ensures.held,
       c.in_ok-put_holds.ensures.held.0,
       rw c.as_slice.ensures.value at c.in_ok-put_holds.ensures.held.1,
-      rw c.as_slice-2.ensures.value at c.in_ok-put_prices.ensures.held,
+      c.in_ok-put_prices.ensures.held,
       search rules,
     ))

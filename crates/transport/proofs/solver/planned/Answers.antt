@@ -8,22 +8,22 @@ use Rattle.transport.proofs.solver.planned.Goals.{In_ok-of_cpu}
 
 pub deal-requires-clause-rows : goal.deal-requires-clause-rows
 deal-requires-clause-rows c =
-    rows_at c.args.problem.now c.args.classes.now c.args.state c.args.turns c.requires.grouping c.requires.done c.deref.result.now (length c.as_slice-rows.result.now)
+    rows_at c.args.problem.now c.args.classes.now c.args.assignment c.args.turns c.requires.grouping c.requires.done c.deref.result.now (length c.as_slice-rows.result.now)
     c.deref.ensures.value (sym (ap length (c.as_slice-rows.ensures.value ∙ c.problem.view_is)))
 
 pub deal-requires-clause-room : goal.deal-requires-clause-room
 deal-requires-clause-room c =
-    room_at c.args.problem.now c.args.classes.now c.args.state c.args.turns c.requires.grouping c.requires.done c.deref.result.now c.deref.ensures.value
+    room_at c.args.problem.now c.args.classes.now c.args.assignment c.args.turns c.requires.grouping c.requires.done c.deref.result.now c.deref.ensures.value
 
 -- the CPUs that are dealt are a plan, which the values and prices prove
-proved : (c : In_ok-of_cpu) → IsProved c.as_slice-rows.result.now c.in_ok-sets.sets.items (record { values = c.args.state.values.items; of_cpu = c.in_ok-of_cpu.of_cpu.items })
+proved : (c : In_ok-of_cpu) → IsProved c.as_slice-rows.result.now c.in_ok-sets.sets.items (record { values = c.args.assignment.values.items; of_cpu = c.in_ok-of_cpu.of_cpu })
     (cost c.args.problem.now c.in_ok-sets.sets.items)
 proved c =
     let rows_are : c.as_slice-rows.result.now ≡ c.args.problem.now = c.as_slice-rows.ensures.value ∙ c.problem.view_is in
     let as_many = c.in_ok-sets.ensures.long ∙ ap length rows_are in
     rw rows_are
-    (is_proved c.args.problem.now c.args.classes.now c.args.state c.args.turns c.requires.grouping c.requires.done
-    c.deref.result.now c.in_ok-sets.sets.items c.in_ok-of_cpu.of_cpu.items c.deref.ensures.value c.requires.fit c.in_ok-sets.ensures.dealt as_many
+    (is_proved c.args.problem.now c.args.classes.now c.args.assignment c.args.turns c.requires.grouping c.requires.done
+    c.deref.result.now c.in_ok-sets.sets.items c.in_ok-of_cpu.of_cpu c.deref.ensures.value c.requires.fit c.in_ok-sets.ensures.dealt as_many
     (c.in_ok-of_cpu.ensures ∙ ap (class_prices c.args.classes.now) c.deref-2.ensures.value)
     c.classes_prove_plans.ensures)
 
@@ -33,8 +33,8 @@ proved_cost-total-requires c = (c.in_ok-sets.sets.items, cost c.args.problem.now
 pub returns : goal.returns
 returns c =
     let rows_are : c.as_slice-rows.result.now ≡ c.args.problem.now = c.as_slice-rows.ensures.value ∙ c.problem.view_is in
-    solved_plan c.args.problem.now c.args.classes.now c.args.state c.args.turns c.requires.grouping c.requires.done
-    c.deref.result.now c.in_ok-sets.sets.items c.in_ok-of_cpu.of_cpu.items c.proved_cost-total.result c.deref.ensures.value c.requires.fit
+    solved_plan c.args.problem.now c.args.classes.now c.args.assignment c.args.turns c.requires.grouping c.requires.done
+    c.deref.result.now c.in_ok-sets.sets.items c.in_ok-of_cpu.of_cpu c.proved_cost-total.result c.deref.ensures.value c.requires.fit
     c.in_ok-sets.ensures.dealt
     (c.in_ok-sets.ensures.long ∙ ap length rows_are)
     (c.in_ok-of_cpu.ensures ∙ ap (class_prices c.args.classes.now) c.deref-2.ensures.value)

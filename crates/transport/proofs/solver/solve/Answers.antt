@@ -5,9 +5,9 @@ pub returns : goal.returns
 returns c =
     let rows = c.args.problem.now in
     record {
-      right = if_ok c.solved.result (right_of rows) c.solved.ensures;
-      decided = if_ok c.solved.result (decided_of rows) c.solved.ensures;
-      dealt = if_ok c.solved.result (dealt_of rows) c.solved.ensures;
-      priced = if_ok c.solved.result (prices_of_classes rows) c.solved.ensures;
-      turns = if_ok c.solved.result (turns_of rows) c.solved.ensures;
+      right = if_ok c.solve_body.result (right_of rows) c.solve_body.ensures;
+      decided = if_ok c.solve_body.result (decided_of rows) c.solve_body.ensures;
+      dealt = if_ok c.solve_body.result (dealt_of rows) c.solve_body.ensures;
+      priced = if_ok c.solve_body.result (prices_of_classes rows) c.solve_body.ensures;
+      turns = if_ok c.solve_body.result (turns_of rows) c.solve_body.ensures;
     }

@@ -21,7 +21,7 @@ loop-k-preserved c = elim c.if-kinds-k.branch [
   | then-kinds-k+else-count-half w ↦ rw w.edges-is (λ cpu fits off.
       let before = c.loop-k.invariant cpu fits (off_before _ _ (w.add_edges.ensures.kept (cpu + 1)) off) in
       twins_more c.args.rows.now c.loop-k.k cpu (cpu + 1) w.index-rows-k.result c.loop-k-test.true w.index-rows-k.is before
-      (subst (λ (o : List Offer). weight_in o cpu ≡ weight_in o (cpu + 1)) (w.as_slice.ensures ∙ ap (λ (row : RowView). row.offers) w.row.view_is) (w.add_edges.ensures.told cpu fits off)))
+      (subst (λ (o : List Offer). weight_in o cpu ≡ weight_in o (cpu + 1)) (ap (λ (row : RowView). row.offers) w.row.view_is) (w.add_edges.ensures.told cpu fits off)))
   | else-kinds-k w ↦ rw w.edges-is (λ cpu fits off.
       let kind = c.requires.each c.loop-k.k c.loop-k-test.true in
       let earlier : kind_at c.args.kinds.now c.loop-k.k < c.loop-k.k = omega (arith, kind.no_later, w.if-kinds-k.false) in

@@ -13,7 +13,7 @@ loop-row-init c = rw c.empty-offered.ensures contains-empty
 pub loop-row-preserved : goal.loop-row-preserved
 loop-row-preserved c = λ cpu.
     ap (λ s. set.contains s cpu) c.union-offered.ensures ∙ contains-union _ _ cpu
-    ∙ ap (λ b. b || set.contains c.cpus.result.now cpu) (c.loop-row.invariant cpu)
+    ∙ ap (λ b. b || set.contains c.cpus.result cpu) (c.loop-row.invariant cpu)
     ∙ ap (λ b. is_offered (take c.loop-row.row-index c.args.rows.now) cpu || b)
     (c.cpus.ensures cpu ∙ ap (λ (row : RowView). is_some (weight row cpu)) (c.row.view_is ∙ c.row-item.is))
     ∙ sym (list_any_more (λ (row : RowView). is_some (weight row cpu)) c.args.rows.now c.loop-row.row-index c.row-item.result c.loop-row-test.true)

@@ -4,6 +4,7 @@ use Rattle.slab.specs.Slab.{Slab, get, Updates}
 use Rattle.cpu_set.specs.Ids.{Ids}
 use Rattle.cpuset_tree.specs.declared.groups.Group.{Group}
 use Rattle.cpuset_tree.specs.declared.groups.Cgroup.{Cgroup}
+use Rattle.cpuset_tree.specs.declared.groups.Shares.{Shares}
 use Rattle.cpuset_tree.specs.declared.groups.Resource.{Resource}
 use Rattle.cpuset_tree.specs.declared.groups.Resource.TheVariants.{Cpus, Mems}
 use Rattle.cpuset_tree.specs.TreeState.{GroupEntry, TreeState}
@@ -19,11 +20,11 @@ use Rattle.cpuset_tree.proofs.ParentLemmas.{AreParentsUpTo-added}
 use Rattle.cpuset_tree.proofs.cpusets.Tree.add.Goals as goal
 
 -- a new group has all of its parent's
-shares : (online nodes : Ids) (groups : List GroupEntry) (p : Group) (n : Cgroup) (cpus mems : Ids) → n.cpus ≡ unrequested cpus → n.mems ≡ unrequested mems
-    → cpus ≡ effective (λ e. e.cpus) online groups p → mems ≡ effective (λ e. e.mems) nodes groups p
+all_of_parent : (online nodes : Ids) (groups : List GroupEntry) (p : Group) (n : Cgroup) → n.shares.value.cpus ≡ unrequested (effective (λ e. e.cpus) online groups p)
+    → n.shares.value.mems ≡ unrequested (effective (λ e. e.mems) nodes groups p)
     → (r : Resource) → share_of r n ≡ unrequested (effective (requested_of r) (top_of r online nodes) groups p)
-shares online nodes groups p n cpus mems a b c d Cpus = a ∙ ap unrequested c
-shares online nodes groups p n cpus mems a b c d Mems = b ∙ ap unrequested d
+all_of_parent online nodes groups p n cpus mems Cpus = cpus
+all_of_parent online nodes groups p n cpus mems Mems = mems
 
 pub invariant_of-self : goal.invariant_of-self
 invariant_of-self c =
@@ -47,11 +48,13 @@ invariant_of-self-2 c =
     let i = c.self.inside in
     let key = c.vacant_key.result in
     let g : Group = record { key = key; serial = i.next_serial } in
-    let n : Cgroup = record { group = g; parent = Some c.args.parent; name = c.args.name; cpus = c.unrequested.result; mems = c.unrequested-2.result } in
+    let n : Cgroup = record { group = g; parent = Some c.args.parent; name = c.args.name; shares = c.in_ok-shares.shares } in
     let roomy : Slab Cgroup = record i.groups { capacity = c.reserve.new.self.capacity } in
     let kept : c.reserve.new.self ≡ roomy = c.in_ok-reserve.ensures.rest_kept in
     let updates : Updates c.reserve.new.self c.insert_reserved.new.self key (Some n) =
     subst (λ (k : ℕ). Updates c.reserve.new.self c.insert_reserved.new.self k (Some n)) (c.insert_reserved.ensures.key ∙ sym c.vacant_key.ensures.value) c.insert_reserved.ensures.updates in
+    let cpus_given : c.in_ok-shares.shares.value.cpus ≡ unrequested (effective_cpus c.args.self.now c.args.parent) = ap (λ (x : Shares). x.cpus) c.in_ok-shares.ensures.ok ∙ c.requires.cpus in
+    let mems_given : c.in_ok-shares.shares.value.mems ≡ unrequested (effective_mems c.args.self.now c.args.parent) = ap (λ (x : Shares). x.mems) c.in_ok-shares.ensures.ok ∙ c.requires.mems in
     let within = c.max-self-inside.ensures in (
       subst (λ (l : List ℕ). IsSound c.insert_reserved.new.self l i.online i.nodes i.root (i.next_serial + 1)) (sym c.in_ok-push_front.ensures.items)
           (IsSound-added roomy c.insert_reserved.new.self i.order.items i.online i.nodes i.root i.next_serial key n
@@ -60,9 +63,9 @@ invariant_of-self-2 c =
           (ap (λ (s : Slab Cgroup). get s key) (sym kept) ∙ c.vacant_key.ensures.vacant)
           c.args.parent refl refl refl
           (ap (λ (s : TreeState). has_group s c.args.parent) c.self.view_is ∙ c.requires.parent)
-          (shares i.online i.nodes (listed i.groups i.order.items) c.args.parent n c.args.cpus c.args.mems c.unrequested.ensures c.unrequested-2.ensures
-          (c.requires.cpus ∙ ap (λ (s : TreeState). effective_cpus s c.args.parent) (sym c.self.view_is))
-          (c.requires.mems ∙ ap (λ (s : TreeState). effective_mems s c.args.parent) (sym c.self.view_is)))),
+          (all_of_parent i.online i.nodes (listed i.groups i.order.items) c.args.parent n
+          (cpus_given ∙ ap (λ (s : TreeState). unrequested (effective_cpus s c.args.parent)) (sym c.self.view_is))
+          (mems_given ∙ ap (λ (s : TreeState). unrequested (effective_mems s c.args.parent)) (sym c.self.view_is)))),
       AreParentsUpTo-added roomy c.insert_reserved.new.self key i.newest_parent c.max-self-inside.result n c.args.parent
           (subst (λ (s : Slab Cgroup). Updates s c.insert_reserved.new.self key (Some n)) kept updates) refl (omega arith) (omega arith) c.self.invariant.1,
     )
@@ -72,7 +75,7 @@ returns-clause-ok c =
     let i = c.self.inside in
     let key = c.vacant_key.result in
     let g : Group = record { key = key; serial = i.next_serial } in
-    let n : Cgroup = record { group = g; parent = Some c.args.parent; name = c.args.name; cpus = c.unrequested.result; mems = c.unrequested-2.result } in
+    let n : Cgroup = record { group = g; parent = Some c.args.parent; name = c.args.name; shares = c.in_ok-shares.shares } in
     let roomy : Slab Cgroup = record i.groups { capacity = c.reserve.new.self.capacity } in
     let kept : c.reserve.new.self ≡ roomy = c.in_ok-reserve.ensures.rest_kept in
     let sound : IsSound roomy i.order.items i.online i.nodes i.root i.next_serial = IsSound-room i.groups c.reserve.new.self.capacity i.order.items i.online i.nodes i.root i.next_serial c.self.invariant.0 in
@@ -80,8 +83,10 @@ returns-clause-ok c =
     let updates : Updates roomy c.insert_reserved.new.self key (Some n) =
     subst (λ (s : Slab Cgroup). Updates s c.insert_reserved.new.self key (Some n)) kept
     (subst (λ (k : ℕ). Updates c.reserve.new.self c.insert_reserved.new.self k (Some n)) (c.insert_reserved.ensures.key ∙ sym c.vacant_key.ensures.value) c.insert_reserved.ensures.updates) in
+    let cpus_given : c.in_ok-shares.shares.value.cpus ≡ unrequested (effective_cpus c.args.self.now c.args.parent) = ap (λ (x : Shares). x.cpus) c.in_ok-shares.ensures.ok ∙ c.requires.cpus in
+    let mems_given : c.in_ok-shares.shares.value.mems ≡ unrequested (effective_mems c.args.self.now c.args.parent) = ap (λ (x : Shares). x.mems) c.in_ok-shares.ensures.ok ∙ c.requires.mems in
     let entry : entry_of_kept n ≡ new_entry g (Some c.args.parent) (string_bytes c.args.name) =
-    (λ j. record { group = g; parent = Some c.args.parent; name = string_bytes c.args.name; cpus = (c.unrequested.ensures j).requested; mems = (c.unrequested-2.ensures j).requested }) in
+    (λ j. record { group = g; parent = Some c.args.parent; name = string_bytes c.args.name; cpus = (cpus_given j).requested; mems = (mems_given j).requested }) in
     let groups : listed c.insert_reserved.new.self c.push_front.new.self.items ≡ new_entry g (Some c.args.parent) (string_bytes c.args.name) ∷ listed i.groups i.order.items =
     ap (listed c.insert_reserved.new.self) c.in_ok-push_front.ensures.items
     ∙ listed-added roomy c.insert_reserved.new.self i.order.items i.online i.nodes i.root i.next_serial key n sound updates vacant _ entry in

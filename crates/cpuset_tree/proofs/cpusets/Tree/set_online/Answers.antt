@@ -3,7 +3,10 @@ use Rattle.std.proofs.Common.{refl}
 use Rattle.cpuset_tree.proofs.PlaceLemmas.{SamePlaces-from_kept}
 use Rattle.cpuset_tree.proofs.RefreshLemmas.{OthersGranted-online}
 use Rattle.cpuset_tree.proofs.ParentLemmas.{AreParentsUpTo-same}
-use Rattle.cpuset_tree.proofs.WriteLemmas.{SameHeld-from_kept, IsSound-refreshed}
+use Rattle.std.proofs.Common.{◌≡◌, ap, ◌∙◌}
+use Rattle.cpuset_tree.specs.TreeState.{TreeState}
+use Rattle.cpuset_tree.specs.TreeChanges.{with_online}
+use Rattle.cpuset_tree.proofs.WriteLemmas.{SameHeld-from_kept, IsSound-refreshed, listed-kept}
 use Rattle.cpuset_tree.proofs.cpusets.Tree.set_online.Goals as goal
 
 pub refresh-requires-clause-granted : goal.refresh-requires-clause-granted
@@ -20,3 +23,14 @@ invariant_of-self c =
           refl c.refresh.ensures.kept,
       AreParentsUpTo-same i.groups c.refresh.new.groups i.newest_parent (SamePlaces-from_kept Cpus i.groups c.refresh.new.groups c.refresh.ensures.same) c.self.invariant.1,
     )
+
+pub returns : goal.returns
+returns c =
+    let i = c.self.inside in
+    (λ j. record {
+      groups = listed-kept Cpus i.groups c.refresh.new.groups c.refresh.ensures.same i.order.items j;
+      online = c.args.online;
+      nodes = i.nodes;
+      next_serial = i.next_serial;
+    })
+    ∙ ap (λ (s : TreeState). with_online s c.args.online) c.self.view_is

@@ -11,12 +11,12 @@ use Rattle.node.proofs.node.Node.create.Goals as goal
 
 pub returns : goal.returns
 returns g c =
-    let done = c.try_create.ensures in
+    let done = c.create_body.ensures in
     record {
       creates = done;
-      leaves = create_leaves c.args.self.now c.holds.ensures c.args.id.now c.args.config.now c.args.bundle.now c.try_create.result c.try_create.new.self done;
-      counted = create_counts c.args.self.now c.args.id.now c.args.bundle.now c.args.config.now c.try_create.result c.try_create.new.self done;
-      made = create_makes c.args.self.now c.args.id.now c.args.bundle.now c.args.config.now c.try_create.result c.try_create.new.self done;
-      late = λ fault is. creates_fail_late c.args.self.now c.args.id.now c.args.bundle.now c.args.config.now fault c.try_create.new.self c.holds.ensures
-          (subst (λ (r : Result ℕ (OrMemory NodeFault)). Creates c.args.self.now c.args.id.now c.args.bundle.now c.args.config.now r c.try_create.new.self) is done);
+      leaves = create_leaves c.args.self.now c.holds.ensures c.args.id.now c.args.config.now c.args.bundle.now c.create_body.result c.create_body.new.self done;
+      counted = create_counts c.args.self.now c.args.id.now c.args.bundle.now c.args.config.now c.create_body.result c.create_body.new.self done;
+      made = create_makes c.args.self.now c.args.id.now c.args.bundle.now c.args.config.now c.create_body.result c.create_body.new.self done;
+      late = λ fault is. creates_fail_late c.args.self.now c.args.id.now c.args.bundle.now c.args.config.now fault c.create_body.new.self c.holds.ensures
+          (subst (λ (r : Result ℕ (OrMemory NodeFault)). Creates c.args.self.now c.args.id.now c.args.bundle.now c.args.config.now r c.create_body.new.self) is done);
     }

@@ -4,9 +4,9 @@ use Rattle.node.proofs.node.Node.delete.Goals as goal
 
 pub returns : goal.returns
 returns g c =
-    let done = c.try_delete.ensures in
+    let done = c.delete_body.ensures in
     record {
       deletes = done;
-      counted = delete_counts c.args.self.now c.args.id.now c.try_delete.result c.try_delete.new.self done;
-      made = delete_makes c.args.self.now c.args.id.now c.try_delete.result c.try_delete.new.self done;
+      counted = delete_counts c.args.self.now c.args.id.now c.delete_body.result c.delete_body.new.self done;
+      made = delete_makes c.args.self.now c.args.id.now c.delete_body.result c.delete_body.new.self done;
     }

@@ -4,9 +4,9 @@ use Rattle.node.proofs.node.Node.kill.Goals as goal
 
 pub returns : goal.returns
 returns g c =
-    let done = c.try_kill.ensures in
+    let done = c.kill_body.ensures in
     record {
       kills = done;
-      counted = kill_counts c.args.self.now c.args.id.now c.args.signal.now c.try_kill.result c.try_kill.new.self done;
-      made = kill_makes c.args.self.now c.args.id.now c.args.signal.now c.try_kill.result c.try_kill.new.self done;
+      counted = kill_counts c.args.self.now c.args.id.now c.args.signal.now c.kill_body.result c.kill_body.new.self done;
+      made = kill_makes c.args.self.now c.args.id.now c.args.signal.now c.kill_body.result c.kill_body.new.self done;
     }

@@ -3,10 +3,10 @@ use Rattle.node.proofs.node.Node.rebalance.Goals as goal
 
 pub returns : goal.returns
 returns g c =
-    let done = c.move_all.ensures in
+    let done = c.rebalance_body.ensures in
     record {
-      headline = headline c.args.self.now c.holds.ensures c.rows_weigh.ensures c.steps.ensures c.effects.ensures.targets c.move_all.result c.move_all.new.self done;
+      headline = headline c.args.self.now c.holds.ensures c.rows_weigh.ensures c.steps.ensures c.effects.ensures.targets c.rebalance_body.result c.rebalance_body.new.self done;
       rebalances = done;
-      counted = rebalance_counts c.args.self.now c.holds.ensures c.rows_weigh.ensures c.steps.ensures c.move_all.result c.move_all.new.self done;
-      made = rebalance_makes c.args.self.now c.holds.ensures c.rows_weigh.ensures c.steps.ensures c.effects.ensures.targets c.runs.ensures.few c.move_all.result c.move_all.new.self done;
+      counted = rebalance_counts c.args.self.now c.holds.ensures c.rows_weigh.ensures c.steps.ensures c.rebalance_body.result c.rebalance_body.new.self done;
+      made = rebalance_makes c.args.self.now c.holds.ensures c.rows_weigh.ensures c.steps.ensures c.effects.ensures.targets c.runs.ensures.few c.rebalance_body.result c.rebalance_body.new.self done;
     }

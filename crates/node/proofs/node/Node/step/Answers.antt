@@ -5,12 +5,12 @@ pub returns : goal.returns
 returns g c =
     let law = c.steps.ensures in
     let old = c.args.self.now in
-    let new = c.advance.new.self in
-    let r = c.advance.result in
-    let done = c.advance.ensures.steps in
+    let new = c.step_body.new.self in
+    let r = c.step_body.result in
+    let done = c.step_body.ensures.steps in
     record {
       steps = done;
-      few = c.advance.ensures.few;
+      few = c.step_body.ensures.few;
       falls = λ e o was. (says law old c.holds.ensures o was r new done).falls e;
       made = λ o was. (says law old c.holds.ensures o was r new done).made;
       done = λ e o was. (says law old c.holds.ensures o was r new done).done e;

@@ -1,0 +1,190 @@
+ghost use Rattle.std.specs.Prelude.{◌≡◌, ◌↔◌, ℕ, ◌<◌, ◌≤◌, ◌++◌, [], ◌∷◌, All, IsTrue, IfOk, OnOk, OnErr, length, slice_index_or, slice_range};
+ghost use Rattle.std.specs.FinSet as set;
+ghost use Rattle.cpu_set.specs.Ids.{Ids};
+ghost use Rattle.cpu_set.specs.Members.{InRange};
+ghost use Rattle.tagged_sets.specs.Tagged.{ranges_of_set, start_at, in_any};
+ghost use Rattle.cpu_set.specs.Ranges.{in_ranges};
+
+use crate::Tag;
+use cpu_set::{CPU_LIMIT, IdSet, Ranges};
+use std::alloc::{AllocError, Global};
+use std::marker::Model;
+
+/// Sets of CPUs in the order in which they came, each with a tag.
+///
+/// A set takes a head and its ranges, not a bit for each CPU that there may be.
+#[derive(Debug, Drop)]
+pub struct TaggedSets<T: Copy> {
+    heads: Vec<Head<T>>,
+    // The ranges of all sets, rising within each set and as long as possible.
+    ranges: Vec<(u16, u16)>,
+}
+
+/// A set's tag, and where its ranges end. They begin where those of the set before end.
+#[derive(Clone, Copy, Debug)]
+struct Head<T: Copy> {
+    tag: T,
+    end: usize,
+}
+
+impl<T: Copy> Model for TaggedSets<T> {
+    ghost use Rattle.std.specs.Prelude.{List};
+    ghost use Rattle.cpu_set.specs.Ids.{Ids, ids_code};
+    ghost use Rattle.std.specs.Coded.{coded×, coded_list};
+    ghost use Rattle.tagged_sets.specs.Tagged.{tagged, AreKept};
+
+    ghost Value = { List (T × Ids) };
+
+    ghost coded = { coded_list (coded× T.code ids_code) };
+
+    ghost view = { λ a. tagged a.ranges.items 0 a.heads.items };
+
+    ghost invariant = { λ a. AreKept a.ranges.items 0 a.heads.items };
+}
+
+impl<T: Copy> TaggedSets<T> {
+    /// No sets. Takes no memory.
+    pub fn new(alloc: Global) -> TaggedSets<T>
+        ensures { result ≡ [] }
+    {
+        TaggedSets {
+            heads: Vec::new(alloc),
+            ranges: Vec::new(alloc),
+        }
+    }
+
+    /// Adds a set with its tag behind the others.
+    pub fn push(&mut self, tag: T, cpus: &IdSet) -> Result<(), AllocError>
+        ensures ok { OnOk result (self.new ≡ self.old ++ (tag, cpus.now) ∷ []) }
+        ensures err { OnErr result (self.new ≡ self.old) }
+    {
+        self.heads.reserve(1)?;
+        add_ranges(&mut self.ranges, cpus)?;
+        let end = self.ranges.len();
+        self.heads.push(Head { tag, end })?;
+        Ok(())
+    }
+
+    /// The same sets once more.
+    pub fn copy(&self, alloc: Global) -> Result<TaggedSets<T>, AllocError>
+        ensures { IfOk result (λ same. same ≡ self.now) }
+    {
+        let heads = Vec::from_slice(alloc, self.heads.as_slice())?;
+        let ranges = Vec::from_slice(alloc, self.ranges.as_slice())?;
+        Ok(TaggedSets { heads, ranges })
+    }
+
+    /// How many sets there are.
+    pub fn len(&self) -> usize
+        ensures { result ≡ length self.now }
+    {
+        self.heads.len()
+    }
+
+    /// The tag of a set.
+    pub fn tag(&self, at: usize) -> T
+        requires { at < length self.now }
+        ensures { (d : T × Ids) → result ≡ (slice_index_or self.now at d).0 }
+    {
+        self.heads[at].tag
+    }
+    /// The ranges of a set.
+    pub fn ranges(&self, at: usize) -> &[(u16, u16)]
+        requires { at < length self.now }
+        ensures ranges { (d : T × Ids) → result.now ≡ ranges_of_set (slice_index_or self.now at d).1 }
+        ensures members { (d : T × Ids) (q : ℕ) → in_ranges result.now q ≡ set.contains (slice_index_or self.now at d).1 q }
+        ensures in_range { (d : T × Ids) → InRange (slice_index_or self.now at d).1 }
+        ensures below { All (λ r. r.1 < CPU_LIMIT) result.now }
+    {
+        let start = start_of(self.heads.as_slice(), at);
+        let end = self.heads[at].end;
+        part_of(self.ranges.as_slice(), start, end)
+    }
+    /// A set, made of its ranges.
+    pub fn cpus(&self, at: usize) -> IdSet
+        requires { at < length self.now }
+        ensures { (d : T × Ids) → result ≡ (slice_index_or self.now at d).1 }
+    {
+        set_of(self.ranges(at))
+    }
+    /// The CPUs that are in one of the sets.
+    pub fn all(&self) -> IdSet
+        ensures { (n : ℕ) → set.contains result n ≡ in_any self.now n }
+    {
+        set_of(self.ranges.as_slice())
+    }
+}
+
+impl<T: Tag> TaggedSets<T> {
+    /// Whether both have the same sets with the same tags in the same order.
+    pub fn is_same(&self, other: &TaggedSets<T>) -> bool
+        ensures { IsTrue result ↔ (self.now ≡ other.now) }
+    {
+        self.ranges.as_slice() == other.ranges.as_slice()
+            && are_same(self.heads.as_slice(), other.heads.as_slice())
+    }
+}
+
+/// Whether the tags and the ends are the same.
+fn are_same<T: Tag>(some: &[Head<T>], others: &[Head<T>]) -> bool
+    ensures { IsTrue result ↔ (some.now ≡ others.now) }
+{
+    if some.len() != others.len() {
+        return false;
+    }
+    for at in 0..some.len() {
+        let one = &some[at];
+        let other = &others[at];
+        if one.end != other.end || !one.tag.is(other.tag) {
+            return false;
+        }
+    }
+    true
+}
+
+/// Where the ranges of a set begin.
+fn start_of<T: Copy>(heads: &[Head<T>], at: usize) -> usize
+    requires { at < length heads.now }
+    ensures { result ≡ start_at 0 heads.now at }
+{
+    if at == 0 { 0 } else { heads[at - 1].end }
+}
+
+/// The ranges from one place up to another.
+fn part_of(ranges: &[(u16, u16)], start: usize, end: usize) -> &[(u16, u16)]
+    requires rising { start ≤ end }
+    requires within { end ≤ length ranges.now }
+    ensures { result.now ≡ slice_range ranges.now start end }
+{
+    &ranges[start..end]
+}
+
+/// Adds the ranges of a set; lack of memory changes nothing.
+fn add_ranges(ranges: &mut Vec<(u16, u16)>, cpus: &IdSet) -> Result<(), AllocError>
+    ensures ok { OnOk result (ranges.new.items ≡ ranges.old.items ++ ranges_of_set cpus.now) }
+    ensures err { OnErr result (ranges.new.items ≡ ranges.old.items) }
+    ensures in_range { InRange cpus.now }
+{
+    cpus.stays_below_the_limit();
+    let before = ranges.len();
+    for range in Ranges::of(cpus) {
+        if ranges.push(range).is_err() {
+            ranges.truncate(before);
+            return Err(AllocError);
+        }
+    }
+    Ok(())
+}
+
+/// The set that has these ranges.
+fn set_of(ranges: &[(u16, u16)]) -> IdSet
+    requires { All (λ r. r.1 < CPU_LIMIT) ranges.now }
+    ensures { (n : ℕ) → set.contains result n ≡ in_ranges ranges.now n }
+{
+    let mut cpus = IdSet::empty();
+    for range in ranges {
+        let (first, last) = *range;
+        cpus.insert_range(first, last);
+    }
+    cpus
+}

@@ -1,5 +1,0 @@
-use Rattle.transport.specs.Firsts.{IsIndex}
-use Rattle.transport.proofs.firsts.Firsts.new.Given as goal
-
-abbrev pub invariant-loop-class : goal.invariant-loop-class
-invariant-loop-class l = IsIndex l.cpu-items l.set l.class_of.items l.class

@@ -1,0 +1,9 @@
+use Rattle.transport.specs.Weights.{weights, AreSortedArcs}
+use Rattle.transport.specs.Scans.{IsBetter}
+use Rattle.transport.proofs.search.find_free_class.Given as goal
+
+abbrev pub invariant-loop-at : goal.invariant-loop-at
+invariant-loop-at l = record {
+  lines : AreSortedArcs l.instance l.assignment.residual.items l.lines;
+  better : IsBetter (weights l.instance) l.assignment l.initial.tree l.tree;
+}

@@ -1,5 +1,0 @@
-use Rattle.transport.specs.Shares.{IsTaking}
-use Rattle.transport.proofs.shares.take.Given as goal
-
-abbrev pub invariant-loop-at : goal.invariant-loop-at
-invariant-loop-at l = IsTaking l.initial.shares.items l.shares.items l.row l.amount l.left l.at

@@ -1,5 +1,0 @@
-use Rattle.std.proofs.Common.{◌≡◌, [], replicate}
-use Rattle.transport.proofs.states.no_holders.Given as goal
-
-abbrev pub invariant-loop : goal.invariant-loop
-invariant-loop l = l.holdings.items ≡ replicate l.counter []

@@ -1,8 +1,0 @@
-use Rattle.std.proofs.Common.{rules}
-use Rattle.transport.proofs.Starting.{tidy_none}
-use Rattle.transport.proofs.trees.Tree.new.Goals as goal
-
-pub returns : goal.returns
-returns c =
-    tidy_none _ _ _ c.in_ok-queue.ensures (c.in_ok-nears.ensures.items_if_clones_equal (λ y e. search rules)) c.new-2.ensures.items
-    (c.in_ok-taken.ensures.items_if_clones_equal (λ y e. e)) c.new-3.ensures.items

@@ -1,0 +1,118 @@
+-- What a scan of a row labels.
+use Rattle.std.specs.Prelude.{◌≡◌, ℕ, ◌+◌, ◌-◌, ◌<◌, ◌≤◌, ◌^◌, true, false, Option, Some, None, List, ◌⊎◌, length, slice_index_or}
+use Rattle.transport.specs.Numbers.{number, IsIn}
+use Rattle.transport.specs.ReachedRows.{is_reached}
+use Rattle.transport.specs.Searches.{near_of, is_taken, IsCovered, top, weight_limit}
+use Rattle.transport.specs.States.{IsRunning}
+use Rattle.transport.specs.declared.labels.Label.{Label}
+use Rattle.transport.specs.declared.labels.FreeEnd.{FreeEnd}
+use Rattle.transport.specs.declared.labels.Labels.{Labels}
+use Rattle.transport.specs.declared.assignment.Assignment.{Assignment}
+use Rattle.transport.specs.declared.tree.SearchTree.{SearchTree}
+use Rattle.transport.specs.declared.arcs.Arc.{Arc}
+
+-- a weight is at the limit or above it
+abbrev pub IsPast : Option ℕ → ℕ → Type 0
+IsPast None w = ⊥
+IsPast (Some limit) w = limit ≤ w
+
+-- from a row, the free end lies at that weight
+abbrev pub IsLimit : List ℕ → ℕ → Option FreeEnd → Option ℕ → Type 0
+IsLimit values k None None = Unit {0}
+IsLimit values k None (Some l) = ⊥
+IsLimit values k (Some e) None = ⊥
+IsLimit values k (Some e) (Some l) = l + number values e.near.row ≡ e.near.weight + number values k
+
+-- the limit, or where there is none a number that no weight with a price comes to
+abbrev pub IsBoundOf : Option ℕ → ℕ → Type 0
+IsBoundOf None bound = bound ≡ 2 ^ 64 - 1
+IsBoundOf (Some limit) bound = bound ≡ limit
+
+-- rows in range, and a free end no nearer than its row's value allows
+pub record CanLimit (values : List ℕ) (k : ℕ) (free_end : Option FreeEnd) : Type 0 where
+  pub row : k < length values
+  pub fits : number values k ≤ top
+  pub exit_row : (e : FreeEnd) → free_end ≡ Some e → e.near.row < length values
+  pub above : (e : FreeEnd) → free_end ≡ Some e → number values e.near.row ≤ e.near.weight
+  pub light : (e : FreeEnd) → free_end ≡ Some e → e.near.weight < weight_limit
+
+-- what the label of a class rests on
+pub record CanNote (values : List ℕ) (ns : Labels) (g : ℕ) (near : Label) : Type 0 where
+  pub class : g < length ns.of_class.items
+  pub row : near.row < length values
+  pub fits : (k : ℕ) → number values k ≤ top
+  pub before : (n : Label) → near_of ns g ≡ Some n → n.row < length values
+  pub listed : (n : Label) → near_of ns g ≡ Some n → IsIn ns.noted.items g
+
+-- a class is noted with this row, unless it was noted with one that is no further
+pub record IsLabelledNow (values : List ℕ) (old new : Labels) (g : ℕ) (near : Label) : Type 0 where
+  pub free_end : new.free_end ≡ old.free_end
+  pub long : length new.of_class.items ≡ length old.of_class.items
+  pub others : (h : ℕ) → (h ≡ g → ⊥) → near_of new h ≡ near_of old h
+  pub now : Label
+  pub its : near_of new g ≡ Some now
+  pub choice : (now ≡ near) ⊎ (near_of old g ≡ Some now)
+  pub less : now.weight + number values near.row ≤ near.weight + number values now.row
+  pub better : (n : Label) → near_of old g ≡ Some n → now.weight + number values n.row ≤ n.weight + number values now.row
+  pub kept : (h : ℕ) → IsIn old.noted.items h → IsIn new.noted.items h
+  pub listed : IsIn new.noted.items g
+  pub noted_in : (n i : ℕ) → ((j : ℕ) → j < length old.noted.items → number old.noted.items j < n) → g < n → i < length new.noted.items → number new.noted.items i < n
+
+abbrev pub arc_at : List Arc → ℕ → Arc
+arc_at arcs i = slice_index_or arcs i (record { weight = 0; class = 0 })
+
+-- the first arcs are of full classes, at their weights in the row
+pub record AreFull (ws : ℕ → ℕ → Option ℕ) (residual : List ℕ) (k : ℕ) (arcs : List Arc) (upto : ℕ) : Type 0 where
+  pub weighs : (i : ℕ) → i < upto → ws k (arc_at arcs i).class ≡ Some (arc_at arcs i).weight
+  pub full : (i : ℕ) → i < upto → number residual (arc_at arcs i).class ≡ 0
+
+-- the first arcs of a reached row are of full classes, and rise
+pub record CanNoteArcs (ws : ℕ → ℕ → Option ℕ) (s : Assignment) (t : SearchTree) (k : ℕ) (arcs : List Arc) (upto : ℕ) : Type 0 where
+  pub running : IsRunning ws s t
+  pub there : is_reached t.reached_rows k ≡ true
+  pub full : AreFull ws s.residual.items k arcs upto
+
+abbrev pub AreRising : List Arc → Type 0
+AreRising arcs = (i j : ℕ) → i ≤ j → j < length arcs → (arc_at arcs i).weight ≤ (arc_at arcs j).weight
+
+-- only labels of classes are changed, for the better
+pub record IsBetter (ws : ℕ → ℕ → Option ℕ) (s : Assignment) (old new : SearchTree) : Type 0 where
+  pub running : IsRunning ws s new
+  pub covers : (k g w : ℕ) → IsCovered s.values.items s.prices.items old.labels k g w → IsCovered s.values.items s.prices.items new.labels k g w
+  pub reached_rows : new.reached_rows ≡ old.reached_rows
+  pub tree_classes : new.tree_classes ≡ old.tree_classes
+
+-- a reached row has that weight for a full class
+pub record CanNoteArc (ws : ℕ → ℕ → Option ℕ) (s : Assignment) (t : SearchTree) (k : ℕ) (arc : Arc) : Type 0 where
+  pub running : IsRunning ws s t
+  pub there : is_reached t.reached_rows k ≡ true
+  pub weighs : ws k arc.class ≡ Some arc.weight
+  pub full : number s.residual.items arc.class ≡ 0
+
+-- the class is noted, or lies past the free end, or is taken up
+pub record IsArcLabelled (ws : ℕ → ℕ → Option ℕ) (s : Assignment) (k : ℕ) (old new : SearchTree) (arc : Arc) : Type 0 where
+  pub better : IsBetter ws s old new
+  pub free_end : new.labels.free_end ≡ old.labels.free_end
+  pub own : is_taken new.tree_classes arc.class ≡ false → IsCovered s.values.items s.prices.items new.labels k arc.class arc.weight
+
+-- the first arcs of a row are noted, except for those of classes taken up
+pub record HasLabelled (ws : ℕ → ℕ → Option ℕ) (s : Assignment) (k : ℕ) (old new : SearchTree) (arcs : List Arc) (upto : ℕ) : Type 0 where
+  pub better : IsBetter ws s old new
+  pub free_end : new.labels.free_end ≡ old.labels.free_end
+  pub each : (i : ℕ) → i < upto → is_taken new.tree_classes (arc_at arcs i).class ≡ false
+      → IsCovered s.values.items s.prices.items new.labels k (arc_at arcs i).class (arc_at arcs i).weight
+
+-- a row was scanned: its classes that are not taken up are covered
+pub record IsSeen (ws : ℕ → ℕ → Option ℕ) (s : Assignment) (k : ℕ) (old new : SearchTree) : Type 0 where
+  pub better : IsBetter ws s old new
+  pub own : (g w : ℕ) → ws k g ≡ Some w → is_taken new.tree_classes g ≡ false → IsCovered s.values.items s.prices.items new.labels k g w
+
+pub record IsNewFreeEnd (old new : Labels) (k : ℕ) (arc : Arc) : Type 0 where
+  pub of_class : new.of_class ≡ old.of_class
+  pub noted : new.noted ≡ old.noted
+  pub free_end : new.free_end ≡ Some (record { class = arc.class; near = record { row = k; weight = arc.weight } })
+
+-- the free end is the class that was found from the row, or what it was where none was
+abbrev pub IsFreeEndLabelled : Labels → Labels → ℕ → Option Arc → Type 0
+IsFreeEndLabelled old new k None = new ≡ old
+IsFreeEndLabelled old new k (Some arc) = IsNewFreeEnd old new k arc

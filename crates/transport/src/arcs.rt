@@ -1,0 +1,211 @@
+//! A row's classes by weight, made as far as searches come to them.
+ghost use Rattle.std.specs.Prelude.{◌≡◌, ◌↔◌, ℕ, ◌+◌, ◌<◌, ◌≤◌, ◌⊎◌, IsTrue, Option, None, List, length, MatchOption, IfOk, OnOk};
+ghost use Rattle.transport.specs.Numbers.{number};
+ghost use Rattle.transport.specs.Scans.{arc_at, IsPast};
+ghost use Rattle.certificate.specs.declared.rows.Offer.{Offer};
+ghost use Rattle.transport.specs.declared.arcs.WeightedOffer.{WeightedOffer};
+ghost use Rattle.transport.specs.SortedArcs.{IsSortedArcs, IsNewSortedArcs, IsFoundFreeEnd, CanOpen, IsOpening};
+ghost use Rattle.transport.specs.Orders.{bid_at, bids_in, AreAllBids, IsOrder};
+
+use crate::Representatives;
+use certificate::{Offer, Offers};
+use std::alloc::{AllocError, Global};
+
+/// For how many arcs there is room at first, at most.
+const FIRST_ARCS: usize = 64;
+
+/// A class at its weight in a row.
+#[derive(Clone, Copy, Debug)]
+pub(crate) struct Arc {
+    pub(crate) weight: u32,
+    pub(crate) class: usize,
+}
+
+/// A row's offers in rising weight, the classes of those that are opened, and how far they are full.
+#[derive(Debug, Drop)]
+pub(crate) struct SortedArcs {
+    pub(crate) order: OfferOrder,
+    pub(crate) opened: usize,
+    pub(crate) arcs: Vec<Arc>,
+    pub(crate) cursor: usize,
+}
+
+impl SortedArcs {
+    /// A row's offers in rising weight, none of them opened.
+    pub(crate) fn new(alloc: Global, offers: &Offers) -> Result<SortedArcs, AllocError>
+        ensures { IfOk result (IsNewSortedArcs offers.now) }
+    {
+        let order = OfferOrder::new(alloc, offers)?;
+        let arcs = Vec::with_capacity(alloc, offers.len().min(FIRST_ARCS))?;
+        Ok(SortedArcs {
+            order,
+            opened: 0,
+            arcs,
+            cursor: 0,
+        })
+    }
+
+    /// The nearest class with a free CPU whose weight is below the limit.
+    pub(crate) fn nearest_free_class(
+        &mut self,
+        offers: &Offers,
+        firsts: &Representatives,
+        residual: &[u32],
+        limit: Option<u64>,
+    ) -> Result<Option<Arc>, AllocError>
+        requires { (ws : ℕ → Option ℕ) × IsSortedArcs ws offers.now firsts.now residual.now self.old }
+        ensures line { OnOk result ((ws : ℕ → Option ℕ) → IsSortedArcs ws offers.now firsts.now residual.now self.old → IsSortedArcs ws offers.now firsts.now residual.now self.new) }
+        ensures found { IfOk result (λ found. (ws : ℕ → Option ℕ) → IsSortedArcs ws offers.now firsts.now residual.now self.old → IsFoundFreeEnd ws residual.now limit self.new found) }
+    {
+        loop {
+            self.cursor = skip_full(&self.arcs, self.cursor, residual, limit);
+            if self.cursor < self.arcs.len() {
+                let arc = self.arcs[self.cursor];
+                return Ok(arc.below(limit));
+            }
+            if self.opened == offers.len() {
+                return Ok(None);
+            }
+            let next = self.order.bid(offers, self.opened);
+            if is_past(limit, next.weight as u64) {
+                return Ok(None);
+            }
+            self.open(offers, firsts)?;
+        }
+    }
+
+    /// Opens the next offer: its classes are arcs from now on.
+    fn open(&mut self, offers: &Offers, firsts: &Representatives) -> Result<(), AllocError>
+        requires more { self.old.opened < length offers.now }
+        requires line { (ws : ℕ → Option ℕ) × (residual : List ℕ) × IsSortedArcs ws offers.now firsts.now residual self.old }
+        ensures line { OnOk result ((ws : ℕ → Option ℕ) (residual : List ℕ) → IsSortedArcs ws offers.now firsts.now residual self.old → IsSortedArcs ws offers.now firsts.now residual self.new) }
+        ensures opened { OnOk result (self.new.opened ≡ self.old.opened + 1) }
+    {
+        prove!(self.opened < offers.len());
+        let bid = self.order.bid(offers, self.opened);
+        let offer = offers.offer(bid.offer);
+        push_arcs(&mut self.arcs, &offer, firsts, bid.weight)?;
+        self.opened += 1;
+        Ok(())
+    }
+}
+
+/// Adds the classes of an offer, at its weight, in the order of their first CPUs.
+fn push_arcs(
+    arcs: &mut Vec<Arc>,
+    offer: &Offer,
+    firsts: &Representatives,
+    weight: u32,
+) -> Result<(), AllocError>
+    ensures { OnOk result ((ws : ℕ → Option ℕ) (offers : List Offer) (bids : List WeightedOffer) (opened : ℕ) → CanOpen ws offers firsts.now bids opened offer.now weight arcs.old.items
+        → IsOpening ws offers firsts.now bids opened arcs.old.items arcs.new.items None) }
+{
+    let there = firsts.among(&offer.cpus);
+    let mut next = there.first();
+    while let Some(cpu) = next {
+        let class = firsts.class_of(cpu);
+        arcs.push(Arc { weight, class })?;
+        next = there.next_after(cpu);
+    }
+    Ok(())
+}
+
+impl Arc {
+    /// The arc, if its weight is below the limit.
+    fn below(self, limit: Option<u64>) -> Option<Arc>
+        ensures { MatchOption result (IsPast limit self.weight) (λ arc. (arc ≡ self) × (IsPast limit self.weight → ⊥)) }
+    {
+        if is_past(limit, self.weight as u64) {
+            None
+        } else {
+            Some(self)
+        }
+    }
+}
+
+/// The first place from this one on whose class has a free CPU, or whose weight is at the limit.
+fn skip_full(arcs: &[Arc], from: usize, residual: &[u32], limit: Option<u64>) -> usize
+    requires from { from ≤ length arcs.now }
+    requires classes { (i : ℕ) → i < length arcs.now → (arc_at arcs.now i).class < length residual.now }
+    requires full { (i : ℕ) → i < from → number residual.now (arc_at arcs.now i).class ≡ 0 }
+    ensures within { result ≤ length arcs.now }
+    ensures full { (i : ℕ) → i < result → number residual.now (arc_at arcs.now i).class ≡ 0 }
+    ensures stop { result < length arcs.now → IsPast limit (arc_at arcs.now result).weight ⊎ (0 < number residual.now (arc_at arcs.now result).class) }
+{
+    for at in from..arcs.len() {
+        let arc = arcs[at];
+        if is_past(limit, arc.weight as u64) || residual[arc.class] > 0 {
+            return at;
+        }
+    }
+    arcs.len()
+}
+
+/// Whether a weight is at the limit or above it.
+pub(crate) fn is_past(limit: Option<u64>, weight: u64) -> bool
+    ensures { IsTrue result ↔ IsPast limit weight }
+{
+    match limit {
+        Some(limit) => weight >= limit,
+        None => false,
+    }
+}
+
+/// An offer of a row by its weight.
+#[derive(Clone, Copy, Debug)]
+pub(crate) struct WeightedOffer {
+    pub(crate) weight: u32,
+    pub(crate) offer: usize,
+}
+
+/// A row's offers by rising weight.
+#[derive(Debug, Drop)]
+pub(crate) enum OfferOrder {
+    /// As they stand.
+    AsOffered,
+    ByWeight(Vec<WeightedOffer>),
+}
+
+impl OfferOrder {
+    /// The order of these offers. Where each weighs more than the one before it, no list is made.
+    pub(crate) fn new(alloc: Global, offers: &Offers) -> Result<OfferOrder, AllocError>
+        ensures { IfOk result (IsOrder offers.now) }
+    {
+        if offers.are_rising() {
+            return Ok(OfferOrder::AsOffered);
+        }
+        let mut bids = bids_of(alloc, offers)?;
+        bids.sort_by_key(|bid| bid.weight)?;
+        Ok(OfferOrder::ByWeight(bids))
+    }
+
+    /// The offer at a place of the order.
+    pub(crate) fn bid(&self, offers: &Offers, index: usize) -> WeightedOffer
+        requires order { IsOrder offers.now self.now }
+        requires there { index < length offers.now }
+        ensures { result ≡ bid_at (bids_in offers.now self.now) index }
+    {
+        match self {
+            OfferOrder::AsOffered => WeightedOffer {
+                weight: offers.weight(index),
+                offer: index,
+            },
+            OfferOrder::ByWeight(bids) => bids[index],
+        }
+    }
+}
+
+/// Each offer at its weight.
+fn bids_of(alloc: Global, offers: &Offers) -> Result<Vec<WeightedOffer>, AllocError>
+    ensures all { IfOk result (λ bids. AreAllBids offers.now bids.items (length offers.now)) }
+    ensures long { IfOk result (λ bids. length bids.items ≡ length offers.now) }
+{
+    let mut bids = Vec::with_capacity(alloc, offers.len())?;
+    for at in 0..offers.len() {
+        bids.push(WeightedOffer {
+            weight: offers.weight(at),
+            offer: at,
+        })?;
+    }
+    Ok(bids)
+}

@@ -1,0 +1,97 @@
+//! Slack, and the dual variables raised by the least of it.
+ghost use Rattle.std.specs.Prelude.{◌≡◌, ◌+◌, ◌<◌, ◌≤◌, MatchOption, IfOk, length, ℕ, ◌^◌};
+ghost use Rattle.transport.specs.Numbers.{number, IsRaised};
+ghost use Rattle.transport.specs.Searches.{top, IsSlack};
+ghost use Rattle.transport.specs.States.{AreRunning, IsLeastUpTo, IsLesser, IsTakenOrUnseen};
+
+use crate::Assignment;
+use crate::labels::{Label, Labels};
+use crate::tree::TreeClasses;
+use std::alloc::AllocError;
+
+/// How far a class is from the row that is nearest to it.
+pub(crate) fn slack(assignment: &Assignment, class: usize, near: Label) -> u64
+    requires class { class < length assignment.now.prices.items }
+    requires row { near.row < length assignment.now.values.items }
+    requires fits { number assignment.now.prices.items class ≤ top }
+    requires below { number assignment.now.values.items near.row ≤ near.weight + number assignment.now.prices.items class }
+    ensures { result + number assignment.now.values.items near.row ≡ near.weight + number assignment.now.prices.items class }
+{
+    near.weight as u64 + assignment.prices[class] - assignment.values[near.row]
+}
+
+/// The least slack of the free end and of the noted classes that are not taken up; lists the classes that have it.
+pub(crate) fn least_slack(
+    assignment: &Assignment,
+    labels: &Labels,
+    tree_classes: &TreeClasses,
+    nearest: &mut Vec<usize>,
+) -> Result<Option<u64>, AllocError>
+    requires { AreRunning assignment.now labels.now tree_classes.now }
+    ensures { IfOk result (IsLeastUpTo assignment.now.values.items assignment.now.prices.items labels.now tree_classes.now labels.now.noted.items nearest.new.items) }
+{
+    nearest.clear();
+    let mut least = match labels.free_end {
+        Some(free_end) => Some(slack(assignment, free_end.class, free_end.near)),
+        None => None,
+    };
+    for class in &labels.noted {
+        if let Some(slack) = open_slack(assignment, labels, tree_classes, *class) {
+            least = Some(lesser(least, *class, slack, nearest)?);
+        }
+    }
+    Ok(least)
+}
+
+/// The slack of a class that is noted and not taken up.
+fn open_slack(
+    assignment: &Assignment,
+    labels: &Labels,
+    tree_classes: &TreeClasses,
+    class: usize,
+) -> Option<u64>
+    requires class { class < length assignment.now.prices.items }
+    requires running { AreRunning assignment.now labels.now tree_classes.now }
+    ensures { MatchOption result (IsTakenOrUnseen labels.now tree_classes.now class)
+        (IsSlack assignment.now.values.items assignment.now.prices.items labels.now tree_classes.now class) }
+{
+    if tree_classes.taken[class] {
+        return None;
+    }
+    match labels.of_class[class] {
+        Some(near) => Some(slack(assignment, class, near)),
+        None => None,
+    }
+}
+
+/// The lesser of the least slack so far and that of a class, which is listed where its slack is no more.
+///
+/// Where it is less, the classes so far are listed no longer.
+fn lesser(
+    least: Option<u64>,
+    class: usize,
+    slack: u64,
+    nearest: &mut Vec<usize>,
+) -> Result<u64, AllocError>
+    ensures { IfOk result (IsLesser least class slack nearest.old.items nearest.new.items) }
+{
+    match least {
+        Some(least) if least < slack => return Ok(least),
+        Some(least) if least == slack => {}
+        _ => nearest.clear(),
+    }
+    nearest.push(class)?;
+    Ok(slack)
+}
+
+/// Raises the numbers at these places, which differ.
+pub(crate) fn raise(numbers: &mut [u64], order: &[usize], by: u64)
+    requires within { (i : ℕ) → i < length order.now → number order.now i < length numbers.old }
+    requires once { (i j : ℕ) → i < length order.now → j < length order.now → number order.now i ≡ number order.now j → i ≡ j }
+    requires fits { (i : ℕ) → i < length order.now → number numbers.old (number order.now i) + by < 2 ^ 64 }
+    ensures { IsRaised numbers.old numbers.new order.now by }
+{
+    for k in order {
+        numbers[*k] += by;
+    }
+}

@@ -1,0 +1,329 @@
+//! The search for an augmenting path: rows are scanned, duals are updated, until a class with a free CPU is at slack 0.
+ghost use Rattle.std.specs.Prelude.{◌≡◌, ℕ, ◌+◌, ◌<◌, ◌≤◌, ◌^◌, Option, [], ◌∷◌, length, OnOk, IfOk, true, IfSome, MatchOption};
+ghost use Rattle.transport.specs.Numbers.{number, IsRaised, IsEachOnce};
+ghost use Rattle.transport.specs.States.{IsRunning, HasTaken, IsSameRoot, HasScanned};
+ghost use Rattle.transport.specs.Weights.{weights, AreSortedArcs};
+ghost use Rattle.transport.specs.Answers.{IsAnswer, IsSameRest, IsNoFreeEndAt0, IsFreeEndAt0};
+ghost use Rattle.transport.specs.ReachedRows.{is_reached};
+ghost use Rattle.transport.specs.SortedArcs.{IsSortedArcs, IsFoundFreeEnd, IsScanned};
+ghost use Rattle.twins.specs.Kinds.{offers_of};
+ghost use Rattle.transport.specs.Scans.{IsLimit, IsBoundOf, CanNoteArc, CanNoteArcs, IsArcLabelled, HasLabelled, AreRising, IsBetter, IsSeen, CanLimit, IsFreeEndLabelled};
+
+use crate::arcs::{Arc, SortedArcs};
+use crate::duals::{least_slack, raise, slack};
+use crate::labels::{FreeEnd, Label, Labels};
+use crate::tree::{SearchTree, take_class};
+use crate::{Assignment, Instance};
+use std::alloc::AllocError;
+
+/// Goes on until a class with a free CPU is at slack 0, or no class is left.
+pub(crate) fn find_augmenting_path(
+    instance: &Instance,
+    assignment: &mut Assignment,
+    lines: &mut [SortedArcs],
+    tree: &mut SearchTree,
+) -> Result<Option<FreeEnd>, AllocError>
+    requires running { IsRunning (weights instance.now) assignment.old tree.old }
+    requires rows { length instance.now.rows.now ≡ length assignment.old.values.items }
+    requires lines { AreSortedArcs instance.now assignment.old.residual.items lines.old }
+    ensures lines { OnOk result (AreSortedArcs instance.now assignment.new.residual.items lines.new) }
+    ensures rows { OnOk result (length instance.now.rows.now ≡ length assignment.new.values.items) }
+    ensures rest { OnOk result (IsSameRest assignment.old assignment.new) }
+    ensures root { OnOk result (IsSameRoot tree.old.reached_rows tree.new.reached_rows) }
+    ensures answer { IfOk result (IsAnswer (weights instance.now) assignment.new tree.new) }
+{
+    let mut looked = 0;
+    'steps: loop {
+        if let Some(free_end) = find_free_class(instance, assignment, lines, tree, looked)? {
+            return Ok(Some(free_end));
+        }
+        scan_rows(instance, assignment, lines, tree, looked)?;
+        looked = tree.reached_rows.order.len();
+        let least = least_slack(
+            assignment,
+            &tree.labels,
+            &tree.tree_classes,
+            &mut tree.nearest,
+        )?;
+        let Some(least) = least else {
+            return Ok(None);
+        };
+        update_duals(assignment, tree, least);
+        if let Some(free_end) = free_end_at_0(assignment, tree) {
+            return Ok(Some(free_end));
+        }
+        take_nearest(assignment, tree)?;
+        tree.labels.strike_taken(&tree.tree_classes.taken);
+    }
+}
+
+/// Raises the values of the reached rows and the prices of the classes taken up.
+pub(crate) fn update_duals(assignment: &mut Assignment, tree: &SearchTree, by: u64)
+    requires rows { (i : ℕ) → i < length tree.now.reached_rows.order.items → number tree.now.reached_rows.order.items i < length assignment.old.values.items }
+    requires rows_once { IsEachOnce tree.now.reached_rows.order.items }
+    requires classes { (i : ℕ) → i < length tree.now.tree_classes.order.items → number tree.now.tree_classes.order.items i < length assignment.old.prices.items }
+    requires classes_once { IsEachOnce tree.now.tree_classes.order.items }
+    requires values_fit { (k : ℕ) → number assignment.old.values.items k + by < 2 ^ 64 }
+    requires prices_fit { (g : ℕ) → number assignment.old.prices.items g + by < 2 ^ 64 }
+    ensures values { IsRaised assignment.old.values.items assignment.new.values.items tree.now.reached_rows.order.items by }
+    ensures prices { IsRaised assignment.old.prices.items assignment.new.prices.items tree.now.tree_classes.order.items by }
+    ensures residual { assignment.new.residual ≡ assignment.old.residual }
+    ensures deficit { assignment.new.deficit ≡ assignment.old.deficit }
+    ensures holdings { assignment.new.holdings ≡ assignment.old.holdings }
+{
+    raise(&mut assignment.values, &tree.reached_rows.order, by);
+    raise(&mut assignment.prices, &tree.tree_classes.order, by);
+}
+
+/// Takes up the listed classes that are at slack 0.
+pub(crate) fn take_nearest(assignment: &Assignment, tree: &mut SearchTree) -> Result<(), AllocError>
+    requires running { (ws : ℕ → ℕ → Option ℕ) × IsRunning ws assignment.now tree.old }
+    requires within { (i : ℕ) → i < length tree.old.nearest.items → number tree.old.nearest.items i < length assignment.now.prices.items }
+    ensures { OnOk result (HasTaken assignment.now tree.old tree.new tree.old.nearest.items) }
+{
+    for at in 0..tree.nearest.len() {
+        let class = tree.nearest[at];
+        take_if_nearest(assignment, tree, class)?;
+    }
+    Ok(())
+}
+
+/// Takes up a noted class if it is at slack 0 and not taken up yet.
+fn take_if_nearest(
+    assignment: &Assignment,
+    tree: &mut SearchTree,
+    class: usize,
+) -> Result<(), AllocError>
+    requires class { class < length assignment.now.prices.items }
+    requires running { (ws : ℕ → ℕ → Option ℕ) × IsRunning ws assignment.now tree.old }
+    ensures { OnOk result (HasTaken assignment.now tree.old tree.new (class ∷ [])) }
+{
+    if tree.tree_classes.taken[class] {
+        return Ok(());
+    }
+    match tree.labels.of_class[class] {
+        Some(near) if slack(assignment, class, near) == 0 => {
+            take_class(tree, &assignment.holdings[class].shares, class, near.row)
+        }
+        _ => Ok(()),
+    }
+}
+
+/// Scans the rows that are reached, from a place in their order on.
+pub(crate) fn scan_rows(
+    instance: &Instance,
+    assignment: &Assignment,
+    lines: &mut [SortedArcs],
+    tree: &mut SearchTree,
+    from: usize,
+) -> Result<(), AllocError>
+    requires running { IsRunning (weights instance.now) assignment.now tree.old }
+    requires rows { length instance.now.rows.now ≡ length assignment.now.values.items }
+    requires lines { AreSortedArcs instance.now assignment.now.residual.items lines.old }
+    requires from { from ≤ length tree.old.reached_rows.order.items }
+    requires looked { HasScanned (weights instance.now) assignment.now tree.old from }
+    ensures lines { OnOk result (AreSortedArcs instance.now assignment.now.residual.items lines.new) }
+    ensures better { OnOk result (IsBetter (weights instance.now) assignment.now tree.old tree.new) }
+    ensures looked { OnOk result (HasScanned (weights instance.now) assignment.now tree.new (length tree.new.reached_rows.order.items)) }
+{
+    for at in from..tree.reached_rows.order.len() {
+        let row = tree.reached_rows.order[at];
+        let line = instance.kinds[row];
+        scan_row(instance, assignment, &mut lines[line], tree, row)?;
+    }
+    Ok(())
+}
+
+/// Scans a row: labels the classes that are nearer to it than the free end, and the free end.
+pub(crate) fn scan_row(
+    instance: &Instance,
+    assignment: &Assignment,
+    line: &mut SortedArcs,
+    tree: &mut SearchTree,
+    row: usize,
+) -> Result<(), AllocError>
+    requires running { IsRunning (weights instance.now) assignment.now tree.old }
+    requires row { row < length instance.now.rows.now }
+    requires there { is_reached tree.old.reached_rows row ≡ true }
+    requires line { IsSortedArcs (weights instance.now row) (offers_of instance.now.rows.now row) instance.now.firsts assignment.now.residual.items line.old }
+    ensures line { OnOk result (IsSortedArcs (weights instance.now row) (offers_of instance.now.rows.now row) instance.now.firsts assignment.now.residual.items line.new) }
+    ensures seen { OnOk result (IsSeen (weights instance.now) assignment.now row tree.old tree.new) }
+{
+    find_free_class_of(instance, assignment, line, tree, row)?;
+    let limit = limit_of(&assignment.values, tree.labels.free_end, row);
+    label_arcs(assignment, &line.arcs, line.cursor, tree, row, limit)
+}
+
+/// Labels the classes of a row's first arcs that are nearer than the free end.
+pub(crate) fn label_arcs(
+    assignment: &Assignment,
+    arcs: &[Arc],
+    upto: usize,
+    tree: &mut SearchTree,
+    row: usize,
+    limit: Option<u64>,
+) -> Result<(), AllocError>
+    requires upto { upto ≤ length arcs.now }
+    requires rising { AreRising arcs.now }
+    requires limit { IsLimit assignment.now.values.items row tree.old.labels.free_end limit }
+    requires can { (ws : ℕ → ℕ → Option ℕ) × CanNoteArcs ws assignment.now tree.old row arcs.now upto }
+    ensures { OnOk result ((ws : ℕ → ℕ → Option ℕ) → CanNoteArcs ws assignment.now tree.old row arcs.now upto → HasLabelled ws assignment.now row tree.old tree.new arcs.now upto) }
+{
+    let bound = bound_of(limit);
+    for at in 0..upto {
+        let arc = arcs[at];
+        if arc.weight as u64 >= bound {
+            return Ok(());
+        }
+        label_arc(assignment, tree, arc, row, bound)?;
+    }
+    Ok(())
+}
+
+/// The limit as a number.
+fn bound_of(limit: Option<u64>) -> u64
+    ensures { IsBoundOf limit result }
+{
+    match limit {
+        Some(limit) => limit,
+        None => u64::MAX,
+    }
+}
+
+/// Labels the class of a row's arc, unless it lies past the free end or is taken up.
+fn label_arc(
+    assignment: &Assignment,
+    tree: &mut SearchTree,
+    arc: Arc,
+    row: usize,
+    bound: u64,
+) -> Result<(), AllocError>
+    requires bound { (limit : Option ℕ) × IsLimit assignment.now.values.items row tree.old.labels.free_end limit × IsBoundOf limit bound }
+    requires can { (ws : ℕ → ℕ → Option ℕ) × CanNoteArc ws assignment.now tree.old row arc }
+    ensures { OnOk result ((ws : ℕ → ℕ → Option ℕ) → CanNoteArc ws assignment.now tree.old row arc → IsArcLabelled ws assignment.now row tree.old tree.new arc) }
+{
+    if tree.tree_classes.taken[arc.class] {
+        return Ok(());
+    }
+    if arc.weight as u64 + assignment.prices[arc.class] >= bound {
+        return Ok(());
+    }
+    let near = Label {
+        row,
+        weight: arc.weight,
+    };
+    tree.labels.note(arc.class, near, &assignment.values)
+}
+
+/// Seeks the free end from the rows that are reached, from a place in their order on, until it is at slack 0.
+///
+/// To label the classes of these rows takes longer, and is of no use where this finds one.
+pub(crate) fn find_free_class(
+    instance: &Instance,
+    assignment: &Assignment,
+    lines: &mut [SortedArcs],
+    tree: &mut SearchTree,
+    from: usize,
+) -> Result<Option<FreeEnd>, AllocError>
+    requires running { IsRunning (weights instance.now) assignment.now tree.old }
+    requires rows { length instance.now.rows.now ≡ length assignment.now.values.items }
+    requires lines { AreSortedArcs instance.now assignment.now.residual.items lines.old }
+    requires from { from ≤ length tree.old.reached_rows.order.items }
+    ensures lines { OnOk result (AreSortedArcs instance.now assignment.now.residual.items lines.new) }
+    ensures better { OnOk result (IsBetter (weights instance.now) assignment.now tree.old tree.new) }
+    ensures free_end { IfOk result (λ found. IfSome found (IsFreeEndAt0 assignment.now tree.new)) }
+{
+    for at in from..tree.reached_rows.order.len() {
+        let row = tree.reached_rows.order[at];
+        let line = instance.kinds[row];
+        find_free_class_of(instance, assignment, &mut lines[line], tree, row)?;
+        if let Some(free_end) = free_end_at_0(assignment, tree) {
+            return Ok(Some(free_end));
+        }
+    }
+    Ok(None)
+}
+
+/// Seeks the free end from one row: a class with a free CPU that is nearer than the one so far takes its place.
+pub(crate) fn find_free_class_of(
+    instance: &Instance,
+    assignment: &Assignment,
+    line: &mut SortedArcs,
+    tree: &mut SearchTree,
+    row: usize,
+) -> Result<(), AllocError>
+    requires running { IsRunning (weights instance.now) assignment.now tree.old }
+    requires row { row < length instance.now.rows.now }
+    requires there { is_reached tree.old.reached_rows row ≡ true }
+    requires line { IsSortedArcs (weights instance.now row) (offers_of instance.now.rows.now row) instance.now.firsts assignment.now.residual.items line.old }
+    ensures line { OnOk result (IsSortedArcs (weights instance.now row) (offers_of instance.now.rows.now row) instance.now.firsts assignment.now.residual.items line.new) }
+    ensures better { OnOk result (IsBetter (weights instance.now) assignment.now tree.old tree.new) }
+    ensures scanned { OnOk result ((limit : Option ℕ) → IsLimit assignment.now.values.items row tree.new.labels.free_end limit → IsScanned (weights instance.now row) line.new limit) }
+{
+    let limit = limit_of(&assignment.values, tree.labels.free_end, row);
+    let found = nearest_free_class(instance, assignment, line, row, limit)?;
+    label_free_end(&mut tree.labels, found, row);
+    Ok(())
+}
+
+/// The nearest class with a free CPU that a row has a weight for, below the limit.
+fn nearest_free_class(
+    instance: &Instance,
+    assignment: &Assignment,
+    line: &mut SortedArcs,
+    row: usize,
+    limit: Option<u64>,
+) -> Result<Option<Arc>, AllocError>
+    requires row { row < length instance.now.rows.now }
+    requires line { IsSortedArcs (weights instance.now row) (offers_of instance.now.rows.now row) instance.now.firsts assignment.now.residual.items line.old }
+    ensures line { OnOk result (IsSortedArcs (weights instance.now row) (offers_of instance.now.rows.now row) instance.now.firsts assignment.now.residual.items line.new) }
+    ensures found { IfOk result (λ found. IsFoundFreeEnd (weights instance.now row) assignment.now.residual.items limit line.new found) }
+{
+    let asked = &instance.rows[row];
+    let found = line.nearest_free_class(
+        &asked.offers,
+        &instance.firsts,
+        &assignment.residual,
+        limit,
+    )?;
+    Ok(found)
+}
+
+/// Labels the free end, where one was found from the row.
+fn label_free_end(labels: &mut Labels, found: Option<Arc>, row: usize)
+    ensures { IsFreeEndLabelled labels.old labels.new row found }
+{
+    if let Some(arc) = found {
+        labels.free_end = Some(FreeEnd {
+            class: arc.class,
+            near: Label {
+                row,
+                weight: arc.weight,
+            },
+        });
+    }
+}
+
+/// The free end, where it is at slack 0.
+pub(crate) fn free_end_at_0(assignment: &Assignment, tree: &SearchTree) -> Option<FreeEnd>
+    requires { (ws : ℕ → ℕ → Option ℕ) × IsRunning ws assignment.now tree.now }
+    ensures { MatchOption result (IsNoFreeEndAt0 assignment.now tree.now) (IsFreeEndAt0 assignment.now tree.now) }
+{
+    match tree.labels.free_end {
+        Some(free_end) if slack(assignment, free_end.class, free_end.near) == 0 => Some(free_end),
+        _ => None,
+    }
+}
+
+/// A class lies no nearer to the row than the free end where its weight is this or more.
+pub(crate) fn limit_of(values: &[u64], free_end: Option<FreeEnd>, row: usize) -> Option<u64>
+    requires { CanLimit values.now row free_end }
+    ensures { IsLimit values.now row free_end result }
+{
+    match free_end {
+        Some(free_end) => Some(
+            values[row] + (free_end.near.weight as u64 - values[free_end.near.row]),
+        ),
+        None => None,
+    }
+}
