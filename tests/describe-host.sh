@@ -18,12 +18,9 @@ tree() {
     echo "$3" > "$scratch/$name/cpu/online"
 }
 node() {
-    local folder=$scratch/$name/node/node$1 cpu
-    mkdir -p "$folder"
+    local folder=$scratch/$name/node/node$1 cpus=("${@:3}")
+    mkdir -p "$folder" "${cpus[@]/#/$folder/cpu}"
     echo "$2" > "$folder/distance"
-    for cpu in "${@:3}"; do
-        mkdir "$folder/cpu$cpu"
-    done
 }
 nodes() { echo "$1" > "$scratch/$name/node/online"; }
 
@@ -80,7 +77,7 @@ tree high 0-1 0-1
 node 0 "10 80" 0 1
 node 255 "80 10"
 nodes 0,255
-says 'describe-host.sh: node 255: a machine file has nodes 0 to 63 (see --renumber)' refused
+says 'describe-host.sh: node 255: a machine file has nodes 0 to 127 (see --renumber)' refused
 says '{
   "nodes": ["0-1", ""],
   "distances": [[10, 80], [80, 10]],
@@ -107,8 +104,8 @@ if ! bash "$top/examples/describe-host.sh" --help | grep -q '^Example: examples/
 fi
 
 # More CPUs than a machine file may have.
-tree large 0-1024 0-1024
-says 'describe-host.sh: CPU 1024: a machine file has CPUs 0 to 1023' refused
+tree large 0-4096 0-4096
+says 'describe-host.sh: CPU 4096: a machine file has CPUs 0 to 4095' refused
 
 # Nodes without CPUs alone.
 tree empty 0 0
@@ -132,6 +129,32 @@ recorded() {
         failed=1
     fi
 }
+# As many nodes and CPUs as a machine file may have, and one node more.
+tree most 0-4095 0-4094
+lists= rows=
+for k in {0..127}; do
+    before=$(printf '20 %.0s' $(seq 1 "$k")) after=$(printf ' 20%.0s' $(seq "$((k + 1))" 127))
+    [ "$k" != 0 ] || before=
+    [ "$k" != 127 ] || after=
+    node "$k" "${before}10$after" $(seq $((32 * k)) $((32 * k + 31)))
+    lists+="${lists:+, }\"$((32 * k))-$((32 * k + 31))\""
+    row="${before}10$after"
+    rows+="${rows:+, }[${row// /, }]"
+done
+nodes 0-127
+says "{
+  \"nodes\": [$lists],
+  \"distances\": [$rows],
+  \"reserved\": \"0\",
+  \"offline\": \"4095\"
+}"
+bash "$top/examples/describe-host.sh" --sys "$scratch/most" > "$scratch/most.json"
+answers=$(printf 'online 4095\nonline 4096\nlist\n' | timeout 60 "$program" run "$scratch/most.json" | paste -s -d ,)
+[ "$answers" = "ok,refused E52 NoCpu,end" ] || { echo "most: the written machine file is not run: $answers"; failed=1; }
+nodes 0-128
+node 128 "20"
+says 'describe-host.sh: node 128: a machine file has nodes 0 to 127 (see --renumber)' refused
+
 recorded two-socket 0,16
 recorded two-nodes-a-socket 0-1,64-65
 

@@ -1,5 +1,6 @@
 """Certificates at each limit and one past it, each with what a check answers: counted here, by nobody's program."""
 
+CPUS, ROWS = 4096, 1024
 VALUE = 1_099_511_627_776
 WEIGHT = 33_554_431
 PROBLEM = "refused E70 BadProblem"
@@ -29,8 +30,8 @@ def valued(value, amount, weight=0):
 
 
 def asking(demand):
-    """One row that asks for so many of 1,024 CPUs."""
-    return one(f"row a {demand} 1:0-1023", f"hold a 0-1023 {VALUE}", f"price {VALUE - 1} 0-1023", "total 1024")
+    """One row that asks for so many of 4,096 CPUs."""
+    return one(f"row a {demand} 1:0-4095", f"hold a 0-4095 {VALUE}", f"price {VALUE - 1} 0-4095", "total 4096")
 
 
 def name(number):
@@ -38,25 +39,25 @@ def name(number):
     return f"{number:04}" + "Az_-.+09" * 7 + "tail"
 
 
-def rows(count, offers=lambda k: f"{WEIGHT}:0-1023", demand=4):
+def rows(count, offers=lambda k: f"{WEIGHT}:0-4095", demand=4):
     return [f"row {name(k)} {demand} {offers(k)}" for k in range(count)]
 
 
 def whole_machine(count, last_weight=WEIGHT, amount=VALUE - WEIGHT):
     """As many rows, each with four CPUs of its own, all numbers as large as they may be."""
     lines = rows(count)
-    lines[-1] = f"row {name(count - 1)} 4 {last_weight}:0-1023"
-    holds = [f"hold {name(k)} {4 * k % 1024}-{4 * k % 1024 + 3} {VALUE}" for k in range(count)]
-    return text(*lines, *holds, f"price {amount} 0-1023", f"total {1024 * WEIGHT}")
+    lines[-1] = f"row {name(count - 1)} 4 {last_weight}:0-4095"
+    holds = [f"hold {name(k)} {4 * k % CPUS}-{4 * k % CPUS + 3} {VALUE}" for k in range(count)]
+    return text(*lines, *holds, f"price {amount} 0-4095", f"total {CPUS * WEIGHT}")
 
 
-def short(count, members, demand=1024):
+def short(count, members, demand=CPUS):
     return text(*rows(count, demand=demand), *[f"short {name(k)}" for k in members])
 
 
 def scattered(k):
     """Offers of many CPUs, one of each at a place and all at a distance that go by the row."""
-    return " ".join(f"{7 * n + k}:{','.join(str(cpu) for cpu in range(n, 1024, 8) if cpu % 64 // 8 == n)},{n + 8 * (k % 100)}"
+    return " ".join(f"{7 * n + k}:{','.join(str(cpu) for cpu in range(n, CPUS, 8) if cpu % 64 // 8 == n)},{n + 8 * (k % 500)}"
                     for n in range(8))
 
 
@@ -66,8 +67,8 @@ def own_offers(count):
 
 
 def allowed(count):
-    return len({n + 8 * (k % 100) for k in range(count) for n in range(8)}
-               | {cpu for n in range(8) for cpu in range(n, 1024, 8) if cpu % 64 // 8 == n})
+    return len({n + 8 * (k % 500) for k in range(count) for n in range(8)}
+               | {cpu for n in range(8) for cpu in range(n, CPUS, 8) if cpu % 64 // 8 == n})
 
 
 def half_zero(amount=VALUE):
@@ -110,36 +111,37 @@ NUMBERS = [
     (two(first="row a 1 10:1 11:2 33554432:900"), PROBLEM),
     (two(first="row a 1 10:1 4294967295:2"), PROBLEM),
     (two(first="row a 1 10:1 4294967296:2"), bad(2)),
-    (asking(1024), "plan total 1024"),
-    (asking(1023), "refused E71 WrongCount 0"),
-    (asking(1025), PROBLEM),
+    (asking(4096), "plan total 4096"),
+    (asking(4095), "refused E71 WrongCount 0"),
+    (asking(1024), "refused E71 WrongCount 0"),
+    (asking(4097), PROBLEM),
     (asking(0), PROBLEM),
     (asking(4294967295), PROBLEM),
     (asking(4294967296), bad(2)),
-    (one("row a 1 1:1023", "hold a 1023 1", "price 0 0", "total 1"), "plan total 1"),
-    (one("row a 1 1:1024", "hold a 1023 1", "price 0 0", "total 1"), bad(2)),
-    (one("row a 1 1:1023", "hold a 1024 1", "price 0 0", "total 1"), bad(3)),
-    (one("row a 1 1:1023", "hold a 1023 1", "price 0 1024", "total 1"), bad(4)),
+    (one("row a 1 1:4095", "hold a 4095 1", "price 0 0", "total 1"), "plan total 1"),
+    (one("row a 1 1:4096", "hold a 4095 1", "price 0 0", "total 1"), bad(2)),
+    (one("row a 1 1:4095", "hold a 4096 1", "price 0 0", "total 1"), bad(3)),
+    (one("row a 1 1:4095", "hold a 4095 1", "price 0 4096", "total 1"), bad(4)),
     (one("row a 1 1:2,0-0001", "hold a 0 1", "price 0 0", "total 1"), "plan total 1"),
     (one("row a 01 1:2", "hold a 0 1", "price 0 0", "total 1"), bad(2)),
 ]
 ROWS = [
-    (whole_machine(256), f"plan total {1024 * WEIGHT}"),
-    (whole_machine(256, last_weight=WEIGHT + 1), PROBLEM),
-    (whole_machine(256, amount=VALUE - WEIGHT + 1), GAP),
-    (whole_machine(256, amount=VALUE - WEIGHT - 1), "refused E74 ValueTooHigh 0 0"),
-    (whole_machine(257), PROBLEM),
-    (whole_machine(1000), PROBLEM),
-    (short(256, range(256)), "short demand 262144 cpus 1024"),
-    (short(256, range(1, 256)), "short demand 261120 cpus 1024"),
-    (short(256, [0]), "refused E76 NoShortage"),
-    (short(256, [0, 255]), "short demand 2048 cpus 1024"),
-    (short(256, range(256), 1025), PROBLEM),
-    (short(257, range(257)), PROBLEM),
-    (short(257, [0]), PROBLEM),
-    (short(256, [255, 0]), bad(259)),
-    (short(256, [7, 7]), bad(259)),
-    (own_offers(256), f"short demand 1280 cpus {allowed(256)}"),
+    (whole_machine(ROWS), f"plan total {CPUS * WEIGHT}"),
+    (whole_machine(ROWS, last_weight=WEIGHT + 1), PROBLEM),
+    (whole_machine(ROWS, amount=VALUE - WEIGHT + 1), GAP),
+    (whole_machine(ROWS, amount=VALUE - WEIGHT - 1), "refused E74 ValueTooHigh 0 0"),
+    (whole_machine(ROWS + 1), PROBLEM),
+    (whole_machine(2000), PROBLEM),
+    (short(ROWS, range(ROWS)), "short demand 4194304 cpus 4096"),
+    (short(ROWS, range(1, ROWS)), "short demand 4190208 cpus 4096"),
+    (short(ROWS, [0]), "refused E76 NoShortage"),
+    (short(ROWS, [0, 1023]), "short demand 8192 cpus 4096"),
+    (short(ROWS, range(ROWS), CPUS + 1), PROBLEM),
+    (short(ROWS + 1, range(ROWS + 1)), PROBLEM),
+    (short(ROWS + 1, [0]), PROBLEM),
+    (short(ROWS, [1023, 0]), bad(1027)),
+    (short(ROWS, [7, 7]), bad(1027)),
+    (own_offers(ROWS), f"short demand 5120 cpus {allowed(ROWS)}"),
     (text("row " + "i" * 64 + " 1 1:1", "hold " + "i" * 64 + " 1 1", "total 1"), "plan total 1"),
     (text("row " + "i" * 65 + " 1 1:1", "hold " + "i" * 65 + " 1 1", "total 1"), bad(2)),
     (text("row " + "i" * 63 + "a 1 1:1", "row " + "i" * 63 + "b 1 1:2", "short " + "i" * 63 + "b"), "refused E76 NoShortage"),

@@ -1,10 +1,11 @@
 """A second checker of certificate texts, written from docs/formats.md alone and by other means: it reads with
 regular expressions, keeps sets as Python's, and finds the cost of a least plan by trying every plan."""
 
+import functools
 import itertools
 import re
 
-CPUS = 1024
+CPUS, ROWS = 4096, 1024
 MOST = 1_099_511_627_776
 
 
@@ -12,6 +13,7 @@ class BadText(Exception):
     pass
 
 
+@functools.lru_cache(maxsize=100)
 def numbers(word):
     """The set that a list names, or None where the word is no list or names nothing."""
     named = set()
@@ -26,7 +28,7 @@ def numbers(word):
         if max(first, last) >= CPUS or last < first:
             return None
         named.update(range(first, last + 1))
-    return named or None
+    return frozenset(named) or None
 
 
 def number(word, bits):
@@ -98,13 +100,18 @@ def overlap(sets):
     return sum(len(s) for s in sets) != len(set().union(*sets))
 
 
+@functools.lru_cache(maxsize=100)
+def weights_of(offers):
+    return {cpu: weight for weight, s in offers for cpu in s}
+
+
 def check(text):
     """The line that a check of the text answers."""
     try:
         rows, holds, prices, total, members = read(text)
     except BadText as bad:
         return f"refused E77 BadText {bad.args[0]}"
-    too_much = len(rows) > 256 or any(not 1 <= demand <= 1024 for _, demand, _ in rows)
+    too_much = len(rows) > ROWS or any(not 1 <= demand <= CPUS for _, demand, _ in rows)
     too_much |= any(weight > 33_554_431 for _, _, offers in rows for weight, _ in offers)
     too_much |= any(value > MOST for _, value in holds) or any(amount > MOST for amount, _ in prices)
     too_much |= any(overlap([s for _, s in offers]) for _, _, offers in rows) or overlap([s for _, s in prices])
@@ -114,16 +121,17 @@ def check(text):
         asked = sum(rows[k][1] for k in members)
         allowed = len(set().union(*(s for k in members for _, s in rows[k][2])))
         return f"short demand {asked} cpus {allowed}" if asked > allowed else "refused E76 NoShortage"
-    weights = [{cpu: weight for weight, s in offers for cpu in s} for _, _, offers in rows]
+    weights = [weights_of(tuple(offers)) for _, _, offers in rows]
     for k, (_, demand, _) in enumerate(rows):
         if len(holds[k][0]) != demand:
             return f"refused E71 WrongCount {k}"
         if holds[k][0] - weights[k].keys():
             return f"refused E72 NotAllowed {k} {min(holds[k][0] - weights[k].keys())}"
-    for k in range(len(rows)):
-        twice = holds[k][0] & set().union(*(s for s, _ in holds[:k]))
-        if twice:
-            return f"refused E73 HeldTwice {min(twice)}"
+    earlier = set()
+    for cpus, _ in holds:
+        if cpus & earlier:
+            return f"refused E73 HeldTwice {min(cpus & earlier)}"
+        earlier |= cpus
     price = {cpu: amount for amount, s in prices for cpu in s}
     for k, (_, value) in enumerate(holds):
         high = [cpu for cpu in weights[k] if value > weights[k][cpu] + price.get(cpu, 0)]

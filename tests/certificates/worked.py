@@ -26,7 +26,7 @@ BAD_LINES = [
     (1, "numarun-certificate 2", 1), (1, "numarun-certificate 01", 1), (1, " numarun-certificate 1", 1),
     (2, "", 2), (2, "row  a 1", 2), (2, "row a 1 ", 2), (2, "row a 01", 2), (2, "row a 4294967296", 2), (2, "row a +1", 2),
     (2, "row . 1", 2), (2, "row .. 1", 2), (2, "row a/b 1", 2), (2, "row \u00e9 1", 2), (2, "row a\0 1", 2), (2, "Row a 1", 2),
-    (2, "row a 1 11", 2), (2, "row a 1 11:", 2), (2, "row a 1 11:,", 2), (2, "row a 1 11:2:3", 2), (2, "row a 1 11:1024", 2),
+    (2, "row a 1 11", 2), (2, "row a 1 11:", 2), (2, "row a 1 11:,", 2), (2, "row a 1 11:2:3", 2), (2, "row a 1 11:4096", 2),
     (2, "row a 1 011:2", 2), (2, "row a 1 10:x 11:2", 2), (3, "row a 1 12:1 50:2", 3), (4, "hold b 2 11", 4),
     (4, "hold a 2 18446744073709551616", 4), (4, "price 1 1", 4), (4, "short a", 5), (5, "short b", 5), (5, "hold a 1 13", 5),
     (5, "total 23", 5), (6, "hold b 1 13", 6), (6, "row c 1", 6), (7, "total 18446744073709551616", 7),
@@ -35,7 +35,7 @@ BAD_LINES = [
 # A line of this number that is none of a bad text.
 READ_LINES = [
     (2, "row a 0", PROBLEM), (2, "row a 4294967295 4294967295:01-03,,2 4294967295:1", PROBLEM),
-    (4, "hold a 0-1023 18446744073709551615", PROBLEM), (6, "price 0 0\nprice 0 0", PROBLEM), (6, "price 1 01,,1-1", "plan total 23"),
+    (4, "hold a 0-4095 18446744073709551615", PROBLEM), (6, "price 0 0\nprice 0 0", PROBLEM), (6, "price 1 01,,1-1", "plan total 23"),
     (7, "total 18446744073709551615", GAP),
 ]
 BYTES = [
@@ -67,7 +67,7 @@ SHORTAGES = [
     (members(), bad(6)), (members("short"), bad(6)), (members("short a b"), bad(6)), (members("short  a"), bad(6)),
     (members("short a", "row e 1"), bad(7)), (members("short a", "hold a 1 1"), bad(7)), (members("short a", "price 1 1"), bad(7)),
     (members("short a", "total 1"), bad(7)), (members("hold a 1 1", "short a"), bad(7)), (members("short a", "end"), bad(8)),
-    (beside("row c 1024"), "short demand 3 cpus 2"), (beside("row c 1025"), PROBLEM), (beside("row c 0"), PROBLEM),
+    (beside("row c 4096"), "short demand 3 cpus 2"), (beside("row c 4097"), PROBLEM), (beside("row c 0"), PROBLEM),
     (beside("row c 1 10:1-4 11:4-7"), PROBLEM),
 ]
 
@@ -87,7 +87,7 @@ CAUSES = [
     (holding(ONE, ONE, "hold a 3 99", "hold b 1-2 0"), "refused E71 WrongCount 1"),
     (holding(TWO, TWO, "hold a 2-3 99", "hold b 2-3 0"), "refused E73 HeldTwice 2"),
     (holding(ONE, ONE, "hold a 1 10", "hold b 2 12", "price 2 1"), "refused E74 ValueTooHigh 1 2"),
-    (text("row a 1 10:64,1023", "hold a 64 11", "price 1 64", "total 10"), "refused E74 ValueTooHigh 0 1023"),
+    (text("row a 1 10:64,4095", "hold a 64 11", "price 1 64", "total 10"), "refused E74 ValueTooHigh 0 4095"),
 ]
 
 TEXTS = [(changed(number, line), bad(at)) for number, line, at in BAD_LINES]

@@ -2,8 +2,8 @@
 
 A case of the table is a line `$ numarun WORD..`, with `< INPUT`, `> PLACE` and `2> PLACE` behind it where the standard
 streams are others than nothing, a pipe and a pipe; then `status N`; then standard output, each line behind `|`, and
-standard error, each line behind `!`. A word in `$'..'` has escapes. A stream at `closed` is closed. The program is run as
-a user who may not read the file `locked`.
+standard error, each line behind `!`; `|< NAME` stands for the lines of a file. A word in `$'..'` has escapes. A stream at
+`closed` is closed. The program is run as a user who may not read the file `locked`.
 """
 
 import os
@@ -39,14 +39,15 @@ def table(count, entries, **changed):
 def tables():
     """Three localities, the most, and tables with a fault each."""
     three = [10, 11, 12, 21, 10, 23, 255, 254, 10]
-    most = [10 if i == j else 11 + (3 * i + 5 * j) % 244 for i in range(64) for j in range(64)]
+    rows = [[10 if i == j else 11 + (3 * i + 5 * j) % 244 for j in range(128)] for i in range(128)]
+    shown = "".join(" ".join(map(str, row)) + "\n" for row in rows).encode()
     sum_off = bytearray(SLIT)
     sum_off[9] += 1
     return {
-        "three": table(3, three), "most": table(64, most), "behind": SLIT + b"more", "signature": table(2, three[:4], at3=0x53),
-        "no-localities": table(2, three[:4], at36=0), "many": table(2, three[:4], at36=65), "large": table(2, three[:4], at43=1),
-        "length": table(2, three[:4], at4=49), "past": SLIT[:47], "sum": bytes(sum_off), "diagonal": table(3, three[:8] + [11]),
-        "nine": table(3, three[:8] + [9]), "empty": b"",
+        "three": table(3, three), "most": table(128, sum(rows, [])), "most-rows": shown, "behind": SLIT + b"more",
+        "signature": table(2, three[:4], at3=0x53), "no-localities": table(2, three[:4], at36=0), "many": table(2, three[:4], at36=129),
+        "large": table(2, three[:4], at43=1), "length": table(2, three[:4], at4=49), "past": SLIT[:47], "sum": bytes(sum_off),
+        "diagonal": table(3, three[:8] + [11]), "nine": table(3, three[:8] + [9]), "empty": b"",
     }
 
 
@@ -56,11 +57,11 @@ def machines():
         return f'{{"nodes":{nodes},{distances}{reserved}}}'.encode()
 
     good = machine()
-    rows = ",".join(f'"{node}"' for node in range(65))
+    rows = ",".join(f'"{node}"' for node in range(129))
     return {
         "longest": good + b" " * (1_048_576 - len(good)), "longer": good + b" " * (1_048_577 - len(good)), "array": b"[]",
-        "open": good[:-1], "no-nodes": machine("null"), "not-list": machine('["0-3","4-"]'), "too-large": machine('["0-3","1024"]'),
-        "zero": machine("[]"), "sixty-five": machine(f"[{rows}]"), "twice": machine('["0-3","3-7"]'),
+        "open": good[:-1], "no-nodes": machine("null"), "not-list": machine('["0-3","4-"]'), "too-large": machine('["0-3","4096"]'),
+        "zero": machine("[]"), "many-nodes": machine(f"[{rows}]"), "twice": machine('["0-3","3-7"]'),
         "no-rows": machine(distances='"distances":7,'), "no-row": machine(distances='"distances":[[10,21],7],'),
         "a-row": machine(distances='"distances":[[10,21]],'), "a-column": machine(distances='"distances":[[10,21],[21]],'),
         "fraction": machine(distances='"distances":[[10,21],[21.5,10]],'), "near": machine(distances='"distances":[[10,9],[21,10]],'),
@@ -127,6 +128,8 @@ def cases(table):
             found = [at, words, places, None, b"", b""]
         elif line.startswith("status "):
             found[3] = int(line.split()[1])
+        elif line.startswith("|< "):
+            found[4] += open(line[3:], "rb").read()
         elif line[:1] in ("|", "!"):
             found[4 if line[0] == "|" else 5] += line[1:].removeprefix(" ").encode() + b"\n"
         elif line and not line.startswith("#"):

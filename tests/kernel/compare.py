@@ -78,12 +78,13 @@ def by_chance():
 
 
 def largest():
-    """1,024 CPUs and 64 nodes: 256 groups below one, 64 each below the one before, and 10,000 processes."""
-    case = Case(0, "0-1023 0 0-1023 0-63 2")
-    case.calls = ["make 0 top"] + [f"make 1 g{k}" for k in range(256)] + [f"cpus {k + 2} {4 * k}-{4 * k + 3}" for k in range(256)]
-    case.calls += ["make 1 deep"] + [f"make {258 + k} deep" for k in range(63)] + ["cpus 258 1-1023", "cpus 300 512-1023"]
-    case.calls += [f"mems {k + 2} {k % 64}" for k in range(256)] + [f"offline {k}" for k in range(600, 700)] + ["cpus 1 1-800", "mems 1 1-9"]
-    case.calls += [f"{what}.effective {serial}" for serial in range(322) for what in ("cpus", "mems")]
+    """4,096 CPUs and 128 nodes: 1,024 groups below one, 128 each below the one before, and 10,000 processes."""
+    case = Case(0, "0-4095 0 0-4095 0-127 2")
+    case.calls = ["make 0 top"] + [f"make 1 g{k}" for k in range(1024)] + [f"cpus {k + 2} {4 * k}-{4 * k + 3}" for k in range(1024)]
+    case.calls += ["make 1 deep"] + [f"make {1026 + k} deep" for k in range(127)] + ["cpus 1026 1-4095", "cpus 1100 2048-4095"]
+    case.calls += [f"mems {k + 2} {k % 128}" for k in range(1024)] + [f"offline {k}" for k in range(2400, 2500)]
+    case.calls += ["cpus 1 1-3200", "mems 1 1-99"]
+    case.calls += [f"{what}.effective {serial}" for serial in range(1154) for what in ("cpus", "mems")]
     case.calls += ["spawn 2"] + ["fork 2"] * 10_000 + ["remove 2", "exit 5000", "alive 5000", "exit 2", "alive 10001", "remove 2", "find 1 g0"]
     return case
 

@@ -12,6 +12,9 @@ TWO_SOCKET = os.path.join(MACHINES, "two-socket.xml")
 NODE = ('<topology version="2.0"><object type="Machine" os_index="0" cpuset="0x{online}" complete_cpuset="0x{all}">'
         '<object type="NUMANode" os_index="{node}" cpuset="0x{online}" complete_cpuset="0x{all}"/></object></topology>')
 
+# The bitmap of CPU 4095 alone.
+LAST = "80000000" + ",0x0" * 127
+
 
 def recorded(name, *words, said="", **expected):
     status, out, err = told("describe-hwloc.py", os.path.join(MACHINES, name + ".xml"), *words)
@@ -47,6 +50,9 @@ recorded("memory-and-a-hole", said="become nodes without CPUs: 1,3-15", nodes=["
 recorded("no-distances", "--reserved", "7", said="it tells no distances", nodes=["0-1", "2-3", "4-5", "6-7"], reserved="7",
          distances=[[10 if a == b else 255 for b in range(4)] for a in range(4)], offline="")
 
+status, out, err = told("describe-hwloc.py", text=NODE.format(online=LAST, all=LAST, node=127))
+check("the last node and CPU", (status, json.loads(out or "{}").get("nodes")), (0, [""] * 127 + ["4095"]))
+
 words_and_help("describe-hwloc.py", "lstopo --of xml | describe-hwloc.py")
 bad_files("describe-hwloc.py", [])
 bad_output("describe-hwloc.py", TWO_SOCKET)
@@ -55,9 +61,9 @@ refuses("describe-hwloc.py", text=open(TWO_SOCKET).read()[:700], says="-: line "
 refuses("describe-hwloc.py", text="<html/>", says="first object is no Machine")
 refuses("describe-hwloc.py", TWO_SOCKET, "--reserved", "32", says="reserved CPUs that are not online: 32")
 refuses("describe-hwloc.py", TWO_SOCKET, "--reserved", "x", says="--reserved: 'x' is no CPU")
-refuses("describe-hwloc.py", text=NODE.format(online="1", all="1", node=64), says="node 64: a machine file has nodes 0 to 63")
+refuses("describe-hwloc.py", text=NODE.format(online="1", all="1", node=128), says="node 128: a machine file has nodes 0 to 127")
 refuses("describe-hwloc.py", text=NODE.format(online="1", all="1", node="x"), says="NUMANode x: no os_index")
 refuses("describe-hwloc.py", text=NODE.format(online="f...f", all="f...f", node=0), says="no finite bitmap")
-refuses("describe-hwloc.py", text=NODE.format(online="1", all="1" + ",0x0" * 32, node=0), says="CPU 1024: a machine file has")
+refuses("describe-hwloc.py", text=NODE.format(online="1", all="1" + ",0x0" * 128, node=0), says="CPU 4096: a machine file has")
 refuses("describe-hwloc.py", text=NODE.format(online="0", all="1", node=0), says="no CPU is online")
 end("describe-hwloc.py")

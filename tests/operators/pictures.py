@@ -67,7 +67,7 @@ def apart(name, root):
 stands("before and after", os.path.join(TOP, "docs", "two-socket.svg"), "--before", MACHINE, ANSWERS)
 stands("before and after as text", os.path.join(TOP, "tests", "operators", "two-socket.txt"), "--before", "--text", MACHINE, ANSWERS)
 apart("before and after", xml.parse(os.path.join(TOP, "docs", "two-socket.svg")).getroot())
-for size in [(8, 2, 3), (32, 2, 6), (256, 8, 24), (1024, 64, 200), (4096, 128, 1000)]:
+for size in [(8, 2, 3), (32, 2, 6), (256, 8, 24), (1024, 64, 200), (4096, 128, 1024)]:
     large(*size)
 
 words_and_help("draw-plan.py", "draw-plan.py examples/machines/two-socket.json < answers")

@@ -47,7 +47,7 @@ def list_text(cpus):
 def made_machine():
     """A machine text, the bytes of a table beside it, the CPUs and the number of nodes."""
     count = random.randint(1, 4)
-    cpus = random.sample(range(1024), random.randint(2, 10)) if random.random() < 0.3 else range(random.randint(2, 10))
+    cpus = random.sample(range(4096), random.randint(2, 10)) if random.random() < 0.3 else range(random.randint(2, 10))
     nodes = [set() for _ in range(count)]
     for cpu in cpus:
         random.choice(nodes).add(cpu)
@@ -80,7 +80,7 @@ def made_section(cpus, count):
         section["mems"] = list_text(some(range(count + (random.random() < 0.1))))
     if random.random() < 0.15:
         name = random.choice(["quota", "period", "cpus", "mems"])
-        section[name] = random.choice([None, 1.5, -1, "x", "5-3", "1,1024", "64", "1023", 9223372036854775807, 2**63, 2**64, True, []])
+        section[name] = random.choice([None, 1.5, -1, "x", "5-3", "1,4096", "128", "4095", 9223372036854775807, 2**63, 2**64, True, []])
     return section
 
 
@@ -121,12 +121,12 @@ def made_script(cpus):
 
 def full_node():
     """As many containers as there may be, and one more; some of them stop, and there is a plan for some that live."""
-    machine = json.dumps({"nodes": ["0-15", "16-31"], "distances": [[10, 20], [21, 10]], "reserved": "0"}).encode()
+    machine = json.dumps({"nodes": ["0-63", "64-127"], "distances": [[10, 20], [21, 10]], "reserved": "0"}).encode()
     bundles = {"b0": config({}), "b1": config({"quota": 100000, "mems": "1"})}
-    script = [b"create c%d b%d" % (number, number % 10 == 0) for number in range(257)]
-    script += [b"kill c%d 9" % number for number in range(0, 256, 7)]
+    script = [b"create c%d b%d" % (number, number % 10 == 0) for number in range(1025)]
+    script += [b"kill c%d 9" % number for number in range(0, 1024, 7)]
     script += [b"list", b"create d b1", b"rebalance", b"certificate", b"sets c10", b"sets c11", b"delete c7", b"create d b1"]
-    return machine, None, bundles, script + [b"begin"] + [b"step"] * 230 + [b"sets d", b"list"]
+    return machine, None, bundles, script + [b"begin"] + [b"step"] * 900 + [b"sets d", b"list"]
 
 
 def hundred_rows():
@@ -146,7 +146,7 @@ def hundred_rows():
 def large_machine():
     """A machine text and the nodes of a machine on which many containers have a plan."""
     count, cpus = random.randint(1, 8), random.choice([16, 24, 33, 48, 64, 96, 128])
-    numbers_of_cpus = random.sample(range(1024), cpus) if random.random() < 0.2 else list(range(cpus))
+    numbers_of_cpus = random.sample(range(4096), cpus) if random.random() < 0.2 else list(range(cpus))
     nodes = [set(numbers_of_cpus[n::count]) for n in range(count)]
     if random.random() < 0.5:
         each = -(-cpus // count)

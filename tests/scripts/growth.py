@@ -2,14 +2,15 @@
 TRANSCRIPT`. The answer is the whole one, or E1 alone, or E1 for one command, and of all others what they answer where that
 command is left out. Each command that takes memory has to be seen with E1. The status of E1 alone is 1 while the words are
 collected, 2 while they are parsed, and 1 from then on. Each container of the transcript is created twice, so that one which
-could not be for want of memory is made by the second line."""
+could not be for want of memory is made by the second line. Then the same lines come on as many CPUs and nodes as there may be."""
 
+import json
 import os
 import re
 import sys
 import tempfile
 
-from second_runtime import Machine, Runtime, config_of
+from second_runtime import CPUS, NODES, Machine, Runtime, config_of, read_slit
 from transcripts import Transcript, run
 
 MEMORY = "refused E1 Memory"
@@ -17,7 +18,7 @@ MEMORY = "refused E1 Memory"
 
 def answers(told, without):
     """What the lines answer where memory is short for the one of this number."""
-    runtime = Runtime(Machine(told.machine, None), config_of)
+    runtime = Runtime(Machine(told.machine, told.slit and read_slit(told.slit)), config_of)
     lines = [[MEMORY] if k == without else runtime.answer(line) for k, line in enumerate(told.script)]
     return "".join(answer + "\n" for answers in lines for answer in answers)
 
@@ -34,10 +35,18 @@ def refused(program, library, words, script, number, told):
     return done, os.fstat(told.fileno()).st_size > 0
 
 
-def main(program, library, transcript):
-    told = Transcript(os.path.abspath(transcript))
-    told.script = with_second_tries(told.script)
-    program, library = os.path.abspath(program), os.path.abspath(library)
+def enlarge(told):
+    """Gives it a machine of as many CPUs and nodes as there may be, and a distance table."""
+    each = CPUS // NODES
+    nodes = [f"{each * n}-{each * n + each - 1}" for n in range(NODES)]
+    told.machine = json.dumps({"nodes": nodes, "reserved": "0"}).encode()
+    table = bytearray(b"SLIT" + (44 + NODES * NODES).to_bytes(4, "little") + bytes(28) + NODES.to_bytes(8, "little"))
+    table += bytes(10 if i == j else 20 for i in range(NODES) for j in range(NODES))
+    table[9] = -sum(table) % 256
+    told.slit = bytes(table)
+
+
+def each_refused(program, library, told, name):
     with tempfile.TemporaryDirectory() as folder:
         os.chdir(folder)
         words = told.place()
@@ -58,13 +67,22 @@ def main(program, library, transcript):
             elif done.stderr == b"" and output == MEMORY + "\n":
                 statuses += str(done.returncode)
             else:
-                sys.exit(f"growth: run, allocation {number}: {done}")
+                sys.exit(f"growth: {name}, allocation {number}: {str(done)[:3000]}")
         os.chdir("/")
     if not re.fullmatch("1+2+1+", statuses):
-        sys.exit(f"growth: run: the statuses of E1 are {statuses}")
+        sys.exit(f"growth: {name}: the statuses of E1 are {statuses}")
     if seen != {"create", "state", "fork", "rebalance", "begin"}:
-        sys.exit(f"growth: run: E1 was seen of {sorted(seen)}")
-    print(f"growth: run: {number - 1} allocations, each refused in turn, E1 of {', '.join(sorted(seen))}")
+        sys.exit(f"growth: {name}: E1 was seen of {sorted(seen)}")
+    print(f"growth: {name}: {number - 1} allocations, each refused in turn, E1 of {', '.join(sorted(seen))}")
+
+
+def main(program, library, transcript):
+    told = Transcript(os.path.abspath(transcript))
+    told.script = with_second_tries(told.script)
+    program, library = os.path.abspath(program), os.path.abspath(library)
+    each_refused(program, library, told, "run")
+    enlarge(told)
+    each_refused(program, library, told, f"run on {CPUS} CPUs and {NODES} nodes")
 
 
 main(*sys.argv[1:])

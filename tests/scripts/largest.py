@@ -1,5 +1,5 @@
-"""Runs scripts at each limit: `largest.py PROGRAM`. 256 containers with ids of 64 bytes on 1,024 CPUs and 64 nodes all have a
-plan, with CPU lists of their own, and a hand-over to it; then all of them lack CPUs together. The machine file, a config and
+"""Runs scripts at each limit: `largest.py PROGRAM`. 1,024 containers with ids of 64 bytes on 4,096 CPUs and 128 nodes all have
+a plan, with CPU lists of their own, and a hand-over to it; then all of them lack CPUs together. The machine file, a config and
 lines of the script are as long as may be. Answers are the second runtime's, and what is counted here."""
 
 import json
@@ -11,7 +11,7 @@ import tempfile
 from second_runtime import Machine, Runtime, config_of, print_list, read_slit
 from transcripts import config, difference, doubted, place, run
 
-NODES, CPUS, CONTAINERS, TEXT, LINE = 64, 1024, 256, 1_048_576, 8192
+NODES, CPUS, CONTAINERS, TEXT, LINE = 128, 4096, 1024, 1_048_576, 8192
 # Pids past 65,535 are given.
 FORKS = 65_400
 
@@ -66,16 +66,16 @@ def planned(with_table):
     script = [b"create %s b%d" % (name(k).encode(), k) for k in range(CONTAINERS)]
     script[9] = longest(script[9])
     script[100:100] = [b"create x too-long", longest(b"create x b1") + b" "]
-    script += [b"create x b1", b"list", b"begin"] + [b"step"] * 200 + [b"phase", b"create x b1"] + [b"step"] * 400
-    script += [b"sets %s" % name(k).encode() for k in range(0, CONTAINERS, 5)] + [b"certificate", b"rebalance"]
+    script += [b"create x b1", b"list", b"begin"] + [b"step"] * 200 + [b"phase", b"create x b1"] + [b"step"] * 2000
+    script += [b"sets %s" % name(k).encode() for k in range(0, CONTAINERS, 20)] + [b"certificate", b"rebalance"]
     script += [b"fork 2"] * (1 if with_table else FORKS) + [b"state %s" % name(200).encode()]
-    script += [b"offline 1023", b"rebalance", b"certificate", b"kill %s 9" % name(3).encode(), b"rebalance", b"certificate"]
+    script += [b"offline 4095", b"rebalance", b"certificate", b"kill %s 9" % name(3).encode(), b"rebalance", b"certificate"]
     return (*machine(with_table), own_lists(), script)
 
 
 def all_lack():
     """Containers that ask for four CPUs each, and for one more than there are: all are named, as no fewer of them lack any."""
-    told = json.dumps({"nodes": ["0-511", "512-1023"], "distances": [[10, 20], [20, 10]], "reserved": "0"}).encode()
+    told = json.dumps({"nodes": ["0-2047", "2048-4095"], "distances": [[10, 20], [20, 10]], "reserved": "0"}).encode()
     bundles = {"b0": config({"quota": 400_000})}
     script = [b"create %s b0" % name(k).encode() for k in range(CONTAINERS)] + [b"rebalance", b"certificate", b"phase"]
     return told, None, bundles, script
@@ -83,8 +83,8 @@ def all_lack():
 
 def one_has_all():
     """One container has every CPU but one."""
-    told = json.dumps({"nodes": ["0-511", "512-1023"], "distances": [[10, 20], [20, 10]], "reserved": "512"}).encode()
-    bundles = {"b0": config({"quota": 102_300_000}), "b1": config({"quota": 102_400_000}), "b2": config({"quota": 102_400_001})}
+    told = json.dumps({"nodes": ["0-2047", "2048-4095"], "distances": [[10, 20], [20, 10]], "reserved": "2048"}).encode()
+    bundles = {"b0": config({"quota": 409_500_000}), "b1": config({"quota": 409_600_000}), "b2": config({"quota": 409_600_001})}
     script = [b"create a b0", b"create c b2", b"rebalance", b"certificate", b"sets a", b"create b b1", b"rebalance"]
     return told, None, bundles, script
 
@@ -126,17 +126,17 @@ def main(program):
     for with_table in (False, True):
         told = compared(program, *planned(with_table))
         expect("rows of a plan", [told.count("begin", 0, "hold"), told.count("rebalance", 0, "hold")], [CONTAINERS] * 2)
-        expect("past the limits", told.answers["create"][100:102] + told.answers["create"][258:], [
+        expect("past the limits", told.answers["create"][100:102] + told.answers["create"][CONTAINERS + 2 :], [
             ["refused E55 TooLong"], ["refused E112 LineTooLong"], ["refused E93 TooManyContainers"], ["refused E90 Busy"]])
         expect("a pid", told.answers["fork"][-1], [f"pid {CONTAINERS + 1 + (1 if with_table else FORKS)}"])
         if sum(len(line) + 1 for line in told.answers["certificate"][0]) <= 65_536:
             sys.exit("largest: the certificate is too short")
     told = compared(program, *all_lack())
     expect("members", told.count("certificate", 0, "short"), CONTAINERS)
-    expect("a shortage", told.answers["rebalance"][0][0], "short demand 1024 allowed 1-1023")
+    expect("a shortage", told.answers["rebalance"][0][0], "short demand 4096 allowed 1-4095")
     told = compared(program, *one_has_all())
-    expect("a whole machine", told.answers["sets"][0], ["cpus 0-511,513-1023 effective 0-511,513-1023 mems 0-1 effective 0-1"])
-    expect("a lack", told.answers["rebalance"][1][0], "short demand 2047 allowed 0-511,513-1023")
+    expect("a whole machine", told.answers["sets"][0], ["cpus 0-2047,2049-4095 effective 0-2047,2049-4095 mems 0-1 effective 0-1"])
+    expect("a lack", told.answers["rebalance"][1][0], "short demand 8191 allowed 0-2047,2049-4095")
     print(f"largest: {CONTAINERS} containers on {CPUS} CPUs and {NODES} nodes have a plan, and lack CPUs")
 
 

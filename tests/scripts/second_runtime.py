@@ -15,9 +15,10 @@ sys.path.insert(0, os.path.join(os.path.dirname(__file__), "..", "certificates")
 import plain_plan
 from reference import check
 
-CPUS, NODES, CONTAINERS, MOST_TEXT, MOST_LINE = 1024, 64, 256, 1_048_576, 8192
+CPUS, NODES, CONTAINERS, MOST_TEXT, MOST_LINE = 4096, 128, 1024, 1_048_576, 8192
 FIRST_PID, LAST_PID = 2, 4_194_303
-SOLVED = 4
+# Problems of so many rows and CPUs at most are solved beside the program's answer.
+SOLVED, SOLVED_CPUS = 4, 200
 SIGNALS = ["KILL", "SIGKILL", "9", "TERM", "SIGTERM", "15"]
 
 
@@ -171,7 +172,7 @@ class Machine:
             raise Refused("E25", "NotJson")
         self.nodes = self.read_nodes(told.get("nodes"))
         self.node_of = {cpu: n for n, cpus in enumerate(self.nodes) for cpu in cpus}
-        self.present = set(self.node_of)
+        self.present, self.weighed = set(self.node_of), {}
         given = told.get("distances")
         if given is not None and slit is not None:
             raise Refused("E29", "BothDistances")
@@ -203,8 +204,13 @@ class Machine:
             nodes.append(cpus)
         return nodes
 
-    def weight(self, homes, cpu):
-        return min(self.distance[self.node_of[cpu]][home] for home in homes)
+    def weights(self, homes):
+        """What each present CPU weighs for these homes, worked out once for each set of them."""
+        homes = frozenset(homes)
+        if homes not in self.weighed:
+            of_node = [min(row[home] for home in homes) for row in self.distance]
+            self.weighed[homes] = {cpu: of_node[node] for cpu, node in self.node_of.items()}
+        return self.weighed[homes]
 
 
 # Configs and demands.
@@ -279,7 +285,8 @@ class Demand:
             self.count, self.allowed = None, set()
             return
         free = (cpus or machine.present) - machine.reserved
-        self.allowed = {cpu for cpu in free if machine.weight(self.homes, cpu) < 255}
+        weights = machine.weights(self.homes)
+        self.allowed = {cpu for cpu in free if weights[cpu] < 255}
         if not self.allowed:
             raise Refused("E67", "NothingAllowed")
         self.count = len(self.allowed) if asked is None else asked
@@ -473,7 +480,8 @@ class Runtime:
             demand = container.demand
             if self.live(container) and demand.count is not None:
                 allowed = demand.allowed & self.running_cpus
-                found[name] = (demand.count, {cpu: self.machine.weight(demand.homes, cpu) for cpu in allowed})
+                weights = self.machine.weights(demand.homes)
+                found[name] = (demand.count, {cpu: weights[cpu] for cpu in allowed})
         return list(found), list(found.values())
 
     def block(self):
@@ -501,7 +509,7 @@ class Runtime:
         """Raises `Wrong` where a plan is none, not dealt, or not of least cost; small problems are solved, too."""
         if not plain_plan.is_least(rows, plan):
             raise Wrong(f"no dealt plan of least cost for {rows}: {plan}")
-        if len(rows) <= SOLVED:
+        if len(rows) <= SOLVED and sum(demand for demand, _ in rows) <= SOLVED_CPUS:
             own, _ = plain_plan.work_out(rows)
             if own is None or plain_plan.cost_of(rows, own) != plain_plan.cost_of(rows, plan):
                 raise Wrong(f"the plan of {rows} is {own}, not {plan}")
@@ -523,7 +531,7 @@ class Runtime:
 
     def due(self):
         """The write of the hand-over that comes next: of those that give CPUs back the first, else the first."""
-        live = [(c, target) for c, target in self.underway if self.live(c)]
+        live = [(c, target) for c, target in self.underway if c.cpus != target and self.live(c)]
         keeps = ((c, c.cpus & (target | self.machine.reserved) or self.machine.reserved) for c, target in live)
         return next(((c, cpus) for c, cpus in itertools.chain(keeps, live) if cpus != c.cpus), None)
 

@@ -16,8 +16,8 @@ import program as programs
 from program import SECONDS
 from second_runtime import Wrong, check, numbers
 
-# Lines of the longest answer: a certificate of 256 rows with a price for each CPU.
-LONGEST = 2 * 256 + 1024 + 3
+# Lines of the longest answer: a certificate of 1,024 rows with a price for each CPU.
+LONGEST = 2 * 1024 + 4096 + 3
 
 
 def config(section):

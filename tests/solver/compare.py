@@ -13,6 +13,8 @@ from program import run
 from reference import check, least_cost, numbers, read
 
 PROBLEMS = 3000
+# As many as there may be.
+CPUS, ROWS = 4096, 1024
 
 
 def made():
@@ -37,31 +39,31 @@ def made():
 def own_offers(kinds, demand):
     """As many rows as there may be, each with CPUs and weights of its own, over some hundred classes and more; its name has 64
     bytes. Each row may have four CPUs that are near to no other one, so that with a demand of 4 at most there is a plan."""
-    kind = [random.randrange(kinds) for _ in range(1024)]
+    kind = [random.randrange(kinds) for _ in range(CPUS)]
     rows = []
-    for k in range(256):
+    for k in range(ROWS):
         near, taste = set(range(4 * k, 4 * k + 4)), random.randrange(1, kinds)
-        may = {cpu: 20 + (kind[cpu] * taste + k) % 23 for cpu in range(1024) if (kind[cpu] + k) % 5 == 0} | dict.fromkeys(near, 33)
+        may = {cpu: 20 + (kind[cpu] * taste + k) % 23 for cpu in range(CPUS) if (kind[cpu] + k) % 5 == 0} | dict.fromkeys(near, 33)
         by_weight = {}
         for cpu, weight in may.items():
             by_weight.setdefault(weight, set()).add(cpu)
-        rows.append((f"r{k:03}" + "z" * 60, demand, sorted(by_weight.items())))
+        rows.append((f"r{k:04}" + "z" * 59, demand, sorted(by_weight.items())))
     return rows
 
 
 def whole_lack():
     """As many rows as there may be, which lack CPUs together and no fewer of them do."""
-    return [(f"r{k}", 4, [(33_554_431, set(range(1023)))]) for k in range(256)]
+    return [(f"r{k}", 4, [(33_554_431, set(range(CPUS - 1)))]) for k in range(ROWS)]
 
 
 def largest():
     """Problems as large as may be, with their number of members where they are a shortage, and the turns where they are known.
     A row whose CPUs are all of different weights: the search for its nth one takes up the row, the n - 1 that it holds, and the next."""
-    each_a_class = [("a", 1024, [(33_554_431 - cpu, {cpu}) for cpu in range(1024)])]
-    return [(own_offers(40, 2), 0, None), (own_offers(1000, 1), 0, None), (own_offers(1000, 4), 0, None), (whole_lack(), 256, None),
-            ([("a", 1024, [(0, set(range(1024)))])], 0, 2), ([("a", 1024, [(0, set(range(1023)))])], 1, 4),
-            ([("a", 512, [(cpu, {cpu}) for cpu in range(1023)])], 0, sum(n + 1 for n in range(1, 513))),
-            (each_a_class, 0, sum(n + 1 for n in range(1, 1025)))]
+    each_a_class = [("a", CPUS, [(33_554_431 - cpu, {cpu}) for cpu in range(CPUS)])]
+    return [(own_offers(40, 2), 0, None), (own_offers(4000, 1), 0, None), (own_offers(4000, 4), 0, None), (whole_lack(), ROWS, None),
+            ([("a", CPUS, [(0, set(range(CPUS)))])], 0, 2), ([("a", CPUS, [(0, set(range(CPUS - 1)))])], 1, 4),
+            ([("a", 2048, [(cpu, {cpu}) for cpu in range(CPUS - 1)])], 0, sum(n + 1 for n in range(1, 2049))),
+            (each_a_class, 0, sum(n + 1 for n in range(1, CPUS + 1)))]
 
 
 def problem(rows):
@@ -150,7 +152,7 @@ def large_ones(program):
             sys.exit(f"compare: not {turns} turns: {answer[-100:]!r}: {str(rows)[:1000]}")
         counts.append(len(classes(rows)))
     print("compare: large problems of", ", ".join(map(str, counts)), "classes")
-    if max(counts) < 512:
+    if max(counts) < 2048:
         sys.exit("compare: too few classes")
 
 
