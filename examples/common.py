@@ -6,7 +6,7 @@ import re
 import subprocess
 import sys
 
-CPUS, NODES = 4096, 128  # more than numarun takes, as a picture may be of a larger machine
+CPUS, NODES = 4096, 128  # as many as numarun takes
 
 
 class Refused(Exception):

@@ -91,7 +91,7 @@ if [ -e "$sys/node/online" ]; then
 fi
 nodes=$online_nodes
 [ -n "$renumber" ] || nodes=$(seq 0 "${online_nodes##*$'\n'}")
-[ "$(wc -l <<<"$nodes")" -le 64 ] || fail "node ${nodes##*$'\n'}: a machine file has nodes 0 to 63 (see --renumber)"
+[ "$(wc -l <<<"$nodes")" -le 128 ] || fail "node ${nodes##*$'\n'}: a machine file has nodes 0 to 127 (see --renumber)"
 
 lists= rows= comma= present=
 for node in $nodes; do
@@ -106,7 +106,7 @@ online=$(cat "$sys/cpu/online")
 reserved=${reserved:-${online%%[-,]*}}
 last=$(members "$present" | sort -n | tail -n 1)
 [ -n "$last" ] || fail "no node has CPUs"
-[ "$last" -lt 1024 ] || fail "CPU $last: a machine file has CPUs 0 to 1023"
+[ "$last" -lt 4096 ] || fail "CPU $last: a machine file has CPUs 0 to 4095"
 [ -n "$(members "$reserved")" ] || fail "--reserved: no CPU is named"
 stray=$(without "$reserved" "$online")
 [ -z "$stray" ] || fail "reserved CPUs that are not online: $stray"

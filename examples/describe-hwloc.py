@@ -14,7 +14,7 @@ import xml.etree.ElementTree as xml
 
 from common import Refused, print_list, read_list, run
 
-CPUS, NODES, UNREACHABLE = 1024, 64, 255
+CPUS, NODES, UNREACHABLE = 4096, 128, 255
 EXAMPLE = "example: lstopo --of xml | describe-hwloc.py --reserved 0,16 > machine.json"
 MEANS_LATENCY = 4
 

@@ -1,14 +1,15 @@
-"""Writes a certificate of 256 rows that hold the 1,023 CPUs from 1 on, each row with eight offers over all of them:
+"""Writes a certificate of 1,024 rows that hold the 4,095 CPUs from 1 on, each row with eight offers over all of them:
 `largest.py BLOCK`.
 
 CPUs go to the offers in turn, BLOCK of them at a time, offer k at weight 10 + k: with 1 each CPU is
-written alone, with 4 each list is 32 ranges, and with 128 it is one. The first 255 rows hold four CPUs each and the last one
-three. Each CPU's price is what it is cheaper than the dearest offer, so that each row's value is that offer's weight.
+written alone, with 4 each list is 128 ranges, and with 512 it is one. The first 1,023 rows hold four CPUs each and the last
+one three. Each CPU's price is what it is cheaper than the dearest offer, so that each row's value is that offer's weight.
 """
 
 import sys
 
-CPUS = range(1, 1024)
+CPUS = range(1, 4096)
+ROWS = 1024
 OFFERS = 8
 WEIGHT = 10
 BLOCK = int(sys.argv[1])
@@ -28,7 +29,7 @@ def listed(cpus):
 
 def main():
     offers = [[cpu for cpu in CPUS if offer_of(cpu) == k] for k in range(OFFERS)]
-    held = [list(CPUS)[4 * row : 4 * row + 4] for row in range(256)]
+    held = [list(CPUS)[4 * row : 4 * row + 4] for row in range(ROWS)]
     words = " ".join(f"{WEIGHT + k}:{listed(cpus)}" for k, cpus in enumerate(offers))
     value = WEIGHT + OFFERS - 1
 

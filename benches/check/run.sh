@@ -1,5 +1,5 @@
 #!/usr/bin/env bash
-# Times `numarun check` on three certificates of as many rows as the limits admit, beside `cat` and `wc -l`, and
+# Times `numarun check` on four certificates of as many rows as the limits admit, beside `cat` and `wc -l`, and
 # counts its instructions where valgrind is there.
 set -eu
 here=$(cd "$(dirname "$0")" && pwd)
@@ -12,11 +12,12 @@ program=$top/crates/numarun/out/numarun
 
 exec 2>&1
 TIMEFORMAT='%3R s'
-for block in 1 4 128; do
-    certificate=$work/certificate-$block
-    python3 "$here/largest.py" "$block" >"$certificate"
+for name in 'largest.py 1' 'largest.py 4' 'largest.py 512' 'singles.py 1024'; do
+    certificate=$work/certificate
+    read -r script number <<<"$name"
+    python3 -B "$here/$script" "$number" >"$certificate"
     bytes=$(wc -c <"$certificate")
-    echo "certificate with $block CPUs in a range: $bytes bytes"
+    echo "$name: $bytes bytes"
     for round in 1 2 3; do
         echo "round $round"
         echo -n 'numarun check: '; time "$program" check "$certificate" >"$work/answer"

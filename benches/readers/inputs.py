@@ -4,8 +4,8 @@ import json
 import sys
 from pathlib import Path
 
-NODES = 64
-CPUS_A_NODE = 16
+NODES = 128
+CPUS_A_NODE = 32
 MEBIBYTE = 1024 * 1024
 
 
@@ -29,8 +29,8 @@ def config():
 
 
 def lists():
-    line = " ".join(f"pu:{n}" for n in range(0, 1024, 2))
-    return "\n".join([line] * 100) + "\n"
+    line = " ".join(f"pu:{n}" for n in range(0, NODES * CPUS_A_NODE, 2))
+    return "\n".join([line] * 25) + "\n"
 
 
 folder = Path(sys.argv[1])

@@ -4,9 +4,10 @@ In microseconds, the least of some: `typed` is the time from the line to the `en
 what one takes that has nothing to write, since it comes right behind another, in a script read from a file; and `solver` the
 solver on the same rows, as the node's certificate tells them. In thousands of instructions, where callgrind is there: `all` a
 rebalance, `writes` what it takes more than one behind it, `solver`, and `rest` what is left: rows, certificate, entries and the
-text of the answer. (The time of the writes is lost in that of a script.) The containers are 256 with their homes on one node:
-seven of eight ask for 1 to 7 CPUs, which may be any, the others for none of their own. The last line of each machine has the
-thousands of instructions that a `create` takes, with homes on one node, and on all nodes where the config names none."""
+text of the answer. (The time of the writes is lost in that of a script.) The containers have their homes on one node: seven of
+eight ask for 1 to 7 CPUs, which may be any or, with lists of their own, half of them by chance, the others for none of their
+own. The last line of each machine has the thousands of instructions that a `create` takes, with homes on one node, and on all
+nodes where the config names none."""
 
 import json
 import os
@@ -19,7 +20,8 @@ import tempfile
 import time
 
 ROUNDS, TIMES, RUNS = 5, 200, 40
-CPUS, CONTAINERS = 1024, 256
+# Nodes, CPUs, containers, and whether these have lists of their own; the last two are as large as may be.
+MACHINES = [(8, 1024, 256, False), (64, 1024, 256, False), (64, 1024, 256, True), (128, 4096, 1024, False), (128, 4096, 1024, True)]
 
 
 class Shell:
@@ -47,16 +49,18 @@ def write_bundle(name, section):
     json.dump(told, open(f"{name}/config.json", "w"))
 
 
-def place(count):
+def place(count, cpus, containers, own_lists):
     """Writes a machine of so many nodes, and the bundle of each container."""
-    per = CPUS // count
+    per = cpus // count
     nodes = [f"{per * k}-{per * k + per - 1}" for k in range(count)]
     distances = [[10 if i == j else 16 if i // 2 == j // 2 else 32 for j in range(count)] for i in range(count)]
     json.dump({"nodes": nodes, "distances": distances, "reserved": "0"}, open("machine.json", "w"))
-    for k in range(CONTAINERS):
+    for k in range(containers):
         section = {"mems": str(k % count)}
         if k % 8 != 7:
             section["quota"] = 100000 * random.randint(1, 7)
+            if own_lists:
+                section["cpus"] = ",".join(map(str, sorted(random.sample(range(1, cpus), cpus // 2))))
         write_bundle(f"b{k}", section)
         if k % 2:
             write_bundle(f"any{k}", {"quota": 100000})
@@ -78,12 +82,12 @@ def typed(program, before):
     return least
 
 
-def run(program, scripts):
+def run(program, scripts, runs):
     """The least time of each of these scripts in microseconds, run in turn."""
     least = [float("inf")] * len(scripts)
     for k, lines in enumerate(scripts):
         open(f"script{k}", "w").write("\n".join(lines) + "\n")
-    for _ in range(RUNS):
+    for _ in range(runs):
         for k in range(len(scripts)):
             with open(f"script{k}") as script:
                 start = time.perf_counter()
@@ -92,19 +96,22 @@ def run(program, scripts):
     return [seconds * 1e6 for seconds in least]
 
 
-def again(program, before):
+def again(program, before, share):
     """What a rebalance takes right behind one behind these lines."""
-    one, more = run(program, [before + ["rebalance"] * count for count in (1, TIMES + 1)])
-    return (more - one) / TIMES
+    times = TIMES // share
+    one, more = run(program, [before + ["rebalance"] * count for count in (1, times + 1)], RUNS // share)
+    return (more - one) / times
 
 
-def solver(tools, certificate):
-    def seconds(times):
+def solver(tools, certificate, share):
+    times = TIMES // share
+
+    def seconds(count):
         start = time.perf_counter()
-        subprocess.run([tools, "solve", str(times)], input=certificate, capture_output=True, check=True)
+        subprocess.run([tools, "solve", str(count)], input=certificate, capture_output=True, check=True)
         return time.perf_counter() - start
-    once, often = (min(seconds(times) for _ in range(3)) for times in (1, TIMES + 1))
-    return (often - once) / TIMES * 1e6
+    once, often = (min(seconds(count) for _ in range(3)) for count in (1, times + 1))
+    return (often - once) / times * 1e6
 
 
 def instructions(words, text):
@@ -122,28 +129,30 @@ def counted(program, tools, before, certificate):
     return one - none, two - one, twice - once
 
 
-def created(program):
+def created(program, containers):
     """The thousands of instructions of a `create`, with homes on one node, and with homes on all of them."""
-    lines = [f"create c{k} b{k}" for k in range(CONTAINERS)]
-    half = lines[: CONTAINERS // 2]
-    anywhere = half + [f"create a{k} any{k}" for k in range(1, CONTAINERS, 2)]
+    lines = [f"create c{k} b{k}" for k in range(containers)]
+    half = lines[: containers // 2]
+    anywhere = half + [f"create a{k} any{k}" for k in range(1, containers, 2)]
     counts = [instructions([program, "run", "machine.json"], "\n".join(script + [""]).encode()) for script in (half, lines, anywhere)]
-    return [(count - counts[0]) / (CONTAINERS // 2) for count in counts[1:]]
+    return [(count - counts[0]) / (containers // 2) for count in counts[1:]]
 
 
-def measure(program, tools, count):
+def measure(program, tools, count, cpus, containers, own_lists):
+    share = cpus // 1024 * (4 if own_lists else 1)
     with tempfile.TemporaryDirectory() as folder:
         os.chdir(folder)
-        place(count)
-        before = [[f"create c{k} b{k}" for k in range(CONTAINERS)], ["kill c100 KILL", "delete c100"], ["offline 500"]]
+        place(count, cpus, containers, own_lists)
+        before = [[f"create c{k} b{k}" for k in range(containers)], ["kill c100 KILL", "delete c100"], ["offline 500"]]
         whole, told, shell = typed(program, before), [], Shell(program)
+        print(f"{cpus} CPUs, {containers} containers{', lists of their own' * own_lists}")
         print(f"{f'{count} nodes':24} {'typed':>8} {'again':>8} {'solver':>8}   {'all':>8} {'writes':>8} {'rest':>8} {'solver':>8}")
         for k, name in enumerate(["from nothing", "after a container went", "after a CPU went off"]):
             told += before[k]
             for line in before[k] + ["rebalance"]:
                 shell.ask(line)
             certificate = b"".join(shell.ask("certificate")[0])
-            row = f"{name:24} {whole[k]:8.0f} {again(program, told):8.0f} {solver(tools, certificate):8.0f}"
+            row = f"{name:24} {whole[k]:8.0f} {again(program, told, share):8.0f} {solver(tools, certificate, share):8.0f}"
             if shutil.which("valgrind"):
                 one, behind, alone = counted(program, tools, told, certificate)
                 row += f"   {one:8.0f} {one - behind:8.0f} {behind - alone:8.0f} {alone:8.0f}"
@@ -151,16 +160,16 @@ def measure(program, tools, count):
             told += ["rebalance"]
         shell.close()
         if shutil.which("valgrind"):
-            near, anywhere = created(program)
+            near, anywhere = created(program, containers)
             print(f"{'a create':53} {near:8.0f} {anywhere:8.0f}")
         os.chdir("/")
 
 
 def main(program, tools):
     program, tools = os.path.abspath(program), os.path.abspath(tools)
-    for count in (8, 64):
+    for machine in MACHINES:
         random.seed(1)
-        measure(program, tools, count)
+        measure(program, tools, *machine)
 
 
 main(*sys.argv[1:])

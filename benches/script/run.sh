@@ -1,5 +1,5 @@
 #!/usr/bin/env bash
-# Times `numarun run` on scripts of 100,000 and of 1,000,000 lines over 256 containers, beside `cat` of the same bytes, and
+# Times `numarun run` on scripts of 100,000 and of 1,000,000 lines over 1,024 containers, beside `cat` of the same bytes, and
 # prints the most memory that it held on each.
 set -eu
 here=$(cd "$(dirname "$0")" && pwd)

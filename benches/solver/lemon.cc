@@ -51,7 +51,7 @@ struct Classes {
 static Classes classes_of(const std::vector<Row> &rows, bool single) {
     std::map<std::vector<long>, long> sizes;
     Classes classes;
-    for (int cpu = 0; cpu < 1024; cpu++) {
+    for (int cpu = 0; cpu < 4096; cpu++) {
         std::vector<long> weights;
         for (const Row &row : rows) {
             auto found = row.weights.find(cpu);

@@ -1,7 +1,7 @@
 """Prints a table of the solver's benchmark: `measure.py TOOLS [LEMON]`, in microseconds a run, the least of some.
 
-A run of ours groups the CPUs, searches and deals; LEMON's are given the classes, or take single CPUs. Where both are there, their
-totals are compared. Callgrind counts instructions where it is there."""
+A run of ours groups the CPUs, searches and deals; LEMON's are given the classes, or, of the smaller problems, take single CPUs.
+Where both are there, their totals are compared. Callgrind counts instructions where it is there."""
 
 import re
 import shutil
@@ -13,7 +13,8 @@ from pathlib import Path
 
 import families
 
-TIMES, ROUNDS = 100, 5
+TIMES, ROUNDS = 20, 5
+SINGLE = 256
 
 
 def seconds(words, text):
@@ -47,21 +48,27 @@ def total(tools, text):
     return found[1] if found else "short"
 
 
+def measured(tools, lemon, text, ways):
+    """The columns of a family: its classes, the times of ours and of LEMON's, and the instructions."""
+    row = ["-", took(tools, text), "-", "-", instructions(tools, text)]
+    for place, words in ways if lemon else []:
+        cost, count, row[place] = subprocess.run([lemon, *words], input=text, capture_output=True, check=True).stdout.decode().split()
+        if place == 2:
+            row[0] = count
+        if cost != total(tools, text):
+            sys.exit(f"LEMON's least cost is {cost}, ours {total(tools, text)}")
+    return row
+
+
 def main(tools, lemon=None):
-    print(f"{'family':30} {'classes':>8} {'ours':>8} {'LEMON':>8} {'on CPUs':>8} {'instructions / 1000':>20}")
-    with tempfile.TemporaryDirectory() as folder:
-        families.main(folder)
-        for name in families.FAMILIES:
-            text = Path(folder, name).read_bytes()
-            row = ["-", took(tools, text), "-", "-", instructions(tools, text)]
-            if lemon:
-                for place, words in ((2, ["classes", "5"]), (3, ["cpus", "1"])):
-                    cost, count, row[place] = subprocess.run([lemon, *words], input=text, capture_output=True, check=True).stdout.decode().split()
-                    if place == 2:
-                        row[0] = count
-                    if cost != total(tools, text):
-                        sys.exit(f"{name}: LEMON's least cost is {cost}, ours {total(tools, text)}")
-            print(f"{name:30} {row[0]:>8} {row[1]:>8} {row[2]:>8} {row[3]:>8} {row[4]:>20}")
+    for last, rows in families.SIZES:
+        print(f"{f'{rows} rows, {last} CPUs':32} {'classes':>8} {'ours':>8} {'LEMON':>8} {'on CPUs':>8} {'instructions / 1000':>20}")
+        ways = [(2, ["classes", "5"])] + [(3, ["cpus", "1"])] * (rows <= SINGLE)
+        with tempfile.TemporaryDirectory() as folder:
+            families.main(folder, last, rows)
+            for name in families.FAMILIES:
+                row = measured(tools, lemon, Path(folder, name).read_bytes(), ways)
+                print(f"{name:32} {row[0]:>8} {row[1]:>8} {row[2]:>8} {row[3]:>8} {row[4]:>20}", flush=True)
 
 
 if __name__ == "__main__":

@@ -1,5 +1,6 @@
 #!/usr/bin/env bash
-# Times the solver on problems of 1,023 CPUs, beside LEMON's network simplex (Debian: liblemon-dev, g++) where that is there.
+# Times the solver on problems of 256 rows and 1,023 CPUs, and of 1,024 rows and 4,095 CPUs, beside LEMON's network simplex
+# (Debian: liblemon-dev, g++) where that is there.
 set -eu
 here=$(cd "$(dirname "$0")" && pwd)
 . "$here/../build-tools.sh"
