@@ -1,10 +1,12 @@
 """Runs scripts at each limit: `largest.py PROGRAM`. 1,024 containers with ids of 64 bytes on 4,096 CPUs and 128 nodes all have
 a plan, with CPU lists of their own, and a hand-over to it; then all of them lack CPUs together. The machine file, a config and
-lines of the script are as long as may be. Answers are the second runtime's, and what is counted here."""
+lines of the script are as long as may be, and the stack is an eighth of what is common. Answers are the second runtime's, and
+what is counted here."""
 
 import json
 import os
 import random
+import resource
 import sys
 import tempfile
 
@@ -14,6 +16,8 @@ from transcripts import config, difference, doubted, place, run
 NODES, CPUS, CONTAINERS, TEXT, LINE = 128, 4096, 1024, 1_048_576, 8192
 # Pids past 65,535 are given.
 FORKS = 65_400
+# Bytes.
+STACK = 1 << 20
 
 
 def padded(text, length):
@@ -102,11 +106,15 @@ class Told:
         return sum(line.startswith(word + " ") for line in self.answers[command][number])
 
 
+def take_small_stack():
+    resource.setrlimit(resource.RLIMIT_STACK, (STACK, STACK))
+
+
 def compared(program, machine, slit, bundles, script):
     """What was told by the answers, where they are right."""
     with tempfile.TemporaryDirectory() as folder:
         os.chdir(folder)
-        done = run(program, place(machine, slit, bundles), b"\n".join(script))
+        done = run(program, place(machine, slit, bundles), b"\n".join(script), preexec_fn=take_small_stack)
         told, runtime = Told(), Runtime(Machine(machine, None if slit is None else read_slit(slit)), config_of)
         wrong = difference(runtime, script, done.stdout, told.note) or doubted(program, done.stdout)
         os.chdir("/")
