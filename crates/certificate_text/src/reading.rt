@@ -25,9 +25,9 @@ impl Fault for BadText {}
 
 /// Reads a certificate from its text, in one pass.
 ///
-/// The text's lines are `numarun-certificate 1`; `row ID DEMAND` and offers `WEIGHT:LIST`, for each row;
-/// for a plan `hold ID LIST VALUE`, for each row in the same order, `price AMOUNT LIST`, any number of them, and
-/// `total N`; for a shortage `short ID`, one or more, each naming a row after the one before; and `end`.
+/// The text's lines are `numarun-certificate 1`, or `2` where weights count moves too; `row ID DEMAND` and offers
+/// `WEIGHT:LIST`, for each row; for a plan `hold ID LIST VALUE`, for each row in the same order, `price AMOUNT LIST`, any
+/// number of them, and `total N`, or `total N moves M` for the scale times N and M more; for a shortage `short ID`, one or more, each naming a row after the one before; and `end`.
 /// A line feed ends each, one space stands between two words, and numbers have no leading zeros.
 ///
 /// # Errors
