@@ -6,7 +6,7 @@ use Rattle.twins.specs.Holdings.{share_of}
 use Rattle.transport.specs.Shares.{AllBelow, holders_of, HasNoShare, IsShareGiven, IsShareTaken}
 use Rattle.transport.specs.States.{shares_of, cell, AreHoldings, IsNoHolder}
 use Rattle.transport.specs.Numbers.{IsEachOnce}
-use Rattle.transport.specs.Pushes.{IsGiven, IsGivenUp}
+use Rattle.transport.specs.Augmenting.{IsGiven, IsGivenUp}
 use Rattle.twins.specs.declared.holders.Share.{Share}
 
 pub shares_here : (hs : List (List Share)) (g : ℕ) (v : List Share) → g < length hs → shares_of (set hs g v) g ≡ v

@@ -1,4 +1,4 @@
--- What a search marked and noted, cleared place by place.
+-- What a search marked and labelled, cleared place by place.
 use Rattle.std.proofs.Common.{◌≡◌, ℕ, ◌+◌, ◌<◌, ◌≤◌, Bool, true, false, Option, Some, None, List, length, get_or, set, ◌⊎◌, refl, sym, ap, ◌∙◌, subst, inl, inr, arith}
 use Rattle.std.proofs.lemmas.List.{length-set, get_or-set_same, get_or-set_other}
 use Rattle.std.proofs.lemmas.Bool.{cases_eq, cases_Bool}
@@ -49,20 +49,20 @@ unmarking_end old marks places from h past k = elim (cases_Bool (is_marked marks
   | inr off ↦ off
 ]
 
--- of the classes so far none is noted any more
-abbrev pub note_at : List (Option Label) → ℕ → Option Label
-note_at of_class g = get_or of_class g None
+-- of the classes so far none is labelled any more
+abbrev pub label_at : List (Option Label) → ℕ → Option Label
+label_at of_class g = get_or of_class g None
 
 pub record Forgetting (old of_class : List (Option Label)) (classes : List ℕ) (upto : ℕ) : Type 0 where
   pub long : length of_class ≡ length old
-  pub none : (i : ℕ) → i < upto → note_at of_class (number classes i) ≡ None
-  pub left : (g : ℕ) (n : Label) → note_at of_class g ≡ Some n → note_at old g ≡ Some n
+  pub none : (i : ℕ) → i < upto → label_at of_class (number classes i) ≡ None
+  pub left : (g : ℕ) (n : Label) → label_at of_class g ≡ Some n → label_at old g ≡ Some n
 
 pub forgetting_none : (of_class : List (Option Label)) (classes : List ℕ) → Forgetting of_class of_class classes 0
 forgetting_none of_class classes = record { long = refl; none = λ i lt. absurd (omega arith); left = λ g n is. is }
 
-not_noted : (o : Option Label) (n : Label) → o ≡ Some n → o ≡ None → ⊥
-not_noted o n some none = let e : Some n ≡ None = sym some ∙ none in cc
+not_labelled : (o : Option Label) (n : Label) → o ≡ Some n → o ≡ None → ⊥
+not_labelled o n some none = let e : Some n ≡ None = sym some ∙ none in cc
 
 pub forgetting_more : (old of_class : List (Option Label)) (classes : List ℕ) (i g : ℕ) → Forgetting old of_class classes i → g ≡ number classes i → number classes i < length old → Forgetting old (set of_class g None) classes (i + 1)
 forgetting_more old of_class classes i g h is within = record {
@@ -75,29 +75,29 @@ forgetting_more old of_class classes i g h is within = record {
     ]
   ];
   left = λ k n its. elim (cases_eq k g) [
-    | inl same ↦ absurd (not_noted _ n its (here k same))
+    | inl same ↦ absurd (not_labelled _ n its (here k same))
     | inr other ↦ h.left k n (sym (get_or-set_other of_class g k None None other) ∙ its)
   ];
 }
   where
-    here : (k : ℕ) → k ≡ g → note_at (set of_class g None) k ≡ None
-    here k same = ap (note_at (set of_class g None)) same ∙ get_or-set_same of_class g None None (omega (arith, is, within, h.long))
+    here : (k : ℕ) → k ≡ g → label_at (set of_class g None) k ≡ None
+    here k same = ap (label_at (set of_class g None)) same ∙ get_or-set_same of_class g None None (omega (arith, is, within, h.long))
 
 pub forgetting_end : (old of_class : List (Option Label)) (classes : List ℕ) (upto : ℕ) → Forgetting old of_class classes upto → length classes ≤ upto → IsForgotten old of_class classes
 forgetting_end old of_class classes upto h past = record {
   long = h.long;
-  none = λ g p. subst (λ x. note_at of_class x ≡ None) p.is (h.none p.index (omega (arith, p.within, past)));
+  none = λ g p. subst (λ x. label_at of_class x ≡ None) p.is (h.none p.index (omega (arith, p.within, past)));
   left = h.left;
 }
 
--- each noted class stands in one list or in the other
-pub both_forgotten : (old mid new : List (Option Label)) (xs ys : List ℕ) → ((g : ℕ) (n : Label) → note_at old g ≡ Some n → IsIn xs g ⊎ IsIn ys g) → IsForgotten old mid xs → IsForgotten mid new ys
-    → (g : ℕ) → note_at new g ≡ None
-both_forgotten old mid new xs ys all f h g = none (note_at new g) refl
+-- each labelled class stands in one list or in the other
+pub both_forgotten : (old mid new : List (Option Label)) (xs ys : List ℕ) → ((g : ℕ) (n : Label) → label_at old g ≡ Some n → IsIn xs g ⊎ IsIn ys g) → IsForgotten old mid xs → IsForgotten mid new ys
+    → (g : ℕ) → label_at new g ≡ None
+both_forgotten old mid new xs ys all f h g = none (label_at new g) refl
   where
-    none : (o : Option Label) → note_at new g ≡ o → o ≡ None
+    none : (o : Option Label) → label_at new g ≡ o → o ≡ None
     none None is = refl
     none (Some n) is = elim (all g n (f.left g n (h.left g n is))) [
-      | inl x ↦ absurd (not_noted _ n (h.left g n is) (f.none g x))
-      | inr y ↦ absurd (not_noted _ n is (h.none g y))
+      | inl x ↦ absurd (not_labelled _ n (h.left g n is) (f.none g x))
+      | inr y ↦ absurd (not_labelled _ n is (h.none g y))
     ]

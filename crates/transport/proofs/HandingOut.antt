@@ -15,10 +15,10 @@ use Rattle.twins.specs.Kinds.{offers_of}
 use Rattle.transport.specs.Weights.{weights, AreSortedArcs}
 use Rattle.transport.specs.States.{cell, IsRunning}
 use Rattle.transport.specs.Answers.{IsClosed, IsFound, IsAnswer, IsSameRest}
-use Rattle.transport.specs.Pushes.{in_hand}
-use Rattle.transport.specs.Pushed.{IsPushed}
+use Rattle.transport.specs.Augmenting.{in_hand}
+use Rattle.transport.specs.Augmented.{IsAugmented}
 use Rattle.transport.specs.Settled.{IsTreeOf}
-use Rattle.transport.specs.Filling.{IsHandedOut, CanFill, IsFilling, IsAtEnd, a_search}
+use Rattle.transport.specs.Assigning.{IsHandedOut, CanAssign, IsAssigning, IsAtEnd, a_search}
 use Rattle.transport.specs.declared.labels.FreeEnd.{FreeEnd}
 use Rattle.transport.specs.declared.assignment.Assignment.{Assignment}
 use Rattle.transport.specs.declared.instance.Instance.{Instance}
@@ -26,12 +26,12 @@ use Rattle.transport.specs.declared.tree.SearchTree.{SearchTree}
 use Rattle.transport.specs.declared.arcs.SortedArcs.{SortedArcs}
 use Rattle.transport.proofs.ReachedRowsLemmas.{marked_below}
 use Rattle.transport.proofs.Starting.{count_less, tidy_running}
-use Rattle.transport.proofs.Settling.{settled_pushed}
+use Rattle.transport.proofs.Settling.{settled_augmented}
 
 -- sorted arcs stay so where no more CPUs are free
-line_free : (ws : ℕ → Option ℕ) (offers : List Offer) (firsts residual less : List ℕ) (l : SortedArcs) → IsSortedArcs ws offers firsts residual l → length less ≡ length residual
+sorted_free : (ws : ℕ → Option ℕ) (offers : List Offer) (firsts residual less : List ℕ) (l : SortedArcs) → IsSortedArcs ws offers firsts residual l → length less ≡ length residual
     → ((g : ℕ) → number less g ≤ number residual g) → IsSortedArcs ws offers firsts less l
-line_free ws offers firsts residual less l h long down = record {
+sorted_free ws offers firsts residual less l h long down = record {
   order = h.order;
   opened_in = h.opened_in;
   arcs = h.arcs;
@@ -42,33 +42,33 @@ line_free ws offers firsts residual less l h long down = record {
   firsts_in = omega (arith, h.firsts_in, long);
 }
 
-pub lines_free : (t : Instance) (residual less : List ℕ) (lines : List SortedArcs) → AreSortedArcs t residual lines → length less ≡ length residual → ((g : ℕ) → number less g ≤ number residual g) → AreSortedArcs t less lines
-lines_free t residual less lines h long down = record {
+pub all_sorted_free : (t : Instance) (residual less : List ℕ) (arcs_by_kind : List SortedArcs) → AreSortedArcs t residual arcs_by_kind → length less ≡ length residual → ((g : ℕ) → number less g ≤ number residual g) → AreSortedArcs t less arcs_by_kind
+all_sorted_free t residual less arcs_by_kind h long down = record {
   long = h.long;
   kinds = h.kinds;
-  each = λ k l is first. line_free (weights t k) (offers_of t.rows.now k) t.firsts residual less l (h.each k l is first) long down;
+  each = λ k l is first. sorted_free (weights t k) (offers_of t.rows.now k) t.firsts residual less l (h.each k l is first) long down;
 }
 
 -- no row has a greater bottleneck than the root
-room_here : (ws : ℕ → ℕ → Option ℕ) (s : Assignment) (t : SearchTree) (k : ℕ) → IsRunning ws s t → is_reached t.reached_rows k ≡ true → index t.reached_rows k ≡ 0 → bottleneck t.reached_rows k ≤ bottleneck t.reached_rows (row_at t.reached_rows 0)
-room_here ws s t k h on e =
+bottleneck_here : (ws : ℕ → ℕ → Option ℕ) (s : Assignment) (t : SearchTree) (k : ℕ) → IsRunning ws s t → is_reached t.reached_rows k ≡ true → index t.reached_rows k ≡ 0 → bottleneck t.reached_rows k ≤ bottleneck t.reached_rows (row_at t.reached_rows 0)
+bottleneck_here ws s t k h on e =
     let same : row_at t.reached_rows 0 ≡ k = ap (λ i. row_at t.reached_rows i) (sym e) ∙ h.search.reached_rows.placed k on in
     omega (arith, ap (λ j. bottleneck t.reached_rows j) same)
 
-room_below : (ws : ℕ → ℕ → Option ℕ) (s : Assignment) (t : SearchTree) → IsRunning ws s t → (n k : ℕ) → index t.reached_rows k ≤ n → is_reached t.reached_rows k ≡ true → bottleneck t.reached_rows k ≤ bottleneck t.reached_rows (row_at t.reached_rows 0)
-room_below ws s t h zero k le on = room_here ws s t k h on (omega (arith, le))
-room_below ws s t h (suc n) k le on = elim (cases_lt 0 (index t.reached_rows k)) [
-  | inl deep ↦ step deep (room_below ws s t h n)
-  | inr root ↦ room_here ws s t k h on (omega (arith, root))
+bottleneck_below : (ws : ℕ → ℕ → Option ℕ) (s : Assignment) (t : SearchTree) → IsRunning ws s t → (n k : ℕ) → index t.reached_rows k ≤ n → is_reached t.reached_rows k ≡ true → bottleneck t.reached_rows k ≤ bottleneck t.reached_rows (row_at t.reached_rows 0)
+bottleneck_below ws s t h zero k le on = bottleneck_here ws s t k h on (omega (arith, le))
+bottleneck_below ws s t h (suc n) k le on = elim (cases_lt 0 (index t.reached_rows k)) [
+  | inl deep ↦ step deep (bottleneck_below ws s t h n)
+  | inr root ↦ bottleneck_here ws s t k h on (omega (arith, root))
 ]
   where
     step : 0 < index t.reached_rows k → ((k : ℕ) → index t.reached_rows k ≤ n → is_reached t.reached_rows k ≡ true → bottleneck t.reached_rows k ≤ bottleneck t.reached_rows (row_at t.reached_rows 0)) → bottleneck t.reached_rows k ≤ bottleneck t.reached_rows (row_at t.reached_rows 0)
     step deep before =
         let e = h.search.entries k on deep in
-        omega (arith, e.less, before e.near.row (omega (arith, e.before, le)) (h.search.noted _ e.near e.its).there)
+        omega (arith, e.less, before e.label.row (omega (arith, e.before, le)) (h.search.labelled _ e.label e.its).there)
 
-pub room_root : (ws : ℕ → ℕ → Option ℕ) (s : Assignment) (t : SearchTree) (k : ℕ) → IsRunning ws s t → is_reached t.reached_rows k ≡ true → bottleneck t.reached_rows k ≤ bottleneck t.reached_rows (row_at t.reached_rows 0)
-room_root ws s t k h on = room_below ws s t h (index t.reached_rows k) k (omega arith) on
+pub bottleneck_root : (ws : ℕ → ℕ → Option ℕ) (s : Assignment) (t : SearchTree) (k : ℕ) → IsRunning ws s t → is_reached t.reached_rows k ≡ true → bottleneck t.reached_rows k ≤ bottleneck t.reached_rows (row_at t.reached_rows 0)
+bottleneck_root ws s t k h on = bottleneck_below ws s t h (index t.reached_rows k) k (omega arith) on
 
 -- rows and classes that are taken up are few
 pub rows_few : (ws : ℕ → ℕ → Option ℕ) (s : Assignment) (t : SearchTree) → IsRunning ws s t → length t.reached_rows.order.items ≤ length s.values.items
@@ -78,7 +78,7 @@ pub classes_few : (ws : ℕ → ℕ → Option ℕ) (s : Assignment) (t : Search
 classes_few ws s t h = omega (arith, h.search.listing.counted, h.search.taken_long, count_by-le-length {X = Bool} (λ b. b) t.tree_classes.taken.items)
 
 pub taken_full : (ws : ℕ → ℕ → Option ℕ) (s : Assignment) (t : SearchTree) (g : ℕ) → IsRunning ws s t → is_taken t.tree_classes g ≡ true → number s.residual.items g ≡ 0
-taken_full ws s t g h on = let l = h.search.linked g on in (h.search.noted g l.near l.its).full
+taken_full ws s t g h on = let l = h.search.linked g on in (h.search.labelled g l.label l.its).full
 
 -- one class fewer where a free end was found
 pub classes_fewer : (ws : ℕ → ℕ → Option ℕ) (s : Assignment) (t : SearchTree) (e : FreeEnd) → IsFound ws s t e → length t.tree_classes.order.items < length s.prices.items
@@ -102,17 +102,17 @@ one_more v u a lt =
     omega (arith, le)
 
 -- a search: `old` is the assignment before it, `mid` after it
-module _ (ws : ℕ → ℕ → Option ℕ) (old mid : Assignment) (t : SearchTree) (root : ℕ) (running : IsRunning ws mid t) (free_long : length old.residual.items ≡ length old.prices.items)
+module _ (ws : ℕ → ℕ → Option ℕ) (old mid : Assignment) (t : SearchTree) (root : ℕ) (running : IsRunning ws mid t) (residual_long : length old.residual.items ≡ length old.prices.items)
     (values_long : length mid.values.items ≡ length old.values.items) (rest : IsSameRest old mid) (root_at : row_at t.reached_rows 0 ≡ root) where
   pub prices_long : length mid.prices.items ≡ length old.prices.items
-  prices_long = omega (arith, running.search.free_long, ap (λ (v : Vec ℕ Global). length v.items) rest.residual, free_long)
+  prices_long = omega (arith, running.search.residual_long, ap (λ (v : Vec ℕ Global). length v.items) rest.residual, residual_long)
 
   -- all is as it was, except for values and prices
   handed_none : IsHandedOut root old mid
   handed_none = record {
     values_long = values_long;
     prices_long = prices_long;
-    unmet_long = ap (λ (v : Vec ℕ Global). length v.items) rest.deficit;
+    deficit_long = ap (λ (v : Vec ℕ Global). length v.items) rest.deficit;
     by_row = λ k lt. rw (rest.holdings, rest.deficit) refl;
     by_class = λ g lt. rw (rest.holdings, rest.residual) refl;
     others = λ k ne. rw rest.deficit refl;
@@ -123,23 +123,23 @@ module _ (ws : ℕ → ℕ → Option ℕ) (old mid : Assignment) (t : SearchTre
   root_on = subst (λ k. is_reached t.reached_rows k ≡ true) root_at (running.search.reached_rows.on 0 running.search.rooted)
 
   -- CPUs were moved from the root to the free end
-  module _ (new : Assignment) (e : FreeEnd) (amount : ℕ) (p : IsPushed mid new t e amount) (f : IsFound ws mid t e)
-      (unmet_long : length old.deficit.items ≡ length old.values.items) (in_rows : root < length old.values.items)
+  module _ (new : Assignment) (e : FreeEnd) (amount : ℕ) (p : IsAugmented mid new t e amount) (f : IsFound ws mid t e)
+      (deficit_long : length old.deficit.items ≡ length old.values.items) (in_rows : root < length old.values.items)
       (less : amount ≤ number old.deficit.items root) (few : amount ≤ number mid.residual.items e.class) where
-    exit_in : e.class < length mid.residual.items
-    exit_in = let x = running.search.free_end e f.its in omega (arith, running.fit.class _ _ _ x.weighs, running.search.free_long)
+    free_end_in : e.class < length mid.residual.items
+    free_end_in = let x = running.search.free_end e f.its in omega (arith, running.fit.class _ _ _ x.weighs, running.search.residual_long)
 
-    unmet_is : new.deficit.items ≡ set old.deficit.items root (number old.deficit.items root - amount)
-    unmet_is = p.deficit ∙ rw (rest.deficit, root_at) refl
+    deficit_is : new.deficit.items ≡ set old.deficit.items root (number old.deficit.items root - amount)
+    deficit_is = p.deficit ∙ rw (rest.deficit, root_at) refl
 
-    pub unmet_root : number new.deficit.items root ≡ number old.deficit.items root - amount
-    unmet_root = rw unmet_is (get_or-set_same old.deficit.items root _ 0 (omega (arith, unmet_long, in_rows)))
+    pub deficit_root : number new.deficit.items root ≡ number old.deficit.items root - amount
+    deficit_root = rw deficit_is (get_or-set_same old.deficit.items root _ 0 (omega (arith, deficit_long, in_rows)))
 
-    unmet_other : (k : ℕ) → (k ≡ root → ⊥) → number new.deficit.items k ≡ number old.deficit.items k
-    unmet_other k ne = rw unmet_is (get_or-set_other old.deficit.items root k _ 0 ne)
+    deficit_other : (k : ℕ) → (k ≡ root → ⊥) → number new.deficit.items k ≡ number old.deficit.items k
+    deficit_other k ne = rw deficit_is (get_or-set_other old.deficit.items root k _ 0 ne)
 
     free_same : number new.residual.items e.class ≡ number mid.residual.items e.class - amount
-    free_same = rw p.residual (get_or-set_same mid.residual.items e.class _ 0 exit_in)
+    free_same = rw p.residual (get_or-set_same mid.residual.items e.class _ 0 free_end_in)
 
     free_other : (g : ℕ) → (g ≡ e.class → ⊥) → number new.residual.items g ≡ number mid.residual.items g
     free_other g ne = rw p.residual (get_or-set_other mid.residual.items e.class g _ 0 ne)
@@ -150,8 +150,8 @@ module _ (ws : ℕ → ℕ → Option ℕ) (old mid : Assignment) (t : SearchTre
       | inr ne ↦ omega (arith, free_other g ne)
     ]
 
-    pub new_free_long : length new.residual.items ≡ length mid.residual.items
-    new_free_long = ap length p.residual ∙ length-set _ _ _
+    pub new_residual_long : length new.residual.items ≡ length mid.residual.items
+    new_residual_long = ap length p.residual ∙ length-set _ _ _
 
     row_root : row_total (cell new.holdings.items) (length old.prices.items) root ≡ row_total (cell old.holdings.items) (length old.prices.items) root + amount
     row_root = rw (← rest.holdings, ← prices_long, ← root_at) p.by_root
@@ -166,8 +166,8 @@ module _ (ws : ℕ → ℕ → Option ℕ) (old mid : Assignment) (t : SearchTre
         → row_total (cell new.holdings.items) (length old.prices.items) k + number new.deficit.items k ≡ row_total (cell old.holdings.items) (length old.prices.items) k + number old.deficit.items k
     by_row k lt = elim (cases_eq k root) [
       | inl same ↦ subst (λ j. row_total (cell new.holdings.items) (length old.prices.items) j + number new.deficit.items j ≡ row_total (cell old.holdings.items) (length old.prices.items) j + number old.deficit.items j)
-          (sym same) (omega (arith, row_root, unmet_root, less))
-      | inr ne ↦ omega (arith, row_other k lt ne, unmet_other k ne)
+          (sym same) (omega (arith, row_root, deficit_root, less))
+      | inr ne ↦ omega (arith, row_other k lt ne, deficit_other k ne)
     ]
 
     hand_here : in_hand e.class amount e.class ≡ amount
@@ -190,14 +190,14 @@ module _ (ws : ℕ → ℕ → Option ℕ) (old mid : Assignment) (t : SearchTre
       | inr ne ↦ omega (arith, class_is g lt, hand_other g ne, free_other g ne, free_old g)
     ]
 
-    pub handed_pushed : IsHandedOut root old new
-    handed_pushed = record {
+    pub handed_augmented : IsHandedOut root old new
+    handed_augmented = record {
       values_long = ap (λ (v : Vec ℕ Global). length v.items) p.values ∙ values_long;
       prices_long = ap (λ (v : Vec ℕ Global). length v.items) p.prices ∙ prices_long;
-      unmet_long = ap length unmet_is ∙ length-set _ _ _;
+      deficit_long = ap length deficit_is ∙ length-set _ _ _;
       by_row = by_row;
       by_class = by_class;
-      others = unmet_other;
+      others = deficit_other;
       none = λ k ne none. p.none k (λ e. ne (e ∙ root_at)) (rw rest.holdings none);
     }
 
@@ -205,18 +205,18 @@ pub answer_running : (ws : ℕ → ℕ → Option ℕ) (s : Assignment) (t : Sea
 answer_running ws s t None a = a.running
 answer_running ws s t (Some e) a = a.running
 
--- the search's end in the words of `augment_once`: `lines` are those after the search
-module _ (tb : Instance) (root : ℕ) (old mid : Assignment) (t : SearchTree) (before : List SortedArcs) (lines : List SortedArcs) (turns : ℕ) (can : CanFill tb root old before turns) (lacks : 0 < number old.deficit.items root)
+-- the search's end in the words of `augment_once`: `arcs_by_kind` are those after the search
+module _ (tb : Instance) (root : ℕ) (old mid : Assignment) (t : SearchTree) (before : List SortedArcs) (arcs_by_kind : List SortedArcs) (turns : ℕ) (can : CanAssign tb root old before turns) (lacks : 0 < number old.deficit.items root)
     (running : IsRunning (weights tb) mid t) (rows : length tb.rows.now ≡ length mid.values.items) (rest : IsSameRest old mid) (root_at : row_at t.reached_rows 0 ≡ root)
-    (room_is : bottleneck t.reached_rows root ≡ number old.deficit.items root) (are : AreSortedArcs tb mid.residual.items lines) where
+    (bottleneck_is : bottleneck t.reached_rows root ≡ number old.deficit.items root) (are : AreSortedArcs tb mid.residual.items arcs_by_kind) where
   values_long : length mid.values.items ≡ length old.values.items
   values_long = sym rows ∙ can.rows
 
   prices_are : length mid.prices.items ≡ length old.prices.items
-  prices_are = prices_long (weights tb) old mid t root running can.settled.free_long values_long rest root_at
+  prices_are = prices_long (weights tb) old mid t root running can.settled.residual_long values_long rest root_at
 
   on_root : is_reached t.reached_rows root ≡ true
-  on_root = root_on (weights tb) old mid t root running can.settled.free_long values_long rest root_at
+  on_root = root_on (weights tb) old mid t root running can.settled.residual_long values_long rest root_at
 
   a_row : a_search old ≤ number old.deficit.items root * a_search old
   a_row = let e = one_more 0 (number old.deficit.items root) (a_search old) lacks in omega (arith, e)
@@ -227,73 +227,73 @@ module _ (tb : Instance) (root : ℕ) (old mid : Assignment) (t : SearchTree) (b
   pub turns_fit : turns + (length t.reached_rows.order.items + length t.tree_classes.order.items) < 2 ^ 64
   turns_fit = omega (arith, taken_up, a_row, can.fits)
 
-  pub no_exit : (after : ℕ) → after ≡ turns + (length t.reached_rows.order.items + length t.tree_classes.order.items) → IsClosed (weights tb) mid t → IsAtEnd tb root old mid t turns after
-  no_exit after is closed = record {
+  pub no_free_end : (after : ℕ) → after ≡ turns + (length t.reached_rows.order.items + length t.tree_classes.order.items) → IsClosed (weights tb) mid t → IsAtEnd tb root old mid t turns after
+  no_free_end after is closed = record {
     closed = closed;
     root_at = root_at;
     on = on_root;
     lacks = rw rest.deficit lacks;
-    handed = handed_none (weights tb) old mid t root running can.settled.free_long values_long rest root_at;
+    handed = handed_none (weights tb) old mid t root running can.settled.residual_long values_long rest root_at;
     most = omega (arith, taken_up, a_row, is);
     least = omega (arith, is);
   }
 
   module _ (e : FreeEnd) (f : IsFound (weights tb) mid t e) where
-    taken_up_exit : length t.reached_rows.order.items + length t.tree_classes.order.items + 1 ≤ a_search old
-    taken_up_exit = omega (arith, rows_few (weights tb) mid t running, classes_fewer (weights tb) mid t e f, values_long, prices_are)
+    taken_up_free_end : length t.reached_rows.order.items + length t.tree_classes.order.items + 1 ≤ a_search old
+    taken_up_free_end = omega (arith, rows_few (weights tb) mid t running, classes_fewer (weights tb) mid t e f, values_long, prices_are)
 
-    pub turns_fit_exit : turns + (length t.reached_rows.order.items + length t.tree_classes.order.items) + 1 < 2 ^ 64
-    turns_fit_exit = omega (arith, taken_up_exit, a_row, can.fits)
+    pub turns_fit_free_end : turns + (length t.reached_rows.order.items + length t.tree_classes.order.items) + 1 < 2 ^ 64
+    turns_fit_free_end = omega (arith, taken_up_free_end, a_row, can.fits)
 
-    there : is_reached t.reached_rows e.near.row ≡ true
+    there : is_reached t.reached_rows e.label.row ≡ true
     there = (running.search.free_end e f.its).there
 
-    pub exit_row : e.near.row < length t.reached_rows.bottleneck.items
-    exit_row = omega (arith, marked_below t.reached_rows.reached.items e.near.row there, running.search.reached_rows.reached_long, running.search.reached_rows.room_long)
+    pub free_end_row : e.label.row < length t.reached_rows.bottleneck.items
+    free_end_row = omega (arith, marked_below t.reached_rows.reached.items e.label.row there, running.search.reached_rows.reached_long, running.search.reached_rows.bottleneck_long)
 
-    pub exit_class : e.class < length mid.residual.items
-    exit_class = omega (arith, running.fit.class _ _ _ (running.search.free_end e f.its).weighs, running.search.free_long)
+    pub free_end_class : e.class < length mid.residual.items
+    free_end_class = omega (arith, running.fit.class _ _ _ (running.search.free_end e f.its).weighs, running.search.residual_long)
 
-    pub room_unmet : bottleneck t.reached_rows e.near.row ≤ number mid.deficit.items (row_at t.reached_rows 0)
-    room_unmet =
-        let a = room_root (weights tb) mid t e.near.row running there in
-        let b : bottleneck t.reached_rows (row_at t.reached_rows 0) ≡ number old.deficit.items root = ap (bottleneck t.reached_rows) root_at ∙ room_is in
+    pub bottleneck_deficit : bottleneck t.reached_rows e.label.row ≤ number mid.deficit.items (row_at t.reached_rows 0)
+    bottleneck_deficit =
+        let a = bottleneck_root (weights tb) mid t e.label.row running there in
+        let b : bottleneck t.reached_rows (row_at t.reached_rows 0) ≡ number old.deficit.items root = ap (bottleneck t.reached_rows) root_at ∙ bottleneck_is in
         let d : number mid.deficit.items (row_at t.reached_rows 0) ≡ number old.deficit.items root = rw (rest.deficit, root_at) refl in
         omega (arith, a, b, d)
 
-    pub unmet_long : length mid.deficit.items ≡ length mid.values.items
-    unmet_long = omega (arith, ap (λ (v : Vec ℕ Global). length v.items) rest.deficit, can.unmet_long, values_long)
+    pub deficit_long : length mid.deficit.items ≡ length mid.values.items
+    deficit_long = omega (arith, ap (λ (v : Vec ℕ Global). length v.items) rest.deficit, can.deficit_long, values_long)
 
     pub sizes_fit : (g : ℕ) → class_total (cell mid.holdings.items) (length mid.values.items) g + number mid.residual.items g < 2 ^ 32
     sizes_fit = rw (rest.holdings, rest.residual, values_long) can.sizes
 
-    module _ (new : Assignment) (amount : ℕ) (p : IsPushed mid new t e amount) (is : amount ≡ min (bottleneck t.reached_rows e.near.row) (number mid.residual.items e.class)) where
+    module _ (new : Assignment) (amount : ℕ) (p : IsAugmented mid new t e amount) (is : amount ≡ min (bottleneck t.reached_rows e.label.row) (number mid.residual.items e.class)) where
       less : amount ≤ number old.deficit.items root
-      less = let d : number mid.deficit.items (row_at t.reached_rows 0) ≡ number old.deficit.items root = rw (rest.deficit, root_at) refl in omega (arith, room_unmet, d, is)
+      less = let d : number mid.deficit.items (row_at t.reached_rows 0) ≡ number old.deficit.items root = rw (rest.deficit, root_at) refl in omega (arith, bottleneck_deficit, d, is)
 
       few : amount ≤ number mid.residual.items e.class
       few = omega (arith, is)
 
       some : 0 < amount
-      some = omega (arith, is, running.search.rooms e.near.row there, (running.search.free_end e f.its).some_free)
+      some = omega (arith, is, running.search.bottlenecks e.label.row there, (running.search.free_end e f.its).some_free)
 
       root_now : number new.deficit.items root ≡ number old.deficit.items root - amount
-      root_now = unmet_root (weights tb) old mid t root running can.settled.free_long values_long rest root_at new e amount p f can.unmet_long can.in_rows less few
+      root_now = deficit_root (weights tb) old mid t root running can.settled.residual_long values_long rest root_at new e amount p f can.deficit_long can.in_rows less few
 
       pub fewer : number new.deficit.items root < number old.deficit.items root
       fewer = omega (arith, root_now, some, less)
 
-      pub pushed : (after : ℕ) → after ≡ turns + (length t.reached_rows.order.items + length t.tree_classes.order.items) + 1 → IsFilling tb root old new lines turns after
-      pushed after after_is = record {
-        settled = settled_pushed (weights tb) mid new t e amount f p;
-        lines_are = lines_free tb mid.residual.items new.residual.items lines are
-            (new_free_long (weights tb) old mid t root running can.settled.free_long values_long rest root_at new e amount p f can.unmet_long can.in_rows less few)
-            (free_down (weights tb) old mid t root running can.settled.free_long values_long rest root_at new e amount p f can.unmet_long can.in_rows less few);
-        handed = handed_pushed (weights tb) old mid t root running can.settled.free_long values_long rest root_at new e amount p f can.unmet_long can.in_rows less few;
+      pub augmented : (after : ℕ) → after ≡ turns + (length t.reached_rows.order.items + length t.tree_classes.order.items) + 1 → IsAssigning tb root old new arcs_by_kind turns after
+      augmented after after_is = record {
+        settled = settled_augmented (weights tb) mid new t e amount f p;
+        sorted = all_sorted_free tb mid.residual.items new.residual.items arcs_by_kind are
+            (new_residual_long (weights tb) old mid t root running can.settled.residual_long values_long rest root_at new e amount p f can.deficit_long can.in_rows less few)
+            (free_down (weights tb) old mid t root running can.settled.residual_long values_long rest root_at new e amount p f can.deficit_long can.in_rows less few);
+        handed = handed_augmented (weights tb) old mid t root running can.settled.residual_long values_long rest root_at new e amount p f can.deficit_long can.in_rows less few;
         kept = omega (arith, after_is);
         fewer = omega (arith, fewer);
         unsought = λ same. absurd (omega (arith, same, fewer));
-        most = omega (arith, taken_up_exit, one_more (number new.deficit.items root) (number old.deficit.items root) (a_search old) fewer, after_is);
+        most = omega (arith, taken_up_free_end, one_more (number new.deficit.items root) (number old.deficit.items root) (a_search old) fewer, after_is);
         least = λ lt. omega (arith, running.search.rooted, after_is);
       }
 

@@ -1,12 +1,12 @@
--- A class is noted, or the free end, and what a search knows stays true.
+-- A class is labelled, or the free end, and what a search knows stays true.
 use Rattle.std.proofs.Common.{◌≡◌, ℕ, ◌+◌, ◌-◌, ◌^◌, ◌<◌, ◌≤◌, true, false, List, [], ◌∷◌, ◌++◌, length, get_or, set, Option, Some, None, Vec, Global, refl, sym, ap, ◌∙◌, subst, inl, inr, arith}
 use Rattle.std.proofs.lemmas.List.{length-set, length_push, get_or-set_same, get_or-set_other, get_or_push, get_or_append_left}
 use Rattle.std.proofs.lemmas.Bool.{cases_eq, cases_lt}
 use Rattle.transport.specs.Numbers.{number, IsIn}
 use Rattle.transport.specs.ReachedRows.{is_reached}
-use Rattle.transport.specs.Searches.{near_of, is_taken, IsLabelled, IsFreeEnd, IsSearch, IsCovered}
+use Rattle.transport.specs.Searches.{label_of, is_taken, IsLabelled, IsFreeEnd, IsSearch, IsCovered}
 use Rattle.transport.specs.States.{IsRunning, HasScanned, cell}
-use Rattle.transport.specs.Scans.{IsPast, IsLimit, IsBoundOf, IsLabelledNow, IsBetter, CanNote, CanNoteArc, CanNoteArcs, IsArcLabelled, HasLabelled, arc_at}
+use Rattle.transport.specs.Scans.{IsPast, IsLimit, IsBoundOf, IsLabelledNow, IsBetter, CanImprove, CanLabelArc, CanLabelArcs, IsArcLabelled, HasLabelled, arc_at}
 use Rattle.transport.specs.declared.labels.Label.{Label}
 use Rattle.transport.specs.declared.labels.FreeEnd.{FreeEnd}
 use Rattle.transport.specs.declared.labels.Labels.{Labels}
@@ -19,48 +19,48 @@ use Rattle.transport.proofs.ReachedRowsLemmas.{marked_below}
 some_same : (n m : Label) (o : Option Label) → o ≡ Some n → o ≡ Some m → n ≡ m
 some_same n m o a b = let both : Some n ≡ Some m = sym a ∙ b in cc
 
--- a first note of a class
-pub noted_first : (values : List ℕ) (old new : Labels) (g : ℕ) (near : Label) → g < length old.of_class.items → near_of old g ≡ None → new.free_end ≡ old.free_end
-    → new.of_class.items ≡ set old.of_class.items g (Some near) → new.noted.items ≡ old.noted.items ++ g ∷ [] → IsLabelledNow values old new g near
-noted_first values old new g near lt none free_end of_class noted = record {
+-- the first label of a class
+pub labelled_first : (values : List ℕ) (old new : Labels) (g : ℕ) (label : Label) → g < length old.of_class.items → label_of old g ≡ None → new.free_end ≡ old.free_end
+    → new.of_class.items ≡ set old.of_class.items g (Some label) → new.labelled.items ≡ old.labelled.items ++ g ∷ [] → IsLabelledNow values old new g label
+labelled_first values old new g label lt none free_end of_class labelled = record {
   free_end = free_end;
   long = ap length of_class ∙ length-set _ _ _;
-  others = λ h ne. rw of_class (get_or-set_other old.of_class.items g h (Some near) None ne);
-  now = near;
-  its = rw of_class (get_or-set_same old.of_class.items g (Some near) None lt);
+  others = λ h ne. rw of_class (get_or-set_other old.of_class.items g h (Some label) None ne);
+  now = label;
+  its = rw of_class (get_or-set_same old.of_class.items g (Some label) None lt);
   choice = inl refl;
   less = omega arith;
   better = λ n is. (let no : Some n ≡ None = sym is ∙ none in cc);
-  kept = λ h there. rw noted (in_push old.noted.items g h there);
-  listed = rw noted (in_last old.noted.items g);
-  noted_in = λ n i all here within. elim (cases_lt i (length old.noted.items)) [
-    | inl before ↦ rw (noted, get_or_append_left old.noted.items (g ∷ []) 0 i before) (all i before)
-    | inr after ↦ rw (noted, get_or_push old.noted.items g 0 i (omega (arith, after, within, ap length noted, length_push old.noted.items g))) here
+  kept = λ h there. rw labelled (in_push old.labelled.items g h there);
+  listed = rw labelled (in_last old.labelled.items g);
+  labelled_in = λ n i all here within. elim (cases_lt i (length old.labelled.items)) [
+    | inl before ↦ rw (labelled, get_or_append_left old.labelled.items (g ∷ []) 0 i before) (all i before)
+    | inr after ↦ rw (labelled, get_or_push old.labelled.items g 0 i (omega (arith, after, within, ap length labelled, length_push old.labelled.items g))) here
   ];
 }
 
 -- a nearer row
-pub noted_nearer : (values : List ℕ) (old new : Labels) (g : ℕ) (near was : Label) → g < length old.of_class.items → near_of old g ≡ Some was → IsIn old.noted.items g
-    → near.weight + number values was.row < was.weight + number values near.row → new.free_end ≡ old.free_end
-    → new.of_class.items ≡ set old.of_class.items g (Some near) → new.noted.items ≡ old.noted.items → IsLabelledNow values old new g near
-noted_nearer values old new g near was lt is there less free_end of_class noted = record {
+pub labelled_nearer : (values : List ℕ) (old new : Labels) (g : ℕ) (label was : Label) → g < length old.of_class.items → label_of old g ≡ Some was → IsIn old.labelled.items g
+    → label.weight + number values was.row < was.weight + number values label.row → new.free_end ≡ old.free_end
+    → new.of_class.items ≡ set old.of_class.items g (Some label) → new.labelled.items ≡ old.labelled.items → IsLabelledNow values old new g label
+labelled_nearer values old new g label was lt is there less free_end of_class labelled = record {
   free_end = free_end;
   long = ap length of_class ∙ length-set _ _ _;
-  others = λ h ne. rw of_class (get_or-set_other old.of_class.items g h (Some near) None ne);
-  now = near;
-  its = rw of_class (get_or-set_same old.of_class.items g (Some near) None lt);
+  others = λ h ne. rw of_class (get_or-set_other old.of_class.items g h (Some label) None ne);
+  now = label;
+  its = rw of_class (get_or-set_same old.of_class.items g (Some label) None lt);
   choice = inl refl;
   less = omega arith;
-  better = λ n its. (let same = some_same was n (near_of old g) is its in subst (λ x. near.weight + number values x.row ≤ x.weight + number values near.row) same (omega (arith, less)));
-  kept = λ h here. rw noted here;
-  listed = rw noted there;
-  noted_in = λ n i all here within. rw noted (all i (omega (arith, within, ap length noted)));
+  better = λ n its. (let same = some_same was n (label_of old g) is its in subst (λ x. label.weight + number values x.row ≤ x.weight + number values label.row) same (omega (arith, less)));
+  kept = λ h here. rw labelled here;
+  listed = rw labelled there;
+  labelled_in = λ n i all here within. rw labelled (all i (omega (arith, within, ap length labelled)));
 }
 
--- the note stays
-pub noted_stays : (values : List ℕ) (old : Labels) (g : ℕ) (near was : Label) → near_of old g ≡ Some was → IsIn old.noted.items g
-    → was.weight + number values near.row ≤ near.weight + number values was.row → IsLabelledNow values old old g near
-noted_stays values old g near was is there less = record {
+-- the label stays
+pub labelled_stays : (values : List ℕ) (old : Labels) (g : ℕ) (label was : Label) → label_of old g ≡ Some was → IsIn old.labelled.items g
+    → was.weight + number values label.row ≤ label.weight + number values was.row → IsLabelledNow values old old g label
+labelled_stays values old g label was is there less = record {
   free_end = refl;
   long = refl;
   others = λ h ne. refl;
@@ -68,60 +68,60 @@ noted_stays values old g near was is there less = record {
   its = is;
   choice = inr is;
   less = less;
-  better = λ n its. (let same = some_same was n (near_of old g) is its in subst (λ x. was.weight + number values x.row ≤ x.weight + number values was.row) same (omega arith));
+  better = λ n its. (let same = some_same was n (label_of old g) is its in subst (λ x. was.weight + number values x.row ≤ x.weight + number values was.row) same (omega arith));
   kept = λ h here. here;
   listed = there;
-  noted_in = λ n i all here within. all i within;
+  labelled_in = λ n i all here within. all i within;
 }
 
-module _ (ws : ℕ → ℕ → Option ℕ) (s : Assignment) (t : SearchTree) (new : SearchTree) (g : ℕ) (near : Label) (h : IsRunning ws s t)
-    (reached_rows : new.reached_rows ≡ t.reached_rows) (tree_classes : new.tree_classes ≡ t.tree_classes) (n : IsLabelledNow s.values.items t.labels new.labels g near)
-    (there : is_reached t.reached_rows near.row ≡ true) (weighs : ws near.row g ≡ Some near.weight) (full : number s.residual.items g ≡ 0) (left : is_taken t.tree_classes g ≡ false) where
+module _ (ws : ℕ → ℕ → Option ℕ) (s : Assignment) (t : SearchTree) (new : SearchTree) (g : ℕ) (label : Label) (h : IsRunning ws s t)
+    (reached_rows : new.reached_rows ≡ t.reached_rows) (tree_classes : new.tree_classes ≡ t.tree_classes) (n : IsLabelledNow s.values.items t.labels new.labels g label)
+    (there : is_reached t.reached_rows label.row ≡ true) (weighs : ws label.row g ≡ Some label.weight) (full : number s.residual.items g ≡ 0) (left : is_taken t.tree_classes g ≡ false) where
   old : IsSearch ws (cell s.holdings.items) s.values.items s.prices.items s.residual.items t.reached_rows t.labels t.tree_classes
   old = h.search
 
   other : (j : ℕ) → is_taken t.tree_classes j ≡ true → j ≡ g → ⊥
   other j on e = not_both _ (subst (λ x. is_taken t.tree_classes x ≡ true) e on) left
 
-  noted_now : (j : ℕ) (m : Label) → near_of new.labels j ≡ Some m → IsLabelled ws s.residual.items t.reached_rows j m
-  noted_now j m is = elim (cases_eq j g) [
+  labelled_now : (j : ℕ) (m : Label) → label_of new.labels j ≡ Some m → IsLabelled ws s.residual.items t.reached_rows j m
+  labelled_now j m is = elim (cases_eq j g) [
     | inl e ↦ at_g e
-    | inr ne ↦ (let o = old.noted j m (sym (n.others j ne) ∙ is) in record { there = o.there; weighs = o.weighs; full = o.full })
+    | inr ne ↦ (let o = old.labelled j m (sym (n.others j ne) ∙ is) in record { there = o.there; weighs = o.weighs; full = o.full })
   ]
     where
       own : (x : Label) → n.now ≡ x → IsLabelled ws s.residual.items t.reached_rows g x
       own x e = elim n.choice [
         | inl new_one ↦ subst (λ y. IsLabelled ws s.residual.items t.reached_rows g y) (sym new_one ∙ e) (record { there = there; weighs = weighs; full = full })
-        | inr was ↦ (let o = old.noted g n.now was in subst (λ y. IsLabelled ws s.residual.items t.reached_rows g y) e (record { there = o.there; weighs = o.weighs; full = o.full }))
+        | inr was ↦ (let o = old.labelled g n.now was in subst (λ y. IsLabelled ws s.residual.items t.reached_rows g y) e (record { there = o.there; weighs = o.weighs; full = o.full }))
       ]
 
       at_g : j ≡ g → IsLabelled ws s.residual.items t.reached_rows j m
       at_g e =
-          let its : near_of new.labels g ≡ Some m = subst (λ x. near_of new.labels x ≡ Some m) e is in
-          subst (λ x. IsLabelled ws s.residual.items t.reached_rows x m) (sym e) (own m (some_same n.now m (near_of new.labels g) n.its its))
+          let its : label_of new.labels g ≡ Some m = subst (λ x. label_of new.labels x ≡ Some m) e is in
+          subst (λ x. IsLabelled ws s.residual.items t.reached_rows x m) (sym e) (own m (some_same n.now m (label_of new.labels g) n.its its))
 
-  listed_now : (j : ℕ) (m : Label) → near_of new.labels j ≡ Some m → is_taken t.tree_classes j ≡ false → IsIn new.labels.noted.items j
+  listed_now : (j : ℕ) (m : Label) → label_of new.labels j ≡ Some m → is_taken t.tree_classes j ≡ false → IsIn new.labels.labelled.items j
   listed_now j m is off = elim (cases_eq j g) [
-    | inl e ↦ subst (IsIn new.labels.noted.items) (sym e) n.listed
+    | inl e ↦ subst (IsIn new.labels.labelled.items) (sym e) n.listed
     | inr ne ↦ n.kept j (old.listed j m (sym (n.others j ne) ∙ is) off)
   ]
 
-  search_noted : IsSearch ws (cell s.holdings.items) s.values.items s.prices.items s.residual.items t.reached_rows new.labels t.tree_classes
-  search_noted = record {
+  search_labelled : IsSearch ws (cell s.holdings.items) s.values.items s.prices.items s.residual.items t.reached_rows new.labels t.tree_classes
+  search_labelled = record {
     reached_rows = old.reached_rows;
     listing = old.listing;
     taken_long = old.taken_long;
-    nears_long = n.long ∙ old.nears_long;
-    free_long = old.free_long;
+    labels_long = n.long ∙ old.labels_long;
+    residual_long = old.residual_long;
     dual = old.dual;
     rooted = old.rooted;
     entries = λ k on deep. (let e = old.entries k on deep in
-        record { taken = e.taken; held = e.held; near = e.near; its = n.others _ (other _ e.taken) ∙ e.its; before = e.before; less = e.less });
-    rooms = old.rooms;
-    noted = noted_now;
+        record { taken = e.taken; held = e.held; label = e.label; its = n.others _ (other _ e.taken) ∙ e.its; before = e.before; less = e.less });
+    bottlenecks = old.bottlenecks;
+    labelled = labelled_now;
     listed = listed_now;
-    noted_in = λ i within. n.noted_in _ i old.noted_in (h.fit.class near.row g near.weight weighs) within;
-    linked = λ j on. (let l = old.linked j on in record { near = l.near; its = n.others j (other j on) ∙ l.its; equal = l.equal });
+    labelled_in = λ i within. n.labelled_in _ i old.labelled_in (h.fit.class label.row g label.weight weighs) within;
+    linked = λ j on. (let l = old.linked j on in record { label = l.label; its = n.others j (other j on) ∙ l.its; equal = l.equal });
     holders = old.holders;
     free_end = λ e is. old.free_end e (sym n.free_end ∙ is);
     close = old.close;
@@ -135,58 +135,58 @@ module _ (ws : ℕ → ℕ → Option ℕ) (s : Assignment) (t : SearchTree) (ne
   covered_now k j w c = elim c [
     | inl c ↦ elim (cases_eq j g) [
       | inl e ↦ inl (record {
-        near = n.now;
-        its = subst (λ x. near_of new.labels x ≡ Some n.now) (sym e) n.its;
-        least = omega (arith, c.least, n.better c.near (subst (λ x. near_of t.labels x ≡ Some c.near) e c.its));
+        label = n.now;
+        its = subst (λ x. label_of new.labels x ≡ Some n.now) (sym e) n.its;
+        least = omega (arith, c.least, n.better c.label (subst (λ x. label_of t.labels x ≡ Some c.label) e c.its));
       })
-      | inr ne ↦ inl (record { near = c.near; its = n.others j ne ∙ c.its; least = c.least })
+      | inr ne ↦ inl (record { label = c.label; its = n.others j ne ∙ c.its; least = c.least })
     ]
     | inr c ↦ inr (record { free_end = c.free_end; its = n.free_end ∙ c.its; least = c.least })
   ]
 
-  pub better_noted : IsBetter ws s t new
-  better_noted = record {
-    running = record { fit = h.fit; search = rw (reached_rows, tree_classes) search_noted; holdings = h.holdings };
+  pub better_labelled : IsBetter ws s t new
+  better_labelled = record {
+    running = record { fit = h.fit; search = rw (reached_rows, tree_classes) search_labelled; holdings = h.holdings };
     covers = covered_now;
     reached_rows = reached_rows;
     tree_classes = tree_classes;
   }
 
   -- the class itself is covered from the row
-  pub covered_own : IsCovered s.values.items s.prices.items new.labels near.row g near.weight
-  covered_own = inl (record { near = n.now; its = n.its; least = n.less })
+  pub covered_own : IsCovered s.values.items s.prices.items new.labels label.row g label.weight
+  covered_own = inl (record { label = n.now; its = n.its; least = n.less })
 
 -- a nearer free end
 module _ (ws : ℕ → ℕ → Option ℕ) (s : Assignment) (t : SearchTree) (new : SearchTree) (e : FreeEnd) (h : IsRunning ws s t)
-    (reached_rows : new.reached_rows ≡ t.reached_rows) (tree_classes : new.tree_classes ≡ t.tree_classes) (of_class : new.labels.of_class ≡ t.labels.of_class) (noted : new.labels.noted ≡ t.labels.noted) (free_end : new.labels.free_end ≡ Some e)
-    (there : is_reached t.reached_rows e.near.row ≡ true) (weighs : ws e.near.row e.class ≡ Some e.near.weight) (some_free : 0 < number s.residual.items e.class)
-    (nearer : (o : FreeEnd) → t.labels.free_end ≡ Some o → e.near.weight + number s.values.items o.near.row ≤ o.near.weight + number s.values.items e.near.row) where
+    (reached_rows : new.reached_rows ≡ t.reached_rows) (tree_classes : new.tree_classes ≡ t.tree_classes) (of_class : new.labels.of_class ≡ t.labels.of_class) (labelled : new.labels.labelled ≡ t.labels.labelled) (free_end : new.labels.free_end ≡ Some e)
+    (there : is_reached t.reached_rows e.label.row ≡ true) (weighs : ws e.label.row e.class ≡ Some e.label.weight) (some_free : 0 < number s.residual.items e.class)
+    (nearer : (o : FreeEnd) → t.labels.free_end ≡ Some o → e.label.weight + number s.values.items o.label.row ≤ o.label.weight + number s.values.items e.label.row) where
   was : IsSearch ws (cell s.holdings.items) s.values.items s.prices.items s.residual.items t.reached_rows t.labels t.tree_classes
   was = h.search
 
-  near_same : (j : ℕ) → near_of new.labels j ≡ near_of t.labels j
-  near_same j = ap (λ (v : Vec (Option Label) Global). get_or v.items j None) of_class
+  label_same : (j : ℕ) → label_of new.labels j ≡ label_of t.labels j
+  label_same j = ap (λ (v : Vec (Option Label) Global). get_or v.items j None) of_class
 
-  exit_same : (f : FreeEnd) → new.labels.free_end ≡ Some f → e ≡ f
-  exit_same f is = let both : Some e ≡ Some f = sym free_end ∙ is in cc
+  free_end_same : (f : FreeEnd) → new.labels.free_end ≡ Some f → e ≡ f
+  free_end_same f is = let both : Some e ≡ Some f = sym free_end ∙ is in cc
 
-  search_exit : IsSearch ws (cell s.holdings.items) s.values.items s.prices.items s.residual.items t.reached_rows new.labels t.tree_classes
-  search_exit = record {
+  search_free_end : IsSearch ws (cell s.holdings.items) s.values.items s.prices.items s.residual.items t.reached_rows new.labels t.tree_classes
+  search_free_end = record {
     reached_rows = was.reached_rows;
     listing = was.listing;
     taken_long = was.taken_long;
-    nears_long = ap (λ (v : Vec (Option Label) Global). length v.items) of_class ∙ was.nears_long;
-    free_long = was.free_long;
+    labels_long = ap (λ (v : Vec (Option Label) Global). length v.items) of_class ∙ was.labels_long;
+    residual_long = was.residual_long;
     dual = was.dual;
     rooted = was.rooted;
-    entries = λ k on deep. (let x = was.entries k on deep in record { taken = x.taken; held = x.held; near = x.near; its = near_same _ ∙ x.its; before = x.before; less = x.less });
-    rooms = was.rooms;
-    noted = λ j m is. (let o = was.noted j m (sym (near_same j) ∙ is) in record { there = o.there; weighs = o.weighs; full = o.full });
-    listed = λ j m is off. rw noted (was.listed j m (sym (near_same j) ∙ is) off);
-    noted_in = rw noted was.noted_in;
-    linked = λ j on. (let l = was.linked j on in record { near = l.near; its = near_same j ∙ l.its; equal = l.equal });
+    entries = λ k on deep. (let x = was.entries k on deep in record { taken = x.taken; held = x.held; label = x.label; its = label_same _ ∙ x.its; before = x.before; less = x.less });
+    bottlenecks = was.bottlenecks;
+    labelled = λ j m is. (let o = was.labelled j m (sym (label_same j) ∙ is) in record { there = o.there; weighs = o.weighs; full = o.full });
+    listed = λ j m is off. rw labelled (was.listed j m (sym (label_same j) ∙ is) off);
+    labelled_in = rw labelled was.labelled_in;
+    linked = λ j on. (let l = was.linked j on in record { label = l.label; its = label_same j ∙ l.its; equal = l.equal });
     holders = was.holders;
-    free_end = λ f is. subst (IsFreeEnd ws s.residual.items t.reached_rows) (exit_same f is) (record { there = there; weighs = weighs; some_free = some_free });
+    free_end = λ f is. subst (IsFreeEnd ws s.residual.items t.reached_rows) (free_end_same f is) (record { there = there; weighs = weighs; some_free = some_free });
     close = was.close;
     others_low = was.others_low;
     prices_low = was.prices_low;
@@ -194,16 +194,16 @@ module _ (ws : ℕ → ℕ → Option ℕ) (s : Assignment) (t : SearchTree) (ne
     prices_fit = was.prices_fit;
   }
 
-  covered_exit : (k j w : ℕ) → IsCovered s.values.items s.prices.items t.labels k j w → IsCovered s.values.items s.prices.items new.labels k j w
-  covered_exit k j w c = elim c [
-    | inl c ↦ inl (record { near = c.near; its = near_same j ∙ c.its; least = c.least })
+  covered_free_end : (k j w : ℕ) → IsCovered s.values.items s.prices.items t.labels k j w → IsCovered s.values.items s.prices.items new.labels k j w
+  covered_free_end k j w c = elim c [
+    | inl c ↦ inl (record { label = c.label; its = label_same j ∙ c.its; least = c.least })
     | inr c ↦ inr (record { free_end = e; its = free_end; least = omega (arith, c.least, nearer c.free_end c.its) })
   ]
 
-  pub better_exit : IsBetter ws s t new
-  better_exit = record {
-    running = record { fit = h.fit; search = rw (reached_rows, tree_classes) search_exit; holdings = h.holdings };
-    covers = covered_exit;
+  pub better_free_end : IsBetter ws s t new
+  better_free_end = record {
+    running = record { fit = h.fit; search = rw (reached_rows, tree_classes) search_free_end; holdings = h.holdings };
+    covers = covered_free_end;
     reached_rows = reached_rows;
     tree_classes = tree_classes;
   }
@@ -239,31 +239,31 @@ better_more ws s a b d f g = record {
   tree_classes = g.tree_classes ∙ f.tree_classes;
 }
 
-pub looked_better : (ws : ℕ → ℕ → Option ℕ) (s : Assignment) (old new : SearchTree) (upto : ℕ) → IsBetter ws s old new → HasScanned ws s old upto → HasScanned ws s new upto
-looked_better ws s old new upto b all = rw (b.reached_rows, b.tree_classes) (record { covered = λ k j w on here its off. b.covers k j w (all.covered k j w on here its off) })
+pub scanned_better : (ws : ℕ → ℕ → Option ℕ) (s : Assignment) (old new : SearchTree) (upto : ℕ) → IsBetter ws s old new → HasScanned ws s old upto → HasScanned ws s new upto
+scanned_better ws s old new upto b all = rw (b.reached_rows, b.tree_classes) (record { covered = λ k j w on here its off. b.covers k j w (all.covered k j w on here its off) })
 
--- the class is noted, or need not be
-pub arc_noted : (ws : ℕ → ℕ → Option ℕ) (s : Assignment) (t new : SearchTree) (k : ℕ) (arc : Arc) → CanNoteArc ws s t k arc → is_taken t.tree_classes arc.class ≡ false
+-- the class is labelled, or need not be
+pub arc_labelled : (ws : ℕ → ℕ → Option ℕ) (s : Assignment) (t new : SearchTree) (k : ℕ) (arc : Arc) → CanLabelArc ws s t k arc → is_taken t.tree_classes arc.class ≡ false
     → new.reached_rows ≡ t.reached_rows → new.tree_classes ≡ t.tree_classes → IsLabelledNow s.values.items t.labels new.labels arc.class (record { row = k; weight = arc.weight }) → IsArcLabelled ws s k t new arc
-arc_noted ws s t new k arc can left reached_rows tree_classes n = record {
-  better = better_noted ws s t new arc.class _ can.running reached_rows tree_classes n can.there can.weighs can.full left;
+arc_labelled ws s t new k arc can left reached_rows tree_classes n = record {
+  better = better_labelled ws s t new arc.class _ can.running reached_rows tree_classes n can.there can.weighs can.full left;
   free_end = n.free_end;
   own = λ _. covered_own ws s t new arc.class _ can.running reached_rows tree_classes n can.there can.weighs can.full left;
 }
 
-pub arc_taken : (ws : ℕ → ℕ → Option ℕ) (s : Assignment) (t : SearchTree) (k : ℕ) (arc : Arc) → CanNoteArc ws s t k arc → is_taken t.tree_classes arc.class ≡ true → IsArcLabelled ws s k t t arc
+pub arc_taken : (ws : ℕ → ℕ → Option ℕ) (s : Assignment) (t : SearchTree) (k : ℕ) (arc : Arc) → CanLabelArc ws s t k arc → is_taken t.tree_classes arc.class ≡ true → IsArcLabelled ws s k t t arc
 arc_taken ws s t k arc can on = record { better = better_same ws s t can.running; free_end = refl; own = λ off. absurd (not_both _ on off) }
 
-pub arc_past : (ws : ℕ → ℕ → Option ℕ) (s : Assignment) (t : SearchTree) (k : ℕ) (arc : Arc) (limit : Option ℕ) → CanNoteArc ws s t k arc → IsLimit s.values.items k t.labels.free_end limit
+pub arc_past : (ws : ℕ → ℕ → Option ℕ) (s : Assignment) (t : SearchTree) (k : ℕ) (arc : Arc) (limit : Option ℕ) → CanLabelArc ws s t k arc → IsLimit s.values.items k t.labels.free_end limit
     → IsPast limit (arc.weight + number s.prices.items arc.class) → IsArcLabelled ws s k t t arc
 arc_past ws s t k arc limit can l past = record { better = better_same ws s t can.running; free_end = refl; own = λ off. covered_past s t.labels k arc.class arc.weight t.labels.free_end limit refl l past }
 
 -- arc by arc
-pub noted_start : (ws : ℕ → ℕ → Option ℕ) (s : Assignment) (t : SearchTree) (k : ℕ) (arcs : List Arc) → IsRunning ws s t → HasLabelled ws s k t t arcs 0
-noted_start ws s t k arcs h = record { better = better_same ws s t h; free_end = refl; each = λ i lt. absurd (omega arith) }
+pub labelled_start : (ws : ℕ → ℕ → Option ℕ) (s : Assignment) (t : SearchTree) (k : ℕ) (arcs : List Arc) → IsRunning ws s t → HasLabelled ws s k t t arcs 0
+labelled_start ws s t k arcs h = record { better = better_same ws s t h; free_end = refl; each = λ i lt. absurd (omega arith) }
 
-pub noted_more : (ws : ℕ → ℕ → Option ℕ) (s : Assignment) (a b d : SearchTree) (k : ℕ) (arcs : List Arc) (i : ℕ) → HasLabelled ws s k a b arcs i → IsArcLabelled ws s k b d (arc_at arcs i) → HasLabelled ws s k a d arcs (i + 1)
-noted_more ws s a b d k arcs i h n = record {
+pub labelled_more : (ws : ℕ → ℕ → Option ℕ) (s : Assignment) (a b d : SearchTree) (k : ℕ) (arcs : List Arc) (i : ℕ) → HasLabelled ws s k a b arcs i → IsArcLabelled ws s k b d (arc_at arcs i) → HasLabelled ws s k a d arcs (i + 1)
+labelled_more ws s a b d k arcs i h n = record {
   better = better_more ws s a b d h.better n.better;
   free_end = n.free_end ∙ h.free_end;
   each = λ j lt off. elim (cases_lt j i) [
@@ -276,9 +276,9 @@ noted_more ws s a b d k arcs i h n = record {
     at_end j e off = subst (λ x. IsCovered s.values.items s.prices.items d.labels k (arc_at arcs x).class (arc_at arcs x).weight) (sym e) (n.own (subst (λ x. is_taken d.tree_classes (arc_at arcs x).class ≡ false) e off))
 
 -- the rest lies past the free end
-pub noted_past : (ws : ℕ → ℕ → Option ℕ) (s : Assignment) (a b : SearchTree) (k : ℕ) (arcs : List Arc) (i upto : ℕ) (limit : Option ℕ) → HasLabelled ws s k a b arcs i → IsLimit s.values.items k b.labels.free_end limit
+pub labelled_past : (ws : ℕ → ℕ → Option ℕ) (s : Assignment) (a b : SearchTree) (k : ℕ) (arcs : List Arc) (i upto : ℕ) (limit : Option ℕ) → HasLabelled ws s k a b arcs i → IsLimit s.values.items k b.labels.free_end limit
     → ((j : ℕ) → i ≤ j → j < upto → IsPast limit (arc_at arcs j).weight) → HasLabelled ws s k a b arcs upto
-noted_past ws s a b k arcs i upto limit h l past = record {
+labelled_past ws s a b k arcs i upto limit h l past = record {
   better = h.better;
   free_end = h.free_end;
   each = λ j lt off. elim (cases_lt j i) [
@@ -299,20 +299,20 @@ pub past_rise : (o : Option ℕ) (v w : ℕ) → v ≤ w → IsPast o v → IsPa
 past_rise None v w le h = h
 past_rise (Some x) v w le h = omega (arith, h, le)
 
-pub can_note : (ws : ℕ → ℕ → Option ℕ) (s : Assignment) (t : SearchTree) (k : ℕ) (arc : Arc) → CanNoteArc ws s t k arc → is_taken t.tree_classes arc.class ≡ false
-    → CanNote s.values.items t.labels arc.class (record { row = k; weight = arc.weight })
-can_note ws s t k arc can left = record {
-  class = omega (arith, can.running.fit.class k arc.class arc.weight can.weighs, can.running.search.nears_long);
+pub can_improve : (ws : ℕ → ℕ → Option ℕ) (s : Assignment) (t : SearchTree) (k : ℕ) (arc : Arc) → CanLabelArc ws s t k arc → is_taken t.tree_classes arc.class ≡ false
+    → CanImprove s.values.items t.labels arc.class (record { row = k; weight = arc.weight })
+can_improve ws s t k arc can left = record {
+  class = omega (arith, can.running.fit.class k arc.class arc.weight can.weighs, can.running.search.labels_long);
   row = reached_below k can.there;
   fits = can.running.search.values_fit;
-  before = λ n is. reached_below n.row (can.running.search.noted arc.class n is).there;
+  before = λ n is. reached_below n.row (can.running.search.labelled arc.class n is).there;
   listed = λ n is. can.running.search.listed arc.class n is left;
 }
   where
     reached_below : (j : ℕ) → is_reached t.reached_rows j ≡ true → j < length s.values.items
     reached_below j on = omega (arith, marked_below t.reached_rows.reached.items j on, can.running.search.reached_rows.reached_long)
 
-pub arc_can : (ws : ℕ → ℕ → Option ℕ) (s : Assignment) (a b : SearchTree) (k : ℕ) (arcs : List Arc) (upto i : ℕ) → CanNoteArcs ws s a k arcs upto → HasLabelled ws s k a b arcs i → i < upto → CanNoteArc ws s b k (arc_at arcs i)
+pub arc_can : (ws : ℕ → ℕ → Option ℕ) (s : Assignment) (a b : SearchTree) (k : ℕ) (arcs : List Arc) (upto i : ℕ) → CanLabelArcs ws s a k arcs upto → HasLabelled ws s k a b arcs i → i < upto → CanLabelArc ws s b k (arc_at arcs i)
 arc_can ws s a b k arcs upto i can h lt = record {
   running = h.better.running;
   there = subst (λ q. is_reached q k ≡ true) (sym h.better.reached_rows) can.there;

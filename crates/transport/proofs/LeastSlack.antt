@@ -3,7 +3,7 @@ use Rattle.std.proofs.Common.{◌≡◌, ℕ, zero, suc, ◌+◌, ◌<◌, ◌�
 use Rattle.std.proofs.lemmas.List.{length-take-le, get_or-take, length_push, get_or_push, get_or_append_left}
 use Rattle.std.proofs.lemmas.Bool.{cases_lt}
 use Rattle.transport.specs.Numbers.{number, IsIn}
-use Rattle.transport.specs.Searches.{near_of, is_taken, IsSlack}
+use Rattle.transport.specs.Searches.{label_of, is_taken, IsSlack}
 use Rattle.transport.specs.States.{IsLeastOf, IsLeastUpTo, IsLesser, IsTakenOrUnseen}
 use Rattle.transport.specs.declared.labels.Label.{Label}
 use Rattle.transport.specs.declared.labels.FreeEnd.{FreeEnd}
@@ -13,17 +13,17 @@ use Rattle.transport.proofs.Numbers.{not_both, in_push, in_last}
 
 -- no slack of the class is less
 abbrev IsAtLeast : List ℕ → List ℕ → Labels → TreeClasses → ℕ → ℕ → Type 0
-IsAtLeast values prices ns ts by g = (n : Label) → near_of ns g ≡ Some n → is_taken ts g ≡ false → by + number values n.row ≤ n.weight + number prices g
+IsAtLeast values prices ns ts by g = (n : Label) → label_of ns g ≡ Some n → is_taken ts g ≡ false → by + number values n.row ≤ n.weight + number prices g
 
 pub least_none : (values prices : List ℕ) (ns : Labels) (ts : TreeClasses) (xs nearest : List ℕ) → ns.free_end ≡ None → IsLeastUpTo values prices ns ts (take 0 xs) nearest None
-least_none values prices ns ts xs nearest none = record { free_end = none; noted = λ i n lt. absurd (omega arith) }
+least_none values prices ns ts xs nearest none = record { free_end = none; labelled = λ i n lt. absurd (omega arith) }
 
-pub least_exit : (values prices : List ℕ) (ns : Labels) (ts : TreeClasses) (xs nearest : List ℕ) (e : FreeEnd) (by : ℕ) → nearest ≡ [] → ns.free_end ≡ Some e → by + number values e.near.row ≡ e.near.weight + number prices e.class
+pub least_free_end : (values prices : List ℕ) (ns : Labels) (ts : TreeClasses) (xs nearest : List ℕ) (e : FreeEnd) (by : ℕ) → nearest ≡ [] → ns.free_end ≡ Some e → by + number values e.label.row ≡ e.label.weight + number prices e.class
     → IsLeastUpTo values prices ns ts (take 0 xs) nearest (Some by)
-least_exit values prices ns ts xs nearest e by empty is equal = record {
+least_free_end values prices ns ts xs nearest e by empty is equal = record {
   free_end = λ f its. (let same : f ≡ e = (let both : Some f ≡ Some e = sym its ∙ is in cc) in
-      subst (λ x. by + number values x.near.row ≤ x.near.weight + number prices x.class) (sym same) (omega (arith, equal)));
-  noted = λ i n lt. absurd (omega arith);
+      subst (λ x. by + number values x.label.row ≤ x.label.weight + number prices x.class) (sym same) (omega (arith, equal)));
+  labelled = λ i n lt. absurd (omega arith);
   each = λ i lt. absurd (omega (arith, lt, ap length empty));
   all = λ i lt. absurd (omega arith);
   attained = inl (record { free_end = e; its = is; equal = equal });
@@ -45,13 +45,13 @@ pub least_skip : (values prices : List ℕ) (ns : Labels) (ts : TreeClasses) (xs
     → IsLeastUpTo values prices ns ts (take i xs) nearest least → IsLeastUpTo values prices ns ts (take (i + 1) xs) nearest least
 least_skip values prices ns ts xs nearest i x None lt is skip h = record {
   free_end = h.free_end;
-  noted = λ j n within. at_next (IsTakenOrUnseen ns ts) xs i x lt is (λ k w m. h.noted k m w) skip j within n;
+  labelled = λ j n within. at_next (IsTakenOrUnseen ns ts) xs i x lt is (λ k w m. h.labelled k m w) skip j within n;
 }
 least_skip values prices ns ts xs nearest i x (Some by) lt is skip h = record {
   free_end = h.free_end;
-  noted = λ j n within. at_next (IsAtLeast values prices ns ts by) xs i x lt is (λ k w m. h.noted k m w) (λ m its off. absurd (not_both _ (skip m its) off)) j within n;
+  labelled = λ j n within. at_next (IsAtLeast values prices ns ts by) xs i x lt is (λ k w m. h.labelled k m w) (λ m its off. absurd (not_both _ (skip m its) off)) j within n;
   each = h.each;
-  all = at_next (λ g. IsSlack values prices ns ts g by → IsIn nearest g) xs i x lt is h.all (λ s. absurd (not_both _ (skip s.near s.its) s.left));
+  all = at_next (λ g. IsSlack values prices ns ts g by → IsIn nearest g) xs i x lt is h.all (λ s. absurd (not_both _ (skip s.label s.its) s.left));
   attained = h.attained;
 }
 
@@ -59,20 +59,20 @@ least_skip values prices ns ts xs nearest i x (Some by) lt is skip h = record {
 module _ (values prices : List ℕ) (ns : Labels) (ts : TreeClasses) (xs old new : List ℕ) (i x slack by : ℕ) (lt : i < length xs) (is : x ≡ number xs i) (s : IsSlack values prices ns ts x slack) where
   here : (b : ℕ) → b ≤ slack → IsAtLeast values prices ns ts b x
   here b within m its off =
-      let same : s.near ≡ m = (let both : Some s.near ≡ Some m = sym s.its ∙ its in cc) in
+      let same : s.label ≡ m = (let both : Some s.label ≡ Some m = sym s.its ∙ its in cc) in
       let e : slack + number values m.row ≡ m.weight + number prices x = subst (λ y. slack + number values y.row ≡ y.weight + number prices x) same s.equal in
       omega (arith, e, within)
 
   own : by ≡ slack → IsSlack values prices ns ts x by
-  own e = record { near = s.near; its = s.its; left = s.left; equal = omega (arith, s.equal, e) }
+  own e = record { label = s.label; its = s.its; left = s.left; equal = omega (arith, s.equal, e) }
 
   apart : (b g : ℕ) → by < b → IsAtLeast values prices ns ts b g → IsSlack values prices ns ts g by → ⊥
-  apart b g less no_less at = let le = no_less at.near at.its at.left in omega (arith, less, le, at.equal)
+  apart b g less no_less at = let le = no_less at.label at.its at.left in omega (arith, less, le, at.equal)
 
   least_still : by < slack → IsLeastOf values prices ns ts (take i xs) old by → IsLeastOf values prices ns ts (take (i + 1) xs) old by
   least_still less h = record {
     free_end = h.free_end;
-    noted = λ j n w. at_next (IsAtLeast values prices ns ts by) xs i x lt is (λ k v m. h.noted k m v) (here by (omega (arith, less))) j w n;
+    labelled = λ j n w. at_next (IsAtLeast values prices ns ts by) xs i x lt is (λ k v m. h.labelled k m v) (here by (omega (arith, less))) j w n;
     each = h.each;
     all = at_next (λ g. IsSlack values prices ns ts g by → IsIn old g) xs i x lt is h.all (λ at. absurd (apart slack x less (here slack (omega arith)) at));
     attained = h.attained;
@@ -81,7 +81,7 @@ module _ (values prices : List ℕ) (ns : Labels) (ts : TreeClasses) (xs old new
   least_shared : by ≡ slack → IsLeastOf values prices ns ts (take i xs) old by → IsLeastOf values prices ns ts (take (i + 1) xs) (old ++ x ∷ []) by
   least_shared e h = record {
     free_end = h.free_end;
-    noted = λ j n w. at_next (IsAtLeast values prices ns ts by) xs i x lt is (λ k v m. h.noted k m v) (here by (omega (arith, e))) j w n;
+    labelled = λ j n w. at_next (IsAtLeast values prices ns ts by) xs i x lt is (λ k v m. h.labelled k m v) (here by (omega (arith, e))) j w n;
     each = each;
     all = at_next (λ g. IsSlack values prices ns ts g by → IsIn (old ++ x ∷ []) g) xs i x lt is (λ k v at. in_push old x _ (h.all k v at)) (λ at. in_last old x);
     attained = inr (omega (arith, length_push old x));
@@ -93,21 +93,21 @@ module _ (values prices : List ℕ) (ns : Labels) (ts : TreeClasses) (xs old new
         | inr after ↦ rw (get_or_push old x 0 j (omega (arith, w, after, length_push old x))) (own e)
       ]
 
-  less_exit : (least : Option ℕ) → ((b : ℕ) → least ≡ Some b → by < b) → IsLeastUpTo values prices ns ts (take i xs) old least
-      → (e : FreeEnd) → ns.free_end ≡ Some e → by + number values e.near.row ≤ e.near.weight + number prices e.class
-  less_exit None less h e its = let no : Some e ≡ None = sym its ∙ h.free_end in cc
-  less_exit (Some b) less h e its = omega (arith, less b refl, h.free_end e its)
+  less_free_end : (least : Option ℕ) → ((b : ℕ) → least ≡ Some b → by < b) → IsLeastUpTo values prices ns ts (take i xs) old least
+      → (e : FreeEnd) → ns.free_end ≡ Some e → by + number values e.label.row ≤ e.label.weight + number prices e.class
+  less_free_end None less h e its = let no : Some e ≡ None = sym its ∙ h.free_end in cc
+  less_free_end (Some b) less h e its = omega (arith, less b refl, h.free_end e its)
 
   less_before : (least : Option ℕ) → ((b : ℕ) → least ≡ Some b → by < b) → IsLeastUpTo values prices ns ts (take i xs) old least
       → (j : ℕ) → j < length (take i xs) → IsAtLeast values prices ns ts (by + 1) (number (take i xs) j)
-  less_before None less h j w m its off = absurd (not_both _ (h.noted j m w its) off)
-  less_before (Some b) less h j w m its off = omega (arith, less b refl, h.noted j m w its off)
+  less_before None less h j w m its off = absurd (not_both _ (h.labelled j m w its) off)
+  less_before (Some b) less h j w m its off = omega (arith, less b refl, h.labelled j m w its off)
 
   least_less : (least : Option ℕ) → ((b : ℕ) → least ≡ Some b → by < b) → by ≡ slack → IsLeastUpTo values prices ns ts (take i xs) old least
       → IsLeastOf values prices ns ts (take (i + 1) xs) (x ∷ []) by
   least_less least less e h = record {
-    free_end = less_exit least less h;
-    noted = λ j n w. at_next (IsAtLeast values prices ns ts by) xs i x lt is (λ k v m its off. (let le = less_before least less h k v m its off in omega (arith, le))) (here by (omega (arith, e))) j w n;
+    free_end = less_free_end least less h;
+    labelled = λ j n w. at_next (IsAtLeast values prices ns ts by) xs i x lt is (λ k v m its off. (let le = less_before least less h k v m its off in omega (arith, le))) (here by (omega (arith, e))) j w n;
     each = each;
     all = at_next (λ g. IsSlack values prices ns ts g by → IsIn (x ∷ []) g) xs i x lt is (λ k v at. absurd (apart (by + 1) _ (omega arith) (less_before least less h k v) at)) (λ at. in_last [] x);
     attained = inr (omega arith);

@@ -1,7 +1,7 @@
-pub mod Bidding
+pub mod OrdersLemmas
 pub mod Cells
 pub mod Clearing
-pub mod Filling
+pub mod Assigning
 pub mod HandingOut
 pub mod LeastSlack
 pub mod SortedArcsLemmas
@@ -9,7 +9,7 @@ pub mod Indexing
 pub mod Scanning
 pub mod Labelling
 pub mod Numbers
-pub mod Pushing
+pub mod Augmentation
 pub mod ReachedRowsLemmas
 pub mod Rising
 pub mod Running
@@ -19,7 +19,7 @@ pub mod Steps
 pub mod Striking
 pub mod Sums
 pub mod Taking
-pub mod Ways
+pub mod Paths
 pub mod Settling
 pub mod Members
 pub mod Classes

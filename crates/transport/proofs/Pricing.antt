@@ -23,7 +23,7 @@ use Rattle.twins.specs.IsPriced.{IsPriced, class_prices, ClassesProvePlans}
 use Rattle.twins.specs.declared.holders.Share.{Share}
 use Rattle.transport.specs.Numbers.{number}
 use Rattle.transport.specs.Totals.{total}
-use Rattle.transport.specs.Filled.{demand_of, IsDone}
+use Rattle.transport.specs.Outcomes.{demand_of, IsDone}
 use Rattle.transport.specs.Representatives.{first_of}
 use Rattle.transport.specs.Searches.{most}
 use Rattle.transport.specs.Solved.{IsSolvedPlan}
@@ -112,8 +112,8 @@ module _
   rows_at holdings n same count =
       subst (λ xs. All (All (λ (t : Share). t.row < n)) xs) (sym same) (subst (λ m. All (All (λ (t : Share). t.row < m)) s.holdings.items) count rows_in)
 
-  pub room_at : (holdings : List (List Share)) → holdings ≡ s.holdings.items → (g : ℕ) → held_of holdings g ≤ set.len (class_at classes g)
-  room_at holdings same g = subst (λ xs. held_of xs g ≤ set.len (class_at classes g)) (sym same) (bottleneck g)
+  pub bottleneck_at : (holdings : List (List Share)) → holdings ≡ s.holdings.items → (g : ℕ) → held_of holdings g ≤ set.len (class_at classes g)
+  bottleneck_at holdings same g = subst (λ xs. held_of xs g ≤ set.len (class_at classes g)) (sym same) (bottleneck g)
 
   proved_plan :
       (sets : List Ids) → IsTrue (rows_fit rows) → IsDeal classes s.holdings.items sets → length sets ≡ length rows → ClassesProvePlans

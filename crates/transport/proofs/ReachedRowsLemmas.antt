@@ -37,14 +37,14 @@ module _ (rows : ℕ) (old new : ReachedRows) (k g amount : ℕ) (q : IsReachedR
   here : is_reached new k ≡ true
   here = rw r.reached (get_or-set_same old.reached.items k true false (omega (arith, q.reached_long)))
 
-  place_here : index new k ≡ length old.order.items
-  place_here = rw r.places (get_or-set_same old.index.items k _ 0 (omega (arith, q.place_long)))
+  index_here : index new k ≡ length old.order.items
+  index_here = rw r.indices (get_or-set_same old.index.items k _ 0 (omega (arith, q.index_long)))
 
   other : (j : ℕ) → is_reached old j ≡ true → j ≡ k → ⊥
   other j on e = not_both (is_reached old k) (subst (λ n. is_reached old n ≡ true) e on) off
 
-  place_other : (j : ℕ) → (j ≡ k → ⊥) → index new j ≡ index old j
-  place_other j ne = rw r.places (get_or-set_other old.index.items k j _ 0 ne)
+  index_other : (j : ℕ) → (j ≡ k → ⊥) → index new j ≡ index old j
+  index_other j ne = rw r.indices (get_or-set_other old.index.items k j _ 0 ne)
 
   row_before : (i : ℕ) → i < length old.order.items → row_at new i ≡ row_at old i
   row_before i h = rw r.order (get_or_append_left old.order.items (k ∷ []) 0 i h)
@@ -69,31 +69,31 @@ module _ (rows : ℕ) (old new : ReachedRows) (k g amount : ℕ) (q : IsReachedR
 
   at_new : (i : ℕ) → i < length new.order.items → index new (row_at new i) ≡ i
   at_new i h = elim (cases_lt i (length old.order.items)) [
-    | inl before ↦ rw (row_before i before) (place_other _ (other _ (q.on i before)) ∙ q.at i before)
+    | inl before ↦ rw (row_before i before) (index_other _ (other _ (q.on i before)) ∙ q.at i before)
     | inr after ↦ at_last i (omega (arith, long))
   ]
     where
       at_last : (i : ℕ) → i ≡ length old.order.items → index new (row_at new i) ≡ i
-      at_last i e = rw (e, row_last) place_here
+      at_last i e = rw (e, row_last) index_here
 
   within_new : (j : ℕ) → is_reached new j ≡ true → index new j < length new.order.items
   within_new j on = elim (split j on) [
-    | inl e ↦ rw e (omega (arith, place_here, long))
-    | inr before ↦ omega (arith, place_other j (other j before), q.within j before, long)
+    | inl e ↦ rw e (omega (arith, index_here, long))
+    | inr before ↦ omega (arith, index_other j (other j before), q.within j before, long)
   ]
 
   placed_new : (j : ℕ) → is_reached new j ≡ true → row_at new (index new j) ≡ j
   placed_new j on = elim (split j on) [
-    | inl e ↦ rw (e, place_here) row_last
-    | inr before ↦ rw (place_other j (other j before)) (row_before _ (q.within j before) ∙ q.placed j before)
+    | inl e ↦ rw (e, index_here) row_last
+    | inr before ↦ rw (index_other j (other j before)) (row_before _ (q.within j before) ∙ q.placed j before)
   ]
 
-  pub queue_reached : IsReachedRows rows new
-  queue_reached = record {
+  pub reached_reached : IsReachedRows rows new
+  reached_reached = record {
     reached_long = ap length r.reached ∙ length-set _ _ _ ∙ q.reached_long;
-    via_long = ap length r.by ∙ length-set _ _ _ ∙ q.via_long;
-    room_long = ap length r.rooms ∙ length-set _ _ _ ∙ q.room_long;
-    place_long = ap length r.places ∙ length-set _ _ _ ∙ q.place_long;
+    parent_class_long = ap length r.by ∙ length-set _ _ _ ∙ q.parent_class_long;
+    bottleneck_long = ap length r.bottlenecks ∙ length-set _ _ _ ∙ q.bottleneck_long;
+    index_long = ap length r.indices ∙ length-set _ _ _ ∙ q.index_long;
     on = on_new;
     at = at_new;
     within = within_new;
@@ -105,24 +105,24 @@ module _ (rows : ℕ) (old new : ReachedRows) (k g amount : ℕ) (q : IsReachedR
   kept_reached j on = record {
     reached = stays j on;
     by = rw r.by (get_or-set_other old.parent_class.items k j g 0 (other j on));
-    rooms = rw r.rooms (get_or-set_other old.bottleneck.items k j amount 0 (other j on));
-    places = place_other j (other j on);
+    bottlenecks = rw r.bottlenecks (get_or-set_other old.bottleneck.items k j amount 0 (other j on));
+    indices = index_other j (other j on);
   }
 
   pub fresh_reached : (most : ℕ) (shares : List Share) → 0 < amount → amount ≡ min most (share_of k shares) → IsNewRow old new g most shares k
   fresh_reached most shares some is =
-      let e : bottleneck new k ≡ amount = rw r.rooms (get_or-set_same old.bottleneck.items k amount 0 (omega (arith, q.room_long))) in
+      let e : bottleneck new k ≡ amount = rw r.bottlenecks (get_or-set_same old.bottleneck.items k amount 0 (omega (arith, q.bottleneck_long))) in
       record {
-        by = rw r.by (get_or-set_same old.parent_class.items k g 0 (omega (arith, q.via_long)));
-        some_room = omega (arith, e);
-        rooms = e ∙ is;
-        later = omega (arith, place_here);
+        by = rw r.by (get_or-set_same old.parent_class.items k g 0 (omega (arith, q.parent_class_long)));
+        some_bottleneck = omega (arith, e);
+        bottlenecks = e ∙ is;
+        later = omega (arith, index_here);
       }
 
 -- the loop over a class's shares
 pub grown_none : (q : ReachedRows) (g most : ℕ) (shares : List Share) → IsGrown q q g most (take 0 shares) shares
 grown_none q g most shares = record {
-  kept = λ k on. record { reached = on; by = refl; rooms = refl; places = refl };
+  kept = λ k on. record { reached = on; by = refl; bottlenecks = refl; indices = refl };
   fresh = λ k off on. absurd (not_both _ on off);
   longer = omega arith;
   held = λ k some. absurd (omega arith);
@@ -178,7 +178,7 @@ grown_reach rows old q new g most amount shares i s d reached_rows h lt is in_ro
   kept = λ k on.
       let before = h.kept k on in
       let now = kept_reached rows q new s.row g amount reached_rows in_rows off r k before.reached in
-      record { reached = now.reached; by = now.by ∙ before.by; rooms = now.rooms ∙ before.rooms; places = now.places ∙ before.places };
+      record { reached = now.reached; by = now.by ∙ before.by; bottlenecks = now.bottlenecks ∙ before.bottlenecks; indices = now.indices ∙ before.indices };
   fresh = fresh;
   longer = omega (arith, h.longer, ap length r.order, length_push q.order.items s.row);
   held = held;
@@ -193,16 +193,16 @@ grown_reach rows old q new g most amount shares i s d reached_rows h lt is in_ro
     fresh_from : (k : ℕ) → IsNewRow old q g most shares k → IsKept q new k → IsNewRow old new g most shares k
     fresh_from k f kept = record {
       by = kept.by ∙ f.by;
-      some_room = omega (arith, f.some_room, kept.rooms);
-      rooms = kept.rooms ∙ f.rooms;
-      later = omega (arith, f.later, kept.places);
+      some_bottleneck = omega (arith, f.some_bottleneck, kept.bottlenecks);
+      bottlenecks = kept.bottlenecks ∙ f.bottlenecks;
+      later = omega (arith, f.later, kept.indices);
     }
 
     fresh_own : (k : ℕ) → k ≡ s.row → IsNewRow old new g most shares k
     fresh_own k e = subst (λ n. IsNewRow old new g most shares n) (sym e) (record {
       by = mine.by;
-      some_room = mine.some_room;
-      rooms = mine.rooms;
+      some_bottleneck = mine.some_bottleneck;
+      bottlenecks = mine.bottlenecks;
       later = omega (arith, mine.later, h.longer);
     })
 

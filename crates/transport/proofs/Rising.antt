@@ -22,23 +22,23 @@ module _ (ws : ℕ → ℕ → Option ℕ) (cells : ℕ → ℕ → ℕ) (values
   covered_at : (k g w : ℕ) → is_reached q k ≡ true → is_taken ts g ≡ false → ws k g ≡ Some w → IsCovered values prices ns k g w
   covered_at k g w on off its = all.covered k g w on (s.reached_rows.within k on) its off
 
-  exit_free : (e : FreeEnd) → ns.free_end ≡ Some e → number prices e.class ≡ 0
-  exit_free e is = s.dual.zero e.class (s.free_end e is).some_free
+  free_end_free : (e : FreeEnd) → ns.free_end ≡ Some e → number prices e.class ≡ 0
+  free_end_free e is = s.dual.zero e.class (s.free_end e is).some_free
 
-  room_by : (k g w : ℕ) → is_taken ts g ≡ false → IsCovered values prices ns k g w → number values k + by ≤ w + number prices g
-  room_by k g w off c = elim c [
-    | inl c ↦ omega (arith, c.least, least.noted g c.near c.its off)
-    | inr c ↦ omega (arith, c.least, least.free_end c.free_end c.its, exit_free c.free_end c.its)
+  slack_by : (k g w : ℕ) → is_taken ts g ≡ false → IsCovered values prices ns k g w → number values k + by ≤ w + number prices g
+  slack_by k g w off c = elim c [
+    | inl c ↦ omega (arith, c.least, least.labelled g c.label c.its off)
+    | inr c ↦ omega (arith, c.least, least.free_end c.free_end c.its, free_end_free c.free_end c.its)
   ]
 
-  pub room_to_rise : (k g w : ℕ) → is_reached q k ≡ true → is_taken ts g ≡ false → ws k g ≡ Some w → number values k + by ≤ w + number prices g
-  room_to_rise k g w on off its = room_by k g w off (covered_at k g w on off its)
+  pub slack_is_left : (k g w : ℕ) → is_reached q k ≡ true → is_taken ts g ≡ false → ws k g ≡ Some w → number values k + by ≤ w + number prices g
+  slack_is_left k g w on off its = slack_by k g w off (covered_at k g w on off its)
 
   below_new : (k g w : ℕ) → ws k g ≡ Some w → number new k ≤ w + number news g
   below_new k g w its = elim (cases_Bool (is_reached q k)) [
     | inl on ↦ elim (cases_Bool (is_taken ts g)) [
       | inl taken ↦ omega (arith, rv k on, rp g taken, s.dual.below k g w its)
-      | inr off ↦ omega (arith, rv k on, op g off, room_to_rise k g w on off its)
+      | inr off ↦ omega (arith, rv k on, op g off, slack_is_left k g w on off its)
     ]
     | inr not ↦ elim (cases_Bool (is_taken ts g)) [
       | inl taken ↦ omega (arith, ov k not, rp g taken, s.dual.below k g w its)
@@ -50,13 +50,13 @@ module _ (ws : ℕ → ℕ → Option ℕ) (cells : ℕ → ℕ → ℕ) (values
   tight_at k g some t = elim (cases_Bool (is_taken ts g)) [
     | inl taken ↦ omega (arith, rv k (s.holders k g taken some), rp g taken, t.equal)
     | inr off ↦ elim (cases_Bool (is_reached q k)) [
-      | inl on ↦ omega (arith, rv k on, op g off, t.equal, room_to_rise k g t.weight on off t.its)
+      | inl on ↦ omega (arith, rv k on, op g off, t.equal, slack_is_left k g t.weight on off t.its)
       | inr not ↦ omega (arith, ov k not, op g off, t.equal)
     ]
   ]
 
   full : (g : ℕ) → is_taken ts g ≡ true → number residual g ≡ 0
-  full g taken = let l = s.linked g taken in (s.noted g l.near l.its).full
+  full g taken = let l = s.linked g taken in (s.labelled g l.label l.its).full
 
   zero_new : (g : ℕ) → 0 < number residual g → number news g ≡ 0
   zero_new g some = elim (cases_Bool (is_taken ts g)) [
@@ -70,7 +70,7 @@ module _ (ws : ℕ → ℕ → Option ℕ) (cells : ℕ → ℕ → ℕ) (values
   linked_new : (g : ℕ) → is_taken ts g ≡ true → IsLinked new news ns g
   linked_new g taken =
       let l = s.linked g taken in
-      record { near = l.near; its = l.its; equal = omega (arith, rv l.near.row (s.noted g l.near l.its).there, rp g taken, l.equal) }
+      record { label = l.label; its = l.its; equal = omega (arith, rv l.label.row (s.labelled g l.label l.its).there, rp g taken, l.equal) }
 
   close_new : (k : ℕ) → is_reached q k ≡ true → IsClose new q k
   close_new k on =
@@ -85,14 +85,14 @@ module _ (ws : ℕ → ℕ → Option ℕ) (cells : ℕ → ℕ → ℕ) (values
   module _ (at : IsAttained values prices ns ts by) where
     low_row : (k : ℕ) → is_reached q k ≡ true → number values k + by ≤ weight_limit + most + most
     low_row k on = elim at [
-      | inl e ↦ near_low e.free_end.near.row (s.free_end e.free_end e.its).there
-          (omega (arith, e.equal, exit_free e.free_end e.its, fit.low _ _ _ (s.free_end e.free_end e.its).weighs))
-      | inr c ↦ near_low c.1.near.row (s.noted c.0 c.1.near c.1.its).there
-          (omega (arith, c.1.equal, s.prices_low c.0 c.1.left, fit.low _ _ _ (s.noted c.0 c.1.near c.1.its).weighs))
+      | inl e ↦ label_low e.free_end.label.row (s.free_end e.free_end e.its).there
+          (omega (arith, e.equal, free_end_free e.free_end e.its, fit.low _ _ _ (s.free_end e.free_end e.its).weighs))
+      | inr c ↦ label_low c.1.label.row (s.labelled c.0 c.1.label c.1.its).there
+          (omega (arith, c.1.equal, s.prices_low c.0 c.1.left, fit.low _ _ _ (s.labelled c.0 c.1.label c.1.its).weighs))
     ]
       where
-        near_low : (j : ℕ) → is_reached q j ≡ true → by + number values j ≤ weight_limit + most → number values k + by ≤ weight_limit + most + most
-        near_low j there low =
+        label_low : (j : ℕ) → is_reached q j ≡ true → by + number values j ≤ weight_limit + most → number values k + by ≤ weight_limit + most + most
+        label_low j there low =
             let a = s.close k on in
             let b = s.close j there in
             omega (arith, a.up, b.down, few k on, few j there, low)
@@ -105,7 +105,7 @@ module _ (ws : ℕ → ℕ → Option ℕ) (cells : ℕ → ℕ → ℕ) (values
 
     prices_fit_new : (g : ℕ) → number news g ≤ top
     prices_fit_new g = elim (cases_Bool (is_taken ts g)) [
-      | inl taken ↦ (let l = linked_new g taken in omega (arith, l.equal, values_fit_new l.near.row))
+      | inl taken ↦ (let l = linked_new g taken in omega (arith, l.equal, values_fit_new l.label.row))
       | inr off ↦ omega (arith, op g off, s.prices_low g off)
     ]
 
@@ -114,8 +114,8 @@ module _ (ws : ℕ → ℕ → Option ℕ) (cells : ℕ → ℕ → ℕ) (values
       reached_rows = subst (λ n. IsReachedRows n q) (sym long) s.reached_rows;
       listing = s.listing;
       taken_long = s.taken_long ∙ sym longs;
-      nears_long = s.nears_long ∙ sym longs;
-      free_long = s.free_long ∙ sym longs;
+      labels_long = s.labels_long ∙ sym longs;
+      residual_long = s.residual_long ∙ sym longs;
       dual = record {
         below = below_new;
         tight = λ k g some. (let t = s.dual.tight k g some in record { weight = t.weight; its = t.its; equal = tight_at k g some t });
@@ -123,10 +123,10 @@ module _ (ws : ℕ → ℕ → Option ℕ) (cells : ℕ → ℕ → ℕ) (values
       };
       rooted = s.rooted;
       entries = s.entries;
-      rooms = s.rooms;
-      noted = s.noted;
+      bottlenecks = s.bottlenecks;
+      labelled = s.labelled;
       listed = s.listed;
-      noted_in = λ i lt. omega (arith, s.noted_in i lt, longs);
+      labelled_in = λ i lt. omega (arith, s.labelled_in i lt, longs);
       linked = linked_new;
       holders = s.holders;
       free_end = s.free_end;
@@ -139,8 +139,8 @@ module _ (ws : ℕ → ℕ → Option ℕ) (cells : ℕ → ℕ → ℕ) (values
 
   covered_new : (k g w : ℕ) → is_reached q k ≡ true → is_taken ts g ≡ false → IsCovered values prices ns k g w → IsCovered new news ns k g w
   covered_new k g w on off c = elim c [
-    | inl c ↦ inl (record { near = c.near; its = c.its; least = omega (arith, c.least, rv k on, rv c.near.row (s.noted g c.near c.its).there) })
-    | inr c ↦ inr (record { free_end = c.free_end; its = c.its; least = omega (arith, c.least, rv k on, op g off, rv c.free_end.near.row (s.free_end c.free_end c.its).there) })
+    | inl c ↦ inl (record { label = c.label; its = c.its; least = omega (arith, c.least, rv k on, rv c.label.row (s.labelled g c.label c.its).there) })
+    | inr c ↦ inr (record { free_end = c.free_end; its = c.its; least = omega (arith, c.least, rv k on, op g off, rv c.free_end.label.row (s.free_end c.free_end c.its).there) })
   ]
 
   pub covered_raised : AllCovered ws new news q ns ts (length q.order.items)

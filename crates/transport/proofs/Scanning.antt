@@ -9,7 +9,7 @@ use Rattle.transport.specs.Numbers.{number}
 use Rattle.transport.specs.ReachedRows.{is_reached, index, row_at}
 use Rattle.transport.specs.Searches.{is_taken, IsCovered}
 use Rattle.transport.specs.States.{IsRunning, HasScanned}
-use Rattle.transport.specs.Scans.{IsPast, IsLimit, CanLimit, IsBetter, HasLabelled, CanNoteArcs, IsSeen, IsFreeEndLabelled, arc_at}
+use Rattle.transport.specs.Scans.{IsPast, IsLimit, CanLimit, IsBetter, HasLabelled, CanLabelArcs, IsSeen, IsFreeEndLabelled, arc_at}
 use Rattle.transport.specs.SortedArcs.{weight_of, IsArc, IsSortedArcs, IsScanned, IsFoundFreeEnd}
 use Rattle.twins.specs.Kinds.{offers_of, kind_at, IsKindOf}
 use Rattle.transport.specs.Weights.{weights, AreSortedArcs}
@@ -20,7 +20,7 @@ use Rattle.transport.specs.declared.tree.SearchTree.{SearchTree}
 use Rattle.transport.specs.declared.arcs.Arc.{Arc}
 use Rattle.transport.specs.declared.arcs.SortedArcs.{SortedArcs}
 use Rattle.transport.proofs.ReachedRowsLemmas.{marked_below}
-use Rattle.transport.proofs.Labelling.{better_more, better_exit, covered_past, looked_better, past_rise}
+use Rattle.transport.proofs.Labelling.{better_more, better_free_end, covered_past, scanned_better, past_rise}
 
 row_below : (ws : ℕ → ℕ → Option ℕ) (s : Assignment) (t : SearchTree) (k : ℕ) → IsRunning ws s t → is_reached t.reached_rows k ≡ true → k < length s.values.items
 row_below ws s t k h on = omega (arith, marked_below t.reached_rows.reached.items k on, h.search.reached_rows.reached_long)
@@ -29,9 +29,9 @@ pub can_limit : (ws : ℕ → ℕ → Option ℕ) (s : Assignment) (t : SearchTr
 can_limit ws s t k h on = record {
   row = row_below ws s t k h on;
   fits = h.search.values_fit k;
-  exit_row = λ e is. row_below ws s t e.near.row h (h.search.free_end e is).there;
-  above = λ e is. (let x = h.search.free_end e is in omega (arith, h.search.dual.below e.near.row e.class e.near.weight x.weighs, h.search.dual.zero e.class x.some_free));
-  light = λ e is. h.fit.low e.near.row e.class e.near.weight (h.search.free_end e is).weighs;
+  free_end_row = λ e is. row_below ws s t e.label.row h (h.search.free_end e is).there;
+  above = λ e is. (let x = h.search.free_end e is in omega (arith, h.search.dual.below e.label.row e.class e.label.weight x.weighs, h.search.dual.zero e.class x.some_free));
+  light = λ e is. h.fit.low e.label.row e.class e.label.weight (h.search.free_end e is).weighs;
 }
 
 limit_once : (values : List ℕ) (k : ℕ) (e : Option FreeEnd) (a b : Option ℕ) → IsLimit values k e a → IsLimit values k e b → a ≡ b
@@ -42,31 +42,31 @@ limit_once values k (Some e) None b x y = absurd x
 limit_once values k (Some e) (Some a) None x y = absurd y
 limit_once values k (Some e) (Some a) (Some b) x y = let same : a ≡ b = omega (arith, x, y) in ap Some same
 
-below_limit : (values : List ℕ) (k w : ℕ) (o : FreeEnd) (limit : Option ℕ) → IsLimit values k (Some o) limit → (IsPast limit w → ⊥) → w + number values o.near.row ≤ o.near.weight + number values k
-below_limit values k w o None l near = absurd l
-below_limit values k w o (Some x) l near = elim (cases_lt w x) [ inl lt ↦ omega (arith, l, lt) | inr le ↦ absurd (near le) ]
+below_limit : (values : List ℕ) (k w : ℕ) (o : FreeEnd) (limit : Option ℕ) → IsLimit values k (Some o) limit → (IsPast limit w → ⊥) → w + number values o.label.row ≤ o.label.weight + number values k
+below_limit values k w o None l below = absurd l
+below_limit values k w o (Some x) l below = elim (cases_lt w x) [ inl lt ↦ omega (arith, l, lt) | inr le ↦ absurd (below le) ]
 
--- what is known once the free end is noted
+-- what is known once the free end is labelled
 module _ (ws : ℕ → ℕ → Option ℕ) (s : Assignment) (t new : SearchTree) (k : ℕ) (l : SortedArcs) (limit : Option ℕ) (h : IsRunning ws s t) (on : is_reached t.reached_rows k ≡ true)
     (at : IsLimit s.values.items k t.labels.free_end limit) (reached_rows : new.reached_rows ≡ t.reached_rows) (tree_classes : new.tree_classes ≡ t.tree_classes) where
-  pub exit_better : (found : Option Arc) → IsFoundFreeEnd (ws k) s.residual.items limit l found → IsFreeEndLabelled t.labels new.labels k found → IsBetter ws s t new
-  exit_better None f x = record {
+  pub free_end_better : (found : Option Arc) → IsFoundFreeEnd (ws k) s.residual.items limit l found → IsFreeEndLabelled t.labels new.labels k found → IsBetter ws s t new
+  free_end_better None f x = record {
     running = record { fit = h.fit; search = rw (reached_rows, x, tree_classes) h.search; holdings = h.holdings };
     covers = λ j g w c. subst (λ n. IsCovered s.values.items s.prices.items n j g w) (sym x) c;
     reached_rows = reached_rows;
     tree_classes = tree_classes;
   }
-  exit_better (Some arc) f x = better_exit ws s t new _ h reached_rows tree_classes x.of_class x.noted x.free_end on f.weighs f.some_free nearer
+  free_end_better (Some arc) f x = better_free_end ws s t new _ h reached_rows tree_classes x.of_class x.labelled x.free_end on f.weighs f.some_free nearer
     where
-      nearer : (o : FreeEnd) → t.labels.free_end ≡ Some o → arc.weight + number s.values.items o.near.row ≤ o.near.weight + number s.values.items k
-      nearer o is = below_limit s.values.items k arc.weight o limit (subst (λ e. IsLimit s.values.items k e limit) is at) f.near
+      nearer : (o : FreeEnd) → t.labels.free_end ≡ Some o → arc.weight + number s.values.items o.label.row ≤ o.label.weight + number s.values.items k
+      nearer o is = below_limit s.values.items k arc.weight o limit (subst (λ e. IsLimit s.values.items k e limit) is at) f.below_limit
 
-  pub exit_scanned : (found : Option Arc) → IsFoundFreeEnd (ws k) s.residual.items limit l found → IsFreeEndLabelled t.labels new.labels k found → (limit' : Option ℕ) → IsLimit s.values.items k new.labels.free_end limit' → IsScanned (ws k) l limit'
-  exit_scanned None f x limit' at' =
+  pub free_end_scanned : (found : Option Arc) → IsFoundFreeEnd (ws k) s.residual.items limit l found → IsFreeEndLabelled t.labels new.labels k found → (limit' : Option ℕ) → IsLimit s.values.items k new.labels.free_end limit' → IsScanned (ws k) l limit'
+  free_end_scanned None f x limit' at' =
       let old : IsLimit s.values.items k t.labels.free_end limit' = subst (λ n. IsLimit s.values.items k n.free_end limit') x at' in
       subst (IsScanned (ws k) l) (limit_once s.values.items k t.labels.free_end limit limit' at old) f
-  exit_scanned (Some arc) f x None at' = absurd (subst (λ e. IsLimit s.values.items k e None) x.free_end at')
-  exit_scanned (Some arc) f x (Some y) at' =
+  free_end_scanned (Some arc) f x None at' = absurd (subst (λ e. IsLimit s.values.items k e None) x.free_end at')
+  free_end_scanned (Some arc) f x (Some y) at' =
       let now : y + number s.values.items k ≡ arc.weight + number s.values.items k = subst (λ e. IsLimit s.values.items k e (Some y)) x.free_end at' in
       let same : arc.weight ≡ y = omega (arith, now) in
       subst (λ z. IsScanned (ws k) l (Some z)) same f.scanned
@@ -77,11 +77,11 @@ reached_still ws s old new k b on = subst (λ q. is_reached q k ≡ true) (sym b
 
 -- the arcs before the cursor
 pub arcs_can : (ws : ℕ → ℕ → Option ℕ) (s : Assignment) (t : SearchTree) (k : ℕ) (offers : List Offer) (firsts : List ℕ) (l : SortedArcs) → IsRunning ws s t → is_reached t.reached_rows k ≡ true → IsSortedArcs (ws k) offers firsts s.residual.items l
-    → CanNoteArcs ws s t k l.arcs.items l.cursor
-arcs_can ws s t k offers firsts l h on line = record {
+    → CanLabelArcs ws s t k l.arcs.items l.cursor
+arcs_can ws s t k offers firsts l h on sorted_arcs = record {
   running = h;
   there = on;
-  full = record { weighs = λ i lt. line.arcs.sound i (omega (arith, lt, line.cursor_in)); full = line.full };
+  full = record { weighs = λ i lt. sorted_arcs.arcs.sound i (omega (arith, lt, sorted_arcs.cursor_in)); full = sorted_arcs.full };
 }
 
 pub seen : (ws : ℕ → ℕ → Option ℕ) (s : Assignment) (t mid new : SearchTree) (k : ℕ) (l : SortedArcs) (limit : Option ℕ) → IsBetter ws s t mid → IsScanned (ws k) l limit → IsLimit s.values.items k mid.labels.free_end limit
@@ -101,10 +101,10 @@ seen ws s t mid new k l limit b scanned at n = record {
         (n.each a.index a.within (subst (λ x. is_taken new.tree_classes x ≡ false) (sym a.class) off)))
 
 -- one row more was scanned
-pub looked_more : (ws : ℕ → ℕ → Option ℕ) (s : Assignment) (t new : SearchTree) (k at : ℕ) → IsRunning ws s t → row_at t.reached_rows at ≡ k → IsSeen ws s k t new → HasScanned ws s t at → HasScanned ws s new (at + 1)
-looked_more ws s t new k at h is v all = record {
+pub scanned_more : (ws : ℕ → ℕ → Option ℕ) (s : Assignment) (t new : SearchTree) (k at : ℕ) → IsRunning ws s t → row_at t.reached_rows at ≡ k → IsSeen ws s k t new → HasScanned ws s t at → HasScanned ws s new (at + 1)
+scanned_more ws s t new k at h is v all = record {
   covered = λ j g w on here its off. elim (cases_lt (index new.reached_rows j) at) [
-    | inl before ↦ (looked_better ws s t new at v.better all).covered j g w on before its off
+    | inl before ↦ (scanned_better ws s t new at v.better all).covered j g w on before its off
     | inr after ↦ at_end j g w on (omega (arith, here, after)) its off
   ];
 }
@@ -119,11 +119,11 @@ looked_more ws s t new k at h is v all = record {
 pub offers_read : (rows : List RowView) (k : ℕ) (r : RowView) → k < length rows → r ≡ get_or rows k r → r.offers ≡ offers_of rows k
 offers_read rows k r lt is = ap (λ (x : RowView). x.offers) is ∙ sym (get_or-map (λ (x : RowView). x.offers) rows k r [] lt)
 
-pub line_as : (ws : ℕ → Option ℕ) (a b : List Offer) (f g u v : List ℕ) (l : SortedArcs) → a ≡ b → f ≡ g → u ≡ v → IsSortedArcs ws b g v l → IsSortedArcs ws a f u l
-line_as ws a b f g u v l x y z h = rw (x, y, z) h
+pub sorted_as : (ws : ℕ → Option ℕ) (a b : List Offer) (f g u v : List ℕ) (l : SortedArcs) → a ≡ b → f ≡ g → u ≡ v → IsSortedArcs ws b g v l → IsSortedArcs ws a f u l
+sorted_as ws a b f g u v l x y z h = rw (x, y, z) h
 
-pub line_back : (ws : ℕ → Option ℕ) (a b : List Offer) (f g u v : List ℕ) (l : SortedArcs) → a ≡ b → f ≡ g → u ≡ v → IsSortedArcs ws a f u l → IsSortedArcs ws b g v l
-line_back ws a b f g u v l x y z h = rw (← x, ← y, ← z) h
+pub sorted_back : (ws : ℕ → Option ℕ) (a b : List Offer) (f g u v : List ℕ) (l : SortedArcs) → a ≡ b → f ≡ g → u ≡ v → IsSortedArcs ws a f u l → IsSortedArcs ws b g v l
+sorted_back ws a b f g u v l x y z h = rw (← x, ← y, ← z) h
 
 pub row_in : (ws : ℕ → ℕ → Option ℕ) (s : Assignment) (t : SearchTree) (k : ℕ) → IsRunning ws s t → is_reached t.reached_rows k ≡ true → k < length s.values.items
 row_in ws s t k h on = row_below ws s t k h on
@@ -135,22 +135,22 @@ row_read ws s t at k h lt is =
     (e, subst (λ x. is_reached t.reached_rows x ≡ true) e (h.search.reached_rows.on at lt))
 
 -- the sorted arcs that a row shares with its kind
-pub arcs_of_kind : (t : Instance) (residual : List ℕ) (lines : List SortedArcs) (k : ℕ) (d : SortedArcs) → AreSortedArcs t residual lines → k < length lines
-    → IsSortedArcs (weights t k) (offers_of t.rows.now k) t.firsts residual (get_or lines (kind_at t.kinds.now k) d)
-arcs_of_kind t residual lines k d h lt =
+pub arcs_of_kind : (t : Instance) (residual : List ℕ) (arcs_by_kind : List SortedArcs) (k : ℕ) (d : SortedArcs) → AreSortedArcs t residual arcs_by_kind → k < length arcs_by_kind
+    → IsSortedArcs (weights t k) (offers_of t.rows.now k) t.firsts residual (get_or arcs_by_kind (kind_at t.kinds.now k) d)
+arcs_of_kind t residual arcs_by_kind k d h lt =
     let own = h.kinds.each k (omega (arith, lt, h.long)) in
-    subst (λ o. IsSortedArcs (weight_of o t.firsts) o t.firsts residual (get_or lines (kind_at t.kinds.now k) d)) own.same
-    (h.each (kind_at t.kinds.now k) (get_or lines (kind_at t.kinds.now k) d) (slice_get-get_or lines (kind_at t.kinds.now k) d (omega (arith, own.no_later, lt))) own.first)
+    subst (λ o. IsSortedArcs (weight_of o t.firsts) o t.firsts residual (get_or arcs_by_kind (kind_at t.kinds.now k) d)) own.same
+    (h.each (kind_at t.kinds.now k) (get_or arcs_by_kind (kind_at t.kinds.now k) d) (slice_get-get_or arcs_by_kind (kind_at t.kinds.now k) d (omega (arith, own.no_later, lt))) own.first)
 
-pub kind_in : (t : Instance) (residual : List ℕ) (lines : List SortedArcs) (k : ℕ) → AreSortedArcs t residual lines → k < length lines → kind_at t.kinds.now k < length lines
-kind_in t residual lines k h lt =
+pub kind_in : (t : Instance) (residual : List ℕ) (arcs_by_kind : List SortedArcs) (k : ℕ) → AreSortedArcs t residual arcs_by_kind → k < length arcs_by_kind → kind_at t.kinds.now k < length arcs_by_kind
+kind_in t residual arcs_by_kind k h lt =
     let own = h.kinds.each k (omega (arith, lt, h.long)) in
     omega (arith, own.no_later, lt)
 
-pub lines_set : (t : Instance) (residual : List ℕ) (lines : List SortedArcs) (k : ℕ) (l : SortedArcs) → AreSortedArcs t residual lines → k < length lines
-    → IsSortedArcs (weights t k) (offers_of t.rows.now k) t.firsts residual l → AreSortedArcs t residual (set lines (kind_at t.kinds.now k) l)
-lines_set t residual lines k l h lt own = record {
-  long = length-set lines kind l ∙ h.long;
+pub all_sorted_set : (t : Instance) (residual : List ℕ) (arcs_by_kind : List SortedArcs) (k : ℕ) (l : SortedArcs) → AreSortedArcs t residual arcs_by_kind → k < length arcs_by_kind
+    → IsSortedArcs (weights t k) (offers_of t.rows.now k) t.firsts residual l → AreSortedArcs t residual (set arcs_by_kind (kind_at t.kinds.now k) l)
+all_sorted_set t residual arcs_by_kind k l h lt own = record {
+  long = length-set arcs_by_kind kind l ∙ h.long;
   kinds = h.kinds;
   each = each;
 }
@@ -164,17 +164,17 @@ lines_set t residual lines k l h lt own = record {
     own_kind : IsSortedArcs (weights t kind) (offers_of t.rows.now kind) t.firsts residual l
     own_kind = subst (λ o. IsSortedArcs (weight_of o t.firsts) o t.firsts residual l) (sym its_kind.same) own
 
-    at_kind : (j : ℕ) (m : SortedArcs) → j ≡ kind → slice_get (set lines kind l) j ≡ Some m → IsSortedArcs (weights t j) (offers_of t.rows.now j) t.firsts residual m
+    at_kind : (j : ℕ) (m : SortedArcs) → j ≡ kind → slice_get (set arcs_by_kind kind l) j ≡ Some m → IsSortedArcs (weights t j) (offers_of t.rows.now j) t.firsts residual m
     at_kind j m e its =
-        let here : get_or (set lines kind l) kind l ≡ m = get_or_from_slice_get (set lines kind l) kind m l (subst (λ x. slice_get (set lines kind l) x ≡ Some m) e its) in
-        let same : l ≡ m = sym (get_or-set_same lines kind l l (omega (arith, its_kind.no_later, lt))) ∙ here in
+        let here : get_or (set arcs_by_kind kind l) kind l ≡ m = get_or_from_slice_get (set arcs_by_kind kind l) kind m l (subst (λ x. slice_get (set arcs_by_kind kind l) x ≡ Some m) e its) in
+        let same : l ≡ m = sym (get_or-set_same arcs_by_kind kind l l (omega (arith, its_kind.no_later, lt))) ∙ here in
         subst (λ x. IsSortedArcs (weights t x) (offers_of t.rows.now x) t.firsts residual m) (sym e)
         (subst (λ (y : SortedArcs). IsSortedArcs (weights t kind) (offers_of t.rows.now kind) t.firsts residual y) same own_kind)
 
-    each : (j : ℕ) (m : SortedArcs) → slice_get (set lines kind l) j ≡ Some m → kind_at t.kinds.now j ≡ j → IsSortedArcs (weights t j) (offers_of t.rows.now j) t.firsts residual m
+    each : (j : ℕ) (m : SortedArcs) → slice_get (set arcs_by_kind kind l) j ≡ Some m → kind_at t.kinds.now j ≡ j → IsSortedArcs (weights t j) (offers_of t.rows.now j) t.firsts residual m
     each j m its first = elim (cases_eq j kind) [
       | inl e ↦ at_kind j m e its
-      | inr ne ↦ (let here : get_or lines j l ≡ m = sym (get_or-set_other lines kind j l l ne) ∙ get_or_from_slice_get (set lines kind l) j m l its in
-          let in_lines : j < length lines = omega (arith, slice_get_within (set lines kind l) j m its, length-set lines kind l) in
-          subst (λ (y : SortedArcs). IsSortedArcs (weights t j) (offers_of t.rows.now j) t.firsts residual y) here (h.each j (get_or lines j l) (slice_get-get_or lines j l in_lines) first))
+      | inr ne ↦ (let here : get_or arcs_by_kind j l ≡ m = sym (get_or-set_other arcs_by_kind kind j l l ne) ∙ get_or_from_slice_get (set arcs_by_kind kind l) j m l its in
+          let in_arcs : j < length arcs_by_kind = omega (arith, slice_get_within (set arcs_by_kind kind l) j m its, length-set arcs_by_kind kind l) in
+          subst (λ (y : SortedArcs). IsSortedArcs (weights t j) (offers_of t.rows.now j) t.firsts residual y) here (h.each j (get_or arcs_by_kind j l) (slice_get-get_or arcs_by_kind j l in_arcs) first))
     ]

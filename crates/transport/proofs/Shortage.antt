@@ -14,7 +14,7 @@ use Rattle.twins.specs.IsGrouping.{class_at, IsGrouping}
 use Rattle.twins.specs.IsClosed.{taken_size, IsClosed, ClosedRowsAreShort}
 use Rattle.transport.specs.Numbers.{number, is_marked}
 use Rattle.transport.specs.Totals.{total}
-use Rattle.transport.specs.Filled.{demand_of, IsStuck}
+use Rattle.transport.specs.Outcomes.{demand_of, IsStuck}
 use Rattle.transport.specs.Representatives.{first_of}
 use Rattle.transport.specs.Places.{marked_places}
 use Rattle.transport.specs.Solved.{is_sought, sought, IsSolvedShortage}

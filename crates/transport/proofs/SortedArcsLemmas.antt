@@ -9,7 +9,7 @@ use Rattle.cpu_set.specs.Ids.{Ids, NoneFrom, IsFirstFrom}
 use Rattle.transport.specs.Numbers.{number, IsIn}
 use Rattle.transport.specs.Scans.{arc_at, IsPast}
 use Rattle.transport.specs.SortedArcs.{IsArc, HasOffer, IsToCome, AreArcs, IsSortedArcs, IsScanned, IsFreeArc, IsFoundFreeEnd, IsAhead, IsOpening, CanOpen}
-use Rattle.transport.specs.Orders.{bid_at, bids_in, AreBids}
+use Rattle.transport.specs.Orders.{weighted_at, weighted_in, AreWeighted}
 use Rattle.transport.specs.declared.arcs.WeightedOffer.{WeightedOffer}
 use Rattle.transport.specs.declared.arcs.Arc.{Arc}
 use Rattle.transport.specs.declared.arcs.SortedArcs.{SortedArcs}
@@ -27,33 +27,33 @@ scanned_at ws offers firsts residual l limit h lt past g w its = elim (h.arcs.al
   | inr b ↦ inr (past_rise limit _ w (heavier b) past)
 ]
   where
-    heavier : IsToCome offers firsts (bids_in offers l.order) l.opened g w → (arc_at l.arcs.items l.cursor).weight ≤ w
+    heavier : IsToCome offers firsts (weighted_in offers l.order) l.opened g w → (arc_at l.arcs.items l.cursor).weight ≤ w
     heavier b =
-        let bid = h.order.bids.its b.index b.within in
-        let same : bid.offer ≡ b.has.offer = (let both : Some bid.offer ≡ Some b.has.offer = sym bid.its ∙ b.has.its in cc) in
-        omega (arith, h.arcs.low l.cursor b.index lt b.from b.within, bid.weight, ap (λ (o : Offer). o.weight) same, b.has.weight)
+        let weighted_offer = h.order.weighted.its b.index b.within in
+        let same : weighted_offer.offer ≡ b.has.offer = (let both : Some weighted_offer.offer ≡ Some b.has.offer = sym weighted_offer.its ∙ b.has.its in cc) in
+        omega (arith, h.arcs.low l.cursor b.index lt b.from b.within, weighted_offer.weight, ap (λ (o : Offer). o.weight) same, b.has.weight)
 
 -- where it has come past all arcs, and the next offer is past the limit, or there is none
 pub scanned_end : (ws : ℕ → Option ℕ) (offers : List Offer) (firsts residual : List ℕ) (l : SortedArcs) (limit : Option ℕ) → IsSortedArcs ws offers firsts residual l → length l.arcs.items ≤ l.cursor
-    → (l.opened < length offers → IsPast limit (bid_at (bids_in offers l.order) l.opened).weight) → IsScanned ws l limit
+    → (l.opened < length offers → IsPast limit (weighted_at (weighted_in offers l.order) l.opened).weight) → IsScanned ws l limit
 scanned_end ws offers firsts residual l limit h done past g w its = elim (h.arcs.all g w its) [
   | inl a ↦ inl (record { index = a.index; within = omega (arith, a.within, done); class = a.class; weight = a.weight })
   | inr b ↦ inr (past_rise limit _ w (heavier b) (past (omega (arith, b.from, b.within, h.order.long))))
 ]
   where
-    heavier : IsToCome offers firsts (bids_in offers l.order) l.opened g w → (bid_at (bids_in offers l.order) l.opened).weight ≤ w
+    heavier : IsToCome offers firsts (weighted_in offers l.order) l.opened g w → (weighted_at (weighted_in offers l.order) l.opened).weight ≤ w
     heavier b =
-        let bid = h.order.bids.its b.index b.within in
-        let same : bid.offer ≡ b.has.offer = (let both : Some bid.offer ≡ Some b.has.offer = sym bid.its ∙ b.has.its in cc) in
-        omega (arith, h.order.bids.rising l.opened b.index b.from b.within, bid.weight, ap (λ (o : Offer). o.weight) same, b.has.weight)
+        let weighted_offer = h.order.weighted.its b.index b.within in
+        let same : weighted_offer.offer ≡ b.has.offer = (let both : Some weighted_offer.offer ≡ Some b.has.offer = sym weighted_offer.its ∙ b.has.its in cc) in
+        omega (arith, h.order.weighted.rising l.opened b.index b.from b.within, weighted_offer.weight, ap (λ (o : Offer). o.weight) same, b.has.weight)
 
 -- a class with a free CPU at the cursor
 pub found_at : (ws : ℕ → Option ℕ) (offers : List Offer) (firsts residual : List ℕ) (l : SortedArcs) (limit : Option ℕ) (arc : Arc) → IsSortedArcs ws offers firsts residual l → l.cursor < length l.arcs.items
     → arc ≡ arc_at l.arcs.items l.cursor → 0 < number residual arc.class → (IsPast limit arc.weight → ⊥) → IsFreeArc ws residual limit l arc
-found_at ws offers firsts residual l limit arc h lt is some near = record {
+found_at ws offers firsts residual l limit arc h lt is some below_limit = record {
   weighs = rw is (h.arcs.sound l.cursor lt);
   some_free = some;
-  near = near;
+  below_limit = below_limit;
   scanned = scanned_at ws offers firsts residual l (Some arc.weight) h lt (rw is (omega arith));
 }
 
@@ -79,10 +79,10 @@ has_offer offers firsts o g w offer its d =
     subst (λ (x : Offer). set.contains x.cpus (number firsts g) ≡ true) same d.has
 
 -- opening an offer
-pub arcs_start : (ws : ℕ → Option ℕ) (offers : List Offer) (firsts : List ℕ) (bids : List WeightedOffer) (opened : ℕ) (offer : Offer) (weight : ℕ) (arcs : List Arc) (there : Ids) (next : Option ℕ)
-    → CanOpen ws offers firsts bids opened offer weight arcs → HasAll firsts offer.cpus there → MatchOption next (NoneFrom there 0) (λ n. IsFirstFrom there 0 n)
-    → IsOpening ws offers firsts bids opened arcs arcs next
-arcs_start ws offers firsts bids opened offer weight arcs there next can all first = record {
+pub arcs_start : (ws : ℕ → Option ℕ) (offers : List Offer) (firsts : List ℕ) (weighted : List WeightedOffer) (opened : ℕ) (offer : Offer) (weight : ℕ) (arcs : List Arc) (there : Ids) (next : Option ℕ)
+    → CanOpen ws offers firsts weighted opened offer weight arcs → HasAll firsts offer.cpus there → MatchOption next (NoneFrom there 0) (λ n. IsFirstFrom there 0 n)
+    → IsOpening ws offers firsts weighted opened arcs arcs next
+arcs_start ws offers firsts weighted opened offer weight arcs there next can all first = record {
   sound = can.arcs_are.sound;
   rising = can.arcs_are.rising;
   low = can.arcs_are.low;
@@ -91,26 +91,26 @@ arcs_start ws offers firsts bids opened offer weight arcs there next can all fir
   kept = λ i lt. refl;
 }
   where
-    later : (g w : ℕ) → IsToCome offers firsts bids opened g w → IsToCome offers firsts bids (opened + 1) g w ⊎ (IsAhead next (number firsts g) × HasOffer offers firsts (bid_at bids opened).offer g w)
+    later : (g w : ℕ) → IsToCome offers firsts weighted opened g w → IsToCome offers firsts weighted (opened + 1) g w ⊎ (IsAhead next (number firsts g) × HasOffer offers firsts (weighted_at weighted opened).offer g w)
     later g w b = elim (cases_eq b.index opened) [
-      | inl e ↦ (let d : HasOffer offers firsts (bid_at bids opened).offer g w = subst (λ x. HasOffer offers firsts (bid_at bids x).offer g w) e b.has in
+      | inl e ↦ (let d : HasOffer offers firsts (weighted_at weighted opened).offer g w = subst (λ x. HasOffer offers firsts (weighted_at weighted x).offer g w) e b.has in
           inr (ahead there 0 (number firsts g) next first (omega arith) (all g d.in_range (has_offer offers firsts _ g w offer can.its d)), d))
       | inr ne ↦ inl (record { index = b.index; from = omega (arith, b.from, ne); within = b.within; has = b.has })
     ]
 
-module _ (ws : ℕ → Option ℕ) (offers : List Offer) (firsts : List ℕ) (bids : List WeightedOffer) (opened : ℕ) (old arcs : List Arc) (g : ℕ) (offer : Offer)
-    (bs : AreBids offers bids) (in_bids : opened < length bids) (lt : g < length firsts) (its : slice_get offers (bid_at bids opened).offer ≡ Some offer)
-    (now next : Option ℕ) (h : IsOpening ws offers firsts bids opened old arcs now) where
-  weight_is : offer.weight ≡ (bid_at bids opened).weight
+module _ (ws : ℕ → Option ℕ) (offers : List Offer) (firsts : List ℕ) (weighted : List WeightedOffer) (opened : ℕ) (old arcs : List Arc) (g : ℕ) (offer : Offer)
+    (bs : AreWeighted offers weighted) (in_weighted : opened < length weighted) (lt : g < length firsts) (its : slice_get offers (weighted_at weighted opened).offer ≡ Some offer)
+    (now next : Option ℕ) (h : IsOpening ws offers firsts weighted opened old arcs now) where
+  weight_is : offer.weight ≡ (weighted_at weighted opened).weight
   weight_is =
-      let b = bs.its opened in_bids in
+      let b = bs.its opened in_weighted in
       let same : b.offer ≡ offer = (let both : Some b.offer ≡ Some offer = sym b.its ∙ its in cc) in
       ap (λ (o : Offer). o.weight) (sym same) ∙ b.weight
 
   module _ (hits : (o j w : ℕ) → HasOffer offers firsts o j w → ws j ≡ Some w) (on : set.contains offer.cpus (number firsts g) ≡ true)
-      (step : (j w : ℕ) → IsAhead now (number firsts j) → HasOffer offers firsts (bid_at bids opened).offer j w → (j ≡ g) ⊎ IsAhead next (number firsts j)) where
+      (step : (j w : ℕ) → IsAhead now (number firsts j) → HasOffer offers firsts (weighted_at weighted opened).offer j w → (j ≡ g) ⊎ IsAhead next (number firsts j)) where
     abbrev pub arc : Arc
-    arc = record { weight = (bid_at bids opened).weight; class = g }
+    arc = record { weight = (weighted_at weighted opened).weight; class = g }
 
     abbrev pub more : List Arc
     more = arcs ++ arc ∷ []
@@ -128,19 +128,19 @@ module _ (ws : ℕ → Option ℕ) (offers : List Offer) (firsts : List ℕ) (bi
     sound_more i within = elim (cases_lt i (length arcs)) [
       | inl b ↦ rw (before i b) (h.sound i b)
       | inr a ↦ rw (last i (omega (arith, a, within, long)))
-          (hits (bid_at bids opened).offer g _ (record { offer = offer; its = its; in_range = lt; has = on; weight = weight_is }))
+          (hits (weighted_at weighted opened).offer g _ (record { offer = offer; its = its; in_range = lt; has = on; weight = weight_is }))
     ]
 
     rising_more : (i j : ℕ) → i ≤ j → j < length more → (arc_at more i).weight ≤ (arc_at more j).weight
     rising_more i j le within = elim (cases_lt j (length arcs)) [
       | inl b ↦ rw (before i (omega arith), before j b) (h.rising i j le b)
       | inr a ↦ elim (cases_lt i (length arcs)) [
-        | inl c ↦ rw (before i c, last j (omega (arith, a, within, long))) (h.low i opened c (omega arith) in_bids)
+        | inl c ↦ rw (before i c, last j (omega (arith, a, within, long))) (h.low i opened c (omega arith) in_weighted)
         | inr d ↦ rw (last i (omega (arith, d, le, within, long)), last j (omega (arith, a, within, long))) (omega arith)
       ]
     ]
 
-    low_more : (i j : ℕ) → i < length more → opened ≤ j → j < length bids → (arc_at more i).weight ≤ (bid_at bids j).weight
+    low_more : (i j : ℕ) → i < length more → opened ≤ j → j < length weighted → (arc_at more i).weight ≤ (weighted_at weighted j).weight
     low_more i j within from to = elim (cases_lt i (length arcs)) [
       | inl b ↦ rw (before i b) (h.low i j b from to)
       | inr a ↦ rw (last i (omega (arith, a, within, long))) (bs.rising opened j from to)
@@ -154,7 +154,7 @@ module _ (ws : ℕ → Option ℕ) (offers : List Offer) (firsts : List ℕ) (bi
       weight = rw (before a.index a.within) a.weight;
     }
 
-    own : (w : ℕ) → HasOffer offers firsts (bid_at bids opened).offer g w → IsArc more (length more) g w
+    own : (w : ℕ) → HasOffer offers firsts (weighted_at weighted opened).offer g w → IsArc more (length more) g w
     own w d =
         let same : d.offer ≡ offer = (let both : Some d.offer ≡ Some offer = sym d.its ∙ its in cc) in
         record {
@@ -165,19 +165,19 @@ module _ (ws : ℕ → Option ℕ) (offers : List Offer) (firsts : List ℕ) (bi
         }
 
     all_more : (j w : ℕ) → ws j ≡ Some w
-        → IsArc more (length more) j w ⊎ (IsToCome offers firsts bids (opened + 1) j w ⊎ (IsAhead next (number firsts j) × HasOffer offers firsts (bid_at bids opened).offer j w))
+        → IsArc more (length more) j w ⊎ (IsToCome offers firsts weighted (opened + 1) j w ⊎ (IsAhead next (number firsts j) × HasOffer offers firsts (weighted_at weighted opened).offer j w))
     all_more j w weighs = elim (h.all j w weighs) [
       | inl a ↦ inl (arc_more j w a)
       | inr b ↦ elim b [
         | inl c ↦ inr (inl c)
         | inr d ↦ elim (step j w d.0 d.1) [
-          | inl e ↦ inl (subst (λ x. IsArc more (length more) x w) (sym e) (own w (subst (λ x. HasOffer offers firsts (bid_at bids opened).offer x w) e d.1)))
+          | inl e ↦ inl (subst (λ x. IsArc more (length more) x w) (sym e) (own w (subst (λ x. HasOffer offers firsts (weighted_at weighted opened).offer x w) e d.1)))
           | inr on ↦ inr (inr (on, d.1))
         ]
       ]
     ]
 
-    pub opening_hit : IsOpening ws offers firsts bids opened old more next
+    pub opening_hit : IsOpening ws offers firsts weighted opened old more next
     opening_hit = record {
       sound = sound_more;
       rising = rising_more;
@@ -188,9 +188,9 @@ module _ (ws : ℕ → Option ℕ) (offers : List Offer) (firsts : List ℕ) (bi
     }
 
 -- all classes of the offer were scanned
-pub opening_all : (ws : ℕ → Option ℕ) (offers : List Offer) (firsts : List ℕ) (bids : List WeightedOffer) (opened : ℕ) (old arcs : List Arc) → IsOpening ws offers firsts bids opened old arcs None
-    → AreArcs ws offers firsts bids (opened + 1) arcs
-opening_all ws offers firsts bids opened old arcs h = record {
+pub opening_all : (ws : ℕ → Option ℕ) (offers : List Offer) (firsts : List ℕ) (weighted : List WeightedOffer) (opened : ℕ) (old arcs : List Arc) → IsOpening ws offers firsts weighted opened old arcs None
+    → AreArcs ws offers firsts weighted (opened + 1) arcs
+opening_all ws offers firsts weighted opened old arcs h = record {
   sound = h.sound;
   rising = h.rising;
   low = λ i j lt from to. h.low i j lt (omega arith) to;
@@ -199,15 +199,15 @@ opening_all ws offers firsts bids opened old arcs h = record {
 
 -- what is left of sorted arcs as an offer is opened
 pub can_open : (ws : ℕ → Option ℕ) (offers : List Offer) (firsts residual : List ℕ) (l : SortedArcs) (offer : Offer) (weight : ℕ) → IsSortedArcs ws offers firsts residual l → l.opened < length offers
-    → slice_get offers (bid_at (bids_in offers l.order) l.opened).offer ≡ Some offer → weight ≡ (bid_at (bids_in offers l.order) l.opened).weight → CanOpen ws offers firsts (bids_in offers l.order) l.opened offer weight l.arcs.items
-can_open ws offers firsts residual l offer weight h more its weighs = record { bids_are = h.order.bids; in_bids = omega (arith, more, h.order.long); its = its; weighs = weighs; arcs_are = h.arcs; hits = h.hits }
+    → slice_get offers (weighted_at (weighted_in offers l.order) l.opened).offer ≡ Some offer → weight ≡ (weighted_at (weighted_in offers l.order) l.opened).weight → CanOpen ws offers firsts (weighted_in offers l.order) l.opened offer weight l.arcs.items
+can_open ws offers firsts residual l offer weight h more its weighs = record { weighted_are = h.order.weighted; in_weighted = omega (arith, more, h.order.long); its = its; weighs = weighs; arcs_are = h.arcs; hits = h.hits }
 
-pub line_opened : (ws : ℕ → Option ℕ) (offers : List Offer) (firsts residual : List ℕ) (l new : SortedArcs) → IsSortedArcs ws offers firsts residual l → l.opened < length offers
-    → IsOpening ws offers firsts (bids_in offers l.order) l.opened l.arcs.items new.arcs.items None → new.order ≡ l.order → new.opened ≡ l.opened + 1 → new.cursor ≡ l.cursor → IsSortedArcs ws offers firsts residual new
-line_opened ws offers firsts residual l new h more o order opened cursor = record {
+pub sorted_opened : (ws : ℕ → Option ℕ) (offers : List Offer) (firsts residual : List ℕ) (l new : SortedArcs) → IsSortedArcs ws offers firsts residual l → l.opened < length offers
+    → IsOpening ws offers firsts (weighted_in offers l.order) l.opened l.arcs.items new.arcs.items None → new.order ≡ l.order → new.opened ≡ l.opened + 1 → new.cursor ≡ l.cursor → IsSortedArcs ws offers firsts residual new
+sorted_opened ws offers firsts residual l new h more o order opened cursor = record {
   order = rw order h.order;
   opened_in = rw opened (omega (arith, more));
-  arcs = rw (order, opened) (opening_all ws offers firsts (bids_in offers l.order) l.opened l.arcs.items new.arcs.items o);
+  arcs = rw (order, opened) (opening_all ws offers firsts (weighted_in offers l.order) l.opened l.arcs.items new.arcs.items o);
   cursor_in = rw cursor (omega (arith, h.cursor_in, o.longer));
   full = λ i lt. full i (omega (arith, lt, cursor));
   hits = h.hits;
@@ -218,9 +218,9 @@ line_opened ws offers firsts residual l new h more o order opened cursor = recor
     full : (i : ℕ) → i < l.cursor → number residual (arc_at new.arcs.items i).class ≡ 0
     full i lt = rw (o.kept i (omega (arith, lt, h.cursor_in))) (h.full i lt)
 
-pub line_moved : (ws : ℕ → Option ℕ) (offers : List Offer) (firsts residual : List ℕ) (l new : SortedArcs) → IsSortedArcs ws offers firsts residual l → new.order ≡ l.order → new.opened ≡ l.opened → new.arcs ≡ l.arcs
+pub sorted_moved : (ws : ℕ → Option ℕ) (offers : List Offer) (firsts residual : List ℕ) (l new : SortedArcs) → IsSortedArcs ws offers firsts residual l → new.order ≡ l.order → new.opened ≡ l.opened → new.arcs ≡ l.arcs
     → new.cursor ≤ length l.arcs.items → ((i : ℕ) → i < new.cursor → number residual (arc_at l.arcs.items i).class ≡ 0) → IsSortedArcs ws offers firsts residual new
-line_moved ws offers firsts residual l new h order opened arcs cursor full = record {
+sorted_moved ws offers firsts residual l new h order opened arcs cursor full = record {
   order = rw order h.order;
   opened_in = rw opened h.opened_in;
   arcs = rw (order, opened, arcs) h.arcs;
@@ -232,31 +232,31 @@ line_moved ws offers firsts residual l new h order opened arcs cursor full = rec
 }
 
 -- a class of the offer more, and the next one
-pub arcs_more : (ws : ℕ → Option ℕ) (offers : List Offer) (firsts : List ℕ) (bids : List WeightedOffer) (opened : ℕ) (offer : Offer) (weight : ℕ) (old arcs new : List Arc) (there : Ids) (cpu g : ℕ) (next : Option ℕ)
-    → CanOpen ws offers firsts bids opened offer weight old → HasAll firsts offer.cpus there → set.contains offer.cpus cpu ≡ true
+pub arcs_more : (ws : ℕ → Option ℕ) (offers : List Offer) (firsts : List ℕ) (weighted : List WeightedOffer) (opened : ℕ) (offer : Offer) (weight : ℕ) (old arcs new : List Arc) (there : Ids) (cpu g : ℕ) (next : Option ℕ)
+    → CanOpen ws offers firsts weighted opened offer weight old → HasAll firsts offer.cpus there → set.contains offer.cpus cpu ≡ true
     → IsIn firsts cpu → ((j : ℕ) → j < length firsts → number firsts j ≡ cpu → g ≡ j)
     → MatchOption next (NoneFrom there (cpu + 1)) (λ n. IsFirstFrom there (cpu + 1) n) → new ≡ arcs ++ (record { weight = weight; class = g }) ∷ []
-    → IsOpening ws offers firsts bids opened old arcs (Some cpu) → IsOpening ws offers firsts bids opened old new next
-arcs_more ws offers firsts bids opened offer weight old arcs new there cpu g next can all on among own first is h =
+    → IsOpening ws offers firsts weighted opened old arcs (Some cpu) → IsOpening ws offers firsts weighted opened old new next
+arcs_more ws offers firsts weighted opened offer weight old arcs new there cpu g next can all on among own first is h =
     let same : g ≡ among.index = own among.index among.within among.is in
     let lt : g < length firsts = omega (arith, same, among.within) in
     let here : number firsts g ≡ cpu = ap (λ j. number firsts j) same ∙ among.is in
-    let P = λ (xs : List Arc). IsOpening ws offers firsts bids opened old xs next in
+    let P = λ (xs : List Arc). IsOpening ws offers firsts weighted opened old xs next in
     subst P (sym (is ∙ ap (λ w. arcs ++ (record { weight = w; class = g }) ∷ []) can.weighs))
-    (opening_hit ws offers firsts bids opened old arcs g offer can.bids_are can.in_bids lt can.its (Some cpu) next h can.hits (subst (λ c. set.contains offer.cpus c ≡ true) (sym here) on) step)
+    (opening_hit ws offers firsts weighted opened old arcs g offer can.weighted_are can.in_weighted lt can.its (Some cpu) next h can.hits (subst (λ c. set.contains offer.cpus c ≡ true) (sym here) on) step)
   where
-    step : (j w : ℕ) → cpu ≤ number firsts j → HasOffer offers firsts (bid_at bids opened).offer j w → (j ≡ g) ⊎ IsAhead next (number firsts j)
+    step : (j w : ℕ) → cpu ≤ number firsts j → HasOffer offers firsts (weighted_at weighted opened).offer j w → (j ≡ g) ⊎ IsAhead next (number firsts j)
     step j w le d = elim (cases_eq (number firsts j) cpu) [
       | inl e ↦ inl (sym (own j d.in_range e))
       | inr ne ↦ inr (ahead there (cpu + 1) (number firsts j) next first (omega (arith, le, ne)) (all j d.in_range (has_offer offers firsts _ j w offer can.its d)))
     ]
 
-pub bid_in : (offers : List Offer) (bids : List WeightedOffer) (i : ℕ) (b : WeightedOffer) → AreBids offers bids → i < length bids → b ≡ bid_at bids i → b.offer < length offers
-bid_in offers bids i b h lt is = let x = h.its i lt in rw is (slice_get_within offers _ x.offer x.its)
+pub weighted_within : (offers : List Offer) (weighted : List WeightedOffer) (i : ℕ) (b : WeightedOffer) → AreWeighted offers weighted → i < length weighted → b ≡ weighted_at weighted i → b.offer < length offers
+weighted_within offers weighted i b h lt is = let x = h.its i lt in rw is (slice_get_within offers _ x.offer x.its)
 
--- an offer that was read, at its bid
-pub offer_read : (offers : List Offer) (bids : List WeightedOffer) (i : ℕ) (b : WeightedOffer) (o : Offer) → b ≡ bid_at bids i → b.offer < length offers → o ≡ get_or offers b.offer o → slice_get offers (bid_at bids i).offer ≡ Some o
-offer_read offers bids i b o is in_offers read = rw (← is) (slice_get_read offers (length offers) b.offer o refl in_offers read)
+-- an offer that was read, at its weighted_offer
+pub offer_read : (offers : List Offer) (weighted : List WeightedOffer) (i : ℕ) (b : WeightedOffer) (o : Offer) → b ≡ weighted_at weighted i → b.offer < length offers → o ≡ get_or offers b.offer o → slice_get offers (weighted_at weighted i).offer ≡ Some o
+offer_read offers weighted i b o is in_offers read = rw (← is) (slice_get_read offers (length offers) b.offer o refl in_offers read)
 
 pub arc_here : (arcs : List Arc) (i : ℕ) (a : Arc) → i < length arcs → a ≡ get_or arcs i a → a ≡ arc_at arcs i
 arc_here arcs i a lt is = get_or_read arcs i a lt is _
@@ -272,10 +272,10 @@ found_cases ws offers firsts residual l limit arc (Some a) h lt is stop found = 
 ]
 
 -- the cursor moves past full classes
-pub line_skipped : (ws : ℕ → Option ℕ) (offers : List Offer) (firsts residual : List ℕ) (l : SortedArcs) (xs : List Arc) (r : ℕ) → IsSortedArcs ws offers firsts residual l → xs ≡ l.arcs.items → r ≤ length xs
+pub sorted_skipped : (ws : ℕ → Option ℕ) (offers : List Offer) (firsts residual : List ℕ) (l : SortedArcs) (xs : List Arc) (r : ℕ) → IsSortedArcs ws offers firsts residual l → xs ≡ l.arcs.items → r ≤ length xs
     → ((i : ℕ) → i < r → number residual (arc_at xs i).class ≡ 0) → IsSortedArcs ws offers firsts residual (record { order = l.order; opened = l.opened; arcs = l.arcs; cursor = r })
-line_skipped ws offers firsts residual l xs r h e le full =
-    line_moved ws offers firsts residual l _ h refl refl refl (omega (arith, ap length e, le)) (subst (λ ys. (i : ℕ) → i < r → number residual (arc_at ys i).class ≡ 0) e full)
+sorted_skipped ws offers firsts residual l xs r h e le full =
+    sorted_moved ws offers firsts residual l _ h refl refl refl (omega (arith, ap length e, le)) (subst (λ ys. (i : ℕ) → i < r → number residual (arc_at ys i).class ≡ 0) e full)
 
 pub stop_at : (residual : List ℕ) (limit : Option ℕ) (xs ys : List Arc) (r : ℕ) → xs ≡ ys → r < length ys → (r < length xs → IsPast limit (arc_at xs r).weight ⊎ (0 < number residual (arc_at xs r).class))
     → IsPast limit (arc_at ys r).weight ⊎ (0 < number residual (arc_at ys r).class)

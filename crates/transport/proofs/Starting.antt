@@ -16,7 +16,7 @@ use Rattle.transport.specs.declared.labels.FreeEnd.{FreeEnd}
 use Rattle.transport.specs.declared.assignment.Assignment.{Assignment}
 use Rattle.transport.specs.declared.tree.SearchTree.{SearchTree}
 use Rattle.transport.proofs.Numbers.{not_both}
-use Rattle.transport.proofs.ReachedRowsLemmas.{queue_reached}
+use Rattle.transport.proofs.ReachedRowsLemmas.{reached_reached}
 use Rattle.transport.proofs.Running.{listed_below}
 use Rattle.transport.specs.declared.tree.ReachedRows.{ReachedRows}
 
@@ -45,12 +45,12 @@ replicate_default n i a = elim (cases_lt i n) [
 ]
 
 -- no row is reached
-pub queue_none : (rows : ℕ) (q : ReachedRows) → IsUnreached rows q → IsReachedRows rows q
-queue_none rows q h = record {
+pub reached_none : (rows : ℕ) (q : ReachedRows) → IsUnreached rows q → IsReachedRows rows q
+reached_none rows q h = record {
   reached_long = h.reached_long;
-  via_long = h.via_long;
-  room_long = h.room_long;
-  place_long = h.place_long;
+  parent_class_long = h.parent_class_long;
+  bottleneck_long = h.bottleneck_long;
+  index_long = h.index_long;
   on = λ i lt. absurd (omega (arith, lt, ap length h.order));
   at = λ i lt. absurd (omega (arith, lt, ap length h.order));
   within = λ k on. absurd (not_both _ on (h.none k));
@@ -59,14 +59,14 @@ queue_none rows q h = record {
 }
 
 -- a tree before the first search
-pub tidy_none : (rows classes : ℕ) (t : SearchTree) → IsUnreached rows t.reached_rows → t.labels.of_class.items ≡ replicate classes None → t.labels.noted.items ≡ []
+pub tidy_none : (rows classes : ℕ) (t : SearchTree) → IsUnreached rows t.reached_rows → t.labels.of_class.items ≡ replicate classes None → t.labels.labelled.items ≡ []
     → t.tree_classes.taken.items ≡ replicate classes false → t.tree_classes.order.items ≡ [] → IsTidy rows classes t
-tidy_none rows classes t reached_rows of_class noted taken order = record {
-  reached_rows = queue_none rows t.reached_rows reached_rows;
-  nears_long = ap length of_class ∙ length-replicate {A = Option Label} classes None;
-  noted = record {
-    all = λ g n is. (let no_note : Some n ≡ None = sym is ∙ ap (λ ns. get_or ns g None) of_class ∙ replicate_default classes g None in cc);
-    noted_in = λ i lt. absurd (omega (arith, lt, ap length noted));
+tidy_none rows classes t reached_rows of_class labelled taken order = record {
+  reached_rows = reached_none rows t.reached_rows reached_rows;
+  labels_long = ap length of_class ∙ length-replicate {A = Option Label} classes None;
+  labelled = record {
+    all = λ g n is. (let no_label : Some n ≡ None = sym is ∙ ap (λ ns. get_or ns g None) of_class ∙ replicate_default classes g None in cc);
+    labelled_in = λ i lt. absurd (omega (arith, lt, ap length labelled));
     taken_in = λ i lt. absurd (omega (arith, lt, ap length order));
   };
   taken_long = ap length taken ∙ length-replicate classes false;
@@ -84,7 +84,7 @@ tidy_none rows classes t reached_rows of_class noted taken order = record {
 -- and the one in which the first row is
 module _ (rows root amount : ℕ) (old new : ReachedRows) (in_rows : root < rows) (h : IsUnreached rows old) (r : IsReached old new root 0 amount) where
   now : IsReachedRows rows new
-  now = queue_reached rows old new root 0 amount (queue_none rows old h) in_rows (h.none root) r
+  now = reached_reached rows old new root 0 amount (reached_none rows old h) in_rows (h.none root) r
 
   one_row : length new.order.items ≡ 1
   one_row = omega (arith, ap length r.order, length_push old.order.items root, ap length h.order)
@@ -97,27 +97,27 @@ module _ (rows root amount : ℕ) (old new : ReachedRows) (in_rows : root < rows
       let p : index new k ≡ 0 = omega (arith, now.within k on, one_row) in
       sym (now.placed k on) ∙ ap (λ i. row_at new i) p ∙ first_row
 
-  pub queue_at_root : IsAtRoot rows root amount new
-  queue_at_root = record {
+  pub reached_at_root : IsAtRoot rows root amount new
+  reached_at_root = record {
     reached_rows = now;
     one = one_row;
     root_at = first_row;
     only = only_root;
-    some_room = rw r.rooms (get_or-set_same old.bottleneck.items root amount 0 (omega (arith, in_rows, h.room_long)));
+    some_bottleneck = rw r.bottlenecks (get_or-set_same old.bottleneck.items root amount 0 (omega (arith, in_rows, h.bottleneck_long)));
   }
 
--- all that a search marked and noted is named by its lists
+-- all that a search marked and labelled is named by its lists
 pub tidy_running : (ws : ℕ → ℕ → Option ℕ) (s : Assignment) (t : SearchTree) → IsRunning ws s t → IsTreeOf s t
 tidy_running ws s t h = record {
   reached_rows = h.search.reached_rows;
-  nears_long = h.search.nears_long;
-  noted = record {
+  labels_long = h.search.labels_long;
+  labelled = record {
     all = λ g n is. elim (cases_Bool (is_taken t.tree_classes g)) [
       | inl on ↦ inr (h.search.listing.all g on)
       | inr off ↦ inl (h.search.listed g n is off)
     ];
-    noted_in = λ i lt. omega (arith, h.search.noted_in i lt, h.search.nears_long);
-    taken_in = λ i lt. omega (arith, listed_below t.tree_classes.order.items t.tree_classes.taken.items (length s.prices.items) h.search.listing h.search.taken_long i lt, h.search.nears_long);
+    labelled_in = λ i lt. omega (arith, h.search.labelled_in i lt, h.search.labels_long);
+    taken_in = λ i lt. omega (arith, listed_below t.tree_classes.order.items t.tree_classes.taken.items (length s.prices.items) h.search.listing h.search.taken_long i lt, h.search.labels_long);
   };
   taken_long = h.search.taken_long;
   taken = h.search.listing;
@@ -145,18 +145,18 @@ module _ (ws : ℕ → ℕ → Option ℕ) (s : Assignment) (t : SearchTree) (ro
       counted = count_none t.tree_classes.taken.items f.tree_classes.taken ∙ sym (ap length f.tree_classes.order);
     };
     taken_long = f.tree_classes.taken_long;
-    nears_long = f.labels.nears_long;
-    free_long = h.free_long;
+    labels_long = f.labels.labels_long;
+    residual_long = h.residual_long;
     dual = h.dual;
     rooted = omega (arith, f.at_root.one);
     entries = λ k on deep. (let e = ap (λ x. index t.reached_rows x) (f.at_root.only k on) in absurd (omega (arith, e, deep, at_root)));
-    rooms = λ k on. (let e = ap (λ x. bottleneck t.reached_rows x) (f.at_root.only k on) in omega (arith, e, f.at_root.some_room, some));
-    noted = λ g n is. (let no_note : Some n ≡ None = sym is ∙ f.labels.of_class g in cc);
-    listed = λ g n is. (let no_note : Some n ≡ None = sym is ∙ f.labels.of_class g in cc);
-    noted_in = λ i lt. absurd (omega (arith, lt, ap length f.labels.noted));
+    bottlenecks = λ k on. (let e = ap (λ x. bottleneck t.reached_rows x) (f.at_root.only k on) in omega (arith, e, f.at_root.some_bottleneck, some));
+    labelled = λ g n is. (let no_label : Some n ≡ None = sym is ∙ f.labels.of_class g in cc);
+    listed = λ g n is. (let no_label : Some n ≡ None = sym is ∙ f.labels.of_class g in cc);
+    labelled_in = λ i lt. absurd (omega (arith, lt, ap length f.labels.labelled));
     linked = λ g on. absurd (no_taken g on);
     holders = λ k g on. absurd (no_taken g on);
-    free_end = λ e is. (let no_exit : Some e ≡ None = sym is ∙ f.labels.free_end in cc);
+    free_end = λ e is. (let no_free_end : Some e ≡ None = sym is ∙ f.labels.free_end in cc);
     close = λ k on. subst (IsClose s.values.items t.reached_rows) (sym (f.at_root.only k on)) close_root;
     others_low = λ k off. h.values_low k;
     prices_low = λ g off. h.prices_low g;
@@ -178,8 +178,8 @@ module _ (ws : ℕ → ℕ → Option ℕ) (s : Assignment) (t : SearchTree) (e 
   reached_low k on =
       let x = h.running.search.free_end e h.its in
       let a = h.running.search.close k on in
-      let b = h.running.search.close e.near.row x.there in
-      omega (arith, a.up, b.down, few k on, few e.near.row x.there, h.equal, h.running.search.dual.zero e.class x.some_free, h.running.fit.low e.near.row e.class e.near.weight x.weighs)
+      let b = h.running.search.close e.label.row x.there in
+      omega (arith, a.up, b.down, few k on, few e.label.row x.there, h.equal, h.running.search.dual.zero e.class x.some_free, h.running.fit.low e.label.row e.class e.label.weight x.weighs)
 
   pub found_values_low : (k : ℕ) → number s.values.items k ≤ most
   found_values_low k = elim (cases_Bool (is_reached t.reached_rows k)) [
@@ -189,6 +189,6 @@ module _ (ws : ℕ → ℕ → Option ℕ) (s : Assignment) (t : SearchTree) (e 
 
   pub found_prices_low : (g : ℕ) → number s.prices.items g ≤ most
   found_prices_low g = elim (cases_Bool (is_taken t.tree_classes g)) [
-    | inl on ↦ (let l = h.running.search.linked g on in omega (arith, l.equal, found_values_low l.near.row))
+    | inl on ↦ (let l = h.running.search.linked g on in omega (arith, l.equal, found_values_low l.label.row))
     | inr off ↦ h.running.search.prices_low g off
   ]

@@ -1,7 +1,7 @@
--- The classes that are taken up are struck out of the list of noted ones.
+-- The classes that are taken up are struck out of the list of labelled ones.
 use Rattle.std.proofs.Common.{◌≡◌, ℕ, zero, suc, ◌<◌, Bool, true, false, cond, not, List, [], ◌∷◌, length, get_or, filter, Option, None, Vec, Global, refl, sym, ap, ◌∙◌, subst, inl, inr, arith}
 use Rattle.transport.specs.Numbers.{number, IsIn}
-use Rattle.transport.specs.Searches.{near_of, IsSearch, IsCovered}
+use Rattle.transport.specs.Searches.{label_of, IsSearch, IsCovered}
 use Rattle.transport.specs.States.{cell, IsRunning, HasScanned, IsStruck}
 use Rattle.transport.specs.declared.labels.Label.{Label}
 use Rattle.transport.specs.declared.labels.Labels.{Labels}
@@ -39,8 +39,8 @@ module _ (ws : ℕ → ℕ → Option ℕ) (s : Assignment) (t : SearchTree) (ns
   abbrev pub struck : SearchTree
   struck = record { reached_rows = t.reached_rows; labels = ns; tree_classes = t.tree_classes; nearest = t.nearest }
 
-  near_same : (g : ℕ) → near_of ns g ≡ near_of t.labels g
-  near_same g = ap (λ (v : Vec (Option Label) Global). get_or v.items g None) x.of_class
+  label_same : (g : ℕ) → label_of ns g ≡ label_of t.labels g
+  label_same g = ap (λ (v : Vec (Option Label) Global). get_or v.items g None) x.of_class
 
   search_struck : IsSearch ws (cell s.holdings.items) s.values.items s.prices.items s.residual.items t.reached_rows t.labels t.tree_classes
       → IsSearch ws (cell s.holdings.items) s.values.items s.prices.items s.residual.items t.reached_rows ns t.tree_classes
@@ -48,16 +48,16 @@ module _ (ws : ℕ → ℕ → Option ℕ) (s : Assignment) (t : SearchTree) (ns
     reached_rows = h.reached_rows;
     listing = h.listing;
     taken_long = h.taken_long;
-    nears_long = ap (λ (v : Vec (Option Label) Global). length v.items) x.of_class ∙ h.nears_long;
-    free_long = h.free_long;
+    labels_long = ap (λ (v : Vec (Option Label) Global). length v.items) x.of_class ∙ h.labels_long;
+    residual_long = h.residual_long;
     dual = h.dual;
     rooted = h.rooted;
-    entries = λ k on deep. (let e = h.entries k on deep in record { taken = e.taken; held = e.held; near = e.near; its = near_same _ ∙ e.its; before = e.before; less = e.less });
-    rooms = h.rooms;
-    noted = λ g n is. h.noted g n (sym (near_same g) ∙ is);
-    listed = λ g n is off. rw x.noted (in_filter _ t.labels.noted.items g (h.listed g n (sym (near_same g) ∙ is) off) (ap not off));
-    noted_in = rw x.noted (filter_below _ t.labels.noted.items (length s.prices.items) h.noted_in);
-    linked = λ g on. (let l = h.linked g on in record { near = l.near; its = near_same g ∙ l.its; equal = l.equal });
+    entries = λ k on deep. (let e = h.entries k on deep in record { taken = e.taken; held = e.held; label = e.label; its = label_same _ ∙ e.its; before = e.before; less = e.less });
+    bottlenecks = h.bottlenecks;
+    labelled = λ g n is. h.labelled g n (sym (label_same g) ∙ is);
+    listed = λ g n is off. rw x.labelled (in_filter _ t.labels.labelled.items g (h.listed g n (sym (label_same g) ∙ is) off) (ap not off));
+    labelled_in = rw x.labelled (filter_below _ t.labels.labelled.items (length s.prices.items) h.labelled_in);
+    linked = λ g on. (let l = h.linked g on in record { label = l.label; its = label_same g ∙ l.its; equal = l.equal });
     holders = h.holders;
     free_end = λ e is. h.free_end e (sym x.free_end ∙ is);
     close = h.close;
@@ -69,12 +69,12 @@ module _ (ws : ℕ → ℕ → Option ℕ) (s : Assignment) (t : SearchTree) (ns
 
   covered_struck : (k g w : ℕ) → IsCovered s.values.items s.prices.items t.labels k g w → IsCovered s.values.items s.prices.items ns k g w
   covered_struck k g w c = elim c [
-    | inl c ↦ inl (record { near = c.near; its = near_same g ∙ c.its; least = c.least })
+    | inl c ↦ inl (record { label = c.label; its = label_same g ∙ c.its; least = c.least })
     | inr c ↦ inr (record { free_end = c.free_end; its = x.free_end ∙ c.its; least = c.least })
   ]
 
   pub running_struck : IsRunning ws s t → IsRunning ws s struck
   running_struck h = record { fit = h.fit; search = search_struck h.search; holdings = h.holdings }
 
-  pub looked_struck : (upto : ℕ) → HasScanned ws s t upto → HasScanned ws s struck upto
-  looked_struck upto all = record { covered = λ k g w on here its off. covered_struck k g w (all.covered k g w on here its off) }
+  pub scanned_struck : (upto : ℕ) → HasScanned ws s t upto → HasScanned ws s struck upto
+  scanned_struck upto all = record { covered = λ k g w on here its off. covered_struck k g w (all.covered k g w on here its off) }

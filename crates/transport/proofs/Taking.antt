@@ -5,7 +5,7 @@ use Rattle.std.proofs.lemmas.Bool.{cases_lt, cases_Bool}
 use Rattle.transport.specs.Numbers.{number, is_marked, IsIn, IsListing}
 use Rattle.twins.specs.Holdings.{share_of}
 use Rattle.transport.specs.ReachedRows.{IsReachedRows, IsGrown, is_reached, parent_class, bottleneck, index, row_at}
-use Rattle.transport.specs.Searches.{near_of, is_taken, IsLabelled, IsLinked, IsEntered, IsClose, IsSearch, AllCovered, IsTaken, AreWeights}
+use Rattle.transport.specs.Searches.{label_of, is_taken, IsLabelled, IsLinked, IsEntered, IsClose, IsSearch, AllCovered, IsTaken, AreWeights}
 use Rattle.twins.specs.declared.holders.Share.{Share}
 use Rattle.transport.specs.declared.tree.ReachedRows.{ReachedRows}
 use Rattle.transport.specs.declared.labels.Label.{Label}
@@ -52,11 +52,11 @@ listing_push order marks g h lt off = record {
     ]
 
 module _ (ws : ℕ → ℕ → Option ℕ) (cells : ℕ → ℕ → ℕ) (values prices residual : List ℕ) (q r : ReachedRows) (ns : Labels) (ts us : TreeClasses) (g : ℕ) (n : Label) (shares : List Share)
-    (fit : AreWeights ws (length values) (length prices)) (s : IsSearch ws cells values prices residual q ns ts) (its : near_of ns g ≡ Some n) (left : is_taken ts g ≡ false)
+    (fit : AreWeights ws (length values) (length prices)) (s : IsSearch ws cells values prices residual q ns ts) (its : label_of ns g ≡ Some n) (left : is_taken ts g ≡ false)
     (equal : number values n.row ≡ n.weight + number prices g) (taken : IsTaken ts us g)
     (reached_rows : IsReachedRows (length values) r) (grown : IsGrown q r g (bottleneck q n.row) shares shares) (held : (k : ℕ) → share_of k shares ≡ cells k g) (in_range : g < length prices) where
-  note : IsLabelled ws residual q g n
-  note = s.noted g n its
+  label : IsLabelled ws residual q g n
+  label = s.labelled g n its
 
   now_taken : is_taken us g ≡ true
   now_taken = rw taken.taken (get_or-set_same ts.taken.items g true false (omega (arith, s.taken_long, in_range)))
@@ -76,59 +76,59 @@ module _ (ws : ℕ → ℕ → Option ℕ) (cells : ℕ → ℕ → ℕ) (values
   was_out : (k : ℕ) → is_reached r k ≡ false → is_reached q k ≡ false
   was_out k off = elim (cases_Bool (is_reached q k)) [ inl on ↦ absurd (not_both _ (grown.kept k on).reached off) | inr not ↦ not ]
 
-  near_place : index q n.row < length q.order.items
-  near_place = s.reached_rows.within n.row note.there
+  label_place : index q n.row < length q.order.items
+  label_place = s.reached_rows.within n.row label.there
 
   entered_old : (k : ℕ) → is_reached q k ≡ true → 0 < index r k → IsEntered cells r ns us k
   entered_old k on deep =
       let kept = grown.kept k on in
-      let e = s.entries k on (omega (arith, kept.places, deep)) in
-      let before = grown.kept e.near.row (s.noted (parent_class q k) e.near e.its).there in
+      let e = s.entries k on (omega (arith, kept.indices, deep)) in
+      let before = grown.kept e.label.row (s.labelled (parent_class q k) e.label e.its).there in
       record {
         taken = rw kept.by (still_taken _ e.taken);
-        held = rw (kept.by, kept.rooms) e.held;
-        near = e.near;
+        held = rw (kept.by, kept.bottlenecks) e.held;
+        label = e.label;
         its = rw kept.by e.its;
-        before = omega (arith, e.before, before.places, kept.places);
-        less = omega (arith, e.less, before.rooms, kept.rooms);
+        before = omega (arith, e.before, before.indices, kept.indices);
+        less = omega (arith, e.less, before.bottlenecks, kept.bottlenecks);
       }
 
   entered_new : (k : ℕ) → is_reached q k ≡ false → is_reached r k ≡ true → IsEntered cells r ns us k
   entered_new k not on =
       let f = grown.fresh k not on in
-      let before = grown.kept n.row note.there in
+      let before = grown.kept n.row label.there in
       record {
         taken = rw f.by now_taken;
-        held = rw f.by (omega (arith, f.rooms, held k));
-        near = n;
+        held = rw f.by (omega (arith, f.bottlenecks, held k));
+        label = n;
         its = rw f.by its;
-        before = omega (arith, f.later, before.places, near_place);
-        less = omega (arith, f.rooms, before.rooms);
+        before = omega (arith, f.later, before.indices, label_place);
+        less = omega (arith, f.bottlenecks, before.bottlenecks);
       }
 
   pub root_same : row_at r 0 ≡ row_at q 0
   root_same =
       let on = s.reached_rows.on 0 s.rooted in
       let kept = grown.kept (row_at q 0) on in
-      let zero : index r (row_at q 0) ≡ 0 = kept.places ∙ s.reached_rows.at 0 s.rooted in
+      let zero : index r (row_at q 0) ≡ 0 = kept.indices ∙ s.reached_rows.at 0 s.rooted in
       ap (λ i. row_at r i) (sym zero) ∙ reached_rows.placed (row_at q 0) kept.reached
 
   close_old : (k : ℕ) → is_reached q k ≡ true → IsClose values r k
   close_old k on =
       let c = s.close k on in
       let kept = grown.kept k on in
-      record { up = rw (root_same, kept.places) c.up; down = rw (root_same, kept.places) c.down }
+      record { up = rw (root_same, kept.indices) c.up; down = rw (root_same, kept.indices) c.down }
 
   close_new : (k : ℕ) → is_reached q k ≡ false → is_reached r k ≡ true → IsClose values r k
   close_new k not on =
       let f = grown.fresh k not on in
-      let t = s.dual.tight k g (omega (arith, f.rooms, f.some_room, held k)) in
-      let c = s.close n.row note.there in
+      let t = s.dual.tight k g (omega (arith, f.bottlenecks, f.some_bottleneck, held k)) in
+      let c = s.close n.row label.there in
       let low = fit.low k g t.weight t.its in
-      let near_low = fit.low n.row g n.weight note.weighs in
+      let label_low = fit.low n.row g n.weight label.weighs in
       record {
-        up = rw root_same (omega (arith, c.up, t.equal, equal, low, near_low, f.later, near_place));
-        down = rw root_same (omega (arith, c.down, t.equal, equal, low, near_low, f.later, near_place));
+        up = rw root_same (omega (arith, c.up, t.equal, equal, low, label_low, f.later, label_place));
+        down = rw root_same (omega (arith, c.down, t.equal, equal, low, label_low, f.later, label_place));
       }
 
   pub search_taken : IsSearch ws cells values prices residual r ns us
@@ -136,27 +136,27 @@ module _ (ws : ℕ → ℕ → Option ℕ) (cells : ℕ → ℕ → ℕ) (values
     reached_rows = reached_rows;
     listing = rw (taken.taken, taken.order) (listing_push ts.order.items ts.taken.items g s.listing (omega (arith, s.taken_long, in_range)) left);
     taken_long = ap length taken.taken ∙ length-set _ _ _ ∙ s.taken_long;
-    nears_long = s.nears_long;
-    free_long = s.free_long;
+    labels_long = s.labels_long;
+    residual_long = s.residual_long;
     dual = s.dual;
     rooted = omega (arith, s.rooted, grown.longer);
     entries = λ k on deep. elim (cases_Bool (is_reached q k)) [ inl was ↦ entered_old k was deep | inr not ↦ entered_new k not on ];
-    rooms = λ k on. elim (cases_Bool (is_reached q k)) [
-      | inl was ↦ omega (arith, s.rooms k was, (grown.kept k was).rooms)
-      | inr not ↦ (grown.fresh k not on).some_room
+    bottlenecks = λ k on. elim (cases_Bool (is_reached q k)) [
+      | inl was ↦ omega (arith, s.bottlenecks k was, (grown.kept k was).bottlenecks)
+      | inr not ↦ (grown.fresh k not on).some_bottleneck
     ];
-    noted = λ h m is. (let o = s.noted h m is in record { there = (grown.kept m.row o.there).reached; weighs = o.weighs; full = o.full });
+    labelled = λ h m is. (let o = s.labelled h m is in record { there = (grown.kept m.row o.there).reached; weighs = o.weighs; full = o.full });
     listed = λ h m is off. s.listed h m is (was_left h off);
-    noted_in = s.noted_in;
+    labelled_in = s.labelled_in;
     linked = λ h on. elim (taken_cases h on) [
-      | inl e ↦ subst (IsLinked values prices ns) (sym e) (record { near = n; its = its; equal = equal })
+      | inl e ↦ subst (IsLinked values prices ns) (sym e) (record { label = n; its = its; equal = equal })
       | inr was ↦ s.linked h was
     ];
     holders = λ k h on some. elim (taken_cases h on) [
       | inl e ↦ grown.held k (omega (arith, held k, subst (λ x. 0 < cells k x) e some))
       | inr was ↦ (grown.kept k (s.holders k h was some)).reached
     ];
-    free_end = λ e is. (let o = s.free_end e is in record { there = (grown.kept e.near.row o.there).reached; weighs = o.weighs; some_free = o.some_free });
+    free_end = λ e is. (let o = s.free_end e is in record { there = (grown.kept e.label.row o.there).reached; weighs = o.weighs; some_free = o.some_free });
     close = λ k on. elim (cases_Bool (is_reached q k)) [ inl was ↦ close_old k was | inr not ↦ close_new k not on ];
     others_low = λ k off. s.others_low k (was_out k off);
     prices_low = λ h off. s.prices_low h (was_left h off);
@@ -165,10 +165,10 @@ module _ (ws : ℕ → ℕ → Option ℕ) (cells : ℕ → ℕ → ℕ) (values
   }
 
   -- a row that is newly reached was not scanned yet
-  pub covered_taken : (looked : ℕ) → looked ≤ length q.order.items → AllCovered ws values prices q ns ts looked → AllCovered ws values prices r ns us looked
-  covered_taken looked less all = record {
+  pub covered_taken : (scanned : ℕ) → scanned ≤ length q.order.items → AllCovered ws values prices q ns ts scanned → AllCovered ws values prices r ns us scanned
+  covered_taken scanned less all = record {
     covered = λ k h w on here weighs off. elim (cases_Bool (is_reached q k)) [
-      | inl was ↦ all.covered k h w was (omega (arith, here, (grown.kept k was).places)) weighs (was_left h off)
+      | inl was ↦ all.covered k h w was (omega (arith, here, (grown.kept k was).indices)) weighs (was_left h off)
       | inr not ↦ absurd (omega (arith, here, (grown.fresh k not on).later, less))
     ];
   }

@@ -17,7 +17,7 @@ pub record IsClosed (ws : ℕ → ℕ → Option ℕ) (s : Assignment) (t : Sear
 pub record IsFound (ws : ℕ → ℕ → Option ℕ) (s : Assignment) (t : SearchTree) (e : FreeEnd) : Type 0 where
   pub running : IsRunning ws s t
   pub its : t.labels.free_end ≡ Some e
-  pub equal : number s.values.items e.near.row ≡ e.near.weight + number s.prices.items e.class
+  pub equal : number s.values.items e.label.row ≡ e.label.weight + number s.prices.items e.class
 
 abbrev pub IsAnswer : (ℕ → ℕ → Option ℕ) → Assignment → SearchTree → Option FreeEnd → Type 0
 IsAnswer ws s t None = IsClosed ws s t
@@ -32,7 +32,7 @@ pub record IsSameRest (old new : Assignment) : Type 0 where
 -- the free end is at slack 0, or there is none at slack 0
 pub record IsFreeEndAt0 (s : Assignment) (t : SearchTree) (e : FreeEnd) : Type 0 where
   pub its : t.labels.free_end ≡ Some e
-  pub equal : number s.values.items e.near.row ≡ e.near.weight + number s.prices.items e.class
+  pub equal : number s.values.items e.label.row ≡ e.label.weight + number s.prices.items e.class
 
 abbrev pub IsNoFreeEndAt0 : Assignment → SearchTree → Type 0
-IsNoFreeEndAt0 s t = (e : FreeEnd) → t.labels.free_end ≡ Some e → number s.values.items e.near.row ≡ e.near.weight + number s.prices.items e.class → ⊥
+IsNoFreeEndAt0 s t = (e : FreeEnd) → t.labels.free_end ≡ Some e → number s.values.items e.label.row ≡ e.label.weight + number s.prices.items e.class → ⊥

@@ -1,13 +1,13 @@
 pub mod Answers
 pub mod Duals
-pub mod Filled
-pub mod Filling
+pub mod Outcomes
+pub mod Assigning
 pub mod SortedArcs
 pub mod Scans
 pub mod Orders
 pub mod Numbers
-pub mod Pushed
-pub mod Pushes
+pub mod Augmented
+pub mod Augmenting
 pub mod ReachedRows
 pub mod Searches
 pub mod Settled

@@ -2,7 +2,7 @@
 use Rattle.std.specs.Prelude.{◌≡◌, ℕ, ◌+◌, ◌-◌, ◌<◌, ◌≤◌, ◌^◌, true, false, Option, Some, None, List, ◌⊎◌, length, slice_index_or}
 use Rattle.transport.specs.Numbers.{number, IsIn}
 use Rattle.transport.specs.ReachedRows.{is_reached}
-use Rattle.transport.specs.Searches.{near_of, is_taken, IsCovered, top, weight_limit}
+use Rattle.transport.specs.Searches.{label_of, is_taken, IsCovered, top, weight_limit}
 use Rattle.transport.specs.States.{IsRunning}
 use Rattle.transport.specs.declared.labels.Label.{Label}
 use Rattle.transport.specs.declared.labels.FreeEnd.{FreeEnd}
@@ -21,7 +21,7 @@ abbrev pub IsLimit : List ℕ → ℕ → Option FreeEnd → Option ℕ → Type
 IsLimit values k None None = Unit {0}
 IsLimit values k None (Some l) = ⊥
 IsLimit values k (Some e) None = ⊥
-IsLimit values k (Some e) (Some l) = l + number values e.near.row ≡ e.near.weight + number values k
+IsLimit values k (Some e) (Some l) = l + number values e.label.row ≡ e.label.weight + number values k
 
 -- the limit, or where there is none a number that no weight with a price comes to
 abbrev pub IsBoundOf : Option ℕ → ℕ → Type 0
@@ -32,31 +32,31 @@ IsBoundOf (Some limit) bound = bound ≡ limit
 pub record CanLimit (values : List ℕ) (k : ℕ) (free_end : Option FreeEnd) : Type 0 where
   pub row : k < length values
   pub fits : number values k ≤ top
-  pub exit_row : (e : FreeEnd) → free_end ≡ Some e → e.near.row < length values
-  pub above : (e : FreeEnd) → free_end ≡ Some e → number values e.near.row ≤ e.near.weight
-  pub light : (e : FreeEnd) → free_end ≡ Some e → e.near.weight < weight_limit
+  pub free_end_row : (e : FreeEnd) → free_end ≡ Some e → e.label.row < length values
+  pub above : (e : FreeEnd) → free_end ≡ Some e → number values e.label.row ≤ e.label.weight
+  pub light : (e : FreeEnd) → free_end ≡ Some e → e.label.weight < weight_limit
 
 -- what the label of a class rests on
-pub record CanNote (values : List ℕ) (ns : Labels) (g : ℕ) (near : Label) : Type 0 where
+pub record CanImprove (values : List ℕ) (ns : Labels) (g : ℕ) (label : Label) : Type 0 where
   pub class : g < length ns.of_class.items
-  pub row : near.row < length values
+  pub row : label.row < length values
   pub fits : (k : ℕ) → number values k ≤ top
-  pub before : (n : Label) → near_of ns g ≡ Some n → n.row < length values
-  pub listed : (n : Label) → near_of ns g ≡ Some n → IsIn ns.noted.items g
+  pub before : (n : Label) → label_of ns g ≡ Some n → n.row < length values
+  pub listed : (n : Label) → label_of ns g ≡ Some n → IsIn ns.labelled.items g
 
--- a class is noted with this row, unless it was noted with one that is no further
-pub record IsLabelledNow (values : List ℕ) (old new : Labels) (g : ℕ) (near : Label) : Type 0 where
+-- a class is labelled with this row, unless it was labelled with one that is no further
+pub record IsLabelledNow (values : List ℕ) (old new : Labels) (g : ℕ) (label : Label) : Type 0 where
   pub free_end : new.free_end ≡ old.free_end
   pub long : length new.of_class.items ≡ length old.of_class.items
-  pub others : (h : ℕ) → (h ≡ g → ⊥) → near_of new h ≡ near_of old h
+  pub others : (h : ℕ) → (h ≡ g → ⊥) → label_of new h ≡ label_of old h
   pub now : Label
-  pub its : near_of new g ≡ Some now
-  pub choice : (now ≡ near) ⊎ (near_of old g ≡ Some now)
-  pub less : now.weight + number values near.row ≤ near.weight + number values now.row
-  pub better : (n : Label) → near_of old g ≡ Some n → now.weight + number values n.row ≤ n.weight + number values now.row
-  pub kept : (h : ℕ) → IsIn old.noted.items h → IsIn new.noted.items h
-  pub listed : IsIn new.noted.items g
-  pub noted_in : (n i : ℕ) → ((j : ℕ) → j < length old.noted.items → number old.noted.items j < n) → g < n → i < length new.noted.items → number new.noted.items i < n
+  pub its : label_of new g ≡ Some now
+  pub choice : (now ≡ label) ⊎ (label_of old g ≡ Some now)
+  pub less : now.weight + number values label.row ≤ label.weight + number values now.row
+  pub better : (n : Label) → label_of old g ≡ Some n → now.weight + number values n.row ≤ n.weight + number values now.row
+  pub kept : (h : ℕ) → IsIn old.labelled.items h → IsIn new.labelled.items h
+  pub listed : IsIn new.labelled.items g
+  pub labelled_in : (n i : ℕ) → ((j : ℕ) → j < length old.labelled.items → number old.labelled.items j < n) → g < n → i < length new.labelled.items → number new.labelled.items i < n
 
 abbrev pub arc_at : List Arc → ℕ → Arc
 arc_at arcs i = slice_index_or arcs i (record { weight = 0; class = 0 })
@@ -67,7 +67,7 @@ pub record AreFull (ws : ℕ → ℕ → Option ℕ) (residual : List ℕ) (k : 
   pub full : (i : ℕ) → i < upto → number residual (arc_at arcs i).class ≡ 0
 
 -- the first arcs of a reached row are of full classes, and rise
-pub record CanNoteArcs (ws : ℕ → ℕ → Option ℕ) (s : Assignment) (t : SearchTree) (k : ℕ) (arcs : List Arc) (upto : ℕ) : Type 0 where
+pub record CanLabelArcs (ws : ℕ → ℕ → Option ℕ) (s : Assignment) (t : SearchTree) (k : ℕ) (arcs : List Arc) (upto : ℕ) : Type 0 where
   pub running : IsRunning ws s t
   pub there : is_reached t.reached_rows k ≡ true
   pub full : AreFull ws s.residual.items k arcs upto
@@ -83,19 +83,19 @@ pub record IsBetter (ws : ℕ → ℕ → Option ℕ) (s : Assignment) (old new 
   pub tree_classes : new.tree_classes ≡ old.tree_classes
 
 -- a reached row has that weight for a full class
-pub record CanNoteArc (ws : ℕ → ℕ → Option ℕ) (s : Assignment) (t : SearchTree) (k : ℕ) (arc : Arc) : Type 0 where
+pub record CanLabelArc (ws : ℕ → ℕ → Option ℕ) (s : Assignment) (t : SearchTree) (k : ℕ) (arc : Arc) : Type 0 where
   pub running : IsRunning ws s t
   pub there : is_reached t.reached_rows k ≡ true
   pub weighs : ws k arc.class ≡ Some arc.weight
   pub full : number s.residual.items arc.class ≡ 0
 
--- the class is noted, or lies past the free end, or is taken up
+-- the class is labelled, or lies past the free end, or is taken up
 pub record IsArcLabelled (ws : ℕ → ℕ → Option ℕ) (s : Assignment) (k : ℕ) (old new : SearchTree) (arc : Arc) : Type 0 where
   pub better : IsBetter ws s old new
   pub free_end : new.labels.free_end ≡ old.labels.free_end
   pub own : is_taken new.tree_classes arc.class ≡ false → IsCovered s.values.items s.prices.items new.labels k arc.class arc.weight
 
--- the first arcs of a row are noted, except for those of classes taken up
+-- the first arcs of a row are labelled, except for those of classes taken up
 pub record HasLabelled (ws : ℕ → ℕ → Option ℕ) (s : Assignment) (k : ℕ) (old new : SearchTree) (arcs : List Arc) (upto : ℕ) : Type 0 where
   pub better : IsBetter ws s old new
   pub free_end : new.labels.free_end ≡ old.labels.free_end
@@ -109,8 +109,8 @@ pub record IsSeen (ws : ℕ → ℕ → Option ℕ) (s : Assignment) (k : ℕ) (
 
 pub record IsNewFreeEnd (old new : Labels) (k : ℕ) (arc : Arc) : Type 0 where
   pub of_class : new.of_class ≡ old.of_class
-  pub noted : new.noted ≡ old.noted
-  pub free_end : new.free_end ≡ Some (record { class = arc.class; near = record { row = k; weight = arc.weight } })
+  pub labelled : new.labelled ≡ old.labelled
+  pub free_end : new.free_end ≡ Some (record { class = arc.class; label = record { row = k; weight = arc.weight } })
 
 -- the free end is the class that was found from the row, or what it was where none was
 abbrev pub IsFreeEndLabelled : Labels → Labels → ℕ → Option Arc → Type 0

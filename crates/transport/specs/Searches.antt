@@ -10,13 +10,13 @@ use Rattle.transport.specs.declared.labels.FreeEnd.{FreeEnd}
 use Rattle.transport.specs.declared.labels.Labels.{Labels}
 use Rattle.transport.specs.declared.tree.TreeClasses.{TreeClasses}
 
-abbrev pub near_of : Labels → ℕ → Option Label
-near_of ns g = slice_index_or ns.of_class.items g None
+abbrev pub label_of : Labels → ℕ → Option Label
+label_of ns g = slice_index_or ns.of_class.items g None
 
 abbrev pub is_taken : TreeClasses → ℕ → Bool
 is_taken ts g = is_marked ts.taken.items g
 
--- a class is noted with a reached row that has a weight for it, and has no free CPU
+-- a class is labelled with a reached row that has a weight for it, and has no free CPU
 pub record IsLabelled (ws : ℕ → ℕ → Option ℕ) (residual : List ℕ) (q : ReachedRows) (g : ℕ) (n : Label) : Type 0 where
   pub there : is_reached q n.row ≡ true
   pub weighs : ws n.row g ≡ Some n.weight
@@ -24,30 +24,30 @@ pub record IsLabelled (ws : ℕ → ℕ → Option ℕ) (residual : List ℕ) (q
 
 -- a class with a free CPU, and a reached row that has a weight for it
 pub record IsFreeEnd (ws : ℕ → ℕ → Option ℕ) (residual : List ℕ) (q : ReachedRows) (e : FreeEnd) : Type 0 where
-  pub there : is_reached q e.near.row ≡ true
-  pub weighs : ws e.near.row e.class ≡ Some e.near.weight
+  pub there : is_reached q e.label.row ≡ true
+  pub weighs : ws e.label.row e.class ≡ Some e.label.weight
   pub some_free : 0 < number residual e.class
 
--- a row's value is the weight with which the class is noted, with the price
+-- a row's value is the weight with which the class is labelled, with the price
 pub record IsLinked (values prices : List ℕ) (ns : Labels) (g : ℕ) : Type 0 where
-  pub near : Label
-  pub its : near_of ns g ≡ Some near
-  pub equal : number values near.row ≡ near.weight + number prices g
+  pub label : Label
+  pub its : label_of ns g ≡ Some label
+  pub equal : number values label.row ≡ label.weight + number prices g
 
 -- a reached row holds some of the class through which it was reached, and the row before it was reached earlier
 pub record IsEntered (cells : ℕ → ℕ → ℕ) (q : ReachedRows) (ns : Labels) (ts : TreeClasses) (k : ℕ) : Type 0 where
   pub taken : is_taken ts (parent_class q k) ≡ true
   pub held : bottleneck q k ≤ cells k (parent_class q k)
-  pub near : Label
-  pub its : near_of ns (parent_class q k) ≡ Some near
-  pub before : index q near.row < index q k
-  pub less : bottleneck q k ≤ bottleneck q near.row
+  pub label : Label
+  pub its : label_of ns (parent_class q k) ≡ Some label
+  pub before : index q label.row < index q k
+  pub less : bottleneck q k ≤ bottleneck q label.row
 
 -- no weight is as high as this
 abbrev pub weight_limit : ℕ
 weight_limit = MAX_WEIGHT + 1
 
--- between searches no value and no price is above this: each row on the way between two adds a weight at most
+-- between searches no value and no price is above this: each row on the path between two adds a weight at most
 abbrev pub most : ℕ
 most = 2 * MAX_ROWS * weight_limit
 
@@ -64,15 +64,15 @@ pub record IsSearch (ws : ℕ → ℕ → Option ℕ) (cells : ℕ → ℕ → �
   pub reached_rows : IsReachedRows (length values) q
   pub listing : IsListing ts.order.items ts.taken.items
   pub taken_long : length ts.taken.items ≡ length prices
-  pub nears_long : length ns.of_class.items ≡ length prices
-  pub free_long : length residual ≡ length prices
+  pub labels_long : length ns.of_class.items ≡ length prices
+  pub residual_long : length residual ≡ length prices
   pub dual : IsDual ws values prices cells residual
   pub rooted : 0 < length q.order.items
   pub entries : (k : ℕ) → is_reached q k ≡ true → 0 < index q k → IsEntered cells q ns ts k
-  pub rooms : (k : ℕ) → is_reached q k ≡ true → 0 < bottleneck q k
-  pub noted : (g : ℕ) (n : Label) → near_of ns g ≡ Some n → IsLabelled ws residual q g n
-  pub listed : (g : ℕ) (n : Label) → near_of ns g ≡ Some n → is_taken ts g ≡ false → IsIn ns.noted.items g
-  pub noted_in : (i : ℕ) → i < length ns.noted.items → number ns.noted.items i < length prices
+  pub bottlenecks : (k : ℕ) → is_reached q k ≡ true → 0 < bottleneck q k
+  pub labelled : (g : ℕ) (n : Label) → label_of ns g ≡ Some n → IsLabelled ws residual q g n
+  pub listed : (g : ℕ) (n : Label) → label_of ns g ≡ Some n → is_taken ts g ≡ false → IsIn ns.labelled.items g
+  pub labelled_in : (i : ℕ) → i < length ns.labelled.items → number ns.labelled.items i < length prices
   pub linked : (g : ℕ) → is_taken ts g ≡ true → IsLinked values prices ns g
   pub holders : (k g : ℕ) → is_taken ts g ≡ true → 0 < cells k g → is_reached q k ≡ true
   pub free_end : (e : FreeEnd) → ns.free_end ≡ Some e → IsFreeEnd ws residual q e
@@ -82,47 +82,47 @@ pub record IsSearch (ws : ℕ → ℕ → Option ℕ) (cells : ℕ → ℕ → �
   pub values_fit : (k : ℕ) → number values k ≤ top
   pub prices_fit : (g : ℕ) → number prices g ≤ top
 
--- a class is noted with a row that is no further from it
+-- a class is labelled with a row that is no further from it
 pub record IsNearer (values : List ℕ) (ns : Labels) (k g w : ℕ) : Type 0 where
-  pub near : Label
-  pub its : near_of ns g ≡ Some near
-  pub least : near.weight + number values k ≤ w + number values near.row
+  pub label : Label
+  pub its : label_of ns g ≡ Some label
+  pub least : label.weight + number values k ≤ w + number values label.row
 
 -- the free end is no further from its row than the class from this one
 pub record IsPastFreeEnd (values prices : List ℕ) (ns : Labels) (k g w : ℕ) : Type 0 where
   pub free_end : FreeEnd
   pub its : ns.free_end ≡ Some free_end
-  pub least : free_end.near.weight + number values k ≤ w + number prices g + number values free_end.near.row
+  pub least : free_end.label.weight + number values k ≤ w + number prices g + number values free_end.label.row
 
 abbrev pub IsCovered : List ℕ → List ℕ → Labels → ℕ → ℕ → ℕ → Type 0
 IsCovered values prices ns k g w = IsNearer values ns k g w ⊎ IsPastFreeEnd values prices ns k g w
 
 -- the classes of the rows up to some place that are not taken up
-pub record AllCovered (ws : ℕ → ℕ → Option ℕ) (values prices : List ℕ) (q : ReachedRows) (ns : Labels) (ts : TreeClasses) (looked : ℕ) : Type 0 where
-  pub covered : (k g w : ℕ) → is_reached q k ≡ true → index q k < looked → ws k g ≡ Some w → is_taken ts g ≡ false → IsCovered values prices ns k g w
+pub record AllCovered (ws : ℕ → ℕ → Option ℕ) (values prices : List ℕ) (q : ReachedRows) (ns : Labels) (ts : TreeClasses) (scanned : ℕ) : Type 0 where
+  pub covered : (k g w : ℕ) → is_reached q k ≡ true → index q k < scanned → ws k g ≡ Some w → is_taken ts g ≡ false → IsCovered values prices ns k g w
 
 -- one class more is taken up
 pub record IsTaken (old new : TreeClasses) (g : ℕ) : Type 0 where
   pub taken : new.taken.items ≡ slice_set old.taken.items g true
   pub order : new.order.items ≡ old.order.items ++ g ∷ []
 
--- a slack, where neither the free end's nor that of a noted class is less
+-- a slack, where neither the free end's nor that of a labelled class is less
 pub record IsLeast (values prices : List ℕ) (ns : Labels) (ts : TreeClasses) (by : ℕ) : Type 0 where
-  pub free_end : (e : FreeEnd) → ns.free_end ≡ Some e → by + number values e.near.row ≤ e.near.weight + number prices e.class
-  pub noted : (g : ℕ) (n : Label) → near_of ns g ≡ Some n → is_taken ts g ≡ false → by + number values n.row ≤ n.weight + number prices g
+  pub free_end : (e : FreeEnd) → ns.free_end ≡ Some e → by + number values e.label.row ≤ e.label.weight + number prices e.class
+  pub labelled : (g : ℕ) (n : Label) → label_of ns g ≡ Some n → is_taken ts g ≡ false → by + number values n.row ≤ n.weight + number prices g
 
 -- the free end lies at that slack
 pub record IsFreeEndAt (values prices : List ℕ) (ns : Labels) (by : ℕ) : Type 0 where
   pub free_end : FreeEnd
   pub its : ns.free_end ≡ Some free_end
-  pub equal : by + number values free_end.near.row ≡ free_end.near.weight + number prices free_end.class
+  pub equal : by + number values free_end.label.row ≡ free_end.label.weight + number prices free_end.class
 
--- a noted class that is not taken up lies at that slack
+-- a labelled class that is not taken up lies at that slack
 pub record IsSlack (values prices : List ℕ) (ns : Labels) (ts : TreeClasses) (g by : ℕ) : Type 0 where
-  pub near : Label
-  pub its : near_of ns g ≡ Some near
+  pub label : Label
+  pub its : label_of ns g ≡ Some label
   pub left : is_taken ts g ≡ false
-  pub equal : by + number values near.row ≡ near.weight + number prices g
+  pub equal : by + number values label.row ≡ label.weight + number prices g
 
 -- the free end lies at that slack, or some class
 abbrev pub IsAttained : List ℕ → List ℕ → Labels → TreeClasses → ℕ → Type 0

@@ -68,7 +68,7 @@ ArePricesOfClasses rows (Plan sets prices total turns) =
     IsPricedByClass rows prices.of_cpu × All (λ p. (0 < p.amount) × (0 < set.len p.cpus)) prices.of_cpu
 ArePricesOfClasses rows (Short members turns) = Unit {0}
 
--- the first and the last of a way for each row of a plan, and not more than the bound; or those of a shortage
+-- the first and the last of a path for each row of a plan, and not more than the bound; or those of a shortage
 abbrev pub AreTurns : List RowView → Answer → Type 0
 AreTurns rows (Plan sets prices total turns) = (2 * length rows ≤ turns) × IsWithinTurns rows turns
 AreTurns rows (Short members turns) = AreShortTurns rows members.items turns

@@ -5,7 +5,7 @@ use Rattle.certificate.specs.Weight.{weight_in}
 use Rattle.certificate.specs.declared.rows.Offer.{Offer}
 use Rattle.transport.specs.Numbers.{number}
 use Rattle.transport.specs.Scans.{arc_at, IsPast}
-use Rattle.transport.specs.Orders.{bid_at, bids_in, AreBids, IsOrder}
+use Rattle.transport.specs.Orders.{weighted_at, weighted_in, AreWeighted, IsOrder}
 use Rattle.transport.specs.declared.arcs.WeightedOffer.{WeightedOffer}
 use Rattle.transport.specs.declared.arcs.Arc.{Arc}
 use Rattle.transport.specs.declared.arcs.SortedArcs.{SortedArcs}
@@ -30,11 +30,11 @@ pub record HasOffer (offers : List Offer) (firsts : List ℕ) (o g w : ℕ) : Ty
   pub weight : offer.weight ≡ w
 
 -- such an offer is not opened yet
-pub record IsToCome (offers : List Offer) (firsts : List ℕ) (bids : List WeightedOffer) (opened g w : ℕ) : Type 0 where
+pub record IsToCome (offers : List Offer) (firsts : List ℕ) (weighted : List WeightedOffer) (opened g w : ℕ) : Type 0 where
   pub index : ℕ
   pub from : opened ≤ index
-  pub within : index < length bids
-  pub has : HasOffer offers firsts (bid_at bids index).offer g w
+  pub within : index < length weighted
+  pub has : HasOffer offers firsts (weighted_at weighted index).offer g w
 
 -- no offer is opened
 pub record IsNewSortedArcs (offers : List Offer) (l : SortedArcs) : Type 0 where
@@ -44,17 +44,17 @@ pub record IsNewSortedArcs (offers : List Offer) (l : SortedArcs) : Type 0 where
   pub cursor : l.cursor ≡ 0
 
 -- the classes of the opened offers are arcs, by rising weight
-pub record AreArcs (ws : ℕ → Option ℕ) (offers : List Offer) (firsts : List ℕ) (bids : List WeightedOffer) (opened : ℕ) (arcs : List Arc) : Type 0 where
+pub record AreArcs (ws : ℕ → Option ℕ) (offers : List Offer) (firsts : List ℕ) (weighted : List WeightedOffer) (opened : ℕ) (arcs : List Arc) : Type 0 where
   pub sound : (i : ℕ) → i < length arcs → ws (arc_at arcs i).class ≡ Some (arc_at arcs i).weight
   pub rising : (i j : ℕ) → i ≤ j → j < length arcs → (arc_at arcs i).weight ≤ (arc_at arcs j).weight
-  pub low : (i j : ℕ) → i < length arcs → opened ≤ j → j < length bids → (arc_at arcs i).weight ≤ (bid_at bids j).weight
-  pub all : (g w : ℕ) → ws g ≡ Some w → IsArc arcs (length arcs) g w ⊎ IsToCome offers firsts bids opened g w
+  pub low : (i j : ℕ) → i < length arcs → opened ≤ j → j < length weighted → (arc_at arcs i).weight ≤ (weighted_at weighted j).weight
+  pub all : (g w : ℕ) → ws g ≡ Some w → IsArc arcs (length arcs) g w ⊎ IsToCome offers firsts weighted opened g w
 
 -- what sorted arcs keep: those before the cursor are of full classes
 pub record IsSortedArcs (ws : ℕ → Option ℕ) (offers : List Offer) (firsts residual : List ℕ) (l : SortedArcs) : Type 0 where
   pub order : IsOrder offers l.order
   pub opened_in : l.opened ≤ length offers
-  pub arcs : AreArcs ws offers firsts (bids_in offers l.order) l.opened l.arcs.items
+  pub arcs : AreArcs ws offers firsts (weighted_in offers l.order) l.opened l.arcs.items
   pub cursor_in : l.cursor ≤ length l.arcs.items
   pub full : (i : ℕ) → i < l.cursor → number residual (arc_at l.arcs.items i).class ≡ 0
   pub hits : (o g w : ℕ) → HasOffer offers firsts o g w → ws g ≡ Some w
@@ -69,7 +69,7 @@ IsScanned ws l limit = (g w : ℕ) → ws g ≡ Some w → IsArc l.arcs.items l.
 pub record IsFreeArc (ws : ℕ → Option ℕ) (residual : List ℕ) (limit : Option ℕ) (l : SortedArcs) (arc : Arc) : Type 0 where
   pub weighs : ws arc.class ≡ Some arc.weight
   pub some_free : 0 < number residual arc.class
-  pub near : IsPast limit arc.weight → ⊥
+  pub below_limit : IsPast limit arc.weight → ⊥
   pub scanned : IsScanned ws l (Some arc.weight)
 
 abbrev pub IsFoundFreeEnd : (ℕ → Option ℕ) → List ℕ → Option ℕ → SortedArcs → Option Arc → Type 0
@@ -82,20 +82,20 @@ IsAhead None cpu = ⊥
 IsAhead (Some next) cpu = next ≤ cpu
 
 -- the classes of an offer, of those first CPUs from the next one on still to come, beside the arcs so far
-pub record IsOpening (ws : ℕ → Option ℕ) (offers : List Offer) (firsts : List ℕ) (bids : List WeightedOffer) (opened : ℕ) (old arcs : List Arc) (next : Option ℕ) : Type 0 where
+pub record IsOpening (ws : ℕ → Option ℕ) (offers : List Offer) (firsts : List ℕ) (weighted : List WeightedOffer) (opened : ℕ) (old arcs : List Arc) (next : Option ℕ) : Type 0 where
   pub sound : (i : ℕ) → i < length arcs → ws (arc_at arcs i).class ≡ Some (arc_at arcs i).weight
   pub rising : (i j : ℕ) → i ≤ j → j < length arcs → (arc_at arcs i).weight ≤ (arc_at arcs j).weight
-  pub low : (i j : ℕ) → i < length arcs → opened ≤ j → j < length bids → (arc_at arcs i).weight ≤ (bid_at bids j).weight
+  pub low : (i j : ℕ) → i < length arcs → opened ≤ j → j < length weighted → (arc_at arcs i).weight ≤ (weighted_at weighted j).weight
   pub all : (g w : ℕ) → ws g ≡ Some w
-      → IsArc arcs (length arcs) g w ⊎ (IsToCome offers firsts bids (opened + 1) g w ⊎ (IsAhead next (number firsts g) × HasOffer offers firsts (bid_at bids opened).offer g w))
+      → IsArc arcs (length arcs) g w ⊎ (IsToCome offers firsts weighted (opened + 1) g w ⊎ (IsAhead next (number firsts g) × HasOffer offers firsts (weighted_at weighted opened).offer g w))
   pub longer : length old ≤ length arcs
   pub kept : (i : ℕ) → i < length old → arc_at arcs i ≡ arc_at old i
 
 -- an offer to open, at its weight
-pub record CanOpen (ws : ℕ → Option ℕ) (offers : List Offer) (firsts : List ℕ) (bids : List WeightedOffer) (opened : ℕ) (offer : Offer) (weight : ℕ) (arcs : List Arc) : Type 0 where
-  pub bids_are : AreBids offers bids
-  pub in_bids : opened < length bids
-  pub its : slice_get offers (bid_at bids opened).offer ≡ Some offer
-  pub weighs : weight ≡ (bid_at bids opened).weight
-  pub arcs_are : AreArcs ws offers firsts bids opened arcs
+pub record CanOpen (ws : ℕ → Option ℕ) (offers : List Offer) (firsts : List ℕ) (weighted : List WeightedOffer) (opened : ℕ) (offer : Offer) (weight : ℕ) (arcs : List Arc) : Type 0 where
+  pub weighted_are : AreWeighted offers weighted
+  pub in_weighted : opened < length weighted
+  pub its : slice_get offers (weighted_at weighted opened).offer ≡ Some offer
+  pub weighs : weight ≡ (weighted_at weighted opened).weight
+  pub arcs_are : AreArcs ws offers firsts weighted opened arcs
   pub hits : (o g w : ℕ) → HasOffer offers firsts o g w → ws g ≡ Some w

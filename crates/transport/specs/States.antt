@@ -5,7 +5,7 @@ use Rattle.transport.specs.Numbers.{number, is_marked, IsIn, IsEachOnce}
 use Rattle.transport.specs.Shares.{AllBelow, holders_of, HasNoShare}
 use Rattle.twins.specs.Holdings.{share_of}
 use Rattle.transport.specs.ReachedRows.{IsReachedRows, IsGrown, bottleneck, row_at}
-use Rattle.transport.specs.Searches.{near_of, is_taken, top, IsSearch, AllCovered, IsFreeEndAt, IsSlack, IsTaken, AreWeights}
+use Rattle.transport.specs.Searches.{label_of, is_taken, top, IsSearch, AllCovered, IsFreeEndAt, IsSlack, IsTaken, AreWeights}
 use Rattle.transport.specs.declared.labels.Label.{Label}
 use Rattle.transport.specs.declared.labels.FreeEnd.{FreeEnd}
 use Rattle.transport.specs.declared.labels.Labels.{Labels}
@@ -45,7 +45,7 @@ AreRunning s ns ts = (ws : ℕ → ℕ → Option ℕ) × (t : SearchTree) × Is
 
 -- the classes of the rows up to some place that are not taken up are covered
 abbrev pub HasScanned : (ℕ → ℕ → Option ℕ) → Assignment → SearchTree → ℕ → Type 0
-HasScanned ws s t looked = AllCovered ws s.values.items s.prices.items t.reached_rows t.labels t.tree_classes looked
+HasScanned ws s t scanned = AllCovered ws s.values.items s.prices.items t.reached_rows t.labels t.tree_classes scanned
 
 -- a class is taken up, and its holders are reached
 pub record IsTakenUp (old new : SearchTree) (g k : ℕ) (shares : List Share) : Type 0 where
@@ -58,36 +58,36 @@ pub record IsTakenUp (old new : SearchTree) (g k : ℕ) (shares : List Share) : 
 -- both begin at the same row, with the same bottleneck
 pub record IsSameRoot (old new : ReachedRows) : Type 0 where
   pub row : row_at new 0 ≡ row_at old 0
-  pub rooms : bottleneck new (row_at old 0) ≡ bottleneck old (row_at old 0)
+  pub bottlenecks : bottleneck new (row_at old 0) ≡ bottleneck old (row_at old 0)
 
 -- the classes of a list that are at slack 0 are taken up
 pub record HasTaken (s : Assignment) (old new : SearchTree) (done : List ℕ) : Type 0 where
   pub running : (ws : ℕ → ℕ → Option ℕ) → IsRunning ws s old → IsRunning ws s new
-  pub looked : (ws : ℕ → ℕ → Option ℕ) (upto : ℕ) → upto ≤ length old.reached_rows.order.items → IsRunning ws s old → HasScanned ws s old upto → HasScanned ws s new upto
+  pub scanned : (ws : ℕ → ℕ → Option ℕ) (upto : ℕ) → upto ≤ length old.reached_rows.order.items → IsRunning ws s old → HasScanned ws s old upto → HasScanned ws s new upto
   pub labels : new.labels ≡ old.labels
   pub nearest : new.nearest ≡ old.nearest
   pub longer : length old.reached_rows.order.items ≤ length new.reached_rows.order.items
   pub root : (ws : ℕ → ℕ → Option ℕ) → IsRunning ws s old → IsSameRoot old.reached_rows new.reached_rows
   pub kept : (g : ℕ) → is_taken old.tree_classes g ≡ true → is_taken new.tree_classes g ≡ true
-  pub all : (i : ℕ) (n : Label) → i < length done → near_of old.labels (number done i) ≡ Some n
+  pub all : (i : ℕ) (n : Label) → i < length done → label_of old.labels (number done i) ≡ Some n
       → number s.values.items n.row ≡ n.weight + number s.prices.items (number done i) → is_taken new.tree_classes (number done i) ≡ true
   pub grew : (new.tree_classes ≡ old.tree_classes) ⊎ (length old.tree_classes.order.items < length new.tree_classes.order.items)
 
 -- the classes that are marked stand in the list no more
 pub record IsStruck (taken : List Bool) (old new : Labels) : Type 0 where
-  pub noted : new.noted.items ≡ filter (λ g. not (is_marked taken g)) old.noted.items
+  pub labelled : new.labelled.items ≡ filter (λ g. not (is_marked taken g)) old.labelled.items
   pub of_class : new.of_class ≡ old.of_class
   pub free_end : new.free_end ≡ old.free_end
 
 -- neither a free end nor a class of these is left
 pub record IsNoneLeft (ns : Labels) (ts : TreeClasses) (done : List ℕ) : Type 0 where
   pub free_end : ns.free_end ≡ None
-  pub noted : (i : ℕ) (n : Label) → i < length done → near_of ns (number done i) ≡ Some n → is_taken ts (number done i) ≡ true
+  pub labelled : (i : ℕ) (n : Label) → i < length done → label_of ns (number done i) ≡ Some n → is_taken ts (number done i) ≡ true
 
 -- the least slack of the free end and of those of these classes that are not taken up, and the list of those that have it
 pub record IsLeastOf (values prices : List ℕ) (ns : Labels) (ts : TreeClasses) (done nearest : List ℕ) (by : ℕ) : Type 0 where
-  pub free_end : (e : FreeEnd) → ns.free_end ≡ Some e → by + number values e.near.row ≤ e.near.weight + number prices e.class
-  pub noted : (i : ℕ) (n : Label) → i < length done → near_of ns (number done i) ≡ Some n → is_taken ts (number done i) ≡ false
+  pub free_end : (e : FreeEnd) → ns.free_end ≡ Some e → by + number values e.label.row ≤ e.label.weight + number prices e.class
+  pub labelled : (i : ℕ) (n : Label) → i < length done → label_of ns (number done i) ≡ Some n → is_taken ts (number done i) ≡ false
       → by + number values n.row ≤ n.weight + number prices (number done i)
   pub each : (i : ℕ) → i < length nearest → IsSlack values prices ns ts (number nearest i) by
   pub all : (i : ℕ) → i < length done → IsSlack values prices ns ts (number done i) by → IsIn nearest (number done i)
@@ -119,13 +119,13 @@ abbrev pub IsLesser : Option ℕ → ℕ → ℕ → List ℕ → List ℕ → �
 IsLesser least g slack old new by = IsStill least slack old new by ⊎ IsShared least g slack old new by ⊎ IsLess least g slack new by
 
 abbrev pub IsTakenOrUnseen : Labels → TreeClasses → ℕ → Type 0
-IsTakenOrUnseen ns ts g = (n : Label) → near_of ns g ≡ Some n → is_taken ts g ≡ true
+IsTakenOrUnseen ns ts g = (n : Label) → label_of ns g ≡ Some n → is_taken ts g ≡ true
 
--- what a search knows of a class that is noted, or of the free end
+-- what a search knows of a class that is labelled, or of the free end
 pub record IsInReach (s : Assignment) (t : SearchTree) (g : ℕ) (n : Label) : Type 0 where
   pub class : g < length s.prices.items
   pub row : n.row < length s.values.items
   pub fits : number s.prices.items g ≤ top
   pub below : number s.values.items n.row ≤ n.weight + number s.prices.items g
-  pub in_rooms : n.row < length t.reached_rows.bottleneck.items
-  pub some_room : 0 < bottleneck t.reached_rows n.row
+  pub in_bottlenecks : n.row < length t.reached_rows.bottleneck.items
+  pub some_bottleneck : 0 < bottleneck t.reached_rows n.row

@@ -5,7 +5,7 @@ ghost use Rattle.transport.specs.Scans.{arc_at, IsPast};
 ghost use Rattle.certificate.specs.declared.rows.Offer.{Offer};
 ghost use Rattle.transport.specs.declared.arcs.WeightedOffer.{WeightedOffer};
 ghost use Rattle.transport.specs.SortedArcs.{IsSortedArcs, IsNewSortedArcs, IsFoundFreeEnd, CanOpen, IsOpening};
-ghost use Rattle.transport.specs.Orders.{bid_at, bids_in, AreAllBids, IsOrder};
+ghost use Rattle.transport.specs.Orders.{weighted_at, weighted_in, AreAllWeighted, IsOrder};
 
 use crate::Representatives;
 use certificate::{Offer, Offers};
@@ -54,7 +54,7 @@ impl SortedArcs {
         limit: Option<u64>,
     ) -> Result<Option<Arc>, AllocError>
         requires { (ws : ℕ → Option ℕ) × IsSortedArcs ws offers.now firsts.now residual.now self.old }
-        ensures line { OnOk result ((ws : ℕ → Option ℕ) → IsSortedArcs ws offers.now firsts.now residual.now self.old → IsSortedArcs ws offers.now firsts.now residual.now self.new) }
+        ensures sorted_arcs { OnOk result ((ws : ℕ → Option ℕ) → IsSortedArcs ws offers.now firsts.now residual.now self.old → IsSortedArcs ws offers.now firsts.now residual.now self.new) }
         ensures found { IfOk result (λ found. (ws : ℕ → Option ℕ) → IsSortedArcs ws offers.now firsts.now residual.now self.old → IsFoundFreeEnd ws residual.now limit self.new found) }
     {
         loop {
@@ -66,7 +66,7 @@ impl SortedArcs {
             if self.opened == offers.len() {
                 return Ok(None);
             }
-            let next = self.order.bid(offers, self.opened);
+            let next = self.order.weighted_offer(offers, self.opened);
             if is_past(limit, next.weight as u64) {
                 return Ok(None);
             }
@@ -77,14 +77,14 @@ impl SortedArcs {
     /// Opens the next offer: its classes are arcs from now on.
     fn open(&mut self, offers: &Offers, firsts: &Representatives) -> Result<(), AllocError>
         requires more { self.old.opened < length offers.now }
-        requires line { (ws : ℕ → Option ℕ) × (residual : List ℕ) × IsSortedArcs ws offers.now firsts.now residual self.old }
-        ensures line { OnOk result ((ws : ℕ → Option ℕ) (residual : List ℕ) → IsSortedArcs ws offers.now firsts.now residual self.old → IsSortedArcs ws offers.now firsts.now residual self.new) }
+        requires sorted_arcs { (ws : ℕ → Option ℕ) × (residual : List ℕ) × IsSortedArcs ws offers.now firsts.now residual self.old }
+        ensures sorted_arcs { OnOk result ((ws : ℕ → Option ℕ) (residual : List ℕ) → IsSortedArcs ws offers.now firsts.now residual self.old → IsSortedArcs ws offers.now firsts.now residual self.new) }
         ensures opened { OnOk result (self.new.opened ≡ self.old.opened + 1) }
     {
         prove!(self.opened < offers.len());
-        let bid = self.order.bid(offers, self.opened);
-        let offer = offers.offer(bid.offer);
-        push_arcs(&mut self.arcs, &offer, firsts, bid.weight)?;
+        let weighted_offer = self.order.weighted_offer(offers, self.opened);
+        let offer = offers.offer(weighted_offer.offer);
+        push_arcs(&mut self.arcs, &offer, firsts, weighted_offer.weight)?;
         self.opened += 1;
         Ok(())
     }
@@ -97,8 +97,8 @@ fn push_arcs(
     firsts: &Representatives,
     weight: u32,
 ) -> Result<(), AllocError>
-    ensures { OnOk result ((ws : ℕ → Option ℕ) (offers : List Offer) (bids : List WeightedOffer) (opened : ℕ) → CanOpen ws offers firsts.now bids opened offer.now weight arcs.old.items
-        → IsOpening ws offers firsts.now bids opened arcs.old.items arcs.new.items None) }
+    ensures { OnOk result ((ws : ℕ → Option ℕ) (offers : List Offer) (weighted : List WeightedOffer) (opened : ℕ) → CanOpen ws offers firsts.now weighted opened offer.now weight arcs.old.items
+        → IsOpening ws offers firsts.now weighted opened arcs.old.items arcs.new.items None) }
 {
     let there = firsts.among(&offer.cpus);
     let mut next = there.first();
@@ -174,38 +174,38 @@ impl OfferOrder {
         if offers.are_rising() {
             return Ok(OfferOrder::AsOffered);
         }
-        let mut bids = bids_of(alloc, offers)?;
-        bids.sort_by_key(|bid| bid.weight)?;
-        Ok(OfferOrder::ByWeight(bids))
+        let mut weighted = weighted_offers(alloc, offers)?;
+        weighted.sort_by_key(|weighted_offer| weighted_offer.weight)?;
+        Ok(OfferOrder::ByWeight(weighted))
     }
 
     /// The offer at a place of the order.
-    pub(crate) fn bid(&self, offers: &Offers, index: usize) -> WeightedOffer
+    pub(crate) fn weighted_offer(&self, offers: &Offers, index: usize) -> WeightedOffer
         requires order { IsOrder offers.now self.now }
         requires there { index < length offers.now }
-        ensures { result ≡ bid_at (bids_in offers.now self.now) index }
+        ensures { result ≡ weighted_at (weighted_in offers.now self.now) index }
     {
         match self {
             OfferOrder::AsOffered => WeightedOffer {
                 weight: offers.weight(index),
                 offer: index,
             },
-            OfferOrder::ByWeight(bids) => bids[index],
+            OfferOrder::ByWeight(weighted) => weighted[index],
         }
     }
 }
 
 /// Each offer at its weight.
-fn bids_of(alloc: Global, offers: &Offers) -> Result<Vec<WeightedOffer>, AllocError>
-    ensures all { IfOk result (λ bids. AreAllBids offers.now bids.items (length offers.now)) }
-    ensures long { IfOk result (λ bids. length bids.items ≡ length offers.now) }
+fn weighted_offers(alloc: Global, offers: &Offers) -> Result<Vec<WeightedOffer>, AllocError>
+    ensures all { IfOk result (λ weighted. AreAllWeighted offers.now weighted.items (length offers.now)) }
+    ensures long { IfOk result (λ weighted. length weighted.items ≡ length offers.now) }
 {
-    let mut bids = Vec::with_capacity(alloc, offers.len())?;
+    let mut weighted = Vec::with_capacity(alloc, offers.len())?;
     for at in 0..offers.len() {
-        bids.push(WeightedOffer {
+        weighted.push(WeightedOffer {
             weight: offers.weight(at),
             offer: at,
         })?;
     }
-    Ok(bids)
+    Ok(weighted)
 }

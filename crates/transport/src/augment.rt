@@ -8,16 +8,16 @@ ghost use Rattle.transport.specs.Weights.{weights, AreSortedArcs, AreNewSortedAr
 ghost use Rattle.transport.specs.Totals.{class_total};
 ghost use Rattle.transport.specs.States.{cell, shares_of, AreHoldings, IsNoHolder};
 ghost use Rattle.transport.specs.Settled.{IsSettled, IsTreeOf};
-ghost use Rattle.transport.specs.Filled.{IsFilled};
-ghost use Rattle.transport.specs.Filling.{CanFill, IsSearched, IsRowFilled};
-ghost use Rattle.transport.specs.declared.augment.Filled.TheVariants.{Stuck};
+ghost use Rattle.transport.specs.Outcomes.{IsOutcome};
+ghost use Rattle.transport.specs.Assigning.{CanAssign, IsSearched, IsRowAssigned};
+ghost use Rattle.transport.specs.declared.augment.Outcome.TheVariants.{Stuck};
 ghost use Rattle.transport.specs.Shares.{HasNoShare};
 ghost use Rattle.transport.specs.ReachedRows.{bottleneck, row_at};
-ghost use Rattle.transport.specs.Searches.{near_of};
+ghost use Rattle.transport.specs.Searches.{label_of};
 ghost use Rattle.transport.specs.Answers.{IsFound};
-ghost use Rattle.transport.specs.Pushed.{IsPushed};
+ghost use Rattle.transport.specs.Augmented.{IsAugmented};
 ghost use Rattle.transport.specs.declared.labels.Label.{Label};
-ghost use Rattle.transport.specs.Pushes.{IsGiven, IsGivenUp, IsSameButHoldings};
+ghost use Rattle.transport.specs.Augmenting.{IsGiven, IsGivenUp, IsSameButHoldings};
 
 use crate::arcs::SortedArcs;
 use crate::assignment::{give, take};
@@ -31,7 +31,7 @@ use std::alloc::{AllocError, Global};
 
 /// What the rows get.
 #[derive(Debug, Drop)]
-pub enum Filled {
+pub enum Outcome {
     /// Each row has what it asks for.
     Done {
         assignment: Assignment,
@@ -45,26 +45,26 @@ pub enum Filled {
     },
 }
 
-/// Fills the rows one after another, with CPUs of classes of the given sizes.
+/// Assigns the rows one after another, with CPUs of classes of the given sizes.
 ///
 /// A turn is counted for each row or class that a search takes up: at most one search for each CPU that is
 /// asked for, and in a search at most one turn for each row and class.
-pub fn assign_all(alloc: Global, instance: &Instance, sizes: &[u32]) -> Result<Filled, AllocError>
+pub fn assign_all(alloc: Global, instance: &Instance, sizes: &[u32]) -> Result<Outcome, AllocError>
     requires fit { AreRowsWithin instance.now.rows.now }
     requires kinds { AreKinds instance.now.rows.now (length instance.now.rows.now) instance.now.kinds.now }
     requires classes { length instance.now.firsts ≡ length sizes.now }
     requires few { length sizes.now ≤ CPU_LIMIT }
-    ensures { IfOk result (IsFilled instance.now.rows.now instance.now.firsts sizes.now) }
+    ensures { IfOk result (IsOutcome instance.now.rows.now instance.now.firsts sizes.now) }
 {
     let mut assignment = Assignment::first(alloc, instance, sizes)?;
-    let mut lines = sorted_arcs_of(alloc, instance)?;
+    let mut arcs_by_kind = sorted_arcs_of(alloc, instance)?;
     let mut tree = SearchTree::new(alloc, instance.rows.len(), sizes.len())?;
     let mut turns = 0;
     for row in 0..instance.rows.len() {
         if !assign_row(
             instance,
             &mut assignment,
-            &mut lines,
+            &mut arcs_by_kind,
             &mut tree,
             row,
             &mut turns,
@@ -72,80 +72,80 @@ pub fn assign_all(alloc: Global, instance: &Instance, sizes: &[u32]) -> Result<F
             return Ok(stuck(tree, turns));
         }
     }
-    Ok(Filled::Done { assignment, turns })
+    Ok(Outcome::Done { assignment, turns })
 }
 
 /// Sorted arcs for each row that is the first of its kind, which the others share; theirs are without offers.
 fn sorted_arcs_of(alloc: Global, instance: &Instance) -> Result<Vec<SortedArcs>, AllocError>
     requires kinds { length instance.now.kinds.now ≡ length instance.now.rows.now }
-    ensures { IfOk result (λ lines. AreNewSortedArcs instance.now.rows.now instance.now.kinds.now lines.items (length instance.now.rows.now)) }
+    ensures { IfOk result (λ arcs_by_kind. AreNewSortedArcs instance.now.rows.now instance.now.kinds.now arcs_by_kind.items (length instance.now.rows.now)) }
 {
-    let mut lines = Vec::with_capacity(alloc, instance.rows.len())?;
+    let mut arcs_by_kind = Vec::with_capacity(alloc, instance.rows.len())?;
     for k in 0..instance.rows.len() {
-        let line = arcs_of_kind(alloc, instance, k)?;
-        lines.push(line)?;
+        let sorted_arcs = arcs_of_kind(alloc, instance, k)?;
+        arcs_by_kind.push(sorted_arcs)?;
     }
-    Ok(lines)
+    Ok(arcs_by_kind)
 }
 
 /// The sorted arcs of a row that is the first of its kind, else such without offers.
 fn arcs_of_kind(alloc: Global, instance: &Instance, k: usize) -> Result<SortedArcs, AllocError>
     requires there { k < length instance.now.rows.now }
     requires kinds { length instance.now.kinds.now ≡ length instance.now.rows.now }
-    ensures { IfOk result (λ line. kind_at instance.now.kinds.now k ≡ k → IsNewSortedArcs (offers_of instance.now.rows.now k) line) }
+    ensures { IfOk result (λ sorted_arcs. kind_at instance.now.kinds.now k ≡ k → IsNewSortedArcs (offers_of instance.now.rows.now k) sorted_arcs) }
 {
     if instance.kinds[k] != k {
         return SortedArcs::new(alloc, &Offers::new(alloc));
     }
     let row = &instance.rows[k];
-    let line = SortedArcs::new(alloc, &row.offers)?;
-    Ok(line)
+    let sorted_arcs = SortedArcs::new(alloc, &row.offers)?;
+    Ok(sorted_arcs)
 }
 
 /// Searches until the row has what it asks for, or until a search finds nothing; says which.
 fn assign_row(
     instance: &Instance,
     assignment: &mut Assignment,
-    lines: &mut [SortedArcs],
+    arcs_by_kind: &mut [SortedArcs],
     tree: &mut SearchTree,
     row: usize,
     turns: &mut u64,
 ) -> Result<bool, AllocError>
-    requires can { CanFill instance.now row assignment.old lines.old turns.old }
+    requires can { CanAssign instance.now row assignment.old arcs_by_kind.old turns.old }
     requires tidy { IsTreeOf assignment.old tree.old }
-    ensures { IfOk result (IsRowFilled instance.now row assignment.old assignment.new lines.new tree.new turns.old turns.new) }
+    ensures { IfOk result (IsRowAssigned instance.now row assignment.old assignment.new arcs_by_kind.new tree.new turns.old turns.new) }
 {
     'searches: while assignment.deficit[row] > 0 {
-        if !augment_once(instance, assignment, lines, tree, row, turns)? {
+        if !augment_once(instance, assignment, arcs_by_kind, tree, row, turns)? {
             return Ok(false);
         }
     }
     Ok(true)
 }
 
-/// Searches once for the row, and moves CPUs along the way, where one is found.
+/// Searches once for the row, and moves CPUs along the path, where one is found.
 fn augment_once(
     instance: &Instance,
     assignment: &mut Assignment,
-    lines: &mut [SortedArcs],
+    arcs_by_kind: &mut [SortedArcs],
     tree: &mut SearchTree,
     row: usize,
     turns: &mut u64,
 ) -> Result<bool, AllocError>
-    requires can { CanFill instance.now row assignment.old lines.old turns.old }
+    requires can { CanAssign instance.now row assignment.old arcs_by_kind.old turns.old }
     requires lacks { 0 < number assignment.old.deficit.items row }
     requires tidy { IsTreeOf assignment.old tree.old }
-    ensures { IfOk result (IsSearched instance.now row assignment.old assignment.new lines.new tree.new turns.old turns.new) }
+    ensures { IfOk result (IsSearched instance.now row assignment.old assignment.new arcs_by_kind.new tree.new turns.old turns.new) }
 {
     let wanted = assignment.deficit[row];
     tree.start(row, wanted)?;
-    let found = find_augmenting_path(instance, assignment, lines, tree)?;
+    let found = find_augmenting_path(instance, assignment, arcs_by_kind, tree)?;
     *turns += (tree.reached_rows.order.len() + tree.tree_classes.order.len()) as u64;
     let Some(free_end) = found else {
         return Ok(false);
     };
     *turns += 1;
-    let amount = tree.reached_rows.bottleneck[free_end.near.row].min(
+    let amount = tree.reached_rows.bottleneck[free_end.label.row].min(
         assignment.residual[free_end.class],
     );
     let asked = &instance.rows[row];
@@ -154,19 +154,19 @@ fn augment_once(
 }
 
 /// The rows that a search reached, and the classes that it took up.
-fn stuck(tree: SearchTree, turns: u64) -> Filled
+fn stuck(tree: SearchTree, turns: u64) -> Outcome
     ensures { result ≡ Stuck tree.reached_rows.reached tree.tree_classes.taken turns }
 {
     let reached_rows = tree.reached_rows;
     let tree_classes = tree.tree_classes;
-    Filled::Stuck {
+    Outcome::Stuck {
         reached: reached_rows.reached,
         taken: tree_classes.taken,
         turns,
     }
 }
 
-/// Moves CPUs along the way from the root to a class with a free CPU.
+/// Moves CPUs along the path from the root to a class with a free CPU.
 ///
 /// From the free end back, each row takes the class that is nearer to it, and gives up as many CPUs of the
 /// one through which it was reached; the root gives up none, and is new where it holds none.
@@ -178,21 +178,21 @@ pub(crate) fn augment(
     is_new: bool,
 ) -> Result<(), AllocError>
     requires found { (ws : ℕ → ℕ → Option ℕ) × IsFound ws assignment.old tree.now free_end }
-    requires bottleneck { amount ≤ bottleneck tree.now.reached_rows free_end.near.row }
+    requires bottleneck { amount ≤ bottleneck tree.now.reached_rows free_end.label.row }
     requires residual { amount ≤ number assignment.old.residual.items free_end.class }
     requires deficit { amount ≤ number assignment.old.deficit.items (row_at tree.now.reached_rows 0) }
     requires fresh { IsTrue is_new → IsNoHolder (row_at tree.now.reached_rows 0) assignment.old.holdings.items }
-    requires unmet_long { length assignment.old.deficit.items ≡ length assignment.old.values.items }
+    requires deficit_long { length assignment.old.deficit.items ≡ length assignment.old.values.items }
     requires sizes { (g : ℕ) → class_total (cell assignment.old.holdings.items) (length assignment.old.values.items) g + number assignment.old.residual.items g < 2 ^ 32 }
-    ensures { OnOk result (IsPushed assignment.old assignment.new tree.now free_end amount) }
+    ensures { OnOk result (IsAugmented assignment.old assignment.new tree.now free_end amount) }
 {
     let mut class = free_end.class;
-    let mut row = free_end.near.row;
-    'way: while tree.reached_rows.index[row] > 0 {
+    let mut row = free_end.label.row;
+    'path: while tree.reached_rows.index[row] > 0 {
         give_to(assignment, class, row, amount, false)?;
         class = tree.reached_rows.parent_class[row];
         take_from(assignment, class, row, amount);
-        row = near_row(tree, class);
+        row = nearest_row(tree, class);
     }
     give_to(assignment, class, row, amount, is_new)?;
     assignment.residual[free_end.class] -= amount;
@@ -200,13 +200,13 @@ pub(crate) fn augment(
     Ok(())
 }
 
-/// The row with which a class is noted.
-fn near_row(tree: &SearchTree, class: usize) -> usize
+/// The row by which a class is nearest, as its label says.
+fn nearest_row(tree: &SearchTree, class: usize) -> usize
     requires { class < length tree.now.labels.of_class.items }
-    ensures { (n : Label) → near_of tree.now.labels class ≡ Some n → result ≡ n.row }
+    ensures { (n : Label) → label_of tree.now.labels class ≡ Some n → result ≡ n.row }
 {
     match tree.labels.of_class[class] {
-        Some(near) => near.row,
+        Some(label) => label.row,
         None => 0,
     }
 }

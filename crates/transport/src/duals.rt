@@ -10,17 +10,17 @@ use crate::tree::TreeClasses;
 use std::alloc::AllocError;
 
 /// How far a class is from the row that is nearest to it.
-pub(crate) fn slack(assignment: &Assignment, class: usize, near: Label) -> u64
+pub(crate) fn slack(assignment: &Assignment, class: usize, label: Label) -> u64
     requires class { class < length assignment.now.prices.items }
-    requires row { near.row < length assignment.now.values.items }
+    requires row { label.row < length assignment.now.values.items }
     requires fits { number assignment.now.prices.items class ≤ top }
-    requires below { number assignment.now.values.items near.row ≤ near.weight + number assignment.now.prices.items class }
-    ensures { result + number assignment.now.values.items near.row ≡ near.weight + number assignment.now.prices.items class }
+    requires below { number assignment.now.values.items label.row ≤ label.weight + number assignment.now.prices.items class }
+    ensures { result + number assignment.now.values.items label.row ≡ label.weight + number assignment.now.prices.items class }
 {
-    near.weight as u64 + assignment.prices[class] - assignment.values[near.row]
+    label.weight as u64 + assignment.prices[class] - assignment.values[label.row]
 }
 
-/// The least slack of the free end and of the noted classes that are not taken up; lists the classes that have it.
+/// The least slack of the free end and of the labelled classes that are not taken up; lists the classes that have it.
 pub(crate) fn least_slack(
     assignment: &Assignment,
     labels: &Labels,
@@ -28,14 +28,14 @@ pub(crate) fn least_slack(
     nearest: &mut Vec<usize>,
 ) -> Result<Option<u64>, AllocError>
     requires { AreRunning assignment.now labels.now tree_classes.now }
-    ensures { IfOk result (IsLeastUpTo assignment.now.values.items assignment.now.prices.items labels.now tree_classes.now labels.now.noted.items nearest.new.items) }
+    ensures { IfOk result (IsLeastUpTo assignment.now.values.items assignment.now.prices.items labels.now tree_classes.now labels.now.labelled.items nearest.new.items) }
 {
     nearest.clear();
     let mut least = match labels.free_end {
-        Some(free_end) => Some(slack(assignment, free_end.class, free_end.near)),
+        Some(free_end) => Some(slack(assignment, free_end.class, free_end.label)),
         None => None,
     };
-    for class in &labels.noted {
+    for class in &labels.labelled {
         if let Some(slack) = open_slack(assignment, labels, tree_classes, *class) {
             least = Some(lesser(least, *class, slack, nearest)?);
         }
@@ -43,7 +43,7 @@ pub(crate) fn least_slack(
     Ok(least)
 }
 
-/// The slack of a class that is noted and not taken up.
+/// The slack of a class that is labelled and not taken up.
 fn open_slack(
     assignment: &Assignment,
     labels: &Labels,
@@ -59,7 +59,7 @@ fn open_slack(
         return None;
     }
     match labels.of_class[class] {
-        Some(near) => Some(slack(assignment, class, near)),
+        Some(label) => Some(slack(assignment, class, label)),
         None => None,
     }
 }

@@ -2,7 +2,7 @@
 ghost use Rattle.std.specs.Prelude.{ℕ, ◌<◌, length, OnOk};
 ghost use Rattle.transport.specs.Numbers.{number};
 ghost use Rattle.transport.specs.States.{IsStruck};
-ghost use Rattle.transport.specs.Scans.{CanNote, IsLabelledNow};
+ghost use Rattle.transport.specs.Scans.{CanImprove, IsLabelledNow};
 ghost use Rattle.transport.specs.Settled.{AreListed, AreNoneLabelled, IsForgotten};
 
 use std::alloc::AllocError;
@@ -18,27 +18,27 @@ pub(crate) struct Label {
 #[derive(Clone, Copy, Debug)]
 pub(crate) struct FreeEnd {
     pub(crate) class: usize,
-    pub(crate) near: Label,
+    pub(crate) label: Label,
 }
 
 /// The classes that a search has seen.
 #[derive(Debug, Drop)]
 pub(crate) struct Labels {
     pub(crate) of_class: Vec<Option<Label>>,
-    /// The classes that are noted and not taken up.
-    pub(crate) noted: Vec<usize>,
+    /// The classes that have a label and are not taken up.
+    pub(crate) labelled: Vec<usize>,
     pub(crate) free_end: Option<FreeEnd>,
 }
 
 impl Labels {
-    /// Forgets the classes that are noted, those taken up among them, and the free end.
+    /// Forgets the labels of all classes, those taken up among them, and the free end.
     pub(crate) fn clear(&mut self, taken: &[usize])
         requires { AreListed self.old taken.now }
         ensures { AreNoneLabelled (length self.old.of_class.items) self.new }
     {
-        forget(&mut self.of_class, &self.noted);
+        forget(&mut self.of_class, &self.labelled);
         forget(&mut self.of_class, taken);
-        self.noted.clear();
+        self.labelled.clear();
         self.free_end = None;
     }
 
@@ -46,28 +46,28 @@ impl Labels {
     pub(crate) fn strike_taken(&mut self, taken: &[bool])
         ensures { IsStruck taken.now self.old self.new }
     {
-        self.noted
+        self.labelled
             .retain(|class| !matches!(taken.get(*class), Some(true)));
     }
 
-    /// Notes that a class is this near, unless it is as near already.
-    pub(crate) fn note(
+    /// Labels a class, unless it has a label by which it is as near.
+    pub(crate) fn improve(
         &mut self,
         class: usize,
-        near: Label,
+        label: Label,
         values: &[u64],
     ) -> Result<(), AllocError>
-        requires { CanNote values.now self.old class near }
-        ensures { OnOk result (IsLabelledNow values.now self.old self.new class near) }
+        requires { CanImprove values.now self.old class label }
+        ensures { OnOk result (IsLabelledNow values.now self.old self.new class label) }
     {
         match self.of_class[class] {
             None => {
-                self.noted.push(class)?;
-                self.of_class[class] = Some(near);
+                self.labelled.push(class)?;
+                self.of_class[class] = Some(label);
             }
             Some(old) => {
-                if near.weight as u64 + values[old.row] < old.weight as u64 + values[near.row] {
-                    self.of_class[class] = Some(near);
+                if label.weight as u64 + values[old.row] < old.weight as u64 + values[label.row] {
+                    self.of_class[class] = Some(label);
                 }
             }
         }

@@ -38,6 +38,6 @@ mod solver;
 mod tree;
 
 pub(crate) use assignment::Assignment;
-pub(crate) use augment::{Filled, assign_all};
+pub(crate) use augment::{Outcome, assign_all};
 pub(crate) use instance::{Instance, Representatives};
 pub use solver::{Answer, solve};

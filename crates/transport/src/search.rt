@@ -7,7 +7,7 @@ ghost use Rattle.transport.specs.Answers.{IsAnswer, IsSameRest, IsNoFreeEndAt0, 
 ghost use Rattle.transport.specs.ReachedRows.{is_reached};
 ghost use Rattle.transport.specs.SortedArcs.{IsSortedArcs, IsFoundFreeEnd, IsScanned};
 ghost use Rattle.twins.specs.Kinds.{offers_of};
-ghost use Rattle.transport.specs.Scans.{IsLimit, IsBoundOf, CanNoteArc, CanNoteArcs, IsArcLabelled, HasLabelled, AreRising, IsBetter, IsSeen, CanLimit, IsFreeEndLabelled};
+ghost use Rattle.transport.specs.Scans.{IsLimit, IsBoundOf, CanLabelArc, CanLabelArcs, IsArcLabelled, HasLabelled, AreRising, IsBetter, IsSeen, CanLimit, IsFreeEndLabelled};
 
 use crate::arcs::{Arc, SortedArcs};
 use crate::duals::{least_slack, raise, slack};
@@ -20,25 +20,31 @@ use std::alloc::AllocError;
 pub(crate) fn find_augmenting_path(
     instance: &Instance,
     assignment: &mut Assignment,
-    lines: &mut [SortedArcs],
+    arcs_by_kind: &mut [SortedArcs],
     tree: &mut SearchTree,
 ) -> Result<Option<FreeEnd>, AllocError>
     requires running { IsRunning (weights instance.now) assignment.old tree.old }
     requires rows { length instance.now.rows.now ≡ length assignment.old.values.items }
-    requires lines { AreSortedArcs instance.now assignment.old.residual.items lines.old }
-    ensures lines { OnOk result (AreSortedArcs instance.now assignment.new.residual.items lines.new) }
+    requires arcs_by_kind { AreSortedArcs instance.now assignment.old.residual.items arcs_by_kind.old }
+    ensures arcs_by_kind { OnOk result (AreSortedArcs instance.now assignment.new.residual.items arcs_by_kind.new) }
     ensures rows { OnOk result (length instance.now.rows.now ≡ length assignment.new.values.items) }
     ensures rest { OnOk result (IsSameRest assignment.old assignment.new) }
     ensures root { OnOk result (IsSameRoot tree.old.reached_rows tree.new.reached_rows) }
     ensures answer { IfOk result (IsAnswer (weights instance.now) assignment.new tree.new) }
 {
-    let mut looked = 0;
+    let mut scanned = 0;
     'steps: loop {
-        if let Some(free_end) = find_free_class(instance, assignment, lines, tree, looked)? {
+        if let Some(free_end) = find_free_class(
+            instance,
+            assignment,
+            arcs_by_kind,
+            tree,
+            scanned,
+        )? {
             return Ok(Some(free_end));
         }
-        scan_rows(instance, assignment, lines, tree, looked)?;
-        looked = tree.reached_rows.order.len();
+        scan_rows(instance, assignment, arcs_by_kind, tree, scanned)?;
+        scanned = tree.reached_rows.order.len();
         let least = least_slack(
             assignment,
             &tree.labels,
@@ -88,7 +94,7 @@ pub(crate) fn take_nearest(assignment: &Assignment, tree: &mut SearchTree) -> Re
     Ok(())
 }
 
-/// Takes up a noted class if it is at slack 0 and not taken up yet.
+/// Takes up a labelled class if it is at slack 0 and not taken up yet.
 fn take_if_nearest(
     assignment: &Assignment,
     tree: &mut SearchTree,
@@ -102,8 +108,8 @@ fn take_if_nearest(
         return Ok(());
     }
     match tree.labels.of_class[class] {
-        Some(near) if slack(assignment, class, near) == 0 => {
-            take_class(tree, &assignment.holdings[class].shares, class, near.row)
+        Some(label) if slack(assignment, class, label) == 0 => {
+            take_class(tree, &assignment.holdings[class].shares, class, label.row)
         }
         _ => Ok(()),
     }
@@ -113,23 +119,23 @@ fn take_if_nearest(
 pub(crate) fn scan_rows(
     instance: &Instance,
     assignment: &Assignment,
-    lines: &mut [SortedArcs],
+    arcs_by_kind: &mut [SortedArcs],
     tree: &mut SearchTree,
     from: usize,
 ) -> Result<(), AllocError>
     requires running { IsRunning (weights instance.now) assignment.now tree.old }
     requires rows { length instance.now.rows.now ≡ length assignment.now.values.items }
-    requires lines { AreSortedArcs instance.now assignment.now.residual.items lines.old }
+    requires arcs_by_kind { AreSortedArcs instance.now assignment.now.residual.items arcs_by_kind.old }
     requires from { from ≤ length tree.old.reached_rows.order.items }
-    requires looked { HasScanned (weights instance.now) assignment.now tree.old from }
-    ensures lines { OnOk result (AreSortedArcs instance.now assignment.now.residual.items lines.new) }
+    requires scanned { HasScanned (weights instance.now) assignment.now tree.old from }
+    ensures arcs_by_kind { OnOk result (AreSortedArcs instance.now assignment.now.residual.items arcs_by_kind.new) }
     ensures better { OnOk result (IsBetter (weights instance.now) assignment.now tree.old tree.new) }
-    ensures looked { OnOk result (HasScanned (weights instance.now) assignment.now tree.new (length tree.new.reached_rows.order.items)) }
+    ensures scanned { OnOk result (HasScanned (weights instance.now) assignment.now tree.new (length tree.new.reached_rows.order.items)) }
 {
     for at in from..tree.reached_rows.order.len() {
         let row = tree.reached_rows.order[at];
-        let line = instance.kinds[row];
-        scan_row(instance, assignment, &mut lines[line], tree, row)?;
+        let kind = instance.kinds[row];
+        scan_row(instance, assignment, &mut arcs_by_kind[kind], tree, row)?;
     }
     Ok(())
 }
@@ -138,20 +144,27 @@ pub(crate) fn scan_rows(
 pub(crate) fn scan_row(
     instance: &Instance,
     assignment: &Assignment,
-    line: &mut SortedArcs,
+    sorted_arcs: &mut SortedArcs,
     tree: &mut SearchTree,
     row: usize,
 ) -> Result<(), AllocError>
     requires running { IsRunning (weights instance.now) assignment.now tree.old }
     requires row { row < length instance.now.rows.now }
     requires there { is_reached tree.old.reached_rows row ≡ true }
-    requires line { IsSortedArcs (weights instance.now row) (offers_of instance.now.rows.now row) instance.now.firsts assignment.now.residual.items line.old }
-    ensures line { OnOk result (IsSortedArcs (weights instance.now row) (offers_of instance.now.rows.now row) instance.now.firsts assignment.now.residual.items line.new) }
+    requires sorted_arcs { IsSortedArcs (weights instance.now row) (offers_of instance.now.rows.now row) instance.now.firsts assignment.now.residual.items sorted_arcs.old }
+    ensures sorted_arcs { OnOk result (IsSortedArcs (weights instance.now row) (offers_of instance.now.rows.now row) instance.now.firsts assignment.now.residual.items sorted_arcs.new) }
     ensures seen { OnOk result (IsSeen (weights instance.now) assignment.now row tree.old tree.new) }
 {
-    find_free_class_of(instance, assignment, line, tree, row)?;
+    find_free_class_of(instance, assignment, sorted_arcs, tree, row)?;
     let limit = limit_of(&assignment.values, tree.labels.free_end, row);
-    label_arcs(assignment, &line.arcs, line.cursor, tree, row, limit)
+    label_arcs(
+        assignment,
+        &sorted_arcs.arcs,
+        sorted_arcs.cursor,
+        tree,
+        row,
+        limit,
+    )
 }
 
 /// Labels the classes of a row's first arcs that are nearer than the free end.
@@ -166,8 +179,8 @@ pub(crate) fn label_arcs(
     requires upto { upto ≤ length arcs.now }
     requires rising { AreRising arcs.now }
     requires limit { IsLimit assignment.now.values.items row tree.old.labels.free_end limit }
-    requires can { (ws : ℕ → ℕ → Option ℕ) × CanNoteArcs ws assignment.now tree.old row arcs.now upto }
-    ensures { OnOk result ((ws : ℕ → ℕ → Option ℕ) → CanNoteArcs ws assignment.now tree.old row arcs.now upto → HasLabelled ws assignment.now row tree.old tree.new arcs.now upto) }
+    requires can { (ws : ℕ → ℕ → Option ℕ) × CanLabelArcs ws assignment.now tree.old row arcs.now upto }
+    ensures { OnOk result ((ws : ℕ → ℕ → Option ℕ) → CanLabelArcs ws assignment.now tree.old row arcs.now upto → HasLabelled ws assignment.now row tree.old tree.new arcs.now upto) }
 {
     let bound = bound_of(limit);
     for at in 0..upto {
@@ -199,8 +212,8 @@ fn label_arc(
     bound: u64,
 ) -> Result<(), AllocError>
     requires bound { (limit : Option ℕ) × IsLimit assignment.now.values.items row tree.old.labels.free_end limit × IsBoundOf limit bound }
-    requires can { (ws : ℕ → ℕ → Option ℕ) × CanNoteArc ws assignment.now tree.old row arc }
-    ensures { OnOk result ((ws : ℕ → ℕ → Option ℕ) → CanNoteArc ws assignment.now tree.old row arc → IsArcLabelled ws assignment.now row tree.old tree.new arc) }
+    requires can { (ws : ℕ → ℕ → Option ℕ) × CanLabelArc ws assignment.now tree.old row arc }
+    ensures { OnOk result ((ws : ℕ → ℕ → Option ℕ) → CanLabelArc ws assignment.now tree.old row arc → IsArcLabelled ws assignment.now row tree.old tree.new arc) }
 {
     if tree.tree_classes.taken[arc.class] {
         return Ok(());
@@ -208,11 +221,11 @@ fn label_arc(
     if arc.weight as u64 + assignment.prices[arc.class] >= bound {
         return Ok(());
     }
-    let near = Label {
+    let label = Label {
         row,
         weight: arc.weight,
     };
-    tree.labels.note(arc.class, near, &assignment.values)
+    tree.labels.improve(arc.class, label, &assignment.values)
 }
 
 /// Seeks the free end from the rows that are reached, from a place in their order on, until it is at slack 0.
@@ -221,22 +234,22 @@ fn label_arc(
 pub(crate) fn find_free_class(
     instance: &Instance,
     assignment: &Assignment,
-    lines: &mut [SortedArcs],
+    arcs_by_kind: &mut [SortedArcs],
     tree: &mut SearchTree,
     from: usize,
 ) -> Result<Option<FreeEnd>, AllocError>
     requires running { IsRunning (weights instance.now) assignment.now tree.old }
     requires rows { length instance.now.rows.now ≡ length assignment.now.values.items }
-    requires lines { AreSortedArcs instance.now assignment.now.residual.items lines.old }
+    requires arcs_by_kind { AreSortedArcs instance.now assignment.now.residual.items arcs_by_kind.old }
     requires from { from ≤ length tree.old.reached_rows.order.items }
-    ensures lines { OnOk result (AreSortedArcs instance.now assignment.now.residual.items lines.new) }
+    ensures arcs_by_kind { OnOk result (AreSortedArcs instance.now assignment.now.residual.items arcs_by_kind.new) }
     ensures better { OnOk result (IsBetter (weights instance.now) assignment.now tree.old tree.new) }
     ensures free_end { IfOk result (λ found. IfSome found (IsFreeEndAt0 assignment.now tree.new)) }
 {
     for at in from..tree.reached_rows.order.len() {
         let row = tree.reached_rows.order[at];
-        let line = instance.kinds[row];
-        find_free_class_of(instance, assignment, &mut lines[line], tree, row)?;
+        let kind = instance.kinds[row];
+        find_free_class_of(instance, assignment, &mut arcs_by_kind[kind], tree, row)?;
         if let Some(free_end) = free_end_at_0(assignment, tree) {
             return Ok(Some(free_end));
         }
@@ -248,20 +261,20 @@ pub(crate) fn find_free_class(
 pub(crate) fn find_free_class_of(
     instance: &Instance,
     assignment: &Assignment,
-    line: &mut SortedArcs,
+    sorted_arcs: &mut SortedArcs,
     tree: &mut SearchTree,
     row: usize,
 ) -> Result<(), AllocError>
     requires running { IsRunning (weights instance.now) assignment.now tree.old }
     requires row { row < length instance.now.rows.now }
     requires there { is_reached tree.old.reached_rows row ≡ true }
-    requires line { IsSortedArcs (weights instance.now row) (offers_of instance.now.rows.now row) instance.now.firsts assignment.now.residual.items line.old }
-    ensures line { OnOk result (IsSortedArcs (weights instance.now row) (offers_of instance.now.rows.now row) instance.now.firsts assignment.now.residual.items line.new) }
+    requires sorted_arcs { IsSortedArcs (weights instance.now row) (offers_of instance.now.rows.now row) instance.now.firsts assignment.now.residual.items sorted_arcs.old }
+    ensures sorted_arcs { OnOk result (IsSortedArcs (weights instance.now row) (offers_of instance.now.rows.now row) instance.now.firsts assignment.now.residual.items sorted_arcs.new) }
     ensures better { OnOk result (IsBetter (weights instance.now) assignment.now tree.old tree.new) }
-    ensures scanned { OnOk result ((limit : Option ℕ) → IsLimit assignment.now.values.items row tree.new.labels.free_end limit → IsScanned (weights instance.now row) line.new limit) }
+    ensures scanned { OnOk result ((limit : Option ℕ) → IsLimit assignment.now.values.items row tree.new.labels.free_end limit → IsScanned (weights instance.now row) sorted_arcs.new limit) }
 {
     let limit = limit_of(&assignment.values, tree.labels.free_end, row);
-    let found = nearest_free_class(instance, assignment, line, row, limit)?;
+    let found = nearest_free_class(instance, assignment, sorted_arcs, row, limit)?;
     label_free_end(&mut tree.labels, found, row);
     Ok(())
 }
@@ -270,17 +283,17 @@ pub(crate) fn find_free_class_of(
 fn nearest_free_class(
     instance: &Instance,
     assignment: &Assignment,
-    line: &mut SortedArcs,
+    sorted_arcs: &mut SortedArcs,
     row: usize,
     limit: Option<u64>,
 ) -> Result<Option<Arc>, AllocError>
     requires row { row < length instance.now.rows.now }
-    requires line { IsSortedArcs (weights instance.now row) (offers_of instance.now.rows.now row) instance.now.firsts assignment.now.residual.items line.old }
-    ensures line { OnOk result (IsSortedArcs (weights instance.now row) (offers_of instance.now.rows.now row) instance.now.firsts assignment.now.residual.items line.new) }
-    ensures found { IfOk result (λ found. IsFoundFreeEnd (weights instance.now row) assignment.now.residual.items limit line.new found) }
+    requires sorted_arcs { IsSortedArcs (weights instance.now row) (offers_of instance.now.rows.now row) instance.now.firsts assignment.now.residual.items sorted_arcs.old }
+    ensures sorted_arcs { OnOk result (IsSortedArcs (weights instance.now row) (offers_of instance.now.rows.now row) instance.now.firsts assignment.now.residual.items sorted_arcs.new) }
+    ensures found { IfOk result (λ found. IsFoundFreeEnd (weights instance.now row) assignment.now.residual.items limit sorted_arcs.new found) }
 {
     let asked = &instance.rows[row];
-    let found = line.nearest_free_class(
+    let found = sorted_arcs.nearest_free_class(
         &asked.offers,
         &instance.firsts,
         &assignment.residual,
@@ -296,7 +309,7 @@ fn label_free_end(labels: &mut Labels, found: Option<Arc>, row: usize)
     if let Some(arc) = found {
         labels.free_end = Some(FreeEnd {
             class: arc.class,
-            near: Label {
+            label: Label {
                 row,
                 weight: arc.weight,
             },
@@ -310,7 +323,7 @@ pub(crate) fn free_end_at_0(assignment: &Assignment, tree: &SearchTree) -> Optio
     ensures { MatchOption result (IsNoFreeEndAt0 assignment.now tree.now) (IsFreeEndAt0 assignment.now tree.now) }
 {
     match tree.labels.free_end {
-        Some(free_end) if slack(assignment, free_end.class, free_end.near) == 0 => Some(free_end),
+        Some(free_end) if slack(assignment, free_end.class, free_end.label) == 0 => Some(free_end),
         _ => None,
     }
 }
@@ -322,7 +335,7 @@ pub(crate) fn limit_of(values: &[u64], free_end: Option<FreeEnd>, row: usize) ->
 {
     match free_end {
         Some(free_end) => Some(
-            values[row] + (free_end.near.weight as u64 - values[free_end.near.row]),
+            values[row] + (free_end.label.weight as u64 - values[free_end.label.row]),
         ),
         None => None,
     }

@@ -4,14 +4,14 @@ ghost use Rattle.certificate.specs.AreWithin.{AreRowsWithin};
 ghost use Rattle.certificate.specs.Limits.{rows_fit};
 ghost use Rattle.twins.specs.IsGrouping.{IsGrouping};
 ghost use Rattle.twins.specs.Kinds.{AreKinds};
-ghost use Rattle.transport.specs.Filled.{IsDone, IsStuck, IsFilled};
+ghost use Rattle.transport.specs.Outcomes.{IsDone, IsStuck, IsOutcome};
 ghost use Rattle.transport.specs.Representatives.{first_of};
 ghost use Rattle.transport.specs.Solved.{IsRight, IsDecided, AreTwinsDealt, ArePricesOfClasses, AreTurns, IsSolved};
 ghost use Rattle.transport.specs.Places.{marked_places};
 ghost use Rattle.std.specs.FinSet as set;
 
 use crate::instance::sizes_of;
-use crate::{Assignment, Filled, Instance, Representatives, assign_all};
+use crate::{Assignment, Instance, Outcome, Representatives, assign_all};
 use certificate::{Plan, Prices, Problem, Row, proved_cost};
 use cpu_set::{CPU_LIMIT, IdSet};
 use std::alloc::{AllocError, Global};
@@ -52,9 +52,9 @@ fn solve_body(alloc: Global, problem: &Problem) -> Result<Answer, AllocError>
     let rows = problem.rows.as_slice();
     let kinds = kinds_of(alloc, rows)?;
     let classes = group(alloc, problem, &kinds)?;
-    match filled(alloc, rows, &kinds, classes.sets.as_slice())? {
-        Filled::Done { assignment, turns } => planned(alloc, problem, &classes, assignment, turns),
-        Filled::Stuck {
+    match assigned(alloc, rows, &kinds, classes.sets.as_slice())? {
+        Outcome::Done { assignment, turns } => planned(alloc, problem, &classes, assignment, turns),
+        Outcome::Stuck {
             reached,
             taken,
             turns,
@@ -62,18 +62,18 @@ fn solve_body(alloc: Global, problem: &Problem) -> Result<Answer, AllocError>
     }
 }
 
-/// The rows, filled with CPUs of these classes.
-fn filled(
+/// What assigning the rows CPUs of these classes ends with.
+fn assigned(
     alloc: Global,
     rows: &[Row],
     kinds: &[usize],
     classes: &[IdSet],
-) -> Result<Filled, AllocError>
+) -> Result<Outcome, AllocError>
     requires kinds { AreKinds rows.now (length rows.now) kinds.now }
     requires fit { AreRowsWithin rows.now }
     requires grouping { IsGrouping rows.now classes.now }
     requires few { length classes.now ≤ CPU_LIMIT }
-    ensures { IfOk result (IsFilled rows.now (map first_of classes.now) (map (λ s. set.len s) classes.now)) }
+    ensures { IfOk result (IsOutcome rows.now (map first_of classes.now) (map (λ s. set.len s) classes.now)) }
 {
     let firsts = Representatives::new(alloc, classes)?;
     let sizes = sizes_of(alloc, classes)?;

@@ -32,7 +32,7 @@ impl SearchTree {
             reached_rows,
             labels: Labels {
                 of_class,
-                noted: Vec::new(alloc),
+                labelled: Vec::new(alloc),
                 free_end: None,
             },
             tree_classes: TreeClasses {
@@ -45,7 +45,7 @@ impl SearchTree {
 
     /// Begins a search: its root alone is reached.
     ///
-    /// Only what the last search reached, noted or took up is cleared.
+    /// Only what the last search reached, labelled or took up is cleared.
     pub(crate) fn start(&mut self, root: usize, bottleneck: u32) -> Result<(), AllocError>
         requires { (rows classes : ℕ) × IsTidy rows classes self.old × (root < rows) }
         ensures { OnOk result ((rows classes : ℕ) → IsTidy rows classes self.old → root < rows → IsFresh rows classes root bottleneck self.new) }
@@ -65,9 +65,9 @@ pub(crate) struct ReachedRows {
     pub(crate) order: Vec<usize>,
     /// The class through which each row was reached.
     pub(crate) parent_class: Vec<usize>,
-    /// How many CPUs can be moved along the way to each row.
+    /// How many CPUs can be moved along the path to each row.
     pub(crate) bottleneck: Vec<u32>,
-    /// The place of each row in the order.
+    /// The index of each row in the order.
     pub(crate) index: Vec<usize>,
 }
 
@@ -78,13 +78,13 @@ impl ReachedRows {
     {
         let reached = vec![in alloc; false; rows]?;
         let parent_class = vec![in alloc; 0usize; rows]?;
-        let rooms = vec![in alloc; 0u32; rows]?;
+        let bottleneck = vec![in alloc; 0u32; rows]?;
         let index = vec![in alloc; 0usize; rows]?;
         Ok(ReachedRows {
             reached,
             order: Vec::new(alloc),
             parent_class,
-            bottleneck: rooms,
+            bottleneck,
             index,
         })
     }
@@ -107,8 +107,8 @@ impl ReachedRows {
     ) -> Result<(), AllocError>
         requires reached { row < length self.old.reached.items }
         requires parent_class { row < length self.old.parent_class.items }
-        requires rooms { row < length self.old.bottleneck.items }
-        requires places { row < length self.old.index.items }
+        requires bottlenecks { row < length self.old.bottleneck.items }
+        requires indices { row < length self.old.index.items }
         ensures { OnOk result (IsReached self.old self.new row class bottleneck) }
     {
         let index = self.order.len();

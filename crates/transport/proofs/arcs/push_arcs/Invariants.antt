@@ -10,8 +10,8 @@ use Rattle.transport.proofs.arcs.push_arcs.Given as goal
 
 abbrev pub invariant-loop-next : goal.invariant-loop-next
 invariant-loop-next l = record {
-  opening : (ws : ℕ → Option ℕ) (offers : List Offer) (bids : List WeightedOffer) (opened : ℕ) → CanOpen ws offers l.firsts bids opened l.offer l.weight l.initial.arcs.items
-      → IsOpening ws offers l.firsts bids opened l.initial.arcs.items l.arcs.items l.next;
+  opening : (ws : ℕ → Option ℕ) (offers : List Offer) (weighted : List WeightedOffer) (opened : ℕ) → CanOpen ws offers l.firsts weighted opened l.offer l.weight l.initial.arcs.items
+      → IsOpening ws offers l.firsts weighted opened l.initial.arcs.items l.arcs.items l.next;
   member : IfSome l.next (λ c. set.contains l.there c ≡ true);
   in_range : IfSome l.next (λ c. IsCpu c);
 }

@@ -7,5 +7,5 @@ use Rattle.transport.proofs.augment.arcs_of_kind.Goals as goal
 
 pub returns : goal.returns
 returns c = λ first.
-    subst (λ (o : List Offer). IsNewSortedArcs o c.in_ok-line.line)
-    (ap (λ (r : RowView). r.offers) (c.row.view_is ∙ sym c.index-instance-k.is) ∙ offers_read _ _ _ c.requires.there c.index-instance-k.is) c.in_ok-line.ensures
+    subst (λ (o : List Offer). IsNewSortedArcs o c.in_ok-sorted_arcs.sorted_arcs)
+    (ap (λ (r : RowView). r.offers) (c.row.view_is ∙ sym c.index-instance-k.is) ∙ offers_read _ _ _ c.requires.there c.index-instance-k.is) c.in_ok-sorted_arcs.ensures

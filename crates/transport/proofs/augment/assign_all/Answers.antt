@@ -1,26 +1,26 @@
 use Rattle.std.proofs.Common.{◌≡◌, ℕ, ◌+◌, ◌++◌, List, length, take, sym, ◌∙◌, subst, arith}
 use Rattle.std.proofs.lemmas.List.{take-append-le, take_all}
 use Rattle.transport.specs.declared.arcs.SortedArcs.{SortedArcs}
-use Rattle.transport.specs.Filled.{IsFilled}
-use Rattle.transport.specs.Filling.{CanFill, AreFilled, IsRowFilled}
-use Rattle.transport.proofs.Filling.{filled_first, can_fill, filled_more, stuck_at_end, done_at_end}
+use Rattle.transport.specs.Outcomes.{IsOutcome}
+use Rattle.transport.specs.Assigning.{CanAssign, AreAssigned, IsRowAssigned}
+use Rattle.transport.proofs.Assigning.{assigned_first, can_assign, assigned_more, stuck_at_end, done_at_end}
 use Rattle.transport.proofs.augment.assign_all.Goals as goal
 
 pub loop-row-init : goal.loop-row-init
 loop-row-init c =
-    let first = filled_first _ _ _ _ c.requires.fit c.requires.kinds c.requires.classes c.in_ok-assignment.ensures c.in_ok-lines.ensures in
+    let first = assigned_first _ _ _ _ c.requires.fit c.requires.kinds c.requires.classes c.in_ok-assignment.ensures c.in_ok-arcs_by_kind.ensures in
     (first, rw (first.values_long, first.prices_long) c.in_ok-tree.ensures)
 
 pub assign_row-requires-clause-can : goal.assign_row-requires-clause-can
 assign_row-requires-clause-can c =
-    subst (λ lines. CanFill c.args.instance.now c.loop-row.row c.loop-row.assignment lines c.loop-row.turns) (sym c.deref_mut.ensures.value)
-    (can_fill _ _ _ _ _ _ c.loop-row.invariant.0 c.requires.fit c.loop-row-test.true c.requires.few (λ g. omega (arith, c.type_inv.sizes g)))
+    subst (λ arcs_by_kind. CanAssign c.args.instance.now c.loop-row.row c.loop-row.assignment arcs_by_kind c.loop-row.turns) (sym c.deref_mut.ensures.value)
+    (can_assign _ _ _ _ _ _ c.loop-row.invariant.0 c.requires.fit c.loop-row-test.true c.requires.few (λ g. omega (arith, c.type_inv.sizes g)))
 
 pub returns-then-not-branch : goal.returns-then-not-branch
 returns-then-not-branch c =
-    subst (IsFilled c.args.instance.now.rows.now c.args.instance.now.firsts c.args.sizes.now) (sym c.stuck.ensures)
+    subst (IsOutcome c.args.instance.now.rows.now c.args.instance.now.firsts c.args.sizes.now) (sym c.stuck.ensures)
     (stuck_at_end _ _ _ _ _ _ c.loop-row.invariant.0 c.requires.fit c.loop-row-test.true _ _ _
-    (subst (IsRowFilled c.args.instance.now c.loop-row.row c.loop-row.assignment c.assign_row.new.assignment c.assign_row.new.lines c.assign_row.new.tree c.loop-row.turns c.assign_row.new.turns) c.if-not-branch.true c.in_ok-assign_row.ensures))
+    (subst (IsRowAssigned c.args.instance.now c.loop-row.row c.loop-row.assignment c.assign_row.new.assignment c.assign_row.new.arcs_by_kind c.assign_row.new.tree c.loop-row.turns c.assign_row.new.turns) c.if-not-branch.true c.in_ok-assign_row.ensures))
 
 -- the sorted arcs behind the slice are those that the call left
 written : (n : ℕ) (new rest : List SortedArcs) → n ≡ length new → take n (new ++ rest) ≡ new
@@ -28,10 +28,10 @@ written n new rest long = take-append-le n new rest (omega (arith, long)) ∙ ta
 
 pub loop-row-preserved : goal.loop-row-preserved
 loop-row-preserved c =
-    let p = subst (IsRowFilled c.args.instance.now c.loop-row.row c.loop-row.assignment c.assign_row.new.assignment c.assign_row.new.lines c.assign_row.new.tree c.loop-row.turns c.assign_row.new.turns) c.if-not-branch.false c.in_ok-assign_row.ensures in (
-      subst (λ lines. AreFilled c.args.instance.now c.args.sizes.now c.assign_row.new.assignment lines (c.loop-row.row + 1) c.assign_row.new.turns)
-          (sym (written _ _ _ (omega (arith, c.loop-row.lines.ok.0, c.loop-row.invariant.0.lines_are.long, p.0.lines_are.long))))
-          (filled_more _ _ _ _ _ _ c.loop-row.invariant.0 c.requires.fit c.loop-row-test.true _ _ _ p.0 p.1),
+    let p = subst (IsRowAssigned c.args.instance.now c.loop-row.row c.loop-row.assignment c.assign_row.new.assignment c.assign_row.new.arcs_by_kind c.assign_row.new.tree c.loop-row.turns c.assign_row.new.turns) c.if-not-branch.false c.in_ok-assign_row.ensures in (
+      subst (λ arcs_by_kind. AreAssigned c.args.instance.now c.args.sizes.now c.assign_row.new.assignment arcs_by_kind (c.loop-row.row + 1) c.assign_row.new.turns)
+          (sym (written _ _ _ (omega (arith, c.loop-row.arcs_by_kind.ok.0, c.loop-row.invariant.0.sorted.long, p.0.sorted.long))))
+          (assigned_more _ _ _ _ _ _ c.loop-row.invariant.0 c.requires.fit c.loop-row-test.true _ _ _ p.0 p.1),
       p.2,
     )
 

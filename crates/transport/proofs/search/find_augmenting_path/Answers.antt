@@ -2,10 +2,10 @@ use Rattle.std.proofs.Common.{◌≡◌, length, refl, sym, ◌∙◌, subst, ar
 use Rattle.transport.specs.States.{IsRunning, HasScanned, IsLeastOf, IsLeastUpTo, IsStruck}
 use Rattle.transport.specs.Scans.{IsBetter}
 use Rattle.transport.specs.Weights.{weights}
-use Rattle.transport.proofs.Labelling.{with_nearest, better_listed, better_more, looked_better}
+use Rattle.transport.proofs.Labelling.{with_nearest, better_listed, better_more, scanned_better}
 use Rattle.transport.proofs.LeastSlack.{least_some}
-use Rattle.transport.proofs.Steps.{closed, raise_rows, raise_classes, raise_values_fit, raise_prices_fit, nearest_in, step_raised, step_running, step_looked_on, step_root, step_smaller}
-use Rattle.transport.proofs.Striking.{running_struck, looked_struck}
+use Rattle.transport.proofs.Steps.{closed, raise_rows, raise_classes, raise_values_fit, raise_prices_fit, nearest_in, step_raised, step_running, step_scanned_on, step_root, step_smaller}
+use Rattle.transport.proofs.Striking.{running_struck, scanned_struck}
 use Rattle.transport.proofs.search.find_augmenting_path.Goals as goal
 use Rattle.transport.proofs.search.find_augmenting_path.Goals.{After-least_slack, In-Some-least, After-update_duals, After-strike_taken}
 
@@ -13,11 +13,11 @@ pub steps-init : goal.steps-init
 steps-init c = record {
   running = c.requires.running;
   rows = c.requires.rows;
-  lines = c.requires.lines;
+  arcs_by_kind = c.requires.arcs_by_kind;
   from = omega arith;
-  looked = record { covered = λ k g w on here its off. absurd (omega (arith, here)) };
+  scanned = record { covered = λ k g w on here its off. absurd (omega (arith, here)) };
   rest = record { residual = refl; deficit = refl; holdings = refl };
-  root = record { row = refl; rooms = refl };
+  root = record { row = refl; bottlenecks = refl };
 }
 
 better : (c : After-least_slack) → IsBetter (weights c.args.instance.now) c.steps.assignment c.steps.tree (with_nearest c.scan_rows.new.tree c.least_slack.new.nearest)
@@ -32,44 +32,44 @@ scan_rows-requires c =
     record {
       running = b.running;
       rows = c.steps.invariant.rows;
-      lines = c.in_ok-free_end.ensures.lines;
+      arcs_by_kind = c.in_ok-free_end.ensures.arcs_by_kind;
       from = rw b.reached_rows c.steps.invariant.from;
-      looked = looked_better _ _ _ _ _ b c.steps.invariant.looked;
+      scanned = scanned_better _ _ _ _ _ b c.steps.invariant.scanned;
     }
 
 pub returns-in_default-least-clause-answer : goal.returns-in_default-least-clause-answer
 returns-in_default-least-clause-answer c =
     let t = c.scan_rows.new.tree in
-    closed _ _ _ (better (goal.at.returns-in_default-least-clause-answer c).After-least_slack).running c.in_ok-scan_rows.ensures.looked
-    (subst (IsLeastUpTo c.steps.assignment.values.items c.steps.assignment.prices.items t.labels t.tree_classes t.labels.noted.items c.least_slack.new.nearest.items) c.in_default-least.is c.in_ok-least.ensures)
+    closed _ _ _ (better (goal.at.returns-in_default-least-clause-answer c).After-least_slack).running c.in_ok-scan_rows.ensures.scanned
+    (subst (IsLeastUpTo c.steps.assignment.values.items c.steps.assignment.prices.items t.labels t.tree_classes t.labels.labelled.items c.least_slack.new.nearest.items) c.in_default-least.is c.in_ok-least.ensures)
 
-least : (c : In-Some-least) → IsLeastOf c.steps.assignment.values.items c.steps.assignment.prices.items c.scan_rows.new.tree.labels c.scan_rows.new.tree.tree_classes c.scan_rows.new.tree.labels.noted.items c.least_slack.new.nearest.items c.in-Some-least.least
+least : (c : In-Some-least) → IsLeastOf c.steps.assignment.values.items c.steps.assignment.prices.items c.scan_rows.new.tree.labels c.scan_rows.new.tree.tree_classes c.scan_rows.new.tree.labels.labelled.items c.least_slack.new.nearest.items c.in-Some-least.least
 least c = least_some _ _ _ _ _ _ _ _ c.in-Some-least.is c.in_ok-least.ensures
 
 pub update_duals-requires-clause-rows : goal.update_duals-requires-clause-rows
 update_duals-requires-clause-rows c =
     let i = goal.at.update_duals-requires-clause-rows c in
-    raise_rows _ _ c.steps.assignment _ _ _ (better i.After-least_slack) c.in_ok-scan_rows.ensures.looked (least i.In-Some-least)
+    raise_rows _ _ c.steps.assignment _ _ _ (better i.After-least_slack) c.in_ok-scan_rows.ensures.scanned (least i.In-Some-least)
 
 pub update_duals-requires-clause-classes : goal.update_duals-requires-clause-classes
 update_duals-requires-clause-classes c =
     let i = goal.at.update_duals-requires-clause-classes c in
-    raise_classes _ _ c.steps.assignment _ _ _ (better i.After-least_slack) c.in_ok-scan_rows.ensures.looked (least i.In-Some-least)
+    raise_classes _ _ c.steps.assignment _ _ _ (better i.After-least_slack) c.in_ok-scan_rows.ensures.scanned (least i.In-Some-least)
 
 pub update_duals-requires-clause-values_fit : goal.update_duals-requires-clause-values_fit
 update_duals-requires-clause-values_fit c =
     let i = goal.at.update_duals-requires-clause-values_fit c in
-    raise_values_fit _ _ c.steps.assignment _ _ _ (better i.After-least_slack) c.in_ok-scan_rows.ensures.looked (least i.In-Some-least)
+    raise_values_fit _ _ c.steps.assignment _ _ _ (better i.After-least_slack) c.in_ok-scan_rows.ensures.scanned (least i.In-Some-least)
 
 pub update_duals-requires-clause-prices_fit : goal.update_duals-requires-clause-prices_fit
 update_duals-requires-clause-prices_fit c =
     let i = goal.at.update_duals-requires-clause-prices_fit c in
-    raise_prices_fit _ _ c.steps.assignment _ _ _ (better i.After-least_slack) c.in_ok-scan_rows.ensures.looked (least i.In-Some-least)
+    raise_prices_fit _ _ c.steps.assignment _ _ _ (better i.After-least_slack) c.in_ok-scan_rows.ensures.scanned (least i.In-Some-least)
 
 raised : (c : After-update_duals) → IsRunning (weights c.args.instance.now) c.update_duals.new.assignment (with_nearest c.scan_rows.new.tree c.least_slack.new.nearest)
 raised c =
     let b = better_listed _ _ _ _ c.least_slack.new.nearest (better_more _ _ _ _ _ c.in_ok-free_end.ensures.better c.in_ok-scan_rows.ensures.better) in
-    step_raised _ _ c.update_duals.new.assignment _ _ _ b c.in_ok-scan_rows.ensures.looked (least_some _ _ _ _ _ _ _ _ c.in-Some-least.is c.in_ok-least.ensures)
+    step_raised _ _ c.update_duals.new.assignment _ _ _ b c.in_ok-scan_rows.ensures.scanned (least_some _ _ _ _ _ _ _ _ c.in-Some-least.is c.in_ok-least.ensures)
     c.update_duals.ensures.values c.update_duals.ensures.prices c.update_duals.ensures.residual c.update_duals.ensures.holdings
 
 pub free_end_at_0-requires : goal.free_end_at_0-requires
@@ -80,7 +80,7 @@ take_nearest-requires c =
     let i = goal.at.take_nearest-requires c in
     record {
       running = (weights c.args.instance.now, raised i.After-update_duals);
-      within = rw c.update_duals.ensures.prices.long (nearest_in _ _ c.steps.assignment _ _ _ (better i.After-least_slack) c.in_ok-scan_rows.ensures.looked (least i.In-Some-least));
+      within = rw c.update_duals.ensures.prices.long (nearest_in _ _ c.steps.assignment _ _ _ (better i.After-least_slack) c.in_ok-scan_rows.ensures.scanned (least i.In-Some-least));
     }
 
 pub returns-in-Some-free_end_at_0-clause-answer : goal.returns-in-Some-free_end_at_0-clause-answer
@@ -100,17 +100,17 @@ steps-preserved c =
     let x = struck i.After-strike_taken in
     let v = c.take_nearest.new.tree in
     let b = better i.After-least_slack in
-    let all = c.in_ok-scan_rows.ensures.looked in
+    let all = c.in_ok-scan_rows.ensures.scanned in
     let l = least i.In-Some-least in
     let r = c.update_duals.ensures in
-    let e : c.len-looked.result ≡ length c.scan_rows.new.tree.reached_rows.order.items = omega (arith, c.len-looked.ensures, c.scan_rows.new.tree.reached_rows.order.ok.0) in
+    let e : c.len-scanned.result ≡ length c.scan_rows.new.tree.reached_rows.order.items = omega (arith, c.len-scanned.ensures, c.scan_rows.new.tree.reached_rows.order.ok.0) in
     record {
       running = running_struck (weights c.args.instance.now) c.update_duals.new.assignment v _ x (step_running _ _ c.update_duals.new.assignment _ _ _ b all l r.values r.prices r.residual r.holdings _ c.in_ok-take_nearest.ensures);
       rows = c.steps.invariant.rows ∙ sym r.values.long;
-      lines = rw r.residual c.in_ok-scan_rows.ensures.lines;
+      arcs_by_kind = rw r.residual c.in_ok-scan_rows.ensures.arcs_by_kind;
       from = omega (arith, e, c.in_ok-take_nearest.ensures.longer);
-      looked = looked_struck (weights c.args.instance.now) c.update_duals.new.assignment v _ x c.len-looked.result (subst (λ n. HasScanned (weights c.args.instance.now) c.update_duals.new.assignment v n) (sym e)
-          (step_looked_on _ _ c.update_duals.new.assignment _ _ _ b all l r.values r.prices r.residual r.holdings _ c.in_ok-take_nearest.ensures));
+      scanned = scanned_struck (weights c.args.instance.now) c.update_duals.new.assignment v _ x c.len-scanned.result (subst (λ n. HasScanned (weights c.args.instance.now) c.update_duals.new.assignment v n) (sym e)
+          (step_scanned_on _ _ c.update_duals.new.assignment _ _ _ b all l r.values r.prices r.residual r.holdings _ c.in_ok-take_nearest.ensures));
       rest = record { residual = r.residual ∙ c.steps.invariant.rest.residual; deficit = r.deficit ∙ c.steps.invariant.rest.deficit; holdings = r.holdings ∙ c.steps.invariant.rest.holdings };
       root = step_root _ _ c.update_duals.new.assignment _ _ _ b all l r.values r.prices r.residual r.holdings _ c.in_ok-take_nearest.ensures c.args.tree.now c.steps.invariant.root;
     }
@@ -119,5 +119,5 @@ pub steps-smaller : goal.steps-smaller
 steps-smaller c =
     let i = goal.at.steps-smaller c in
     let r = c.update_duals.ensures in
-    step_smaller _ _ c.update_duals.new.assignment _ _ _ (better i.After-least_slack) c.in_ok-scan_rows.ensures.looked (least i.In-Some-least) r.values r.prices r.residual r.holdings _ c.in_ok-take_nearest.ensures
+    step_smaller _ _ c.update_duals.new.assignment _ _ _ (better i.After-least_slack) c.in_ok-scan_rows.ensures.scanned (least i.In-Some-least) r.values r.prices r.residual r.holdings _ c.in_ok-take_nearest.ensures
     c.in_default-free_end_at_0.ensures

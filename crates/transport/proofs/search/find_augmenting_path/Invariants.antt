@@ -8,9 +8,9 @@ abbrev pub invariant-steps : goal.invariant-steps
 invariant-steps l = record {
   running : IsRunning (weights l.instance) l.assignment l.tree;
   rows : length l.instance.rows.now ≡ length l.assignment.values.items;
-  lines : AreSortedArcs l.instance l.assignment.residual.items l.lines;
-  from : l.looked ≤ length l.tree.reached_rows.order.items;
-  looked : HasScanned (weights l.instance) l.assignment l.tree l.looked;
+  arcs_by_kind : AreSortedArcs l.instance l.assignment.residual.items l.arcs_by_kind;
+  from : l.scanned ≤ length l.tree.reached_rows.order.items;
+  scanned : HasScanned (weights l.instance) l.assignment l.tree l.scanned;
   rest : IsSameRest l.initial.assignment l.assignment;
   root : IsSameRoot l.initial.tree.reached_rows l.tree.reached_rows;
 }

@@ -4,6 +4,6 @@ use Rattle.transport.proofs.search.find_free_class.Given as goal
 
 abbrev pub invariant-loop-at : goal.invariant-loop-at
 invariant-loop-at l = record {
-  lines : AreSortedArcs l.instance l.assignment.residual.items l.lines;
+  arcs_by_kind : AreSortedArcs l.instance l.assignment.residual.items l.arcs_by_kind;
   better : IsBetter (weights l.instance) l.assignment l.initial.tree l.tree;
 }

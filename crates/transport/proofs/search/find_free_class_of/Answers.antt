@@ -3,7 +3,7 @@ use Rattle.transport.specs.SortedArcs.{IsScanned}
 use Rattle.transport.specs.Weights.{weights}
 use Rattle.transport.specs.Scans.{CanLimit, IsLimit, IsBetter}
 use Rattle.transport.specs.declared.tree.SearchTree.{SearchTree}
-use Rattle.transport.proofs.Scanning.{can_limit, exit_better, exit_scanned}
+use Rattle.transport.proofs.Scanning.{can_limit, free_end_better, free_end_scanned}
 use Rattle.transport.proofs.search.find_free_class_of.Goals as goal
 use Rattle.transport.proofs.search.find_free_class_of.Goals.{After-label_free_end}
 
@@ -19,17 +19,17 @@ limit_old c = subst (λ v. IsLimit v c.args.row c.args.tree.now.labels.free_end 
 better : (c : After-label_free_end) → IsBetter (weights c.args.instance.now) c.args.assignment.now c.args.tree.now (new c)
 unfolding new
 better c =
-    exit_better (weights c.args.instance.now) c.args.assignment.now c.args.tree.now (new c) c.args.row c.nearest_free_class.new.line c.limit_of-limit.result
+    free_end_better (weights c.args.instance.now) c.args.assignment.now c.args.tree.now (new c) c.args.row c.nearest_free_class.new.sorted_arcs c.limit_of-limit.result
     c.requires.running c.requires.there (limit_old c) refl refl c.in_ok-found.found c.in_ok-found.ensures.found c.label_free_end.ensures
 
-scanned : (c : After-label_free_end) (limit : Option ℕ) → IsLimit c.args.assignment.now.values.items c.args.row c.label_free_end.new.labels.free_end limit → IsScanned (weights c.args.instance.now c.args.row) c.nearest_free_class.new.line limit
+scanned : (c : After-label_free_end) (limit : Option ℕ) → IsLimit c.args.assignment.now.values.items c.args.row c.label_free_end.new.labels.free_end limit → IsScanned (weights c.args.instance.now c.args.row) c.nearest_free_class.new.sorted_arcs limit
 unfolding new
 scanned c limit at =
-    exit_scanned (weights c.args.instance.now) c.args.assignment.now c.args.tree.now (new c) c.args.row c.nearest_free_class.new.line c.limit_of-limit.result
+    free_end_scanned (weights c.args.instance.now) c.args.assignment.now c.args.tree.now (new c) c.args.row c.nearest_free_class.new.sorted_arcs c.limit_of-limit.result
     c.requires.running c.requires.there (limit_old c) refl refl c.in_ok-found.found c.in_ok-found.ensures.found c.label_free_end.ensures limit at
 
 pub returns : goal.returns
 unfolding new
 returns c =
     let i = (goal.at.returns c).After-label_free_end in
-    record { line = c.in_ok-found.ensures.line; better = better i; scanned = scanned i }
+    record { sorted_arcs = c.in_ok-found.ensures.sorted_arcs; better = better i; scanned = scanned i }

@@ -7,7 +7,7 @@ pub bounds-values-row : goal.bounds-values-row
 bounds-values-row c = c.requires.row
 
 pub bounds-values-free_end : goal.bounds-values-free_end
-bounds-values-free_end c = c.requires.exit_row _ c.in-Some.is
+bounds-values-free_end c = c.requires.free_end_row _ c.in-Some.is
 
 pub overflow_sub-result : goal.overflow_sub-result
 overflow_sub-result c = c.requires.above _ c.in-Some.is
@@ -17,8 +17,8 @@ overflow_add-result c = omega (arith, c.requires.fits, c.requires.light _ c.in-S
 
 pub returns-in-Some : goal.returns-in-Some
 returns-in-Some c =
-    subst (λ e. IsLimit c.args.values.now c.args.row e (Some (number c.args.values.now c.args.row + (c.in-Some.free_end.near.weight - number c.args.values.now c.in-Some.free_end.near.row)))) (sym c.in-Some.is)
-    (limit_is (number c.args.values.now c.args.row) c.in-Some.free_end.near.weight (number c.args.values.now c.in-Some.free_end.near.row) (c.requires.above _ c.in-Some.is))
+    subst (λ e. IsLimit c.args.values.now c.args.row e (Some (number c.args.values.now c.args.row + (c.in-Some.free_end.label.weight - number c.args.values.now c.in-Some.free_end.label.row)))) (sym c.in-Some.is)
+    (limit_is (number c.args.values.now c.args.row) c.in-Some.free_end.label.weight (number c.args.values.now c.in-Some.free_end.label.row) (c.requires.above _ c.in-Some.is))
   where
     limit_is : (v w u : ℕ) → u ≤ w → (v + (w - u)) + u ≡ w + v
     limit_is v w u le = omega (arith, le)

@@ -3,20 +3,20 @@ use Rattle.certificate.specs.RowView.{RowView}
 use Rattle.transport.specs.SortedArcs.{IsFoundFreeEnd}
 use Rattle.twins.specs.Kinds.{offers_of}
 use Rattle.transport.specs.Weights.{weights}
-use Rattle.transport.proofs.Scanning.{offers_read, line_as, line_back}
+use Rattle.transport.proofs.Scanning.{offers_read, sorted_as, sorted_back}
 use Rattle.transport.proofs.search.nearest_free_class.Goals as goal
 
 pub nearest_free_class-requires : goal.nearest_free_class-requires
 nearest_free_class-requires c =
     let e = ap (λ (r : RowView). r.offers) (c.asked.view_is ∙ sym c.index-instance-row.is) ∙ offers_read _ _ _ c.requires.row c.index-instance-row.is in
-    (weights c.args.instance.now c.args.row, line_as _ _ _ _ _ _ _ _ e refl c.deref.ensures.value c.requires.line)
+    (weights c.args.instance.now c.args.row, sorted_as _ _ _ _ _ _ _ _ e refl c.deref.ensures.value c.requires.sorted_arcs)
 
 pub returns : goal.returns
 returns c =
     let e = ap (λ (r : RowView). r.offers) (c.asked.view_is ∙ sym c.index-instance-row.is) ∙ offers_read _ _ _ c.requires.row c.index-instance-row.is in
     let ws = weights c.args.instance.now c.args.row in
-    let old = line_as ws _ _ _ _ _ _ _ e refl c.deref.ensures.value c.requires.line in
+    let old = sorted_as ws _ _ _ _ _ _ _ e refl c.deref.ensures.value c.requires.sorted_arcs in
     record {
-      line = line_back ws _ _ _ _ _ _ _ e refl c.deref.ensures.value (c.in_ok-found.ensures.line ws old);
+      sorted_arcs = sorted_back ws _ _ _ _ _ _ _ e refl c.deref.ensures.value (c.in_ok-found.ensures.sorted_arcs ws old);
       found = subst (λ f. IsFoundFreeEnd ws f c.args.limit c.nearest_free_class.new.self c.in_ok-found.found) c.deref.ensures.value (c.in_ok-found.ensures.found ws old);
     }

@@ -5,7 +5,7 @@ use Rattle.transport.proofs.search.scan_rows.Given as goal
 
 abbrev pub invariant-loop-at : goal.invariant-loop-at
 invariant-loop-at l = record {
-  lines : AreSortedArcs l.instance l.assignment.residual.items l.lines;
+  arcs_by_kind : AreSortedArcs l.instance l.assignment.residual.items l.arcs_by_kind;
   better : IsBetter (weights l.instance) l.assignment l.initial.tree l.tree;
-  looked : HasScanned (weights l.instance) l.assignment l.tree l.at;
+  scanned : HasScanned (weights l.instance) l.assignment l.tree l.at;
 }

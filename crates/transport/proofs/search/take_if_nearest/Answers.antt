@@ -2,18 +2,18 @@ use Rattle.std.proofs.Common.{◌≡◌, false, Some, sym, ◌∙◌, subst, ari
 use Rattle.std.proofs.lemmas.Result.{on_ok_weaker}
 use Rattle.transport.specs.Numbers.{is_marked, IsEachOnce}
 use Rattle.transport.specs.Shares.{AllBelow, holders_of}
-use Rattle.transport.specs.Searches.{near_of}
+use Rattle.transport.specs.Searches.{label_of}
 use Rattle.transport.specs.States.{IsInReach, shares_of}
 use Rattle.transport.proofs.Numbers.{read_mark}
-use Rattle.transport.proofs.Running.{taken_left, taken_one, near_read, noted_in_reach, shares_read, shares_below, taken_far, taken_unseen}
+use Rattle.transport.proofs.Running.{taken_left, taken_one, label_read, labelled_in_reach, shares_read, shares_below, taken_far, taken_unseen}
 use Rattle.transport.proofs.search.take_if_nearest.Goals as goal
 use Rattle.transport.proofs.search.take_if_nearest.Goals.{In-Some, After-deref}
 
-near_here : (c : In-Some) → near_of c.args.tree.now.labels c.args.class ≡ Some c.in-Some.near
-near_here c = near_read _ _ _ _ _ c.requires.class c.requires.running.1.search.nears_long c.index-2.ensures c.in-Some.is
+label_here : (c : In-Some) → label_of c.args.tree.now.labels c.args.class ≡ Some c.in-Some.label
+label_here c = label_read _ _ _ _ _ c.requires.class c.requires.running.1.search.labels_long c.index-2.ensures c.in-Some.is
 
-here : (c : In-Some) → IsInReach c.args.assignment.now c.args.tree.now c.args.class c.in-Some.near
-here c = noted_in_reach _ _ _ _ _ c.requires.running.1 (near_here c)
+here : (c : In-Some) → IsInReach c.args.assignment.now c.args.tree.now c.args.class c.in-Some.label
+here c = labelled_in_reach _ _ _ _ _ c.requires.running.1 (label_here c)
 
 off : (c : In-Some) → is_marked c.args.tree.now.tree_classes.taken.items c.args.class ≡ false
 off c = read_mark _ _ _ _ _ c.requires.class c.requires.running.1.search.taken_long c.index.ensures c.if-index.false
@@ -37,16 +37,16 @@ pub take_class-requires-clause-once : goal.take_class-requires-clause-once
 take_class-requires-clause-once c = subst (λ shares. IsEachOnce (holders_of shares)) (sym (are c)) (c.requires.running.1.holdings.once c.args.class)
 
 pub take_class-requires-clause-from : goal.take_class-requires-clause-from
-take_class-requires-clause-from c = (here (goal.at.take_class-requires-clause-from c).In-Some).in_rooms
+take_class-requires-clause-from c = (here (goal.at.take_class-requires-clause-from c).In-Some).in_bottlenecks
 
 pub take_class-requires-clause-bottleneck : goal.take_class-requires-clause-bottleneck
-take_class-requires-clause-bottleneck c = (here (goal.at.take_class-requires-clause-bottleneck c).In-Some).some_room
+take_class-requires-clause-bottleneck c = (here (goal.at.take_class-requires-clause-bottleneck c).In-Some).some_bottleneck
 
 pub returns-in-Some : goal.returns-in-Some
 returns-in-Some c =
     let i = (goal.at.returns-in-Some c).In-Some in
     on_ok_weaker c.take_class.result
-    (taken_one c.args.assignment.now c.args.tree.now c.take_class.new.tree c.args.class c.in-Some.near c.deref.result.now (near_here i) (off i)
+    (taken_one c.args.assignment.now c.args.tree.now c.take_class.new.tree c.args.class c.in-Some.label c.deref.result.now (label_here i) (off i)
     (omega (arith, c.slack.ensures, c.if-slack-eq0.true)) c.requires.class c.requires.running.1.search.taken_long (are (goal.at.returns-in-Some c).After-deref))
     c.take_class.ensures
 
@@ -57,8 +57,8 @@ returns-then-index c =
 
 pub returns-in_default : goal.returns-in_default
 returns-in_default c =
-    taken_far _ _ _ c.slack.result c.in-Some.near (near_read _ _ _ _ _ c.requires.class c.requires.running.1.search.nears_long c.index-2.ensures c.in-Some.is) c.slack.ensures c.if-slack-eq0.false
+    taken_far _ _ _ c.slack.result c.in-Some.label (label_read _ _ _ _ _ c.requires.class c.requires.running.1.search.labels_long c.index-2.ensures c.in-Some.is) c.slack.ensures c.if-slack-eq0.false
 
 pub returns-in_default-2 : goal.returns-in_default-2
 returns-in_default-2 c =
-    taken_unseen _ _ _ (near_read _ _ _ _ _ c.requires.class c.requires.running.1.search.nears_long c.index-2.ensures c.in_default.is)
+    taken_unseen _ _ _ (label_read _ _ _ _ _ c.requires.class c.requires.running.1.search.labels_long c.index-2.ensures c.in_default.is)

@@ -2,7 +2,7 @@ use Rattle.std.proofs.Common.{◌≡◌, ap, sym, ◌∙◌, length}
 use Rattle.certificate.specs.Cost.{cost}
 use Rattle.certificate.specs.IsProved.{IsProved}
 use Rattle.twins.specs.IsPriced.{class_prices}
-use Rattle.transport.proofs.Pricing.{solved_plan, is_proved, rows_at, room_at}
+use Rattle.transport.proofs.Pricing.{solved_plan, is_proved, rows_at, bottleneck_at}
 use Rattle.transport.proofs.solver.planned.Goals as goal
 use Rattle.transport.proofs.solver.planned.Goals.{In_ok-of_cpu}
 
@@ -13,7 +13,7 @@ deal-requires-clause-rows c =
 
 pub deal-requires-clause-room : goal.deal-requires-clause-room
 deal-requires-clause-room c =
-    room_at c.args.problem.now c.args.classes.now c.args.assignment c.args.turns c.requires.grouping c.requires.done c.deref.result.now c.deref.ensures.value
+    bottleneck_at c.args.problem.now c.args.classes.now c.args.assignment c.args.turns c.requires.grouping c.requires.done c.deref.result.now c.deref.ensures.value
 
 -- the CPUs that are dealt are a plan, which the values and prices prove
 proved : (c : In_ok-of_cpu) → IsProved c.as_slice-rows.result.now c.in_ok-sets.sets.items (record { values = c.args.assignment.values.items; of_cpu = c.in_ok-of_cpu.of_cpu })

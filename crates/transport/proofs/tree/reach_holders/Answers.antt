@@ -1,6 +1,6 @@
 use Rattle.std.proofs.Common.{◌≡◌, ◌<◌, false, length, refl, subst, arith, get_or}
 use Rattle.std.proofs.lemmas.List.{take_all}
-use Rattle.transport.proofs.ReachedRowsLemmas.{grown_none, grown_skip, grown_reach, queue_reached, row_of_share}
+use Rattle.transport.proofs.ReachedRowsLemmas.{grown_none, grown_skip, grown_reach, reached_reached, row_of_share}
 use Rattle.transport.specs.ReachedRows.{IsGrown}
 use Rattle.transport.proofs.Numbers.{read_mark}
 use Rattle.transport.specs.ReachedRows.{is_reached}
@@ -15,13 +15,13 @@ loop-share-preserved c =
     let s = get_or c.args.shares.now c.loop-share.share-index (record { row = 0; amount = 0 }) in
     let in_rows : s.row < length c.args.reached_rows.now.reached.items = row_of_share _ _ _ _ c.requires.rows c.loop-share-test.true in
     let inv = c.loop-share.invariant in
-    let in_queue : s.row < length c.loop-share.reached_rows.reached.items = omega (arith, in_rows, inv.reached_rows.reached_long) in
+    let in_reached : s.row < length c.loop-share.reached_rows.reached.items = omega (arith, in_rows, inv.reached_rows.reached_long) in
     elim c.if-share-gt0.branch [
       | then-share-gt0+then-not-index+in_ok-reach w ↦
           rw w.reached_rows-is
-          (let off : is_reached c.loop-share.reached_rows s.row ≡ false = read_mark _ _ _ _ _ in_queue refl w.index.ensures w.if-not-index.true in
+          (let off : is_reached c.loop-share.reached_rows s.row ≡ false = read_mark _ _ _ _ _ in_reached refl w.index.ensures w.if-not-index.true in
           record {
-            reached_rows = queue_reached _ _ _ _ _ _ inv.reached_rows in_rows off w.in_ok-reach.ensures;
+            reached_rows = reached_reached _ _ _ _ _ _ inv.reached_rows in_rows off w.in_ok-reach.ensures;
             grown = grown_reach _ _ _ _ _ _ _ _ _ s _ inv.reached_rows inv.grown c.loop-share-test.true refl in_rows off w.in_ok-reach.ensures
                 (omega (arith, w.min.ensures, w.if-share-gt0.true, c.requires.bottleneck)) (omega (arith, w.min.ensures)) c.requires.once;
           })
@@ -32,7 +32,7 @@ loop-share-preserved c =
             grown = elim w.else-share-gt0.branch [
               | else-share-gt0-via-then-share-gt0+else-not-index v ↦
                   grown_skip _ _ _ _ _ _ s _ inv.grown c.loop-share-test.true refl
-                  (λ _. read_mark _ _ _ _ _ in_queue refl v.index.ensures v.if-not-index.false)
+                  (λ _. read_mark _ _ _ _ _ in_reached refl v.index.ensures v.if-not-index.false)
               | else-share-gt0-via-else-share-gt0 v ↦
                   grown_skip _ _ _ _ _ _ s _ inv.grown c.loop-share-test.true refl (λ some. absurd (omega (arith, some, v.if-share-gt0.false)))
             ];

@@ -5,7 +5,7 @@ use Rattle.transport.proofs.labels.Labels.strike_taken.Goals as goal
 
 pub returns : goal.returns
 returns c = record {
-  noted = filter_same _ (λ g. not (is_marked c.args.taken.now g)) _ (λ x b f' k. search rules) _ _ c.retain.ensures.filtered;
+  labelled = filter_same _ (λ g. not (is_marked c.args.taken.now g)) _ (λ x b f' k. search rules) _ _ c.retain.ensures.filtered;
   of_class = refl;
   free_end = refl;
 }

@@ -1,4 +1,4 @@
--- The rows on the way to being filled.
+-- The rows, as they are assigned one after another.
 use Rattle.std.specs.Prelude.{◌≡◌, ℕ, ◌+◌, ◌*◌, ◌<◌, ◌≤◌, ◌^◌, Bool, true, false, List, [], map, length}
 use Rattle.certificate.specs.RowView.{RowView}
 use Rattle.transport.specs.Numbers.{number}
@@ -8,7 +8,7 @@ use Rattle.transport.specs.Totals.{total, row_total, class_total, IsShared}
 use Rattle.transport.specs.States.{shares_of, cell, IsNoHolder}
 use Rattle.transport.specs.Answers.{IsClosed}
 use Rattle.transport.specs.Settled.{IsSettled, IsTreeOf}
-use Rattle.transport.specs.Filled.{demand_of}
+use Rattle.transport.specs.Outcomes.{demand_of}
 use Rattle.transport.specs.declared.assignment.Assignment.{Assignment}
 use Rattle.transport.specs.declared.instance.Instance.{Instance}
 use Rattle.transport.specs.declared.tree.SearchTree.{SearchTree}
@@ -30,7 +30,7 @@ pub record IsFirst (rows : List RowView) (sizes : List ℕ) (s : Assignment) : T
 pub record IsHandedOut (root : ℕ) (old new : Assignment) : Type 0 where
   pub values_long : length new.values.items ≡ length old.values.items
   pub prices_long : length new.prices.items ≡ length old.prices.items
-  pub unmet_long : length new.deficit.items ≡ length old.deficit.items
+  pub deficit_long : length new.deficit.items ≡ length old.deficit.items
   pub by_row : (k : ℕ) → k < length old.values.items
       → row_total (cell new.holdings.items) (length old.prices.items) k + number new.deficit.items k ≡ row_total (cell old.holdings.items) (length old.prices.items) k + number old.deficit.items k
   pub by_class : (g : ℕ) → g < length old.prices.items
@@ -44,11 +44,11 @@ a_search s = length s.values.items + length s.prices.items
 
 -- a settled assignment, sorted arcs for each row, and turns that can be counted on until the row has what it asks for;
 -- it holds nothing while it wants all of that
-pub record CanFill (t : Instance) (root : ℕ) (s : Assignment) (lines : List SortedArcs) (turns : ℕ) : Type 0 where
+pub record CanAssign (t : Instance) (root : ℕ) (s : Assignment) (arcs_by_kind : List SortedArcs) (turns : ℕ) : Type 0 where
   pub settled : IsSettled (weights t) s
-  pub lines_are : AreSortedArcs t s.residual.items lines
+  pub sorted : AreSortedArcs t s.residual.items arcs_by_kind
   pub rows : length t.rows.now ≡ length s.values.items
-  pub unmet_long : length s.deficit.items ≡ length s.values.items
+  pub deficit_long : length s.deficit.items ≡ length s.values.items
   pub sizes : (g : ℕ) → class_total (cell s.holdings.items) (length s.values.items) g + number s.residual.items g < 2 ^ 32
   pub in_rows : root < length s.values.items
   pub wants : number s.deficit.items root ≤ demand_of t.rows.now root
@@ -56,9 +56,9 @@ pub record CanFill (t : Instance) (root : ℕ) (s : Assignment) (lines : List So
   pub fits : turns + number s.deficit.items root * a_search s < 2 ^ 64
 
 -- the row was searched for, once for each CPU that it wants less at most, and not at all where it wants as many
-pub record IsFilling (t : Instance) (root : ℕ) (old new : Assignment) (lines : List SortedArcs) (before after : ℕ) : Type 0 where
+pub record IsAssigning (t : Instance) (root : ℕ) (old new : Assignment) (arcs_by_kind : List SortedArcs) (before after : ℕ) : Type 0 where
   pub settled : IsSettled (weights t) new
-  pub lines_are : AreSortedArcs t new.residual.items lines
+  pub sorted : AreSortedArcs t new.residual.items arcs_by_kind
   pub handed : IsHandedOut root old new
   pub kept : before ≤ after
   pub fewer : number new.deficit.items root ≤ number old.deficit.items root
@@ -78,24 +78,24 @@ pub record IsAtEnd (t : Instance) (root : ℕ) (old new : Assignment) (tree : Se
 
 -- whether a search found a class: the row wants less than before, and the next search can begin
 abbrev pub IsSearched : Instance → ℕ → Assignment → Assignment → List SortedArcs → SearchTree → ℕ → ℕ → Bool → Type 0
-IsSearched t root old new lines tree before after true = IsFilling t root old new lines before after × (number new.deficit.items root < number old.deficit.items root) × IsTreeOf new tree
-IsSearched t root old new lines tree before after false = IsAtEnd t root old new tree before after
+IsSearched t root old new arcs_by_kind tree before after true = IsAssigning t root old new arcs_by_kind before after × (number new.deficit.items root < number old.deficit.items root) × IsTreeOf new tree
+IsSearched t root old new arcs_by_kind tree before after false = IsAtEnd t root old new tree before after
 
 -- whether all searches for the row did: it wants nothing more
-abbrev pub IsRowFilled : Instance → ℕ → Assignment → Assignment → List SortedArcs → SearchTree → ℕ → ℕ → Bool → Type 0
-IsRowFilled t root old new lines tree before after true = IsFilling t root old new lines before after × (number new.deficit.items root ≡ 0) × IsTreeOf new tree
-IsRowFilled t root old new lines tree before after false = IsAtEnd t root old new tree before after
+abbrev pub IsRowAssigned : Instance → ℕ → Assignment → Assignment → List SortedArcs → SearchTree → ℕ → ℕ → Bool → Type 0
+IsRowAssigned t root old new arcs_by_kind tree before after true = IsAssigning t root old new arcs_by_kind before after × (number new.deficit.items root ≡ 0) × IsTreeOf new tree
+IsRowAssigned t root old new arcs_by_kind tree before after false = IsAtEnd t root old new tree before after
 
 -- the first rows have what they ask for, and the others hold nothing and still want it
-pub record AreFilled (t : Instance) (sizes : List ℕ) (s : Assignment) (lines : List SortedArcs) (upto turns : ℕ) : Type 0 where
+pub record AreAssigned (t : Instance) (sizes : List ℕ) (s : Assignment) (arcs_by_kind : List SortedArcs) (upto turns : ℕ) : Type 0 where
   pub values_long : length s.values.items ≡ length t.rows.now
   pub prices_long : length s.prices.items ≡ length sizes
-  pub unmet_long : length s.deficit.items ≡ length t.rows.now
+  pub deficit_long : length s.deficit.items ≡ length t.rows.now
   pub settled : IsSettled (weights t) s
-  pub lines_are : AreSortedArcs t s.residual.items lines
+  pub sorted : AreSortedArcs t s.residual.items arcs_by_kind
   pub shared : IsShared (demand_of t.rows.now) (number sizes) (length t.rows.now) (length sizes) (cell s.holdings.items) s.residual.items s.deficit.items
   pub met : (k : ℕ) → k < upto → number s.deficit.items k ≡ 0
-  pub unfilled : (k : ℕ) → upto ≤ k → number s.deficit.items k ≡ demand_of t.rows.now k
+  pub unassigned : (k : ℕ) → upto ≤ k → number s.deficit.items k ≡ demand_of t.rows.now k
   pub fresh : (k : ℕ) → upto ≤ k → IsNoHolder k s.holdings.items
   pub at_least : 2 * upto ≤ turns
   pub at_most : turns ≤ total (demand_of t.rows.now) upto * (length t.rows.now + length sizes)

@@ -1,4 +1,4 @@
--- What a push leaves.
+-- What an augmentation leaves.
 use Rattle.std.specs.Prelude.{◌≡◌, ℕ, ◌+◌, ◌-◌, ◌<◌, Option, length, slice_set}
 use Rattle.transport.specs.Numbers.{number}
 use Rattle.transport.specs.ReachedRows.{row_at}
@@ -6,13 +6,13 @@ use Rattle.transport.specs.Duals.{IsTight}
 use Rattle.transport.specs.Totals.{row_total, class_total}
 use Rattle.transport.specs.States.{cell, AreHoldings, IsNoHolder}
 use Rattle.transport.specs.Answers.{IsFound}
-use Rattle.transport.specs.Pushes.{in_hand}
+use Rattle.transport.specs.Augmenting.{in_hand}
 use Rattle.transport.specs.declared.labels.FreeEnd.{FreeEnd}
 use Rattle.transport.specs.declared.assignment.Assignment.{Assignment}
 use Rattle.transport.specs.declared.tree.SearchTree.{SearchTree}
 
 -- the root holds so many CPUs more, and the free end's class has as many fewer free
-pub record IsPushed (old new : Assignment) (t : SearchTree) (free_end : FreeEnd) (amount : ℕ) : Type 0 where
+pub record IsAugmented (old new : Assignment) (t : SearchTree) (free_end : FreeEnd) (amount : ℕ) : Type 0 where
   pub values : new.values ≡ old.values
   pub prices : new.prices ≡ old.prices
   pub residual : new.residual.items ≡ slice_set old.residual.items free_end.class (number old.residual.items free_end.class - amount)

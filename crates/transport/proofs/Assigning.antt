@@ -22,26 +22,26 @@ use Rattle.transport.specs.States.{cell, shares_of, AreHoldings, IsNoHolder}
 use Rattle.transport.specs.Searches.{IsSearch, AreWeights}
 use Rattle.transport.specs.ReachedRows.{is_reached, parent_class, index, row_at}
 use Rattle.transport.specs.Settled.{IsSettled}
-use Rattle.transport.specs.Filled.{demand_of, IsDone, IsStuck}
-use Rattle.transport.specs.Filling.{IsFirst, IsHandedOut, CanFill, IsFilling, IsAtEnd, a_search, AreFilled}
+use Rattle.transport.specs.Outcomes.{demand_of, IsDone, IsStuck}
+use Rattle.transport.specs.Assigning.{IsFirst, IsHandedOut, CanAssign, IsAssigning, IsAtEnd, a_search, AreAssigned}
 use Rattle.transport.specs.declared.assignment.Assignment.{Assignment}
 use Rattle.transport.specs.declared.instance.Instance.{Instance}
 use Rattle.transport.specs.declared.tree.SearchTree.{SearchTree}
 use Rattle.transport.specs.declared.arcs.SortedArcs.{SortedArcs}
 use Rattle.transport.proofs.Sums.{total_same, total_zero, hall}
-use Rattle.transport.proofs.Bidding.{lines_new, in_classes, in_rows, weight_low}
+use Rattle.transport.proofs.OrdersLemmas.{all_sorted_new, in_classes, in_rows, weight_low}
 use Rattle.transport.proofs.HandingOut.{taken_full}
 use Rattle.transport.proofs.Holders.{share_none}
 
 -- no search yet
-pub filling_none : (t : Instance) (root : ℕ) (s : Assignment) (lines : List SortedArcs) (turns : ℕ) → CanFill t root s lines turns → IsFilling t root s s lines turns turns
-filling_none t root s lines turns can = record {
+pub assigning_none : (t : Instance) (root : ℕ) (s : Assignment) (arcs_by_kind : List SortedArcs) (turns : ℕ) → CanAssign t root s arcs_by_kind turns → IsAssigning t root s s arcs_by_kind turns turns
+assigning_none t root s arcs_by_kind turns can = record {
   settled = can.settled;
-  lines_are = can.lines_are;
+  sorted = can.sorted;
   handed = record {
     values_long = refl;
     prices_long = refl;
-    unmet_long = refl;
+    deficit_long = refl;
     by_row = λ k lt. refl;
     by_class = λ g lt. refl;
     others = λ k ne. refl;
@@ -58,7 +58,7 @@ handed_more : (root : ℕ) (a b c : Assignment) → IsHandedOut root a b → IsH
 handed_more root a b c f g = record {
   values_long = g.values_long ∙ f.values_long;
   prices_long = g.prices_long ∙ f.prices_long;
-  unmet_long = g.unmet_long ∙ f.unmet_long;
+  deficit_long = g.deficit_long ∙ f.deficit_long;
   by_row = λ k lt. rw f.prices_long at (g.by_row k (omega (arith, lt, f.values_long))) ∙ f.by_row k lt;
   by_class = λ h lt. rw f.values_long at (g.by_class h (omega (arith, lt, f.prices_long))) ∙ f.by_class h lt;
   others = λ k ne. g.others k ne ∙ f.others k ne;
@@ -69,11 +69,11 @@ search_same : (root : ℕ) (a b : Assignment) → IsHandedOut root a b → a_sea
 search_same root a b h = omega (arith, h.values_long, h.prices_long)
 
 -- a search more
-pub filling_more : (t : Instance) (root : ℕ) (a b c : Assignment) (lines lines' : List SortedArcs) (x y z : ℕ) → IsFilling t root a b lines x y → IsFilling t root b c lines' y z
-    → number c.deficit.items root < number b.deficit.items root → IsFilling t root a c lines' x z
-filling_more t root a b c lines lines' x y z f g less = record {
+pub assigning_more : (t : Instance) (root : ℕ) (a b c : Assignment) (arcs_by_kind arcs_by_kind' : List SortedArcs) (x y z : ℕ) → IsAssigning t root a b arcs_by_kind x y → IsAssigning t root b c arcs_by_kind' y z
+    → number c.deficit.items root < number b.deficit.items root → IsAssigning t root a c arcs_by_kind' x z
+assigning_more t root a b c arcs_by_kind arcs_by_kind' x y z f g less = record {
   settled = g.settled;
-  lines_are = g.lines_are;
+  sorted = g.sorted;
   handed = handed_more root a b c f.handed g.handed;
   kept = omega (arith, f.kept, g.kept);
   fewer = omega (arith, f.fewer, less);
@@ -83,8 +83,8 @@ filling_more t root a b c lines lines' x y z f g less = record {
   least = λ lt. omega (arith, g.least less, f.kept);
 }
 
-pub end_more : (t : Instance) (root : ℕ) (a b c : Assignment) (tree : SearchTree) (lines : List SortedArcs) (x y z : ℕ) → IsFilling t root a b lines x y → IsAtEnd t root b c tree y z → IsAtEnd t root a c tree x z
-end_more t root a b c tree lines x y z f g = record {
+pub end_more : (t : Instance) (root : ℕ) (a b c : Assignment) (tree : SearchTree) (arcs_by_kind : List SortedArcs) (x y z : ℕ) → IsAssigning t root a b arcs_by_kind x y → IsAtEnd t root b c tree y z → IsAtEnd t root a c tree x z
+end_more t root a b c tree arcs_by_kind x y z f g = record {
   closed = g.closed;
   root_at = g.root_at;
   on = g.on;
@@ -105,12 +105,12 @@ class_none rows classes s g h long past =
     omega (arith, held, total_zero (length s.values.items), residual)
 
 -- the next search can begin
-pub can_go_on : (t : Instance) (root : ℕ) (a b : Assignment) (before lines : List SortedArcs) (x y : ℕ) → CanFill t root a before x → IsFilling t root a b lines x y → CanFill t root b lines y
-can_go_on t root a b before lines x y can f = record {
+pub can_go_on : (t : Instance) (root : ℕ) (a b : Assignment) (before arcs_by_kind : List SortedArcs) (x y : ℕ) → CanAssign t root a before x → IsAssigning t root a b arcs_by_kind x y → CanAssign t root b arcs_by_kind y
+can_go_on t root a b before arcs_by_kind x y can f = record {
   settled = f.settled;
-  lines_are = f.lines_are;
+  sorted = f.sorted;
   rows = can.rows ∙ sym f.handed.values_long;
-  unmet_long = f.handed.unmet_long ∙ can.unmet_long ∙ sym f.handed.values_long;
+  deficit_long = f.handed.deficit_long ∙ can.deficit_long ∙ sym f.handed.values_long;
   sizes = sizes;
   in_rows = omega (arith, can.in_rows, f.handed.values_long);
   wants = omega (arith, f.fewer, can.wants);
@@ -125,7 +125,7 @@ can_go_on t root a b before lines x y can f = record {
       | inl lt ↦ (let e : class_total (cell b.holdings.items) (length b.values.items) g ≡ class_total (cell b.holdings.items) (length a.values.items) g =
           ap (λ n. class_total (cell b.holdings.items) n g) f.handed.values_long in
           omega (arith, e, f.handed.by_class g lt, can.sizes g))
-      | inr past ↦ omega (arith, class_none (length b.values.items) (length b.prices.items) b g f.settled.holdings f.settled.free_long (omega (arith, past, f.handed.prices_long)))
+      | inr past ↦ omega (arith, class_none (length b.values.items) (length b.prices.items) b g f.settled.holdings f.settled.residual_long (omega (arith, past, f.handed.prices_long)))
     ]
 
 -- sums over rows
@@ -189,8 +189,8 @@ grow x y a after le most =
     omega (arith, most, up)
 
 -- before the first row
-module _ (t : Instance) (sizes : List ℕ) (s : Assignment) (lines : List SortedArcs) (fit : AreRowsWithin t.rows.now) (kinds : AreKinds t.rows.now (length t.rows.now) t.kinds.now)
-    (long : length t.firsts ≡ length sizes) (h : IsFirst t.rows.now sizes s) (new : AreNewSortedArcs t.rows.now t.kinds.now lines (length t.rows.now)) where
+module _ (t : Instance) (sizes : List ℕ) (s : Assignment) (arcs_by_kind : List SortedArcs) (fit : AreRowsWithin t.rows.now) (kinds : AreKinds t.rows.now (length t.rows.now) t.kinds.now)
+    (long : length t.firsts ≡ length sizes) (h : IsFirst t.rows.now sizes s) (new : AreNewSortedArcs t.rows.now t.kinds.now arcs_by_kind (length t.rows.now)) where
   no_cell : (k g : ℕ) → cell s.holdings.items k g ≡ 0
   no_cell k g = ap (share_of k) (h.holdings g)
 
@@ -212,7 +212,7 @@ module _ (t : Instance) (sizes : List ℕ) (s : Assignment) (lines : List Sorted
       tight = λ k g some. absurd (omega (arith, some, no_cell k g));
       zero = λ g some. h.prices g;
     };
-    free_long = ap length h.residual ∙ sym h.prices_long;
+    residual_long = ap length h.residual ∙ sym h.prices_long;
     values_low = λ k. omega (arith, h.values k);
     prices_low = λ g. omega (arith, h.prices g);
     holdings = record {
@@ -228,29 +228,29 @@ module _ (t : Instance) (sizes : List ℕ) (s : Assignment) (lines : List Sorted
   no_holder : (k : ℕ) → IsNoHolder k s.holdings.items
   no_holder k g = subst (HasNoShare k) (sym (h.holdings g)) (λ x. absurd (omega (arith, x.within)))
 
-  pub filled_first : AreFilled t sizes s lines 0 0
-  filled_first = record {
+  pub assigned_first : AreAssigned t sizes s arcs_by_kind 0 0
+  assigned_first = record {
     values_long = h.values_long;
     prices_long = h.prices_long;
-    unmet_long = ap length h.deficit ∙ length-map t.rows.now (λ (r : RowView). r.demand);
+    deficit_long = ap length h.deficit ∙ length-map t.rows.now (λ (r : RowView). r.demand);
     settled = first_settled;
-    lines_are = lines_new t s.residual.items lines fit kinds (omega (arith, long, ap length h.residual)) new;
+    sorted = all_sorted_new t s.residual.items arcs_by_kind fit kinds (omega (arith, long, ap length h.residual)) new;
     shared = record {
       by_row = λ k lt. omega (arith, no_row_total k, ap (λ u. number u k) h.deficit);
       by_class = λ g lt. omega (arith, no_class_total g, ap (λ f. number f g) h.residual);
       rows_in = λ k g some. absurd (omega (arith, some, no_cell k g));
     };
     met = λ k lt. absurd (omega (arith, lt));
-    unfilled = λ k le. ap (λ u. number u k) h.deficit;
+    unassigned = λ k le. ap (λ u. number u k) h.deficit;
     fresh = λ k le. no_holder k;
     at_least = omega arith;
     at_most = omega arith;
   }
 
 -- the row that is next
-module _ (t : Instance) (sizes : List ℕ) (s : Assignment) (lines : List SortedArcs) (row turns : ℕ) (h : AreFilled t sizes s lines row turns) (fit : AreRowsWithin t.rows.now) (lt : row < length t.rows.now) where
+module _ (t : Instance) (sizes : List ℕ) (s : Assignment) (arcs_by_kind : List SortedArcs) (row turns : ℕ) (h : AreAssigned t sizes s arcs_by_kind row turns) (fit : AreRowsWithin t.rows.now) (lt : row < length t.rows.now) where
   wants : number s.deficit.items row ≡ demand_of t.rows.now row
-  wants = h.unfilled row (omega arith)
+  wants = h.unassigned row (omega arith)
 
   search_is : a_search s ≡ length t.rows.now + length sizes
   search_is = omega (arith, h.values_long, h.prices_long)
@@ -261,12 +261,12 @@ module _ (t : Instance) (sizes : List ℕ) (s : Assignment) (lines : List Sorted
       spend (total (demand_of t.rows.now) row) (total (demand_of t.rows.now) (suc row)) (demand_of t.rows.now row) (length t.rows.now + length sizes) turns after
       (total_last (demand_of t.rows.now) row) h.at_most (rw (wants, search_is) at most)
 
-  pub can_fill : length sizes ≤ CPU_LIMIT → ((g : ℕ) → number sizes g < 2 ^ 32) → CanFill t row s lines turns
-  can_fill few small = record {
+  pub can_assign : length sizes ≤ CPU_LIMIT → ((g : ℕ) → number sizes g < 2 ^ 32) → CanAssign t row s arcs_by_kind turns
+  can_assign few small = record {
     settled = h.settled;
-    lines_are = h.lines_are;
+    sorted = h.sorted;
     rows = sym h.values_long;
-    unmet_long = h.unmet_long ∙ sym h.values_long;
+    deficit_long = h.deficit_long ∙ sym h.values_long;
     sizes = fits_sizes;
     in_rows = omega (arith, lt, h.values_long);
     wants = omega (arith, wants);
@@ -285,7 +285,7 @@ module _ (t : Instance) (sizes : List ℕ) (s : Assignment) (lines : List Sorted
         | inl there ↦ (let e : class_total (cell s.holdings.items) (length s.values.items) g ≡ class_total (cell s.holdings.items) (length t.rows.now) g =
             ap (λ n. class_total (cell s.holdings.items) n g) h.values_long in
             omega (arith, e, h.shared.by_class g there, small g))
-        | inr past ↦ omega (arith, class_none (length s.values.items) (length s.prices.items) s g h.settled.holdings h.settled.free_long (omega (arith, past, h.prices_long)))
+        | inr past ↦ omega (arith, class_none (length s.values.items) (length s.prices.items) s g h.settled.holdings h.settled.residual_long (omega (arith, past, h.prices_long)))
       ]
 
   module _ (new : Assignment) (d : IsHandedOut row s new) (w : AreWeights (weights t) (length new.values.items) (length new.prices.items))
@@ -299,16 +299,16 @@ module _ (t : Instance) (sizes : List ℕ) (s : Assignment) (lines : List Sorted
     }
 
   -- the row has what it asks for
-  pub filled_more : (new : Assignment) (lines' : List SortedArcs) (after : ℕ) → IsFilling t row s new lines' turns after → number new.deficit.items row ≡ 0 → AreFilled t sizes new lines' (row + 1) after
-  filled_more new lines' after f none = record {
+  pub assigned_more : (new : Assignment) (arcs_by_kind' : List SortedArcs) (after : ℕ) → IsAssigning t row s new arcs_by_kind' turns after → number new.deficit.items row ≡ 0 → AreAssigned t sizes new arcs_by_kind' (row + 1) after
+  assigned_more new arcs_by_kind' after f none = record {
     values_long = f.handed.values_long ∙ h.values_long;
     prices_long = f.handed.prices_long ∙ h.prices_long;
-    unmet_long = f.handed.unmet_long ∙ h.unmet_long;
+    deficit_long = f.handed.deficit_long ∙ h.deficit_long;
     settled = f.settled;
-    lines_are = f.lines_are;
+    sorted = f.sorted;
     shared = shared_after new f.handed f.settled.fit f.settled.dual.tight;
     met = met;
-    unfilled = λ k le. f.handed.others k (λ e. absurd (omega (arith, le, e))) ∙ h.unfilled k (omega (arith, le));
+    unassigned = λ k le. f.handed.others k (λ e. absurd (omega (arith, le, e))) ∙ h.unassigned k (omega (arith, le));
     fresh = λ k le. f.handed.none k (λ e. absurd (omega (arith, le, e))) (h.fresh k (omega (arith, le)));
     at_least = omega (arith, h.at_least, f.least (omega (arith, none, wants, demand_some t.rows.now row fit lt)));
     at_most = rw add-one (most_after after (omega (arith, f.most)));
@@ -343,7 +343,7 @@ module _ (t : Instance) (sizes : List ℕ) (s : Assignment) (lines : List Sorted
       not_after : (k : ℕ) → is_reached tree.reached_rows k ≡ true → k ≤ row
       not_after k on = elim (cases_lt row k) [
         | inl past ↦ elim (cases_lt 0 (index tree.reached_rows k)) [
-          | inl behind ↦ (let i = x.entries k on behind in absurd (omega (arith, i.held, x.rooms k on, not_held k (parent_class tree.reached_rows k) past)))
+          | inl behind ↦ (let i = x.entries k on behind in absurd (omega (arith, i.held, x.bottlenecks k on, not_held k (parent_class tree.reached_rows k) past)))
           | inr first ↦ (let zeroth : index tree.reached_rows k ≡ 0 = omega (arith, first) in
               let at : row_at tree.reached_rows 0 ≡ k = subst (λ i. row_at tree.reached_rows i ≡ k) zeroth (x.reached_rows.placed k on) in
               absurd (omega (arith, at, e.root_at, past)))
@@ -356,8 +356,8 @@ module _ (t : Instance) (sizes : List ℕ) (s : Assignment) (lines : List Sorted
       up le most = rw (← asked_is t.rows.now) (grow (total (demand_of t.rows.now) (suc row)) (total (demand_of t.rows.now) (length t.rows.now)) (length t.rows.now + length sizes) after le most)
 
 -- all rows have what they ask for
-pub done_at_end : (t : Instance) (sizes : List ℕ) (s : Assignment) (lines : List SortedArcs) (row turns : ℕ) → AreFilled t sizes s lines row turns → row ≡ length t.rows.now → IsDone t.rows.now t.firsts sizes s turns
-done_at_end t sizes s lines row turns h all = record {
+pub done_at_end : (t : Instance) (sizes : List ℕ) (s : Assignment) (arcs_by_kind : List SortedArcs) (row turns : ℕ) → AreAssigned t sizes s arcs_by_kind row turns → row ≡ length t.rows.now → IsDone t.rows.now t.firsts sizes s turns
+done_at_end t sizes s arcs_by_kind row turns h all = record {
   values_long = h.values_long;
   prices_long = h.prices_long;
   settled = h.settled;

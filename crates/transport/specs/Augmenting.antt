@@ -1,4 +1,4 @@
--- CPUs on their way along the rows that a search has reached.
+-- CPUs as they move along the rows that a search has reached.
 use Rattle.std.specs.Prelude.{◌≡◌, ℕ, ◌+◌, ◌<◌, ◌≤◌, ◌==◌, true, cond, List, Option}
 use Rattle.transport.specs.ReachedRows.{is_reached, bottleneck, index}
 use Rattle.transport.specs.Duals.{IsTight}
@@ -20,7 +20,7 @@ pub record IsGivenUp (old new : ℕ → ℕ → ℕ) (k g amount : ℕ) : Type 0
   pub others : (i j : ℕ) → (i ≡ k → j ≡ g → ⊥) → new i j ≡ old i j
 
 -- the CPUs in hand are of class g and go to this row; they came from class `first`
-pub record IsPushing (ws : ℕ → ℕ → Option ℕ) (values prices : List ℕ) (q : ReachedRows) (start cells : ℕ → ℕ → ℕ) (rows classes row g first amount : ℕ) : Type 0 where
+pub record IsAugmenting (ws : ℕ → ℕ → Option ℕ) (values prices : List ℕ) (q : ReachedRows) (start cells : ℕ → ℕ → ℕ) (rows classes row g first amount : ℕ) : Type 0 where
   pub on : is_reached q row ≡ true
   pub link : IsTight ws values prices row g
   pub less : amount ≤ bottleneck q row

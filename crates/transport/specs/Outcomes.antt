@@ -1,4 +1,4 @@
--- What filling the rows ends with.
+-- What assigning the rows ends with.
 use Rattle.std.specs.Prelude.{◌≡◌, ℕ, ◌+◌, ◌*◌, ◌<◌, ◌≤◌, Bool, true, List, map, length, slice_index_or}
 use Rattle.std.specs.List.{count_by}
 use Rattle.certificate.specs.RowView.{RowView}
@@ -9,8 +9,8 @@ use Rattle.transport.specs.Totals.{IsShared, IsHall}
 use Rattle.transport.specs.States.{cell}
 use Rattle.transport.specs.Settled.{IsSettled}
 use Rattle.transport.specs.declared.assignment.Assignment.{Assignment}
-use Rattle.transport.specs.declared.augment.Filled.{Filled}
-use Rattle.transport.specs.declared.augment.Filled.TheVariants.{Done, Stuck}
+use Rattle.transport.specs.declared.augment.Outcome.{Outcome}
+use Rattle.transport.specs.declared.augment.Outcome.TheVariants.{Done, Stuck}
 
 -- how many CPUs row k asks for
 abbrev pub demand_of : List RowView → ℕ → ℕ
@@ -37,6 +37,6 @@ pub record IsStuck (rows : List RowView) (firsts sizes : List ℕ) (reached take
   pub at_least : (k : ℕ) → is_marked reached k ≡ true → 2 * k + (count_by (λ b. b) reached + count_by (λ b. b) taken) ≤ turns
   pub at_most : turns ≤ asked rows * (length rows + length sizes)
 
-abbrev pub IsFilled : List RowView → List ℕ → List ℕ → Filled → Type 0
-IsFilled rows firsts sizes (Done assignment turns) = IsDone rows firsts sizes assignment turns
-IsFilled rows firsts sizes (Stuck reached taken turns) = IsStuck rows firsts sizes reached.items taken.items turns
+abbrev pub IsOutcome : List RowView → List ℕ → List ℕ → Outcome → Type 0
+IsOutcome rows firsts sizes (Done assignment turns) = IsDone rows firsts sizes assignment turns
+IsOutcome rows firsts sizes (Stuck reached taken turns) = IsStuck rows firsts sizes reached.items taken.items turns

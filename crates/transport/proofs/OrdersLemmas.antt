@@ -22,20 +22,20 @@ use Rattle.certificate.specs.declared.limits.TheConstants.{MAX_WEIGHT}
 use Rattle.transport.specs.Numbers.{number}
 use Rattle.transport.specs.Searches.{weight_limit}
 use Rattle.transport.specs.SortedArcs.{weight_of, IsToCome, IsNewSortedArcs, AreArcs, IsSortedArcs}
-use Rattle.transport.specs.Orders.{bid_at, bids_in, offered, IsBid, AreBids, AreAllBids, IsOrder}
+use Rattle.transport.specs.Orders.{weighted_at, weighted_in, offered, IsWeighted, AreWeighted, AreAllWeighted, IsOrder}
 use Rattle.transport.specs.declared.arcs.WeightedOffer.{WeightedOffer}
 use Rattle.transport.specs.declared.arcs.OfferOrder.TheVariants.{AsOffered, ByWeight}
 use Rattle.transport.specs.declared.arcs.SortedArcs.{SortedArcs}
 
-pub bids_none : (offers : List Offer) → AreAllBids offers [] 0
-bids_none offers = record { its = All-nil (IsBid offers); all = λ o x lt is. absurd (omega arith) }
+pub weighted_none : (offers : List Offer) → AreAllWeighted offers [] 0
+weighted_none offers = record { its = All-nil (IsWeighted offers); all = λ o x lt is. absurd (omega arith) }
 
 -- one offer more
-pub bids_more : (offers : List Offer) (bids : List WeightedOffer) (k : ℕ) (x : Offer) → slice_get offers k ≡ Some x → AreAllBids offers bids k → AreAllBids offers (bids ++ record { weight = x.weight; offer = k } ∷ []) (k + 1)
-bids_more offers bids k x is h = record {
-  its = All-push (IsBid offers) bids b h.its (record { offer = x; its = is; weight = refl });
+pub weighted_more : (offers : List Offer) (weighted : List WeightedOffer) (k : ℕ) (x : Offer) → slice_get offers k ≡ Some x → AreAllWeighted offers weighted k → AreAllWeighted offers (weighted ++ record { weight = x.weight; offer = k } ∷ []) (k + 1)
+weighted_more offers weighted k x is h = record {
+  its = All-push (IsWeighted offers) weighted b h.its (record { offer = x; its = is; weight = refl });
   all = λ o y lt its. elim (cases_lt o k) [
-    | inl before ↦ Contains-append_left bids (b ∷ []) _ (h.all o y before its)
+    | inl before ↦ Contains-append_left weighted (b ∷ []) _ (h.all o y before its)
     | inr after ↦ last o y (omega (arith, lt, after)) its
   ];
 }
@@ -43,20 +43,20 @@ bids_more offers bids k x is h = record {
     b : WeightedOffer
     b = record { weight = x.weight; offer = k }
 
-    last : (o : ℕ) (y : Offer) → o ≡ k → slice_get offers o ≡ Some y → Contains (bids ++ b ∷ []) (record { weight = y.weight; offer = o })
+    last : (o : ℕ) (y : Offer) → o ≡ k → slice_get offers o ≡ Some y → Contains (weighted ++ b ∷ []) (record { weight = y.weight; offer = o })
     last o y e its =
         let same : y ≡ x = (let both : Some y ≡ Some x = sym its ∙ ap (slice_get offers) e ∙ is in cc) in
-        subst (λ (w : Offer). Contains (bids ++ b ∷ []) (record { weight = w.weight; offer = o })) (sym same)
-        (subst (λ n. Contains (bids ++ b ∷ []) (record { weight = x.weight; offer = n })) (sym e) (Contains-push bids b))
+        subst (λ (w : Offer). Contains (weighted ++ b ∷ []) (record { weight = w.weight; offer = o })) (sym same)
+        (subst (λ n. Contains (weighted ++ b ∷ []) (record { weight = x.weight; offer = n })) (sym e) (Contains-push weighted b))
 
-pub bids_sorted : (offers : List Offer) (bids sorted : List WeightedOffer) (n : ℕ) → AreAllBids offers bids n → IsPermutation bids sorted → AreAllBids offers sorted n
-bids_sorted offers bids sorted n h p = record {
-  its = All-permutation (IsBid offers) bids sorted p h.its;
-  all = λ o x lt is. Contains-permutation bids sorted _ p (h.all o x lt is);
+pub weighted_sorted : (offers : List Offer) (weighted sorted : List WeightedOffer) (n : ℕ) → AreAllWeighted offers weighted n → IsPermutation weighted sorted → AreAllWeighted offers sorted n
+weighted_sorted offers weighted sorted n h p = record {
+  its = All-permutation (IsWeighted offers) weighted sorted p h.its;
+  all = λ o x lt is. Contains-permutation weighted sorted _ p (h.all o x lt is);
 }
 
-pub bids_rise : (offers : List Offer) (bids : List WeightedOffer) (n : ℕ) → AreAllBids offers bids n → IsNonDecreasingBy (λ (b : WeightedOffer). b.weight) bids → AreBids offers bids
-bids_rise offers bids n h up = record {
+pub weighted_rise : (offers : List Offer) (weighted : List WeightedOffer) (n : ℕ) → AreAllWeighted offers weighted n → IsNonDecreasingBy (λ (b : WeightedOffer). b.weight) weighted → AreWeighted offers weighted
+weighted_rise offers weighted n h up = record {
   rising = λ i j le lt. up i j _ le lt;
   its = λ i lt. h.its i _ lt;
 }
@@ -64,16 +64,16 @@ bids_rise offers bids n h up = record {
 -- offers that rise are in order as they stand
 pub order_as_offered : (offers : List Offer) → AreRising offers → IsOrder offers AsOffered
 order_as_offered offers up = record {
-  bids = record {
+  weighted = record {
     rising = λ i j le lt. rw (at i (omega (arith, le, lt, long)), at j (omega (arith, lt, long))) (weights i j le (omega (arith, lt, long)));
     its = λ i lt. rw (at i (omega (arith, lt, long))) (its i (omega (arith, lt, long)));
   };
   all = record {
-    its = λ i d lt. rw (get_or-map-range_with_len bid 0 (length offers) i i d (omega (arith, lt, long)) (omega arith)) (its i (omega (arith, lt, long)));
+    its = λ i d lt. rw (get_or-map-range_with_len weighted_offer 0 (length offers) i i d (omega (arith, lt, long)) (omega arith)) (its i (omega (arith, lt, long)));
     all = λ o x lt is. (
       o,
       omega (arith, lt, long),
-      get_or-map-range_with_len bid 0 (length offers) o o _ lt (omega arith)
+      get_or-map-range_with_len weighted_offer 0 (length offers) o o _ lt (omega arith)
           ∙ ap (λ (y : Offer). record { weight = y.weight; offer = o }) (get_or_from_slice_get offers o x none is),
     );
   };
@@ -83,16 +83,16 @@ order_as_offered offers up = record {
     none : Offer
     none = record { weight = 0; cpus = set.empty }
 
-    bid : ℕ → WeightedOffer
-    bid i = record { weight = (get_or offers i none).weight; offer = i }
+    weighted_offer : ℕ → WeightedOffer
+    weighted_offer i = record { weight = (get_or offers i none).weight; offer = i }
 
     long : length (offered offers) ≡ length offers
-    long = length-map-range_with_len bid 0 (length offers)
+    long = length-map-range_with_len weighted_offer 0 (length offers)
 
-    at : (i : ℕ) → i < length offers → bid_at (offered offers) i ≡ bid i
-    at i lt = get_or-map-range_with_len bid 0 (length offers) i i _ lt (omega arith)
+    at : (i : ℕ) → i < length offers → weighted_at (offered offers) i ≡ weighted_offer i
+    at i lt = get_or-map-range_with_len weighted_offer 0 (length offers) i i _ lt (omega arith)
 
-    its : (i : ℕ) → i < length offers → IsBid offers (bid i)
+    its : (i : ℕ) → i < length offers → IsWeighted offers (weighted_offer i)
     its i lt = record { offer = get_or offers i none; its = slice_get-get_or offers i none lt; weight = refl }
 
     weights : (i j : ℕ) → i ≤ j → j < length offers → (get_or offers i none).weight ≤ (get_or offers j none).weight
@@ -101,8 +101,8 @@ order_as_offered offers up = record {
       | inr after ↦ (let e : i ≡ j = omega (arith, le, after) in omega (arith, ap (λ n. (get_or offers n none).weight) e))
     ]
 
-pub bid_as_offered : (offers : List Offer) (i : ℕ) (o : Offer) → i < length offers → o ≡ get_or offers i o → record { weight = o.weight; offer = i } ≡ bid_at (offered offers) i
-bid_as_offered offers i o lt is =
+pub weighted_as_offered : (offers : List Offer) (i : ℕ) (o : Offer) → i < length offers → o ≡ get_or offers i o → record { weight = o.weight; offer = i } ≡ weighted_at (offered offers) i
+weighted_as_offered offers i o lt is =
     ap (λ (x : Offer). record { weight = x.weight; offer = i }) (is ∙ get_or_default offers i o none lt)
     ∙ sym (get_or-map-range_with_len (λ n. record { weight = (get_or offers n none).weight; offer = n }) 0 (length offers) i i _ lt (omega arith))
   where
@@ -110,8 +110,8 @@ bid_as_offered offers i o lt is =
     none = record { weight = 0; cpus = set.empty }
 
 -- and all of them sorted by weight are
-pub order_by_weight : (offers : List Offer) (bids : Vec WeightedOffer Global) → AreAllBids offers bids.items (length offers) → length bids.items ≡ length offers → IsNonDecreasingBy (λ (b : WeightedOffer). b.weight) bids.items → IsOrder offers (ByWeight bids)
-order_by_weight offers bids all long up = record { bids = bids_rise offers bids.items (length offers) all up; all = all; long = long }
+pub order_by_weight : (offers : List Offer) (weighted : Vec WeightedOffer Global) → AreAllWeighted offers weighted.items (length offers) → length weighted.items ≡ length offers → IsNonDecreasingBy (λ (b : WeightedOffer). b.weight) weighted.items → IsOrder offers (ByWeight weighted)
+order_by_weight offers weighted all long up = record { weighted = weighted_rise offers weighted.items (length offers) all up; all = all; long = long }
 
 -- where no CPU is in two offers, each offer that has a CPU gives its weight
 first_has : (offers : List Offer) (c i : ℕ) (x : Offer) → AllPairs (λ (o p : Offer). IsDisjoint o.cpus p.cpus) offers → slice_get offers i ≡ Some x → set.contains x.cpus c ≡ true
@@ -188,8 +188,8 @@ weight_low rows firsts k g w fit e =
     weights : (k : ℕ) → k < length rows → All (λ (o : Offer). o.weight ≤ MAX_WEIGHT) (offers_of rows k)
     weights k lt = subst (All (λ (o : Offer). o.weight ≤ MAX_WEIGHT)) (sym (get_or-map (λ (r : RowView). r.offers) rows k none [] lt)) (fit.each k none lt).weights
 
-pub new_line : (offers : List Offer) (firsts residual : List ℕ) (l : SortedArcs) → AllPairs (λ (o p : Offer). IsDisjoint o.cpus p.cpus) offers → length firsts ≤ length residual → IsNewSortedArcs offers l → IsSortedArcs (weight_of offers firsts) offers firsts residual l
-new_line offers firsts residual l apart long h = record {
+pub new_sorted : (offers : List Offer) (firsts residual : List ℕ) (l : SortedArcs) → AllPairs (λ (o p : Offer). IsDisjoint o.cpus p.cpus) offers → length firsts ≤ length residual → IsNewSortedArcs offers l → IsSortedArcs (weight_of offers firsts) offers firsts residual l
+new_sorted offers firsts residual l apart long h = record {
   order = h.order;
   opened_in = omega (arith, h.opened);
   arcs = rw (h.opened, h.arcs) none;
@@ -200,12 +200,12 @@ new_line offers firsts residual l apart long h = record {
   firsts_in = long;
 }
   where
-    to_come : (g w : ℕ) → weight_of offers firsts g ≡ Some w → IsToCome offers firsts (bids_in offers l.order) 0 g w
+    to_come : (g w : ℕ) → weight_of offers firsts g ≡ Some w → IsToCome offers firsts (weighted_in offers l.order) 0 g w
     to_come g w e =
         let lt = in_classes offers firsts g w e in
         let o = offer_of offers (number firsts g) w (sym (in_offers offers firsts g lt) ∙ e) in
         let c = h.order.all.all o.index o.offer (slice_get_within offers o.index o.offer o.its) o.its in
-        let b : bid_at (bids_in offers l.order) c.0 ≡ record { weight = o.offer.weight; offer = o.index } = get_or_default (bids_in offers l.order) c.0 _ _ c.1 ∙ c.2 in
+        let b : weighted_at (weighted_in offers l.order) c.0 ≡ record { weight = o.offer.weight; offer = o.index } = get_or_default (weighted_in offers l.order) c.0 _ _ c.1 ∙ c.2 in
         record {
           index = c.0;
           from = omega arith;
@@ -219,7 +219,7 @@ new_line offers firsts residual l apart long h = record {
           };
         }
 
-    none : AreArcs (weight_of offers firsts) offers firsts (bids_in offers l.order) 0 []
+    none : AreArcs (weight_of offers firsts) offers firsts (weighted_in offers l.order) 0 []
     none = record {
       sound = λ i lt. absurd (omega arith);
       rising = λ i j le lt. absurd (omega arith);
@@ -228,28 +228,28 @@ new_line offers firsts residual l apart long h = record {
     }
 
 -- one row's sorted arcs more
-pub lines_more : (rows : List RowView) (kinds : List ℕ) (lines : List SortedArcs) (k : ℕ) (l : SortedArcs) → AreNewSortedArcs rows kinds lines k
-    → (kind_at kinds k ≡ k → IsNewSortedArcs (offers_of rows k) l) → AreNewSortedArcs rows kinds (lines ++ l ∷ []) (k + 1)
-lines_more rows kinds lines k l h own = record {
-  long = omega (arith, length_push lines l, h.long);
-  each = λ j m is. elim (cases_lt j (length lines)) [
-    | inl before ↦ h.each j m (slice_get-get_or lines j m before ∙ ap Some (sym (get_or_append_left lines (l ∷ []) m j before) ∙ get_or_from_slice_get (lines ++ l ∷ []) j m m is))
-    | inr after ↦ last j m is (omega (arith, after, slice_get_within (lines ++ l ∷ []) j m is, length_push lines l))
+pub all_sorted_more : (rows : List RowView) (kinds : List ℕ) (arcs_by_kind : List SortedArcs) (k : ℕ) (l : SortedArcs) → AreNewSortedArcs rows kinds arcs_by_kind k
+    → (kind_at kinds k ≡ k → IsNewSortedArcs (offers_of rows k) l) → AreNewSortedArcs rows kinds (arcs_by_kind ++ l ∷ []) (k + 1)
+all_sorted_more rows kinds arcs_by_kind k l h own = record {
+  long = omega (arith, length_push arcs_by_kind l, h.long);
+  each = λ j m is. elim (cases_lt j (length arcs_by_kind)) [
+    | inl before ↦ h.each j m (slice_get-get_or arcs_by_kind j m before ∙ ap Some (sym (get_or_append_left arcs_by_kind (l ∷ []) m j before) ∙ get_or_from_slice_get (arcs_by_kind ++ l ∷ []) j m m is))
+    | inr after ↦ last j m is (omega (arith, after, slice_get_within (arcs_by_kind ++ l ∷ []) j m is, length_push arcs_by_kind l))
   ];
 }
   where
-    last : (j : ℕ) (m : SortedArcs) → slice_get (lines ++ l ∷ []) j ≡ Some m → length lines ≡ j → kind_at kinds j ≡ j → IsNewSortedArcs (offers_of rows j) m
+    last : (j : ℕ) (m : SortedArcs) → slice_get (arcs_by_kind ++ l ∷ []) j ≡ Some m → length arcs_by_kind ≡ j → kind_at kinds j ≡ j → IsNewSortedArcs (offers_of rows j) m
     last j m is e first =
-        let same : l ≡ m = sym (get_or_push lines l m j e) ∙ get_or_from_slice_get (lines ++ l ∷ []) j m m is in
+        let same : l ≡ m = sym (get_or_push arcs_by_kind l m j e) ∙ get_or_from_slice_get (arcs_by_kind ++ l ∷ []) j m m is in
         let index : k ≡ j = sym h.long ∙ e in
         subst (IsNewSortedArcs (offers_of rows j)) same (subst (λ x. kind_at kinds x ≡ x → IsNewSortedArcs (offers_of rows x) l) index own first)
 
-pub lines_new : (t : Instance) (residual : List ℕ) (lines : List SortedArcs) → AreRowsWithin t.rows.now → AreKinds t.rows.now (length t.rows.now) t.kinds.now → length t.firsts ≤ length residual
-    → AreNewSortedArcs t.rows.now t.kinds.now lines (length t.rows.now) → AreSortedArcs t residual lines
-lines_new t residual lines fit kinds long h = record {
+pub all_sorted_new : (t : Instance) (residual : List ℕ) (arcs_by_kind : List SortedArcs) → AreRowsWithin t.rows.now → AreKinds t.rows.now (length t.rows.now) t.kinds.now → length t.firsts ≤ length residual
+    → AreNewSortedArcs t.rows.now t.kinds.now arcs_by_kind (length t.rows.now) → AreSortedArcs t residual arcs_by_kind
+all_sorted_new t residual arcs_by_kind fit kinds long h = record {
   long = h.long;
   kinds = kinds;
-  each = λ k l is first. new_line (offers_of t.rows.now k) t.firsts residual l (apart k (omega (arith, slice_get_within lines k l is, h.long))) long (h.each k l is first);
+  each = λ k l is first. new_sorted (offers_of t.rows.now k) t.firsts residual l (apart k (omega (arith, slice_get_within arcs_by_kind k l is, h.long))) long (h.each k l is first);
 }
   where
     none : RowView

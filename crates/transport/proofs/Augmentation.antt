@@ -1,19 +1,19 @@
--- CPUs moved along the way from the root to a class with a free CPU, row by row.
+-- CPUs moved along the path from the root to a class with a free CPU, row by row.
 use Rattle.std.proofs.Common.{◌≡◌, ℕ, ◌+◌, ◌<◌, ◌≤◌, true, cond, List, Option, Some, refl, sym, ap, ◌∙◌, subst, inl, inr, arith}
 use Rattle.std.proofs.lemmas.Bool.{cases_eq, eq-eqb, ne_eqb}
 use Rattle.transport.specs.ReachedRows.{is_reached, bottleneck, index}
 use Rattle.transport.specs.Duals.{IsTight}
 use Rattle.transport.specs.Totals.{row_total, class_total}
-use Rattle.transport.specs.Pushes.{IsPushing, IsGiven, IsGivenUp, in_hand}
+use Rattle.transport.specs.Augmenting.{IsAugmenting, IsGiven, IsGivenUp, in_hand}
 use Rattle.transport.specs.declared.tree.ReachedRows.{ReachedRows}
 use Rattle.transport.specs.declared.labels.Label.{Label}
 use Rattle.transport.proofs.Sums.{total_change, total_same}
 
 -- at the start, the free end's class is in hand
-pub pushing_start : (ws : ℕ → ℕ → Option ℕ) (values prices : List ℕ) (q : ReachedRows) (cells : ℕ → ℕ → ℕ) (rows classes row g amount : ℕ)
+pub augmenting_start : (ws : ℕ → ℕ → Option ℕ) (values prices : List ℕ) (q : ReachedRows) (cells : ℕ → ℕ → ℕ) (rows classes row g amount : ℕ)
     → ((k h : ℕ) → 0 < cells k h → IsTight ws values prices k h) → is_reached q row ≡ true → IsTight ws values prices row g → amount ≤ bottleneck q row
-    → IsPushing ws values prices q cells cells rows classes row g g amount
-pushing_start ws values prices q cells rows classes row g amount tight on link less = record {
+    → IsAugmenting ws values prices q cells cells rows classes row g g amount
+augmenting_start ws values prices q cells rows classes row g amount tight on link less = record {
   on = on;
   link = link;
   less = less;
@@ -58,7 +58,7 @@ class_kept old new g rows h = total_same (λ k. new k g) (λ k. old k g) rows (�
 
 -- the row takes the class in hand and gives up the class through which it was reached, which goes on to the row before it
 module _ (ws : ℕ → ℕ → Option ℕ) (values prices : List ℕ) (q : ReachedRows) (start cells mid new : ℕ → ℕ → ℕ) (rows classes row g h first amount : ℕ) (n : Label)
-    (p : IsPushing ws values prices q start cells rows classes row g first amount)
+    (p : IsAugmenting ws values prices q start cells rows classes row g first amount)
     (fit : (k j w : ℕ) → ws k j ≡ Some w → j < classes) (in_rows : row < rows)
     (before : index q n.row < index q row) (there : is_reached q n.row ≡ true) (link : IsTight ws values prices n.row h) (less : bottleneck q row ≤ bottleneck q n.row)
     (give : IsGiven cells mid row g amount) (take : IsGivenUp mid new row h amount) where
@@ -112,8 +112,8 @@ module _ (ws : ℕ → ℕ → Option ℕ) (values prices : List ℕ) (q : Reach
     | inr nb ↦ omega (arith, class_kept mid new j rows (λ k. take.others k j (λ c d. nb d)), in_hand_other h amount j nb)
   ]
 
-  pub pushing_more : IsPushing ws values prices q start new rows classes n.row h first amount
-  pushing_more = record {
+  pub augmenting_more : IsAugmenting ws values prices q start new rows classes n.row h first amount
+  augmenting_more = record {
     on = there;
     link = link;
     less = omega (arith, p.less, less);
@@ -128,7 +128,7 @@ module _ (ws : ℕ → ℕ → Option ℕ) (values prices : List ℕ) (q : Reach
 
 -- at the root the class in hand stays
 module _ (ws : ℕ → ℕ → Option ℕ) (values prices : List ℕ) (q : ReachedRows) (start cells new : ℕ → ℕ → ℕ) (rows classes row g first amount : ℕ)
-    (p : IsPushing ws values prices q start cells rows classes row g first amount)
+    (p : IsAugmenting ws values prices q start cells rows classes row g first amount)
     (fit : (k j w : ℕ) → ws k j ≡ Some w → j < classes) (in_rows : row < rows) (give : IsGiven cells new row g amount) where
   pub end_tight : (k j : ℕ) → 0 < new k j → IsTight ws values prices k j
   end_tight k j some = elim (cases_eq k row) [

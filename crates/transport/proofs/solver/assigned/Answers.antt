@@ -1,5 +1,5 @@
 use Rattle.transport.proofs.Classes.{firsts_once, first_is_cpu}
-use Rattle.transport.proofs.solver.filled.Goals as goal
+use Rattle.transport.proofs.solver.assigned.Goals as goal
 
 pub new-requires-clause-once : goal.new-requires-clause-once
 new-requires-clause-once c = firsts_once _ _ c.requires.grouping
