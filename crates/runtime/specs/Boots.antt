@@ -7,7 +7,7 @@ use Rattle.machine.specs.Nodes.{nodes_of}
 use Rattle.node.specs.NodeState.{NodeState}
 use Rattle.node.specs.IsNode.{IsNode}
 use Rattle.node.specs.Calls.{Opens}
-use Rattle.runtime.specs.declared.opening.TheConstants.{FIRST_PID}
+use Rattle.runtime.specs.declared.booting.TheConstants.{FIRST_PID}
 
 -- a kernel of which nothing was asked yet, with the machine's CPUs and nodes
 abbrev pub IsKernelOf : Layout → KernelState → Type 0

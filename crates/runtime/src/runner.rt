@@ -52,12 +52,12 @@ impl<K: Kernel + Drop, B: Bundles + Drop> Target for Runner<K, B> {
     ghost answers = { Answered };
 
     fn answer<W: Write>(&mut self, command: Command<'_>, w: &mut W) -> io::Result<()> {
-        carry_out(&mut self.node, &mut self.bundles, command, w)
+        dispatch(&mut self.node, &mut self.bundles, command, w)
     }
 }
 
-/// Carries the command out and writes the answer.
-fn carry_out<K: Kernel + Drop, B: Bundles, W: Write>(
+/// Hands the command to the function that carries it out and writes the answer.
+fn dispatch<K: Kernel + Drop, B: Bundles, W: Write>(
     node: &mut Node<K>,
     bundles: &mut B,
     command: Command<'_>,

@@ -1,6 +1,6 @@
 use Rattle.machine.specs.Present.{present}
 use Rattle.machine.specs.Nodes.{nodes_of}
-use Rattle.runtime.specs.declared.opening.TheConstants.{FIRST_PID}
+use Rattle.runtime.specs.declared.booting.TheConstants.{FIRST_PID}
 use Rattle.runtime.proofs.laws.booted_nodes.Goals as goal
 
 pub returns : goal.returns

@@ -1,3 +1,4 @@
+//! A node and its modelled kernel, as a machine boots.
 ghost use Rattle.std.specs.Prelude.{IfOk};
 ghost use Rattle.runtime.specs.Boots.{Boots, IsKernelOf};
 
