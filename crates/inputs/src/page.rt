@@ -68,7 +68,7 @@ impl<W: Write> Page<W> {
     }
 }
 
-/// The bytes but for the first so many.
+/// All but the first so many of the bytes.
 fn without_first(bytes: &ArrayVec<u8, ROOM>, count: usize) -> ArrayVec<u8, ROOM>
     requires { count ≤ length bytes.now.items }
     ensures { result.items ≡ drop count bytes.now.items }

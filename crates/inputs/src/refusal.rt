@@ -76,7 +76,7 @@ impl Refusal {
     /// Writes the refusal's line.
     ///
     /// # Errors
-    /// That of the first write that fails or takes no byte; a front of the line then went out.
+    /// That of the first write that fails or takes no byte; a prefix of the line then went out.
     pub fn write<W: Write>(self, w: &mut W) -> io::Result<()>
         ensures { Writes (W.contents w.old) (W.contents w.new) result (refusal_line self) }
     {
