@@ -200,6 +200,8 @@ impl IdSet {
         None
     }
 
+    // Inlined, since a call copies all words to the stack before they are used.
+    #[inline(always)]
     fn lanes(&self) -> Simd<u64, WORDS>
         ensures words { AreWords result }
         ensures numbers { set_of_words result ≡ self.now }
@@ -207,6 +209,7 @@ impl IdSet {
         Simd::from_array(self.words)
     }
 
+    #[inline(always)]
     fn of_lanes(lanes: Simd<u64, WORDS>) -> IdSet
         requires { AreWords lanes }
         ensures { result ≡ set_of_words lanes }
@@ -217,6 +220,7 @@ impl IdSet {
     }
 }
 
+#[inline(always)]
 fn has_none(lanes: Simd<u64, WORDS>) -> bool
     requires { AreWords lanes }
     ensures { IsTrue result ↔ (set_of_words lanes ≡ set.empty) }

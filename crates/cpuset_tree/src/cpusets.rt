@@ -147,7 +147,7 @@ impl Tree {
     {
         for place in 0..self.order.len() {
             if let Some(kept) = self.groups.get(self.order[place]) {
-                if kept.is_child_of(parent) && kept.name.as_str() == name {
+                if kept.is_named(name) && kept.is_child_of(parent) {
                     return Some(kept.group);
                 }
             }

@@ -1,4 +1,5 @@
-ghost use Rattle.std.specs.Prelude.{◌≡◌};
+ghost use Rattle.std.specs.Prelude.{◌≡◌, nat_eq, string_bytes};
+ghost use Rattle.std.specs.Cmp.Lexicographic.{pointwise};
 ghost use Rattle.cpuset_tree.specs.Groups.{is_parent};
 ghost use Rattle.cpuset_tree.specs.Effective.{granted};
 ghost use Rattle.cpuset_tree.specs.Kept.{ChangesAt, share_of, unrequested, with_requested, with_effective, may_change};
@@ -77,6 +78,16 @@ impl Cgroup {
         ensures { result ≡ is_parent self.now.parent parent }
     {
         self.parent == Some(parent)
+    }
+
+    /// Whether the group has this name.
+    ///
+    /// The names below one parent are often as long and begin alike, so the last bytes are compared before the rest.
+    pub fn is_named(&self, name: &str) -> bool
+        ensures { result ≡ pointwise nat_eq (string_bytes self.now.name) name.now }
+    {
+        let (own, other) = (self.name.as_bytes(), name.as_bytes());
+        own.len() == other.len() && own.last() == other.last() && self.name.as_str() == name
     }
 
     /// The group's share of a resource.
