@@ -23,6 +23,8 @@ pub mod IsShown
 pub mod PlanFault
 pub mod ShortageFault
 pub mod IsCause
+pub mod Scaled
+pub mod WeighSame
 pub mod Laws
 pub mod Tests
 pub mod Sums
@@ -31,3 +33,4 @@ pub mod Apart
 pub mod ApartTest
 pub mod Offers
 pub mod OfferLaws
+pub mod ScaledLaws

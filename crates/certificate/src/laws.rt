@@ -2,8 +2,10 @@
 ghost use Rattle.std.specs.Prelude.{◌≡◌};
 ghost use Rattle.certificate.specs.AreWithin.{RowsFitMeans, LimitsMean};
 ghost use Rattle.certificate.specs.Laws.{NoPlanBelowBound, ProvedIsLeast, ShortageLeavesNoPlan, ProvedHasNoFault, FaultlessIsProved};
+ghost use Rattle.certificate.specs.WeighSame.{SameWeightsSamePlans, SameWeightsSameCosts};
+ghost use Rattle.certificate.specs.Scaled.{CostSplits, SamePlans, MovesAreFew, LeastIsNearest};
 
-use crate::{MAX_AMOUNT, MAX_DEMAND, MAX_ROWS, MAX_WEIGHT};
+use crate::{MAX_AMOUNT, MAX_DEMAND, MAX_ROWS, MAX_WEIGHT, MOVE_SCALE};
 
 /// Weak duality: no plan costs less than a bound, for any rows, values and prices. Hence a plan whose
 /// cost is such a bound is least.
@@ -30,10 +32,29 @@ pub fn what_is_within_the_limits()
     ensures all { LimitsMean }
 {}
 
-/// The limits: 1,024 rows, 4,096 CPUs that a row asks for, weights below 2^25, values and prices up to 2^40.
+/// Weights that count moves besides the distance split into both: so does each cost, and the plans stay the same. A plan
+/// moves no more CPUs than there are, so one of least cost is one of least distance, and no plan of that distance moves
+/// fewer.
+pub fn scaled_rows_have_two_costs()
+    ensures split { CostSplits }
+    ensures plans { SamePlans }
+    ensures few { MovesAreFew }
+    ensures least { LeastIsNearest }
+{}
+
+/// Rows that ask for as many CPUs and weigh each CPU the same have the same plans at the same costs, however their offers
+/// are cut.
+pub fn same_weights_have_the_same_plans()
+    ensures plans { SameWeightsSamePlans }
+    ensures costs { SameWeightsSameCosts }
+{}
+
+/// The limits: 1,024 rows, 4,096 CPUs that a row asks for, weights below 2^25, values and prices up to 2^40; and the scale
+/// of weights that count moves, 2^16.
 pub fn the_limits()
     ensures rows { MAX_ROWS ≡ 1_024 }
     ensures demand { MAX_DEMAND ≡ 4_096 }
     ensures weight { MAX_WEIGHT ≡ 33_554_431 }
     ensures amount { MAX_AMOUNT ≡ 1_099_511_627_776 }
+    ensures scale { MOVE_SCALE ≡ 65_536 }
 {}

@@ -83,8 +83,31 @@ spells_hold id h = (
   },
 )
 
-spells_total : Spells (codes "total 0") (TotalLine 0)
-spells_total = (codes "0" ∷ [], refl, record { number = codes "0"; words_are = refl; total_is = zero_is_number })
+zero_below : (limit : ℕ) → 0 < limit → IsNumber limit (codes "0") 0
+zero_below limit some = record { digits = zero_is_number.digits; fits = some }
+
+-- total 0, or total 0 moves 0
+total_zero : Bool → List ℕ
+total_zero false = codes "total 0"
+total_zero true = codes "total 0 moves 0"
+
+spells_total : (scaled : Bool) → Spells (total_zero scaled) (TotalLine scaled 0)
+unfolding total_zero
+spells_total false = (codes "0" ∷ [], refl, record { number = codes "0"; words_are = refl; total_is = zero_is_number })
+spells_total true = (
+  codes "0" ∷ codes "moves" ∷ codes "0" ∷ [],
+  refl,
+  record {
+    first = codes "0";
+    second = codes "0";
+    distance = 0;
+    moves = 0;
+    words_are = refl;
+    distance_is = zero_below (2 ^ 48) (omega arith);
+    moves_is = zero_below (2 ^ 16) (omega arith);
+    total_is = refl;
+  },
+)
 
 -- lines that lead from the draft to an ended one
 pub record Completes (d : DraftView) : Type 0 where
@@ -134,7 +157,7 @@ complete_totalled d h =
 complete_body : (k : ℕ) (d : DraftView) → d.stage ≡ Body → IsOrdered d.rows d.sets d.values d.prices → length d.rows ≡ length d.sets + k → Completes d
 complete_body zero d b o h =
     let all : length d.sets ≡ length d.rows = omega arith in
-    completes_before d (record d { stage = Totalled; total = 0 }) (codes "total 0") (TotalLine 0) spells_total (take_total d 0 b all)
+    completes_before d (record d { stage = Totalled; total = 0 }) (total_zero d.scaled) (TotalLine d.scaled 0) (spells_total d.scaled) (take_total d 0 b all)
     (complete_totalled (record d { stage = Totalled; total = 0 }) refl)
 complete_body (suc k) d b o h =
     let nth = next_row d.rows (length d.sets) (omega arith) in
@@ -154,12 +177,12 @@ complete_body (suc k) d b o h =
 
 complete_at : (stage : Stage) (d : DraftView) → d.stage ≡ stage → IsRightAt stage d → Completes d
 complete_at Start d h r =
-    let e : DraftView = record d { stage = Body } in
-    let taken : next_at Start d HeaderLine ≡ Some e = refl in
-    let n : next d HeaderLine ≡ Some e = subst (λ (s : Stage). next_at s d HeaderLine ≡ Some e) (sym h) taken in
+    let e : DraftView = record d { stage = Body; scaled = false } in
+    let taken : next_at Start d (HeaderLine false) ≡ Some e = refl in
+    let n : next d (HeaderLine false) ≡ Some e = subst (λ (s : Stage). next_at s d (HeaderLine false) ≡ Some e) (sym h) taken in
     let o = nothing_ordered d.rows d.sets d.values d.prices r.0 in
     let long : length d.rows ≡ length d.sets + 0 = rw (r.0.no_rows, r.0.no_sets) refl in
-    completes_before d e (codes "numarun-certificate 1") HeaderLine refl n (complete_body 0 e refl o long)
+    completes_before d e (codes "numarun-certificate 1") (HeaderLine false) refl n (complete_body 0 e refl o long)
 complete_at Body d h r = let within : length d.sets ≤ length d.rows = r.0.within in complete_body (length d.rows - length d.sets) d h r.0 (omega arith)
 complete_at Totalled d h r = complete_totalled d h
 complete_at Planned d h r = complete_planned d h

@@ -71,6 +71,19 @@ fits_32 word number (Err x) h ok = λ n m.
     let same : n ≡ number = decimal_injective n number (omega arith) h.fits (sym m.digits ∙ h.digits) in
     ok (rw (← same) small)
 
+-- the number below a limit
+pub below : (limit number : ℕ) (word : List ℕ) → IsNumber (2 ^ 64) word number → number < limit → IsNumber limit word number
+below limit number word h lt = record { digits = h.digits; fits = lt }
+
+pub not_below : (limit number : ℕ) (word : List ℕ) → limit < 2 ^ 64 → IsNumber (2 ^ 64) word number → limit ≤ number → (n : ℕ) → IsNumber limit word n → ⊥
+not_below limit number word low h past n m =
+    let small : n < limit = m.fits in
+    let same : n ≡ number = decimal_injective n number (omega arith) h.fits (sym m.digits ∙ h.digits) in
+    absurd (omega (arith, small, same, past))
+
+pub none_below : (limit : ℕ) (word : List ℕ) → limit < 2 ^ 64 → ((n : ℕ) → IsNumber (2 ^ 64) word n → ⊥) → (n : ℕ) → IsNumber limit word n → ⊥
+none_below limit word low none n h = none n (record { digits = h.digits; fits = omega (arith, h.fits, low) })
+
 -- all digits are read
 pub all_read : (word : List ℕ) (i number : ℕ) → length word ≤ i → 0 < length word → (get_or word 0 0 ≡ 48 → length word ≡ 1)
     → AreDigits (take i word) → number ≡ digits_value 10 (take i word) → number < 2 ^ 64 → IsNumber (2 ^ 64) word number

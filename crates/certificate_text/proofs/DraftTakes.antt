@@ -2,12 +2,13 @@
 use Rattle.std.proofs.Common.{◌≡◌, ℕ, zero, suc, ◌+◌, Bool, true, false, not, ◌&&◌, cond, ◌++◌, List, [], ◌∷◌, drop, Option, Some, None, refl, sym, ap, ◌∙◌, subst, arith}
 use Rattle.std.specs.Prelude.{slice_get, is_some, IsSome}
 use Rattle.std.specs.Str.{bytes_eq}
+use Rattle.std.proofs.Math.Bool.{beq}
 use Rattle.std.proofs.lemmas.Option.{none-some, same_Some}
 use Rattle.certificate.specs.RowView.{RowView}
 use Rattle.certificate_text.specs.declared.stage.Stage.{Stage}
 use Rattle.certificate_text.specs.declared.stage.Stage.TheVariants.{Start, Body, Totalled, Planned, Named, Shown}
-use Rattle.certificate_text.specs.Line.{RowLine, ShortLine}
-use Rattle.certificate_text.specs.DraftView.{DraftView, has_id, has_no_plan, number_in, number_of, takes_members, takes_members_at, takes_row, takes_row_at, with_member, next_in_body, next_at, next}
+use Rattle.certificate_text.specs.Line.{RowLine, TotalLine, ShortLine}
+use Rattle.certificate_text.specs.DraftView.{DraftView, has_id, has_no_plan, is_held, number_in, number_of, takes_members, takes_members_at, takes_row, takes_row_at, with_member, next_in_body, next_at, next}
 
 cond_yes : {A : Type 0} (b : Bool) (x y : A) → b ≡ true → cond b x y ≡ x
 cond_yes true x y h = refl
@@ -65,6 +66,23 @@ row_none d row h = at d.stage refl h where
   at Totalled b t = refl
   at Planned b t = refl
   at Shown b t = refl
+
+-- a total is taken once each row has its set, where it counts moves as the first line says
+pub total_next : (d : DraftView) (scaled : Bool) (total : ℕ) → d.stage ≡ Body → is_held d ≡ true → beq scaled d.scaled ≡ true
+    → next d (TotalLine scaled total) ≡ Some (record d { stage = Totalled; total = total })
+total_next d scaled total b held same =
+    let e : DraftView = record d { stage = Totalled; total = total } in
+    let taken : next_in_body d (TotalLine scaled total) ≡ Some e =
+    ap (λ t. cond (t && beq scaled d.scaled) (Some e) None) held ∙ ap (λ t. cond (true && t) (Some e) None) same in
+    subst (λ (s : Stage). next_at s d (TotalLine scaled total) ≡ Some e) (sym b) taken
+
+pub other_total : (d : DraftView) (scaled : Bool) (total : ℕ) → d.stage ≡ Body → is_held d ≡ true → beq scaled d.scaled ≡ false
+    → next d (TotalLine scaled total) ≡ None
+other_total d scaled total b held other =
+    let e : DraftView = record d { stage = Totalled; total = total } in
+    let none : next_in_body d (TotalLine scaled total) ≡ None =
+    ap (λ t. cond (t && beq scaled d.scaled) (Some e) None) held ∙ ap (λ t. cond (true && t) (Some e) None) other in
+    subst (λ (s : Stage). next_at s d (TotalLine scaled total) ≡ None) (sym b) none
 
 -- a member is taken where its id is found
 pub member_next : (d : DraftView) (id : List ℕ) → takes_members d ≡ true → next d (ShortLine id) ≡ with_member d (number_of id d)

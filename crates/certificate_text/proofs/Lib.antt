@@ -19,3 +19,4 @@ pub mod Texts
 pub mod Rereading
 pub mod Verdicts
 pub mod Writable
+pub mod Totals

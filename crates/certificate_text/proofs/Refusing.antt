@@ -1,5 +1,5 @@
 -- Which lines are spelled by no words.
-use Rattle.std.proofs.Common.{◌≡◌, ℕ, List, [], ◌∷◌, true, false, sym, ap, ◌∙◌, arith}
+use Rattle.std.proofs.Common.{◌≡◌, ℕ, Bool, List, [], ◌∷◌, true, false, sym, ap, ◌∙◌, arith}
 use Rattle.std.specs.Str.{bytes_eq}
 use Rattle.std.proofs.lemmas.Bool.{false≢true}
 use Rattle.std.proofs.lemmas.Slice.Eq.{bytes_eq-Decides}
@@ -7,7 +7,7 @@ use Rattle.std.specs.Prelude.{codes}
 use Rattle.cpu_set.specs.Ids.{Ids}
 use Rattle.certificate.specs.RowView.{RowView}
 use Rattle.certificate.specs.declared.price_lists.Price.{Price}
-use Rattle.certificate_text.specs.Line.{LineView, HeaderLine, RowLine, HoldLine, PriceLine, TotalLine, ShortLine, EndLine, words, AreRowWords, AreHoldWords, ArePriceWords, AreTotalWords, Spells}
+use Rattle.certificate_text.specs.Line.{LineView, HeaderLine, RowLine, HoldLine, PriceLine, TotalLine, ShortLine, EndLine, words, AreRowWords, AreHoldWords, ArePriceWords, SayTotal, Spells, header_text}
 use Rattle.certificate_text.proofs.SpelledOnce.{first_byte, kind, begins}
 
 -- a line whose first word is that of one kind is spelled by no line of that kind, and so by none
@@ -45,12 +45,12 @@ no_price line ws e none l s =
     let b = ap first_byte e in
     absurd (omega (arith, a, b))
 
-pub no_total : (line : List ℕ) (ws : List (List ℕ)) → words line ≡ codes "total" ∷ ws → ((total : ℕ) → AreTotalWords ws total → ⊥) → (l : LineView) → Spells line l → ⊥
+pub no_total : (line : List ℕ) (ws : List (List ℕ)) → words line ≡ codes "total" ∷ ws → ((scaled : Bool) (total : ℕ) → SayTotal scaled ws total → ⊥) → (l : LineView) → Spells line l → ⊥
 unfolding first_byte kind
-no_total line ws e none (TotalLine total) s =
+no_total line ws e none (TotalLine scaled total) s =
     let same : codes "total" ∷ ws ≡ codes "total" ∷ s.0 = sym e ∙ s.1 in
     let rest : s.0 ≡ ws = cc in
-    none total (rw rest at s.2)
+    none scaled total (rw rest at s.2)
 no_total line ws e none l s =
     let a = begins line l s in
     let b = ap first_byte e in
@@ -67,10 +67,15 @@ no_short line ws e none l s =
     let b = ap first_byte e in
     absurd (omega (arith, a, b))
 
--- the line is neither the header nor the last line
+-- the line is neither a header nor the last line
 pub record IsInside (line : List ℕ) : Type 0 where
-  pub no_header : line ≡ codes "numarun-certificate 1" → ⊥
+  pub no_header : (scaled : Bool) → line ≡ header_text scaled → ⊥
   pub no_end : line ≡ codes "end" → ⊥
+
+pub no_headers : (line : List ℕ) → (line ≡ codes "numarun-certificate 1" → ⊥) → (line ≡ codes "numarun-certificate 2" → ⊥)
+    → (scaled : Bool) → line ≡ header_text scaled → ⊥
+no_headers line one two false = one
+no_headers line one two true = two
 
 -- no word behind which others stand
 pub record IsOther (first : List ℕ) : Type 0 where
@@ -85,12 +90,12 @@ first_is line first other ws vs e f = let same : first ∷ ws ≡ other ∷ vs =
 
 -- a line with another first word is spelled by none
 pub no_kind : (line first : List ℕ) (ws : List (List ℕ)) → IsInside line → words line ≡ first ∷ ws → IsOther first → (l : LineView) → Spells line l → ⊥
-no_kind line first ws i e o HeaderLine s = i.no_header s
+no_kind line first ws i e o (HeaderLine scaled) s = i.no_header scaled s
 no_kind line first ws i e o EndLine s = i.no_end s
 no_kind line first ws i e o (RowLine row) s = o.row (first_is line first (codes "row") ws s.0 e s.1)
 no_kind line first ws i e o (HoldLine id cpus value) s = o.hold (first_is line first (codes "hold") ws s.0 e s.1)
 no_kind line first ws i e o (PriceLine price) s = o.price (first_is line first (codes "price") ws s.0 e s.1)
-no_kind line first ws i e o (TotalLine total) s = o.total (first_is line first (codes "total") ws s.0 e s.1)
+no_kind line first ws i e o (TotalLine scaled total) s = o.total (first_is line first (codes "total") ws s.0 e s.1)
 no_kind line first ws i e o (ShortLine id) s = o.short (first_is line first (codes "short") ws s.0 e s.1)
 
 none_behind : (line other : List ℕ) (vs : List (List ℕ)) → words line ≡ line ∷ [] → words line ≡ other ∷ vs → vs ≡ []
@@ -98,7 +103,7 @@ none_behind line other vs e f = let same : line ∷ [] ≡ other ∷ vs = sym e 
 
 -- and so is one word alone
 pub no_word : (line : List ℕ) → IsInside line → words line ≡ line ∷ [] → (l : LineView) → Spells line l → ⊥
-no_word line i e HeaderLine s = i.no_header s
+no_word line i e (HeaderLine scaled) s = i.no_header scaled s
 no_word line i e EndLine s = i.no_end s
 no_word line i e (RowLine row) s =
     let none = none_behind line (codes "row") s.0 e s.1 in
@@ -109,7 +114,10 @@ no_word line i e (HoldLine id cpus value) s =
 no_word line i e (PriceLine price) s =
     let none = none_behind line (codes "price") s.0 e s.1 in
     absurd (let words_are = s.2.words_are in cc)
-no_word line i e (TotalLine total) s =
+no_word line i e (TotalLine false total) s =
+    let none = none_behind line (codes "total") s.0 e s.1 in
+    absurd (let words_are = s.2.words_are in cc)
+no_word line i e (TotalLine true total) s =
     let none = none_behind line (codes "total") s.0 e s.1 in
     absurd (let words_are = s.2.words_are in cc)
 no_word line i e (ShortLine id) s =

@@ -1,5 +1,5 @@
 -- What is written is a text of its certificate.
-use Rattle.std.proofs.Common.{◌≡◌, ◌≢◌, ℕ, zero, suc, ◌<◌, ◌^◌, Bool, true, false, ◌&&◌, ◌||◌, List, [], ◌∷◌, ◌++◌, map, length, refl, sym, ap, ◌∙◌, arith, append-nil, append_assoc}
+use Rattle.std.proofs.Common.{◌≡◌, ◌≢◌, ℕ, zero, suc, ◌/◌, ◌%◌, ◌<◌, ◌^◌, Bool, true, false, ◌&&◌, ◌||◌, List, [], ◌∷◌, ◌++◌, map, length, refl, sym, ap, ◌∙◌, arith, append-nil, append_assoc}
 use Rattle.std.specs.Prelude.{codes, decimal, All, ◌==◌}
 use Rattle.std.specs.Char.{is_ascii_digit}
 use Rattle.std.specs.List.{AllZip, flat_map, list_all}
@@ -7,6 +7,7 @@ use Rattle.std.specs.FinSet as set
 use Rattle.std.proofs.lemmas.Bool.{false≢true}
 use Rattle.std.proofs.lemmas.Bool.Decides.{nat_tests}
 use Rattle.std.proofs.lemmas.Fmt.{digits_decimal}
+use Rattle.std.proofs.lemmas.Nat.{div-add-mod'}
 use Rattle.std.proofs.lemmas.List.Splits.{slice_split_at, slice_split_none}
 use Rattle.cpu_set.specs.Ids.{Ids}
 use Rattle.cpu_set.specs.Members.{InRange}
@@ -14,6 +15,7 @@ use Rattle.cpu_set.specs.declared.TheConstants.{CPU_LIMIT}
 use Rattle.cpu_list.specs.CanonicalList.{list_text}
 use Rattle.cpu_list.specs.CanonicalLaws.{TextIsCanonical, CanonicalReadsAgain, TextLacks}
 use Rattle.certificate.specs.RowView.{RowView}
+use Rattle.certificate.specs.declared.limits.TheConstants.{MOVE_SCALE}
 use Rattle.certificate.specs.declared.rows.Offer.{Offer}
 use Rattle.certificate.specs.declared.price_lists.Price.{Price}
 use Rattle.certificate_text.specs.declared.certificates.Certificate.{Certificate}
@@ -22,9 +24,9 @@ use Rattle.certificate_text.specs.CertificateText.{CanBeText, hold_lines, id_at,
 use Rattle.certificate_text.specs.IdWord.{is_id_letter, IsId}
 use Rattle.certificate_text.specs.ListWord.{IsListWord}
 use Rattle.certificate_text.specs.NumberWord.{IsNumber}
-use Rattle.certificate_text.specs.Line.{LineView, HeaderLine, RowLine, HoldLine, PriceLine, TotalLine, ShortLine, EndLine, IsOfferWord, Spells, words}
+use Rattle.certificate_text.specs.Line.{LineView, HeaderLine, RowLine, HoldLine, PriceLine, TotalLine, ShortLine, EndLine, IsOfferWord, Spells, header_text, words}
 use Rattle.certificate_text.specs.Parts.{parts}
-use Rattle.certificate_text.specs.Written.{offer_text, line_text, CanWriteRow, CanWrite, IsOfferHeld, IsRowHeld, IsPriceHeld, IsHeld, WrittenReadsAgain}
+use Rattle.certificate_text.specs.Written.{offer_text, total_text, line_text, CanWriteRow, CanWrite, IsOfferHeld, IsRowHeld, IsPriceHeld, IsHeld, WrittenReadsAgain}
 use Rattle.certificate_text.proofs.Decimals.{own}
 
 -- the byte stands nowhere in the word
@@ -141,29 +143,56 @@ module _ (canonical : TextIsCanonical) (again : CanonicalReadsAgain) (lacks : Te
 
   -- a line without its line feed
   bare : LineView → List ℕ
-  bare HeaderLine = codes "numarun-certificate 1"
+  bare (HeaderLine scaled) = header_text scaled
   bare (RowLine row) = codes "row " ++ (row.id ++ 32 ∷ (decimal row.demand ++ flat_map offer_text row.offers))
   bare (HoldLine id cpus value) = codes "hold " ++ (id ++ 32 ∷ (list_text cpus ++ 32 ∷ decimal value))
   bare (PriceLine price) = codes "price " ++ (decimal price.amount ++ 32 ∷ list_text price.cpus)
-  bare (TotalLine total) = codes "total " ++ decimal total
+  bare (TotalLine scaled total) = codes "total " ++ total_text scaled total
   bare (ShortLine id) = codes "short " ++ id
   bare EndLine = codes "end"
 
   -- what a line has to be for that
   abbrev CanSay : LineView → Type 0
-  CanSay HeaderLine = Unit {0}
+  CanSay (HeaderLine scaled) = Unit {0}
   CanSay (RowLine row) = IsId row.id × (row.demand < 2 ^ 32) × CanSayOffers row.offers
   CanSay (HoldLine id cpus value) = IsId id × InRange cpus × (cpus ≢ set.empty) × (value < 2 ^ 64)
   CanSay (PriceLine price) = IsPriceHeld price × (price.cpus ≢ set.empty)
-  CanSay (TotalLine total) = total < 2 ^ 64
+  CanSay (TotalLine scaled total) = total < 2 ^ 64
   CanSay (ShortLine id) = IsId id
   CanSay EndLine = Unit {0}
 
+  -- a total that fits 64 bits has parts that fit 48 and 16
+  parts_fit : (total : ℕ) → total < 2 ^ 64 → (total / MOVE_SCALE < 2 ^ 48) × (total % MOVE_SCALE < 2 ^ 16)
+  parts_fit total h = (omega (arith, h), omega arith)
+
+  total_lacks : (scaled : Bool) (total : ℕ) → total < 2 ^ 64 → Lacks 10 (total_text scaled total)
+  total_lacks false total h = number_lacks total 10 refl h
+  total_lacks true total h =
+      let two = parts_fit total h in
+      lacks_both 10 (decimal (total / MOVE_SCALE)) (codes " moves " ++ decimal (total % MOVE_SCALE)) (number_lacks (total / MOVE_SCALE) 10 refl (omega (arith, two.0)))
+      (lacks_both 10 (codes " moves ") (decimal (total % MOVE_SCALE)) (refl, (refl, (refl, (refl, (refl, (refl, (refl, tt))))))) (number_lacks (total % MOVE_SCALE) 10 refl (omega (arith, two.1))))
+
   spells_bare : (l : LineView) → CanSay l → Spells (bare l) l
   unfolding bare
-  spells_bare HeaderLine h = refl
+  spells_bare (HeaderLine scaled) h = refl
   spells_bare EndLine h = refl
-  spells_bare (TotalLine total) h =
+  spells_bare (TotalLine true total) h =
+      let two = parts_fit total h in (
+        decimal (total / MOVE_SCALE) ∷ codes "moves" ∷ decimal (total % MOVE_SCALE) ∷ [],
+        ap (λ ws. codes "total" ∷ ws) (cut_at 32 (decimal (total / MOVE_SCALE)) (codes "moves " ++ decimal (total % MOVE_SCALE)) (number_lacks (total / MOVE_SCALE) 32 refl (omega (arith, two.0)))
+            ∙ ap (λ ws. decimal (total / MOVE_SCALE) ∷ codes "moves" ∷ ws) (uncut 32 (decimal (total % MOVE_SCALE)) (number_lacks (total % MOVE_SCALE) 32 refl (omega (arith, two.1))))),
+        record {
+          first = decimal (total / MOVE_SCALE);
+          second = decimal (total % MOVE_SCALE);
+          distance = total / MOVE_SCALE;
+          moves = total % MOVE_SCALE;
+          words_are = refl;
+          distance_is = number_word (2 ^ 48) (total / MOVE_SCALE) two.0;
+          moves_is = number_word (2 ^ 16) (total % MOVE_SCALE) two.1;
+          total_is = sym (div-add-mod' total MOVE_SCALE);
+        },
+      )
+  spells_bare (TotalLine false total) h =
       (decimal total ∷ [], ap (λ ws. codes "total" ∷ ws) (uncut 32 (decimal total) (number_lacks total 32 refl h)), record { number = decimal total; words_are = refl; total_is = number_word (2 ^ 64) total h })
   spells_bare (ShortLine id) h = (id ∷ [], ap (λ ws. codes "short" ∷ ws) (uncut 32 id (id_lacks id 32 refl h)), refl)
   spells_bare (PriceLine price) h = (
@@ -213,9 +242,10 @@ module _ (canonical : TextIsCanonical) (again : CanonicalReadsAgain) (lacks : Te
 
   bare_lacks : (l : LineView) → CanSay l → Lacks 10 (bare l)
   unfolding bare not_feed
-  bare_lacks HeaderLine h = word_lacks (codes "numarun-certificate 1") refl
+  bare_lacks (HeaderLine false) h = word_lacks (codes "numarun-certificate 1") refl
+  bare_lacks (HeaderLine true) h = word_lacks (codes "numarun-certificate 2") refl
   bare_lacks EndLine h = word_lacks (codes "end") refl
-  bare_lacks (TotalLine total) h = lacks_both 10 (codes "total ") (decimal total) (word_lacks (codes "total ") refl) (number_lacks total 10 refl h)
+  bare_lacks (TotalLine scaled total) h = lacks_both 10 (codes "total ") (total_text scaled total) (word_lacks (codes "total ") refl) (total_lacks scaled total h)
   bare_lacks (ShortLine id) h = lacks_both 10 (codes "short ") id (word_lacks (codes "short ") refl) (id_lacks id 10 refl h)
   bare_lacks (PriceLine price) h =
       lacks_both 10 (codes "price ") (decimal price.amount ++ 32 ∷ list_text price.cpus) (word_lacks (codes "price ") refl)
@@ -232,9 +262,9 @@ module _ (canonical : TextIsCanonical) (again : CanonicalReadsAgain) (lacks : Te
   -- the line is that with the feed
   line_is : (l : LineView) (rest : List ℕ) → line_text l ++ rest ≡ bare l ++ 10 ∷ rest
   unfolding bare
-  line_is HeaderLine rest = refl
+  line_is (HeaderLine scaled) rest = append_assoc (header_text scaled) (10 ∷ []) rest
   line_is EndLine rest = refl
-  line_is (TotalLine total) rest = ap (λ x. codes "total " ++ x) (append_assoc (decimal total) (10 ∷ []) rest)
+  line_is (TotalLine scaled total) rest = ap (λ x. codes "total " ++ x) (append_assoc (total_text scaled total) (10 ∷ []) rest)
   line_is (ShortLine id) rest = ap (λ x. codes "short " ++ x) (append_assoc id (10 ∷ []) rest)
   line_is (PriceLine price) rest =
       ap (λ x. codes "price " ++ x) (ends (decimal price.amount) (list_text price.cpus) rest)
@@ -306,19 +336,19 @@ module _ (canonical : TextIsCanonical) (again : CanonicalReadsAgain) (lacks : Te
   say_shorts rows (k ∷ ks) h b = (id_there rows k (b 0 k (omega arith)) h, say_shorts rows ks h (λ i d lt. b (suc i) d (omega arith)))
 
   say_lines : (c : Certificate) → CanWrite c → IsHeld c → CanSayAll (lines_of c)
-  say_lines (Plan rows sets prices total) w h =
-      let end : CanSayAll (TotalLine total ∷ EndLine ∷ []) = (h.4, (tt, tt)) in
-      let priced = say_both (map PriceLine prices.of_cpu) (TotalLine total ∷ EndLine ∷ []) (say_prices prices.of_cpu w.3 h.3) end in
-      let held = say_both (hold_lines rows sets prices.values) (map PriceLine prices.of_cpu ++ (TotalLine total ∷ EndLine ∷ [])) (say_holds rows sets prices.values w.1 h.1 w.2 h.2) priced in
-      (tt, say_both (map RowLine rows) (hold_lines rows sets prices.values ++ (map PriceLine prices.of_cpu ++ (TotalLine total ∷ EndLine ∷ []))) (say_rows rows w.1 h.0) held)
-  say_lines (Short rows members) w h =
+  say_lines (Plan rows sets prices total scaled) w h =
+      let end : CanSayAll (TotalLine scaled total ∷ EndLine ∷ []) = (h.4, (tt, tt)) in
+      let priced = say_both (map PriceLine prices.of_cpu) (TotalLine scaled total ∷ EndLine ∷ []) (say_prices prices.of_cpu w.3 h.3) end in
+      let held = say_both (hold_lines rows sets prices.values) (map PriceLine prices.of_cpu ++ (TotalLine scaled total ∷ EndLine ∷ [])) (say_holds rows sets prices.values w.1 h.1 w.2 h.2) priced in
+      (tt, say_both (map RowLine rows) (hold_lines rows sets prices.values ++ (map PriceLine prices.of_cpu ++ (TotalLine scaled total ∷ EndLine ∷ []))) (say_rows rows w.1 h.0) held)
+  say_lines (Short rows members scaled) w h =
       let end : CanSayAll (EndLine ∷ []) = (tt, tt) in
       let shorts = say_both (short_lines rows members) (EndLine ∷ []) (say_shorts rows members w.1 w.0.there) end in
       (tt, say_both (map RowLine rows) (short_lines rows members ++ EndLine ∷ []) (say_rows rows w.1 h) shorts)
 
   can_be : (c : Certificate) → CanWrite c → CanBeText c
-  can_be (Plan rows sets prices total) w = w.0
-  can_be (Short rows members) w = w.0
+  can_be (Plan rows sets prices total scaled) w = w.0
+  can_be (Short rows members scaled) w = w.0
 
   pub written_reads_again : WrittenReadsAgain
   written_reads_again c w h =

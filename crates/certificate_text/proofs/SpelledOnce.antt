@@ -1,5 +1,5 @@
 -- A line's spelling determines the line.
-use Rattle.std.proofs.Common.{◌≡◌, ℕ, ◌<◌, ◌≤◌, ◌^◌, List, [], ◌∷◌, refl, sym, ap, ◌∙◌, arith}
+use Rattle.std.proofs.Common.{◌≡◌, ℕ, ◌<◌, ◌≤◌, ◌^◌, Bool, true, false, get_or, List, [], ◌∷◌, refl, sym, ap, ◌∙◌, arith}
 use Rattle.std.specs.Prelude.{codes}
 use Rattle.std.specs.List.{AllZip}
 use Rattle.std.specs.Cmp.{nat_cmp_total}
@@ -12,7 +12,7 @@ use Rattle.certificate.specs.declared.rows.Offer.{Offer}
 use Rattle.certificate.specs.declared.price_lists.Price.{Price}
 use Rattle.certificate_text.specs.NumberWord.{IsNumber}
 use Rattle.certificate_text.specs.ListWord.{IsListWord}
-use Rattle.certificate_text.specs.Line.{LineView, HeaderLine, RowLine, HoldLine, PriceLine, TotalLine, ShortLine, EndLine, words, IsOfferWord, AreRowWords, AreHoldWords, ArePriceWords, AreTotalWords, Spells}
+use Rattle.certificate_text.specs.Line.{LineView, HeaderLine, RowLine, HoldLine, PriceLine, TotalLine, ShortLine, EndLine, words, IsOfferWord, AreRowWords, AreHoldWords, ArePriceWords, AreTotalWords, AreMovesWords, SayTotal, Spells}
 
 pub number_once : {limit : ℕ} {word : List ℕ} {m n : ℕ} → limit ≤ 2 ^ 64 → IsNumber limit word m → IsNumber limit word n → m ≡ n
 number_once {limit} {word} {m} {n} low p q =
@@ -68,6 +68,27 @@ total_once ws m n a b =
     let number : a.number ≡ b.number = cc in
     number_once (omega arith) a.total_is (rw (← number) at b.total_is)
 
+pub moves_once : (ws : List (List ℕ)) (m n : ℕ) → AreMovesWords ws m → AreMovesWords ws n → m ≡ n
+moves_once ws m n a b =
+    let same : a.first ∷ codes "moves" ∷ a.second ∷ [] ≡ b.first ∷ codes "moves" ∷ b.second ∷ [] = sym a.words_are ∙ b.words_are in
+    let first : a.first ≡ b.first = cc in
+    let second : a.second ≡ b.second = cc in
+    let distance : a.distance ≡ b.distance = number_once (omega arith) a.distance_is (rw (← first) at b.distance_is) in
+    let moves : a.moves ≡ b.moves = number_once (omega arith) a.moves_is (rw (← second) at b.moves_is) in
+    omega (arith, a.total_is, b.total_is, distance, moves)
+
+-- no words are both one and three
+one_or_three : (ws : List (List ℕ)) (m n : ℕ) → AreTotalWords ws m → AreMovesWords ws n → ⊥
+one_or_three ws m n a b =
+    let same : a.number ∷ [] ≡ b.first ∷ codes "moves" ∷ b.second ∷ [] = sym a.words_are ∙ b.words_are in
+    cc
+
+pub said_once : (ws : List (List ℕ)) (a b : Bool) (m n : ℕ) → SayTotal a ws m → SayTotal b ws n → TotalLine a m ≡ TotalLine b n
+said_once ws false false m n p q = ap (TotalLine false) (total_once ws m n p q)
+said_once ws true true m n p q = ap (TotalLine true) (moves_once ws m n p q)
+said_once ws false true m n p q = absurd (one_or_three ws m n p q)
+said_once ws true false m n p q = absurd (one_or_three ws n m q p)
+
 pub hold_once : (ws : List (List ℕ)) (id jd : List ℕ) (s t : Ids) (m n : ℕ) → AreHoldWords ws id s m → AreHoldWords ws jd t n
     → HoldLine id s m ≡ HoldLine jd t n
 hold_once ws id jd s t m n a b =
@@ -87,27 +108,31 @@ first_byte ((b ∷ bs) ∷ ws) = b
 
 -- the byte with which the lines of one kind begin
 unfoldable pub kind : LineView → ℕ
-kind HeaderLine = 110
+kind (HeaderLine scaled) = 110
 kind (RowLine row) = 114
 kind (HoldLine id cpus value) = 104
 kind (PriceLine price) = 112
-kind (TotalLine total) = 116
+kind (TotalLine scaled total) = 116
 kind (ShortLine id) = 115
 kind EndLine = 101
 
 pub begins : (line : List ℕ) (l : LineView) → Spells line l → first_byte (words line) ≡ kind l
 unfolding first_byte kind
-begins line HeaderLine p = ap (λ x. first_byte (words x)) p
+begins line (HeaderLine false) p = ap (λ x. first_byte (words x)) p
+begins line (HeaderLine true) p = ap (λ x. first_byte (words x)) p
 begins line (RowLine row) p = ap first_byte p.1
 begins line (HoldLine id cpus value) p = ap first_byte p.1
 begins line (PriceLine price) p = ap first_byte p.1
-begins line (TotalLine total) p = ap first_byte p.1
+begins line (TotalLine scaled total) p = ap first_byte p.1
 begins line (ShortLine id) p = ap first_byte p.1
 begins line EndLine p = ap (λ x. first_byte (words x)) p
 
 pub spelled_once : (line : List ℕ) (l m : LineView) → Spells line l → Spells line m → l ≡ m
 unfolding kind
-spelled_once line HeaderLine HeaderLine p q = refl
+spelled_once line (HeaderLine false) (HeaderLine false) p q = refl
+spelled_once line (HeaderLine true) (HeaderLine true) p q = refl
+spelled_once line (HeaderLine false) (HeaderLine true) p q = absurd (omega (arith, ap (λ x. get_or x 20 0) (sym p ∙ q)))
+spelled_once line (HeaderLine true) (HeaderLine false) p q = absurd (omega (arith, ap (λ x. get_or x 20 0) (sym p ∙ q)))
 spelled_once line EndLine EndLine p q = refl
 spelled_once line (RowLine r) (RowLine s) p q =
     let same : codes "row" ∷ p.0 ≡ codes "row" ∷ q.0 = sym p.1 ∙ q.1 in
@@ -121,10 +146,10 @@ spelled_once line (PriceLine r) (PriceLine s) p q =
     let same : codes "price" ∷ p.0 ≡ codes "price" ∷ q.0 = sym p.1 ∙ q.1 in
     let ws : p.0 ≡ q.0 = cc in
     ap PriceLine (price_once p.0 r s p.2 (rw (← ws) at q.2))
-spelled_once line (TotalLine m) (TotalLine n) p q =
+spelled_once line (TotalLine a m) (TotalLine b n) p q =
     let same : codes "total" ∷ p.0 ≡ codes "total" ∷ q.0 = sym p.1 ∙ q.1 in
     let ws : p.0 ≡ q.0 = cc in
-    ap TotalLine (total_once p.0 m n p.2 (rw (← ws) at q.2))
+    said_once p.0 a b m n p.2 (rw (← ws) at q.2)
 spelled_once line (ShortLine id) (ShortLine jd) p q =
     let same : codes "short" ∷ p.0 ≡ codes "short" ∷ q.0 = sym p.1 ∙ q.1 in
     let ws : p.0 ≡ q.0 = cc in

@@ -15,6 +15,7 @@ draft_view d = record {
   members = d.members.items;
   from = d.from;
   total = d.total;
+  scaled = d.scaled;
 }
 
 -- the kept ids are those of the rows, and the members are rows

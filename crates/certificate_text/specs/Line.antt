@@ -1,8 +1,9 @@
 -- The lines of a certificate's text, and how each is spelled.
-use Rattle.std.specs.Prelude.{◌≡◌, ℕ, ◌^◌, List, [], ◌∷◌, codes}
+use Rattle.std.specs.Prelude.{◌≡◌, ℕ, ◌+◌, ◌*◌, ◌^◌, Bool, true, false, List, [], ◌∷◌, codes}
 use Rattle.std.specs.List.{AllZip}
 use Rattle.cpu_set.specs.Ids.{Ids}
 use Rattle.certificate.specs.RowView.{RowView}
+use Rattle.certificate.specs.declared.limits.TheConstants.{MOVE_SCALE}
 use Rattle.certificate.specs.declared.rows.Offer.{Offer}
 use Rattle.certificate.specs.declared.price_lists.Price.{Price}
 use Rattle.certificate_text.specs.IdWord.{IsId}
@@ -10,13 +11,13 @@ use Rattle.certificate_text.specs.ListWord.{IsListWord}
 use Rattle.certificate_text.specs.NumberWord.{IsNumber}
 use Rattle.certificate_text.specs.Parts.{parts}
 
--- what a line says
+-- what a line says; the first and the total tell whether weights are scaled, and so count moves too
 pub data LineView : Type 0 where
-  HeaderLine : LineView
+  HeaderLine : (scaled : Bool) → LineView
   RowLine : (row : RowView) → LineView
   HoldLine : (id : List ℕ) (cpus : Ids) (value : ℕ) → LineView
   PriceLine : (price : Price) → LineView
-  TotalLine : (total : ℕ) → LineView
+  TotalLine : (scaled : Bool) (total : ℕ) → LineView
   ShortLine : (id : List ℕ) → LineView
   EndLine : LineView
 
@@ -63,16 +64,37 @@ pub record AreTotalWords (ws : List (List ℕ)) (total : ℕ) : Type 0 where
   pub words_are : ws ≡ number ∷ []
   pub total_is : IsNumber (2 ^ 64) number total
 
+-- DISTANCE moves MOVES, which together are the total
+pub record AreMovesWords (ws : List (List ℕ)) (total : ℕ) : Type 0 where
+  pub first : List ℕ
+  pub second : List ℕ
+  pub distance : ℕ
+  pub moves : ℕ
+  pub words_are : ws ≡ first ∷ codes "moves" ∷ second ∷ []
+  pub distance_is : IsNumber (2 ^ 48) first distance
+  pub moves_is : IsNumber (2 ^ 16) second moves
+  pub total_is : total ≡ distance * MOVE_SCALE + moves
+
+-- the first of them where weights are not scaled, the second where they are
+abbrev pub SayTotal : Bool → List (List ℕ) → ℕ → Type 0
+SayTotal false ws total = AreTotalWords ws total
+SayTotal true ws total = AreMovesWords ws total
+
+-- the first line: the version is 2 where weights are scaled
+abbrev pub header_text : Bool → List ℕ
+header_text false = codes "numarun-certificate 1"
+header_text true = codes "numarun-certificate 2"
+
 -- the words that follow a line's first
 abbrev pub AreWordsAfter : List ℕ → List ℕ → (List (List ℕ) → Type 0) → Type 0
 AreWordsAfter line first Are = (ws : List (List ℕ)) × (words line ≡ first ∷ ws) × Are ws
 
 -- the line is spelled so
 abbrev pub Spells : List ℕ → LineView → Type 0
-Spells line HeaderLine = line ≡ codes "numarun-certificate 1"
+Spells line (HeaderLine scaled) = line ≡ header_text scaled
 Spells line (RowLine row) = AreWordsAfter line (codes "row") (λ ws. AreRowWords ws row)
 Spells line (HoldLine id cpus value) = AreWordsAfter line (codes "hold") (λ ws. AreHoldWords ws id cpus value)
 Spells line (PriceLine price) = AreWordsAfter line (codes "price") (λ ws. ArePriceWords ws price)
-Spells line (TotalLine total) = AreWordsAfter line (codes "total") (λ ws. AreTotalWords ws total)
+Spells line (TotalLine scaled total) = AreWordsAfter line (codes "total") (λ ws. SayTotal scaled ws total)
 Spells line (ShortLine id) = AreWordsAfter line (codes "short") (λ ws. ws ≡ id ∷ [])
 Spells line EndLine = line ≡ codes "end"

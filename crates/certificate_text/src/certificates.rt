@@ -10,10 +10,15 @@ pub enum Certificate {
         plan: Plan,
         prices: Prices,
         total: u64,
+        /// Whether weights, and so the total, count moves besides the distance, as
+        /// [`MOVE_SCALE`](certificate::MOVE_SCALE) says.
+        scaled: bool,
     },
     /// Rows that together ask for more CPUs than they may have, so that there is no plan.
     Short {
         problem: Problem,
         members: Members,
+        /// Whether weights count moves besides the distance.
+        scaled: bool,
     },
 }

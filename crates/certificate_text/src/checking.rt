@@ -1,11 +1,13 @@
-ghost use Rattle.std.specs.Prelude.{◌≡◌, Ok, IfOk, IfErr};
+ghost use Rattle.std.specs.Prelude.{◌≡◌, Ok, Some, None, IfOk, IfErr, OnOk};
 ghost use Rattle.certificate_text.specs.declared.certificates.Certificate.TheVariants.{Plan as PlanCertificate, Short as ShortCertificate};
 ghost use Rattle.certificate_text.specs.declared.checking.Verdict.{Verdict};
-ghost use Rattle.certificate_text.specs.Verdict.{IsProvedCertificate, IsBest, IsVerdict, SaysLeast, IsFaultOf, IsVerdictError, IsAnswered};
+ghost use Rattle.certificate_text.specs.Verdict.{IsProvedCertificate, IsBest, IsVerdict, SaysLeast, IsFaultOf, IsVerdictError, IsAnswered, plan_verdict, scale_fault};
 
 use crate::reading::{BadText, read_text};
 use crate::{Certificate, Members};
-use certificate::{CheckFault, Plan, Prices, Problem, check_plan, check_shortage};
+use certificate::{
+    CheckFault, MOVE_SCALE, Plan, Prices, Problem, are_scaled, check_plan, check_shortage, laws,
+};
 use faults::{Fault, OrMemory};
 use std::alloc::Global;
 
@@ -14,6 +16,9 @@ use std::alloc::Global;
 pub enum Verdict {
     /// The certificate's plan costs this, and no plan costs less.
     Plan(u64),
+    /// The certificate's plan has this distance and moves so many CPUs: no plan's distance is less, and none of that
+    /// distance moves fewer.
+    Moves(u64, u64),
     /// The certificate's members ask together for so many CPUs, and may have so many, which are fewer: there is no plan.
     Short(u64, u32),
 }
@@ -23,8 +28,8 @@ pub enum Verdict {
 pub enum VerdictFault {
     /// E77: the text is no certificate's.
     BadText(BadText),
-    /// The certificate is refused: the first cause as [`check_plan`] or [`check_shortage`] words it, or `Gap` (E75) where
-    /// the written total isn't the plan's cost.
+    /// The certificate is refused: `BadProblem` (E70) where weights should be scaled and one isn't, then the first cause as
+    /// [`check_plan`] or [`check_shortage`] words it, then `Gap` (E75) where the written total isn't the plan's cost.
     Check(CheckFault),
 }
 
@@ -33,8 +38,7 @@ impl Fault for VerdictFault {}
 /// Reads a certificate from its text and checks it: [`read_text`], then [`check`].
 ///
 /// # Errors
-/// Those of [`read_text`], then those of [`check_plan`], then `Gap` where the written total isn't the plan's cost; for a
-/// shortage those of [`check_shortage`].
+/// Those of [`read_text`], then those of [`check`].
 pub fn check_text(alloc: Global, text: &[u8]) -> Result<Verdict, OrMemory<VerdictFault>>
     // A yes: the text stands for a plan that values and prices prove to cost the written total, or for members that are
     // short by these counts.
@@ -62,12 +66,14 @@ pub fn check_text(alloc: Global, text: &[u8]) -> Result<Verdict, OrMemory<Verdic
 /// want any.
 ///
 /// # Errors
-/// Those of [`check_plan`], then `Gap` where the written total isn't the plan's cost; for a shortage those of
-/// [`check_shortage`].
+/// `BadProblem` where weights should be scaled and one isn't; then those of [`check_plan`], then `Gap` where the written
+/// total isn't the plan's cost; for a shortage those of [`check_shortage`].
 pub fn check(certificate: &Certificate) -> Result<Verdict, CheckFault>
-    // A yes: values and prices prove the plan to cost the total, or the members are short by these counts.
+    // A yes: values and prices prove the plan to cost the total, or the members are short by these counts; where weights
+    // are scaled, they are distances times the scale, and one more at most.
     ensures proved { IfOk result (λ v. IsProvedCertificate certificate.now v) }
-    // Hence no plan of the rows costs less, or they have none.
+    // Hence no plan of the rows costs less, where weights are scaled none is nearer, and none as near moves fewer CPUs; or
+    // the rows have no plan.
     ensures best { IfOk result (λ v. IsBest certificate.now v) }
     // A yes wherever that holds.
     ensures complete { (v : Verdict) → IsProvedCertificate certificate.now v → result ≡ Ok v }
@@ -80,36 +86,70 @@ pub fn check(certificate: &Certificate) -> Result<Verdict, CheckFault>
             plan,
             prices,
             total,
-        } => check_total(problem, plan, prices, *total),
-        Certificate::Short { problem, members } => check_members(problem, members),
+            scaled,
+        } => check_total(problem, plan, prices, *total, *scaled),
+        Certificate::Short {
+            problem,
+            members,
+            scaled,
+        } => check_members(problem, members, *scaled),
     }
 }
 
 /// Checks the plan, and the total that is written with it.
+#[tactic(auto, using(crate::proofs::Verdicts::scale_first, crate::proofs::Verdicts::plan_second, crate::proofs::Verdicts::gap_last, crate::proofs::Verdicts::plan_proved, crate::proofs::Verdicts::plan_best))]
 fn check_total(
     problem: &Problem,
     plan: &Plan,
     prices: &Prices,
     total: u64,
+    scaled: bool,
 ) -> Result<Verdict, CheckFault>
-    ensures proved { IfOk result (λ v. IsProvedCertificate (PlanCertificate problem.now plan.now prices.now total) v) }
-    ensures best { IfOk result (λ v. IsBest (PlanCertificate problem.now plan.now prices.now total) v) }
-    ensures complete { (v : Verdict) → IsProvedCertificate (PlanCertificate problem.now plan.now prices.now total) v → result ≡ Ok v }
-    ensures fault { IfErr result (λ fault. IsFaultOf fault (PlanCertificate problem.now plan.now prices.now total)) }
+    ensures proved { IfOk result (λ v. IsProvedCertificate (PlanCertificate problem.now plan.now prices.now total scaled) v) }
+    ensures best { IfOk result (λ v. IsBest (PlanCertificate problem.now plan.now prices.now total scaled) v) }
+    ensures complete { (v : Verdict) → IsProvedCertificate (PlanCertificate problem.now plan.now prices.now total scaled) v → result ≡ Ok v }
+    ensures fault { IfErr result (λ fault. IsFaultOf fault (PlanCertificate problem.now plan.now prices.now total scaled)) }
 {
+    laws::scaled_rows_have_two_costs();
+    check_scale(problem, scaled)?;
     let cost = check_plan(problem, plan, prices)?;
     if cost != total {
         return Err(CheckFault::Gap);
     }
-    Ok(Verdict::Plan(cost))
+    Ok(plan_verdict(cost, scaled))
 }
 
-fn check_members(problem: &Problem, members: &Members) -> Result<Verdict, CheckFault>
-    ensures proved { IfOk result (λ v. IsProvedCertificate (ShortCertificate problem.now members.now) v) }
-    ensures best { IfOk result (λ v. IsBest (ShortCertificate problem.now members.now) v) }
-    ensures complete { (v : Verdict) → IsProvedCertificate (ShortCertificate problem.now members.now) v → result ≡ Ok v }
-    ensures fault { IfErr result (λ fault. IsFaultOf fault (ShortCertificate problem.now members.now)) }
+/// What a proved plan of this cost comes to.
+fn plan_verdict(cost: u64, scaled: bool) -> Verdict
+    ensures { result ≡ plan_verdict cost scaled }
 {
+    if scaled {
+        let scale = u64::from(MOVE_SCALE);
+        Verdict::Moves(cost / scale, cost % scale)
+    } else {
+        Verdict::Plan(cost)
+    }
+}
+
+/// Refuses rows whose weights should be scaled and aren't.
+fn check_scale(problem: &Problem, scaled: bool) -> Result<(), CheckFault>
+    ensures ok { OnOk result (scale_fault scaled problem.now ≡ None) }
+    ensures err { IfErr result (λ fault. scale_fault scaled problem.now ≡ Some fault) }
+{
+    if scaled && !are_scaled(problem.rows.as_slice()) {
+        return Err(CheckFault::BadProblem);
+    }
+    Ok(())
+}
+
+#[tactic(auto, using(crate::proofs::Verdicts::short_scale_first, crate::proofs::Verdicts::short_second, crate::proofs::Verdicts::short_proved))]
+fn check_members(problem: &Problem, members: &Members, scaled: bool) -> Result<Verdict, CheckFault>
+    ensures proved { IfOk result (λ v. IsProvedCertificate (ShortCertificate problem.now members.now scaled) v) }
+    ensures best { IfOk result (λ v. IsBest (ShortCertificate problem.now members.now scaled) v) }
+    ensures complete { (v : Verdict) → IsProvedCertificate (ShortCertificate problem.now members.now scaled) v → result ≡ Ok v }
+    ensures fault { IfErr result (λ fault. IsFaultOf fault (ShortCertificate problem.now members.now scaled)) }
+{
+    check_scale(problem, scaled)?;
     let (asked, allowed) = check_shortage(problem, members.rows.as_slice())?;
     Ok(Verdict::Short(asked, allowed))
 }

@@ -32,6 +32,15 @@ fn with_digit(number: u64, digit: u8) -> Option<u64>
     number.checked_mul(10)?.checked_add(u64::from(digit - b'0'))
 }
 
+/// The number that the word writes in decimal digits without leading zeros, if it is below the limit.
+pub fn read_below(word: &[u8], limit: u64) -> Option<u64>
+    ensures { MatchOption result ((n : ℕ) → IsNumber limit word.now n → ⊥)
+        (λ n. IsNumber limit word.now n) }
+{
+    let number = read_u64(word)?;
+    if number < limit { Some(number) } else { None }
+}
+
 /// The number that the word writes in decimal digits without leading zeros, if it fits 32 bits.
 pub fn read_u32(word: &[u8]) -> Option<u32>
     ensures { MatchOption result ((n : ℕ) → IsNumber (2 ^ 32) word.now n → ⊥)

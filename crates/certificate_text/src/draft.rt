@@ -5,7 +5,7 @@ ghost use Rattle.certificate_text.specs.Takes.{Takes};
 
 use crate::bad_line::BadLine;
 use crate::line::Line;
-use crate::line_words::Hold;
+use crate::line_words::{Hold, Total};
 use crate::stage::Stage;
 use crate::{Certificate, Members};
 use certificate::{Plan, Price, PriceList, Prices, Problem, Row};
@@ -28,6 +28,7 @@ pub struct Draft {
     /// The first row after the members.
     from: usize,
     total: u64,
+    scaled: bool,
 }
 
 impl Model for Draft {
@@ -62,6 +63,7 @@ impl Draft {
             members: Vec::new(alloc),
             from: 0,
             total: 0,
+            scaled: false,
         }
     }
 
@@ -70,7 +72,7 @@ impl Draft {
         ensures { Takes result self.old (line_view line.entry) self.new }
     {
         match line {
-            Line::Header => self.begin(),
+            Line::Header(scaled) => self.begin(scaled),
             Line::Row(row) => self.add_row(row),
             Line::Hold(hold) => self.add_hold(hold),
             Line::Price(price) => self.add_price(price),
@@ -80,12 +82,13 @@ impl Draft {
         }
     }
 
-    fn begin(&mut self) -> Result<(), OrMemory<BadLine>>
-        ensures { Takes result self.old HeaderLine self.new }
+    fn begin(&mut self, scaled: bool) -> Result<(), OrMemory<BadLine>>
+        ensures { Takes result self.old (HeaderLine scaled) self.new }
     {
         match self.stage {
             Stage::Start => {
                 self.stage = Stage::Body;
+                self.scaled = scaled;
                 Ok(())
             }
             _ => Err(OrMemory::Fault(BadLine)),
@@ -181,9 +184,9 @@ impl Draft {
         Ok(())
     }
 
-    /// The total comes once each row has its set.
-    fn add_total(&mut self, total: u64) -> Result<(), OrMemory<BadLine>>
-        ensures { Takes result self.old (TotalLine total) self.new }
+    /// The total comes once each row has its set, and in two numbers where the first line says so.
+    fn add_total(&mut self, total: Total) -> Result<(), OrMemory<BadLine>>
+        ensures { Takes result self.old (TotalLine total.scaled total.total) self.new }
     {
         let Stage::Body = self.stage else {
             return Err(OrMemory::Fault(BadLine));
@@ -191,7 +194,10 @@ impl Draft {
         if !self.is_held() {
             return Err(OrMemory::Fault(BadLine));
         }
-        self.total = total;
+        if total.scaled != self.scaled {
+            return Err(OrMemory::Fault(BadLine));
+        }
+        self.total = total.total;
         self.stage = Stage::Totalled;
         Ok(())
     }
@@ -269,10 +275,12 @@ impl Draft {
                     of_cpu: self.prices,
                 },
                 total: self.total,
+                scaled: self.scaled,
             }),
             Stage::Shown => Some(Certificate::Short {
                 problem,
                 members: Members { rows: self.members },
+                scaled: self.scaled,
             }),
             _ => None,
         }

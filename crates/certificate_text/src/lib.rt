@@ -6,7 +6,6 @@
 mod bad_line;
 mod certificates;
 mod checking;
-mod cut;
 mod decimal;
 mod draft;
 mod id;
@@ -17,6 +16,7 @@ mod list_word;
 mod members;
 mod offer;
 mod reading;
+mod split_once;
 mod stage;
 mod word_pairs;
 mod writing;

@@ -6,8 +6,8 @@ ghost use Rattle.certificate_text.specs.LineRead.{line_view};
 ghost use Rattle.certificate_text.specs.OnBad.{OnBad};
 
 use crate::bad_line::BadLine;
-use crate::cut::cut;
-use crate::line_words::{Hold, read_hold, read_price, read_row, read_short, read_total};
+use crate::line_words::{Hold, Total, read_hold, read_price, read_row, read_short, read_total};
+use crate::split_once::split_once;
 use certificate::{Price, Row};
 use faults::OrMemory;
 use std::alloc::Global;
@@ -15,11 +15,12 @@ use std::alloc::Global;
 /// What a line of a certificate says.
 #[derive(Drop)]
 pub enum Line<'a> {
-    Header,
+    /// The first line, and whether weights count moves besides the distance.
+    Header(bool),
     Row(Row),
     Hold(Hold<'a>),
     Price(Price),
-    Total(u64),
+    Total(Total),
     /// The id of a row.
     Short(&'a [u8]),
     End,
@@ -33,12 +34,15 @@ pub fn read_line(alloc: Global, line: &[u8]) -> Result<Line<'_>, OrMemory<BadLin
     ensures memory { IfErr result (λ fault. fault ≡ Memory → (row : RowView) × Spells line.now (RowLine row)) }
 {
     if line == b"numarun-certificate 1".as_slice() {
-        return Ok(Line::Header);
+        return Ok(Line::Header(false));
+    }
+    if line == b"numarun-certificate 2".as_slice() {
+        return Ok(Line::Header(true));
     }
     if line == b"end".as_slice() {
         return Ok(Line::End);
     }
-    let Some((kind, text)) = cut(line, b' ') else {
+    let Some((kind, text)) = split_once(line, b' ') else {
         return Err(OrMemory::Fault(BadLine));
     };
     if kind == b"row".as_slice() {
@@ -75,10 +79,10 @@ pub fn read_line(alloc: Global, line: &[u8]) -> Result<Line<'_>, OrMemory<BadLin
 pub fn second_word(line: &[u8]) -> &[u8]
     ensures { (row : RowView) → Spells line.now (RowLine row) → result.now ≡ row.id }
 {
-    let Some((_, rest)) = cut(line, b' ') else {
+    let Some((_, rest)) = split_once(line, b' ') else {
         return line;
     };
-    match cut(rest, b' ') {
+    match split_once(rest, b' ') {
         Some((word, _)) => word,
         None => rest,
     }

@@ -1,19 +1,19 @@
-ghost use Rattle.std.specs.Prelude.{◌≡◌, ℕ, List, [], ◌∷◌, MatchOption, IfOk, IfErr};
+ghost use Rattle.std.specs.Prelude.{◌≡◌, ℕ, Bool, List, [], ◌∷◌, MatchOption, IfOk, IfErr};
 ghost use Rattle.cpu_set.specs.Ids.{Ids};
 ghost use Rattle.certificate.specs.RowView.{RowView};
 ghost use Rattle.certificate.specs.declared.price_lists.Price.{Price};
 ghost use Rattle.faults.specs.declared.or_memory.OrMemory.TheVariants.{Memory};
-ghost use Rattle.certificate_text.specs.Line.{words, AreRowWords, AreHoldWords, ArePriceWords, AreTotalWords};
+ghost use Rattle.certificate_text.specs.Line.{words, AreRowWords, AreHoldWords, ArePriceWords, AreMovesWords, SayTotal};
 ghost use Rattle.certificate_text.specs.OnBad.{OnBad};
 
 use crate::bad_line::BadLine;
-use crate::cut::cut;
-use crate::decimal::{read_u32, read_u64};
+use crate::decimal::{read_below, read_u32, read_u64};
 use crate::id::{is_id, read_id};
 use crate::list_word::read_cpus;
 use crate::offer::read_offers;
-use crate::word_pairs::{three, two};
-use certificate::{Offers, Price, Row};
+use crate::split_once::split_once;
+use crate::word_pairs::{split_pair, split_triple};
+use certificate::{MOVE_SCALE, Offers, Price, Row};
 use cpu_set::IdSet;
 use faults::OrMemory;
 use std::alloc::Global;
@@ -24,10 +24,10 @@ pub fn read_row(alloc: Global, text: &[u8]) -> Result<Row, OrMemory<BadLine>>
     ensures bad { OnBad result ((row : RowView) → AreRowWords (words text.now) row → ⊥) }
     ensures memory { IfErr result (λ fault. fault ≡ Memory → (row : RowView) × AreRowWords (words text.now) row) }
 {
-    let Some((id, rest)) = cut(text, b' ') else {
+    let Some((id, rest)) = split_once(text, b' ') else {
         return Err(OrMemory::Fault(BadLine));
     };
-    match cut(rest, b' ') {
+    match split_once(rest, b' ') {
         Some((demand, offers)) => {
             let demand = read_u32(demand).ok_or(BadLine)?;
             if !is_id(id) {
@@ -60,7 +60,7 @@ pub fn read_hold(text: &[u8]) -> Option<Hold<'_>>
         → AreHoldWords (words text.now) id cpus value → ⊥)
         (λ hold. AreHoldWords (words text.now) hold.id.now hold.cpus hold.value) }
 {
-    let (id, cpus, value) = three(text, b' ')?;
+    let (id, cpus, value) = split_triple(text, b' ')?;
     let cpus = read_cpus(cpus)?;
     let value = read_u64(value)?;
     Some(Hold { id, cpus, value })
@@ -71,21 +71,58 @@ pub fn read_price(text: &[u8]) -> Option<Price>
     ensures { MatchOption result ((price : Price) → ArePriceWords (words text.now) price → ⊥)
         (λ price. ArePriceWords (words text.now) price) }
 {
-    let (amount, cpus) = two(text, b' ')?;
+    let (amount, cpus) = split_pair(text, b' ')?;
     let amount = read_u64(amount)?;
     let cpus = read_cpus(cpus)?;
     Some(Price { amount, cpus })
 }
 
-/// TOTAL.
-pub fn read_total(text: &[u8]) -> Option<u64>
-    ensures { MatchOption result ((total : ℕ) → AreTotalWords (words text.now) total → ⊥)
-        (λ total. AreTotalWords (words text.now) total) }
+/// A plan's total, and whether it counts moves besides the distance.
+#[derive(Clone, Copy)]
+pub struct Total {
+    pub scaled: bool,
+    pub total: u64,
+}
+
+/// TOTAL, or DISTANCE moves MOVES.
+pub fn read_total(text: &[u8]) -> Option<Total>
+    ensures { MatchOption result ((scaled : Bool) (total : ℕ) → SayTotal scaled (words text.now) total → ⊥)
+        (λ t. SayTotal t.scaled (words text.now) t.total) }
 {
-    match cut(text, b' ') {
-        Some(_) => None,
-        None => read_u64(text),
+    match split_once(text, b' ') {
+        Some(_) => {
+            let total = read_moves(text)?;
+            Some(Total {
+                scaled: true,
+                total,
+            })
+        }
+        None => {
+            let total = read_u64(text)?;
+            Some(Total {
+                scaled: false,
+                total,
+            })
+        }
     }
+}
+
+/// A distance is below this, so that it fits 64 bits together with the moves.
+const DISTANCE_LIMIT: u64 = 281_474_976_710_656;
+
+/// DISTANCE moves MOVES.
+fn read_moves(text: &[u8]) -> Option<u64>
+    ensures { MatchOption result ((total : ℕ) → AreMovesWords (words text.now) total → ⊥)
+        (λ total. AreMovesWords (words text.now) total) }
+{
+    let scale = u64::from(MOVE_SCALE);
+    let (first, word, second) = split_triple(text, b' ')?;
+    if word != b"moves".as_slice() {
+        return None;
+    }
+    let distance = read_below(first, DISTANCE_LIMIT)?;
+    let moves = read_below(second, scale)?;
+    Some(distance * scale + moves)
 }
 
 /// ID.
@@ -93,7 +130,7 @@ pub fn read_short(text: &[u8]) -> Option<&[u8]>
     ensures { MatchOption result ((id : List ℕ) → words text.now ≡ id ∷ [] → ⊥)
         (λ id. words text.now ≡ id.now ∷ []) }
 {
-    match cut(text, b' ') {
+    match split_once(text, b' ') {
         Some(_) => None,
         None => Some(text),
     }

@@ -6,10 +6,10 @@ ghost use Rattle.certificate_text.specs.Line.{IsOfferWord, words};
 ghost use Rattle.certificate_text.specs.OnBad.{OnBad};
 
 use crate::bad_line::BadLine;
-use crate::cut::cut;
 use crate::decimal::read_u32;
 use crate::list_word::read_cpus;
-use crate::word_pairs::two;
+use crate::split_once::split_once;
+use crate::word_pairs::split_pair;
 use certificate::{Offer, Offers};
 use faults::OrMemory;
 use std::alloc::Global;
@@ -19,7 +19,7 @@ fn read_offer(word: &[u8]) -> Option<Offer>
     ensures { MatchOption result ((o : Offer) → IsOfferWord word.now o → ⊥)
         (λ o. IsOfferWord word.now o) }
 {
-    let (weight, cpus) = two(word, b':')?;
+    let (weight, cpus) = split_pair(word, b':')?;
     let weight = read_u32(weight)?;
     let cpus = read_cpus(cpus)?;
     Some(Offer { weight, cpus })
@@ -35,7 +35,7 @@ pub fn read_offers(alloc: Global, text: &[u8]) -> Result<Offers, OrMemory<BadLin
     let mut offers = Offers::new(alloc);
     let mut lacks = false;
     let mut rest = text;
-    while let Some((word, after)) = cut(rest, b' ') {
+    while let Some((word, after)) = split_once(rest, b' ') {
         let Some(offer) = read_offer(word) else {
             return Err(OrMemory::Fault(BadLine));
         };

@@ -8,9 +8,9 @@ ghost use Rattle.certificate_text.specs.TextError.{IsTextError, IsRead};
 
 use crate::Certificate;
 use crate::bad_line::BadLine;
-use crate::cut::cut;
 use crate::draft::Draft;
 use crate::line::{read_line, second_word};
+use crate::split_once::split_once;
 use faults::{Fault, OrMemory};
 use std::alloc::Global;
 
@@ -25,10 +25,11 @@ impl Fault for BadText {}
 
 /// Reads a certificate from its text, in one pass.
 ///
-/// The text's lines are `numarun-certificate 1`; `row ID DEMAND` and offers `WEIGHT:LIST`, for each row;
-/// for a plan `hold ID LIST VALUE`, for each row in the same order, `price AMOUNT LIST`, any number of them, and
-/// `total N`; for a shortage `short ID`, one or more, each naming a row after the one before; and `end`.
-/// A line feed ends each, one space stands between two words, and numbers have no leading zeros.
+/// The text's lines are `numarun-certificate 1`, or `2` where weights count moves too; `row ID DEMAND` and offers
+/// `WEIGHT:LIST`, for each row; for a plan `hold ID LIST VALUE`, for each row in the same order, `price AMOUNT LIST`, any
+/// number of them, and `total N`, or `total N moves M` in version 2, with N below 2^48 and M below 2^16, for 2^16 times N
+/// and M more; for a shortage `short ID`, one or more, each naming a row after the one before; and `end`. A line feed ends
+/// each, one space stands between two words, and numbers have no leading zeros.
 ///
 /// # Errors
 /// E1, and [`BadText`] where the text is no certificate's. The line that wants memory and those before it are in order, so
@@ -51,7 +52,7 @@ fn read_lines(alloc: Global, text: &[u8]) -> Result<Certificate, OrMemory<BadTex
     let mut draft = Draft::new(alloc);
     let mut rest = text;
     let mut number = 1;
-    while let Some((line, after)) = cut(rest, b'\n') {
+    while let Some((line, after)) = split_once(rest, b'\n') {
         match take_line(alloc, &mut draft, line) {
             Ok(()) => {}
             Err(OrMemory::Memory) => return Err(OrMemory::Memory),

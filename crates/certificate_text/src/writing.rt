@@ -11,7 +11,7 @@ ghost use Rattle.certificate_text.specs.Written.{offer_text, line_text, text_of,
 use crate::Certificate;
 use crate::laws::written_texts_are_read;
 use byte_output::{put, put_all, put_number};
-use certificate::{Offer, Offers, Price, PriceList, Prices, Row};
+use certificate::{MOVE_SCALE, Offer, Offers, Price, PriceList, Prices, Row};
 use cpu_list::write_list;
 use cpu_set::IdSet;
 use std::io;
@@ -124,19 +124,35 @@ fn put_members<W: Write>(rows: &[Row], members: &[usize], w: &mut W) -> io::Resu
 }
 
 /// The total and the last line.
-fn put_total<W: Write>(total: u64, w: &mut W) -> io::Result<()>
-    ensures { Writes (W.contents w.old) (W.contents w.new) result (line_text (TotalLine total) ++ line_text EndLine) }
+fn put_total<W: Write>(total: u64, scaled: bool, w: &mut W) -> io::Result<()>
+    ensures { Writes (W.contents w.old) (W.contents w.new) result (line_text (TotalLine scaled total) ++ line_text EndLine) }
 {
-    put_number(b"total ", total, b"\nend\n", w)
+    if scaled {
+        let scale = u64::from(MOVE_SCALE);
+        put_number(b"total ", total / scale, b" moves ", w)?;
+        put_number(b"", total % scale, b"\nend\n", w)
+    } else {
+        put_number(b"total ", total, b"\nend\n", w)
+    }
+}
+
+fn put_header<W: Write>(scaled: bool, w: &mut W) -> io::Result<()>
+    ensures { Writes (W.contents w.old) (W.contents w.new) result (line_text (HeaderLine scaled)) }
+{
+    if scaled {
+        put(b"numarun-certificate 2\n", w)
+    } else {
+        put(b"numarun-certificate 1\n", w)
+    }
 }
 
 /// The first line, and the rows.
-fn put_head<W: Write>(rows: &[Row], w: &mut W) -> io::Result<()>
+fn put_head<W: Write>(rows: &[Row], scaled: bool, w: &mut W) -> io::Result<()>
     ensures written { Writes (W.contents w.old) (W.contents w.new) result
-        (line_text HeaderLine ++ flat_map (λ row. line_text (RowLine row)) rows.now) }
+        (line_text (HeaderLine scaled) ++ flat_map (λ row. line_text (RowLine row)) rows.now) }
     ensures held { OnOk result (All IsRowHeld rows.now) }
 {
-    put(b"numarun-certificate 1\n", w)?;
+    put_header(scaled, w)?;
     put_rows(rows, w)
 }
 
@@ -145,25 +161,31 @@ fn write_plan<W: Write>(
     sets: &[IdSet],
     prices: &Prices,
     total: u64,
+    scaled: bool,
     w: &mut W,
 ) -> io::Result<()>
     requires sets { length sets.now ≡ length rows.now }
     requires values { length prices.now.values ≡ length rows.now }
-    ensures written { Writes (W.contents w.old) (W.contents w.new) result (text_of (Plan rows.now sets.now prices.now total)) }
-    ensures held { OnOk result (IsHeld (Plan rows.now sets.now prices.now total)) }
+    ensures written { Writes (W.contents w.old) (W.contents w.new) result (text_of (Plan rows.now sets.now prices.now total scaled)) }
+    ensures held { OnOk result (IsHeld (Plan rows.now sets.now prices.now total scaled)) }
 {
-    put_head(rows, w)?;
+    put_head(rows, scaled, w)?;
     put_holds(rows, sets, prices.values.as_slice(), w)?;
     put_prices(&prices.of_cpu, w)?;
-    put_total(total, w)
+    put_total(total, scaled, w)
 }
 
-fn write_shortage<W: Write>(rows: &[Row], members: &[usize], w: &mut W) -> io::Result<()>
+fn write_shortage<W: Write>(
+    rows: &[Row],
+    members: &[usize],
+    scaled: bool,
+    w: &mut W,
+) -> io::Result<()>
     requires { All (λ k. k < length rows.now) members.now }
-    ensures written { Writes (W.contents w.old) (W.contents w.new) result (text_of (Short rows.now members.now)) }
-    ensures held { OnOk result (IsHeld (Short rows.now members.now)) }
+    ensures written { Writes (W.contents w.old) (W.contents w.new) result (text_of (Short rows.now members.now scaled)) }
+    ensures held { OnOk result (IsHeld (Short rows.now members.now scaled)) }
 {
-    put_head(rows, w)?;
+    put_head(rows, scaled, w)?;
     put_members(rows, members, w)?;
     put(b"end\n", w)
 }
@@ -179,16 +201,20 @@ fn write_either<W: Write>(certificate: &Certificate, w: &mut W) -> io::Result<()
             plan,
             prices,
             total,
+            scaled,
         } => write_plan(
             problem.rows.as_slice(),
             plan.sets.as_slice(),
             prices,
             *total,
+            *scaled,
             w,
         ),
-        Certificate::Short { problem, members } => {
-            write_shortage(problem.rows.as_slice(), members.rows.as_slice(), w)
-        }
+        Certificate::Short {
+            problem,
+            members,
+            scaled,
+        } => write_shortage(problem.rows.as_slice(), members.rows.as_slice(), *scaled, w),
     }
 }
 

@@ -3,13 +3,14 @@ use Rattle.std.specs.Prelude.{◌≡◌, ℕ, List, ◌++◌, Result, MatchResul
 use Rattle.certificate_text.specs.TextError.{AsksForMemory}
 use Rattle.certificate_text.specs.Verdict.{IsVerdict, IsVerdictError, SaysLeast}
 use Rattle.certificate_text.specs.declared.checking.Verdict.{Verdict}
-use Rattle.certificate_text.specs.declared.checking.Verdict.TheVariants.{Plan, Short}
+use Rattle.certificate_text.specs.declared.checking.Verdict.TheVariants.{Plan, Moves, Short}
 use Rattle.certificate_text.specs.declared.checking.VerdictFault.TheVariants as wrong
 use Rattle.faults.specs.declared.or_memory.OrMemory.TheVariants.{Fault}
 use Rattle.inputs.specs.declared.refusal.Refusal.{Refusal}
 use Rattle.inputs.specs.declared.refusal.Refusal.TheVariants as refusal
 
--- the verdict that the certificate proves: the plan costs this, and no plan costs less, or there is none
+-- the verdict that the certificate proves: the plan costs this, and no plan costs less; or it has this distance and moves so
+-- many CPUs, no plan is nearer, and none as near moves fewer; or there is none
 abbrev pub IsProvedVerdict : List ℕ → Verdict → Type 0
 IsProvedVerdict bytes verdict = IsVerdict bytes verdict × SaysLeast bytes verdict
 
@@ -27,4 +28,5 @@ pub record IsAnswerTo (bytes : List ℕ) (answer : Result Verdict Refusal) : Typ
 
 abbrev pub verdict_line : Verdict → List ℕ
 verdict_line (Plan total) = codes "plan total " ++ (decimal total ++ codes "\n")
+verdict_line (Moves distance moves) = codes "plan total " ++ (decimal distance ++ (codes " moves " ++ (decimal moves ++ codes "\n")))
 verdict_line (Short asked allowed) = codes "short demand " ++ (decimal asked ++ (codes " cpus " ++ (decimal allowed ++ codes "\n")))

@@ -1,5 +1,5 @@
 //! `numarun check`.
-ghost use Rattle.certificate_text.specs.declared.checking.Verdict.TheVariants.{Short};
+ghost use Rattle.certificate_text.specs.declared.checking.Verdict.TheVariants.{Moves, Short};
 ghost use Rattle.byte_output.specs.Output.{Writes};
 ghost use Rattle.cli.specs.CheckAnswer.{IsAnswerTo, verdict_line};
 ghost use Rattle.cli.specs.Named.{reads_named};
@@ -20,8 +20,8 @@ use std::io;
 use std::io::Write;
 
 /// Checks the certificate in the source that is called so, and prints what the check finds as one line:
-/// `plan total N`, `short demand N cpus M`, or why the certificate is refused. The status is 0, or 1 for a refusal and for
-/// a line that can't be written.
+/// `plan total N`, where weights count moves `plan total N moves M`, `short demand N cpus M`, or why the certificate is
+/// refused. The status is 0, or 1 for a refusal and for a line that can't be written.
 pub fn do_check<S: Source, W: Write, E: Write>(
     alloc: Global,
     source: S,
@@ -66,9 +66,17 @@ impl Printed for Verdict {
     fn print<W: Write>(&self, w: &mut W) -> io::Result<()> {
         match self {
             Verdict::Plan(total) => put_number_line(b"plan total ", *total, w),
+            Verdict::Moves(distance, moves) => put_moves(*distance, *moves, w),
             Verdict::Short(asked, allowed) => put_shortage(*asked, *allowed, w),
         }
     }
+}
+
+fn put_moves<W: Write>(distance: u64, moves: u64, w: &mut W) -> io::Result<()>
+    ensures { Writes (W.contents w.old) (W.contents w.new) result (verdict_line (Moves distance moves)) }
+{
+    put_number(b"plan total ", distance, b" moves ", w)?;
+    put_number(b"", moves, b"\n", w)
 }
 
 fn put_shortage<W: Write>(asked: u64, allowed: u32, w: &mut W) -> io::Result<()>

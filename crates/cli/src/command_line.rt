@@ -17,12 +17,13 @@ const HELP: &str =
     Example: numarun check examples/two-containers.certificate";
 
 const CHECK_HELP: &str =
-    "Prints `plan total N` if the certificate proves its plan to be of least cost, `short demand N cpus M`\n\
+    "Prints `plan total N` if the certificate proves its plan to be of least cost, `plan total N moves M` if\n\
+    it proves it to be of least distance and, among those, to move the fewest CPUs, `short demand N cpus M`\n\
     if it shows that there is none, else why it is refused.\n\n\
     Exit status: 0 if it proves or shows that; 1 if it is refused or can't be read, if memory is short, or\n\
     if the answer can't be written; 2 if the words are no command line, or if memory is short while they\n\
     are parsed.\n\n\
-    Format: docs/formats.md, \"Certificates, version 1\".\n\n\
+    Format: docs/formats.md, \"Certificates\".\n\n\
     Example: numarun check examples/two-containers.certificate";
 
 const LIST_HELP: &str =

@@ -11,26 +11,27 @@ use transport::{Answer, solve};
 
 /// The certificate of what the problem comes to; the problem is kept in it as it is.
 ///
-/// Nothing is refused except for lack of memory.
-pub fn decide(alloc: Global, problem: Problem) -> Result<Certificate, AllocError>
+/// `scaled` says whether weights count moves besides the distance, as [`MOVE_SCALE`](certificate::MOVE_SCALE) says; the
+/// certificate passes it on. Nothing is refused except for lack of memory.
+pub fn decide(alloc: Global, problem: Problem, scaled: bool) -> Result<Certificate, AllocError>
     requires fit { IsTrue (rows_fit problem) }
     requires rows { All CanWriteRow problem }
     requires apart { HaveOwnIds problem }
 
     // A plan of these rows that costs the least, as its values and prices prove, or a shortage, where there is no plan.
-    ensures decided { IfOk result (Decides problem) }
+    ensures decided { IfOk result (Decides problem scaled) }
 
     // It can be written as text.
     ensures can { IfOk result CanWrite }
 {
     certificate::laws::what_is_within_the_limits();
     let answer = solve(alloc, &problem)?;
-    Ok(answered(problem, answer))
+    Ok(answered(problem, scaled, answer))
 }
 
 /// A problem with its answer.
-fn answered(problem: Problem, answer: Answer) -> Certificate
-    ensures { result ≡ answered problem answer }
+fn answered(problem: Problem, scaled: bool, answer: Answer) -> Certificate
+    ensures { result ≡ answered problem scaled answer }
 {
     match answer {
         Answer::Plan {
@@ -43,10 +44,12 @@ fn answered(problem: Problem, answer: Answer) -> Certificate
             plan,
             prices,
             total,
+            scaled,
         },
         Answer::Short { members, .. } => Certificate::Short {
             problem,
             members: Members { rows: members },
+            scaled,
         },
     }
 }

@@ -1,53 +1,58 @@
 -- The rows of the live pinned containers: what holds of each, and whose it is.
-use Rattle.std.proofs.Common.{◌≡◌, ◌≢◌, ℕ, zero, suc, ◌<◌, ◌≤◌, Bool, true, false, cond, ◌&&◌, nat_lt, nat_le, List, [], ◌∷◌, ◌++◌, length, map, Option, Some, None, is_some, refl, sym, ap, ◌∙◌, subst, sum_by, arith}
+use Rattle.std.proofs.Common.{◌≡◌, ◌≢◌, ℕ, zero, suc, ◌+◌, ◌*◌, ◌<◌, ◌≤◌, Bool, true, false, cond, ◌&&◌, nat_lt, nat_le, List, [], ◌∷◌, ◌++◌, length, map, Option, Some, None, is_some, option_map, refl, sym, ap, ◌∙◌, subst, sum_by, arith}
 use Rattle.std.proofs.lemmas.Bool.{true≢false, false≢true}
 use Rattle.std.proofs.lemmas.Bool.Decides.{nat_tests}
 use Rattle.std.proofs.lemmas.List.{append-nil}
-use Rattle.std.proofs.lemmas.List.Elements.{All-from_recursion, All-weaker, filter_agree, filter_passes}
+use Rattle.std.proofs.lemmas.List.Concat.{flat_map-cons}
+use Rattle.std.proofs.lemmas.List.Elements.{All-from_recursion, All-weaker, recursion_from_All, filter_agree, filter_passes}
 use Rattle.std.proofs.lemmas.List.Kept.{AllPairs-cons}
 use Rattle.std.proofs.lemmas.List.Sums.{sum_by-cons}
 use Rattle.std.proofs.lemmas.Option.{none-some, same_Some}
 use Rattle.std.proofs.lemmas.Slice.Eq.{bytes_eq-Decides}
 use Rattle.std.specs.Prelude.{MatchOption, filter, filter_map, slice_get, String}
 use Rattle.std.specs.declared.alloc.Global.{Global}
-use Rattle.std.specs.List.{All, AllPairs, AllByRecursion, AllZip, cons_option, list_all, list_any, range_with_len}
+use Rattle.std.specs.List.{All, AllPairs, AllByRecursion, AllZip, cons_option, flat_map, list_all, list_any}
 use Rattle.std.specs.FinSet as set
 use Rattle.cpu_set.specs.Ids.{Ids}
 use Rattle.cpu_set.specs.Members.{InRange, cpus}
 use Rattle.cpu_set.specs.SetLaws.{length-members}
+use Rattle.cpuset_tree.specs.Groups.{has_group}
 use Rattle.kernel_model.specs.KernelState.{KernelState}
 use Rattle.machine.specs.Layout.{Layout}
+use Rattle.machine.specs.Weight.{weight as distance_home}
 use Rattle.demand.specs.declared.Kind.{Kind}
 use Rattle.demand.specs.declared.Kind.TheVariants.{Pinned, Shared}
 use Rattle.demand.specs.declared.Demand.{Demand}
 use Rattle.demand.specs.FitsMachine.{FitsMachine}
 use Rattle.certificate.specs.declared.Offer.{Offer}
-use Rattle.certificate.specs.declared.limits.TheConstants.{MAX_ROWS}
+use Rattle.certificate.specs.declared.limits.TheConstants.{MAX_ROWS, MOVE_SCALE}
 use Rattle.certificate.specs.RowView.{RowView}
 use Rattle.certificate.specs.Weight.{weight}
 use Rattle.certificate.specs.Limits.{row_fits, rows_fit}
 use Rattle.certificate.specs.IsShortage.{asked, chosen, is_offered, offered}
-use Rattle.certificate_text.specs.declared.certificates.Certificate.TheVariants as certificate
 use Rattle.certificate_text.specs.CertificateText.{HaveOwnIds}
 use Rattle.certificate_text.specs.IdWord.{IsId}
 use Rattle.certificate_text.specs.Written.{CanWriteRow}
-use Rattle.rows.specs.Offers.{offer_at, has_some, offers_below, offers_of}
-use Rattle.rows.specs.RowOf.{available, row_of, row_of_kind}
+use Rattle.rows.specs.Offers.{has_some}
+use Rattle.rows.specs.RowOf.{row_of, row_of_kind}
+use Rattle.rows.specs.Scaled.{kept, moved, parted, scaled, ScaledRowsWeigh}
 use Rattle.rows.specs.Weighs.{RowsWeigh}
 use Rattle.apply_plan.specs.Holders.{Pairwise}
 use Rattle.node.specs.declared.TheConstants.{CONTAINER_LIMIT}
-use Rattle.node.specs.declared.container.Container.{Container}
+use Rattle.node.specs.declared.container.Container.{Container as TheContainer}
 use Rattle.node.specs.NodeState.{ContainerState, NodeState}
 use Rattle.node.specs.Owners.{is_pinned, owner_of, owners_of}
 use Rattle.node.specs.Status.{is_live}
-use Rattle.node.specs.IsNode.{HaveOtherIds, IsAsked, IsNode}
-use Rattle.node.specs.Rows.{row_of_container, rows_in, rows_of}
+use Rattle.node.specs.IsNode.{HaveOtherIds, IsAsked, IsPlaced, IsNode}
+use Rattle.node.specs.Rows.{row_of_container, rows_in, rows_of, requested_by, scaled_row_of_container, scaled_rows_in, scaled_rows_of, lacking}
 use Rattle.node.specs.Rebalance.{Lacks}
-use Rattle.node.specs.Headline.{is_asking, asking, wanted_by, is_allowed, IsShort}
-use Rattle.node.specs.Asking.{IsRowOf}
+use Rattle.node.specs.Best.{is_asking, asking, wanted_by, CouldHave}
+use Rattle.node.specs.Headline.{is_allowed, IsShort}
+use Rattle.node.specs.Asking.{IsRowOf, IsScaledRowOf, moving_weight}
 use Rattle.node.specs.Viewed.{all_seen}
-use Rattle.node.proofs.DistanceLemmas.{could_plan}
-use Rattle.node.proofs.ListLemmas.{of_pairs_map}
+use Rattle.node.proofs.DistanceLemmas.{Container, IsWeighed, offers, could_plan, plan_could}
+use Rattle.node.proofs.LaunchLemmas.{is_there}
+use Rattle.node.proofs.ListLemmas.{all_append, all_map, of_all_map, of_pairs_map}
 
 -- what is given of the elements of a list
 module _ {X Y : Type 0} (f : X → Option Y) where
@@ -104,6 +109,12 @@ module _ {X Y : Type 0} (R : X → Y → Type 0) where
   zip_at (x ∷ xs) (y ∷ ys) zip zero = zip.0
   zip_at (x ∷ xs) (y ∷ ys) zip (suc k) = zip_at xs ys zip.1 k
 
+  pub zip_of_map : {Z : Type 0} (g : Z → X) (zs : List Z) (ys : List Y) → AllZip (λ z y. R (g z) y) zs ys → AllZip R (map g zs) ys
+  zip_of_map g [] [] zip = tt
+  zip_of_map g [] (y ∷ ys) zip = absurd zip
+  zip_of_map g (z ∷ zs) [] zip = absurd zip
+  zip_of_map g (z ∷ zs) (y ∷ ys) zip = (zip.0, zip_of_map g zs ys zip.1)
+
   pub zip_chosen : (xs : List X) (ys : List Y) → AllZip R xs ys → (ks : List ℕ) → AllZip R (filter_map (slice_get xs) ks) (filter_map (slice_get ys) ks)
   zip_chosen xs ys zip [] = tt
   zip_chosen xs ys zip (k ∷ ks) = by (slice_get xs k) (slice_get ys k) (zip_at xs ys zip k) (zip_chosen xs ys zip ks) where
@@ -132,34 +143,32 @@ module _ {X Y : Type 0} (R : X → Y → Type 0) where
   zip_any p q same (x ∷ xs) [] zip = absurd zip
   zip_any p q same (x ∷ xs) (y ∷ ys) zip = rw (same x y zip.0, zip_any p q same xs ys zip.1) refl
 
--- each offer of a row has a CPU
+-- each part of an offer has a CPU
 some_cpu : (o : Offer) → has_some o ≡ true → o.cpus ≢ set.empty
 some_cpu o some none = true≢false (sym some ∙ ap (λ s. nat_lt 0 (set.len s)) none ∙ ap (nat_lt 0) (set.len-empty _))
 
-below_some : (m : Layout) (homes s : Ids) (n : ℕ) → All (λ (o : Offer). o.cpus ≢ set.empty) (offers_below m homes s n)
-below_some m homes s n =
-    All-weaker (λ o. has_some o ≡ true) (λ o. o.cpus ≢ set.empty) some_cpu (offers_below m homes s n)
-    (filter_passes has_some (map (offer_at m homes s) (range_with_len 0 n)))
-
-offers_some : (m : Layout) (homes s : Ids) → All (λ (o : Offer). o.cpus ≢ set.empty) (offers_of m homes s)
-unfolding offers_of
-offers_some m homes s = below_some m homes s 255
+parts_some : (held : Ids) (offers : List Offer) → AllByRecursion (λ (o : Offer). o.cpus ≢ set.empty) (flat_map (parted held) offers)
+parts_some held [] = tt
+parts_some held (o ∷ offers) =
+    let here : AllByRecursion (λ (o : Offer). o.cpus ≢ set.empty) (parted held o) =
+    recursion_from_All (λ (o : Offer). o.cpus ≢ set.empty) (parted held o)
+    (All-weaker (λ o. has_some o ≡ true) (λ o. o.cpus ≢ set.empty) some_cpu (parted held o) (filter_passes has_some (kept held o ∷ moved held o ∷ []))) in
+    subst (λ (os : List Offer). AllByRecursion (λ (o : Offer). o.cpus ≢ set.empty) os) (sym (flat_map-cons (parted held) o offers))
+    (all_append (λ (o : Offer). o.cpus ≢ set.empty) (parted held o) (flat_map (parted held) offers) here (parts_some held offers))
 
 -- the row of a demand, where there is one
 record IsMade (m : Layout) (online : Ids) (id : List ℕ) (d : Demand) (row : RowView) : Type 0 where
   id_is : row.id ≡ id
   demand_is : d.kind ≡ Pinned row.demand
-  offers_are : row.offers ≡ offers_of m d.homes (available online d)
 
 made : (m : Layout) (online : Ids) (id : List ℕ) (d : Demand) (row : RowView) → row_of m online id d ≡ Some row → IsMade m online id d row
 made m online id d row is = by d.kind refl is where
   by : (kind : Kind) → d.kind ≡ kind → row_of_kind m online id d kind ≡ Some row → IsMade m online id d row
   by (Pinned count) same e =
-      let row_is : record { id = id; demand = count; offers = offers_of m d.homes (available online d) } ≡ row = same_Some _ _ e in
+      let row_is = same_Some _ _ e in
       record {
         id_is = ap (λ (r : RowView). r.id) (sym row_is);
         demand_is = same ∙ ap (λ (r : RowView). Pinned r.demand) row_is;
-        offers_are = ap (λ (r : RowView). r.offers) (sym row_is);
       }
   by Shared same e = absurd (none-some row e)
 
@@ -175,32 +184,52 @@ module _ (k : KernelState) (m : Layout) where
   of_row : (e : List ℕ × ContainerState) (row : RowView) → row_of_container k m e ≡ Some row → IsMade m k.tree.online e.0 e.1.demand row
   of_row e row is = made m k.tree.online e.0 e.1.demand row (row_made e row is).1
 
-  can_write : (e : List ℕ × ContainerState) (row : RowView) → IsAsked m e → row_of_container k m e ≡ Some row → CanWriteRow row
+  -- a scaled row is the scaled form of that
+  pub record IsParted (e : List ℕ × ContainerState) (row : RowView) : Type 0 where
+    pub plain : RowView
+    pub there : row_of_container k m e ≡ Some plain
+    pub row_is : scaled (requested_by k e) plain ≡ row
+
+  pub of_parts : (e : List ℕ × ContainerState) (row : RowView) → scaled_row_of_container k m e ≡ Some row → IsParted e row
+  of_parts e row is = by (row_of_container k m e) refl is where
+    by : (o : Option RowView) → row_of_container k m e ≡ o → option_map (scaled (requested_by k e)) o ≡ Some row → IsParted e row
+    by (Some plain) same e = record { plain = plain; there = same; row_is = same_Some _ _ e }
+    by None same e = absurd (none-some row e)
+
+  id_of : (e : List ℕ × ContainerState) (row : RowView) → scaled_row_of_container k m e ≡ Some row → row.id ≡ e.0
+  id_of e row is =
+      let p = of_parts e row is in
+      ap (λ (r : RowView). r.id) (sym p.row_is) ∙ (of_row e p.plain p.there).id_is
+
+  can_write : (e : List ℕ × ContainerState) (row : RowView) → IsAsked m e → scaled_row_of_container k m e ≡ Some row → CanWriteRow row
   can_write e row a is =
-      let r = of_row e row is in
+      let p = of_parts e row is in
       record {
-        id_is = subst IsId (sym r.id_is) a.id;
-        offers_some = subst (λ (offers : List Offer). All (λ o. o.cpus ≢ set.empty) offers) (sym r.offers_are) (offers_some m e.1.demand.homes (available k.tree.online e.1.demand));
+        id_is = subst IsId (sym (id_of e row is)) a.id;
+        offers_some = subst (λ (r : RowView). All (λ o. o.cpus ≢ set.empty) r.offers) p.row_is
+            (All-from_recursion (λ o. o.cpus ≢ set.empty) (scaled (requested_by k e) p.plain).offers (parts_some (requested_by k e) p.plain.offers));
       }
 
-  other_ids : (a b : List ℕ × ContainerState) (r s : RowView) → HaveOtherIds (owner_of a) (owner_of b) → row_of_container k m a ≡ Some r → row_of_container k m b ≡ Some s → r.id ≢ s.id
+  other_ids : (a b : List ℕ × ContainerState) (r s : RowView) → HaveOtherIds (owner_of a) (owner_of b) → scaled_row_of_container k m a ≡ Some r
+      → scaled_row_of_container k m b ≡ Some s → r.id ≢ s.id
   other_ids a b r s other ra sb same =
-      true≢false (sym ((bytes_eq-Decides a.0 b.0).1 (sym (of_row a r ra).id_is ∙ same ∙ (of_row b s sb).id_is)) ∙ other)
+      true≢false (sym ((bytes_eq-Decides a.0 b.0).1 (sym (id_of a r ra) ∙ same ∙ id_of b s sb)) ∙ other)
 
   module _ (containers : List (List ℕ × ContainerState)) where
-    -- the rows can be written
-    pub rows_can : AllByRecursion (IsAsked m) containers → All CanWriteRow (rows_in k m containers)
-    rows_can asked = All-from_recursion CanWriteRow (rows_in k m containers) (all_given (row_of_container k m) (IsAsked m) CanWriteRow can_write containers asked)
+    -- the scaled rows can be written
+    pub rows_can : AllByRecursion (IsAsked m) containers → All CanWriteRow (scaled_rows_in k m containers)
+    rows_can asked =
+        All-from_recursion CanWriteRow (scaled_rows_in k m containers) (all_given (scaled_row_of_container k m) (IsAsked m) CanWriteRow can_write containers asked)
 
     -- no two have one id
-    pub rows_apart : Pairwise HaveOtherIds (owners_of containers) → HaveOwnIds (rows_in k m containers)
+    pub rows_apart : Pairwise HaveOtherIds (owners_of containers) → HaveOwnIds (scaled_rows_in k m containers)
     rows_apart distinct =
-        pairs_given (row_of_container k m) (λ a b. HaveOtherIds (owner_of a) (owner_of b)) (λ r s. r.id ≢ s.id) other_ids containers
+        pairs_given (scaled_row_of_container k m) (λ a b. HaveOtherIds (owner_of a) (owner_of b)) (λ r s. r.id ≢ s.id) other_ids containers
         (of_pairs_map owner_of HaveOtherIds containers distinct)
 
     -- they are not too many
-    pub rows_few : length containers ≤ CONTAINER_LIMIT → length (rows_in k m containers) ≤ MAX_ROWS
-    rows_few few = omega (arith, few, fewer_given (row_of_container k m) containers)
+    pub rows_few : length containers ≤ CONTAINER_LIMIT → length (scaled_rows_in k m containers) ≤ MAX_ROWS
+    rows_few few = omega (arith, few, fewer_given (scaled_row_of_container k m) containers)
 
 both_pass : (a b : Bool) → a ≡ true → b ≡ true → (a && b) ≡ true
 both_pass a b e f = rw e f
@@ -211,24 +240,25 @@ unfolding rows_fit
 all_fit rows few each = both_pass (nat_le (length rows) MAX_ROWS) (list_all row_fits rows) (grind (arith, nat_tests)) each
 
 -- the rows made so far, and those of the containers that are left
-pub record IsSoFar (k : KernelState) (m : Layout) (all left : List (String Global × Container)) (rows : List RowView) : Type 0 where
-  pub are : rows ++ rows_in k m (all_seen left) ≡ rows_in k m (all_seen all)
+pub record IsSoFar (k : KernelState) (m : Layout) (all left : List (String Global × TheContainer)) (rows : List RowView) : Type 0 where
+  pub are : rows ++ scaled_rows_in k m (all_seen left) ≡ scaled_rows_in k m (all_seen all)
+  pub placed : AllByRecursion (λ e. has_group k.tree e.1.group ≡ true) (all_seen left)
   pub asked : AllByRecursion (IsAsked m) (all_seen left)
   pub fit : list_all row_fits rows ≡ true
 
 -- what holds of the problem of these containers
 pub record IsProblem (k : KernelState) (m : Layout) (containers : List (List ℕ × ContainerState)) (rows : List RowView) : Type 0 where
-  pub rows_are : rows ≡ rows_in k m containers
+  pub rows_are : rows ≡ scaled_rows_in k m containers
   pub fit : rows_fit rows ≡ true
   pub can : All CanWriteRow rows
   pub apart : HaveOwnIds rows
 
-pub all_made : (k : KernelState) (m : Layout) (all left : List (String Global × Container)) (rows : List RowView) → AllByRecursion (IsAsked m) (all_seen all)
+pub all_made : (k : KernelState) (m : Layout) (all left : List (String Global × TheContainer)) (rows : List RowView) → AllByRecursion (IsAsked m) (all_seen all)
     → length (all_seen all) ≤ CONTAINER_LIMIT → Pairwise HaveOtherIds (owners_of (all_seen all)) → IsSoFar k m all left rows → left ≡ [] → IsProblem k m (all_seen all) rows
 all_made k m all left rows asked few distinct so_far none =
-    let rows_are : rows ≡ rows_in k m (all_seen all) =
-    sym (append-nil rows) ∙ ap (λ (es : List (String Global × Container)). rows ++ rows_in k m (all_seen es)) (sym none) ∙ so_far.are in
-    let at_most : length (rows_in k m (all_seen all)) ≤ MAX_ROWS = rows_few k m (all_seen all) few in
+    let rows_are : rows ≡ scaled_rows_in k m (all_seen all) =
+    sym (append-nil rows) ∙ ap (λ (es : List (String Global × TheContainer)). rows ++ scaled_rows_in k m (all_seen es)) (sym none) ∙ so_far.are in
+    let at_most : length (scaled_rows_in k m (all_seen all)) ≤ MAX_ROWS = rows_few k m (all_seen all) few in
     record {
       rows_are = rows_are;
       fit = all_fit rows (subst (λ (rs : List RowView). length rs ≤ MAX_ROWS) (sym rows_are) at_most) so_far.fit;
@@ -236,81 +266,146 @@ all_made k m all left rows asked few distinct so_far none =
       apart = subst HaveOwnIds (sym rows_are) (rows_apart k m (all_seen all) distinct);
     }
 
-module _ (k : KernelState) (m : Layout) (weigh : RowsWeigh) where
-  some_where : {A : Type 0} (b : Bool) (x : A) → is_some (cond b (Some x) None) ≡ b
-  some_where true x = refl
-  some_where false x = refl
+-- how far a CPU is from a container's homes, and 1 where its group does not request the CPU
+abbrev pub home : Layout → Container → ℕ → ℕ
+home m e cpu = distance_home m e.1.demand.homes cpu
 
-  is_row_of : (e : List ℕ × ContainerState) (row : RowView) → FitsMachine m e.1.demand → row_of m k.tree.online e.0 e.1.demand ≡ Some row → IsRowOf k m row e
-  is_row_of e row fits is =
-      let r = made m k.tree.online e.0 e.1.demand row is in
-      record {
-        row_is = is;
-        id = r.id_is;
-        demand = sym (ap wanted_by r.demand_is);
-        offers = λ cpu. ap is_some (weigh m k.tree.online e.0 e.1.demand row fits is cpu) ∙ some_where (is_allowed k cpu e) _;
-      }
+abbrev pub unheld : KernelState → Container → ℕ → ℕ
+unheld k e cpu = cond (set.contains (requested_by k e) cpu) 0 1
 
-  asking_row : (e : List ℕ × ContainerState) → FitsMachine m e.1.demand
-      → MatchOption (row_of_container k m e) (is_asking k e ≡ false) (λ row. (is_asking k e ≡ true) × IsRowOf k m row e)
-  asking_row e fits = by (is_live k e.1) e.1.demand.kind refl where
+match_map : {A B : Type 0} (g : A → B) (P : Type 0) (Q : B → Type 0) (o : Option A) → MatchOption o P (λ x. Q (g x)) → MatchOption (option_map g o) P Q
+match_map g P Q None h = h
+match_map g P Q (Some x) h = h
+
+pub map_where : (g : ℕ → ℕ) (b : Bool) (w : ℕ) → option_map g (cond b (Some w) None) ≡ cond b (Some (g w)) None
+map_where g true w = refl
+map_where g false w = refl
+
+module _ (k : KernelState) (m : Layout) where
+  -- the row of a container's demand fits it, so it fits its row in the same way
+  abbrev pub Each : (RowView → Container → Type 0) → Type 0
+  Each R = (e : Container) (row : RowView) → FitsMachine m e.1.demand → row_of m k.tree.online e.0 e.1.demand ≡ Some row → R row e
+
+  asking_row : (R : RowView → Container → Type 0) → Each R → (e : Container) → FitsMachine m e.1.demand
+      → MatchOption (row_of_container k m e) (is_asking k e ≡ false) (λ row. (is_asking k e ≡ true) × R row e)
+  asking_row R each e fits = by (is_live k e.1) e.1.demand.kind refl where
     by : (b : Bool) (kind : Kind) → e.1.demand.kind ≡ kind
-        → MatchOption (cond b (row_of_kind m k.tree.online e.0 e.1.demand kind) None) ((b && is_pinned kind) ≡ false) (λ row. ((b && is_pinned kind) ≡ true) × IsRowOf k m row e)
-    by true (Pinned count) same = (refl, is_row_of e _ fits (ap (row_of_kind m k.tree.online e.0 e.1.demand) same))
+        → MatchOption (cond b (row_of_kind m k.tree.online e.0 e.1.demand kind) None) ((b && is_pinned kind) ≡ false) (λ row. ((b && is_pinned kind) ≡ true) × R row e)
+    by true (Pinned count) same = (refl, each e _ fits (ap (row_of_kind m k.tree.online e.0 e.1.demand) same))
     by true Shared same = refl
     by false kind same = refl
 
   -- the rows are those of the live pinned containers, one after another
-  pub rows_with_asking : (containers : List (List ℕ × ContainerState)) → AllByRecursion (IsAsked m) containers
-      → AllZip (IsRowOf k m) (rows_in k m containers) (filter (is_asking k) containers)
-  rows_with_asking containers asked =
-      zip_given (row_of_container k m) (is_asking k) (IsAsked m) (IsRowOf k m) (λ e a. asking_row e a.fits) containers asked
+  pub rows_with_asking : (R : RowView → Container → Type 0) → Each R → (containers : List Container) → AllByRecursion (IsAsked m) containers
+      → AllZip R (rows_in k m containers) (filter (is_asking k) containers)
+  rows_with_asking R each containers asked =
+      zip_given (row_of_container k m) (is_asking k) (IsAsked m) R (λ e a. asking_row R each e a.fits) containers asked
+
+  -- and so are the scaled ones
+  pub scaled_with_asking : (R : RowView → Container → Type 0) → Each (λ row e. R (scaled (requested_by k e) row) e) → (containers : List Container)
+      → AllByRecursion (IsAsked m) containers → AllZip R (scaled_rows_in k m containers) (filter (is_asking k) containers)
+  scaled_with_asking R each containers asked =
+      zip_given (scaled_row_of_container k m) (is_asking k) (IsAsked m) R
+      (λ e a. match_map (scaled (requested_by k e)) (is_asking k e ≡ false) (λ row. (is_asking k e ≡ true) × R row e) (row_of_container k m e)
+      (asking_row (λ row e. R (scaled (requested_by k e) row) e) each e a.fits)) containers asked
+
+  module _ (weigh : RowsWeigh) where
+    pub weighed : Each (IsWeighed k (home m))
+    weighed e row fits is = record {
+      demand = sym (ap wanted_by (made m k.tree.online e.0 e.1.demand row is).demand_is);
+      weights = weigh m k.tree.online e.0 e.1.demand row fits is;
+    }
+
+    is_row_of : Each (IsRowOf k m)
+    is_row_of e row fits is =
+        let w : IsWeighed k (home m) row e = weighed e row fits is in
+        record {
+          row_is = is;
+          id = (made m k.tree.online e.0 e.1.demand row is).id_is;
+          demand = w.demand;
+          offers = offers k (home m) row e w;
+        }
+
+    is_scaled_row_of : ScaledRowsWeigh → Each (λ row e. IsScaledRowOf k m (scaled (requested_by k e) row) e)
+    is_scaled_row_of parts e row fits is =
+        let w : IsWeighed k (home m) row e = weighed e row fits is in
+        record {
+          id = (made m k.tree.online e.0 e.1.demand row is).id_is;
+          demand = w.demand;
+          weights = λ cpu.
+              parts (requested_by k e) row cpu ∙ ap (option_map (λ w. w * MOVE_SCALE + unheld k e cpu)) (w.weights cpu)
+              ∙ map_where (λ w. w * MOVE_SCALE + unheld k e cpu) (is_allowed k cpu e) (home m e cpu);
+        }
 
 module _ (n : NodeState) (h : IsNode n) (weigh : RowsWeigh) where
   pub rows_are_asking : AllZip (IsRowOf n.kernel n.machine) (rows_of n) (asking n)
-  rows_are_asking = rows_with_asking n.kernel n.machine weigh n.containers h.asked
+  rows_are_asking = rows_with_asking n.kernel n.machine (IsRowOf n.kernel n.machine) (is_row_of n.kernel n.machine weigh) n.containers h.asked
 
-  -- the row of a number is that of the live pinned container of this number
-  pub row_at : (k : ℕ) → AtBoth (IsRowOf n.kernel n.machine) (slice_get (rows_of n) k) (slice_get (asking n) k)
-  row_at k = zip_at (IsRowOf n.kernel n.machine) (rows_of n) (asking n) rows_are_asking k
+  pub rows_are_weighed : AllZip (IsWeighed n.kernel (home n.machine)) (rows_of n) (asking n)
+  rows_are_weighed = rows_with_asking n.kernel n.machine (IsWeighed n.kernel (home n.machine)) (weighed n.kernel n.machine weigh) n.containers h.asked
 
-  -- so are those of some numbers
-  pub chosen_are_asking : (ks : List ℕ) → AllZip (IsRowOf n.kernel n.machine) (chosen (rows_of n) ks) (filter_map (slice_get (asking n)) ks)
-  chosen_are_asking ks = zip_chosen (IsRowOf n.kernel n.machine) (rows_of n) (asking n) rows_are_asking ks
+  module _ (parts : ScaledRowsWeigh) where
+    pub scaled_are_asking : AllZip (IsScaledRowOf n.kernel n.machine) (scaled_rows_of n) (asking n)
+    scaled_are_asking =
+        scaled_with_asking n.kernel n.machine (IsScaledRowOf n.kernel n.machine) (is_scaled_row_of n.kernel n.machine weigh parts) n.containers h.asked
 
-  -- which ask together for what these containers ask for, and offer what one of them is allowed
-  pub asked_by_chosen : (ks : List ℕ) → asked (chosen (rows_of n) ks) ≡ sum_by (λ e. wanted_by e.1.demand.kind) (filter_map (slice_get (asking n)) ks)
-  asked_by_chosen ks =
-      zip_sum (IsRowOf n.kernel n.machine) (λ row. row.demand) (λ e. wanted_by e.1.demand.kind) (λ row e is. is.demand)
-      (chosen (rows_of n) ks) (filter_map (slice_get (asking n)) ks) (chosen_are_asking ks)
+    of_scaled : (row : RowView) (e : Container) → IsScaledRowOf n.kernel n.machine row e → IsWeighed n.kernel (moving_weight n.kernel n.machine) row e
+    of_scaled row e is = record { demand = is.demand; weights = is.weights }
 
-  pub offered_by_chosen : (ks : List ℕ) (cpu : ℕ) → is_offered (chosen (rows_of n) ks) cpu ≡ list_any (is_allowed n.kernel cpu) (filter_map (slice_get (asking n)) ks)
-  offered_by_chosen ks cpu =
-      zip_any (IsRowOf n.kernel n.machine) (λ row. is_some (weight row cpu)) (is_allowed n.kernel cpu) (λ row e is. is.offers cpu)
-      (chosen (rows_of n) ks) (filter_map (slice_get (asking n)) ks) (chosen_are_asking ks)
+    pub scaled_are_weighed : AllZip (IsWeighed n.kernel (moving_weight n.kernel n.machine)) (scaled_rows_of n) (asking n)
+    scaled_are_weighed =
+        scaled_with_asking n.kernel n.machine (IsWeighed n.kernel (moving_weight n.kernel n.machine))
+        (λ e row fits is. of_scaled (scaled (requested_by n.kernel e) row) e (is_scaled_row_of n.kernel n.machine weigh parts e row fits is)) n.containers h.asked
+
+    -- so are those of some numbers
+    pub chosen_are_asking : (ks : List ℕ) → AllZip (IsScaledRowOf n.kernel n.machine) (chosen (scaled_rows_of n) ks) (filter_map (slice_get (asking n)) ks)
+    chosen_are_asking ks = zip_chosen (IsScaledRowOf n.kernel n.machine) (scaled_rows_of n) (asking n) scaled_are_asking ks
+
+    -- which ask together for what these containers ask for, and offer what one of them is allowed
+    pub asked_by_chosen : (ks : List ℕ) → asked (chosen (scaled_rows_of n) ks) ≡ sum_by (λ e. wanted_by e.1.demand.kind) (filter_map (slice_get (asking n)) ks)
+    asked_by_chosen ks =
+        zip_sum (IsScaledRowOf n.kernel n.machine) (λ row. row.demand) (λ e. wanted_by e.1.demand.kind) (λ row e is. is.demand)
+        (chosen (scaled_rows_of n) ks) (filter_map (slice_get (asking n)) ks) (chosen_are_asking ks)
+
+    pub offered_by_chosen : (ks : List ℕ) (cpu : ℕ) → is_offered (chosen (scaled_rows_of n) ks) cpu ≡ list_any (is_allowed n.kernel cpu) (filter_map (slice_get (asking n)) ks)
+    offered_by_chosen ks cpu =
+        zip_any (IsScaledRowOf n.kernel n.machine) (λ row. is_some (weight row cpu)) (is_allowed n.kernel cpu)
+        (λ row e is. offers n.kernel (moving_weight n.kernel n.machine) row e (of_scaled row e is) cpu)
+        (chosen (scaled_rows_of n) ks) (filter_map (slice_get (asking n)) ks) (chosen_are_asking ks)
 
 -- the set of what rows offer has as many CPUs as they offer
 pub offered_len : (allowed : Ids) (rows : List RowView) → InRange allowed → ((cpu : ℕ) → set.contains allowed cpu ≡ is_offered rows cpu) → set.len allowed ≡ length (offered rows)
 offered_len allowed rows in_range has = sym (length-members allowed in_range) ∙ ap length (filter_agree (set.contains allowed) (is_offered rows) has cpus)
 
 -- a shortage of the rows is one of the live pinned containers
-pub short_stands : (old : NodeState) → IsNode old → RowsWeigh → (wanted : ℕ) (allowed : Ids) (new : NodeState) → Lacks old wanted allowed new
+pub short_stands : (old : NodeState) → IsNode old → RowsWeigh → ScaledRowsWeigh → (wanted : ℕ) (allowed : Ids) (new : NodeState) → Lacks old wanted allowed new
     → IsShort old wanted allowed new
-short_stands old h weigh wanted allowed new l =
-    let named : new.last ≡ Some (certificate.Short (rows_of old) l.members) = ap (λ (n : NodeState). n.last) l.is in
-    let as_many : set.len allowed ≡ length (offered (chosen (rows_of old) l.members)) = offered_len allowed (chosen (rows_of old) l.members) l.need.in_range l.need.has in
-    let short : length (offered (chosen (rows_of old) l.members)) < asked (chosen (rows_of old) l.members) = l.decides.shortage.short in
-    let asks : wanted ≡ asked (chosen (rows_of old) l.members) = l.need.asks in
+short_stands old h weigh parts wanted allowed new l =
+    let named : new.last ≡ Some (lacking old l.members) = ap (λ (n : NodeState). n.last) l.is in
+    let members = chosen (scaled_rows_of old) l.members in
+    let as_many : set.len allowed ≡ length (offered members) = offered_len allowed members l.need.in_range l.need.has in
+    let short : length (offered members) < asked members = l.decides.shortage.short in
+    let asks : wanted ≡ asked members = l.need.asks in
+    let could_not : (sets : List Ids) → CouldHave old sets → ⊥ =
+    λ sets could. l.decides.none sets
+    (could_plan old (moving_weight old.kernel old.machine) (scaled_rows_of old) (scaled_are_weighed old h weigh parts) sets could) in
     record {
       members = l.members;
       named = named;
-      asks = asks ∙ asked_by_chosen old h weigh l.members;
-      has = λ cpu. l.need.has cpu ∙ offered_by_chosen old h weigh l.members cpu;
+      asks = asks ∙ asked_by_chosen old h weigh parts l.members;
+      has = λ cpu. l.need.has cpu ∙ offered_by_chosen old h weigh parts l.members cpu;
       more = omega (arith, as_many, short, asks);
       rising = l.decides.shortage.rising;
-      there = subst (λ count. All (λ k. k < count) l.members) (zip_length (IsRowOf old.kernel old.machine) (rows_of old) (asking old) (rows_are_asking old h weigh))
-          l.decides.shortage.there;
-      none = l.decides.none;
-      could_not = λ sets could. l.decides.none sets (could_plan old (rows_are_asking old h weigh) sets could);
+      there = subst (λ count. All (λ k. k < count) l.members)
+          (zip_length (IsScaledRowOf old.kernel old.machine) (scaled_rows_of old) (asking old) (scaled_are_asking old h weigh parts)) l.decides.shortage.there;
+      none = λ sets plan. could_not sets (plan_could old (home old.machine) (rows_of old) (rows_are_weighed old h weigh) sets plan);
+      could_not = could_not;
       same = l.is ∙ ap (λ last. record old { last = last }) (sym named);
     }
+
+-- each container's group is in the tree
+pub all_there : (n : NodeState) → IsNode n → AllByRecursion (λ e. has_group n.kernel.tree e.1.group ≡ true) n.containers
+all_there n h =
+    of_all_map owner_of (λ o. has_group n.kernel.tree o.holder.group ≡ true) n.containers
+    (all_map (IsPlaced n.kernel.tree n.parent) (λ o. has_group n.kernel.tree o.holder.group ≡ true)
+    (λ o p. is_there n.kernel.tree o.holder.group p.entry p.there) (owners_of n.containers) h.holds.placed)

@@ -3,7 +3,7 @@ use Rattle.std.proofs.Common.{◌≡◌, ℕ, ◌+◌, ◌*◌, ◌≤◌, lengt
 use Rattle.std.proofs.lemmas.Bool.{false≢true, and_from, and_left, and_right}
 use Rattle.std.proofs.lemmas.List.Elements.{recursion_from_All}
 use Rattle.std.specs.Prelude.{Result, Ok, Err}
-use Rattle.std.specs.List.{AllByRecursion, AllZip}
+use Rattle.std.specs.List.{AllByRecursion}
 use Rattle.std.specs.FinSet as set
 use Rattle.cpu_set.specs.Ids.{Ids, IsDisjoint}
 use Rattle.cpuset_tree.specs.declared.Group.{Group}
@@ -13,12 +13,11 @@ use Rattle.kernel_model.specs.KernelState.{KernelState}
 use Rattle.demand.specs.declared.Kind.{Kind}
 use Rattle.demand.specs.declared.Kind.TheVariants.{Pinned, Shared}
 use Rattle.demand.specs.declared.Demand.{Demand}
-use Rattle.certificate.specs.PricesView.{PricesView}
 use Rattle.certificate.specs.IsPlan.{IsPlan}
 use Rattle.certificate.specs.IsLeast.{IsLeast}
 use Rattle.certificate.specs.Cost.{cost}
 use Rattle.certificate_text.specs.declared.certificates.Certificate.{Certificate}
-use Rattle.certificate_text.specs.declared.certificates.Certificate.TheVariants as certificate
+use Rattle.rows.specs.Scaled.{ScaledRowsWeigh}
 use Rattle.rows.specs.Weighs.{RowsWeigh}
 use Rattle.faults.specs.declared.OrMemory.{OrMemory}
 use Rattle.faults.specs.declared.OrMemory.TheVariants.{Memory, Fault}
@@ -37,17 +36,17 @@ use Rattle.node.specs.NodeState.{ContainerState, NodeState}
 use Rattle.node.specs.Owners.{Owner, is_pinned, owner_of, owners_of}
 use Rattle.node.specs.Status.{is_live}
 use Rattle.node.specs.IsNode.{IsHome, IsPlaced, Holds, IsKept, IsNode}
-use Rattle.node.specs.Rows.{rows_of}
+use Rattle.node.specs.Rows.{rows_of, planned}
+use Rattle.node.specs.Best.{is_asking, CouldHave, total_distance, moved, IsBest, IsTold}
 use Rattle.node.specs.Entries.{Target, entry_of, plan_pool, plan_targets, plan_entries, opened}
-use Rattle.node.specs.Asking.{IsRowOf}
 use Rattle.node.specs.Rebalance.{Begun, Lacks, Begins, Moves, Finishes, Rebalances}
 use Rattle.node.specs.Leaves.{fault_rise, rise_or_memory}
-use Rattle.node.specs.Headline.{effective, HasItsCpus, IsServed, AreAlone, is_asking, effective_sets, asking, CouldHave, total_distance, is_in_any, IsRebalanced, IsBrokenOff, Headline}
+use Rattle.node.specs.Headline.{effective, HasItsCpus, IsServed, AreAlone, effective_sets, is_in_any, IsRebalanced, IsBrokenOff, Headline}
 use Rattle.node.proofs.ListLemmas.{all_map, all_map2, pairs_map, all_of_map, of_all_map}
-use Rattle.node.proofs.AskingLemmas.{rows_are_asking, short_stands}
+use Rattle.node.proofs.AskingLemmas.{short_stands}
 use Rattle.node.specs.Written.{live_count, RebalanceWrites}
 use Rattle.node.proofs.EntryCount.{entries_live}
-use Rattle.node.proofs.DistanceLemmas.{could_plan, plan_could, cost_is_far}
+use Rattle.node.proofs.BestLemmas.{best_plan, best_costs, best_least}
 use Rattle.node.proofs.FinishLemmas.{Settles, Breaks, settles, breaks}
 use Rattle.node.proofs.PlanLemmas.{IsDealt, over_targets, pool_has_rest, plan_serves, plan_parts, plan_effects, opened_ongoing, effects_later}
 
@@ -219,27 +218,18 @@ module _ (old : NodeState) (h : IsNode old) (weigh : RowsWeigh) (effects : Targe
       ∙ ap (λ online. set.contains online cpu && not (is_in_any sets cpu)) (sym s.online)
       ∙ ap (λ ss. set.contains new.kernel.tree.online cpu && not (is_in_any ss cpu)) (sym same_sets)
 
-  -- which no other sets undercut
-  of : AllZip (IsRowOf old.kernel old.machine) (rows_of old) (asking old)
-  of = rows_are_asking old h weigh
-
-  least_far : (total : ℕ) → IsLeast (rows_of old) sets → cost (rows_of old) sets ≡ total → (others : List Ids) → CouldHave old others
-      → total ≤ total_distance old others
-  least_far total least costs others could =
-      let other : IsPlan (rows_of old) others = could_plan old of others could in
-      omega (arith, costs, cost_is_far old of h weigh others other, least.least others other)
-
-  pub settled : (total : ℕ) (prices : PricesView) → last ≡ Some (certificate.Plan (rows_of old) sets prices total) → IsLeast (rows_of old) sets
-      → cost (rows_of old) sets ≡ total → IsRebalanced old total new
-  settled total prices told least costs = record {
+  -- which is the best that they could have
+  pub settled : (total : ℕ) → IsBest old total sets → IsTold old sets total last → IsRebalanced old total new
+  settled total best told = record {
     served = subst (λ (es : List Container). AllByRecursion (IsServed new.kernel new.pool) es) (sym s.containers) served;
     alone = subst (λ (es : List Container). Pairwise (AreAlone new.kernel) es) (sym s.containers) alone;
-    could = subst (λ (ss : List Ids). CouldHave old ss) (sym same_sets) (plan_could old of sets plan);
-    far = sym costs ∙ cost_is_far old of h weigh sets plan ∙ ap (total_distance old) (sym same_sets);
-    nearest = least_far total least costs;
-    told = record { prices = prices; is = s.last ∙ told ∙ ap (λ (ss : List Ids). Some (certificate.Plan (rows_of old) ss prices total)) (sym same_sets) };
-    least = subst (λ (ss : List Ids). IsLeast (rows_of old) ss) (sym same_sets) least;
-    costs = sym costs ∙ ap (cost (rows_of old)) (sym same_sets);
+    could = subst (λ (ss : List Ids). CouldHave old ss) (sym same_sets) best.could;
+    far = best.far ∙ ap (total_distance old) (sym same_sets);
+    nearest = best.nearest;
+    fewest = λ others could same. subst (λ (ss : List Ids). moved old ss ≤ moved old others) (sym same_sets) (best.fewest others could same);
+    told = subst (λ (ss : List Ids). IsTold old ss total new.last) (sym same_sets) (subst (λ (c : Option Certificate). IsTold old sets total c) (sym s.last) told);
+    least = subst (λ (ss : List Ids). IsLeast (rows_of old) ss) (sym same_sets) (best_least old h weigh total sets best);
+    costs = best_costs old h weigh total sets best ∙ ap (cost (rows_of old)) (sym same_sets);
     pool = pool_rest;
     same = s.containers;
     lives = s.table;
@@ -257,9 +247,14 @@ module _ (old : NodeState) (h : IsNode old) (weigh : RowsWeigh) where
     proved = kept;
   }
 
+  begun_plan : (total : ℕ) (mid : NodeState) (b : Begun old total mid) → IsPlan (rows_of old) b.sets
+  begun_plan total mid b = best_plan old h weigh total b.sets b.best
+
+  begun_is : (total : ℕ) (mid : NodeState) (b : Begun old total mid) → IsNode (underway old b.sets (Some (planned old b.sets b.prices b.whole)))
+  begun_is total mid b = begun_as b.sets (begun_plan total mid b) (planned old b.sets b.prices b.whole) b.kept
+
   pub begun_node : (total : ℕ) (new : NodeState) → Begun old total new → IsNode new
-  begun_node total new b =
-      subst (λ (n : NodeState). IsNode n) (sym b.is) (begun_as b.sets b.decides.least.plan (certificate.Plan (rows_of old) b.sets b.prices total) b.kept)
+  begun_node total new b = subst (λ (n : NodeState). IsNode n) (sym b.is) (begun_is total new b)
 
   pub lacks_node : (wanted : ℕ) (allowed : Ids) (new : NodeState) → Lacks old wanted allowed new → IsNode new
   lacks_node wanted allowed new l = subst (λ (n : NodeState). IsNode n) (sym l.is) (record {
@@ -281,21 +276,19 @@ module _ (old : NodeState) (h : IsNode old) (weigh : RowsWeigh) where
   -- and after its steps
   module _ (law : StepsLeave) where
     abbrev after_begin : (total : ℕ) (mid : NodeState) → Begun old total mid → NodeState
-    after_begin total mid b = underway old b.sets (Some (certificate.Plan (rows_of old) b.sets b.prices total))
+    after_begin total mid b = underway old b.sets (Some (planned old b.sets b.prices b.whole))
 
     moved_settles : (total : ℕ) (new : NodeState) (m : Moves old total (Ok tt) new) → Settles (opened old m.begun.sets) (after_begin total m.mid m.begun) new
     moved_settles total new m =
         let b = m.begun in
-        settles law (opened old b.sets) (after_begin total m.mid b) new
-        (begun_as b.sets b.decides.least.plan (certificate.Plan (rows_of old) b.sets b.prices total) b.kept) refl
+        settles law (opened old b.sets) (after_begin total m.mid b) new (begun_is total m.mid b) refl
         (subst (λ (n : NodeState). Finishes n (Ok tt) new) b.is m.finishes)
 
     moved_breaks : (total : ℕ) (fault : KernelFault) (new : NodeState) (m : Moves old total (Err fault) new)
         → Breaks (opened old m.begun.sets) fault (after_begin total m.mid m.begun) new
     moved_breaks total fault new m =
         let b = m.begun in
-        breaks law (opened old b.sets) fault (after_begin total m.mid b) new
-        (begun_as b.sets b.decides.least.plan (certificate.Plan (rows_of old) b.sets b.prices total) b.kept) refl
+        breaks law (opened old b.sets) fault (after_begin total m.mid b) new (begun_is total m.mid b) refl
         (subst (λ (n : NodeState). Finishes n (Err fault) new) b.is m.finishes)
 
     pub rebalances_node : (r : Result Outcome (OrMemory NodeFault)) (new : NodeState) → Rebalances old r new → IsNode new
@@ -312,8 +305,9 @@ module _ (old : NodeState) (h : IsNode old) (weigh : RowsWeigh) where
         record {
           sets = m.begun.sets;
           total = total;
-          least = m.begun.decides.least;
-          told = record { prices = m.begun.prices; is = b.last };
+          least = best_least old h weigh total m.begun.sets m.begun.best;
+          best = m.begun.best;
+          told = record { prices = m.begun.prices; whole = m.begun.whole; parts = m.begun.parts; is = b.last };
           broken = b.broken;
           failed = b.failed;
           counted = b.failures;
@@ -349,7 +343,7 @@ module _ (old : NodeState) (h : IsNode old) (weigh : RowsWeigh) where
           let made : new.kernel.writes ≡ old.kernel.writes + writes_to_come (opened old b.sets).targets old.kernel = s.made in
           record {
             exact = made ∙ ap (λ (ss : List Ids). old.kernel.writes + writes_to_come (opened old ss).targets old.kernel)
-                (sym (same_sets old h weigh effects b.sets b.decides.least.plan (Some (certificate.Plan (rows_of old) b.sets b.prices total)) new s));
+                (sym (same_sets old h weigh effects b.sets (begun_plan total m.mid b) (Some (planned old b.sets b.prices b.whole)) new s));
             few = omega (arith, made, opened_few b.sets);
           }
       rebalance_makes (Ok (Short wanted allowed)) new l = ap (λ (n : NodeState). n.kernel.writes) l.is
@@ -364,13 +358,13 @@ module _ (old : NodeState) (h : IsNode old) (weigh : RowsWeigh) where
       pub rebalanced : (total : ℕ) (new : NodeState) → Moves old total (Ok tt) new → IsRebalanced old total new
       rebalanced total new m =
           let b = m.begun in
-          settled old h weigh effects b.sets b.decides.least.plan (Some (certificate.Plan (rows_of old) b.sets b.prices total)) new (moved_settles total new m) total
-          b.prices refl b.decides.least b.decides.proved.costs
+          settled old h weigh effects b.sets (begun_plan total m.mid b) (Some (planned old b.sets b.prices b.whole)) new (moved_settles total new m) total b.best
+          (record { prices = b.prices; whole = b.whole; parts = b.parts; is = refl })
 
-      pub headline : (r : Result Outcome (OrMemory NodeFault)) (new : NodeState) → Rebalances old r new → Headline old r new
-      headline (Ok (Plan total)) new m = rebalanced total new m
-      headline (Ok (Short wanted allowed)) new l = short_stands old h weigh wanted allowed new l
-      headline (Err (Fault (Kernel fault))) new m = broken_off m.0 fault new m.1
-      headline (Err (Fault Busy)) new e = e
-      headline (Err (Fault fault)) new e = absurd e
-      headline (Err Memory) new e = e.1
+      pub headline : ScaledRowsWeigh → (r : Result Outcome (OrMemory NodeFault)) (new : NodeState) → Rebalances old r new → Headline old r new
+      headline parts (Ok (Plan total)) new m = rebalanced total new m
+      headline parts (Ok (Short wanted allowed)) new l = short_stands old h weigh parts wanted allowed new l
+      headline parts (Err (Fault (Kernel fault))) new m = broken_off m.0 fault new m.1
+      headline parts (Err (Fault Busy)) new e = e
+      headline parts (Err (Fault fault)) new e = absurd e
+      headline parts (Err Memory) new e = e.1

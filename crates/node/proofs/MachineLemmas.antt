@@ -5,6 +5,7 @@ use Rattle.std.specs.Prelude.{map, Result, Ok, Err}
 use Rattle.kernel_model.specs.declared.KernelFault.{KernelFault}
 use Rattle.faults.specs.declared.OrMemory.{OrMemory}
 use Rattle.faults.specs.declared.OrMemory.TheVariants.{Memory, Fault}
+use Rattle.rows.specs.Scaled.{ScaledRowsWeigh}
 use Rattle.rows.specs.Weighs.{RowsWeigh}
 use Rattle.apply_plan.specs.declared.Progress.{Progress}
 use Rattle.apply_plan.specs.declared.Progress.TheVariants.{More, Done}
@@ -138,8 +139,8 @@ module _ (weigh : RowsWeigh) (law : StepsLeave) where
       in_effect new.kernel new.kernel.reserved (map (λ o. o.holder) owners) holds.kernel
       (all_of_map (λ o. o.holder) (λ a. HasFreeParent new.kernel a.group) owners (free_parents new.kernel new.parent owners holds)) online holds.safe
 
-  pub runs_rebalance : TargetsTakeEffect → RunsRebalance
-  runs_rebalance effects first events old answer new h r b = headline old (runs_keep first events old h r) weigh law effects answer new b
+  pub runs_rebalance : TargetsTakeEffect → ScaledRowsWeigh → RunsRebalance
+  runs_rebalance effects parts first events old answer new h r b = headline old (runs_keep first events old h r) weigh law effects parts answer new b
 
 -- the steps to the end of a hand-over, as events
 steps_run : (count : ℕ) (old mid new : NodeState) (answer : Result (Unit {0}) KernelFault) → StepsMore count old mid → Ends mid answer new

@@ -1,24 +1,36 @@
 -- What is kept proves its verdict.
-use Rattle.std.proofs.Common.{◌≡◌, Option, refl, ap, subst, sym, ◌∙◌}
+use Rattle.std.proofs.Common.{◌≡◌, ◌/◌, ◌%◌, ℕ, true, false, Option, refl, ap, subst, sym, ◌∙◌, arith}
+use Rattle.std.proofs.lemmas.Bool.{false≢true}
+use Rattle.std.proofs.lemmas.Nat.{div-add-mod'}
+use Rattle.std.proofs.Math.Nat.{mod-lt}
 use Rattle.std.specs.Prelude.{IfSome}
 use Rattle.std.specs.FinSet as set
 use Rattle.certificate.specs.IsShortage.{chosen}
+use Rattle.certificate.specs.declared.limits.TheConstants.{MOVE_SCALE}
 use Rattle.std.specs.Option.{option_map_or}
-use Rattle.certificate_text.specs.Verdict.{IsProvedCertificate, IsVerdict}
+use Rattle.certificate_text.specs.Verdict.{AreParts, IsProvedCertificate, IsVerdict}
 use Rattle.certificate_text.specs.Written.{WrittenReadsAgain, text_of}
 use Rattle.certificate_text.specs.declared.certificates.Certificate.{Certificate}
 use Rattle.certificate_text.specs.declared.certificates.Certificate.TheVariants as certificate
 use Rattle.certificate_text.specs.declared.checking.Verdict.{Verdict}
-use Rattle.certificate_text.specs.declared.checking.Verdict.TheVariants.{Plan, Short}
+use Rattle.certificate_text.specs.declared.checking.Verdict.TheVariants.{Plan, Moves, Short}
 use Rattle.node.specs.IsNode.{IsKept, ProvesItself}
 use Rattle.node.specs.NodeState.{NodeState}
-use Rattle.node.specs.Rows.{rows_of}
+use Rattle.node.specs.Rows.{scaled_rows_of, planned}
+use Rattle.node.specs.Best.{moved}
+use Rattle.node.specs.Headline.{effective_sets}
 use Rattle.node.specs.Proved.{LastIsProved, TotalIsProved, ShortIsProved, verdict_of}
 use Rattle.node.proofs.AskingLemmas.{offered_len}
 
+-- a total is its parts
+are_parts : (total : ℕ) → AreParts total (total / MOVE_SCALE) (total % MOVE_SCALE)
+are_parts total = record { moves_fit = mod-lt total (omega arith); whole = sym (div-add-mod' total MOVE_SCALE) }
+
 proves : (c : Certificate) → ProvesItself c → IsProvedCertificate c (verdict_of c)
-proves (certificate.Plan rows sets prices total) p = (p, refl)
-proves (certificate.Short rows members) p = record { limits = p.0; shortage = p.1; asks = refl; has = refl }
+proves (certificate.Plan rows sets prices total true) p = (p.1, p.2, are_parts total)
+proves (certificate.Plan rows sets prices total false) p = absurd (false≢true p.0)
+proves (certificate.Short rows members true) p = (p.1, record { limits = p.2; shortage = p.3; asks = refl; has = refl })
+proves (certificate.Short rows members false) p = absurd (false≢true p.0)
 
 pub last_is_proved : WrittenReadsAgain → LastIsProved
 last_is_proved again n h c is held =
@@ -27,12 +39,17 @@ last_is_proved again n h c is held =
 
 pub total_is_proved : WrittenReadsAgain → TotalIsProved
 total_is_proved again old n total h r c is held =
-    let same : verdict_of c ≡ Plan total = ap (λ (last : Option Certificate). option_map_or verdict_of last (Plan total)) (sym is ∙ r.told.is) in
-    subst (λ (v : Verdict). IsVerdict (text_of c) v) same (last_is_proved again n h c is held)
+    let sets = effective_sets n.kernel n.containers in
+    let own : Certificate = planned old sets r.told.prices r.told.whole in
+    let c_is : c ≡ own = ap (λ (last : Option Certificate). option_map_or (λ (x : Certificate). x) last own) (sym is ∙ r.told.is) in
+    let kept : IsKept c = subst (λ (last : Option Certificate). IfSome last IsKept) is h.proved in
+    let itself : ProvesItself own = subst ProvesItself c_is kept.1 in
+    let proved : IsProvedCertificate own (Moves total (moved old sets)) = (itself.1, itself.2, r.told.parts) in
+    (c, again c kept.0 held, subst (λ (x : Certificate). IsProvedCertificate x (Moves total (moved old sets))) (sym c_is) proved)
 
 pub short_is_proved : WrittenReadsAgain → ShortIsProved
 short_is_proved again old n wanted allowed h l c is held =
-    let as_many = offered_len allowed (chosen (rows_of old) l.members) l.need.in_range l.need.has in
+    let as_many = offered_len allowed (chosen (scaled_rows_of old) l.members) l.need.in_range l.need.has in
     let same : verdict_of c ≡ Short wanted (set.len allowed) =
     ap (λ (last : Option Certificate). option_map_or verdict_of last (Plan 0)) (sym is ∙ ap (λ (m : NodeState). m.last) l.is)
     ∙ (λ i. Short (sym l.need.asks i) (sym as_many i)) in

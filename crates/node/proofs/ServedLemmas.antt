@@ -7,6 +7,7 @@ use Rattle.cpu_set.specs.Ids.{Ids, is_empty}
 use Rattle.kernel_model.specs.KernelState.{KernelState}
 use Rattle.machine.specs.Layout.{Layout}
 use Rattle.config_json.specs.SectionOf.{Section}
+use Rattle.rows.specs.Scaled.{ScaledRowsWeigh}
 use Rattle.rows.specs.Weighs.{RowsWeigh}
 use Rattle.apply_plan.specs.OneStep.{StepsLeave}
 use Rattle.apply_plan.specs.Effects.{TargetsTakeEffect}
@@ -65,9 +66,9 @@ has_asked events m k pool e said served = record {
   has = λ live. are_asked m k pool said.said.cpu e.1.demand said.says.asked_so (effective k e) e.1.demand.kind refl (served live);
 }
 
-pub runs_serve_configs : RowsWeigh → StepsLeave → TargetsTakeEffect → RunsServeConfigs
-runs_serve_configs weigh law effects first events old total new node none run rebalances =
-    let headline : IsRebalanced old total new = runs_rebalance weigh law effects first events old (Ok (Plan total)) new node run rebalances in
+pub runs_serve_configs : RowsWeigh → StepsLeave → TargetsTakeEffect → ScaledRowsWeigh → RunsServeConfigs
+runs_serve_configs weigh law effects parts first events old total new node none run rebalances =
+    let headline : IsRebalanced old total new = runs_rebalance weigh law effects parts first events old (Ok (Plan total)) new node run rebalances in
     let said : AreSaid events new = rebalance_said events old new (Ok (Plan total)) rebalances (containers_are_said first events old none run) in
     all_map2 (IsSaid events new.machine) (IsServed new.kernel new.pool) (HasAsked events new.machine new.kernel new.pool)
     (has_asked events new.machine new.kernel new.pool) new.containers said headline.served

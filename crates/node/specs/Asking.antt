@@ -1,17 +1,21 @@
 -- Whose the rows of a problem are.
-use Rattle.std.specs.Prelude.{◌≡◌, ℕ, List, Some, is_some}
+use Rattle.std.specs.Prelude.{◌≡◌, ℕ, ◌+◌, ◌*◌, cond, List, Some, None, is_some}
 use Rattle.std.specs.List.{AllZip}
+use Rattle.std.specs.FinSet as set
 use Rattle.cpu_set.specs.Ids.{Ids}
 use Rattle.kernel_model.specs.KernelState.{KernelState}
 use Rattle.machine.specs.Layout.{Layout}
+use Rattle.machine.specs.Weight.{weight as distance_home}
 use Rattle.certificate.specs.RowView.{RowView}
 use Rattle.certificate.specs.Weight.{weight}
+use Rattle.certificate.specs.declared.limits.TheConstants.{MOVE_SCALE}
 use Rattle.rows.specs.RowOf.{row_of}
 use Rattle.node.specs.NodeState.{ContainerState, NodeState}
 use Rattle.node.specs.IsNode.{IsNode}
-use Rattle.node.specs.Rows.{rows_of}
+use Rattle.node.specs.Rows.{rows_of, requested_by, scaled_rows_of}
+use Rattle.node.specs.Best.{asking, wanted_by}
 use Rattle.node.specs.Rebalance.{Lacks}
-use Rattle.node.specs.Headline.{asking, wanted_by, is_allowed, IsShort}
+use Rattle.node.specs.Headline.{is_allowed, IsShort}
 
 -- a row is a container's: it has its id and asks for what it asks for, and the CPUs that have a weight in it are those that
 -- the container is allowed and that are online
@@ -21,10 +25,26 @@ pub record IsRowOf (k : KernelState) (m : Layout) (row : RowView) (e : List ℕ 
   pub demand : row.demand ≡ wanted_by e.1.demand.kind
   pub offers : (cpu : ℕ) → is_some (weight row cpu) ≡ is_allowed k cpu e
 
+-- what a CPU is to cost a container: its distance to the nearest home, scaled, and one more where the container's group does
+-- not request it
+abbrev pub moving_weight : KernelState → Layout → List ℕ × ContainerState → ℕ → ℕ
+moving_weight k m e cpu = distance_home m e.1.demand.homes cpu * MOVE_SCALE + cond (set.contains (requested_by k e) cpu) 0 1
+
+-- a scaled row is a container's: it has its id and asks for what it asks for; each CPU that the container is allowed and that
+-- is online weighs so much in it, and no other CPU is offered
+pub record IsScaledRowOf (k : KernelState) (m : Layout) (row : RowView) (e : List ℕ × ContainerState) : Type 0 where
+  pub id : row.id ≡ e.0
+  pub demand : row.demand ≡ wanted_by e.1.demand.kind
+  pub weights : (cpu : ℕ) → weight row cpu ≡ cond (is_allowed k cpu e) (Some (moving_weight k m e cpu)) None
+
 -- the rows are the live pinned containers', one after another
 abbrev pub RowsAreAsking : Type 0
 RowsAreAsking = (n : NodeState) → IsNode n → AllZip (IsRowOf n.kernel n.machine) (rows_of n) (asking n)
 
--- so a shortage of the rows is one of these containers
+-- so are the scaled rows
+abbrev pub ScaledRowsAreAsking : Type 0
+ScaledRowsAreAsking = (n : NodeState) → IsNode n → AllZip (IsScaledRowOf n.kernel n.machine) (scaled_rows_of n) (asking n)
+
+-- and a shortage of these is one of these containers
 abbrev pub ShortStands : Type 0
 ShortStands = (old : NodeState) (wanted : ℕ) (allowed : Ids) (new : NodeState) → IsNode old → Lacks old wanted allowed new → IsShort old wanted allowed new

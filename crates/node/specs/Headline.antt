@@ -1,21 +1,14 @@
 -- What a rebalance leaves, in the subject's own words.
-use Rattle.std.specs.Prelude.{◌≡◌, ◌+◌, ◌<◌, ◌≤◌, ℕ, Bool, true, false, not, ◌&&◌, ◌||◌, cond, List, [], ◌∷◌, Option, Some, None, Result, Ok, Err, All, AllPairs, filter, filter_map, length, map, slice_get, zip}
-use Rattle.std.specs.List.{AllByRecursion, AllZip, list_any, sum_by}
+use Rattle.std.specs.Prelude.{◌≡◌, ◌+◌, ◌<◌, ◌≤◌, ℕ, Bool, true, false, not, ◌&&◌, ◌||◌, cond, List, [], ◌∷◌, Some, None, Result, Ok, Err, All, filter_map, length, map, slice_get}
+use Rattle.std.specs.List.{AllByRecursion, list_any, sum_by}
 use Rattle.std.specs.List.Sorted.{IsStrictlyIncreasing}
 use Rattle.std.specs.FinSet as set
 use Rattle.cpu_set.specs.Ids.{Ids, IsDisjoint, is_empty}
-use Rattle.cpu_set.specs.Members.{InRange, members}
 use Rattle.cpuset_tree.specs.Effective.{effective_cpus}
 use Rattle.kernel_model.specs.KernelState.{KernelState}
-use Rattle.machine.specs.Layout.{Layout}
-use Rattle.machine.specs.Weight.{weight}
-use Rattle.certificate.specs.RowView.{RowView}
-use Rattle.certificate.specs.PricesView.{PricesView}
 use Rattle.certificate.specs.IsLeast.{IsLeast}
 use Rattle.certificate.specs.IsShortage.{HasNoPlan}
 use Rattle.certificate.specs.Cost.{cost}
-use Rattle.certificate_text.specs.declared.certificates.Certificate.{Certificate}
-use Rattle.certificate_text.specs.declared.certificates.Certificate.TheVariants as certificate
 use Rattle.kernel_model.specs.declared.KernelFault.{KernelFault}
 use Rattle.kernel_model.specs.declared.KernelFault.TheVariants.{Failed}
 use Rattle.faults.specs.declared.OrMemory.{OrMemory}
@@ -33,17 +26,13 @@ use Rattle.node.specs.NodeState.{ContainerState, NodeState, is_underway}
 use Rattle.node.specs.Owners.{is_pinned, owners_of}
 use Rattle.node.specs.Status.{is_live}
 use Rattle.node.specs.Ongoing.{IsBroken}
-use Rattle.node.specs.Rows.{rows_of}
+use Rattle.node.specs.Rows.{rows_of, lacking}
+use Rattle.node.specs.Best.{AreOwn, asking, wanted_by, CouldHave, total_distance, is_asking, moved, IsBest, IsTold}
 use Rattle.node.specs.Entries.{opened}
 
 -- the CPUs that a container has in effect
 abbrev pub effective : KernelState → List ℕ × ContainerState → Ids
 effective k e = effective_cpus k.tree e.1.group
-
--- exactly so many CPUs, all allowed and online
-abbrev pub AreOwn : KernelState → Demand → ℕ → Ids → Type 0
-AreOwn k d count cpus =
-    (set.len cpus ≡ count) × ((cpu : ℕ) → set.contains cpus cpu ≡ true → (set.contains d.allowed cpu ≡ true) × (set.contains k.tree.online cpu ≡ true))
 
 -- as many as it asks for; a shared one has the pool, which is not empty
 abbrev pub HasItsCpus : KernelState → Ids → Demand → Kind → Ids → Type 0
@@ -60,56 +49,28 @@ AreAlone k a b =
     is_live k a.1 ≡ true → is_live k b.1 ≡ true → (is_pinned a.1.demand.kind || is_pinned b.1.demand.kind) ≡ true
     → IsDisjoint (effective k a) (effective k b)
 
--- the live pinned containers, in the order in which they were created
-abbrev pub is_asking : KernelState → List ℕ × ContainerState → Bool
-is_asking k e = is_live k e.1 && is_pinned e.1.demand.kind
-
-abbrev pub asking : NodeState → List (List ℕ × ContainerState)
-asking n = filter (is_asking n.kernel) n.containers
-
--- what they have in effect
+-- what the live pinned containers have in effect, in the order in which they were created
 abbrev pub effective_sets : KernelState → List (List ℕ × ContainerState) → List Ids
 effective_sets k [] = []
 effective_sets k (e ∷ later) = cond (is_asking k e) (effective k e ∷ effective_sets k later) (effective_sets k later)
-
--- how many CPUs of its own a container asks for
-abbrev pub wanted_by : Kind → ℕ
-wanted_by (Pinned count) = count
-wanted_by Shared = 0
-
--- sets that the live pinned containers could have: for each exactly as many CPUs as it asks for, all allowed and none shared
-pub record CouldHave (n : NodeState) (sets : List Ids) : Type 0 where
-  pub numbers : AllByRecursion InRange sets
-  pub own : AllZip (λ e cpus. AreOwn n.kernel e.1.demand (wanted_by e.1.demand.kind) cpus) (asking n) sets
-  pub apart : AllPairs IsDisjoint sets
-
--- how far these CPUs are from the nearest of a container's homes, all together; and the sets of all
-abbrev pub distance : Layout → List ℕ × ContainerState → Ids → ℕ
-distance m e cpus = sum_by (λ cpu. weight m e.1.demand.homes cpu) (members cpus)
-
-abbrev pub total_distance : NodeState → List Ids → ℕ
-total_distance n sets = sum_by (λ p. distance n.machine p.0 p.1) (zip (asking n) sets)
-
--- what was worked out last is this plan, of this total
-pub record IsTold (rows : List RowView) (sets : List Ids) (total : ℕ) (last : Option Certificate) : Type 0 where
-  pub prices : PricesView
-  pub is : last ≡ Some (certificate.Plan rows sets prices total)
 
 -- one of these sets has the CPU
 abbrev pub is_in_any : List Ids → ℕ → Bool
 is_in_any sets cpu = list_any (λ cpus. set.contains cpus cpu) sets
 
 -- after a plan of this total: each live container has exactly the CPUs that it asked for, all allowed and none shared; the
--- total is their distance to the home nodes, and no sets that the containers could have are nearer; the certificate tells
--- these very sets, as a plan of least cost of its rows; the pool is the online CPUs that are in none of these sets; and the
--- same containers live as before
+-- total is their distance to the home nodes, and no sets that the containers could have are nearer; among all such sets of
+-- that total none move fewer CPUs; the certificate tells these very sets, which are a plan of least cost of the rows; the pool
+-- is the online CPUs that are in none of these sets; and the same containers live as before
 pub record IsRebalanced (old : NodeState) (total : ℕ) (new : NodeState) : Type 0 where
   pub served : AllByRecursion (IsServed new.kernel new.pool) new.containers
   pub alone : Pairwise (AreAlone new.kernel) new.containers
   pub could : CouldHave old (effective_sets new.kernel new.containers)
   pub far : total ≡ total_distance old (effective_sets new.kernel new.containers)
   pub nearest : (others : List Ids) → CouldHave old others → total ≤ total_distance old others
-  pub told : IsTold (rows_of old) (effective_sets new.kernel new.containers) total new.last
+  pub fewest : (others : List Ids) → CouldHave old others → total_distance old others ≡ total
+      → moved old (effective_sets new.kernel new.containers) ≤ moved old others
+  pub told : IsTold old (effective_sets new.kernel new.containers) total new.last
   pub least : IsLeast (rows_of old) (effective_sets new.kernel new.containers)
   pub costs : total ≡ cost (rows_of old) (effective_sets new.kernel new.containers)
   pub pool : (cpu : ℕ) → set.contains new.pool cpu ≡ (set.contains new.kernel.tree.online cpu && not (is_in_any (effective_sets new.kernel new.containers) cpu))
@@ -124,7 +85,7 @@ is_allowed k cpu e = set.contains e.1.demand.allowed cpu && set.contains k.tree.
 -- no sets at all would do for the live pinned containers; and the kernel is as before
 pub record IsShort (old : NodeState) (wanted : ℕ) (allowed : Ids) (new : NodeState) : Type 0 where
   pub members : List ℕ
-  pub named : new.last ≡ Some (certificate.Short (rows_of old) members)
+  pub named : new.last ≡ Some (lacking old members)
   pub rising : IsStrictlyIncreasing members
   pub there : All (λ k. k < length (asking old)) members
   pub asks : wanted ≡ sum_by (λ e. wanted_by e.1.demand.kind) (filter_map (slice_get (asking old)) members)
@@ -134,14 +95,15 @@ pub record IsShort (old : NodeState) (wanted : ℕ) (allowed : Ids) (new : NodeS
   pub could_not : (sets : List Ids) → CouldHave old sets → ⊥
   pub same : new ≡ record old { last = new.last }
 
--- after a write that failed: what each container of the hand-over requests is what it did before, or what it keeps of that, or
--- what the plan gives it; nothing else changed in the kernel but its counts; what is requested is safe; and no
+-- after a write that failed: the plan was the best; what each container of the hand-over requests is what it did before, or what
+-- it keeps of that, or what the plan gives it; nothing else changed in the kernel but its counts; what is requested is safe; and no
 -- hand-over is open
 pub record IsBrokenOff (old : NodeState) (fault : KernelFault) (new : NodeState) : Type 0 where
   pub sets : List Ids
   pub total : ℕ
   pub least : IsLeast (rows_of old) sets
-  pub told : IsTold (rows_of old) sets total new.last
+  pub best : IsBest old total sets
+  pub told : IsTold old sets total new.last
   pub broken : IsBroken (opened old sets) old.kernel new.kernel
   pub failed : fault ≡ Failed
   pub counted : new.kernel.failures ≡ old.kernel.failures + 1

@@ -1,5 +1,5 @@
 -- What holds of each node, after each of its calls.
-use Rattle.std.specs.Prelude.{◌≡◌, ℕ, ◌<◌, ◌≤◌, ◌⊎◌, false, List, [], ◌∷◌, length, Some, IfSome, IsTrue, codes, map}
+use Rattle.std.specs.Prelude.{◌≡◌, ℕ, ◌<◌, ◌≤◌, ◌⊎◌, true, false, List, [], ◌∷◌, length, Some, IfSome, IsTrue, codes, map}
 use Rattle.std.specs.List.{AllByRecursion}
 use Rattle.std.specs.Str.{bytes_eq}
 use Rattle.std.specs.FinSet as set
@@ -22,6 +22,7 @@ use Rattle.certificate_text.specs.IdWord.{IsId}
 use Rattle.certificate.specs.IsProved.{IsProved}
 use Rattle.certificate.specs.IsShortage.{IsShortage}
 use Rattle.certificate.specs.Limits.{rows_fit}
+use Rattle.certificate.specs.Scaled.{are_scaled}
 use Rattle.certificate_text.specs.Written.{CanWrite}
 use Rattle.certificate_text.specs.declared.certificates.Certificate.{Certificate}
 use Rattle.certificate_text.specs.declared.certificates.Certificate.TheVariants.{Plan, Short}
@@ -89,11 +90,11 @@ pub record IsAsked (m : Layout) (e : List ℕ × ContainerState) : Type 0 where
   pub id : IsId e.0
   pub fits : FitsMachine m e.1.demand
 
--- its own check accepts it: values and prices prove its plan to cost its total, or its rows are within their limits and its
--- members are short
+-- its weights count moves besides the distance, and its own check accepts it: values and prices prove its plan to cost its
+-- total, or its rows are within their limits and its members are short
 abbrev pub ProvesItself : Certificate → Type 0
-ProvesItself (Plan rows sets prices total) = IsProved rows sets prices total
-ProvesItself (Short rows members) = IsTrue (rows_fit rows) × IsShortage rows members
+ProvesItself (Plan rows sets prices total scaled) = (scaled ≡ true) × (are_scaled rows ≡ true) × IsProved rows sets prices total
+ProvesItself (Short rows members scaled) = (scaled ≡ true) × (are_scaled rows ≡ true) × IsTrue (rows_fit rows) × IsShortage rows members
 
 -- and it can be written
 abbrev pub IsKept : Certificate → Type 0

@@ -119,23 +119,23 @@ ongoing_code =
 
 -- a certificate is stored as one of the two tuples of what it holds
 abbrev pub Held : Type 0
-Held = (List RowView × (List Ids × (PricesView × ℕ))) ⊎ (List RowView × List ℕ)
+Held = (List RowView × (List Ids × (PricesView × (ℕ × Bool)))) ⊎ (List RowView × (List ℕ × Bool))
 
 abbrev pub of_certificate : Certificate → Held
-of_certificate (Plan rows sets prices total) = inl (rows, (sets, (prices, total)))
-of_certificate (Short rows members) = inr (rows, members)
+of_certificate (Plan rows sets prices total scaled) = inl (rows, (sets, (prices, (total, scaled))))
+of_certificate (Short rows members scaled) = inr (rows, (members, scaled))
 
 abbrev pub to_certificate : Held → Certificate
-to_certificate (inl p) = Plan p.0 p.1.0 p.1.1.0 p.1.1.1
-to_certificate (inr p) = Short p.0 p.1
+to_certificate (inl p) = Plan p.0 p.1.0 p.1.1.0 p.1.1.1.0 p.1.1.1.1
+to_certificate (inr p) = Short p.0 p.1.0 p.1.1
 
 pub to_of_certificate : (c : Certificate) → to_certificate (of_certificate c) ≡ c
-to_of_certificate (Plan rows sets prices total) = refl
-to_of_certificate (Short rows members) = refl
+to_of_certificate (Plan rows sets prices total scaled) = refl
+to_of_certificate (Short rows members scaled) = refl
 
 abbrev pub certificate_code : Coded Certificate
 certificate_code =
-    code_by Held (coded⊎ (coded× rows_code (coded× sets_code (coded× prices_code coded_ℕ))) (coded× rows_code (coded_list coded_ℕ))) of_certificate to_certificate to_of_certificate
+    code_by Held (coded⊎ (coded× rows_code (coded× sets_code (coded× prices_code (coded× coded_ℕ coded_bool)))) (coded× rows_code (coded× (coded_list coded_ℕ) coded_bool))) of_certificate to_certificate to_of_certificate
 
 -- a node is stored as the tuple of its fields
 abbrev pub node_code : Coded NodeState

@@ -3,30 +3,32 @@ use Rattle.std.specs.Prelude.{◌≡◌, ℕ, Some, length}
 use Rattle.std.specs.FinSet as set
 use Rattle.cpu_set.specs.Ids.{Ids}
 use Rattle.certificate.specs.IsShortage.{asked, chosen, offered}
-use Rattle.certificate_text.specs.Verdict.{IsVerdict}
+use Rattle.certificate_text.specs.Verdict.{IsVerdict, plan_verdict}
 use Rattle.certificate_text.specs.Written.{IsHeld, text_of}
 use Rattle.certificate_text.specs.declared.certificates.Certificate.{Certificate}
 use Rattle.certificate_text.specs.declared.certificates.Certificate.TheVariants as certificate
 use Rattle.certificate_text.specs.declared.checking.Verdict.{Verdict}
-use Rattle.certificate_text.specs.declared.checking.Verdict.TheVariants.{Plan, Short}
+use Rattle.certificate_text.specs.declared.checking.Verdict.TheVariants.{Moves, Short}
 use Rattle.node.specs.NodeState.{NodeState}
 use Rattle.node.specs.IsNode.{IsNode}
-use Rattle.node.specs.Headline.{IsRebalanced}
+use Rattle.node.specs.Best.{moved}
+use Rattle.node.specs.Headline.{effective_sets, IsRebalanced}
 use Rattle.node.specs.Rebalance.{Lacks}
 
--- the total that a certificate claims, or how many CPUs its members ask for and how many are there
+-- the distance and the moves that a certificate claims, or how many CPUs its members ask for and how many are there
 abbrev pub verdict_of : Certificate → Verdict
-verdict_of (certificate.Plan rows sets prices total) = Plan total
-verdict_of (certificate.Short rows members) = Short (asked (chosen rows members)) (length (offered (chosen rows members)))
+verdict_of (certificate.Plan rows sets prices total scaled) = plan_verdict total scaled
+verdict_of (certificate.Short rows members scaled) = Short (asked (chosen rows members)) (length (offered (chosen rows members)))
 
 -- the text of what a node worked out last proves just that, if its numbers are such as the types hold
 abbrev pub LastIsProved : Type 0
 LastIsProved = (n : NodeState) → IsNode n → (c : Certificate) → n.last ≡ Some c → IsHeld c → IsVerdict (text_of c) (verdict_of c)
 
--- and after a rebalance that plans it proves the very total that was answered
+-- and after a rebalance that plans it proves the very total that was answered as the distance, and as the moves how many CPUs
+-- the sets in effect moved
 abbrev pub TotalIsProved : Type 0
 TotalIsProved = (old n : NodeState) (total : ℕ) → IsNode n → IsRebalanced old total n → (c : Certificate) → n.last ≡ Some c → IsHeld c
-    → IsVerdict (text_of c) (Plan total)
+    → IsVerdict (text_of c) (Moves total (moved old (effective_sets n.kernel n.containers)))
 
 -- after one that answers a shortage it proves how many CPUs are asked for and how many are allowed, as they were answered
 abbrev pub ShortIsProved : Type 0

@@ -1,13 +1,16 @@
 -- Plans and the hand-overs to them, each call a relation by cases on what it answers.
-use Rattle.std.specs.Prelude.{◌≡◌, ℕ, suc, zero, true, false, List, Option, Some, None, Result, Ok, Err}
+use Rattle.std.specs.Prelude.{◌≡◌, ℕ, ◌/◌, suc, zero, true, false, List, Option, Some, None, Result, Ok, Err}
 use Rattle.std.specs.FinSet as set
 use Rattle.cpu_set.specs.Ids.{Ids}
 use Rattle.cpu_set.specs.Members.{InRange}
 use Rattle.certificate.specs.RowView.{RowView}
 use Rattle.certificate.specs.PricesView.{PricesView}
+use Rattle.certificate.specs.IsPlan.{IsPlan}
 use Rattle.certificate.specs.IsShortage.{asked, chosen, is_offered}
+use Rattle.certificate.specs.declared.limits.TheConstants.{MOVE_SCALE}
 use Rattle.certificate_text.specs.declared.certificates.Certificate.{Certificate}
 use Rattle.certificate_text.specs.declared.certificates.Certificate.TheVariants as certificate
+use Rattle.certificate_text.specs.Verdict.{AreParts}
 use Rattle.kernel_model.specs.declared.KernelFault.{KernelFault}
 use Rattle.faults.specs.declared.OrMemory.{OrMemory}
 use Rattle.faults.specs.declared.OrMemory.TheVariants.{Memory, Fault}
@@ -23,21 +26,39 @@ use Rattle.node.specs.declared.phase.Phase.{Phase}
 use Rattle.node.specs.declared.phase.Phase.TheVariants.{Settled, Underway, Unsettled}
 use Rattle.node.specs.NodeState.{Ongoing, NodeState, is_underway}
 use Rattle.node.specs.IsNode.{IsKept}
-use Rattle.node.specs.Rows.{rows_of}
+use Rattle.node.specs.Rows.{rows_of, scaled_rows_of, planned, lacking}
+use Rattle.node.specs.Best.{moved, IsBest}
 use Rattle.node.specs.Entries.{plan_pool, opened}
 
--- a least plan of the rows, whose certificate can be written and proves itself; its hand-over is open, and nothing is written yet
+-- what a node's scaled rows come to: the best sets that the containers could have, as a least plan of these rows, with their
+-- distance and their moves as its total; or a shortage of them
+pub record IsAnswer (n : NodeState) (rows : List RowView) (sets : List Ids) (prices : PricesView) (whole : ℕ) : Type 0 where
+  pub rows_are : rows ≡ scaled_rows_of n
+  pub decides : DecidesPlan rows sets prices whole
+  pub plan : IsPlan (rows_of n) sets
+  pub best : IsBest n (whole / MOVE_SCALE) sets
+  pub parts : AreParts whole (whole / MOVE_SCALE) (moved n sets)
+
+abbrev pub ComesTo : NodeState → Certificate → Type 0
+ComesTo n (certificate.Plan rows sets prices whole scaled) = (scaled ≡ true) × IsAnswer n rows sets prices whole
+ComesTo n (certificate.Short rows members scaled) = (scaled ≡ true) × (rows ≡ scaled_rows_of n) × DecidesShort rows members
+
+-- the best sets that the containers could have, as a least plan of the scaled rows, whose certificate can be written and proves
+-- itself; its hand-over is open, and nothing is written yet
 pub record Begun (old : NodeState) (total : ℕ) (new : NodeState) : Type 0 where
   pub sets : List Ids
   pub prices : PricesView
+  pub whole : ℕ
   pub settled : is_underway old.phase ≡ false
-  pub decides : DecidesPlan (rows_of old) sets prices total
-  pub kept : IsKept (certificate.Plan (rows_of old) sets prices total)
+  pub best : IsBest old total sets
+  pub decides : DecidesPlan (scaled_rows_of old) sets prices whole
+  pub parts : AreParts whole total (moved old sets)
+  pub kept : IsKept (planned old sets prices whole)
   pub is : new ≡ record old {
     pool = plan_pool old sets;
     phase = Underway;
     ongoing = Some (opened old sets);
-    last = Some (certificate.Plan (rows_of old) sets prices total);
+    last = Some (planned old sets prices whole);
   }
 
 -- how many CPUs the members of a shortage ask for together, and those that one of them may get
@@ -50,10 +71,10 @@ pub record IsNeed (rows : List RowView) (members : List ℕ) (wanted : ℕ) (all
 pub record Lacks (old : NodeState) (wanted : ℕ) (allowed : Ids) (new : NodeState) : Type 0 where
   pub members : List ℕ
   pub settled : is_underway old.phase ≡ false
-  pub decides : DecidesShort (rows_of old) members
-  pub kept : IsKept (certificate.Short (rows_of old) members)
-  pub need : IsNeed (rows_of old) members wanted allowed
-  pub is : new ≡ record old { last = Some (certificate.Short (rows_of old) members) }
+  pub decides : DecidesShort (scaled_rows_of old) members
+  pub kept : IsKept (lacking old members)
+  pub need : IsNeed (scaled_rows_of old) members wanted allowed
+  pub is : new ≡ record old { last = Some (lacking old members) }
 
 -- `begin`
 abbrev pub Begins : NodeState → Result Outcome (OrMemory NodeFault) → NodeState → Type 0

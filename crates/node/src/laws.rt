@@ -1,6 +1,6 @@
 //! Laws over the definitions alone: nothing here runs.
 ghost use Rattle.std.specs.Prelude.{◌≡◌, codes};
-ghost use Rattle.node.specs.Asking.{RowsAreAsking, ShortStands};
+ghost use Rattle.node.specs.Asking.{RowsAreAsking, ScaledRowsAreAsking, ShortStands};
 ghost use Rattle.node.specs.Ending.{HandoversEnd};
 ghost use Rattle.node.specs.Machine.{FirstIsNode, RunsKeep, RunsStaySafe, RunsStayApart, RebalancesAreSteps, RunsRebalance};
 ghost use Rattle.node.specs.Making.{CreatesAreCalls, CreatesFailLate, CreatesStaySafe};
@@ -72,12 +72,13 @@ pub fn each_create()
 /// The headline: what a rebalance leaves, after any list of calls and events; nothing runs.
 ///
 /// After a plan each live container has exactly the CPUs that it asked for, all allowed and none shared, at a total
-/// distance to the home nodes that no plan undercuts, and what the kernel has in effect is that plan; the pool is the
-/// online CPUs that it leaves. A shortage names containers that together ask for more CPUs than they are allowed.
+/// distance to the home nodes that no plan undercuts, and what the kernel has in effect is that plan; among all plans of that
+/// total none moves fewer CPUs; the pool is the online CPUs that it leaves. A shortage names containers that together ask for more CPUs than they are allowed.
 pub fn each_rebalance()
     ensures { RunsRebalance }
 {
     rows::laws::rows_weigh();
+    rows::laws::scaled_rows_weigh();
     apply_plan::laws::steps();
     apply_plan::laws::effects();
 }
@@ -91,21 +92,24 @@ pub fn what_configs_get()
     ensures { RunsServeConfigs }
 {
     rows::laws::rows_weigh();
+    rows::laws::scaled_rows_weigh();
     apply_plan::laws::steps();
     apply_plan::laws::effects();
 }
 
-/// Whose the rows of a node's problem are: each is a live pinned container's, in their order, so that a shortage of the
-/// rows is one of these containers; nothing runs.
+/// Whose the rows of a node's problem are: each is a live pinned container's, in their order, and says for each CPU how far it
+/// is and whether it moves, so that a shortage of the rows is one of these containers; nothing runs.
 pub fn whose_rows()
     ensures rows { RowsAreAsking }
+    ensures scaled { ScaledRowsAreAsking }
     ensures short { ShortStands }
 {
     rows::laws::rows_weigh();
+    rows::laws::scaled_rows_weigh();
 }
 
 /// The text of what a node worked out last proves its verdict to whoever checks it; after a rebalance that is the total that
-/// was answered, or how many CPUs are asked for and how many are allowed. Nothing runs.
+/// was answered and how many CPUs moved, or how many CPUs are asked for and how many are allowed. Nothing runs.
 pub fn certificates_prove()
     ensures last { LastIsProved }
     ensures total { TotalIsProved }

@@ -3,7 +3,7 @@ use cpu_set::IdSet;
 /// What a node works out for its containers.
 #[derive(Clone, Copy, Debug, PartialEq, Eq)]
 pub enum Outcome {
-    /// A plan of this total distance.
+    /// A plan of this total distance; how many CPUs it moves is told by its certificate.
     Plan(u64),
     /// A shortage.
     Short {

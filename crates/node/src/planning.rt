@@ -13,12 +13,12 @@ ghost use Rattle.node.specs.Viewed.{seen_ongoing};
 ghost use Rattle.node.specs.declared.phase.Phase.TheVariants.{Underway};
 ghost use Rattle.node.specs.Headline.{Headline};
 ghost use Rattle.node.specs.Written.{RebalanceWrites};
-ghost use Rattle.node.specs.Rebalance.{Begins, Finishes, Rebalances, WorksOut, IsNeed, ShowsCertificate};
+ghost use Rattle.node.specs.Rebalance.{Begins, ComesTo, Finishes, Rebalances, WorksOut, IsNeed, ShowsCertificate};
 
 use crate::ongoing::Ongoing;
 use crate::{Node, NodeFault, Outcome, Phase};
 use apply_plan::laws;
-use certificate::{Problem, check_shortage, offered_to};
+use certificate::{MOVE_SCALE, Problem, check_shortage, offered_to};
 use certificate_text::Certificate;
 use cpu_set::IdSet;
 use decision::decide;
@@ -60,19 +60,36 @@ impl<K: Kernel + Drop> Node<K> {
         self.last = Some(certificate);
     }
 
+    /// What the problem comes to: the best plan, or a shortage.
+    fn answer(&self) -> Result<Certificate, AllocError>
+        ensures best { IfOk result (ComesTo self.now) }
+        ensures kept { IfOk result IsKept }
+    {
+        rows::laws::rows_weigh();
+        rows::laws::scaled_rows_weigh();
+        rows::laws::parts_rise();
+        certificate::laws::scaled_rows_have_two_costs();
+        self.holds();
+        decide(self.alloc, self.problem()?, true)
+    }
+
     /// Works out a plan or a shortage, and opens the hand-over to a plan.
     fn work_out(&mut self) -> Result<Outcome, AllocError>
         requires { is_underway self.old.phase ≡ false }
         ensures { WorksOut self.old result self.new }
     {
-        let certificate = decide(self.alloc, self.problem()?)?;
+        let certificate = self.answer()?;
         let outcome = match &certificate {
             Certificate::Plan { plan, total, .. } => {
                 let (pool, ongoing) = self.opening(plan.sets.as_slice())?;
                 self.open_to(pool, ongoing);
-                Outcome::Plan(*total)
+                Outcome::Plan(*total / u64::from(MOVE_SCALE))
             }
-            Certificate::Short { problem, members } => {
+            Certificate::Short {
+                problem,
+                members,
+                ..
+            } => {
                 let (asked, allowed) = need_of(problem, members.rows.as_slice());
                 Outcome::Short { asked, allowed }
             }
@@ -81,8 +98,9 @@ impl<K: Kernel + Drop> Node<K> {
         Ok(outcome)
     }
 
-    /// Works out a plan of the live containers, and opens the hand-over to it: [`step`](Node::step) makes its writes one
-    /// by one. Where there is no plan, a shortage shows why. In the kernel nothing is written.
+    /// Works out a plan of the live containers of least total distance to the home nodes, which among all plans of that total
+    /// moves the fewest CPUs, and opens the hand-over to it: [`step`](Node::step) makes its writes one by one. Where there is
+    /// no plan, a shortage shows why. In the kernel nothing is written.
     ///
     /// # Errors
     /// `Busy`, or lack of memory; then all is as before.
@@ -137,7 +155,7 @@ impl<K: Kernel + Drop> Node<K> {
 
     /// Works out a plan of the live containers and moves them onto it, so that each one that asks for CPUs of its own has
     /// as many as it asks for, all allowed, online and in nobody else's set, at a total distance to the home nodes that no
-    /// plan undercuts; the others share the pool. Where there is no plan, a shortage names containers that together ask
+    /// plan undercuts; among all plans of that total none moves fewer CPUs; the others share the pool. Where there is no plan, a shortage names containers that together ask
     /// for more CPUs than they are allowed, and nothing is written.
     ///
     /// All memory is taken before the first write.
@@ -153,6 +171,7 @@ impl<K: Kernel + Drop> Node<K> {
         ensures made { RebalanceWrites self.old result self.new }
     {
         rows::laws::rows_weigh();
+        rows::laws::scaled_rows_weigh();
         laws::steps();
         laws::effects();
         laws::runs();

@@ -2,3 +2,6 @@ pub mod OfferLemmas
 pub mod ChainLemmas
 pub mod LimitLemmas
 pub mod CacheLemmas
+pub mod PartLemmas
+pub mod PartLimits
+pub mod PartRising

@@ -21,6 +21,7 @@ use Rattle.certificate.specs.Limits.{is_disjoint, are_apart, offers_fit, row_fit
 use Rattle.rows.specs.Offers.{of_weight, offer_at, has_some, offers_of}
 use Rattle.rows.specs.RowOf.{available, row_of_kind}
 use Rattle.rows.specs.Weighs.{RowsWeigh}
+use Rattle.rows.specs.Scaled.{are_distances}
 use Rattle.rows.proofs.OfferLemmas.{contains-of_weight, offers_some}
 
 -- a test that all of a list pass, those among them that pass another pass it too
@@ -40,11 +41,16 @@ module _ (m : Layout) (homes cpus : Ids) where
   abbrev from : ℕ → ℕ → List Offer
   from a n = filter has_some (map (offer_at m homes cpus) (range_with_len a n))
 
-  light : (a n : ℕ) → a + n ≤ MAX_WEIGHT + 1 → list_all (λ (o : Offer). nat_le o.weight MAX_WEIGHT) (from a n) ≡ true
-  light a zero fits = refl
-  light a (suc n) fits =
-      all_kept (λ (o : Offer). nat_le o.weight MAX_WEIGHT) (has_some (offer_at m homes cpus a)) (offer_at m homes cpus a) (from (a + 1) n)
-      (grind (arith, nat_tests)) (light (a + 1) n (omega arith))
+  light : (most a n : ℕ) → a + n ≤ most + 1 → list_all (λ (o : Offer). nat_le o.weight most) (from a n) ≡ true
+  light most a zero fits = refl
+  light most a (suc n) fits =
+      all_kept (λ (o : Offer). nat_le o.weight most) (has_some (offer_at m homes cpus a)) (offer_at m homes cpus a) (from (a + 1) n)
+      (grind (arith, nat_tests)) (light most (a + 1) n (omega arith))
+
+  -- none weighs more than the greatest distance
+  pub offers_of_distances : are_distances (offers_of m homes cpus) ≡ true
+  unfolding offers_of
+  offers_of_distances = light 254 0 255 (omega arith)
 
   other_weights : (i j : ℕ) → i < j → is_disjoint (of_weight m homes cpus i) (of_weight m homes cpus j) ≡ true
   other_weights i j lt = ap (λ s. set.len s == 0) none ∙ ap (λ n. n == 0) (set.len-empty _)
@@ -72,7 +78,7 @@ module _ (m : Layout) (homes cpus : Ids) where
 
   fit_at : (n : ℕ) → n ≤ MAX_WEIGHT + 1 → offers_fit (from 0 n) ≡ true
   unfolding offers_fit
-  fit_at n few = both_pass _ _ (light 0 n (omega (arith, few))) (apart 0 n)
+  fit_at n few = both_pass _ _ (light MAX_WEIGHT 0 n (omega (arith, few))) (apart 0 n)
 
   pub offers_of_fit : offers_fit (offers_of m homes cpus) ≡ true
   unfolding offers_of

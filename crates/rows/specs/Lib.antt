@@ -4,3 +4,4 @@ pub mod Weighs
 pub mod Reach
 pub mod Chains
 pub mod CachedOffers
+pub mod Scaled

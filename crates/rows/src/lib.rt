@@ -7,7 +7,8 @@ mod cache;
 mod chains;
 pub mod laws;
 mod offers;
+mod parts;
 mod row;
 
 pub use cache::CachedOffers;
-pub use row::row_of;
+pub use row::{row_of, scaled_row_of};

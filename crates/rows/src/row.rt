@@ -3,8 +3,10 @@ ghost use Rattle.certificate.specs.Limits.{row_fits};
 ghost use Rattle.demand.specs.FitsMachine.{FitsMachine};
 ghost use Rattle.rows.specs.RowOf.{row_of};
 ghost use Rattle.rows.specs.CachedOffers.{IsCached};
+ghost use Rattle.rows.specs.Scaled.{are_distances, scaled};
 
 use crate::cache::{CachedOffers, offers_among};
+use crate::parts::scaled_row;
 use certificate::Row;
 use cpu_set::IdSet;
 use demand::{Demand, Kind};
@@ -28,6 +30,7 @@ pub fn row_of(
     requires cache { All (IsCached machine.now) cache.old.items }
     ensures row { IfOk result (λ row. row ≡ row_of machine.now online.now id.now demand.now) }
     ensures fits { IfOk result (λ row. IfSome row (λ r. IsTrue (row_fits r))) }
+    ensures distances { IfOk result (λ row. IfSome row (λ r. IsTrue (are_distances r.offers))) }
     ensures cache { All (IsCached machine.now) cache.new.items }
 {
     let Kind::Pinned(count) = demand.kind else {
@@ -39,4 +42,27 @@ pub fn row_of(
         demand: count,
         offers: offers_among(alloc, machine, &demand.homes, &cpus, cache)?,
     }))
+}
+
+/// The same row where the container holds these CPUs already: distances are scaled by
+/// [`MOVE_SCALE`](certificate::MOVE_SCALE), and each CPU that it does not hold weighs one more.
+pub fn scaled_row_of(
+    alloc: Global,
+    machine: &Machine,
+    online: &IdSet,
+    id: &str,
+    demand: &Demand,
+    held: &IdSet,
+    cache: &mut Vec<CachedOffers>,
+) -> Result<Option<Row>, AllocError>
+    requires fits { FitsMachine machine.now demand.now }
+    requires cache { All (IsCached machine.now) cache.old.items }
+    ensures row { IfOk result (λ row. row ≡ option_map (scaled held.now) (row_of machine.now online.now id.now demand.now)) }
+    ensures fits { IfOk result (λ row. IfSome row (λ r. IsTrue (row_fits r))) }
+    ensures cache { All (IsCached machine.now) cache.new.items }
+{
+    let Some(row) = row_of(alloc, machine, online, id, demand, cache)? else {
+        return Ok(None);
+    };
+    Ok(Some(scaled_row(alloc, row, held)?))
 }

@@ -8,37 +8,39 @@ use Rattle.certificate_text.specs.declared.certificates.Certificate.{Certificate
 use Rattle.certificate_text.specs.declared.checking.Verdict.{Verdict}
 use Rattle.certificate_text.specs.declared.checking.Verdict.TheVariants as proves
 use Rattle.node.specs.declared.fault.NodeFault.TheVariants.{Kernel}
-use Rattle.node.specs.declared.outcome.Outcome.{Outcome}
 use Rattle.node.specs.declared.outcome.Outcome.TheVariants.{Plan, Short}
+use Rattle.node.specs.Best.{moved}
+use Rattle.node.specs.Headline.{effective_sets}
 use Rattle.node.specs.IsNode.{IsNode}
-use Rattle.node.specs.Machine.{Event, Rebalance, Begin}
+use Rattle.node.specs.Machine.{Event, Rebalance, Begin, Step, Run}
+use Rattle.node.specs.NodeState.{NodeState}
 use Rattle.script.specs.Commands as ask
 use Rattle.script.specs.Runs.{Runs}
 use Rattle.runtime.specs.Answered.{Answered}
 use Rattle.runtime.specs.RuntimeState.{RuntimeState}
 use Rattle.runtime.specs.ScriptLaws.{AreCalls}
 
--- the verdict that an outcome tells
-abbrev pub verdict_told : Outcome → Verdict
-verdict_told (Plan total) = proves.Plan total
-verdict_told (Short wanted allowed) = proves.Short wanted (set.len allowed)
-
--- the outcome that was told last, with one call or event more; a rebalance whose write failed has worked out another and told none
-abbrev pub told_with : Option Outcome → Event → Option Outcome
-told_with told (Rebalance (Ok outcome)) = Some outcome
-told_with told (Begin (Ok outcome)) = Some outcome
-told_with told (Rebalance (Err (Fault (Kernel fault)))) = None
-told_with told event = told
+-- the verdict on what was told last, with one call or event more: of a plan the total, and how many CPUs move from what was
+-- requested before to the sets that are then in effect, or that a `begin` is to bring about; of a shortage how many CPUs are
+-- asked for and how many are allowed; a rebalance whose write failed has worked out another and told none
+abbrev pub told_with : Option Verdict → (old : NodeState) (event : Event) (new : NodeState) → Step old event new → Option Verdict
+told_with told old (Rebalance (Ok (Plan total))) new step = Some (proves.Moves total (moved old (effective_sets new.kernel new.containers)))
+told_with told old (Rebalance (Ok (Short wanted allowed))) new step = Some (proves.Short wanted (set.len allowed))
+told_with told old (Rebalance (Err (Fault (Kernel fault)))) new step = None
+told_with told old (Begin (Ok (Plan total))) new step = Some (proves.Moves total (moved old step.sets))
+told_with told old (Begin (Ok (Short wanted allowed))) new step = Some (proves.Short wanted (set.len allowed))
+told_with told old event new step = told
 
 -- and with many
-abbrev pub told_last : Option Outcome → List Event → Option Outcome
-told_last told [] = told
-told_last told (event ∷ later) = told_last (told_with told event) later
+abbrev pub told_last : Option Verdict → (old : NodeState) (events : List Event) (new : NodeState) → Run old events new → Option Verdict
+told_last told old [] new run = told
+told_last told old (event ∷ later) new (mid, step, run) = told_last (told_with told old event mid step) mid later new run
 
--- whatever lines of a script over a node were answered before, the text that answers `certificate` proves the verdict of the outcome
--- that the calls of these lines told last; it speaks of a certificate whose numbers are such as their types hold
+-- whatever lines of a script over a node were answered before, the text that answers `certificate` proves the verdict on what
+-- the calls of these lines told last; it speaks of a certificate whose numbers are such as their types hold
 abbrev pub CertificatesAreTold : Type 0
-CertificatesAreTold = (first old new : RuntimeState) (lines : List (List ℕ)) (text printed : List ℕ) (outcome : Outcome)
-    → IsNode first.node → Runs Answered first lines text old → (calls : AreCalls first lines text old) → told_last None calls.events ≡ Some outcome
+CertificatesAreTold = (first old new : RuntimeState) (lines : List (List ℕ)) (text printed : List ℕ) (verdict : Verdict)
+    → IsNode first.node → Runs Answered first lines text old → (calls : AreCalls first lines text old)
+    → told_last None first.node calls.events old.node calls.run ≡ Some verdict
     → Answered old ask.certificate printed new → ((c : Certificate) → old.node.last ≡ Some c → IsHeld c)
-    → IsVerdict printed (verdict_told outcome)
+    → IsVerdict printed verdict

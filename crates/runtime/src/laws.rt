@@ -16,8 +16,8 @@ pub fn lines_are_calls()
 
 /// The headline of a rebalance that a script asks for, whatever lines were answered before it: the text that answers it
 /// is that of an outcome or of a refusal, and the node is then as the headline says of this. A text that begins with
-/// `plan total` is a plan's, and one that begins with `short demand` a shortage's. So it is with each line of a whole script
-/// that asks for a rebalance.
+/// `plan total` is a plan's: among all plans of that total none moves fewer CPUs. One that begins with `short demand` is a
+/// shortage's. So it is with each line of a whole script that asks for a rebalance.
 pub fn rebalances_are_told()
     ensures told { RebalancesAreTold }
     ensures plans { PlansAreTold }
@@ -37,7 +37,8 @@ pub fn scripts_serve_configs()
     node::laws::what_configs_get();
 }
 
-/// The text that answers `certificate` proves the verdict of the outcome that was told last to whoever checks it. Nothing runs.
+/// The text that answers `certificate` proves the verdict on what was told last to whoever checks it: of a plan its total, and
+/// how many CPUs it moves. Nothing runs.
 pub fn certificates_are_told()
     ensures { CertificatesAreTold }
 {

@@ -64,9 +64,11 @@ fn put_containers<W: Write>(certificate: &Certificate, w: &mut W) -> io::Result<
         Certificate::Plan { problem, plan, .. } => {
             put_holds(problem.rows.as_slice(), plan.sets.as_slice(), w)
         }
-        Certificate::Short { problem, members } => {
-            put_members(problem.rows.as_slice(), members.rows.as_slice(), w)
-        }
+        Certificate::Short {
+            problem,
+            members,
+            ..
+        } => { put_members(problem.rows.as_slice(), members.rows.as_slice(), w) }
     }
 }
 

@@ -1,0 +1,5 @@
+use Rattle.rows.proofs.PartLimits.{scaled_fits}
+use Rattle.rows.proofs.laws.scaled_rows_fit.Goals as goal
+
+pub returns : goal.returns
+returns c = λ held row light fit. scaled_fits held row light fit
