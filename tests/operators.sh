@@ -1,6 +1,6 @@
 #!/usr/bin/env bash
 # Tries the scripts of examples/ for those who operate machines: a quick look, machine files of what hwloc tells, pictures of
-# plans, the agent, the comparison with other ways to place, and the man page. What a machine lacks for it is passed over,
+# plans, the agent, the comparison with other ways to place, the count of moves, and the man page. What a machine lacks for it is passed over,
 # and named. PROGRAM in the environment is run in place of the one that this builds.
 set -eu
 top=$(cd "$(dirname "$0")/.." && pwd)
@@ -8,6 +8,6 @@ top=$(cd "$(dirname "$0")/.." && pwd)
 SCRATCH=$(mktemp -d)
 trap 'rm -rf "$SCRATCH"' EXIT
 export SCRATCH PROGRAM=$program
-for test in looks hwloc pictures agents peers manual; do
+for test in looks hwloc pictures agents peers moves manual; do
     python3 -B "$top/tests/operators/$test.py"
 done

@@ -7,6 +7,9 @@ import re
 
 CPUS, ROWS = 4096, 1024
 MOST = 1_099_511_627_776
+# In version 2 a weight is a distance times this, and one more where a CPU moves.
+SCALE = 65_536
+HEADS = {b"numarun-certificate 1": False, b"numarun-certificate 2": True}
 
 
 class BadText(Exception):
@@ -45,21 +48,31 @@ def wanted(value, line):
     return value
 
 
+def total_of(words, scaled):
+    """The distance and the moves of a total line, or the distance alone, or None where it is none of the version."""
+    if scaled:
+        told = (number(words[1], 48), number(words[3], 16)) if len(words) == 4 and words[2] == b"moves" else (None,)
+    else:
+        told = (number(words[1], 64),) if len(words) == 2 else (None,)
+    return None if None in told else told
+
+
 def read(text):
-    """Rows (id, demand, offers), holds (set, value), prices (amount, set), the total, and the members of a shortage."""
-    rows, holds, prices, total, members = [], [], [], None, []
+    """Rows (id, demand, offers), holds (set, value), prices (amount, set), the total (distance, and in version 2 moves), the
+    members of a shortage, and whether it is version 2."""
+    rows, holds, prices, total, members, scaled = [], [], [], None, [], False
     lines = text.split(b"\n")
     section = "head"
     for at, line in enumerate(lines, 1):
         words = line.split(b" ")
         if section == "done":
             if at == len(lines) and line == b"":
-                return rows, holds, prices, total, members
+                return rows, holds, prices, total, members, scaled
             raise BadText(at)
         if at == len(lines):
             raise BadText(at)
-        if section == "head" and line == b"numarun-certificate 1":
-            section = "rows"
+        if section == "head" and line in HEADS:
+            section, scaled = "rows", HEADS[line]
         elif section == "rows" and words[0] == b"row" and len(words) >= 3:
             if not is_id(words[1]) or any(words[1] == row[0] for row in rows):
                 raise BadText(at)
@@ -82,8 +95,8 @@ def read(text):
         elif section in ("rows", "holds") and len(holds) == len(rows) and words[0] == b"price" and len(words) == 3:
             prices.append((wanted(number(words[1], 64), at), wanted(numbers(words[2]), at)))
             section = "holds"
-        elif section in ("rows", "holds") and len(holds) == len(rows) and words[0] == b"total" and len(words) == 2:
-            total = wanted(number(words[1], 64), at)
+        elif section in ("rows", "holds") and len(holds) == len(rows) and words[0] == b"total":
+            total = wanted(total_of(words, scaled), at)
             section = "end"
         elif section in ("rows", "shorts") and words[0] == b"short" and len(words) == 2:
             later = range(members[-1] + 1 if members else 0, len(rows))
@@ -108,13 +121,14 @@ def weights_of(offers):
 def check(text):
     """The line that a check of the text answers."""
     try:
-        rows, holds, prices, total, members = read(text)
+        rows, holds, prices, total, members, scaled = read(text)
     except BadText as bad:
         return f"refused E77 BadText {bad.args[0]}"
     too_much = len(rows) > ROWS or any(not 1 <= demand <= CPUS for _, demand, _ in rows)
     too_much |= any(weight > 33_554_431 for _, _, offers in rows for weight, _ in offers)
     too_much |= any(value > MOST for _, value in holds) or any(amount > MOST for amount, _ in prices)
     too_much |= any(overlap([s for _, s in offers]) for _, _, offers in rows) or overlap([s for _, s in prices])
+    too_much |= scaled and any(weight % SCALE > 1 for _, _, offers in rows for weight, _ in offers)
     if too_much:
         return "refused E70 BadProblem"
     if members:
@@ -137,20 +151,36 @@ def check(text):
         high = [cpu for cpu in weights[k] if value > weights[k][cpu] + price.get(cpu, 0)]
         if high:
             return f"refused E74 ValueTooHigh {k} {min(high)}"
-    cost = sum(weights[k][cpu] for k in range(len(rows)) for cpu in holds[k][0])
+    held = [weights[k][cpu] for k in range(len(rows)) for cpu in holds[k][0]]
     bound = sum(demand * holds[k][1] for k, (_, demand, _) in enumerate(rows)) - sum(price.values())
-    return f"plan total {cost}" if cost == bound == total else "refused E75 Gap"
+    cost = parts_of(held, scaled)
+    return answer_of(cost) if sum(held) == bound and cost == total else "refused E75 Gap"
 
 
-def least_cost(rows):
-    """The cost of a least plan, by trying every plan, or None where there is none. For small problems alone."""
-    costs = {frozenset(): 0}
+def parts_of(weights, scaled):
+    """What a total says of CPUs of these weights: their distance together, and in version 2 how many of them move."""
+    return (sum(w // SCALE for w in weights), sum(w % SCALE for w in weights)) if scaled else (sum(weights),)
+
+
+def answer_of(total):
+    return " moves ".join(["plan total " + str(total[0])] + [str(moves) for moves in total[1:]])
+
+
+def least(rows, scaled):
+    """The total of a least plan, which in version 2 is of least distance and moves the fewest CPUs of all plans of that distance,
+    by trying every plan, or None where there is none. For small problems alone."""
+    totals = {frozenset(): parts_of([], scaled)}
     for _, demand, offers in rows:
         weights = {cpu: weight for weight, s in offers for cpu in s}
         grown = {}
-        for held, cost in costs.items():
+        for held, total in totals.items():
             for cpus in itertools.combinations(sorted(weights.keys() - held), demand):
-                key = held | set(cpus)
-                grown[key] = min(grown.get(key, cost + sum(weights[c] for c in cpus)), cost + sum(weights[c] for c in cpus))
-        costs = grown
-    return min(costs.values(), default=None)
+                here = tuple(map(sum, zip(total, parts_of([weights[c] for c in cpus], scaled))))
+                grown[held | set(cpus)] = min(grown.get(held | set(cpus), here), here)
+        totals = grown
+    return min(totals.values(), default=None)
+
+
+def least_cost(rows):
+    found = least(rows, False)
+    return None if found is None else found[0]

@@ -19,6 +19,8 @@ sys.path.insert(0, os.path.join(os.path.dirname(os.path.abspath(__file__)), ".."
 from program import SECONDS
 
 SLIT = b"SLIT\x30\0\0\0\x01\x53" + bytes(26) + b"\x02\0\0\0\0\0\0\0\x0a\x15\x15\x0a"
+# A plan that moves nothing.
+MOVES = b"numarun-certificate 2\nrow a 2 655360:4-5 655361:2-3\nhold a 4-5 655360\ntotal 20 moves 0\nend\n"
 FAR = b'{"nodes":["0-3","4-7"],"reserved":"0"}'
 CONFIG = b'{"ociVersion":"1.0.2","root":{"path":"rootfs"},"process":{"args":["run"]}}'
 
@@ -83,6 +85,10 @@ def certificates(text):
         "gap": changed(b"total 23", b"total 22"), "most-total": changed(b"total 23", b"total 18446744073709551615"),
         "past-total": changed(b"total 23", b"total 18446744073709551616"),
         "lack": b"numarun-certificate 1\nrow a 2 10:1-2\nrow b 1 10:1-2\nrow c 1 10:4-5\nshort a\nshort b\nend\n",
+        "stays": MOVES, "more-moves": MOVES.replace(b"moves 0", b"moves 1"), "no-moves": MOVES.replace(b" moves 0", b""),
+        "past-moves": MOVES.replace(b"moves 0", b"moves 65536"), "far-moves": MOVES.replace(b"20 moves", b"281474976710656 moves"),
+        "two-moves": MOVES.replace(b"655361", b"655362"), "first-moves": text.replace(b"total 23", b"total 23 moves 0"),
+        "third": MOVES.replace(b"certificate 2", b"certificate 3"),
         "no-lack": b"numarun-certificate 1\nrow a 2 10:1-2\nrow c 1 10:4-5\nshort a\nshort c\nend\n",
     }
 

@@ -66,6 +66,16 @@ def scripted(words, script):
     return done.stdout.decode().splitlines() if (done.returncode, done.stderr) == (0, b"") else [str(done)[:1000]]
 
 
+def by_distance(row):
+    """A new container's row with distances for weights: each CPU that it is offered would move."""
+    demand, *offers = row.split(" ")
+    for k, offer in enumerate(offers):
+        weight, cpus = offer.split(":")
+        distance, moves = divmod(int(weight), 65536)
+        offers[k] = f"{distance}:{cpus}" if moves == 1 else f"{offer}, which is not one move"
+    return " ".join([demand, *offers])
+
+
 class Machine:
     """A machine, its table where it has one, and what containers of configs get there, one after another."""
 
@@ -92,7 +102,7 @@ class Machine:
 
     @staticmethod
     def shown(started, sets, certificate):
-        row = next((line.split(" ", 2)[2] for line in certificate if line.startswith("row ")), "shared")
+        row = next((by_distance(line.split(" ", 2)[2]) for line in certificate if line.startswith("row ")), "shared")
         homes = sets.split(" ")[5:6]
         return ", ".join([row, f"homes {''.join(homes)}"] + [started] * (started != "ok"))
 

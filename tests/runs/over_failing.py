@@ -83,7 +83,7 @@ def of_others():
 
 
 def of_the_first_plan():
-    certificate = "numarun-certificate 1\nrow a 3 10:4-7 21:1-3\nhold a 4-6 10\ntotal 30\nend"
+    certificate = "numarun-certificate 2\nrow a 3 655361:4-7 1376257:1-3\nhold a 4-6 655361\ntotal 30 moves 3\nend"
     lines = [("create a ba", "pid 2"), ("rebalance", FAULT), A_RESERVED, UNSETTLED, ("certificate", certificate)]
     yield Run(6, lines, [HOME] + group_of("a", 2, "0", "1", True))
     yield Run(6, lines + [("rebalance", PLAN_OF_A), SETTLED, ("create b bb", "pid 3")] + BY_STEPS)

@@ -15,8 +15,10 @@ from transcripts import config, difference, doubted, place, run
 
 SCRIPTS = 700
 PLANNED = 250
-# What has to be seen: plans of two rows or more, answers `more`, rows of one plan, bytes of one answer.
-LEAST = {"plans": 200, "more": 300, "rows": 100, "bytes": 8193}
+# What has to be seen: plans of two rows or more, answers `more`, rows of one plan, bytes of one answer; of the plans those that
+# move no CPU, those that move several while others stay, those for which plans of their distance were found that move more,
+# and those that were compared with every plan.
+LEAST = {"plans": 200, "more": 300, "rows": 100, "bytes": 8193, "still": 20, "several": 100, "spared": 40, "tried": 300}
 IDS = ["a", "b", "c", "d", "e", "web-1", "db.2", "x" * 64]
 NO_IDS = [".", "..", "x" * 65, "a/b", "é", "a:b"]
 SIGNALS = ["KILL", "SIGKILL", "9", "TERM", "SIGTERM", "15", "HUP", "kill", "0", "09"]
@@ -235,6 +237,7 @@ def compared(program, seen, machine, slit, bundles, script):
     done = run(program, words, b"\n".join(script) + end)
     runtime = Runtime(Machine(machine, None if slit is None else read_slit(slit)), config_of)
     wrong = difference(runtime, script, done.stdout, seen.note) or doubted(program, done.stdout)
+    seen.numbers.update(runtime.seen)
     if wrong or done.returncode or done.stderr:
         sys.exit(f"compare: {machine!r}\n{bundles}\n{script}\n{wrong}\nstatus {done.returncode}, {done.stderr!r}")
 

@@ -1,22 +1,69 @@
-"""Plans of least cost for small problems, found one CPU at a time by cheapest moves, and prices that prove them; or rows
-that ask for more than they may have. A problem is a list of `(demand, {cpu: weight})`, a plan a list of sets."""
+"""Plans of least cost for small problems, found one CPU at a time by cheapest exchanges, and prices that prove them; or rows
+that ask for more than they may have. A problem is a list of `(demand, {cpu: weight})`, a plan a list of sets.
+
+Which plan moves the fewest CPUs depends on what each row holds, a list of sets beside the problem. Of weights that are
+distances `with_moves` makes those of a problem whose plans of least cost are of least distance and, among these, move the
+fewest CPUs; where the problem is small, `by_trying` finds both numbers in another way, by trying every plan."""
+
+import itertools
+import math
+
+SCALE = 65_536
+# So many sets at most are tried for the rows of a problem, one after another.
+TRIED = 20_000
 
 
-def cheapest_moves(rows, plan, start):
-    """Of all ways to give the row a CPU more, the moves `(row, cpu)` of the cheapest, the last of them to a CPU that nobody
-    holds; or, where there is none, the rows that were looked at."""
+def with_moves(rows, held):
+    """The problem in which a CPU weighs its distance many times, and one more where the row does not hold it."""
+    return [(demand, {cpu: SCALE * distance + (cpu not in has) for cpu, distance in distances.items()})
+            for (demand, distances), has in zip(rows, held)]
+
+
+def moved(plan, held):
+    """How many CPUs rows get that they do not hold."""
+    return sum(len(cpus - has) for cpus, has in zip(plan, held))
+
+
+def is_small(rows):
+    """Whether every plan can be tried."""
+    there, taken, work = len(set().union(*(weights for _, weights in rows))), 0, 0
+    for demand, _ in rows:
+        if work <= TRIED:
+            work += math.comb(there, taken) * math.comb(max(there - taken, 0), demand)
+            taken += demand
+    return work <= TRIED
+
+
+def by_trying(rows, held):
+    """The least distance of a plan and the fewest moves of a plan of that distance, by trying every plan; or None where there
+    is none."""
+    found = {frozenset(): (0, 0)}
+    for (demand, distances), has in zip(rows, held):
+        grown = {}
+        for taken, (distance, moves) in found.items():
+            for cpus in itertools.combinations(sorted(distances.keys() - taken), demand):
+                key = taken.union(cpus)
+                here = (distance + sum(distances[cpu] for cpu in cpus), moves + len(set(cpus) - has))
+                grown[key] = min(grown.get(key, here), here)
+        found = grown
+    return min(found.values(), default=None)
+
+
+def cheapest_exchanges(rows, plan, start):
+    """Of all ways to give the row a CPU more, what is taken in the cheapest, as `(row, cpu)`, last a CPU that nobody holds; or,
+    where there is none, the rows that were looked at."""
     holder = {cpu: k for k, cpus in enumerate(plan) for cpu in cpus}
     best = {start: (0, [])}
     for _ in rows:
-        for k, (cost, moves) in list(best.items()):
+        for k, (cost, taken) in list(best.items()):
             for cpu, weight in rows[k][1].items():
                 loser = holder.get(cpu, k)
                 if loser != k:
                     after = cost + weight - rows[loser][1][cpu]
                     if loser not in best or after < best[loser][0]:
-                        best[loser] = (after, moves + [(k, cpu)])
-    ends = [(cost + weight, cpu, moves + [(k, cpu)])
-            for k, (cost, moves) in best.items() for cpu, weight in rows[k][1].items() if cpu not in holder]
+                        best[loser] = (after, taken + [(k, cpu)])
+    ends = [(cost + weight, cpu, taken + [(k, cpu)])
+            for k, (cost, taken) in best.items() for cpu, weight in rows[k][1].items() if cpu not in holder]
     return (min(ends)[2], None) if ends else (None, sorted(best))
 
 
@@ -44,10 +91,10 @@ def work_out(rows):
     plan = [set() for _ in rows]
     for k, (demand, _) in enumerate(rows):
         for _ in range(demand):
-            moves, members = cheapest_moves(rows, plan, k)
+            taken, members = cheapest_exchanges(rows, plan, k)
             if members is not None:
                 return None, members
-            for row, cpu in reversed(moves):
+            for row, cpu in reversed(taken):
                 for cpus in plan:
                     cpus.discard(cpu)
                 plan[row].add(cpu)

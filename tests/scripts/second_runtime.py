@@ -2,14 +2,16 @@
 from docs/formats.md alone and by other means: it keeps its state in dictionaries, works sets out anew each time that they
 are asked for, and finds plans by `plain_plan`.
 
-A rebalance may choose among plans of least cost, or among shortages. Where it is told what the program is about to answer
-(`coming`), it goes on from the program's choice if that is allowed, and else raises `Wrong`; else it takes its own."""
+A rebalance may choose among plans of least distance that move the fewest CPUs, or among shortages. Where it is told what the
+program is about to answer (`coming`), it goes on from the program's choice if that is allowed, and else raises `Wrong`; else
+it takes its own. In `seen` it counts what the plans were that it judged."""
 
 import itertools
 import json
 import os
 import re
 import sys
+from collections import Counter
 
 sys.path.insert(0, os.path.join(os.path.dirname(__file__), "..", "certificates"))
 import plain_plan
@@ -342,6 +344,7 @@ class Runtime:
         self.underway = None
         self.outcome = None
         self.coming = None
+        self.seen = Counter()
 
     def answer(self, line):
         """The lines that answer a line."""
@@ -474,24 +477,24 @@ class Runtime:
     # Plans.
 
     def rows(self):
-        """The ids of the containers that are to be pinned, and what each asks for."""
+        """The ids of the containers that are to be pinned, what each asks for with the distance of each CPU, and what it holds."""
         found = {}
         for name, container in self.containers.items():
             demand = container.demand
             if self.live(container) and demand.count is not None:
-                allowed = demand.allowed & self.running_cpus
-                weights = self.machine.weights(demand.homes)
-                found[name] = (demand.count, {cpu: weights[cpu] for cpu in allowed})
-        return list(found), list(found.values())
+                distances = self.machine.weights(demand.homes)
+                allowed = {cpu: distances[cpu] for cpu in demand.allowed & self.running_cpus}
+                found[name] = ((demand.count, allowed), container.cpus)
+        return list(found), [row for row, _ in found.values()], [held for _, held in found.values()]
 
     def block(self):
         """What the program is about to answer, up to its `end`."""
         return self.coming[: self.coming.index("end") + 1] if "end" in self.coming else []
 
-    def work_out(self, names, rows):
-        """A plan of least cost, or the members of a shortage."""
+    def work_out(self, names, rows, held):
+        """A plan of least distance that moves the fewest CPUs, or the members of a shortage."""
         if self.coming is None:
-            return plain_plan.work_out(rows)
+            return plain_plan.work_out(plain_plan.with_moves(rows, held))
         words = [line.split(" ") for line in self.block()]
         ids = [word[1] for word in words if word[0] == "member" and len(word) == 2]
         if ids:
@@ -501,24 +504,33 @@ class Runtime:
             return None, members
         holds = {word[1]: numbers(word[2]) for word in words if word[0] == "hold" and len(word) == 3}
         plan = [holds.get(name, set()) for name in names]
-        self.judge(rows, plan)
+        self.judge(rows, held, plan)
         return plan, None
 
-    @staticmethod
-    def judge(rows, plan):
-        """Raises `Wrong` where a plan is none, not dealt, or not of least cost; small problems are solved, too."""
-        if not plain_plan.is_least(rows, plan):
-            raise Wrong(f"no dealt plan of least cost for {rows}: {plan}")
+    def judge(self, rows, held, plan):
+        """Raises `Wrong` where a plan is none, not dealt, not of least distance, or moves more CPUs than another of that distance.
+        Where problems are small, other ways to find that out are gone, too."""
+        weighed = plain_plan.with_moves(rows, held)
+        if not plain_plan.is_least(weighed, plan):
+            raise Wrong(f"no dealt plan of least distance and fewest moves for {rows}, of those who hold {held}: {plan}")
+        found = plain_plan.cost_of(rows, plan), plain_plan.moved(plan, held)
+        if plain_plan.is_small(rows):
+            self.seen["tried"] += 1
+            if plain_plan.by_trying(rows, held) != found:
+                raise Wrong(f"{plan} is {found}, and the best plan of {rows}, {held} is {plain_plan.by_trying(rows, held)}")
         if len(rows) <= SOLVED and sum(demand for demand, _ in rows) <= SOLVED_CPUS:
-            own, _ = plain_plan.work_out(rows)
-            if own is None or plain_plan.cost_of(rows, own) != plain_plan.cost_of(rows, plan):
-                raise Wrong(f"the plan of {rows} is {own}, not {plan}")
+            own, _ = plain_plan.work_out(weighed)
+            if own is None or plain_plan.cost_of(weighed, own) != plain_plan.cost_of(weighed, plan):
+                raise Wrong(f"the plan of {rows}, {held} is {own}, not {plan}")
+            self.seen["spared"] += plain_plan.moved(plain_plan.work_out(rows)[0], held) > found[1]
+        self.seen["still"] += len(rows) > 1 and found[1] == 0
+        self.seen["several"] += 1 < found[1] < sum(demand for demand, _ in rows)
 
     def begin(self):
         self.settled()
-        names, rows = self.rows()
-        plan, members = self.work_out(names, rows)
-        self.outcome = (names, rows, plan, members)
+        names, rows, held = self.rows()
+        plan, members = self.work_out(names, rows, held)
+        self.outcome = (names, rows, held, plan, members)
         if plan is None:
             asked = sum(rows[k][0] for k in members)
             allowed = print_list(set().union(*(rows[k][1] for k in members)))
@@ -558,28 +570,30 @@ class Runtime:
     def certificate(self):
         if self.outcome is None:
             raise Refused("E101", "NoAnswer")
-        names, rows, plan, members = self.outcome
-        head = ["numarun-certificate 1"]
-        for name, (demand, weights) in zip(names, rows):
+        names, rows, held, plan, members = self.outcome
+        weighed = plain_plan.with_moves(rows, held)
+        head = ["numarun-certificate 2"]
+        for name, (demand, weights) in zip(names, weighed):
             offers = [(weight, [cpu for cpu in weights if weights[cpu] == weight]) for weight in sorted(set(weights.values()))]
             head.append(" ".join([f"row {name} {demand}"] + [f"{weight}:{print_list(cpus)}" for weight, cpus in offers]))
         if plan is None:
             return head + [f"short {names[k]}" for k in members] + ["end"]
+        total = f"total {plain_plan.cost_of(rows, plan)} moves {plain_plan.moved(plan, held)}"
         if self.coming is not None:
-            if not self.proves(self.block(), head, names, plan):
-                raise Wrong(f"no certificate of {head} and {plan}: {self.block()}")
+            if not self.proves(self.block(), head, names, plan, total):
+                raise Wrong(f"no certificate of {head}, {plan} and {total}: {self.block()}")
             return self.block()
-        values, price = plain_plan.proof(rows, plan)
+        values, price = plain_plan.proof(weighed, plan)
         holds = [f"hold {name} {print_list(cpus)} {value}" for name, cpus, value in zip(names, plan, values)]
         prices = [f"price {amount} {cpu}" for cpu, amount in sorted(price.items()) if amount]
-        return head + holds + prices + [f"total {plain_plan.cost_of(rows, plan)}", "end"]
+        return head + holds + prices + [total, "end"]
 
     @staticmethod
-    def proves(told, head, names, plan):
-        """Whether what the program tells is a certificate of these rows and this plan."""
+    def proves(told, head, names, plan, total):
+        """Whether what the program tells is a certificate of these rows, this plan and this total."""
         holds = [f"hold {name} {print_list(cpus)}" for name, cpus in zip(names, plan)]
         lines = [line.rsplit(" ", 1)[0] for line in told[len(head) :][: len(plan)]]
-        return told[: len(head)] == head and lines == holds and check("\n".join(told + [""]).encode()).startswith("plan")
+        return told[: len(head)] == head and lines == holds and check("\n".join(told + [""]).encode()) == f"plan {total}"
 
 
 def numbers(word):

@@ -64,9 +64,11 @@ def short_commands(program):
     """Commands that end with one answer: each read of their input fails in turn, each write of one byte, and the one write that
     the answer is."""
     certificate = b"numarun-certificate 1\nrow a 1 10:1\nhold a 1 10\ntotal 10\nend\n"
+    moves = b"numarun-certificate 2\nrow a 1 655360:1\nhold a 1 655360\ntotal 10 moves 0\nend\n"
     table = b"SLIT\x30\0\0\0\x01\x53" + bytes(26) + b"\x02\0\0\0\0\0\0\0\x0a\x15\x15\x0a"
     commands = [
         (["check"], certificate, 0, b"plan total 10\n"), (["check", "-"], certificate[:-4], 1, b"refused E77 BadText 5\n"),
+        (["check"], moves, 0, b"plan total 10 moves 0\n"), (["check", "-"], moves[:-13], 1, b"refused E77 BadText 4\n"),
         (["slit", "-"], table, 0, b"localities 2\n10 21\n21 10\n"), (["list", "0-2,7"], b"", 0, b"0-2,7\n"),
         (["list", "5-3"], b"", 1, b"refused E12 Descending 0\n"), (["--version"], b"", 0, b"numarun 0.1.0\n"),
     ]

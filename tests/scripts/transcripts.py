@@ -117,10 +117,13 @@ def difference(runtime, script, output, note=lambda line, answer: None):
     return f"more than was asked for: {found[at:]}" if at < len(found) else None
 
 
-def answer_to(outcome):
-    """What a check answers to the certificate of an outcome, by the outcome's first line."""
+def answer_to(outcome, certificate):
+    """What a check answers to the certificate of an outcome, by the outcome's first line; the moves are told by the certificate
+    alone."""
     words = outcome.split(" ")
-    return outcome if words[0] == "plan" else f"short demand {words[2]} cpus {len(numbers(words[4]))}"
+    if words[0] == "plan":
+        return outcome + " moves " + certificate[-2].rstrip("\n").split(" ")[-1]
+    return f"short demand {words[2]} cpus {len(numbers(words[4]))}"
 
 
 def doubted(program, output):
@@ -129,13 +132,13 @@ def doubted(program, output):
     for line in output.decode("utf-8", "backslashreplace").split("\n"):
         if line.startswith(("plan total ", "short demand ")):
             outcome = line
-        elif line == "numarun-certificate 1":
+        elif line == "numarun-certificate 2":
             certificate = []
         if certificate is not None:
             certificate.append(line + "\n")
             if line == "end":
                 done = run(program, ["check"], "".join(certificate).encode())
-                if (done.returncode, done.stdout.decode()) != (0, answer_to(outcome) + "\n"):
+                if (done.returncode, done.stdout.decode()) != (0, answer_to(outcome, certificate) + "\n"):
                     return f"{outcome}: its certificate is answered by {done}: {certificate}"
                 certificate = None
     return None

@@ -10,7 +10,7 @@ HERE = os.path.dirname(os.path.abspath(__file__))
 sys.path[:0] = [os.path.join(HERE, ".."), os.path.join(HERE, "..", "certificates"), os.path.join(HERE, "..", "scripts")]
 import plain_plan
 from program import run
-from reference import check, least_cost, numbers, read
+from reference import SCALE, check, least_cost, numbers, read
 
 PROBLEMS = 3000
 # As many as there may be.
@@ -25,7 +25,8 @@ def made():
     for k in range(random.choice((0, 1, 2, 2, 3, 3, 4, 4))):
         weights = {}
         for group in random.sample(groups, random.randint(1, 3)) + [random.sample(cpus, random.randint(0, len(cpus)))]:
-            weight = random.choice((random.randint(0, 3), random.randint(10, 30), random.randint(0, 33_554_431)))
+            moves = SCALE * random.randint(1, 3) + random.randint(0, 1)
+            weight = random.choice((random.randint(0, 3), random.randint(10, 30), random.randint(0, 33_554_431), moves, moves))
             weights.update(dict.fromkeys(group, weight))
         by_weight = {}
         for cpu, weight in weights.items():
@@ -118,7 +119,7 @@ def faults(rows, answer):
     if check(text) != f"plan total {least}":
         yield f"{check(text)}, and the least plan costs {least}"
         return
-    _, sets, prices, _, _ = read(text)
+    _, sets, prices, *_ = read(text)
     owner = {cpu: k for k, (s, _) in enumerate(sets) for cpu in s}
     for twin in twins:
         owners = [owner.get(cpu, len(rows)) for cpu in twin]
