@@ -1,0 +1,11 @@
+#!/usr/bin/env bash
+# Counts the CPUs that change hands when a container or a CPU goes or comes, on the recorded machines and on a made one: run.sh [MIXES]
+# PROGRAM in the environment is run in place of the one that this builds.
+set -eu
+here=$(cd "$(dirname "$0")" && pwd)
+top=$(cd "$here/../.." && pwd)
+case ${1:-} in
+    -h | --help) exec python3 -B "$here/measure.py" --help ;;
+esac
+. "$top/tests/build-program.sh"
+exec python3 -B "$here/measure.py" "$program" "$@"
