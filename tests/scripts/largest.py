@@ -1,7 +1,7 @@
 """Runs scripts at each limit: `largest.py PROGRAM`. 1,024 containers with ids of 64 bytes on 4,096 CPUs and 128 nodes all have
-a plan, with CPU lists of their own, and a hand-over to it; then all of them lack CPUs together. The machine file, a config and
-lines of the script are as long as may be, and the stack is an eighth of what is common. Answers are the second runtime's, and
-what is counted here."""
+a plan, with CPU lists of their own, and a hand-over to it; then all of them lack CPUs together; and one has an offer of what it
+holds and one of what it doesn't on each node. The machine file, a config and lines of the script are as long as may be, and the
+stack is an eighth of what is common. Answers are the second runtime's, and what is counted here."""
 
 import json
 import os
@@ -93,6 +93,16 @@ def one_has_all():
     return told, None, bundles, script
 
 
+def held_in_part():
+    """One container holds half of each node, and each node has another distance, when the other halves come online: its row has
+    two offers for each node, and it moves to the nearer half of the nodes, of which it holds a half."""
+    nodes = [print_list(set(range(n, CPUS, NODES))) for n in range(NODES)]
+    rows = [[10 if i == j else 11 + abs(i - j) for j in range(NODES)] for i in range(NODES)]
+    told = json.dumps({"nodes": nodes, "distances": rows, "reserved": "0", "offline": f"{CPUS // 2}-{CPUS - 1}"}).encode()
+    script = [b"create a b0", b"rebalance"] + [b"online %d" % cpu for cpu in range(CPUS // 2, CPUS)] + [b"rebalance", b"certificate"]
+    return told, None, {"b0": config({"quota": (CPUS // 2 - 1) * 100_000, "mems": "0"})}, script
+
+
 class Told:
     """What the answers said, by their first words."""
 
@@ -145,6 +155,11 @@ def main(program):
     told = compared(program, *one_has_all())
     expect("a whole machine", told.answers["sets"][0], ["cpus 0-2047,2049-4095 effective 0-2047,2049-4095 mems 0-1 effective 0-1"])
     expect("a lack", told.answers["rebalance"][1][0], "short demand 8191 allowed 0-2047,2049-4095")
+    told = compared(program, *held_in_part())
+    nearer = 10 * (CPUS // NODES - 1) + CPUS // NODES * sum(11 + away for away in range(1, NODES // 2))
+    expect("a plan of halves", told.answers["rebalance"][1][0], f"plan total {nearer}")
+    expect("its moves", told.answers["certificate"][0][-2], f"total {nearer} moves {CPUS // 4}")
+    expect("its offers", len(told.answers["certificate"][0][1].split()) - 3, 2 * NODES)
     print(f"largest: {CONTAINERS} containers on {CPUS} CPUs and {NODES} nodes have a plan, and lack CPUs")
 
 
