@@ -3,8 +3,8 @@
 In microseconds, the least of some: `typed` is the time from the line to the `end` of its answer, with what the pipe takes; `again`
 what one takes that has nothing to write, since it comes right behind another, in a script read from a file; and `solver` the
 solver on the same rows, as the node's certificate tells them. In thousands of instructions, where callgrind is there: `all` a
-rebalance, `writes` what it takes more than one behind it, `solver`, and `rest` what is left: rows, certificate, entries and the
-text of the answer. (The time of the writes is lost in that of a script.) The containers have their homes on one node: seven of
+rebalance, `writes` what it takes more than a `begin`, which plans and writes nothing, `solver`, and `rest` what is left: rows,
+certificate, entries and the text of the answer. (The time of the writes is lost in that of a script.) The containers have their homes on one node: seven of
 eight ask for 1 to 7 CPUs, which may be any or, with lists of their own, half of them by chance, the others for none of their
 own. The last line of each machine has the thousands of instructions that a `create` takes, with homes on one node, and on all
 nodes where the config names none."""
@@ -122,11 +122,11 @@ def instructions(words, text):
 
 
 def counted(program, tools, before, certificate):
-    """What a rebalance takes behind these lines, and right behind it, and its solver, in thousands of instructions."""
-    scripts = ["\n".join(before + ["rebalance"] * count + [""]).encode() for count in (0, 1, 2)]
-    none, one, two = (instructions([program, "run", "machine.json"], script) for script in scripts)
+    """What a rebalance takes behind these lines, a `begin` there, and its solver, in thousands of instructions."""
+    scripts = ["\n".join(before + more + [""]).encode() for more in ([], ["rebalance"], ["begin"])]
+    none, whole, begun = (instructions([program, "run", "machine.json"], script) for script in scripts)
     once, twice = (instructions([tools, "solve", times], certificate) for times in ("1", "2"))
-    return one - none, two - one, twice - once
+    return whole - none, begun - none, twice - once
 
 
 def created(program, containers):
@@ -154,8 +154,8 @@ def measure(program, tools, count, cpus, containers, own_lists):
             certificate = b"".join(shell.ask("certificate")[0])
             row = f"{name:24} {whole[k]:8.0f} {again(program, told, share):8.0f} {solver(tools, certificate, share):8.0f}"
             if shutil.which("valgrind"):
-                one, behind, alone = counted(program, tools, told, certificate)
-                row += f"   {one:8.0f} {one - behind:8.0f} {behind - alone:8.0f} {alone:8.0f}"
+                all_of_it, begun, alone = counted(program, tools, told, certificate)
+                row += f"   {all_of_it:8.0f} {all_of_it - begun:8.0f} {begun - alone:8.0f} {alone:8.0f}"
             print(row)
             told += ["rebalance"]
         shell.close()
