@@ -19,7 +19,7 @@ use Rattle.faults.specs.declared.OrMemory.{OrMemory}
 use Rattle.faults.specs.declared.OrMemory.TheVariants.{Memory, Fault}
 use Rattle.node.specs.declared.fault.NodeFault.{NodeFault}
 use Rattle.node.specs.declared.fault.NodeFault.TheVariants.{NotCreated, NotRunnable, NotLive, NotStopped, Kernel}
-use Rattle.node.specs.declared.reads.Sets.{Sets}
+use Rattle.node.specs.declared.sets.Sets.{Sets}
 use Rattle.node.specs.NodeState.{ContainerState, NodeState, container_of, is_underway}
 use Rattle.node.specs.Status.{is_live}
 use Rattle.node.specs.IsNode.{IsNode}
@@ -30,7 +30,7 @@ use Rattle.node.specs.declared.container.Container.{Container}
 use Rattle.node.specs.Viewed.{entry_seen, all_seen}
 use Rattle.node.specs.Listed.{entry_listed, listed}
 use Rattle.node.specs.Shown.{state_of, Shows}
-use Rattle.node.specs.Reads.{sets_at, HasSets}
+use Rattle.node.specs.Sets.{sets_at, HasSets}
 use Rattle.node.specs.Calls.{new_container, Created, NotLaunched, late_answer, Creates, is_created, StartCause, Starts, is_ending, KillCause, Kills, DeleteCause, Deletes}
 use Rattle.node.proofs.EventLemmas.{only_failed}
 use Rattle.node.proofs.DeleteLemmas.{there, delete_failed}

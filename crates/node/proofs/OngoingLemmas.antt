@@ -141,7 +141,7 @@ module _ (old new : KernelState) where
       handover = h.handover;
       reserved = h.reserved ∙ sym reserve;
       of = still_of o.targets.entries owners (all_map (EachKept old new) Dies (λ x c. c.dies) owners each) h.of;
-      since = all_since reserve o.targets.entries o.found
+      since = all_since reserve o.targets.entries o.requested_at_begin
           (of_entries old (λ x. requested_cpus new.tree x.group ≡ requested_cpus old.tree x.group) o.targets.entries owners h.of
           (all_map (EachKept old new) (λ x. requested_cpus new.tree x.holder.group ≡ requested_cpus old.tree x.holder.group) (λ x c. c.requested) owners each))
           h.since;

@@ -115,15 +115,15 @@ module _ (parent : Group) (owners : List Owner) where
         (subst (λ s. IsSafe new s (holders_of o.targets.entries)) reserve
         (leaves.safe (subst (λ s. IsSafe old s (holders_of o.targets.entries)) (sym g.reserved) (entries_safe old old.reserved o.targets.entries owners g.of h.safe))))
 
-    since : AllZip (IsSince new new.reserved) o.targets.entries o.found
+    since : AllZip (IsSince new new.reserved) o.targets.entries o.requested_at_begin
     since =
-        subst (λ s. AllZip (IsSince new s) o.targets.entries o.found) reserve
+        subst (λ s. AllZip (IsSince new s) o.targets.entries o.requested_at_begin) reserve
         (zip_map (λ e. (is_empty e.target ≡ false) × IsBetween o.targets.reserved old new e) (IsSince old o.targets.reserved) (IsSince new o.targets.reserved)
-        (λ e found p s. since_on old new o.targets.reserved g.handover.reserve e found p.0 p.1 s) o.targets.entries o.found
+        (λ e found p s. since_on old new o.targets.reserved g.handover.reserve e found p.0 p.1 s) o.targets.entries o.requested_at_begin
         (all_map2 (λ e. is_empty e.target ≡ false) (IsBetween o.targets.reserved old new) (λ e. (is_empty e.target ≡ false) × IsBetween o.targets.reserved old new e)
         (λ e t b. (t, b)) o.targets.entries g.handover.some
         (leaves.between old (all_of (IsBetween o.targets.reserved old old) (λ e. inl refl) o.targets.entries)))
-        (subst (λ s. AllZip (IsSince old s) o.targets.entries o.found) (sym g.reserved) g.since))
+        (subst (λ s. AllZip (IsSince old s) o.targets.entries o.requested_at_begin) (sym g.reserved) g.since))
 
     pub moved : Moved o old new
     moved = record {

@@ -47,5 +47,5 @@ plan_entries n sets = entries_in n.kernel (plan_pool n sets) n.containers sets
 abbrev pub opened : NodeState → List Ids → Ongoing
 opened n sets = record {
   targets = record { entries = plan_entries n sets; reserved = n.machine.reserved };
-  found = map (held n.kernel) (plan_entries n sets);
+  requested_at_begin = map (held n.kernel) (plan_entries n sets);
 }

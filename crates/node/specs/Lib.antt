@@ -25,7 +25,7 @@ pub mod Said
 pub mod Served
 pub mod Ending
 pub mod Making
-pub mod Reads
+pub mod Sets
 pub mod Listed
 pub mod Shown
 pub mod Viewed

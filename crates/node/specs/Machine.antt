@@ -19,7 +19,7 @@ use Rattle.node.specs.declared.container.Status.{Status}
 use Rattle.node.specs.declared.outcome.Outcome.{Outcome}
 use Rattle.node.specs.declared.outcome.Outcome.TheVariants.{Plan}
 use Rattle.node.specs.declared.phase.Phase.{Phase}
-use Rattle.node.specs.declared.reads.Sets.{Sets}
+use Rattle.node.specs.declared.sets.Sets.{Sets}
 use Rattle.node.specs.NodeState.{NodeState}
 use Rattle.node.specs.Owners.{owners_of}
 use Rattle.node.specs.IsNode.{IsOfMachine, IsNode}
@@ -28,7 +28,7 @@ use Rattle.node.specs.Calls.{Opens, Creates, Starts, Kills, Deletes}
 use Rattle.node.specs.Rebalance.{Begins, StepsOn, Rebalances, Moves, ShowsCertificate}
 use Rattle.node.specs.Shown.{Shows}
 use Rattle.node.specs.Listed.{listed}
-use Rattle.node.specs.Reads.{HasSets}
+use Rattle.node.specs.Sets.{HasSets}
 use Rattle.node.specs.Headline.{Headline}
 
 -- a call with its answer, or an event of the kernel with its answer; after the calls that may change something those that

@@ -34,7 +34,7 @@ pub record ContainerState : Type 0 where
 -- a hand-over that is open: its containers with what they are to have, and what each of their groups requested at first
 pub record Ongoing : Type 0 where
   pub targets : Targets
-  pub found : List Ids
+  pub requested_at_begin : List Ids
 
 -- the kernel and the machine; the group below which the containers' groups are; the containers by their ids, in the order
 -- in which they were created; the CPUs that no plan gave to a container; how the last hand-over stands, and itself while
@@ -115,7 +115,7 @@ container_code =
 -- a hand-over is stored as the pair of its fields
 abbrev pub ongoing_code : Coded Ongoing
 ongoing_code =
-    code_by (Targets × List Ids) (coded× targets_code sets_code) (λ o. (o.targets, o.found)) (λ p. record { targets = p.0; found = p.1 }) (λ _. refl)
+    code_by (Targets × List Ids) (coded× targets_code sets_code) (λ o. (o.targets, o.requested_at_begin)) (λ p. record { targets = p.0; requested_at_begin = p.1 }) (λ _. refl)
 
 -- a certificate is stored as one of the two tuples of what it holds
 abbrev pub Held : Type 0

@@ -36,7 +36,7 @@ pub record IsOngoing (k : KernelState) (owners : List Owner) (o : Ongoing) : Typ
   pub handover : IsHandover o.targets
   pub reserved : o.targets.reserved ≡ k.reserved
   pub of : AreOf k o.targets.entries owners
-  pub since : AllZip (IsSince k k.reserved) o.targets.entries o.found
+  pub since : AllZip (IsSince k k.reserved) o.targets.entries o.requested_at_begin
 
 -- a hand-over is open exactly while one is underway
 abbrev pub Stands : KernelState → List Owner → Bool → Option Ongoing → Type 0
@@ -46,5 +46,5 @@ Stands k owners underway None = underway ≡ false
 -- what a failed write leaves of a hand-over: each of its containers requests what it did at first, or what it keeps of that,
 -- or its target; and nothing else changed in the kernel but its counts
 pub record IsBroken (o : Ongoing) (old new : KernelState) : Type 0 where
-  pub since : AllZip (IsSince new new.reserved) o.targets.entries o.found
+  pub since : AllZip (IsSince new new.reserved) o.targets.entries o.requested_at_begin
   pub rest : KeepsRest o.targets old new

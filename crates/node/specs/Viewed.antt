@@ -16,4 +16,4 @@ all_seen entries = map entry_seen entries
 
 -- and a hand-over that is open
 abbrev pub seen_ongoing : Kept → Ongoing
-seen_ongoing o = record { targets = o.handover; found = o.found.items }
+seen_ongoing o = record { targets = o.handover; requested_at_begin = o.requested_at_begin.items }

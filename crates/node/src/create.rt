@@ -10,7 +10,7 @@ ghost use Rattle.node.specs.Leaves.{CreateLeaves, rise_or_memory};
 ghost use Rattle.node.specs.Written.{CreateWrites};
 
 use crate::container::Container;
-use crate::entries::{append, find, prepare};
+use crate::containers::{append, find, prepare};
 use crate::launch::launch;
 use crate::{CONTAINER_LIMIT, Node, NodeFault};
 use certificate_text::is_id;

@@ -1,10 +1,10 @@
 //! Containers on one machine: their lifecycle (OCI Runtime Specification 1.0.2, runtime.md) over a kernel that pins them.
 #![tactic(auto)]
 
-mod asking;
+mod begin;
 mod container;
+mod containers;
 mod create;
-mod entries;
 mod events;
 mod fault;
 mod launch;
@@ -13,11 +13,11 @@ mod lifecycle;
 mod list;
 mod node;
 mod ongoing;
-mod opening;
 mod outcome;
 mod phase;
 mod planning;
-mod reads;
+mod problem;
+mod sets;
 mod state;
 mod stepping;
 
@@ -28,7 +28,7 @@ pub use list::Listing;
 pub use node::{GROUP_NAME, Node, NotOpened};
 pub use outcome::Outcome;
 pub use phase::Phase;
-pub use reads::Sets;
+pub use sets::Sets;
 
 /// How many containers there may be, stopped ones included.
 pub const CONTAINER_LIMIT: usize = 1_024;

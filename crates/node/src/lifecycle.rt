@@ -6,7 +6,7 @@ ghost use Rattle.node.specs.Written.{one_write};
 ghost use Rattle.node.specs.Viewed.{seen};
 
 use crate::container::Container;
-use crate::entries::{find, mark_started, take_out};
+use crate::containers::{find, mark_started, take_out};
 use crate::{Node, NodeFault};
 use kernel_model::Kernel;
 

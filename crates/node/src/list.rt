@@ -5,7 +5,7 @@ ghost use Rattle.node.specs.Listed.{listed};
 
 use crate::Node;
 use crate::container::{Container, Status};
-use crate::reads::status;
+use crate::sets::status;
 use indexmap::map::Iter;
 use kernel_model::Kernel;
 use std::marker::Model;

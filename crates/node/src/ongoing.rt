@@ -7,5 +7,5 @@ pub struct Ongoing {
     /// The containers with what they are to have.
     pub handover: Handover,
     /// What each of their groups requested when it began.
-    pub found: Vec<IdSet>,
+    pub requested_at_begin: Vec<IdSet>,
 }

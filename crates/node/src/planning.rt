@@ -73,8 +73,8 @@ impl<K: Kernel + Drop> Node<K> {
         decide(self.alloc, self.problem()?, true)
     }
 
-    /// Works out a plan or a shortage, and opens the hand-over to a plan.
-    fn work_out(&mut self) -> Result<Outcome, AllocError>
+    /// Plans, and opens the hand-over to the plan; or finds a shortage.
+    fn plan_and_open(&mut self) -> Result<Outcome, AllocError>
         requires { is_underway self.old.phase ≡ false }
         ensures { WorksOut self.old result self.new }
     {
@@ -110,7 +110,7 @@ impl<K: Kernel + Drop> Node<K> {
         if self.phase.is_underway() {
             return Err(OrMemory::Fault(NodeFault::Busy));
         }
-        match self.work_out() {
+        match self.plan_and_open() {
             Ok(outcome) => Ok(outcome),
             Err(_) => Err(OrMemory::Memory),
         }

@@ -6,8 +6,8 @@ ghost use Rattle.node.specs.Shown.{live_data, stopped_data, state_of, Shows};
 ghost use Rattle.node.specs.Viewed.{seen};
 
 use crate::container::{Container, Status};
-use crate::entries::find;
-use crate::reads::status;
+use crate::containers::find;
+use crate::sets::status;
 use crate::{Node, NodeFault};
 use faults::OrMemory;
 use kernel_model::Kernel;

@@ -11,7 +11,7 @@ use Rattle.node.specs.declared.fault.NodeFault.TheVariants.{Kernel}
 use Rattle.node.specs.declared.container.Status.{Status}
 use Rattle.node.specs.declared.phase.Phase.{Phase}
 use Rattle.node.specs.declared.phase.Phase.TheVariants.{Settled, Underway, Unsettled}
-use Rattle.node.specs.declared.reads.Sets.{Sets}
+use Rattle.node.specs.declared.sets.Sets.{Sets}
 use Rattle.node.specs.Shown.{status_text}
 use Rattle.runtime.specs.RefusalLine.{refusal_line}
 use Rattle.runtime.specs.declared.refusal.Refusal.{Refusal}

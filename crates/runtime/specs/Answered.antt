@@ -8,14 +8,14 @@ use Rattle.faults.specs.declared.or_memory.OrMemory.{OrMemory}
 use Rattle.kernel_model.specs.declared.fault.KernelFault.{KernelFault}
 use Rattle.kernel_model.specs.Cases.{Forks, Exits, GoesOffline, ComesOnline}
 use Rattle.node.specs.declared.fault.NodeFault.{NodeFault}
-use Rattle.node.specs.declared.reads.Sets.{Sets}
+use Rattle.node.specs.declared.sets.Sets.{Sets}
 use Rattle.node.specs.declared.outcome.Outcome.{Outcome}
 use Rattle.node.specs.NodeState.{NodeState}
 use Rattle.node.specs.Calls.{Creates, Starts, Kills, Deletes}
 use Rattle.node.specs.Rebalance.{Begins, StepsOn, Rebalances, ShowsCertificate}
 use Rattle.node.specs.Written.{CreateWrites}
 use Rattle.node.specs.Machine.{InKernel}
-use Rattle.node.specs.Reads.{HasSets}
+use Rattle.node.specs.Sets.{HasSets}
 use Rattle.node.specs.Listed.{listed}
 use Rattle.node.specs.Shown.{Shows}
 use Rattle.script.specs.Commands.{Asked}

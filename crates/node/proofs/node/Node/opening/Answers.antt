@@ -2,8 +2,8 @@ use Rattle.std.proofs.Common.{rules}
 use Rattle.node.proofs.PlanLemmas.{entries_placed, entries_handed, opened_stands}
 use Rattle.node.proofs.node.Node.opening.Goals as goal
 
-pub found_of-requires : goal.found_of-requires
-found_of-requires g c =
+pub requests_of-requires : goal.requests_of-requires
+requests_of-requires g c =
     entries_placed _ _ c.self.view_is c.self.invariant c.rows_weigh.ensures c.args.sets.now c.requires c.pool_of-pool.result (search rules) c.deref.result.now (search rules)
 
 pub new-handover-requires : goal.new-handover-requires

@@ -1,7 +1,7 @@
 use Rattle.std.proofs.Common.{All}
 use Rattle.rows.specs.CachedOffers.{IsCached}
 use Rattle.node.proofs.AskingLemmas.{IsSoFar}
-use Rattle.node.proofs.asking.rows_in.Given as goal
+use Rattle.node.proofs.problem.rows_in.Given as goal
 
 -- the rows so far, and the offers that were worked out for them
 abbrev pub invariant-loop-id : goal.invariant-loop-id

@@ -1,7 +1,7 @@
 use Rattle.std.proofs.lemmas.Map.Iter.{rest_all}
 use Rattle.std.specs.Map.Iter.{deref_pair}
 use Rattle.node.proofs.AskingLemmas.{IsProblem, all_made}
-use Rattle.node.proofs.asking.rows_in.Goals as goal
+use Rattle.node.proofs.problem.rows_in.Goals as goal
 
 pub returns : goal.returns
 returns g c =

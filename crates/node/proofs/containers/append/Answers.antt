@@ -1,7 +1,7 @@
 use Rattle.std.proofs.Common.{◌∙◌, ap}
 use Rattle.node.specs.Viewed.{all_seen}
 use Rattle.node.proofs.ContainerLemmas.{pushed, not_kept}
-use Rattle.node.proofs.entries.append.Goals as goal
+use Rattle.node.proofs.containers.append.Goals as goal
 
 pub returns : goal.returns
 returns c =

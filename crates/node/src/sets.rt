@@ -3,10 +3,10 @@ ghost use Rattle.std.specs.Prelude.{◌≡◌, true};
 ghost use Rattle.cpuset_tree.specs.Groups.{has_group};
 ghost use Rattle.node.specs.Status.{status_of};
 ghost use Rattle.node.specs.Viewed.{seen};
-ghost use Rattle.node.specs.Reads.{sets_at, HasSets};
+ghost use Rattle.node.specs.Sets.{sets_at, HasSets};
 
 use crate::container::{Container, Status};
-use crate::entries::find;
+use crate::containers::find;
 use crate::{Node, NodeFault};
 use cpu_set::IdSet;
 use kernel_model::{Group, Kernel};

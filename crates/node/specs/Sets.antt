@@ -6,7 +6,7 @@ use Rattle.cpuset_tree.specs.Effective.{effective_cpus, effective_mems}
 use Rattle.kernel_model.specs.KernelState.{KernelState}
 use Rattle.node.specs.declared.fault.NodeFault.{NodeFault}
 use Rattle.node.specs.declared.fault.NodeFault.TheVariants.{NoContainer}
-use Rattle.node.specs.declared.reads.Sets.{Sets}
+use Rattle.node.specs.declared.sets.Sets.{Sets}
 use Rattle.node.specs.NodeState.{ContainerState, NodeState, container_of}
 
 -- the sets of a group

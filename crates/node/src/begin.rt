@@ -84,19 +84,19 @@ fn entries_in<K: Kernel>(
 }
 
 /// What the groups of the entries request.
-fn found_of<K: Kernel>(
+fn requests_of<K: Kernel>(
     alloc: Global,
     kernel: &K,
     entries: &[Entry],
 ) -> Result<Vec<IdSet>, AllocError>
     requires { ArePlaced (K.state kernel.now) entries.now }
-    ensures { IfOk result (λ found. found.items ≡ map (held (K.state kernel.now)) entries.now) }
+    ensures { IfOk result (λ requests. requests.items ≡ map (held (K.state kernel.now)) entries.now) }
 {
-    let mut found = Vec::with_capacity(alloc, entries.len())?;
+    let mut requests = Vec::with_capacity(alloc, entries.len())?;
     for entry in entries {
-        found.push(*requested(kernel, entry.group))?;
+        requests.push(*requested(kernel, entry.group))?;
     }
-    Ok(found)
+    Ok(requests)
 }
 
 impl<K: Kernel + Drop> Node<K> {
@@ -117,8 +117,11 @@ impl<K: Kernel + Drop> Node<K> {
         rows::laws::rows_weigh();
         let pool = pool_of(&self.kernel.online(), sets);
         let entries = entries_in(self.alloc, &self.kernel, &self.containers, sets, &pool)?;
-        let found = found_of(self.alloc, &self.kernel, &entries)?;
+        let requested_at_begin = requests_of(self.alloc, &self.kernel, &entries)?;
         let handover = Handover::new(entries, self.machine.reserved());
-        Ok((pool, Ongoing { handover, found }))
+        Ok((pool, Ongoing {
+            handover,
+            requested_at_begin,
+        }))
     }
 }

@@ -6,7 +6,7 @@ use Rattle.std.specs.Str.{bytes_eq}
 use Rattle.node.specs.NodeState.{ContainerState}
 use Rattle.node.specs.Viewed.{all_seen, seen}
 use Rattle.node.proofs.ContainerLemmas.{written, looked_up}
-use Rattle.node.proofs.entries.mark_started.Goals as goal
+use Rattle.node.proofs.containers.mark_started.Goals as goal
 
 pub returns-in-Some : goal.returns-in-Some
 returns-in-Some c = λ x found.
