@@ -8,7 +8,7 @@ use kernel_model::{FusedKernel, Kernel, ModelKernel};
 use machine::Machine;
 use node::Node;
 use runtime::{BundleList, FIRST_PID, Runner};
-use script::run_script;
+use script::{ScriptFault, run_script};
 use std::fs;
 use std::io::ErrorKind;
 use std::rt::Files;
@@ -121,12 +121,6 @@ fn answer<R: AllocGlobal + Print, K: Kernel + Drop>(
     runner: Runner<K, BundleList<'_>>,
     script: &str,
 ) -> Result<()> {
-    let mut runner = runner;
-    let mut tape = Tape {
-        rest: script.as_bytes(),
-        most: streams.most,
-        fault: streams.read,
-    };
     let mut paper = Paper {
         taken: Vec::new(rt.alloc()),
         width: streams.width,
@@ -134,8 +128,24 @@ fn answer<R: AllocGlobal + Print, K: Kernel + Drop>(
         fault: streams.write,
         stuck: streams.stuck,
     };
-    let ended = run_script(&mut runner, &mut tape, &mut paper);
+    let ended = played(streams, runner, script, &mut paper);
     println!(rt; "{ended:?}")?;
     rt.print(str::from_utf8(paper.taken.as_slice())?)?;
     Ok(())
+}
+
+/// How the script ended; its answers are on the paper.
+fn played<K: Kernel + Drop>(
+    streams: &Streams,
+    runner: Runner<K, BundleList<'_>>,
+    script: &str,
+    paper: &mut Paper,
+) -> Result<(), ScriptFault> {
+    let mut runner = runner;
+    let mut tape = Tape {
+        rest: script.as_bytes(),
+        most: streams.most,
+        fault: streams.read,
+    };
+    run_script(&mut runner, &mut tape, paper)
 }

@@ -2,7 +2,7 @@
 
 use crate::problems::{problem_of, problems_of};
 use anyhow::{Result, bail};
-use certificate::{Problem, rows_fit};
+use certificate::{Plan, Prices, Problem, rows_fit};
 use std::alloc::Global;
 use transport::{Answer, solve};
 
@@ -15,8 +15,7 @@ pub fn each<R: AllocGlobal + Print>(rt: &R, texts: &[u8]) -> Result<()> {
     Ok(())
 }
 
-/// Prints what comes of a problem: what each row holds and its value, the prices and the total, or the numbers of the
-/// rows that lack CPUs; and the turns.
+/// Prints what comes of a problem.
 fn one<R: AllocGlobal + Print>(rt: &R, problem: &Problem) -> Result<()> {
     if !rows_fit(problem.rows.as_slice()) {
         bail!("the rows are past their limits");
@@ -28,26 +27,47 @@ fn one<R: AllocGlobal + Print>(rt: &R, problem: &Problem) -> Result<()> {
             total,
             turns,
         } => {
-            for (set, value) in plan.sets.iter().zip(prices.values.as_slice()) {
-                let held = cpu_list::print(rt.alloc(), set)?;
-                println!(rt; "hold {held} {value}")?;
-            }
-            for at in 0..prices.of_cpu.len() {
-                let price = prices.of_cpu.price(at);
-                let cpus = cpu_list::print(rt.alloc(), &price.cpus)?;
-                let amount = price.amount;
-                println!(rt; "price {amount} {cpus}")?;
-            }
+            print_sets(rt, &plan, &prices)?;
+            print_prices(rt, &prices)?;
             println!(rt; "total {total}")?;
-            println!(rt; "turns {turns}")?;
+            print_turns(rt, turns)
         }
         Answer::Short { members, turns } => {
-            for k in members.as_slice() {
-                println!(rt; "short {k}")?;
-            }
-            println!(rt; "turns {turns}")?;
+            print_members(rt, members.as_slice())?;
+            print_turns(rt, turns)
         }
     }
+}
+
+/// What each row holds, and its value.
+fn print_sets<R: AllocGlobal + Print>(rt: &R, plan: &Plan, prices: &Prices) -> Result<()> {
+    for (set, value) in plan.sets.iter().zip(prices.values.as_slice()) {
+        let held = cpu_list::print(rt.alloc(), set)?;
+        println!(rt; "hold {held} {value}")?;
+    }
+    Ok(())
+}
+
+fn print_prices<R: AllocGlobal + Print>(rt: &R, prices: &Prices) -> Result<()> {
+    for at in 0..prices.of_cpu.len() {
+        let price = prices.of_cpu.price(at);
+        let cpus = cpu_list::print(rt.alloc(), &price.cpus)?;
+        let amount = price.amount;
+        println!(rt; "price {amount} {cpus}")?;
+    }
+    Ok(())
+}
+
+/// The numbers of the rows that lack CPUs.
+fn print_members<R: Print>(rt: &R, members: &[usize]) -> Result<()> {
+    for k in members {
+        println!(rt; "short {k}")?;
+    }
+    Ok(())
+}
+
+fn print_turns<R: Print>(rt: &R, turns: u64) -> Result<()> {
+    println!(rt; "turns {turns}")?;
     Ok(())
 }
 
