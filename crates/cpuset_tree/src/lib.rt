@@ -3,15 +3,15 @@
 //! `cpuset.mems` and `cpuset.mems.effective`.
 #![tactic(auto)]
 
-mod cpusets;
 mod fault;
 mod groups;
 pub mod laws;
 mod refresh;
+mod tree;
 
-pub use cpusets::Tree;
 pub use fault::TreeFault;
 pub use groups::Group;
+pub use tree::Tree;
 
 /// Each serial is below this one, which is never given.
 pub const SERIAL_LIMIT: u64 = u64::MAX;

@@ -7,7 +7,7 @@ use Rattle.std.proofs.Common.{◌≡◌, ap, ◌∙◌}
 use Rattle.cpuset_tree.specs.TreeState.{TreeState}
 use Rattle.cpuset_tree.specs.TreeChanges.{with_online}
 use Rattle.cpuset_tree.proofs.WriteLemmas.{SameHeld-from_kept, IsSound-refreshed, listed-kept}
-use Rattle.cpuset_tree.proofs.cpusets.Tree.set_online.Goals as goal
+use Rattle.cpuset_tree.proofs.tree.Tree.set_online.Goals as goal
 
 pub refresh-requires-clause-granted : goal.refresh-requires-clause-granted
 refresh-requires-clause-granted c =

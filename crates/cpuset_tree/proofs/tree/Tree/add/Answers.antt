@@ -17,7 +17,7 @@ use Rattle.cpuset_tree.proofs.ChangeLemmas.{not_found}
 use Rattle.cpuset_tree.proofs.SoundLemmas.{IsSound-room, IsSound-added, listed-added}
 use Rattle.std.proofs.lemmas.Option.{none-some}
 use Rattle.cpuset_tree.proofs.ParentLemmas.{AreParentsUpTo-added}
-use Rattle.cpuset_tree.proofs.cpusets.Tree.add.Goals as goal
+use Rattle.cpuset_tree.proofs.tree.Tree.add.Goals as goal
 
 -- a new group has all of its parent's
 all_of_parent : (online nodes : Ids) (groups : List GroupEntry) (p : Group) (n : Cgroup) → n.shares.value.cpus ≡ unrequested (effective (λ e. e.cpus) online groups p)

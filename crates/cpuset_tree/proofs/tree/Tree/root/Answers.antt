@@ -6,7 +6,7 @@ use Rattle.cpuset_tree.specs.TreeWellFormed.{IsWellFormed}
 use Rattle.cpuset_tree.specs.TreeLaws.{RunsUpThePath}
 use Rattle.cpuset_tree.specs.WellFormedLemmas.{RunsUpThePath-well_formed}
 use Rattle.cpuset_tree.proofs.KeptLemmas.{IsFalling-listed}
-use Rattle.cpuset_tree.proofs.cpusets.Tree.root.Goals as goal
+use Rattle.cpuset_tree.proofs.tree.Tree.root.Goals as goal
 
 pub returns-clause-well_formed : goal.returns-clause-well_formed
 returns-clause-well_formed c =

@@ -9,7 +9,7 @@ use Rattle.cpuset_tree.proofs.NodeLemmas.{KeptThere, kept_there}
 use Rattle.cpuset_tree.proofs.ChangeLemmas.{listed-removed}
 use Rattle.cpuset_tree.proofs.SoundLemmas.{IsSound-removed}
 use Rattle.cpuset_tree.proofs.ParentLemmas.{AreParentsUpTo-removed}
-use Rattle.cpuset_tree.proofs.cpusets.Tree.take.Goals as goal
+use Rattle.cpuset_tree.proofs.tree.Tree.take.Goals as goal
 
 pub invariant_of-self : goal.invariant_of-self
 invariant_of-self c =

@@ -1,7 +1,7 @@
 use Rattle.std.proofs.Common.{◌≡◌, drop}
 use Rattle.cpuset_tree.specs.Groups.{has_child_among}
 use Rattle.cpuset_tree.specs.Kept.{listed}
-use Rattle.cpuset_tree.proofs.cpusets.Tree.has_children.Given as goal
+use Rattle.cpuset_tree.proofs.tree.Tree.has_children.Given as goal
 
 abbrev pub invariant-loop-place : goal.invariant-loop-place
 invariant-loop-place l =

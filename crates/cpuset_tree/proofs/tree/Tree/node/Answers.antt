@@ -6,8 +6,8 @@ use Rattle.cpuset_tree.specs.TreeState.{TreeState}
 use Rattle.cpuset_tree.specs.Groups.{same_group}
 use Rattle.cpuset_tree.specs.Kept.{IsKeptOf}
 use Rattle.cpuset_tree.proofs.NodeLemmas.{kept_of, none_kept}
-use Rattle.cpuset_tree.proofs.cpusets.Tree.node.Goals as goal
-use Rattle.cpuset_tree.proofs.cpusets.Tree.node.Goals.{in_default-via-in-Some+else-eq, in_default-via-in_default}
+use Rattle.cpuset_tree.proofs.tree.Tree.node.Goals as goal
+use Rattle.cpuset_tree.proofs.tree.Tree.node.Goals.{in_default-via-in-Some+else-eq, in_default-via-in_default}
 
 pub returns-in-Some : goal.returns-in-Some
 returns-in-Some c =

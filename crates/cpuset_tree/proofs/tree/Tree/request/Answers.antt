@@ -8,7 +8,7 @@ use Rattle.cpuset_tree.proofs.PlaceLemmas.{SamePlaces-from_kept}
 use Rattle.cpuset_tree.proofs.RefreshLemmas.{ElsewhereGranted-written, group_at-written}
 use Rattle.cpuset_tree.proofs.ParentLemmas.{AreParentsUpTo-same}
 use Rattle.cpuset_tree.proofs.WriteLemmas.{written_places, written_order, written_sound, listed-request, with_request_is}
-use Rattle.cpuset_tree.proofs.cpusets.Tree.request.Goals as goal
+use Rattle.cpuset_tree.proofs.tree.Tree.request.Goals as goal
 
 pub refresh_written-requires-clause-in_order : goal.refresh_written-requires-clause-in_order
 refresh_written-requires-clause-in_order c =

@@ -18,7 +18,7 @@ use Rattle.cpuset_tree.specs.Kept.{IsSound, HasParentAmong, KeepsEffective, entr
 use Rattle.cpuset_tree.specs.Effective.{standing, effective}
 use Rattle.cpuset_tree.proofs.KeptLemmas.{listed_at}
 use Rattle.cpuset_tree.proofs.ParentLemmas.{AreParentsUpTo-first}
-use Rattle.cpuset_tree.proofs.cpusets.Tree.new.Goals as goal
+use Rattle.cpuset_tree.proofs.tree.Tree.new.Goals as goal
 
 -- a slab of the root alone is sound
 first_sound : (old new : Slab Cgroup) (online nodes : Ids) (root : Group) (n : Cgroup) → Updates old new root.key (Some n) → ((k : ℕ) → get old k ≡ None)
