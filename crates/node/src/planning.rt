@@ -155,8 +155,8 @@ impl<K: Kernel + Drop> Node<K> {
 
     /// Works out a plan of the live containers and moves them onto it, so that each one that asks for CPUs of its own has
     /// as many as it asks for, all allowed, online and in nobody else's set, at a total distance to the home nodes that no
-    /// plan undercuts; among all plans of that total none moves fewer CPUs; the others share the pool. Where there is no plan, a shortage names containers that together ask
-    /// for more CPUs than they are allowed, and nothing is written.
+    /// plan undercuts; among all plans of that total none moves fewer CPUs; the others share the pool. Where there is no
+    /// plan, a shortage names containers that together ask for more CPUs than they are allowed, and nothing is written.
     ///
     /// All memory is taken before the first write.
     ///
