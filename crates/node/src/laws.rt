@@ -72,8 +72,9 @@ pub fn each_create()
 /// The headline: what a rebalance leaves, after any list of calls and events; nothing runs.
 ///
 /// After a plan each live container has exactly the CPUs that it asked for, all allowed and none shared, at a total
-/// distance to the home nodes that no plan undercuts, and what the kernel has in effect is that plan; among all plans of that
-/// total none moves fewer CPUs; the pool is the online CPUs that it leaves. A shortage names containers that together ask for more CPUs than they are allowed.
+/// distance to the home nodes that no plan undercuts, and what the kernel has in effect is that plan; among all plans of
+/// that total none moves fewer CPUs; the pool is the online CPUs that it leaves. A shortage names containers that
+/// together ask for more CPUs than they are allowed.
 pub fn each_rebalance()
     ensures { RunsRebalance }
 {
