@@ -153,17 +153,25 @@ SCALED = [
     (text("row a 2 655360:4-5 655362:2-3", "hold a 4-5 655360", "total 1310720"), "plan total 1310720"),
     (text("row a 2 655360:4-5 655361:2-3", "hold a 4-5 655360", "total 20 moves 0"), bad(4)),
 ]
+# A fault each; with 655362 for 655361 there is E70 in its place.
+LATER = [
+    (stays(3, "hold a 4,6 655360"), "refused E72 NotAllowed 0 6"), (stays(3, "hold a 4-5 655361"), "refused E74 ValueTooHigh 0 4"),
+    (version_2("row a 1 0:4 655361:2", "row b 1 0:4", "hold a 4 0", "hold b 4 0", "total 0 moves 0"), "refused E73 HeldTwice 4"),
+    (stays(4, "total 20 moves 1"), GAP),
+]
+LATER += [(told.replace(b"655361", b"655362"), PROBLEM) for told, _ in LATER]
 # CPU 3, which went, is back, so a container that held 1-2 and 4 comes home: to keep 4 is farther, though it moves nothing.
 HOME = "row a 3 655360:1-2 655361:3 1376256:4 1376257:5-7"
+COMES_HOME = version_2(HOME, "hold a 1-3 655361", "price 1 1-2", "total 30 moves 1")
 PROVED = [
     (whole(*STAYS), "plan total 20 moves 0"), (stays(3, "hold a 2-3 655360"), GAP),
     (stays(3, "hold a 2-3 655361"), "refused E74 ValueTooHigh 0 4"),
-    (version_2(HOME, "hold a 1-3 655361", "price 1 1-2", "total 30 moves 1"), "plan total 30 moves 1"),
+    (COMES_HOME, "plan total 30 moves 1"),
     (version_2(HOME, "hold a 1-3 655361", "price 1 1-2", "total 30 moves 0"), GAP),
     (version_2(HOME, "hold a 1-2,4 655361", "price 1 1-2", "total 41 moves 0"), GAP),
     (version_2(HOME, "hold a 1-2,4 1376256", "price 720896 1-2", "total 41 moves 0"), "refused E74 ValueTooHigh 0 3"),
 ]
-FRONTS = [(front, bad(front.count(b"\n") + 1)) for told in (whole(*STAYS), lacking("row c 1 1:3")) for front in (
+FRONTS = [(front, bad(front.count(b"\n") + 1)) for told in (whole(*STAYS), COMES_HOME, lacking("row c 1 1:3")) for front in (
     told[:end] for end in range(len(told)))]
 
-TEXTS += PROVED + [(stays(4, line), answer) for line, answer in TOTALS] + SCALED + FRONTS
+TEXTS += PROVED + [(stays(4, line), answer) for line, answer in TOTALS] + SCALED + LATER + FRONTS
