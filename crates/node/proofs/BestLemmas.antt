@@ -42,7 +42,7 @@ use Rattle.node.proofs.ListLemmas.{all_of}
 
 -- the best sets are a least plan of the rows
 module _ (n : NodeState) (h : IsNode n) (weigh : RowsWeigh) (total : ℕ) (sets : List Ids) (best : IsBest n total sets) where
-  pub best_plan : IsPlan (rows_of n) sets
+  best_plan : IsPlan (rows_of n) sets
   best_plan = could_plan n (home n.machine) (rows_of n) (rows_are_weighed n h weigh) sets best.could
 
   costs_far : (others : List Ids) → IsPlan (rows_of n) others → cost (rows_of n) others ≡ total_distance n others
@@ -189,7 +189,7 @@ module _ (n : NodeState) (h : IsNode n) (weigh : RowsWeigh) (parts : ScaledRowsW
         record {
           rows_are = refl;
           decides = d;
-          plan = best_plan n h weigh (whole / MOVE_SCALE) sets best;
+          least = best_least n h weigh (whole / MOVE_SCALE) sets best;
           best = best;
           parts = are_parts splits few nearest sets d.least whole d.proved.costs;
         }

@@ -247,11 +247,8 @@ module _ (old : NodeState) (h : IsNode old) (weigh : RowsWeigh) where
     proved = kept;
   }
 
-  begun_plan : (total : ℕ) (mid : NodeState) (b : Begun old total mid) → IsPlan (rows_of old) b.sets
-  begun_plan total mid b = best_plan old h weigh total b.sets b.best
-
   begun_is : (total : ℕ) (mid : NodeState) (b : Begun old total mid) → IsNode (underway old b.sets (Some (planned old b.sets b.prices b.whole)))
-  begun_is total mid b = begun_as b.sets (begun_plan total mid b) (planned old b.sets b.prices b.whole) b.kept
+  begun_is total mid b = begun_as b.sets b.least.plan (planned old b.sets b.prices b.whole) b.kept
 
   pub begun_node : (total : ℕ) (new : NodeState) → Begun old total new → IsNode new
   begun_node total new b = subst (λ (n : NodeState). IsNode n) (sym b.is) (begun_is total new b)
@@ -305,7 +302,7 @@ module _ (old : NodeState) (h : IsNode old) (weigh : RowsWeigh) where
         record {
           sets = m.begun.sets;
           total = total;
-          least = best_least old h weigh total m.begun.sets m.begun.best;
+          least = m.begun.least;
           best = m.begun.best;
           told = record { prices = m.begun.prices; whole = m.begun.whole; parts = m.begun.parts; is = b.last };
           broken = b.broken;

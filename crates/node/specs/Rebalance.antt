@@ -5,7 +5,7 @@ use Rattle.cpu_set.specs.Ids.{Ids}
 use Rattle.cpu_set.specs.Members.{InRange}
 use Rattle.certificate.specs.RowView.{RowView}
 use Rattle.certificate.specs.PricesView.{PricesView}
-use Rattle.certificate.specs.IsPlan.{IsPlan}
+use Rattle.certificate.specs.IsLeast.{IsLeast}
 use Rattle.certificate.specs.IsShortage.{asked, chosen, is_offered}
 use Rattle.certificate.specs.declared.limits.TheConstants.{MOVE_SCALE}
 use Rattle.certificate_text.specs.declared.certificates.Certificate.{Certificate}
@@ -35,7 +35,7 @@ use Rattle.node.specs.Entries.{plan_pool, opened}
 pub record IsAnswer (n : NodeState) (rows : List RowView) (sets : List Ids) (prices : PricesView) (whole : ℕ) : Type 0 where
   pub rows_are : rows ≡ scaled_rows_of n
   pub decides : DecidesPlan rows sets prices whole
-  pub plan : IsPlan (rows_of n) sets
+  pub least : IsLeast (rows_of n) sets
   pub best : IsBest n (whole / MOVE_SCALE) sets
   pub parts : AreParts whole (whole / MOVE_SCALE) (moved n sets)
 
@@ -43,14 +43,15 @@ abbrev pub ComesTo : NodeState → Certificate → Type 0
 ComesTo n (certificate.Plan rows sets prices whole scaled) = (scaled ≡ true) × IsAnswer n rows sets prices whole
 ComesTo n (certificate.Short rows members scaled) = (scaled ≡ true) × (rows ≡ scaled_rows_of n) × DecidesShort rows members
 
--- the best sets that the containers could have, as a least plan of the scaled rows, whose certificate can be written and proves
--- itself; its hand-over is open, and nothing is written yet
+-- the best sets that the containers could have, as a least plan of the rows and of the scaled rows, whose certificate can be
+-- written and proves itself; its hand-over is open, and nothing is written yet
 pub record Begun (old : NodeState) (total : ℕ) (new : NodeState) : Type 0 where
   pub sets : List Ids
   pub prices : PricesView
   pub whole : ℕ
   pub settled : is_underway old.phase ≡ false
   pub best : IsBest old total sets
+  pub least : IsLeast (rows_of old) sets
   pub decides : DecidesPlan (scaled_rows_of old) sets prices whole
   pub parts : AreParts whole total (moved old sets)
   pub kept : IsKept (planned old sets prices whole)

@@ -18,6 +18,7 @@ use Rattle.node.specs.Headline.{Headline, IsRebalanced, IsShort}
 use Rattle.node.specs.IsNode.{IsNode}
 use Rattle.node.specs.Listed.{listed}
 use Rattle.node.specs.NodeState.{NodeState}
+use Rattle.node.specs.Rebalance.{Begins, Begun}
 use Rattle.node.specs.Machine.{Event, Create, Start, Kill, Delete, Rebalance, Begin, StepOn, State, ListAll, SetsOf, Pool, PhaseIs, ShowCertificate, Fork, Exit, Offline, Online, Step, Run, RunsRebalance}
 use Rattle.script.specs.Commands.{Asked}
 use Rattle.script.specs.Commands as ask
@@ -145,6 +146,11 @@ ShortagesAreTold = (first old new : RuntimeState) (lines : List (List ℕ)) (tex
     → IsNode first.node → Runs Answered first lines text old → Answered old ask.rebalance (codes "short demand " ++ more) new
     → (wanted : ℕ) × (allowed : Ids) × IsShort old.node wanted allowed new.node × (codes "short demand " ++ more ≡ outcome_text new.node (Short wanted allowed))
 
+-- an answer to `begin` that begins so is the text of a plan too: the best that the containers could have, whose hand-over is open
+abbrev pub BegunAreTold : Type 0
+BegunAreTold = (old new : RuntimeState) (more : List ℕ) → Answered old ask.begin (codes "plan total " ++ more) new
+    → (total : ℕ) × Begun old.node total new.node × (codes "plan total " ++ more ≡ outcome_text new.node (Plan total))
+
 -- a rebalance in the midst of a script: what was answered before it and behind it, and that it left what the headline says
 pub record IsRebalanceOf (first : RuntimeState) (before after : List (List ℕ)) (text : List ℕ) (last : RuntimeState) : Type 0 where
   pub old : RuntimeState
@@ -254,6 +260,15 @@ pub plans_are_told : RunsRebalance → PlansAreTold
 plans_are_told leaves first old new lines text more node run answered =
     let told = rebalances_are_told leaves first old new lines text (codes "plan total " ++ more) node run answered in
     plan_told old.node new.node more told.0 told.1 told.2
+
+begun_told : (old new : NodeState) (more : List ℕ) (r : Result Outcome (OrMemory NodeFault)) → Begins old r new → codes "plan total " ++ more ≡ answer_text (outcome_text new) of_either r
+    → (total : ℕ) × Begun old total new × (codes "plan total " ++ more ≡ outcome_text new (Plan total))
+begun_told old new more (Ok (Plan total)) b e = (total, b, e)
+begun_told old new more (Ok (Short wanted allowed)) b e = absurd (let same : 112 ≡ 115 = ap (λ t. get_or t 0 0) e in let f : ⊥ = omega (arith, same) in f)
+begun_told old new more (Err error) b e = absurd (let same : 112 ≡ 114 = ap (λ t. get_or t 0 0) e in let f : ⊥ = omega (arith, same) in f)
+
+pub begun_are_told : BegunAreTold
+begun_are_told old new more ((r, b, e), same) = begun_told old.node new.node more r b e
 
 short_told : (old new : NodeState) (more : List ℕ) (r : Result Outcome (OrMemory NodeFault)) → Headline old r new → codes "short demand " ++ more ≡ answer_text (outcome_text new) of_either r
     → (wanted : ℕ) × (allowed : Ids) × IsShort old wanted allowed new × (codes "short demand " ++ more ≡ outcome_text new (Short wanted allowed))

@@ -3,7 +3,7 @@ ghost use Rattle.std.specs.Prelude.{◌≡◌};
 ghost use Rattle.runtime.specs.Boots.{BootsNodes};
 ghost use Rattle.runtime.specs.CertificatesTold.{CertificatesAreTold};
 ghost use Rattle.runtime.specs.ConfigsServed.{ScriptsServeConfigs};
-ghost use Rattle.runtime.specs.ScriptLaws.{CommandsAreCalls, LinesAreCalls, PlansAreTold, RebalancesAreTold, ScriptsRebalance, ShortagesAreTold};
+ghost use Rattle.runtime.specs.ScriptLaws.{BegunAreTold, CommandsAreCalls, LinesAreCalls, PlansAreTold, RebalancesAreTold, ScriptsRebalance, ShortagesAreTold};
 
 use crate::FIRST_PID;
 
@@ -17,12 +17,14 @@ pub fn lines_are_calls()
 /// The headline of a rebalance that a script asks for, whatever lines were answered before it: the text that answers it
 /// is that of an outcome or of a refusal, and the node is then as the headline says of this. A text that begins with
 /// `plan total` is a plan's: among all plans of that total none moves fewer CPUs. One that begins with `short demand` is a
-/// shortage's. So it is with each line of a whole script that asks for a rebalance.
+/// shortage's. So it is with each line of a whole script that asks for a rebalance. A text that answers `begin` and begins with
+/// `plan total` is that of a plan, than which none that the containers could have is nearer, and none as near moves fewer.
 pub fn rebalances_are_told()
     ensures told { RebalancesAreTold }
     ensures plans { PlansAreTold }
     ensures shortages { ShortagesAreTold }
     ensures scripts { ScriptsRebalance }
+    ensures begun { BegunAreTold }
 {
     node::laws::each_rebalance();
 }

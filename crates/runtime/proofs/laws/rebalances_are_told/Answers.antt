@@ -1,4 +1,4 @@
-use Rattle.runtime.specs.ScriptLaws.{plans_are_told, rebalances_are_told, scripts_rebalance, shortages_are_told}
+use Rattle.runtime.specs.ScriptLaws.{begun_are_told, plans_are_told, rebalances_are_told, scripts_rebalance, shortages_are_told}
 use Rattle.runtime.proofs.laws.rebalances_are_told.Goals as goal
 
 pub returns-clause-told : goal.returns-clause-told
@@ -12,3 +12,6 @@ returns-clause-scripts c = scripts_rebalance c.each_rebalance.ensures
 
 pub returns-clause-shortages : goal.returns-clause-shortages
 returns-clause-shortages c = shortages_are_told c.each_rebalance.ensures
+
+pub returns-clause-begun : goal.returns-clause-begun
+returns-clause-begun c = begun_are_told
