@@ -43,7 +43,8 @@ pub fn check_text(alloc: Global, text: &[u8]) -> Result<Verdict, OrMemory<Verdic
     // A yes: the text stands for a plan that values and prices prove to cost the written total, or for members that are
     // short by these counts.
     ensures proved { IfOk result (λ v. IsVerdict text.now v) }
-    // Hence no plan of the text's rows costs less, or they have none, whoever wrote the text.
+    // Hence no plan of the text's rows costs less, and in version 2 none is nearer and none as near moves fewer CPUs; or
+    // they have none, whoever wrote the text.
     ensures least { IfOk result (λ v. SaysLeast text.now v) }
     // A yes wherever that holds, unless memory runs out.
     ensures complete { (v : Verdict) → IsVerdict text.now v → IsAnswered result v }

@@ -46,7 +46,7 @@ use Rattle.node.proofs.ListLemmas.{all_map, all_map2, pairs_map, all_of_map, of_
 use Rattle.node.proofs.AskingLemmas.{short_stands}
 use Rattle.node.specs.Written.{live_count, RebalanceWrites}
 use Rattle.node.proofs.EntryCount.{entries_live}
-use Rattle.node.proofs.BestLemmas.{best_plan, best_costs, best_least}
+use Rattle.node.proofs.BestLemmas.{best_costs, best_least}
 use Rattle.node.proofs.FinishLemmas.{Settles, Breaks, settles, breaks}
 use Rattle.node.proofs.PlanLemmas.{IsDealt, over_targets, pool_has_rest, plan_serves, plan_parts, plan_effects, opened_ongoing, effects_later}
 
@@ -340,7 +340,7 @@ module _ (old : NodeState) (h : IsNode old) (weigh : RowsWeigh) where
           let made : new.kernel.writes ≡ old.kernel.writes + writes_to_come (opened old b.sets).targets old.kernel = s.made in
           record {
             exact = made ∙ ap (λ (ss : List Ids). old.kernel.writes + writes_to_come (opened old ss).targets old.kernel)
-                (sym (same_sets old h weigh effects b.sets (begun_plan total m.mid b) (Some (planned old b.sets b.prices b.whole)) new s));
+                (sym (same_sets old h weigh effects b.sets b.least.plan (Some (planned old b.sets b.prices b.whole)) new s));
             few = omega (arith, made, opened_few b.sets);
           }
       rebalance_makes (Ok (Short wanted allowed)) new l = ap (λ (n : NodeState). n.kernel.writes) l.is
@@ -355,7 +355,7 @@ module _ (old : NodeState) (h : IsNode old) (weigh : RowsWeigh) where
       pub rebalanced : (total : ℕ) (new : NodeState) → Moves old total (Ok tt) new → IsRebalanced old total new
       rebalanced total new m =
           let b = m.begun in
-          settled old h weigh effects b.sets (begun_plan total m.mid b) (Some (planned old b.sets b.prices b.whole)) new (moved_settles total new m) total b.best
+          settled old h weigh effects b.sets b.least.plan (Some (planned old b.sets b.prices b.whole)) new (moved_settles total new m) total b.best
           (record { prices = b.prices; whole = b.whole; parts = b.parts; is = refl })
 
       pub headline : ScaledRowsWeigh → (r : Result Outcome (OrMemory NodeFault)) (new : NodeState) → Rebalances old r new → Headline old r new
