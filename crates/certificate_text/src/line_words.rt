@@ -107,7 +107,7 @@ pub fn read_total(text: &[u8]) -> Option<Total>
     }
 }
 
-/// A distance is below this, so that it fits 64 bits together with the moves.
+/// A distance is below this, 2^48, so that it fits 64 bits together with the moves.
 const DISTANCE_LIMIT: u64 = 281_474_976_710_656;
 
 /// DISTANCE moves MOVES.

@@ -88,6 +88,7 @@ impl<T: Copy> TaggedSets<T> {
     {
         self.heads[at].tag
     }
+
     /// The ranges of a set.
     pub fn ranges(&self, at: usize) -> &[(u16, u16)]
         requires { at < length self.now }
@@ -100,6 +101,7 @@ impl<T: Copy> TaggedSets<T> {
         let end = self.heads[at].end;
         part_of(self.ranges.as_slice(), start, end)
     }
+
     /// A set, made of its ranges.
     pub fn cpus(&self, at: usize) -> IdSet
         requires { at < length self.now }
@@ -107,6 +109,7 @@ impl<T: Copy> TaggedSets<T> {
     {
         set_of(self.ranges(at))
     }
+
     /// The CPUs that are in one of the sets.
     pub fn all(&self) -> IdSet
         ensures { (n : ℕ) → set.contains result n ≡ in_any self.now n }
