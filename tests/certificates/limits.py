@@ -71,6 +71,29 @@ def allowed(count):
                | {cpu for n in range(8) for cpu in range(n, CPUS, 8) if cpu % 64 // 8 == n})
 
 
+def each_apart(priced=range(CPUS)):
+    """One row whose CPUs all weigh another number each, in as many offers, and prices that make up for it."""
+    offers = " ".join(f"{cpu}:{cpu}" for cpu in range(CPUS))
+    return text(f"row a {CPUS} {offers}", f"hold a 0-{CPUS - 1} {CPUS - 1}", *[f"price {CPUS - 1 - cpu} {cpu}" for cpu in priced],
+                f"total {CPUS * (CPUS - 1) // 2}")
+
+
+EVEN, ODD = (",".join(map(str, range(first, CPUS, 2))) for first in (0, 1))
+
+
+def every_other(demand=CPUS // 2, amount=1):
+    """A row of two offers that each have every other CPU, so as many ranges as there may be; it holds one of them."""
+    return one(f"row a {demand} 1:{EVEN} 2:{ODD}", f"hold a {EVEN} 2", f"price {amount} {EVEN}", f"total {CPUS // 2}")
+
+
+def many(count):
+    """Many more members, holds, offers and prices than a check takes up: they are read all the same."""
+    rows, names = [f"row r{k} 1 1:5" for k in range(count)], [f"r{k}" for k in range(count)]
+    return [text(*rows, *[f"short {it}" for it in names]), text(*rows, *[f"hold {it} 5 1" for it in names], "total 0"),
+            one("row a 1" + " 1:5" * count, "hold a 5 1", "price 0 5", "total 1"),
+            text("row a 1 1:5", "hold a 5 1", *["price 0 5"] * count, "total 1")]
+
+
 def half_zero(amount=VALUE):
     """A row of weight 0 whose value is a price alone, which is the largest one."""
     return valued(amount, amount)
@@ -152,4 +175,14 @@ ROWS = [
     (text(), bad(2)),
     (text("total 0"), "plan total 0"),
 ]
-TEXTS = PLAIN + NUMBERS + ROWS
+SIZES = [
+    (each_apart(), "plan total 8386560"),
+    (each_apart(range(1, CPUS)), "refused E74 ValueTooHigh 0 0"),
+    (each_apart([*range(CPUS), 7]), PROBLEM),
+    (every_other(), "plan total 2048"),
+    (every_other(amount=0), "refused E74 ValueTooHigh 0 0"),
+    (every_other(demand=2047), "refused E71 WrongCount 0"),
+    (text(f"row a 2049 1:{EVEN}", "short a"), "short demand 2049 cpus 2048"),
+    (text(f"row a 2048 1:{ODD}", "short a"), "refused E76 NoShortage"),
+] + [(told, PROBLEM) for told in many(20_000)]
+TEXTS = PLAIN + NUMBERS + ROWS + SIZES

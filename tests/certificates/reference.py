@@ -61,7 +61,7 @@ def read(text):
     """Rows (id, demand, offers), holds (set, value), prices (amount, set), the total (distance, and in version 2 moves), the
     members of a shortage, and whether it is version 2."""
     rows, holds, prices, total, members, scaled = [], [], [], None, [], False
-    lines = text.split(b"\n")
+    ids, lines = set(), text.split(b"\n")
     section = "head"
     for at, line in enumerate(lines, 1):
         words = line.split(b" ")
@@ -74,8 +74,9 @@ def read(text):
         if section == "head" and line in HEADS:
             section, scaled = "rows", HEADS[line]
         elif section == "rows" and words[0] == b"row" and len(words) >= 3:
-            if not is_id(words[1]) or any(words[1] == row[0] for row in rows):
+            if not is_id(words[1]) or words[1] in ids:
                 raise BadText(at)
+            ids.add(words[1])
             offers = []
             for word in words[3:]:
                 parts = word.split(b":")

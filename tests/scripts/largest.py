@@ -1,7 +1,8 @@
 """Runs scripts at each limit: `largest.py PROGRAM`. 1,024 containers with ids of 64 bytes on 4,096 CPUs and 128 nodes all have
-a plan, with CPU lists of their own, and a hand-over to it; then all of them lack CPUs together; and one has an offer of what it
-holds and one of what it doesn't on each node. The machine file, a config and lines of the script are as long as may be, and the
-stack is an eighth of what is common. Answers are the second runtime's, and what is counted here."""
+a plan, with CPU lists of their own, and a hand-over to it; then all of them lack CPUs together; one has an offer of what it
+holds and one of what it doesn't on each node; and two have every other CPU each. The machine file, a config, the name of a bundle
+and lines of the script are as long as may be, and the stack is an eighth of what is common. Answers are the second runtime's, and
+what is counted here."""
 
 import json
 import os
@@ -18,6 +19,8 @@ NODES, CPUS, CONTAINERS, TEXT, LINE = 128, 4096, 1024, 1_048_576, 8192
 FORKS = 65_400
 # Bytes.
 STACK = 1 << 20
+# A file's name, without the zero byte behind it.
+PATH = 4095
 
 
 def padded(text, length):
@@ -69,6 +72,7 @@ def planned(with_table):
     """All containers have a plan, are moved to it, and a CPU that goes leaves too few."""
     script = [b"create %s b%d" % (name(k).encode(), k) for k in range(CONTAINERS)]
     script[9] = longest(script[9])
+    script[200] = b"create %s %sb200" % (name(200).encode(), b"./" * ((PATH - len("b200/config.json")) // 2))
     script[100:100] = [b"create x too-long", longest(b"create x b1") + b" "]
     script += [b"create x b1", b"list", b"begin"] + [b"step"] * 200 + [b"phase", b"create x b1"] + [b"step"] * 2000
     script += [b"sets %s" % name(k).encode() for k in range(0, CONTAINERS, 20)] + [b"certificate", b"rebalance"]
@@ -101,6 +105,14 @@ def held_in_part():
     told = json.dumps({"nodes": nodes, "distances": rows, "reserved": "0", "offline": f"{CPUS // 2}-{CPUS - 1}"}).encode()
     script = [b"create a b0", b"rebalance"] + [b"online %d" % cpu for cpu in range(CPUS // 2, CPUS)] + [b"rebalance", b"certificate"]
     return told, None, {"b0": config({"quota": (CPUS // 2 - 1) * 100_000, "mems": "0"})}, script
+
+
+def every_other():
+    """Two containers have every other CPU each, so as many ranges as there may be."""
+    told = json.dumps({"nodes": ["0-2047", "2048-4095"], "distances": [[10, 20], [20, 10]], "reserved": "0"}).encode()
+    bundles = {f"b{first}": config({"cpus": print_list(set(range(first, CPUS, 2)))}) for first in (1, 2)}
+    script = [b"create a b1", b"create b b2", b"begin"] + [b"step"] * 3 + [b"sets a", b"sets b", b"certificate", b"kill a 9", b"rebalance"]
+    return told, None, bundles, script
 
 
 class Told:
@@ -160,6 +172,10 @@ def main(program):
     expect("a plan of halves", told.answers["rebalance"][1][0], f"plan total {nearer}")
     expect("its moves", told.answers["certificate"][0][-2], f"total {nearer} moves {CPUS // 4}")
     expect("its offers", len(told.answers["certificate"][0][1].split()) - 3, 2 * NODES)
+    told = compared(program, *every_other())
+    odd = ",".join(map(str, range(1, CPUS, 2)))
+    expect("every other CPU", told.answers["begin"][0][:2], [f"plan total {10 * (CPUS - 1)}", f"hold a {odd}"])
+    expect("its sets", told.answers["sets"][0], [f"cpus {odd} effective {odd} mems 0-1 effective 0-1"])
     print(f"largest: {CONTAINERS} containers on {CPUS} CPUs and {NODES} nodes have a plan, and lack CPUs")
 
 

@@ -1,5 +1,6 @@
-"""Runs a script that forks until every pid was given, and then asks for more of them: `last_pid.py PROGRAM`. What is to be
-answered is counted here; a second runtime would take minutes over it."""
+"""Runs a script that forks until every pid was given, and then asks for more of them, and one that makes and removes a container
+more than 65,536 times, so that as many groups are made: `last_pid.py PROGRAM`. What is to be answered is counted here; a second
+runtime would take minutes over it."""
 
 import os
 import sys
@@ -22,11 +23,10 @@ AFTER = [
     ("create a ba", "refused E45 NoPids"),
     ("list", "end"),
 ]
+MADE = [line for k in range(66_000) for line in (("create a ba", f"pid {k + 2}"), ("kill a 9", "ok"), ("delete a", "ok"))]
 
 
-def main(program):
-    program = os.path.abspath(program)
-    lines = BEFORE + GIVEN + AFTER
+def compare(program, lines):
     with tempfile.TemporaryDirectory() as folder:
         os.chdir(folder)
         words = place(MACHINE, None, {"ba": config({"quota": 100000})})
@@ -36,6 +36,12 @@ def main(program):
     if (done.returncode, done.stdout, done.stderr) != (0, expected, b""):
         sys.exit(f"last pid: status {done.returncode}, the last answers {done.stdout[-300:]}, error {done.stderr[:300]}")
     print(f"last pid: {len(lines)} lines")
+
+
+def main(program):
+    program = os.path.abspath(program)
+    compare(program, BEFORE + GIVEN + AFTER)
+    compare(program, MADE)
 
 
 main(*sys.argv[1:])

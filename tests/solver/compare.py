@@ -63,6 +63,7 @@ def largest():
     each_a_class = [("a", CPUS, [(33_554_431 - cpu, {cpu}) for cpu in range(CPUS)])]
     return [(own_offers(40, 2), 0, None), (own_offers(4000, 1), 0, None), (own_offers(4000, 4), 0, None), (whole_lack(), ROWS, None),
             ([("a", CPUS, [(0, set(range(CPUS)))])], 0, 2), ([("a", CPUS, [(0, set(range(CPUS - 1)))])], 1, 4),
+            ([(k, CPUS // 2, [(10, set(range(first, CPUS, 2)))]) for k, first in (("a", 0), ("b", 1))], 0, 4),
             ([("a", 2048, [(cpu, {cpu}) for cpu in range(CPUS - 1)])], 0, sum(n + 1 for n in range(1, 2049))),
             (each_a_class, 0, sum(n + 1 for n in range(1, CPUS + 1)))]
 
