@@ -35,12 +35,12 @@ pub fn check_shortage(problem: &Problem, members: &[usize]) -> Result<(u64, u32)
     // And its cause stands.
     ensures cause { IfErr result (λ fault. IsShortageCause problem.now members.now fault) }
 {
-    counts(problem.rows.as_slice(), members)
+    check_shortage_body(problem.rows.as_slice(), members)
 }
 
 /// How many CPUs the members ask for and how many are there, or the first fault.
 #[tactic(auto, unfolding(crate::specs::ShortageFault::shortage_fault))]
-fn counts(rows: &[Row], members: &[usize]) -> Result<(u64, u32), CheckFault>
+fn check_shortage_body(rows: &[Row], members: &[usize]) -> Result<(u64, u32), CheckFault>
     ensures fault { shortage_fault rows.now members.now ≡ result_err result }
     ensures asked { IfOk result (λ counts. counts.0 ≡ asked (chosen rows.now members.now)) }
     ensures there { IfOk result (λ counts. counts.1 ≡ length (offered (chosen rows.now members.now))) }

@@ -42,10 +42,10 @@ pub fn read_text(alloc: Global, text: &[u8]) -> Result<Certificate, OrMemory<Bad
     // and where it stands for nothing, or memory runs out, this says at which line.
     ensures error { IfErr result (λ e. IsTextError text.now e) }
 {
-    read_lines(alloc, text)
+    read_text_body(alloc, text)
 }
 
-fn read_lines(alloc: Global, text: &[u8]) -> Result<Certificate, OrMemory<BadText>>
+fn read_text_body(alloc: Global, text: &[u8]) -> Result<Certificate, OrMemory<BadText>>
     ensures ok { IfOk result (λ c. IsText text.now c) }
     ensures error { IfErr result (λ e. IsTextError text.now e) }
 {

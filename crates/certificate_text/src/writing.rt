@@ -190,7 +190,7 @@ fn write_shortage<W: Write>(
     put(b"end\n", w)
 }
 
-fn write_either<W: Write>(certificate: &Certificate, w: &mut W) -> io::Result<()>
+fn write_text_body<W: Write>(certificate: &Certificate, w: &mut W) -> io::Result<()>
     requires { CanBeText certificate.now }
     ensures written { Writes (W.contents w.old) (W.contents w.new) result (text_of certificate.now) }
     ensures held { OnOk result (IsHeld certificate.now) }
@@ -232,5 +232,5 @@ pub fn write_text<W: Write>(certificate: &Certificate, w: &mut W) -> io::Result<
     ensures stands { OnOk result (IsText (text_of certificate.now) certificate.now) }
 {
     written_texts_are_read();
-    write_either(certificate, w)
+    write_text_body(certificate, w)
 }

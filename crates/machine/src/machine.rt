@@ -209,10 +209,10 @@ impl Machine {
         ensures node { IsOfNode self.now cpu result }
         ensures only { (i : ℕ) → IsOfNode self.now cpu i → i ≡ result }
     {
-        self.place_of(cpu)
+        self.node_of_body(cpu)
     }
 
-    fn place_of(&self, cpu: u16) -> usize
+    fn node_of_body(&self, cpu: u16) -> usize
         requires { IsPresent self.now cpu }
         ensures place { (i : ℕ) → IsOfNode self.now cpu i → result ≡ i }
         ensures sound { IsSound self.now }

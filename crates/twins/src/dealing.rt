@@ -31,10 +31,10 @@ pub fn deal(
     ensures long { IfOk result (λ sets. length sets.items ≡ rows) }
     ensures dealt { IfOk result (λ sets. IsDeal classes.now holdings.now sets.items) }
 {
-    deal_sets(alloc, rows, classes.sets.as_slice(), holdings)
+    deal_body(alloc, rows, classes.sets.as_slice(), holdings)
 }
 
-fn deal_sets(
+fn deal_body(
     alloc: Global,
     rows: usize,
     classes: &[IdSet],

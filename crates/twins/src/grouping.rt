@@ -28,11 +28,11 @@ pub fn group(alloc: Global, problem: &Problem, kinds: &[usize]) -> Result<Classe
     ensures grouped { IfOk result (λ classes. IsGrouping problem.now classes) }
     ensures few { IfOk result (λ classes. length classes ≤ CPU_LIMIT) }
 {
-    let sets = grouped(alloc, problem.rows.as_slice(), kinds)?;
+    let sets = group_body(alloc, problem.rows.as_slice(), kinds)?;
     Ok(Classes { sets })
 }
 
-fn grouped(alloc: Global, rows: &[Row], kinds: &[usize]) -> Result<Vec<IdSet>, AllocError>
+fn group_body(alloc: Global, rows: &[Row], kinds: &[usize]) -> Result<Vec<IdSet>, AllocError>
     requires fit { IsTrue (list_all row_fits rows.now) }
     requires kinds { AreKinds rows.now (length rows.now) kinds.now }
     ensures { IfOk result (λ sets. IsGrouping rows.now sets.items) }

@@ -12,10 +12,10 @@ pub fn prices_of(alloc: Global, classes: &Classes, prices: &[u64]) -> Result<Pri
     requires { length prices.now ≡ length classes.now }
     ensures { IfOk result (λ of_cpu. of_cpu ≡ class_prices classes.now prices.now) }
 {
-    prices_of_sets(alloc, classes.sets.as_slice(), prices)
+    prices_of_body(alloc, classes.sets.as_slice(), prices)
 }
 
-fn prices_of_sets(alloc: Global, sets: &[IdSet], prices: &[u64]) -> Result<PriceList, AllocError>
+fn prices_of_body(alloc: Global, sets: &[IdSet], prices: &[u64]) -> Result<PriceList, AllocError>
     requires { length prices.now ≡ length sets.now }
     ensures { IfOk result (λ of_cpu. of_cpu ≡ class_prices sets.now prices.now) }
 {

@@ -1,6 +1,6 @@
 use Rattle.std.proofs.Common.{◌≡◌, ◌++◌, take}
 use Rattle.twins.proofs.Grouped.{Grouping}
-use Rattle.twins.proofs.grouping.grouped.Given as goal
+use Rattle.twins.proofs.grouping.group_body.Given as goal
 
 abbrev pub invariant-loop-k : goal.invariant-loop-k
 invariant-loop-k l = Grouping l.rows l.k l.parts.items l.alone.items

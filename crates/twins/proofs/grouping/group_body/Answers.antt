@@ -4,8 +4,8 @@ use Rattle.twins.specs.IsPart.{ArePieces}
 use Rattle.twins.specs.Kinds.{kind_at}
 use Rattle.twins.proofs.Grouped.{grouping_start, grouping_more, grouping_repeated, grouping_end}
 use Rattle.twins.proofs.SameOffers.{kind_tells_none}
-use Rattle.twins.proofs.grouping.grouped.Goals as goal
-use Rattle.twins.proofs.grouping.grouped.Goals.{then-kinds-k+in_ok-parts-2, else-kinds-k}
+use Rattle.twins.proofs.grouping.group_body.Goals as goal
+use Rattle.twins.proofs.grouping.group_body.Goals.{then-kinds-k+in_ok-parts-2, else-kinds-k}
 
 pub loop-k-init : goal.loop-k-init
 loop-k-init c = grouping_start _ _ _ _ c.in_ok-alone.ensures.items c.in_ok-parts.ensures c.offered_cpus-offered.ensures

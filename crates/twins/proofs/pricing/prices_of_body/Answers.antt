@@ -1,7 +1,7 @@
 use Rattle.std.proofs.Common.{get_or, take, sym, ap, ◌∙◌, arith, take_all}
 use Rattle.twins.specs.IsPriced.{class_prices, with_price}
 use Rattle.twins.proofs.ClassPrices.{class_prices_more}
-use Rattle.twins.proofs.pricing.prices_of_sets.Goals as goal
+use Rattle.twins.proofs.pricing.prices_of_body.Goals as goal
 
 pub loop-g-preserved : goal.loop-g-preserved
 loop-g-preserved c =

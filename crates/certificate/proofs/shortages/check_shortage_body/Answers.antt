@@ -4,7 +4,7 @@ use Rattle.certificate.specs.IsShortage.{chosen}
 use Rattle.certificate.specs.Limits.{is_shortage_within_limits}
 use Rattle.certificate.proofs.LimitFacts.{AreNumbered, number_facts}
 use Rattle.certificate.proofs.Members.{offered_count}
-use Rattle.certificate.proofs.shortages.counts.Goals as goal
+use Rattle.certificate.proofs.shortages.check_shortage_body.Goals as goal
 
 facts_of :
     {rows : List RowView} {members : List ℕ} {b : Bool} → b ≡ is_shortage_within_limits rows members → b ≡ true → AreNumbered rows members

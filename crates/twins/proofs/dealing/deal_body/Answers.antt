@@ -4,8 +4,8 @@ use Rattle.std.proofs.lemmas.List.{get_or_default}
 use Rattle.cpu_set.specs.Members.{InRange}
 use Rattle.twins.specs.Holdings.{shared_out}
 use Rattle.twins.proofs.Rounds.{Round, round_empty, round_more, round_end, next_free, rows_here, written_back}
-use Rattle.twins.proofs.dealing.deal_sets.Goals as goal
-use Rattle.twins.proofs.dealing.deal_sets.Goals.{After-as_slice}
+use Rattle.twins.proofs.dealing.deal_body.Goals as goal
+use Rattle.twins.proofs.dealing.deal_body.Goals.{After-as_slice}
 
 pub loop-g-init : goal.loop-g-init
 loop-g-init c =

@@ -1,6 +1,6 @@
 use Rattle.std.proofs.Common.{sym}
 use Rattle.certificate_text.proofs.BadLines.{read_more, read_bad, read_asks, read_no_feed, read_too_early, read_all, no_bytes, some_bytes}
-use Rattle.certificate_text.proofs.reading.read_lines.Goals as goal
+use Rattle.certificate_text.proofs.reading.read_text_body.Goals as goal
 
 pub returns-in-Err-Memory-clause-error : goal.returns-in-Err-Memory-clause-error
 returns-in-Err-Memory-clause-error c =
