@@ -2,6 +2,7 @@
 use Rattle.std.specs.Prelude.{ℕ, zero, suc, ℤ, pos, negsuc, ◌≤◌, Option, Some, None}
 use Rattle.cpu_set.specs.declared.TheConstants.{CPU_LIMIT}
 use Rattle.demand.specs.AsksFor.{AsksFor}
+use Rattle.demand.specs.declared.quota.TheConstants.{DEFAULT_PERIOD}
 
 -- an absent, zero or negative quota is no limit
 abbrev pub limit_of : Option ℤ → Option ℕ
@@ -12,8 +13,8 @@ limit_of (Some (negsuc n)) = None
 
 -- an absent or zero period is the kernel's default, 100 milliseconds
 abbrev pub period_of : Option ℕ → ℕ
-period_of None = 100_000
-period_of (Some zero) = 100_000
+period_of None = DEFAULT_PERIOD
+period_of (Some zero) = DEFAULT_PERIOD
 period_of (Some (suc n)) = suc n
 
 -- a limit asks for a count of CPUs, within the number that there can be; no limit for none

@@ -1,5 +1,4 @@
 ghost use Rattle.std.specs.Prelude.{◌≡◌, ◌||◌, IfOk, is_some, not};
-ghost use Rattle.demand.specs.AsksFor.{IsOneCount};
 ghost use Rattle.std.specs.FinSet as set;
 ghost use Rattle.cpu_set.specs.Ids.{is_empty};
 ghost use Rattle.demand.specs.DemandFaultOf.{demand_fault};
@@ -44,8 +43,9 @@ impl Demand {
     /// is absent or zero is [`DEFAULT_PERIOD`](crate::DEFAULT_PERIOD). With no such quota a container
     /// that names a CPU asks for all that it may get, and one that names none is shared.
     ///
-    /// The first fault in this order is answered: `BadCpus`, `NoSuchCpu`, `BadMems`, `NoSuchNode`,
-    /// `QuotaTooLarge`, `NothingAllowed`.
+    /// # Errors
+    /// The first fault in this order: `BadCpus`, `NoSuchCpu`, `BadMems`, `NoSuchNode`, `QuotaTooLarge`,
+    /// `NothingAllowed`.
     #[tactic(auto, using(crate::proofs::Asked::last_check))]
     pub fn of(section: &CpuSection, machine: &Machine) -> Result<Demand, DemandFault>
         ensures fault { demand_fault machine.now section.now ≡ result_err result }
@@ -82,8 +82,3 @@ fn is_pinned(count: Option<u32>, cpus: &IdSet) -> bool
 {
     count.is_some() || !cpus.is_empty()
 }
-
-/// No quota asks for two different counts of CPUs in one period.
-pub fn no_quota_asks_for_two_counts()
-    ensures { IsOneCount }
-{}

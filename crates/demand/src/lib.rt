@@ -7,9 +7,11 @@
 mod allowed;
 mod demand;
 mod demand_fault;
+mod laws;
 mod lists;
 mod quota;
 
-pub use demand::{Demand, Kind, no_quota_asks_for_two_counts};
+pub use demand::{Demand, Kind};
 pub use demand_fault::DemandFault;
+pub use laws::{no_quota_asks_for_two_counts, the_limits};
 pub use quota::DEFAULT_PERIOD;

@@ -1,0 +1,15 @@
+//! What holds of the definitions alone.
+ghost use Rattle.std.specs.Prelude.{◌≡◌};
+ghost use Rattle.demand.specs.AsksFor.{IsOneCount};
+
+use crate::DEFAULT_PERIOD;
+
+/// No quota asks for two different counts of CPUs in one period.
+pub fn no_quota_asks_for_two_counts()
+    ensures { IsOneCount }
+{}
+
+/// A period is 100,000 microseconds long where a config gives none or zero.
+pub fn the_limits()
+    ensures period { DEFAULT_PERIOD ≡ 100_000 }
+{}
