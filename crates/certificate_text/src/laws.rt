@@ -4,7 +4,6 @@ ghost use Rattle.certificate_text.specs.FirstBadLine.{OneBadLine};
 ghost use Rattle.certificate_text.specs.Written.{ReadCanBeWritten, WrittenReadsAgain};
 
 use crate::ID_LIMIT;
-use cpu_list::{canonical_texts, plain_texts};
 
 /// No text stands for two certificates, and none has two first bad lines.
 pub fn one_reading()
@@ -16,8 +15,8 @@ pub fn one_reading()
 pub fn written_texts_are_read()
     ensures { WrittenReadsAgain }
 {
-    canonical_texts();
-    plain_texts();
+    cpu_list::laws::canonical_texts();
+    cpu_list::laws::plain_texts();
 }
 
 /// What [`read_text`](crate::read_text) reads meets the condition of [`write_text`](crate::write_text).

@@ -9,7 +9,7 @@ ghost use Rattle.certificate_text.specs.Line.{HeaderLine, RowLine, HoldLine, Pri
 ghost use Rattle.certificate_text.specs.Written.{offer_text, line_text, text_of, CanWrite, IsHeld, IsOfferHeld, IsRowHeld, IsPriceHeld};
 
 use crate::Certificate;
-use crate::laws::written_texts_are_read;
+use crate::laws;
 use byte_output::{put, put_all, put_number};
 use certificate::{MOVE_SCALE, Offer, Offers, Price, PriceList, Prices, Row};
 use cpu_list::write_list;
@@ -231,6 +231,6 @@ pub fn write_text<W: Write>(certificate: &Certificate, w: &mut W) -> io::Result<
     ensures held { OnOk result (IsHeld certificate.now) }
     ensures stands { OnOk result (IsText (text_of certificate.now) certificate.now) }
 {
-    written_texts_are_read();
+    laws::written_texts_are_read();
     write_text_body(certificate, w)
 }

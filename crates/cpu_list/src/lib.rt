@@ -2,13 +2,12 @@
 #![tactic(auto)]
 
 mod item;
-mod laws;
+pub mod laws;
 mod list_error;
 mod printing;
 mod reading;
 mod writing;
 
-pub use laws::{canonical_texts, first_faults, lists_stay_below, plain_texts};
 pub use list_error::{ListError, ListErrorKind};
 pub use printing::print;
 pub use reading::read;
