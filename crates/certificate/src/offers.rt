@@ -53,6 +53,9 @@ impl Offers {
     }
 
     /// Adds an offer after the others.
+    ///
+    /// # Errors
+    /// Lack of memory, which changes nothing.
     pub fn push(&mut self, offer: Offer) -> Result<(), AllocError>
         ensures ok { OnOk result (self.new ≡ self.old ++ offer ∷ []) }
         ensures err { OnErr result (self.new ≡ self.old) }
@@ -67,6 +70,9 @@ impl Offers {
     }
 
     /// The same offers once more.
+    ///
+    /// # Errors
+    /// Lack of memory.
     pub fn copy(&self, alloc: Global) -> Result<Offers, AllocError>
         ensures { IfOk result (λ same. same ≡ self.now) }
     {
@@ -114,6 +120,9 @@ impl Offers {
     }
 
     /// The offers in a list, each with a whole set.
+    ///
+    /// # Errors
+    /// Lack of memory.
     pub fn to_vec(&self, alloc: Global) -> Result<Vec<Offer>, AllocError>
         ensures { IfOk result (λ list. list.items ≡ self.now) }
     {

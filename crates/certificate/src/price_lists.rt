@@ -71,6 +71,9 @@ impl PriceList {
     }
 
     /// Adds a price after the others.
+    ///
+    /// # Errors
+    /// Lack of memory, which changes nothing.
     pub fn push(&mut self, price: Price) -> Result<(), AllocError>
         ensures ok { OnOk result (self.new ≡ self.old ++ price ∷ []) }
         ensures err { OnErr result (self.new ≡ self.old) }

@@ -16,8 +16,10 @@ use cpu_set::IdSet;
 /// Checks that some rows, the members, ask together for more CPUs than the union of their offers has: how
 /// many they ask for and how many there are, or the first cause why not.
 ///
-/// `members` are row numbers, each above the one before. The causes are `BadProblem` (E70), then
-/// `NoShortage` (E76). Takes no memory.
+/// `members` are row numbers, each above the one before. O(m + w) of m members and w offers in all. Takes no memory.
+///
+/// # Errors
+/// `BadProblem` (E70), then `NoShortage` (E76).
 pub fn check_shortage(problem: &Problem, members: &[usize]) -> Result<(u64, u32), CheckFault>
     // A yes: rows within their limits, and the members are short of CPUs, by these two counts.
     ensures shown { IfOk result (λ counts. IsShown problem.now members.now counts.0 counts.1) }

@@ -64,7 +64,7 @@ pub fn check_text(alloc: Global, text: &[u8]) -> Result<Verdict, OrMemory<Verdic
 }
 
 /// Checks a certificate, as its text says it or as it was built. This takes no memory, so only the reading of a text can
-/// want any.
+/// want any. It takes steps in the order of those of [`check_plan`] or [`check_shortage`].
 ///
 /// # Errors
 /// `BadProblem` where weights should be scaled and one isn't; then those of [`check_plan`], then `Gap` where the written

@@ -31,6 +31,8 @@ impl Fault for BadText {}
 /// and M more; for a shortage `short ID`, one or more, each naming a row after the one before; and `end`. A line feed ends
 /// each, one space stands between two words, and numbers have no leading zeros.
 ///
+/// O(b + r log r) of b bytes and r rows.
+///
 /// # Errors
 /// E1, and [`BadText`] where the text is no certificate's. The line that wants memory and those before it are in order, so
 /// the first bad line is told as such unless memory ran out before it.

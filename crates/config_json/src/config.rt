@@ -33,13 +33,15 @@ pub struct Config {
 impl Config {
     /// Reads a config of at most [`MAX_BYTES`] bytes.
     ///
-    /// The first fault in this order is answered: [`ConfigFault::TooLong`], `NotJson`, `NotObject`; then,
-    /// for each looked-at member in turn, `Missing` where it is required and absent, `BadField` where it
-    /// is of another kind, and for the version `BadVersion`. The members are `ociVersion`; `root`,
-    /// `root.path`; `linux`, `linux.resources`, `linux.resources.cpu`, and its `quota`, `period`, `cpus`
-    /// and `mems`. A member that is null counts as absent, of one that is given twice the last counts,
-    /// and all others are ignored. A quota is a whole number of 64 bits with a sign, a period one
-    /// without, written with neither fraction nor exponent.
+    /// The members that are looked at are `ociVersion`; `root`, `root.path`; `linux`, `linux.resources`,
+    /// `linux.resources.cpu`, and its `quota`, `period`, `cpus` and `mems`. A member that is null counts as
+    /// absent, of one that is given twice the last counts, and all others are ignored. A quota is a whole
+    /// number of 64 bits with a sign, a period one without, written with neither fraction nor exponent.
+    ///
+    /// # Errors
+    /// Lack of memory, or the first fault in this order: [`ConfigFault::TooLong`], `NotJson`, `NotObject`;
+    /// then, for each of those members in turn, `Missing` where it is required and absent, `BadField` where it
+    /// is of another kind, and for the version `BadVersion`.
     ///
     /// Before memory is asked for, it is known whether there are too many bytes or none, and whether they
     /// are UTF-8. Once the JSON value is there, only a version with pre-release or build metadata and the

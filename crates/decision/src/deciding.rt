@@ -12,7 +12,10 @@ use transport::{Answer, solve};
 /// The certificate of what the problem comes to; the problem is kept in it as it is.
 ///
 /// `scaled` says whether weights count moves besides the distance, as [`MOVE_SCALE`](certificate::MOVE_SCALE) says; the
-/// certificate passes it on. Nothing is refused except for lack of memory.
+/// certificate passes it on.
+///
+/// # Errors
+/// Lack of memory; no problem is refused.
 pub fn decide(alloc: Global, problem: Problem, scaled: bool) -> Result<Certificate, AllocError>
     requires fit { IsTrue (rows_fit problem) }
     requires rows { All CanWriteRow problem }

@@ -75,8 +75,7 @@ impl Machine {
     /// counts as absent, of one that is given twice the last counts, and all others are ignored.
     ///
     /// # Errors
-    ///
-    /// The first fault in this order. [`MachineFault::NotJson`]; of `nodes` `BadField` and `NodeCount`,
+    /// Lack of memory, or the first fault in this order. [`MachineFault::NotJson`]; of `nodes` `BadField` and `NodeCount`,
     /// and node by node `BadField` and `CpuTwice`; `BothDistances` and `NoDistances`; of a SLIT
     /// `WrongSize`; of `distances` `BadField` where it or a row is no array, `WrongSize`, and entry by
     /// entry in rows `BadField` and `BadDistance`; of `reserved` `BadField` and `BadReserved`; of
@@ -232,7 +231,7 @@ impl Machine {
     }
 
     /// The weight of the CPU for a container with these home nodes: the least of the distances from the
-    /// CPU's node to a home, [`UNREACHABLE`] where there is no way to any of them.
+    /// CPU's node to a home, [`UNREACHABLE`] where there is no way to any of them. O(n) of n nodes.
     #[tactic(auto, unfolding(crate::proofs::WeightLaws::least_below))]
     pub fn weight(&self, homes: &IdSet, cpu: u16) -> u8
         requires present { IsPresent self.now cpu }
@@ -252,6 +251,8 @@ impl Machine {
 
     /// The weight of each node's CPUs for a container with these home nodes, node 0 first, and behind the
     /// nodes [`UNREACHABLE`].
+    ///
+    /// O(n * h) of n nodes and h homes, and O(n) where each node is a home.
     pub fn weights(&self, homes: &IdSet) -> [u8; NODE_LIMIT]
         requires { AreHomes self.now homes.now }
         ensures weights { AreWeights self.now homes.now result }
@@ -301,6 +302,8 @@ impl Machine {
     }
 
     /// The present CPUs with a way to one of these home nodes.
+    ///
+    /// O(n * h) of n nodes and h homes, and O(n) where each node is a home.
     pub fn in_reach(&self, homes: &IdSet) -> IdSet
         requires { AreHomes self.now homes.now }
         ensures { (c : ℕ) → set.contains result c ≡ (set.contains (present self.now) c && nat_lt (weight self.now homes.now c) 255) }

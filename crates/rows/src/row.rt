@@ -17,7 +17,10 @@ use std::alloc::{AllocError, Global};
 ///
 /// It offers the CPUs that the container may get and that are online. Each weighs as much as the distance from its node
 /// to the nearest home; there is one offer for each weight, the least weight first. Offers that are cached are taken from
-/// there, and new ones are added.
+/// there, and new ones are added. O(c + n * h) of c cached offers, n nodes and h homes.
+///
+/// # Errors
+/// Lack of memory.
 pub fn row_of(
     alloc: Global,
     machine: &Machine,
@@ -46,6 +49,9 @@ pub fn row_of(
 
 /// The same row where the container holds these CPUs already: distances are scaled by
 /// [`MOVE_SCALE`](certificate::MOVE_SCALE), and each CPU that it does not hold weighs one more.
+///
+/// # Errors
+/// Lack of memory.
 pub fn scaled_row_of(
     alloc: Global,
     machine: &Machine,

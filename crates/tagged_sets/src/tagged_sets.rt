@@ -54,6 +54,9 @@ impl<T: Copy> TaggedSets<T> {
     }
 
     /// Adds a set with its tag behind the others.
+    ///
+    /// # Errors
+    /// Lack of memory, which changes nothing.
     pub fn push(&mut self, tag: T, cpus: &IdSet) -> Result<(), AllocError>
         ensures ok { OnOk result (self.new ≡ self.old ++ (tag, cpus.now) ∷ []) }
         ensures err { OnErr result (self.new ≡ self.old) }
@@ -66,6 +69,9 @@ impl<T: Copy> TaggedSets<T> {
     }
 
     /// The same sets once more.
+    ///
+    /// # Errors
+    /// Lack of memory.
     pub fn copy(&self, alloc: Global) -> Result<TaggedSets<T>, AllocError>
         ensures { IfOk result (λ same. same ≡ self.now) }
     {

@@ -19,8 +19,10 @@ use twins::{Classes, deal, group, kinds_of, prices_of};
 
 /// A plan of the least cost with the values and prices that show it, or the rows of a shortage.
 ///
-/// Nothing is refused except for lack of memory. `turns` counts the rows and the classes of twins that the
-/// searches take up.
+/// `turns` counts the rows and the classes of twins that the searches take up.
+///
+/// # Errors
+/// Lack of memory; no problem is refused.
 pub fn solve(alloc: Global, problem: &Problem) -> Result<Answer, AllocError>
     requires { IsTrue (rows_fit problem.now) }
 
@@ -37,8 +39,9 @@ pub fn solve(alloc: Global, problem: &Problem) -> Result<Answer, AllocError>
     // A price for each class of twins whose price is not 0, and no others.
     ensures priced { IfOk result (ArePricesOfClasses problem.now) }
 
-    // At most as many turns as there are rows and classes, for each CPU that is asked for; two at least for
-    // each row of a plan, and one for each member of a shortage.
+    // At most as many turns as there are rows and classes, for each CPU that is asked for. At least two for each
+    // row of a plan; for a shortage two for each row before its last member, one for each member, and one for
+    // each class that a member has a weight for.
     ensures turns { IfOk result (AreTurns problem.now) }
 {
     solve_body(alloc, problem)

@@ -16,7 +16,11 @@ use std::alloc::{AllocError, Global};
 /// A set for each row: of each class as many CPUs as the row holds, the lowest to the first row that
 /// holds some.
 ///
-/// Two or more shares of a class are sorted once: O(h log h) steps for h of them, and one for each CPU dealt.
+/// Two or more shares of a class are sorted once: O(h log h) steps for h of them. Besides there is one for each row, class,
+/// share and CPU dealt.
+///
+/// # Errors
+/// Lack of memory.
 pub fn deal(
     alloc: Global,
     rows: usize,

@@ -9,6 +9,9 @@ use std::alloc::{AllocError, Global};
 /// For each row the first of its kind: an earlier one with the same offers, or itself where none is known.
 ///
 /// Each row is compared with one earlier row alone: the latest whose first offer has a first range with the same end.
+///
+/// # Errors
+/// Lack of memory.
 pub fn kinds_of(alloc: Global, rows: &[Row]) -> Result<Vec<usize>, AllocError>
     ensures { IfOk result (λ kinds. AreKinds rows.now (length rows.now) kinds.items) }
 {
