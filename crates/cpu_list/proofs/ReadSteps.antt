@@ -6,7 +6,7 @@ use Rattle.std.specs.Option.{option_or, option_map}
 use Rattle.cpu_set.specs.Ids.{Ids}
 use Rattle.cpu_set.specs.Pointwise.{contains-empty}
 use Rattle.cpu_list.specs.declared.list_error.ListErrorKind.{ListErrorKind}
-use Rattle.cpu_list.specs.ListText.{is_comma, indent, item_of, names, piece_names, IsList, IsSetOf}
+use Rattle.cpu_list.specs.ListText.{is_comma, leading_blanks, item_of, names, piece_names, IsList, IsSetOf}
 use Rattle.cpu_list.specs.FirstFault.{item_fault, faults_from, first_fault}
 use Rattle.faults.specs.First.{first_of}
 use Rattle.cpu_list.specs.FirstFaults.{none_where_list}
@@ -29,12 +29,12 @@ IsRead-none text limit s e = record {
 
 -- the fault of the next piece is the first
 pub IsRead-fault : (text piece : List ℕ) (limit at place : ℕ) (s : Ids) (kind : ListErrorKind) → IsRead text limit at s → at ≤ length text
-    → piece ≡ before_first is_comma (drop at text) → item_fault limit (item_of piece) ≡ Some kind → place ≡ indent piece
+    → piece ≡ before_first is_comma (drop at text) → item_fault limit (item_of piece) ≡ Some kind → place ≡ leading_blanks piece
     → first_fault limit text ≡ Some (record { at = at + place; kind = kind })
 IsRead-fault text piece limit at place s kind h low first fault e =
     sym h.no_fault ∙ ap (λ ps. first_of (faults_from limit at ps)) (pieces_more text at low) ∙ (
     rw (← first)
-    (ap (λ o. option_or (option_map (λ k. record { at = at + indent piece; kind = k }) o) (first_of (faults_from limit (at + (length piece + 1)) (pieces_from text (at + (length piece + 1)))))) fault
+    (ap (λ o. option_or (option_map (λ k. record { at = at + leading_blanks piece; kind = k }) o) (first_of (faults_from limit (at + (length piece + 1)) (pieces_from text (at + (length piece + 1)))))) fault
     ∙ ap (λ p. Some (record { at = at + p; kind = kind })) (sym e)))
 
 or_parts : (a b c d : Bool) → d ≡ (a || b) → (d || c) ≡ (a || (b || c))
@@ -48,7 +48,7 @@ pub IsRead-more : (text piece : List ℕ) (limit at : ℕ) (s t : Ids) → IsRea
 IsRead-more text piece limit at s t h low first right added = record {
   in_text = let fits : length piece + at ≤ length text = rw first (first_fits text at low) in omega arith;
   no_fault =
-      sym (ap (λ o. option_or (option_map (λ k. record { at = at + indent piece; kind = k }) o) (first_of (faults_from limit (at + (length piece + 1)) (pieces_from text (at + (length piece + 1)))))) right)
+      sym (ap (λ o. option_or (option_map (λ k. record { at = at + leading_blanks piece; kind = k }) o) (first_of (faults_from limit (at + (length piece + 1)) (pieces_from text (at + (length piece + 1)))))) right)
       ∙ sym (ap (λ ps. first_of (faults_from limit at ps)) (pieces_more text at low ∙ next_is))
       ∙ h.no_fault;
   named = λ n.

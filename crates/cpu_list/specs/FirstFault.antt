@@ -5,7 +5,7 @@ use Rattle.faults.specs.First.{when, first_of}
 use Rattle.cpu_list.specs.declared.list_error.ListError.{ListError}
 use Rattle.cpu_list.specs.declared.list_error.ListErrorKind.{ListErrorKind}
 use Rattle.cpu_list.specs.declared.list_error.ListErrorKind.TheVariants.{BadItem, TooLarge, Descending}
-use Rattle.cpu_list.specs.ListText.{pieces, indent, item_of, range_of, IsItem, IsList}
+use Rattle.cpu_list.specs.ListText.{pieces, leading_blanks, item_of, range_of, IsItem, IsList}
 
 -- what is wrong with a range under a limit, the first cause that stands
 abbrev pub range_fault : ℕ → Option (ℕ × ℕ) → Option ListErrorKind
@@ -22,7 +22,7 @@ item_fault limit (b ∷ bytes) = range_fault limit (range_of (b ∷ bytes))
 
 -- the fault of a piece that begins at this place of the text
 abbrev pub piece_fault : ℕ → ℕ → List ℕ → Option ListError
-piece_fault limit at piece = option_map (λ kind. record { at = at + indent piece; kind = kind }) (item_fault limit (item_of piece))
+piece_fault limit at piece = option_map (λ kind. record { at = at + leading_blanks piece; kind = kind }) (item_fault limit (item_of piece))
 
 -- the faults of pieces that follow one another from this place on
 abbrev pub faults_from : ℕ → ℕ → List (List ℕ) → List (Option ListError)
@@ -48,7 +48,7 @@ pub record IsFirstFault (limit : ℕ) (text : List ℕ) (e : ListError) : Type 0
   pub whole : pieces text ≡ before ++ piece ∷ after
   pub right : AllByRecursion (λ p. IsItem limit (item_of p)) before
   pub fault : IsFaultOf limit (item_of piece) e.kind
-  pub place : e.at ≡ sum_by (λ p. length p + 1) before + indent piece
+  pub place : e.at ≡ sum_by (λ p. length p + 1) before + leading_blanks piece
 
 -- a text is a list exactly where it has no first fault
 abbrev pub NoneWhereList : Type 0

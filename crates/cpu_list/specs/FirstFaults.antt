@@ -6,7 +6,7 @@ use Rattle.std.proofs.lemmas.List.Sums.{sum_by-cons}
 use Rattle.faults.specs.First.{first_of}
 use Rattle.cpu_list.specs.declared.list_error.ListError.{ListError}
 use Rattle.cpu_list.specs.declared.list_error.ListErrorKind.{ListErrorKind}
-use Rattle.cpu_list.specs.ListText.{pieces, indent, item_of, IsItem}
+use Rattle.cpu_list.specs.ListText.{pieces, leading_blanks, item_of, IsItem}
 use Rattle.cpu_list.specs.FirstFault.{item_fault, faults_from, IsFaultOf, NoneWhereList, FirstDecides}
 use Rattle.cpu_list.specs.ItemFaults.{IsItem-from_None, None-from_IsItem, IsFaultOf-from_Some, Some-from_IsFaultOf}
 
@@ -19,7 +19,7 @@ AreRight limit ps = AllByRecursion (λ p. IsItem limit (item_of p)) ps
 -- the first fault of pieces, where that of the first of them is known
 abbrev behind : ℕ → ℕ → List ℕ → List (List ℕ) → Option ListErrorKind → Option ListError
 behind limit at p more fault =
-    option_or (option_map (λ kind. record { at = at + indent p; kind = kind }) fault) (first_of (faults_from limit (at + (length p + 1)) more))
+    option_or (option_map (λ kind. record { at = at + leading_blanks p; kind = kind }) fault) (first_of (faults_from limit (at + (length p + 1)) more))
 
 -- the pieces, of which the first begins at `at`, have e as their first fault
 record IsFirstAmong (limit at : ℕ) (ps : List (List ℕ)) (e : ListError) : Type 0 where
@@ -29,10 +29,10 @@ record IsFirstAmong (limit at : ℕ) (ps : List (List ℕ)) (e : ListError) : Ty
   whole : ps ≡ before ++ piece ∷ after
   right : AreRight limit before
   fault : IsFaultOf limit (item_of piece) e.kind
-  place : e.at ≡ at + (width before + indent piece)
+  place : e.at ≡ at + (width before + leading_blanks piece)
 
 at_first : (limit at : ℕ) (p : List ℕ) (more : List (List ℕ)) (e : ListError) (kind : ListErrorKind) → item_fault limit (item_of p) ≡ Some kind
-    → Some (record { at = at + indent p; kind = kind }) ≡ Some e → IsFirstAmong limit at (p ∷ more) e
+    → Some (record { at = at + leading_blanks p; kind = kind }) ≡ Some e → IsFirstAmong limit at (p ∷ more) e
 at_first limit at p more e kind wrong same = record {
   before = [];
   piece = p;
@@ -40,7 +40,7 @@ at_first limit at p more e kind wrong same = record {
   whole = refl;
   right = tt;
   fault = IsFaultOf-from_Some limit (item_of p) e.kind (wrong ∙ ap (λ k. Some k) kinds);
-  place = let places : at + indent p ≡ e.at = cc in omega arith;
+  place = let places : at + leading_blanks p ≡ e.at = cc in omega arith;
 } where
   kinds : kind ≡ e.kind
   kinds = cc
@@ -67,13 +67,13 @@ first_among limit at (p ∷ more) e h =
     ] refl h
 
 fault_among : (limit at : ℕ) (before : List (List ℕ)) (piece : List ℕ) (after : List (List ℕ)) (kind : ListErrorKind) → AreRight limit before → IsFaultOf limit (item_of piece) kind
-    → first_of (faults_from limit at (before ++ piece ∷ after)) ≡ Some (record { at = at + (width before + indent piece); kind = kind })
+    → first_of (faults_from limit at (before ++ piece ∷ after)) ≡ Some (record { at = at + (width before + leading_blanks piece); kind = kind })
 fault_among limit at [] piece after kind right wrong =
-    let none_before : indent piece ≡ width [] + indent piece = omega arith in
+    let none_before : leading_blanks piece ≡ width [] + leading_blanks piece = omega arith in
     ap (behind limit at piece after) (Some-from_IsFaultOf limit (item_of piece) kind wrong)
     ∙ ap (λ n. Some (record { at = at + n; kind = kind })) none_before
 fault_among limit at (p ∷ before) piece after kind right wrong =
-    let places : at + (length p + 1) + (width before + indent piece) ≡ at + (width (p ∷ before) + indent piece) =
+    let places : at + (length p + 1) + (width before + leading_blanks piece) ≡ at + (width (p ∷ before) + leading_blanks piece) =
     omega (arith, sum_by-cons (λ q. length q + 1) p before) in
     ap (behind limit at p (before ++ piece ∷ after)) (None-from_IsItem limit (item_of p) right.0)
     ∙ fault_among limit (at + (length p + 1)) before piece after kind right.1 wrong
@@ -111,5 +111,5 @@ first_decides limit text e = (
   λ h.
       ap (λ ps. first_of (faults_from limit 0 ps)) h.whole
       ∙ fault_among limit 0 h.before h.piece h.after e.kind h.right h.fault
-      ∙ (let place : 0 + (width h.before + indent h.piece) ≡ e.at = omega (arith, h.place) in ap (λ n. Some (record { at = n; kind = e.kind })) place),
+      ∙ (let place : 0 + (width h.before + leading_blanks h.piece) ≡ e.at = omega (arith, h.place) in ap (λ n. Some (record { at = n; kind = e.kind })) place),
 )

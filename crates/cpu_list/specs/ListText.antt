@@ -30,8 +30,8 @@ abbrev pub pieces : List ℕ → List (List ℕ)
 pieces text = slice_split is_comma text
 
 -- how many blanks stand before an item's first byte
-abbrev pub indent : List ℕ → ℕ
-indent piece = prefix_len is_blank piece
+abbrev pub leading_blanks : List ℕ → ℕ
+leading_blanks piece = prefix_len is_blank piece
 
 -- without the blanks at its end
 abbrev pub trim_end : List ℕ → List ℕ
@@ -39,7 +39,7 @@ trim_end piece = take (length piece - suffix_len is_blank piece) piece
 
 -- the item of a piece: without the blanks round it
 unfoldable pub item_of : List ℕ → List ℕ
-item_of piece = trim_end (drop (indent piece) piece)
+item_of piece = trim_end (drop (leading_blanks piece) piece)
 
 -- the number that decimal digits write, one or more of them
 unfoldable pub number_of : List ℕ → Option ℕ

@@ -1,6 +1,6 @@
 //! One item of a list: a number, or a range of two with a hyphen between.
 ghost use Rattle.std.specs.Prelude.{◌≡◌, ◌≤◌, ◌<◌, true, min, length, option_map, position, slice_index_or, IsTrue, IsFalse, IfSome};
-ghost use Rattle.cpu_list.specs.ListText.{is_blank, is_comma, is_hyphen, indent, trim_end, item_of, number_of, range_of};
+ghost use Rattle.cpu_list.specs.ListText.{is_blank, is_comma, is_hyphen, leading_blanks, trim_end, item_of, number_of, range_of};
 ghost use Rattle.cpu_list.specs.Plain.{IsFront, IsPlain};
 ghost use Rattle.std.specs.List.{before_first};
 
@@ -24,8 +24,8 @@ pub(crate) fn first_piece(text: &[u8]) -> &[u8]
 }
 
 /// How many blanks precede the first byte of the piece's item.
-pub(crate) fn indent(piece: &[u8]) -> usize
-    ensures value { result ≡ indent piece.now }
+pub(crate) fn leading_blanks(piece: &[u8]) -> usize
+    ensures value { result ≡ leading_blanks piece.now }
     ensures within { result ≤ length piece.now }
 {
     for (i, byte) in piece.iter().enumerate() {
@@ -51,7 +51,7 @@ fn trim_end(piece: &[u8]) -> &[u8]
 pub(crate) fn item_of(piece: &[u8]) -> &[u8]
     ensures { result.now ≡ item_of piece.now }
 {
-    trim_end(&piece[indent(piece)..])
+    trim_end(&piece[leading_blanks(piece)..])
 }
 
 /// The number that the digits write, or the limit where it isn't below that.

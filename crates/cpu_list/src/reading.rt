@@ -5,7 +5,7 @@ ghost use Rattle.std.specs.List.{before_first};
 ghost use Rattle.cpu_list.specs.ListText.{is_comma, item_of, piece_names, IsList, IsSetOf};
 ghost use Rattle.cpu_list.specs.FirstFault.{item_fault, first_fault, IsFirstFault};
 
-use crate::item::{first_piece, indent, item_of, read_plain, read_range};
+use crate::item::{first_piece, item_of, leading_blanks, read_plain, read_range};
 use crate::list_error::{ListError, ListErrorKind};
 use cpu_set::{CPU_LIMIT, IdSet};
 
@@ -70,7 +70,7 @@ pub fn read(text: &[u8], limit: u16) -> Result<IdSet, ListError>
         match add_first(&mut set, &text[at..], limit) {
             Ok(long) => at += long + 1,
             Err(kind) => {
-                let at = at + indent(first_piece(&text[at..]));
+                let at = at + leading_blanks(first_piece(&text[at..]));
                 return Err(ListError { at, kind });
             }
         }

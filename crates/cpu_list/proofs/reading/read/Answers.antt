@@ -14,7 +14,7 @@ pub returns-in-Err : goal.returns-in-Err
 returns-in-Err c =
     let first = c.first_piece.ensures ∙ ap (before_first is_comma) (take_rest c.args.text.now c.loop-at.at) in
     let faulty = ap (λ piece. item_fault c.args.limit (item_of piece)) c.first_piece.ensures ∙ c.in-Err.ensures.faulty in
-    let fault = IsRead-fault _ _ _ _ _ _ _ c.loop-at.invariant c.loop-at-test.true first faulty c.indent.ensures.value in
+    let fault = IsRead-fault _ _ _ _ _ _ _ c.loop-at.invariant c.loop-at-test.true first faulty c.leading_blanks.ensures.value in
     (fault, (first_decides c.args.limit c.args.text.now _).0 fault)
 
 pub loop-at-preserved : goal.loop-at-preserved
