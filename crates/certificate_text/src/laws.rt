@@ -1,3 +1,4 @@
+//! What holds of the definitions alone.
 ghost use Rattle.std.specs.Prelude.{◌≡◌};
 ghost use Rattle.certificate_text.specs.CertificateText.{OneCertificate};
 ghost use Rattle.certificate_text.specs.FirstBadLine.{OneBadLine};

@@ -34,8 +34,8 @@ impl Fault for BadText {}
 /// O(b + r log r) of b bytes and r rows.
 ///
 /// # Errors
-/// E1, and [`BadText`] where the text is no certificate's. The line that wants memory and those before it are in order, so
-/// the first bad line is told as such unless memory ran out before it.
+/// Lack of memory, and [`BadText`] where the text is no certificate's. The line that wants memory and those before it are
+/// in order, so the first bad line is told as such unless memory ran out before it.
 pub fn read_text(alloc: Global, text: &[u8]) -> Result<Certificate, OrMemory<BadText>>
     // What is read is what the text stands for,
     ensures ok { IfOk result (λ c. IsText text.now c) }
