@@ -24,7 +24,6 @@ mod writing;
 pub use certificates::Certificate;
 pub use checking::{Verdict, VerdictFault, check, check_text};
 pub use id::{ID_LIMIT, is_id};
-pub use laws::{one_reading, read_certificates_can_be_written, the_limits, written_texts_are_read};
 pub use members::Members;
 pub use reading::{BadText, read_text};
 pub use writing::write_text;

@@ -9,7 +9,7 @@ mod config;
 mod cpu_section;
 mod fault;
 mod field;
-mod laws;
+pub mod laws;
 mod lookup;
 mod version;
 
@@ -17,4 +17,3 @@ pub use config::{Config, MAX_BYTES};
 pub use cpu_section::CpuSection;
 pub use fault::ConfigFault;
 pub use field::Field;
-pub use laws::the_limits;

@@ -5,12 +5,11 @@
 #![tactic(auto)]
 
 mod id_set;
-mod laws;
+pub mod laws;
 mod ranges;
 mod word;
 
 pub use id_set::IdSet;
-pub use laws::{least_cpus, least_members, set_laws, the_limits};
 pub use ranges::Ranges;
 
 /// CPU numbers are below this limit, and so are all numbers in a set.

@@ -7,11 +7,10 @@
 mod allowed;
 mod demand;
 mod demand_fault;
-mod laws;
+pub mod laws;
 mod lists;
 mod quota;
 
 pub use demand::{Demand, Kind};
 pub use demand_fault::DemandFault;
-pub use laws::{no_quota_asks_for_two_counts, the_limits};
 pub use quota::DEFAULT_PERIOD;

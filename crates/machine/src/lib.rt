@@ -9,7 +9,7 @@ mod boot;
 mod fault;
 mod field;
 mod index;
-mod laws;
+pub mod laws;
 mod lookup;
 mod machine;
 mod node_sets;
@@ -17,7 +17,6 @@ mod table;
 
 pub use fault::MachineFault;
 pub use field::Field;
-pub use laws::{sound_machines_are_read, the_limits};
 pub use machine::Machine;
 pub use slit::{LOCAL, UNREACHABLE};
 

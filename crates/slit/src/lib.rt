@@ -13,11 +13,10 @@
 mod entries;
 mod fault;
 mod header;
-mod laws;
+pub mod laws;
 mod slit;
 
 pub use fault::SlitFault;
-pub use laws::the_limits;
 pub use slit::Slit;
 
 /// The most localities that a table may have.
