@@ -9,7 +9,7 @@ mod checking;
 mod decimal;
 mod draft;
 mod id;
-mod laws;
+pub mod laws;
 mod line;
 mod line_words;
 mod list_word;

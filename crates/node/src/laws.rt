@@ -10,7 +10,6 @@ ghost use Rattle.node.specs.Served.{RunsServeConfigs};
 ghost use Rattle.node.specs.UnusedLemmas.{FirstIsUnused, FirstIsOfMachine, FirstWantsMemory};
 
 use crate::{CONTAINER_LIMIT, GROUP_NAME};
-use certificate_text::written_texts_are_read;
 
 /// Which kernels a node can be made over: those of which nothing was asked yet, and which have the machine's CPUs and nodes.
 /// Where no write of such a kernel fails, lack of memory is the only error of making a node over it.
@@ -116,7 +115,7 @@ pub fn certificates_prove()
     ensures total { TotalIsProved }
     ensures short { ShortIsProved }
 {
-    written_texts_are_read();
+    certificate_text::laws::written_texts_are_read();
 }
 
 /// There are at most 1,024 containers, and the group below which they have theirs is `numarun`.

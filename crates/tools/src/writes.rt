@@ -3,7 +3,7 @@
 use crate::pieces::{Paper, kind};
 use anyhow::{Result, bail};
 use byte_output::{put, put_all};
-use certificate_text::{read_certificates_can_be_written, read_text, write_text};
+use certificate_text::{laws, read_text, write_text};
 use cpu_set::CPU_LIMIT;
 use std::alloc::Global;
 use std::io;
@@ -71,6 +71,6 @@ fn copy<W: Write>(alloc: Global, text: &[u8], w: &mut W) -> Result<io::Result<()
     let Ok(certificate) = read_text(alloc, text) else {
         bail!("this is no certificate");
     };
-    read_certificates_can_be_written();
+    laws::read_certificates_can_be_written();
     Ok(write_text(&certificate, w))
 }
