@@ -8,6 +8,9 @@ use std::io;
 use std::io::Write;
 
 /// Writes a line of a label and a number.
+///
+/// # Errors
+/// That of the first write that fails or takes no byte; a prefix of the line then went out.
 pub fn put_number_line<W: Write>(label: &[u8], number: u64, w: &mut W) -> io::Result<()>
     ensures { Writes (W.contents w.old) (W.contents w.new) result (label.now ++ (decimal number ++ codes "\n")) }
 {
@@ -15,6 +18,9 @@ pub fn put_number_line<W: Write>(label: &[u8], number: u64, w: &mut W) -> io::Re
 }
 
 /// Writes the line of an error: what it is of, and what is wrong.
+///
+/// # Errors
+/// That of the first write that fails or takes no byte; a prefix of the line then went out.
 pub fn put_error_line<'a, W: Write>(of: &'a [u8], wrong: &'a [u8], w: &mut W) -> io::Result<()>
     ensures { Writes (W.contents w.old) (W.contents w.new) result (error_line of.now wrong.now) }
 {
