@@ -3,6 +3,7 @@ use Rattle.std.specs.Prelude.{ℕ, List, [], ◌∷◌, ◌++◌, codes}
 use Rattle.std.specs.List.{flat_map}
 use Rattle.byte_output.specs.Arguments.{number_text, word_text}
 use Rattle.cpu_list.specs.FaultTitle.{list_title}
+use Rattle.faults.specs.FaultTitle.{memory_title}
 use Rattle.machine.specs.FaultTitle.{machine_title}
 use Rattle.machine.specs.FieldName.{name_of}
 use Rattle.machine.specs.declared.fault.MachineFault.{MachineFault}
@@ -57,7 +58,7 @@ check_arguments_of NoShortage = []
 
 -- the number and the name of a refusal
 abbrev pub title_of : Refusal → List ℕ
-title_of refusal.Memory = codes "E1 Memory"
+title_of refusal.Memory = memory_title
 title_of (refusal.List error) = list_title error.kind
 title_of (refusal.Slit fault) = slit_title fault
 title_of (refusal.Machine fault) = machine_title fault

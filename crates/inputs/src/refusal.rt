@@ -9,7 +9,7 @@ use byte_output::{put, put_all, put_argument, put_word};
 use certificate::CheckFault;
 use certificate_text::VerdictFault;
 use cpu_list::ListError;
-use faults::OrMemory;
+use faults::{OrMemory, memory_title};
 use machine::MachineFault;
 use slit::SlitFault;
 use std::io;
@@ -49,7 +49,7 @@ impl Refusal {
         ensures { result.now ≡ title_of self }
     {
         match self {
-            Refusal::Memory => "E1 Memory",
+            Refusal::Memory => memory_title(),
             Refusal::List(error) => error.kind.title(),
             Refusal::Slit(fault) => fault.title(),
             Refusal::Machine(fault) => fault.title(),

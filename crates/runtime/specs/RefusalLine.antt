@@ -8,6 +8,7 @@ use Rattle.config_json.specs.declared.fault.ConfigFault.{ConfigFault}
 use Rattle.config_json.specs.declared.fault.ConfigFault.TheVariants as config
 use Rattle.demand.specs.declared.demand_fault.DemandFault.{DemandFault}
 use Rattle.demand.specs.declared.demand_fault.DemandFault.TheVariants as demand
+use Rattle.faults.specs.FaultTitle.{memory_title}
 use Rattle.node.specs.FaultTitle.{node_title}
 use Rattle.node.specs.declared.fault.NodeFault.{NodeFault}
 use Rattle.node.specs.declared.fault.NodeFault.TheVariants as node
@@ -44,7 +45,7 @@ node_arguments fault = []
 
 -- the number and the name of a refusal
 abbrev pub title_of : Refusal → List ℕ
-title_of refusal.Memory = codes "E1 Memory"
+title_of refusal.Memory = memory_title
 title_of (refusal.Node fault) = node_title fault
 title_of refusal.NoBundle = codes "E111 NoBundle"
 

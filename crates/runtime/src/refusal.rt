@@ -8,7 +8,7 @@ use byte_output::{put, put_all, put_argument, put_word};
 use config_json::ConfigFault;
 use cpu_list::ListError;
 use demand::DemandFault;
-use faults::OrMemory;
+use faults::{OrMemory, memory_title};
 use kernel_model::KernelFault;
 use node::NodeFault;
 use std::io;
@@ -31,7 +31,7 @@ impl Refusal {
         ensures { result.now ≡ title_of self }
     {
         match self {
-            Refusal::Memory => "E1 Memory",
+            Refusal::Memory => memory_title(),
             Refusal::Node(fault) => fault.title(),
             Refusal::NoBundle => "E111 NoBundle",
         }
