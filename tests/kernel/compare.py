@@ -78,7 +78,8 @@ def by_chance():
 
 
 def largest():
-    """4,096 CPUs and 128 nodes: 1,024 groups below one, 128 each below the one before, and 10,000 processes."""
+    """4,096 CPUs and 128 nodes: 1,024 groups below one, 128 each below the one before, and 10,000 processes, forked in one list of
+    calls."""
     case = Case(0, "0-4095 0 0-4095 0-127 2")
     case.calls = ["make 0 top"] + [f"make 1 g{k}" for k in range(1024)] + [f"cpus {k + 2} {4 * k}-{4 * k + 3}" for k in range(1024)]
     case.calls += ["make 1 deep"] + [f"make {1026 + k} deep" for k in range(127)] + ["cpus 1026 1-4095", "cpus 1100 2048-4095"]

@@ -1,3 +1,4 @@
+pub mod Arguments
 pub mod Output
 pub mod Parts
 pub mod Sending

@@ -3,4 +3,4 @@
 
 mod output;
 
-pub use output::{put, put_all, put_number};
+pub use output::{put, put_all, put_argument, put_number, put_word};

@@ -1,4 +1,5 @@
 ghost use Rattle.std.specs.Prelude.{◌++◌, decimal};
+ghost use Rattle.byte_output.specs.Arguments.{number_text, word_text};
 ghost use Rattle.byte_output.specs.Output.{Writes};
 ghost use Rattle.byte_output.specs.Parts.{bytes_of};
 
@@ -48,4 +49,24 @@ pub fn put_number<W: Write>(before: &[u8], number: u64, after: &[u8], w: &mut W)
     let mut digits = Buffer::new();
     let number = digits.format(number).as_bytes();
     put_all(&[before, number, after], w)
+}
+
+/// Writes a word behind a space.
+///
+/// # Errors
+/// As [`put`]: where it fails, a prefix of the two together went out.
+pub fn put_word<W: Write>(word: &str, w: &mut W) -> io::Result<()>
+    ensures { Writes (W.contents w.old) (W.contents w.new) result (word_text word.now) }
+{
+    put_all(&[b" ".as_slice(), word.as_bytes()], w)
+}
+
+/// Writes a number in decimal behind a space.
+///
+/// # Errors
+/// As [`put`]: where it fails, a prefix of the two together went out.
+pub fn put_argument<W: Write>(number: u64, w: &mut W) -> io::Result<()>
+    ensures { Writes (W.contents w.old) (W.contents w.new) result (number_text number) }
+{
+    put_number(b" ", number, b"", w)
 }

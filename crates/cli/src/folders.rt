@@ -21,6 +21,7 @@ pub struct Folders<'a, F> {
 }
 
 impl<'a, F> Folders<'a, F> {
+    /// The bundles among these files. Takes no memory.
     pub fn new(alloc: Global, files: &'a F) -> Folders<'a, F>
         ensures { result.files.now ≡ files.now }
     {

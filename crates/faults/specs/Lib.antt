@@ -2,3 +2,4 @@ pub mod First
 pub mod FirstLaws
 pub mod Answers
 pub mod Calls
+pub mod FaultTitle

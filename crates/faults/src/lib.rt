@@ -6,10 +6,12 @@
 #![tactic(auto)]
 
 mod or_memory;
+mod title;
 
 ghost use Rattle.faults.specs.FirstLaws.{NoneWhereNone, LeastDecides, AlikeDecideAlike};
 
 pub use or_memory::{Fault, OrMemory};
+pub use title::memory_title;
 
 /// The laws of the first fault below a bound, for faults of any type `F`: there is none where no number
 /// below the bound has one, else the fault of the least number that has one decides, and checks that

@@ -6,7 +6,7 @@ pub trait Fault {}
 /// Why a call was refused: for a fault, or since there was no memory for what it was to make.
 #[derive(Clone, Copy, Debug, PartialEq, Eq, Drop)]
 pub enum OrMemory<F> {
-    /// A growth was refused.
+    /// E1: a growth was refused.
     Memory,
     /// The first fault in the order of the call's checks, or a write that failed.
     Fault(F),

@@ -1,34 +1,12 @@
 -- What a page takes of a text that is written to it.
-use Rattle.std.proofs.Common.{◌≡◌, ℕ, ◌+◌, ◌-◌, ◌≤◌, List, length, take, drop, min, arith, length-append, length-drop, subst, sym, ◌∙◌, take_all, take-add, Option, Result, Ok, Err}
-use Rattle.std.proofs.Math.Seq.{take-append_seam}
-use Rattle.std.proofs.KnownBytes.{Appends-kept, Appends-nil, Appends-trans}
+use Rattle.std.proofs.Common.{◌≡◌, ℕ, ◌+◌, ◌-◌, ◌≤◌, List, length, take, drop, min, arith, length-drop, subst, sym, ◌∙◌, take_all, take-add, Option}
+use Rattle.std.proofs.KnownBytes.{Appends-kept, Appends-trans}
 use Rattle.std.specs.Io.KnownBytes.{Appends, Keeps}
-use Rattle.byte_output.specs.Output.{SendsFront, Writes}
 use Rattle.inputs.specs.Pages.{TakesFront, TakesIfRoom, contents_of}
 use Rattle.inputs.specs.declared.page.Page.{Page}
 use Rattle.inputs.specs.declared.page.TheConstants.{ROOM}
 
--- all of it
-pub TakesFront-all : (old new : Option (List ℕ)) (bytes : List ℕ) → Appends old new bytes → TakesFront old new bytes
-TakesFront-all old new bytes all = (length bytes, omega arith, rw (take_all (length bytes) bytes (omega arith)) all)
-
--- none of it
-pub TakesFront-none : (old : Option (List ℕ)) (bytes : List ℕ) → TakesFront old old bytes
-TakesFront-none old bytes = (0, omega arith, Appends-nil old)
-
--- some of it
-pub TakesFront-some : (old new : Option (List ℕ)) (bytes : List ℕ) → SendsFront old new bytes → TakesFront old new bytes
-TakesFront-some old new bytes front = (
-  length front.sent,
-  rw front.cut (omega (arith, length-append front.sent front.unsent)),
-  rw (front.cut, take-append_seam front.sent front.unsent) front.went_out,
-)
-
-pub TakesFront-written : {E : Type 0} (old new : Option (List ℕ)) (r : Result (Unit {0}) E) (bytes : List ℕ) → Writes old new r bytes → TakesFront old new bytes
-TakesFront-written old new (Ok done) bytes all = TakesFront-all old new bytes all
-TakesFront-written old new (Err e) bytes front = TakesFront-some old new bytes front
-
--- a front of them, and then a front of the others
+-- a front of the bytes, and then a front of the others
 pub TakesFront-more : (a b c : Option (List ℕ)) (bytes : List ℕ) (k : ℕ) → k ≤ length bytes → Appends a b (take k bytes) → TakesFront b c (drop k bytes) → TakesFront a c bytes
 TakesFront-more a b c bytes k within first (n, rest, then) =
     (k + n, omega (arith, length-drop k bytes), rw (take-add k n bytes) (Appends-trans a b c _ _ first then))

@@ -1,7 +1,9 @@
 -- The line that a refusal is printed as: `refused`, its number, its name, and each argument after a space.
-use Rattle.std.specs.Prelude.{ℕ, List, [], ◌∷◌, ◌++◌, codes, decimal}
+use Rattle.std.specs.Prelude.{ℕ, List, [], ◌∷◌, ◌++◌, codes}
 use Rattle.std.specs.List.{flat_map}
+use Rattle.byte_output.specs.Arguments.{number_text, word_text}
 use Rattle.cpu_list.specs.FaultTitle.{list_title}
+use Rattle.faults.specs.FaultTitle.{memory_title}
 use Rattle.machine.specs.FaultTitle.{machine_title}
 use Rattle.machine.specs.FieldName.{name_of}
 use Rattle.machine.specs.declared.fault.MachineFault.{MachineFault}
@@ -17,16 +19,9 @@ use Rattle.inputs.specs.declared.refusal.Arguments.TheVariants as arguments
 use Rattle.inputs.specs.declared.refusal.Refusal.{Refusal}
 use Rattle.inputs.specs.declared.refusal.Refusal.TheVariants as refusal
 
--- a number behind a space, and a word
-abbrev pub argument_text : ℕ → List ℕ
-argument_text n = codes " " ++ decimal n
-
-abbrev pub word_text : List ℕ → List ℕ
-word_text word = codes " " ++ word
-
 -- numbers, each behind a space
 abbrev pub arguments_text : List ℕ → List ℕ
-arguments_text numbers = flat_map argument_text numbers
+arguments_text numbers = flat_map number_text numbers
 
 -- where it stands: the row and the column, or the row
 abbrev pub slit_arguments_of : SlitFault → List ℕ
@@ -63,7 +58,7 @@ check_arguments_of NoShortage = []
 
 -- the number and the name of a refusal
 abbrev pub title_of : Refusal → List ℕ
-title_of refusal.Memory = codes "E1 Memory"
+title_of refusal.Memory = memory_title
 title_of (refusal.List error) = list_title error.kind
 title_of (refusal.Slit fault) = slit_title fault
 title_of (refusal.Machine fault) = machine_title fault

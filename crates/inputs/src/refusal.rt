@@ -4,13 +4,12 @@ ghost use Rattle.inputs.specs.declared.refusal.Refusal.TheVariants.{List};
 ghost use Rattle.inputs.specs.RefusalLine.{arguments_of, arguments_text, check_arguments_of, machine_arguments_of, slit_arguments_of, refusal_line, text_of, title_of};
 ghost use Rattle.byte_output.specs.Output.{Writes};
 
-use crate::output::{put_argument, put_word};
 use crate::read_fault::ReadFault;
-use byte_output::{put, put_all};
+use byte_output::{put, put_all, put_argument, put_word};
 use certificate::CheckFault;
 use certificate_text::VerdictFault;
 use cpu_list::ListError;
-use faults::OrMemory;
+use faults::{OrMemory, memory_title};
 use machine::MachineFault;
 use slit::SlitFault;
 use std::io;
@@ -50,7 +49,7 @@ impl Refusal {
         ensures { result.now ≡ title_of self }
     {
         match self {
-            Refusal::Memory => "E1 Memory",
+            Refusal::Memory => memory_title(),
             Refusal::List(error) => error.kind.title(),
             Refusal::Slit(fault) => fault.title(),
             Refusal::Machine(fault) => fault.title(),
@@ -98,7 +97,7 @@ impl Arguments {
                 put_argument(first, w)?;
                 put_argument(second, w)
             }
-            Arguments::Word(word) => put_word(word.as_bytes(), w),
+            Arguments::Word(word) => put_word(word, w),
         }
     }
 }

@@ -44,6 +44,9 @@ pub enum Reply {
 }
 
 /// Makes one call of a kernel.
+///
+/// # Errors
+/// Those of the kernel's own call.
 pub fn make_call<K: Kernel>(kernel: &mut K, call: &Call) -> Result<Reply, OrMemory<KernelFault>>
     ensures { Step (K.state kernel.old) call.now result (K.state kernel.new) }
 {

@@ -1,5 +1,6 @@
 -- The line that a refusal is printed as: `refused`, its number, its name, and each argument after a space.
-use Rattle.std.specs.Prelude.{ℕ, List, [], ◌++◌, codes, decimal}
+use Rattle.std.specs.Prelude.{ℕ, List, [], ◌++◌, codes}
+use Rattle.byte_output.specs.Arguments.{number_text, word_text}
 use Rattle.cpu_list.specs.FaultTitle.{list_code}
 use Rattle.cpu_list.specs.declared.list_error.ListError.{ListError}
 use Rattle.config_json.specs.PathOf.{path_of}
@@ -7,18 +8,12 @@ use Rattle.config_json.specs.declared.fault.ConfigFault.{ConfigFault}
 use Rattle.config_json.specs.declared.fault.ConfigFault.TheVariants as config
 use Rattle.demand.specs.declared.demand_fault.DemandFault.{DemandFault}
 use Rattle.demand.specs.declared.demand_fault.DemandFault.TheVariants as demand
+use Rattle.faults.specs.FaultTitle.{memory_title}
 use Rattle.node.specs.FaultTitle.{node_title}
 use Rattle.node.specs.declared.fault.NodeFault.{NodeFault}
 use Rattle.node.specs.declared.fault.NodeFault.TheVariants as node
 use Rattle.runtime.specs.declared.refusal.Refusal.{Refusal}
 use Rattle.runtime.specs.declared.refusal.Refusal.TheVariants as refusal
-
--- an argument behind a space: a word or a number
-abbrev pub word_text : List ℕ → List ℕ
-word_text word = codes " " ++ word
-
-abbrev pub number_text : ℕ → List ℕ
-number_text n = word_text (decimal n)
 
 -- the number of what is wrong with a list, and where it is
 abbrev pub list_argument : ListError → List ℕ
@@ -50,7 +45,7 @@ node_arguments fault = []
 
 -- the number and the name of a refusal
 abbrev pub title_of : Refusal → List ℕ
-title_of refusal.Memory = codes "E1 Memory"
+title_of refusal.Memory = memory_title
 title_of (refusal.Node fault) = node_title fault
 title_of refusal.NoBundle = codes "E111 NoBundle"
 

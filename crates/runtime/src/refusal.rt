@@ -2,13 +2,13 @@
 ghost use Rattle.std.specs.Prelude.{◌≡◌};
 ghost use Rattle.byte_output.specs.Output.{Writes};
 ghost use Rattle.runtime.specs.AnswerTexts.{of_either, of_kernel, of_kernel_fault};
-ghost use Rattle.runtime.specs.RefusalLine.{arguments_of, config_arguments, demand_arguments, list_argument, node_arguments, number_text, refusal_line, title_of, word_text};
+ghost use Rattle.runtime.specs.RefusalLine.{arguments_of, config_arguments, demand_arguments, list_argument, node_arguments, refusal_line, title_of};
 
-use byte_output::{put, put_all, put_number};
+use byte_output::{put, put_all, put_argument, put_word};
 use config_json::ConfigFault;
 use cpu_list::ListError;
 use demand::DemandFault;
-use faults::OrMemory;
+use faults::{OrMemory, memory_title};
 use kernel_model::KernelFault;
 use node::NodeFault;
 use std::io;
@@ -31,7 +31,7 @@ impl Refusal {
         ensures { result.now ≡ title_of self }
     {
         match self {
-            Refusal::Memory => "E1 Memory",
+            Refusal::Memory => memory_title(),
             Refusal::Node(fault) => fault.title(),
             Refusal::NoBundle => "E111 NoBundle",
         }
@@ -88,18 +88,6 @@ impl From<OrMemory<KernelFault>> for Refusal {
             OrMemory::Fault(fault) => Refusal::from(fault),
         }
     }
-}
-
-fn put_word<W: Write>(word: &str, w: &mut W) -> io::Result<()>
-    ensures { Writes (W.contents w.old) (W.contents w.new) result (word_text word.now) }
-{
-    put_all(&[b" ".as_slice(), word.as_bytes()], w)
-}
-
-fn put_argument<W: Write>(number: u64, w: &mut W) -> io::Result<()>
-    ensures { Writes (W.contents w.old) (W.contents w.new) result (number_text number) }
-{
-    put_number(b" ", number, b"", w)
 }
 
 fn put_list_error<W: Write>(error: ListError, w: &mut W) -> io::Result<()>

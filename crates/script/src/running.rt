@@ -83,7 +83,7 @@ fn answer_line<T: Target, W: Write>(target: &mut T, line: &LineBuffer, w: &mut W
     ensures { Replies (AnswersLine T.answers target.old line.now) (W.contents w.old) (W.contents w.new) result target.new }
 {
     match line.line() {
-        None => say(b"refused E112 LineTooLong\n", w),
+        None => put_and_flush(b"refused E112 LineTooLong\n", w),
         Some(line) => answer_request(target, read_request(line), w),
     }
 }
@@ -97,7 +97,7 @@ fn answer_request<T: Target, W: Write>(
 {
     match request {
         Request::Nothing => Ok(()),
-        Request::BadLine => say(b"refused E110 BadLine\n", w),
+        Request::BadLine => put_and_flush(b"refused E110 BadLine\n", w),
         Request::Asks(command) => {
             target.answer(command, w)?;
             w.flush()
@@ -106,7 +106,7 @@ fn answer_request<T: Target, W: Write>(
 }
 
 /// Writes the text and flushes the writer.
-fn say<W: Write>(text: &[u8], w: &mut W) -> io::Result<()>
+fn put_and_flush<W: Write>(text: &[u8], w: &mut W) -> io::Result<()>
     ensures { WritesPart (W.contents w.old) (W.contents w.new) result text.now }
 {
     put(text, w)?;

@@ -11,7 +11,7 @@ fn is_blank(byte: u8) -> bool
 }
 
 /// How many blanks precede the line's first word.
-fn indent(line: &[u8]) -> usize
+fn leading_blanks(line: &[u8]) -> usize
     ensures count { result ≡ prefix_len is_blank line.now }
     ensures within { result ≤ length line.now }
 {
@@ -40,7 +40,7 @@ fn word_len(line: &[u8]) -> usize
 pub fn next_word(line: &[u8]) -> Option<(&[u8], &[u8])>
     ensures { MatchOption result (words_of line.now ≡ []) (λ p. words_of line.now ≡ p.0.now ∷ words_of p.1.now) }
 {
-    let start = indent(line);
+    let start = leading_blanks(line);
     if start == line.len() {
         return None;
     }

@@ -3,7 +3,7 @@
 use anyhow::{Context, Result, bail};
 use cpu_set::{CPU_LIMIT, IdSet};
 use faults::OrMemory;
-use kernel_model::{Call, FusedKernel, Group, Kernel, LAST_PID, ModelKernel, Reply, make_call};
+use kernel_model::{Call, FusedKernel, Group, Kernel, LAST_PID, ModelKernel, Reply, make_calls};
 use std::alloc::{AllocError, Global};
 
 /// `kernel FAIL`: a line `PRESENT RESERVED ONLINE NODES PID` of sets and the first pid, and calls over that kernel, of which
@@ -35,20 +35,40 @@ fn new_kernel(alloc: Global, line: &str) -> Result<ModelKernel> {
     Ok(ModelKernel::new(alloc, present, reserved, online, nodes, pid)?)
 }
 
-/// Makes each call, and prints what it answers. A group is named by its serial.
+/// Makes each call, and prints what it answers. A group is named by its serial. As many calls as possible are made as one
+/// list: those up to the first that names a group which one of them answers.
 pub fn each<R: AllocGlobal + Print, K: Kernel>(rt: &R, kernel: &mut K, calls: &str) -> Result<()> {
     let mut seen = Vec::new(rt.alloc());
     seen.push(kernel.root())?;
+    let mut waiting = Vec::new(rt.alloc());
     for line in calls.split('\n') {
         if line.is_empty() {
             continue;
         }
-        let words: Vec<&str> = line.split(' ').collect(rt.alloc())?;
-        let Some(call) = call_of(rt.alloc(), seen.as_slice(), words.as_slice())? else {
-            bail!("{line} is no call");
+        let call = match call_in(rt.alloc(), seen.as_slice(), line) {
+            Ok(call) => call,
+            Err(_) => {
+                make(rt, kernel, waiting.as_slice(), &mut seen)?;
+                waiting.clear();
+                call_in(rt.alloc(), seen.as_slice(), line)?
+            }
         };
-        match make_call(kernel, &call) {
-            Ok(reply) => print(rt, &reply, &mut seen)?,
+        waiting.push(call)?;
+    }
+    make(rt, kernel, waiting.as_slice(), &mut seen)
+}
+
+/// Makes the calls, one after another, and prints what each answers.
+fn make<R: AllocGlobal + Print, K: Kernel>(
+    rt: &R,
+    kernel: &mut K,
+    calls: &[Call],
+    seen: &mut Vec<Group>,
+) -> Result<()> {
+    let replies = make_calls(rt.alloc(), kernel, calls)?;
+    for reply in replies.as_slice() {
+        match reply {
+            Ok(reply) => print(rt, reply, seen)?,
             Err(OrMemory::Memory) => println!(rt; "refused Memory")?,
             Err(OrMemory::Fault(fault)) => println!(rt; "refused {fault:?}")?,
         }
@@ -88,7 +108,16 @@ fn print_ids<R: AllocGlobal + Print>(rt: &R, set: &IdSet) -> Result<()> {
     Ok(())
 }
 
-/// The call that a line's words spell.
+/// The call that a line spells.
+fn call_in(alloc: Global, seen: &[Group], line: &str) -> Result<Call> {
+    let words: Vec<&str> = line.split(' ').collect(alloc)?;
+    let Some(call) = call_of(alloc, seen, words.as_slice())? else {
+        bail!("{line} is no call");
+    };
+    Ok(call)
+}
+
+/// The call of a line's words.
 fn call_of(alloc: Global, seen: &[Group], words: &[&str]) -> Result<Option<Call>> {
     match words {
         ["root"] => Ok(Some(Call::Root)),

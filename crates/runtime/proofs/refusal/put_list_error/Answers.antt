@@ -1,7 +1,7 @@
 use Rattle.std.proofs.lemmas.Result.{err_from_is_err_and}
+use Rattle.byte_output.specs.Arguments.{number_text, word_text}
 use Rattle.byte_output.specs.Sending.{SendsFront-more, Writes-then}
 use Rattle.cpu_list.specs.FaultTitle.{list_code}
-use Rattle.runtime.specs.RefusalLine.{number_text, word_text}
 use Rattle.runtime.proofs.refusal.put_list_error.Goals as goal
 
 pub returns-in_err-put_word : goal.returns-in_err-put_word

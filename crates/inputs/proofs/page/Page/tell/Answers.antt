@@ -1,6 +1,7 @@
 -- The front that fits, and then the rest.
 use Rattle.std.proofs.Common.{◌≡◌, ◌-◌, drop, length, take, arith, length-drop, take_all}
-use Rattle.inputs.proofs.Taking.{TakesFront-kept, TakesFront-written, TakesIfRoom-of}
+use Rattle.inputs.specs.Taking.{TakesFront-written}
+use Rattle.inputs.proofs.Taking.{TakesFront-kept, TakesIfRoom-of}
 use Rattle.inputs.proofs.page.Page.tell.Goals as goal
 
 pub returns-then-is_ok : goal.returns-then-is_ok

@@ -1,7 +1,7 @@
 use Rattle.std.proofs.Common.{◌≡◌, ◌+◌, drop}
 use Rattle.std.specs.List.{prefix_len}
 use Rattle.script.specs.Lines.{is_blank}
-use Rattle.script.proofs.word.indent.Given as goal
+use Rattle.script.proofs.word.leading_blanks.Given as goal
 
 abbrev pub invariant-loop-i : goal.invariant-loop-i
 invariant-loop-i l = l.i + prefix_len is_blank (drop l.i l.line) ≡ prefix_len is_blank l.line

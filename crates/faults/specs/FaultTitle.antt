@@ -1,0 +1,5 @@
+-- What is printed as the cause of a refusal for lack of memory: its number and its name.
+use Rattle.std.specs.Prelude.{ℕ, List, codes}
+
+abbrev pub memory_title : List ℕ
+memory_title = codes "E1 Memory"

@@ -1,0 +1,9 @@
+ghost use Rattle.std.specs.Prelude.{◌≡◌};
+ghost use Rattle.faults.specs.FaultTitle.{memory_title};
+
+/// The number and the name that the line of a refusal for lack of memory has.
+pub fn memory_title() -> &'static str
+    ensures { result.now ≡ memory_title }
+{
+    "E1 Memory"
+}
