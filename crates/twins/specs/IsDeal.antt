@@ -33,6 +33,10 @@ pub record IsTaken (old new taken : Ids) (count : ℕ) : Type 0 where
   pub as_many : set.len taken ≡ count
   pub left : set.len new + count ≡ set.len old
 
+-- they are moved into another set
+abbrev pub IsMoved : Ids → Ids → Ids → Ids → ℕ → Type 0
+IsMoved old new own_old own_new count = (taken : Ids) × IsTaken old new taken count × (own_new ≡ set.union own_old taken)
+
 -- the CPUs of one class are dealt to the holders of shares, in the rows' order, and nothing else changes
 pub record IsClassDeal (class : Ids) (shares : List Share) (old new : List Ids) : Type 0 where
   pub long : length new ≡ length old

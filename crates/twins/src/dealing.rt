@@ -7,7 +7,7 @@ ghost use Rattle.cpu_set.specs.Members.{InRange};
 ghost use Rattle.certificate.specs.IsDealt.{Holds};
 ghost use Rattle.twins.specs.IsGrouping.{class_at};
 ghost use Rattle.twins.specs.Holdings.{shared_out, held_of};
-ghost use Rattle.twins.specs.IsDeal.{IsDeal, IsClassDeal, IsTaken};
+ghost use Rattle.twins.specs.IsDeal.{IsDeal, IsClassDeal, IsMoved};
 
 use crate::{Classes, Holders, Share};
 use cpu_set::IdSet;
@@ -100,22 +100,21 @@ fn deal_in_order(class: &IdSet, shares: &[Share], sets: &mut [IdSet])
 {
     let mut rest = *class;
     for share in shares {
-        let dealt = take_lowest(&mut rest, share.amount);
-        sets[share.row] = sets[share.row].union(&dealt);
+        move_lowest(&mut rest, &mut sets[share.row], share.amount);
     }
 }
 
-/// Takes the lowest CPUs out of a set.
-fn take_lowest(rest: &mut IdSet, count: u32) -> IdSet
+/// Moves the lowest CPUs of a set into another. Each is sought from the one before it on.
+fn move_lowest(rest: &mut IdSet, own: &mut IdSet, count: u32)
     requires { count ≤ set.len rest.old }
-    ensures { IsTaken rest.old rest.new result count }
+    ensures { IsMoved rest.old rest.new own.old own.new count }
 {
-    let mut taken = IdSet::empty();
+    let mut next = rest.first();
     for _ in 0..count {
-        if let Some(cpu) = rest.first() {
+        if let Some(cpu) = next {
             rest.remove(cpu);
-            taken.insert(cpu);
+            own.insert(cpu);
+            next = rest.next_after(cpu);
         }
     }
-    taken
 }
