@@ -24,7 +24,7 @@ pub(crate) fn parts_of(alloc: Global, offers: &Offers, held: &IdSet) -> Result<O
 }
 
 /// Adds an offer of these CPUs, if there are any.
-fn push_some(offers: &mut Offers, weight: u32, cpus: IdSet) -> Result<(), AllocError>
+pub(crate) fn push_some(offers: &mut Offers, weight: u32, cpus: IdSet) -> Result<(), AllocError>
     ensures { OnOk result (offers.new ≡ offers.old ++ filter has_some (record { weight = weight; cpus = cpus } ∷ [])) }
 {
     if cpus.is_empty() {
