@@ -16,7 +16,7 @@ use Rattle.cpu_set.specs.SetLaws.{empty_of_none}
 use Rattle.certificate.specs.IsDealt.{Holds}
 use Rattle.certificate.specs.Tests.{and_left, and_right, or_left, or_right}
 use Rattle.twins.specs.Holdings.{share_of, shared_out}
-use Rattle.twins.specs.IsDeal.{IsTaken, IsMoved, IsClassDeal}
+use Rattle.twins.specs.IsDeal.{IsTaken, IsMoved, IsFirst, IsClassDeal}
 use Rattle.twins.specs.declared.holders.Share.{Share}
 use Rattle.twins.proofs.Sets.{some_of_member, len_split}
 
@@ -127,10 +127,6 @@ move_more old new own_old own_new count cpu so_far first = (
     swap true true d = refl
     swap true false d = refl
     swap false b d = refl
-
--- the first of a set, or that it has none
-abbrev pub IsFirst : Ids → Option ℕ → Type 0
-IsFirst s next = MatchOption next (NoneFrom s 0) (λ n. IsFirstFrom s 0 n)
 
 pub first_of_some : (s : Ids) (next : Option ℕ) (cpu : ℕ) → IsFirst s next → next ≡ Some cpu → IsFirstFrom s 0 cpu
 first_of_some s next cpu first is = subst (IsFirst s) is first

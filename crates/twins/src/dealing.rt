@@ -1,13 +1,13 @@
 //! The CPUs of classes, dealt to rows.
-ghost use Rattle.std.specs.Prelude.{◌≡◌, ℕ, ◌<◌, ◌≤◌, true, IfOk, OnOk, All, AllPairs, length};
+ghost use Rattle.std.specs.Prelude.{◌≡◌, ℕ, ◌<◌, ◌≤◌, true, IfOk, IfSome, OnOk, All, AllPairs, length};
 ghost use Rattle.std.specs.List.Sorted.{IsPermutation, IsNonDecreasingBy};
 ghost use Rattle.std.specs.FinSet as set;
 ghost use Rattle.cpu_set.specs.Ids.{IsDisjoint};
-ghost use Rattle.cpu_set.specs.Members.{InRange};
+ghost use Rattle.cpu_set.specs.Members.{IsCpu, InRange};
 ghost use Rattle.certificate.specs.IsDealt.{Holds};
 ghost use Rattle.twins.specs.IsGrouping.{class_at};
 ghost use Rattle.twins.specs.Holdings.{shared_out, held_of};
-ghost use Rattle.twins.specs.IsDeal.{IsDeal, IsClassDeal, IsMoved};
+ghost use Rattle.twins.specs.IsDeal.{IsDeal, IsClassDeal, IsMoved, IsFirst};
 
 use crate::{Classes, Holders, Share};
 use cpu_set::IdSet;
@@ -99,17 +99,27 @@ fn deal_in_order(class: &IdSet, shares: &[Share], sets: &mut [IdSet])
     ensures { IsClassDeal class.now shares.now sets.old sets.new }
 {
     let mut rest = *class;
+    let mut next = rest.first();
     for share in shares {
-        move_lowest(&mut rest, &mut sets[share.row], share.amount);
+        next = move_lowest(&mut rest, &mut sets[share.row], share.amount, next);
     }
 }
 
-/// Moves the lowest CPUs of a set into another. Each is sought from the one before it on.
-fn move_lowest(rest: &mut IdSet, own: &mut IdSet, count: u32)
-    requires { count ≤ set.len rest.old }
-    ensures { IsMoved rest.old rest.new own.old own.new count }
+/// Moves the lowest CPUs of a set, of which the first is known, into another, and returns the first that is left.
+fn move_lowest(
+    rest: &mut IdSet,
+    own: &mut IdSet,
+    count: u32,
+    first: Option<u16>,
+) -> Option<u16>
+    requires count { count ≤ set.len rest.old }
+    requires first { IsFirst rest.old first }
+    requires in_range { IfSome first (λ n. IsCpu n) }
+    ensures moved { IsMoved rest.old rest.new own.old own.new count }
+    ensures first { IsFirst rest.new result }
+    ensures in_range { IfSome result (λ n. IsCpu n) }
 {
-    let mut next = rest.first();
+    let mut next = first;
     for _ in 0..count {
         if let Some(cpu) = next {
             rest.remove(cpu);
@@ -117,4 +127,5 @@ fn move_lowest(rest: &mut IdSet, own: &mut IdSet, count: u32)
             next = rest.next_after(cpu);
         }
     }
+    next
 }

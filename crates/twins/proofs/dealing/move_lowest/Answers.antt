@@ -6,7 +6,7 @@ use Rattle.twins.proofs.dealing.move_lowest.Goals as goal
 use Rattle.twins.proofs.dealing.move_lowest.Goals.{in-Some, in_default}
 
 pub loop-init : goal.loop-init
-loop-init c = record { moved = move_start _ _; first = c.first-next.ensures.first; in_range = c.first-next.ensures.in_range }
+loop-init c = record { moved = move_start _ _; first = c.requires.first; in_range = c.requires.in_range }
 
 pub remove-requires : goal.remove-requires
 remove-requires c = subst (λ next. IfSome next (λ n. IsCpu n)) c.in-Some.is c.loop.invariant.in_range
@@ -24,5 +24,5 @@ loop-preserved c =
             first = next_first _ _ _ first (rw (← w.remove.ensures) w.next_after-next.ensures.first);
             in_range = w.next_after-next.ensures.in_range;
           })
-      | in_default w ↦ absurd (still_some _ _ c.loop.invariant.moved.0 _ _ c.loop.invariant.moved.1 c.loop-test.true c.requires w.in_default.ensures.first)
+      | in_default w ↦ absurd (still_some _ _ c.loop.invariant.moved.0 _ _ c.loop.invariant.moved.1 c.loop-test.true c.requires.count w.in_default.ensures.first)
     ]

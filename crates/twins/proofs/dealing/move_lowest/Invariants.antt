@@ -1,7 +1,6 @@
 use Rattle.std.proofs.Common.{IfSome}
 use Rattle.cpu_set.specs.Members.{IsCpu}
-use Rattle.twins.specs.IsDeal.{IsMoved}
-use Rattle.twins.proofs.Deals.{IsFirst}
+use Rattle.twins.specs.IsDeal.{IsMoved, IsFirst}
 use Rattle.twins.proofs.dealing.move_lowest.Given as goal
 
 abbrev pub invariant-loop : goal.invariant-loop
