@@ -131,6 +131,10 @@ move_more old new own_old own_new count cpu so_far first = (
 pub first_of_some : (s : Ids) (next : Option ℕ) (cpu : ℕ) → IsFirst s next → next ≡ Some cpu → IsFirstFrom s 0 cpu
 first_of_some s next cpu first is = subst (IsFirst s) is first
 
+pub first_of_none : (s : Ids) (next : Option ℕ) → IsFirst s next → ((n : ℕ) → next ≡ Some n → ⊥) → NoneFrom s 0
+first_of_none s None first none = first
+first_of_none s (Some n) first none = absurd (none n refl)
+
 not_below : (s : Ids) (cpu : ℕ) → IsFirstFrom s 0 cpu → (k : ℕ) → k < cpu + 1 → fin.contains (fin.remove s cpu) k ≡ false
 not_below s cpu first k low =
     contains-remove s cpu k

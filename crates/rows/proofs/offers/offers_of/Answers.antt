@@ -49,7 +49,7 @@ returns c =
     let chains = c.chains_of-chains.result in
     let farthest = c.farthest-farthest.result in
     let are : AreWeights m homes chains.weights = rw c.chains_of-chains.ensures.weights c.weights.ensures.weights in
-    let last : c.loop-weight.weight ≡ farthest = omega (arith, c.loop-weight-test.false, c.loop-weight.auto.weight) in
+    let last : c.loop-weight.weight ≡ farthest = omega (arith, c.loop-weight-test.false, c.loop-weight.auto.weight-end) in
     offering_end m homes cpus c.loop-weight.left chains.weights farthest _ c.loop-weight.offers _ c.requires.reach are
     c.farthest-farthest.ensures.below c.farthest-farthest.ensures.most
     (subst (λ n. Offering m homes cpus n c.loop-weight.offers c.loop-weight.left) last c.loop-weight.invariant)

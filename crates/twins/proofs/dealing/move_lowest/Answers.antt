@@ -1,7 +1,7 @@
 use Rattle.std.proofs.Common.{IfSome, subst}
 use Rattle.cpu_set.specs.Ids.{IsFirstFrom}
 use Rattle.cpu_set.specs.Members.{IsCpu}
-use Rattle.twins.proofs.Deals.{move_start, move_more, first_of_some, next_first, still_some}
+use Rattle.twins.proofs.Deals.{move_start, move_more, first_of_some, first_of_none, next_first, still_some}
 use Rattle.twins.proofs.dealing.move_lowest.Goals as goal
 use Rattle.twins.proofs.dealing.move_lowest.Goals.{in-Some, in_default}
 
@@ -24,5 +24,5 @@ loop-preserved c =
             first = next_first _ _ _ first (rw (← w.remove.ensures) w.next_after-next.ensures.first);
             in_range = w.next_after-next.ensures.in_range;
           })
-      | in_default w ↦ absurd (still_some _ _ c.loop.invariant.moved.0 _ _ c.loop.invariant.moved.1 c.loop-test.true c.requires.count w.in_default.ensures.first)
+      | in_default w ↦ absurd (still_some _ _ c.loop.invariant.moved.0 _ _ c.loop.invariant.moved.1 c.loop-test.true c.requires.count (first_of_none _ _ c.loop.invariant.first w.in_default.not-Some))
     ]
