@@ -136,16 +136,15 @@ first_of_none s None first none = first
 first_of_none s (Some n) first none = absurd (none n refl)
 
 not_below : (s : Ids) (cpu : ℕ) → IsFirstFrom s 0 cpu → (k : ℕ) → k < cpu + 1 → fin.contains (fin.remove s cpu) k ≡ false
-not_below s cpu first k low =
-    contains-remove s cpu k
-    ∙ elim (cases_eq k cpu) [
-      | inl same ↦ ap (λ b. not b && fin.contains s k) (eq-eqb k cpu same)
-      | inr differ ↦ ap (λ b. not (k == cpu) && b) (first.least k (omega arith) (omega arith)) ∙ and_none (not (k == cpu))
-    ]
+not_below s cpu first k low = contains-remove s cpu k ∙ gone (cases_eq k cpu)
   where
     and_none : (b : Bool) → (b && false) ≡ false
     and_none true = refl
     and_none false = refl
+
+    gone : (k ≡ cpu) ⊎ ((k ≡ cpu) → ⊥) → (not (k == cpu) && fin.contains s k) ≡ false
+    gone (inl same) = ap (λ b. not b && fin.contains s k) (eq-eqb k cpu same)
+    gone (inr differ) = ap (λ b. not (k == cpu) && b) (first.least k (omega arith) (omega arith)) ∙ and_none (not (k == cpu))
 
 -- behind the first that was taken out comes the first of what is left
 pub next_first :

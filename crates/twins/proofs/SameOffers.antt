@@ -53,14 +53,14 @@ kind_offers_none rows kinds k j h before lt c =
         list_any_at (λ (r : RowView). is_some (weight r c)) (take k rows) j none (rw (length-take k rows) (omega arith))
         (ap (λ (o : List Offer). is_some (weight_in o c)) offers ∙ e)
 
+    or_none : (b : Bool) → (b || false) ≡ b
+    or_none true = refl
+    or_none false = refl
+
     by_cases : (b : Bool) → is_some (weight (get_or rows k none) c) ≡ b
         → (is_offered (take k rows) c || is_some (weight (get_or rows k none) c)) ≡ is_offered (take k rows) c
     by_cases true e = ap (λ b. b || is_some (weight (get_or rows k none) c)) (there e) ∙ sym (there e)
     by_cases false e = ap (λ b. is_offered (take k rows) c || b) e ∙ or_none (is_offered (take k rows) c)
-
-    or_none : (b : Bool) → (b || false) ≡ b
-    or_none true = refl
-    or_none false = refl
 
 pub kinds_none : (rows : List RowView) → AreKinds rows 0 []
 kinds_none rows = record { long = refl; each = λ k lt. absurd (omega arith) }
