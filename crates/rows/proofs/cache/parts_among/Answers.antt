@@ -1,5 +1,4 @@
-use Rattle.std.proofs.Common.{◌∙◌, subst, sym}
-use Rattle.std.specs.Prelude.{All}
+use Rattle.std.proofs.Common.{◌∙◌}
 use Rattle.std.proofs.lemmas.List.Elements.{All-push}
 use Rattle.rows.specs.CachedOffers.{IsCached}
 use Rattle.rows.proofs.CacheLemmas.{parts_are}
@@ -15,3 +14,8 @@ returns-in-Some-clause-parts c =
 
 pub parts_of-parts-requires : goal.parts_of-parts-requires
 parts_of-parts-requires c = rw c.in_ok-offers.ensures (offers_of_distances _ _ _)
+
+pub returns-clause-cache : goal.returns-clause-cache
+returns-clause-cache c =
+    rw c.in_ok-push.ensures.items
+    (All-push (IsCached c.args.machine.now) _ _ c.requires.cache (record { offers = c.in_ok-offers.ensures; parts = c.in_ok-copy.ensures ∙ c.in_ok-parts.ensures }))
