@@ -32,13 +32,13 @@ pub struct CachedParts {
     pub offers: Offers,
 }
 
-/// The entry of these CPUs for these homes. Homes mostly differ in the least of them.
+/// The entry of these CPUs for these homes. Homes mostly differ in the least of them, and where they are alike, CPUs do.
 fn find<'a>(cache: &'a [CachedOffers], homes: &IdSet, cpus: &IdSet) -> Option<&'a CachedOffers>
     ensures { (m : Layout) → All (IsCached m) cache.now → IfSome result (λ cached. IsCachedFor m homes.now cpus.now cached.now) }
 {
     let least = homes.first();
     for cached in cache {
-        if cached.homes.first() == least && cached.homes == *homes && cached.cpus == *cpus {
+        if cached.homes.first() == least && cached.cpus == *cpus && cached.homes == *homes {
             return Some(cached);
         }
     }
