@@ -1,12 +1,12 @@
 -- The CPUs of one weight, and the offers of all weights.
-use Rattle.std.proofs.Common.{◌≡◌, ℕ, zero, suc, ◌+◌, ◌<◌, ◌≤◌, Bool, true, false, cond, ◌&&◌, ◌==◌, nat_lt, List, [], ◌∷◌, ◌++◌, get_or, refl, sym, ap, ◌∙◌, arith}
-use Rattle.std.proofs.lemmas.Bool.{true≢false, false≢true}
+use Rattle.std.proofs.Common.{◌≡◌, ℕ, zero, suc, ◌+◌, ◌<◌, ◌≤◌, ◌-◌, Bool, true, false, cond, not, ◌&&◌, ◌==◌, nat_lt, nat_le, inl, inr, List, [], ◌∷◌, ◌++◌, filter, get_or, refl, sym, ap, ◌∙◌, arith}
+use Rattle.std.proofs.lemmas.Bool.{true≢false, false≢true, cases_eq, cases_lt}
 use Rattle.std.proofs.lemmas.Bool.Decides.{nat_tests}
 use Rattle.std.proofs.lemmas.List.FromFn.{filter_of_map_range_with_len_more}
 use Rattle.std.proofs.lemmas.List.{append-nil}
 use Rattle.std.specs.FinSet as set
 use Rattle.cpu_set.specs.Ids.{Ids}
-use Rattle.cpu_set.specs.Pointwise.{same_members, contains-empty, contains-intersection}
+use Rattle.cpu_set.specs.Pointwise.{same_members, contains-empty, contains-intersection, contains-difference}
 use Rattle.machine.specs.Layout.{Layout}
 use Rattle.machine.specs.Nodes.{node_of}
 use Rattle.machine.specs.Present.{present}
@@ -86,21 +86,6 @@ are_of_weight m homes cpus at here weights n reach are each is =
     by_cpus c true false has there = absurd (false≢true (sym there ∙ (reach c has).0))
     by_cpus c true true has there = and_true _ ∙ ap (λ w. w == n) (are.each c there)
 
--- a weight that one of the CPUs has is offered
-pub offered : (m : Layout) (homes cpus here : Ids) (n v : ℕ) (offers more : List Offer) → v ≡ n → offers ≡ offers_below m homes cpus n
-    → here ≡ of_weight m homes cpus n → (here ≡ set.empty → ⊥) → more ≡ offers ++ record { weight = v; cpus = here } ∷ []
-    → more ≡ offers_below m homes cpus (n + 1)
-offered m homes cpus here n v offers more same before is some added =
-    added
-    ∙ ap (λ u. offers ++ record { weight = u; cpus = here } ∷ []) same
-    ∙ ap (λ l. l ++ record { weight = n; cpus = here } ∷ []) before
-    ∙ ap (λ s. offers_below m homes cpus n ++ record { weight = n; cpus = s } ∷ []) is
-    ∙ sym (one_more m homes cpus n ∙ ap (λ b. offers_below m homes cpus n ++ cond b (offer_at m homes cpus n ∷ []) []) (by_len (set.len (of_weight m homes cpus n)) refl))
-  where
-    by_len : (k : ℕ) → set.len (of_weight m homes cpus n) ≡ k → nat_lt 0 (set.len (of_weight m homes cpus n)) ≡ true
-    by_len zero e = absurd (some (is ∙ set.empty_of_len _ e))
-    by_len (suc k) e = grind (arith, nat_tests)
-
 -- and one that none has is not
 pub passed_over : (m : Layout) (homes cpus here : Ids) (n : ℕ) (offers : List Offer) → offers ≡ offers_below m homes cpus n
     → here ≡ of_weight m homes cpus n → here ≡ set.empty → offers ≡ offers_below m homes cpus (n + 1)
@@ -110,13 +95,88 @@ passed_over m homes cpus here n offers before is none =
     (ap (λ s. nat_lt 0 (set.len s)) (sym is ∙ none) ∙ ap (nat_lt 0) (set.len-empty _))
     ∙ append-nil _)
 
--- a weight that no node has is not offered
-pub none_offered : (m : Layout) (homes cpus : Ids) (weights : List ℕ) (n : ℕ) (offers : List Offer) → AreInReach m homes cpus → AreWeights m homes weights
-    → ((k : ℕ) → get_or weights k 255 ≡ n → ⊥) → offers ≡ offers_below m homes cpus n → offers ≡ offers_below m homes cpus (n + 1)
-none_offered m homes cpus weights n offers reach are none before =
-    passed_over m homes cpus (of_weight m homes cpus n) n offers before refl
-    (none_of m homes cpus n (λ c has is. none (node_of m c) (are.each c (reach c has).0 ∙ is)))
+-- the lesser weights are offered, and the CPUs of the others are left
+pub record Offering (m : Layout) (homes cpus : Ids) (n : ℕ) (offers : List Offer) (left : Ids) : Type 0 where
+  pub so_far : offers ≡ offers_below m homes cpus n
+  pub left_are : (c : ℕ) → set.contains left c ≡ (set.contains cpus c && nat_le n (weight m homes c))
 
-pub all_offered : (m : Layout) (homes cpus : Ids) (n : ℕ) (offers : List Offer) → offers ≡ offers_below m homes cpus n → n ≡ 255 → offers ≡ offers_of m homes cpus
+pub offering_start : (m : Layout) (homes cpus left : Ids) (offers : List Offer) → offers ≡ [] → left ≡ cpus → Offering m homes cpus 0 offers left
+offering_start m homes cpus left offers none all = record {
+  so_far = none;
+  left_are = λ c. ap (λ s. set.contains s c) all ∙ from_zero (set.contains cpus c) (weight m homes c);
+}
+  where
+    from_zero : (b : Bool) (v : ℕ) → b ≡ (b && nat_le 0 v)
+    from_zero true v = grind (arith, nat_tests)
+    from_zero false v = refl
+
+-- an offer of the CPUs of a weight, if there are any
+added : (m : Layout) (homes cpus here : Ids) (n v : ℕ) (offers more : List Offer) → v ≡ n → offers ≡ offers_below m homes cpus n → here ≡ of_weight m homes cpus n
+    → more ≡ offers ++ filter has_some (record { weight = v; cpus = here } ∷ []) → more ≡ offers_below m homes cpus (n + 1)
+added m homes cpus here n v offers more same before is are =
+    are
+    ∙ ap (λ u. offers ++ filter has_some (record { weight = u; cpus = here } ∷ [])) same
+    ∙ ap (λ s. offers ++ filter has_some (record { weight = n; cpus = s } ∷ [])) is
+    ∙ ap (λ l. l ++ filter has_some (offer_at m homes cpus n ∷ [])) before
+    ∙ sym (one_more m homes cpus n)
+
+pub offering_more : (m : Layout) (homes cpus left here less : Ids) (n v : ℕ) (offers more : List Offer) → Offering m homes cpus n offers left → v ≡ n
+    → here ≡ of_weight m homes cpus n → less ≡ set.difference left here → more ≡ offers ++ filter has_some (record { weight = v; cpus = here } ∷ [])
+    → Offering m homes cpus (n + 1) more less
+offering_more m homes cpus left here less n v offers more h same is without are = record {
+  so_far = added m homes cpus here n v offers more same h.so_far is are;
+  left_are = λ c.
+      ap (λ s. set.contains s c) without ∙ contains-difference left here c
+      ∙ ap (λ b. b && not (set.contains here c)) (h.left_are c)
+      ∙ ap (λ b. (set.contains cpus c && nat_le n (weight m homes c)) && not b) (ap (λ s. set.contains s c) is ∙ contains-of_weight m homes cpus n c)
+      ∙ above (set.contains cpus c) (weight m homes c);
+}
+  where
+    above : (b : Bool) (x : ℕ) → ((b && nat_le n x) && not (b && (x == n))) ≡ (b && nat_le (n + 1) x)
+    above true x = grind (arith, nat_tests)
+    above false x = refl
+
+-- a weight that no node has is not offered
+pub offering_none : (m : Layout) (homes cpus left : Ids) (weights : List ℕ) (n : ℕ) (offers : List Offer) → AreInReach m homes cpus → AreWeights m homes weights
+    → ((k : ℕ) → get_or weights k 255 ≡ n → ⊥) → Offering m homes cpus n offers left → Offering m homes cpus (n + 1) offers left
+offering_none m homes cpus left weights n offers reach are none h = record {
+  so_far = passed_over m homes cpus (of_weight m homes cpus n) n offers h.so_far refl (none_of m homes cpus n never);
+  left_are = λ c. h.left_are c ∙ by_cpus c (set.contains cpus c) refl;
+}
+  where
+    never : (c : ℕ) → set.contains cpus c ≡ true → weight m homes c ≡ n → ⊥
+    never c has is = none (node_of m c) (are.each c (reach c has).0 ∙ is)
+
+    by_cpus : (c : ℕ) (b : Bool) → set.contains cpus c ≡ b → (b && nat_le n (weight m homes c)) ≡ (b && nat_le (n + 1) (weight m homes c))
+    by_cpus c false e = refl
+    by_cpus c true e = elim (cases_eq (weight m homes c) n) [ inl is ↦ absurd (never c e is) | inr other ↦ apart (weight m homes c) other ]
+      where
+        apart : (x : ℕ) → (x ≡ n → ⊥) → nat_le n x ≡ nat_le (n + 1) x
+        apart x other = elim (cases_lt x n) [ inl lt ↦ grind (arith, nat_tests) | inr le ↦ let lt : n < x = omega (arith, le, other) in grind (arith, nat_tests) ]
+
+-- none of the CPUs is farther than the farthest node, so what is left is offered at its weight
+pub offering_end : (m : Layout) (homes cpus left : Ids) (weights : List ℕ) (n v : ℕ) (offers more : List Offer) → AreInReach m homes cpus → AreWeights m homes weights
+    → n < 255 → ((k : ℕ) → get_or weights k 255 < 255 → get_or weights k 255 ≤ n) → Offering m homes cpus n offers left → v ≡ n
+    → more ≡ offers ++ filter has_some (record { weight = v; cpus = left } ∷ []) → more ≡ offers_of m homes cpus
 unfolding offers_of
-all_offered m homes cpus n offers are all = are ∙ ap (offers_below m homes cpus) all
+offering_end m homes cpus left weights n v offers more reach are below most h same is =
+    added m homes cpus left n v offers more same h.so_far rest is
+    ∙ sym (none_between m homes cpus (n + 1) (254 - n) (λ c has above under. let near : weight m homes c ≤ n = low c has in omega (arith, near, above)))
+    ∙ ap (offers_below m homes cpus) (omega (arith, below))
+  where
+    low : (c : ℕ) → set.contains cpus c ≡ true → weight m homes c ≤ n
+    low c has =
+        let at : get_or weights (node_of m c) 255 ≡ weight m homes c = are.each c (reach c has).0 in
+        let near : weight m homes c < 255 = (reach c has).1 in
+        let le : get_or weights (node_of m c) 255 ≤ n = most (node_of m c) (omega (arith, at, near)) in
+        omega (arith, at, le)
+
+    by_cpus : (c : ℕ) (b : Bool) → set.contains cpus c ≡ b → (b && nat_le n (weight m homes c)) ≡ (b && (weight m homes c == n))
+    by_cpus c false e = refl
+    by_cpus c true e = last (weight m homes c) (low c e)
+      where
+        last : (x : ℕ) → x ≤ n → nat_le n x ≡ (x == n)
+        last x le = grind (arith, nat_tests)
+
+    rest : left ≡ of_weight m homes cpus n
+    rest = same_members _ _ (λ c. h.left_are c ∙ by_cpus c (set.contains cpus c) refl ∙ sym (contains-of_weight m homes cpus n c))

@@ -94,3 +94,15 @@ moves_are_unheld held row c =
     by_weight None b = refl
     by_weight (Some w) true = ap Some (mul-add-mod_self_right w MOVE_SCALE 0)
     by_weight (Some w) false = ap Some (mul-add-mod_self_right w MOVE_SCALE 1)
+
+-- an offer without CPUs is left out
+pub none_pushed : (w : ℕ) (s : Ids) → s ≡ set.empty → filter has_some (record { weight = w; cpus = s } ∷ []) ≡ []
+none_pushed w s none = ap (λ t. filter has_some (record { weight = w; cpus = t } ∷ [])) none ∙ ap (λ n. cond (nat_lt 0 n) (record { weight = w; cpus = set.empty } ∷ []) []) (set.len-empty _)
+
+-- and one with some is not
+pub some_pushed : (w : ℕ) (s : Ids) → (s ≡ set.empty → ⊥) → filter has_some (record { weight = w; cpus = s } ∷ []) ≡ record { weight = w; cpus = s } ∷ []
+some_pushed w s some = ap (λ b. cond b (record { weight = w; cpus = s } ∷ []) []) (by_len (set.len s) refl)
+  where
+    by_len : (k : ℕ) → set.len s ≡ k → nat_lt 0 (set.len s) ≡ true
+    by_len zero e = absurd (some (set.empty_of_len s e))
+    by_len (suc k) e = grind (arith, nat_tests)

@@ -1,9 +1,19 @@
 -- Offers that were worked out.
-use Rattle.std.specs.Prelude.{◌≡◌}
+use Rattle.std.specs.Prelude.{◌≡◌, IfSome}
+use Rattle.std.specs.List.{flat_map}
+use Rattle.cpu_set.specs.Ids.{Ids}
 use Rattle.machine.specs.Layout.{Layout}
 use Rattle.rows.specs.declared.cache.CachedOffers.{CachedOffers}
 use Rattle.rows.specs.Offers.{offers_of}
+use Rattle.rows.specs.Scaled.{parted}
 
--- they are those of the CPUs for the homes
-abbrev pub IsCached : Layout → CachedOffers → Type 0
-IsCached m w = w.offers ≡ offers_of m w.homes w.cpus
+-- they are those of the CPUs for the homes, and parts that are kept are those for what is held
+pub record IsCached (m : Layout) (w : CachedOffers) : Type 0 where
+  pub offers : w.offers ≡ offers_of m w.homes w.cpus
+  pub parts : IfSome w.parts (λ p. p.offers ≡ flat_map (parted p.held) w.offers)
+
+-- they are those of these CPUs for these homes
+pub record IsCachedFor (m : Layout) (homes cpus : Ids) (w : CachedOffers) : Type 0 where
+  pub entry : IsCached m w
+  pub homes : w.homes ≡ homes
+  pub cpus : w.cpus ≡ cpus

@@ -1,12 +1,15 @@
 //! Offers that were worked out, for containers that have their homes and CPUs in common.
 ghost use Rattle.std.specs.Prelude.{◌≡◌, All, IfOk, IfSome};
+ghost use Rattle.std.specs.List.{flat_map};
 ghost use Rattle.machine.specs.Layout.{Layout};
 ghost use Rattle.machine.specs.Weight.{AreHomes};
 ghost use Rattle.rows.specs.Reach.{AreInReach};
 ghost use Rattle.rows.specs.Offers.{offers_of};
-ghost use Rattle.rows.specs.CachedOffers.{IsCached};
+ghost use Rattle.rows.specs.Scaled.{parted};
+ghost use Rattle.rows.specs.CachedOffers.{IsCached, IsCachedFor};
 
 use crate::offers::offers_of;
+use crate::parts::parts_of;
 use certificate::Offers;
 use cpu_set::IdSet;
 use machine::Machine;
@@ -18,15 +21,25 @@ pub struct CachedOffers {
     pub homes: IdSet,
     pub cpus: IdSet,
     pub offers: Offers,
+    /// The offers in parts, as the first container had them that asked for parts.
+    pub parts: Option<CachedParts>,
 }
 
-/// The offers of these CPUs for these homes, where they were worked out.
-fn find<'a>(cache: &'a [CachedOffers], homes: &IdSet, cpus: &IdSet) -> Option<&'a Offers>
-    ensures { (m : Layout) → All (IsCached m) cache.now → IfSome result (λ offers. offers.now ≡ offers_of m homes.now cpus.now) }
+/// Offers in parts, for a container that holds these CPUs.
+#[derive(Drop)]
+pub struct CachedParts {
+    pub held: IdSet,
+    pub offers: Offers,
+}
+
+/// The entry of these CPUs for these homes. Homes mostly differ in the least of them, and where they are alike, CPUs do.
+fn find<'a>(cache: &'a [CachedOffers], homes: &IdSet, cpus: &IdSet) -> Option<&'a CachedOffers>
+    ensures { (m : Layout) → All (IsCached m) cache.now → IfSome result (λ cached. IsCachedFor m homes.now cpus.now cached.now) }
 {
+    let least = homes.first();
     for cached in cache {
-        if cached.homes == *homes && cached.cpus == *cpus {
-            return Some(&cached.offers);
+        if cached.homes.first() == least && cached.cpus == *cpus && cached.homes == *homes {
+            return Some(cached);
         }
     }
     None
@@ -46,14 +59,60 @@ pub(crate) fn offers_among(
     ensures offers { IfOk result (λ offers. offers ≡ offers_of machine.now homes.now cpus.now) }
     ensures cache { All (IsCached machine.now) cache.new.items }
 {
-    if let Some(offers) = find(cache.as_slice(), homes, cpus) {
-        return offers.copy(alloc);
+    if let Some(cached) = find(cache.as_slice(), homes, cpus) {
+        return cached.offers.copy(alloc);
     }
     let offers = offers_of(alloc, machine, homes, cpus)?;
     cache.push(CachedOffers {
         homes: *homes,
         cpus: *cpus,
         offers: offers.copy(alloc)?,
+        parts: None,
     })?;
     Ok(offers)
+}
+
+/// The offers of these CPUs for these homes in parts, for a container that holds some CPUs. They are worked out once
+/// for containers that hold the same, as all do that no plan has met.
+pub(crate) fn parts_among(
+    alloc: Global,
+    machine: &Machine,
+    homes: &IdSet,
+    cpus: &IdSet,
+    held: &IdSet,
+    cache: &mut Vec<CachedOffers>,
+) -> Result<Offers, AllocError>
+    requires reach { AreInReach machine.now homes.now cpus.now }
+    requires homes { AreHomes machine.now homes.now }
+    requires cache { All (IsCached machine.now) cache.old.items }
+    ensures parts { IfOk result (λ parts. parts ≡ flat_map (parted held.now) (offers_of machine.now homes.now cpus.now)) }
+    ensures cache { All (IsCached machine.now) cache.new.items }
+{
+    if let Some(cached) = find(cache.as_slice(), homes, cpus) {
+        return parts_for(alloc, cached, held);
+    }
+    let offers = offers_of(alloc, machine, homes, cpus)?;
+    let parts = parts_of(alloc, &offers, held)?;
+    let kept = CachedParts {
+        held: *held,
+        offers: parts.copy(alloc)?,
+    };
+    cache.push(CachedOffers {
+        homes: *homes,
+        cpus: *cpus,
+        offers,
+        parts: Some(kept),
+    })?;
+    Ok(parts)
+}
+
+/// The offers of an entry in parts, for a container that holds these CPUs.
+fn parts_for(alloc: Global, cached: &CachedOffers, held: &IdSet) -> Result<Offers, AllocError>
+    requires { (m : Layout) × IsCached m cached.now }
+    ensures { IfOk result (λ parts. parts ≡ flat_map (parted held.now) cached.now.offers) }
+{
+    match &cached.parts {
+        Some(kept) if kept.held == *held => kept.offers.copy(alloc),
+        _ => parts_of(alloc, &cached.offers, held),
+    }
 }

@@ -41,7 +41,34 @@ pub(crate) fn chains_of(weights: [u8; NODE_LIMIT]) -> Chains
     }
 }
 
+/// The greater of two weights, where the other is one at which a node can be reached.
+fn farther(weight: u8, other: u8) -> u8
+    requires { weight < 255 }
+    ensures below { result < 255 }
+    ensures least { weight ≤ result }
+    ensures most { other < 255 → other ≤ result }
+{
+    if other < UNREACHABLE && other > weight {
+        other
+    } else {
+        weight
+    }
+}
+
 impl Chains {
+    /// The greatest weight at which a node can be reached, 0 where none can.
+    pub fn farthest(&self) -> u8
+        requires { length self.now.weights ≡ NODE_LIMIT }
+        ensures below { result < 255 }
+        ensures most { (k : ℕ) → slice_index_or self.now.weights k 255 < 255 → slice_index_or self.now.weights k 255 ≤ result }
+    {
+        let mut farthest = 0;
+        for node in 0..NODE_LIMIT {
+            farthest = farther(farthest, self.weights[node]);
+        }
+        farthest
+    }
+
     /// Whether one of the nodes has this weight.
     pub fn has(&self, weight: u8) -> bool
         requires weight { weight < 255 }

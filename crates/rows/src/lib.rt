@@ -10,5 +10,5 @@ mod offers;
 mod parts;
 mod row;
 
-pub use cache::CachedOffers;
+pub use cache::{CachedOffers, CachedParts};
 pub use row::{row_of, scaled_row_of};

@@ -5,12 +5,15 @@ ghost use Rattle.rows.specs.Reach.{AreInReach};
 ghost use Rattle.rows.specs.Offers.{offers_of};
 
 use crate::chains::chains_of;
-use certificate::{Offer, Offers};
+use crate::parts::push_some;
+use certificate::Offers;
 use cpu_set::IdSet;
-use machine::{Machine, UNREACHABLE};
+use machine::Machine;
 use std::alloc::{AllocError, Global};
 
 /// An offer for each weight that one of the CPUs has for a container with these homes, the least weight first.
+///
+/// The farthest nodes, which are often most of them, are not looked at: what is left is theirs.
 pub(crate) fn offers_of(
     alloc: Global,
     machine: &Machine,
@@ -22,17 +25,16 @@ pub(crate) fn offers_of(
     ensures { IfOk result (λ offers. offers ≡ offers_of machine.now homes.now cpus.now) }
 {
     let chains = chains_of(machine.weights(homes));
+    let farthest = chains.farthest();
+    let mut left = *cpus;
     let mut offers = Offers::new(alloc);
-    for weight in 0..UNREACHABLE {
+    for weight in 0..farthest {
         if chains.has(weight) {
             let here = chains.cpus_at(machine, weight).meet(cpus);
-            if !here.is_empty() {
-                offers.push(Offer {
-                    weight: u32::from(weight),
-                    cpus: here,
-                })?;
-            }
+            left = left.minus(&here);
+            push_some(&mut offers, u32::from(weight), here)?;
         }
     }
+    push_some(&mut offers, u32::from(farthest), left)?;
     Ok(offers)
 }

@@ -1,31 +1,15 @@
 //! Offers in two parts: the CPUs that are held, and those that are not.
 ghost use Rattle.std.specs.Prelude.{◌≡◌, ◌++◌, [], ◌∷◌, filter, IfOk, IsTrue, OnOk};
 ghost use Rattle.std.specs.List.{flat_map};
-ghost use Rattle.certificate.specs.Limits.{row_fits};
 ghost use Rattle.rows.specs.Offers.{has_some};
-ghost use Rattle.rows.specs.Scaled.{are_distances, parted, scaled};
+ghost use Rattle.rows.specs.Scaled.{are_distances, parted};
 
-use certificate::{MOVE_SCALE, Offer, Offers, Row};
+use certificate::{MOVE_SCALE, Offer, Offers};
 use cpu_set::IdSet;
 use std::alloc::{AllocError, Global};
 
-/// The row with each offer in two parts, for a container that holds these CPUs.
-pub(crate) fn scaled_row(alloc: Global, row: Row, held: &IdSet) -> Result<Row, AllocError>
-    requires fits { IsTrue (row_fits row) }
-    requires distances { IsTrue (are_distances row.offers) }
-    ensures row { IfOk result (λ parts. parts ≡ scaled held.now row) }
-    ensures fits { IfOk result (λ parts. IsTrue (row_fits parts)) }
-{
-    let offers = parts_of(alloc, &row.offers, held)?;
-    Ok(Row {
-        id: row.id,
-        demand: row.demand,
-        offers,
-    })
-}
-
-/// The offers with the CPUs that are held apart from the others: these weigh one more.
-fn parts_of(alloc: Global, offers: &Offers, held: &IdSet) -> Result<Offers, AllocError>
+/// The offers, scaled, with the CPUs that are held apart from the others: these weigh one more.
+pub(crate) fn parts_of(alloc: Global, offers: &Offers, held: &IdSet) -> Result<Offers, AllocError>
     requires { IsTrue (are_distances offers.now) }
     ensures { IfOk result (λ parts. parts ≡ flat_map (parted held.now) offers.now) }
 {
@@ -40,10 +24,10 @@ fn parts_of(alloc: Global, offers: &Offers, held: &IdSet) -> Result<Offers, Allo
 }
 
 /// Adds an offer of these CPUs, if there are any.
-fn push_some(offers: &mut Offers, weight: u32, cpus: IdSet) -> Result<(), AllocError>
+pub(crate) fn push_some(offers: &mut Offers, weight: u32, cpus: IdSet) -> Result<(), AllocError>
     ensures { OnOk result (offers.new ≡ offers.old ++ filter has_some (record { weight = weight; cpus = cpus } ∷ [])) }
 {
-    if cpus.count() == 0 {
+    if cpus.is_empty() {
         return Ok(());
     }
     offers.push(Offer { weight, cpus })

@@ -1,12 +1,11 @@
 ghost use Rattle.std.specs.Prelude.{◌≡◌, option_map, All, IsTrue, IfOk, IfSome};
 ghost use Rattle.certificate.specs.Limits.{row_fits};
 ghost use Rattle.demand.specs.FitsMachine.{FitsMachine};
-ghost use Rattle.rows.specs.RowOf.{row_of};
+ghost use Rattle.rows.specs.RowOf.{available, row_of};
 ghost use Rattle.rows.specs.CachedOffers.{IsCached};
 ghost use Rattle.rows.specs.Scaled.{are_distances, scaled};
 
-use crate::cache::{CachedOffers, offers_among};
-use crate::parts::scaled_row;
+use crate::cache::{CachedOffers, offers_among, parts_among};
 use certificate::Row;
 use cpu_set::IdSet;
 use demand::{Demand, Kind};
@@ -39,7 +38,7 @@ pub fn row_of(
     let Kind::Pinned(count) = demand.kind else {
         return Ok(None);
     };
-    let cpus = demand.allowed.meet(online);
+    let cpus = available(demand, online);
     Ok(Some(Row {
         id: String::from_str(alloc, id)?,
         demand: count,
@@ -67,8 +66,20 @@ pub fn scaled_row_of(
     ensures fits { IfOk result (λ row. IfSome row (λ r. IsTrue (row_fits r))) }
     ensures cache { All (IsCached machine.now) cache.new.items }
 {
-    let Some(row) = row_of(alloc, machine, online, id, demand, cache)? else {
+    let Kind::Pinned(count) = demand.kind else {
         return Ok(None);
     };
-    Ok(Some(scaled_row(alloc, row, held)?))
+    let cpus = available(demand, online);
+    Ok(Some(Row {
+        id: String::from_str(alloc, id)?,
+        demand: count,
+        offers: parts_among(alloc, machine, &demand.homes, &cpus, held, cache)?,
+    }))
+}
+
+/// The CPUs that the container may get now.
+fn available(demand: &Demand, online: &IdSet) -> IdSet
+    ensures { result ≡ available online.now demand.now }
+{
+    demand.allowed.meet(online)
 }

@@ -1,5 +1,6 @@
 -- The CPUs of one class, dealt row by row.
-use Rattle.std.proofs.Common.{◌≡◌, ◌⊎◌, ℕ, ◌+◌, ◌-◌, ◌<◌, ◌≤◌, ◌==◌, Bool, true, false, cond, not, ◌&&◌, ◌||◌, List, [], ◌∷◌, ◌++◌, length, take, get_or, set, refl, sym, ap, ◌∙◌, inl, inr, arith}
+use Rattle.std.proofs.Common.{◌≡◌, ◌⊎◌, ℕ, ◌+◌, ◌-◌, ◌<◌, ◌≤◌, ◌==◌, Bool, true, false, cond, not, ◌&&◌, ◌||◌, Option, Some, None, List, [], ◌∷◌, ◌++◌, length, take, get_or, set, refl, sym, ap, subst, ◌∙◌, inl, inr, arith}
+use Rattle.std.specs.Prelude.{MatchOption}
 use Rattle.std.specs.Cmp.{nat_cmp_total}
 use Rattle.std.specs.Ordering.{nat_cmp}
 use Rattle.std.specs.FinSet as fin
@@ -15,7 +16,7 @@ use Rattle.cpu_set.specs.SetLaws.{empty_of_none}
 use Rattle.certificate.specs.IsDealt.{Holds}
 use Rattle.certificate.specs.Tests.{and_left, and_right, or_left, or_right}
 use Rattle.twins.specs.Holdings.{share_of, shared_out}
-use Rattle.twins.specs.IsDeal.{IsTaken, IsClassDeal}
+use Rattle.twins.specs.IsDeal.{IsTaken, IsMoved, IsFirst, IsClassDeal}
 use Rattle.twins.specs.declared.holders.Share.{Share}
 use Rattle.twins.proofs.Sets.{some_of_member, len_split}
 
@@ -93,6 +94,68 @@ pub still_some : (old new taken : Ids) (count many : ℕ) → IsTaken old new ta
 still_some old new taken count many so_far lt le none =
     let e : fin.len new ≡ 0 = ap fin.len (empty_of_none new none) ∙ fin.len-empty nat_cmp in
     omega (arith, so_far.left, e)
+
+-- nothing is moved yet
+pub move_start : (s own : Ids) → IsMoved s s own own 0
+move_start s own = (
+  fin.empty,
+  taken_start s fin.empty refl,
+  same_members _ _ (λ c. sym (contains-union own fin.empty c ∙ ap (λ b. fin.contains own c || b) (contains-empty c) ∙ or_none (fin.contains own c))),
+)
+  where
+    or_none : (b : Bool) → (b || false) ≡ b
+    or_none true = refl
+    or_none false = refl
+
+-- the lowest of what is left is moved too
+pub move_more :
+    (old new own_old own_new : Ids) (count cpu : ℕ) → IsMoved old new own_old own_new count → IsFirstFrom new 0 cpu
+    → IsMoved old (fin.remove new cpu) own_old (fin.insert own_new cpu) (count + 1)
+move_more old new own_old own_new count cpu so_far first = (
+  fin.insert so_far.0 cpu,
+  taken_more old new so_far.0 (fin.remove new cpu) (fin.insert so_far.0 cpu) count cpu so_far.1 first refl refl,
+  ap (λ s. fin.insert s cpu) so_far.2
+  ∙ same_members _ _ (λ c.
+  contains-insert (fin.union own_old so_far.0) cpu c
+  ∙ ap (λ b. (c == cpu) || b) (contains-union own_old so_far.0 c)
+  ∙ swap (c == cpu) (fin.contains own_old c) (fin.contains so_far.0 c)
+  ∙ ap (λ b. fin.contains own_old c || b) (sym (contains-insert so_far.0 cpu c))
+  ∙ sym (contains-union own_old (fin.insert so_far.0 cpu) c)),
+)
+  where
+    swap : (a b d : Bool) → (a || (b || d)) ≡ (b || (a || d))
+    swap true true d = refl
+    swap true false d = refl
+    swap false b d = refl
+
+pub first_of_some : (s : Ids) (next : Option ℕ) (cpu : ℕ) → IsFirst s next → next ≡ Some cpu → IsFirstFrom s 0 cpu
+first_of_some s next cpu first is = subst (IsFirst s) is first
+
+pub first_of_none : (s : Ids) (next : Option ℕ) → IsFirst s next → ((n : ℕ) → next ≡ Some n → ⊥) → NoneFrom s 0
+first_of_none s None first none = first
+first_of_none s (Some n) first none = absurd (none n refl)
+
+not_below : (s : Ids) (cpu : ℕ) → IsFirstFrom s 0 cpu → (k : ℕ) → k < cpu + 1 → fin.contains (fin.remove s cpu) k ≡ false
+not_below s cpu first k low = contains-remove s cpu k ∙ gone (cases_eq k cpu)
+  where
+    and_none : (b : Bool) → (b && false) ≡ false
+    and_none true = refl
+    and_none false = refl
+
+    gone : (k ≡ cpu) ⊎ ((k ≡ cpu) → ⊥) → (not (k == cpu) && fin.contains s k) ≡ false
+    gone (inl same) = ap (λ b. not b && fin.contains s k) (eq-eqb k cpu same)
+    gone (inr differ) = ap (λ b. not (k == cpu) && b) (first.least k (omega arith) (omega arith)) ∙ and_none (not (k == cpu))
+
+-- behind the first that was taken out comes the first of what is left
+pub next_first :
+    (s : Ids) (cpu : ℕ) (next : Option ℕ) → IsFirstFrom s 0 cpu → MatchOption next (NoneFrom (fin.remove s cpu) (cpu + 1)) (λ n. IsFirstFrom (fin.remove s cpu) (cpu + 1) n)
+    → IsFirst (fin.remove s cpu) next
+next_first s cpu None first none = λ n from. elim (cases_lt n (cpu + 1)) [ inl low ↦ not_below s cpu first n low | inr above ↦ none n above ]
+next_first s cpu (Some n) first is = record {
+  above = omega arith;
+  member = is.member;
+  least = λ k from lt. elim (cases_lt k (cpu + 1)) [ inl low ↦ not_below s cpu first k low | inr above ↦ is.least k above lt ];
+}
 
 -- the set at this place
 abbrev pub at : List Ids → ℕ → Ids
@@ -340,6 +403,17 @@ dealing_step class shares old new rest rest_after dealt_now here both_now i in_r
   where
     before_next : (i : ℕ) → i ≡ (i + 1) - 1
     before_next i = omega arith
+
+-- the same, where the CPUs are moved into the row's set as it stands
+pub dealing_moved :
+    (class : Ids) (shares : List Share) (old new : List Ids) (rest rest_after own d : Ids) (i : ℕ)
+    → InRange class → Dealing class (take i shares) old new rest (last_row shares i) → IsNonDecreasingBy (λ (t : Share). t.row) shares → i < length shares
+    → (share_at shares i).row < length new → IsMoved rest rest_after (get_or new (share_at shares i).row d) own (share_at shares i).amount
+    → Dealing class (take (i + 1) shares) old (set new (share_at shares i).row own) rest_after (last_row shares (i + 1))
+dealing_moved class shares old new rest rest_after own d i in_range so_far rising lt in_rows moved_now =
+    let here : Ids = get_or new (share_at shares i).row d in
+    dealing_step class shares old new rest rest_after moved_now.0 here own i in_range so_far rising lt in_rows moved_now.1
+    (get_or_default new (share_at shares i).row d here in_rows) moved_now.2
 
 -- the next share can be taken of what is left
 pub share_left : (class : Ids) (shares : List Share) (old new : List Ids) (rest : Ids) (i last : ℕ) → Dealing class (take i shares) old new rest last → i < length shares

@@ -1,7 +1,9 @@
 -- Rows with the same offers.
-use Rattle.std.proofs.Common.{◌≡◌, ℕ, ◌+◌, ◌<◌, List, [], ◌∷◌, ◌++◌, length, take, get_or, refl, sym, ap, subst, ◌∙◌, inl, inr, arith}
+use Rattle.std.proofs.Common.{◌≡◌, ℕ, ◌+◌, ◌<◌, Bool, true, false, ◌||◌, is_some, List, [], ◌∷◌, ◌++◌, length, take, get_or, refl, sym, ap, subst, ◌∙◌, inl, inr, arith}
 use Rattle.std.proofs.lemmas.Bool.{cases_lt}
 use Rattle.std.proofs.lemmas.List.{get_or_default, get_or-map, get_or_push, get_or_append_left, length_push, length-take, get_or-take, take_more_same}
+use Rattle.std.proofs.lemmas.List.Folds.{list_any_more, list_any_at}
+use Rattle.certificate.specs.IsShortage.{is_offered}
 use Rattle.certificate.specs.RowView.{RowView}
 use Rattle.certificate.specs.Weight.{weight, weight_in}
 use Rattle.certificate.specs.IsDealt.{AreTwins}
@@ -27,6 +29,38 @@ kind_tells_none rows kinds k j h before lt a b twins =
 
     own : (i : ℕ) → i < length rows → offers_of rows i ≡ (get_or rows i none).offers
     own i lt = get_or-map (λ (r : RowView). r.offers) rows i none [] lt
+
+-- nor does it offer a CPU that no earlier row does
+pub kind_offers_none :
+    (rows : List RowView) (kinds : List ℕ) (k j : ℕ) → IsKindOf rows kinds k j → j < k → k < length rows
+    → (c : ℕ) → is_offered (take (k + 1) rows) c ≡ is_offered (take k rows) c
+kind_offers_none rows kinds k j h before lt c =
+    list_any_more (λ (r : RowView). is_some (weight r c)) rows k none lt ∙ by_cases (is_some (weight (get_or rows k none) c)) refl
+  where
+    none : RowView
+    none = record { id = []; demand = 0; offers = [] }
+
+    own : (i : ℕ) → i < length rows → offers_of rows i ≡ (get_or rows i none).offers
+    own i lt = get_or-map (λ (r : RowView). r.offers) rows i none [] lt
+
+    offers : (get_or (take k rows) j none).offers ≡ (get_or rows k none).offers
+    offers =
+        ap (λ (r : RowView). r.offers) (get_or-take k rows j none before)
+        ∙ sym (own j (omega (arith, before, lt))) ∙ h.same ∙ own k lt
+
+    there : is_some (weight (get_or rows k none) c) ≡ true → is_offered (take k rows) c ≡ true
+    there e =
+        list_any_at (λ (r : RowView). is_some (weight r c)) (take k rows) j none (rw (length-take k rows) (omega arith))
+        (ap (λ (o : List Offer). is_some (weight_in o c)) offers ∙ e)
+
+    or_none : (b : Bool) → (b || false) ≡ b
+    or_none true = refl
+    or_none false = refl
+
+    by_cases : (b : Bool) → is_some (weight (get_or rows k none) c) ≡ b
+        → (is_offered (take k rows) c || is_some (weight (get_or rows k none) c)) ≡ is_offered (take k rows) c
+    by_cases true e = ap (λ b. b || is_some (weight (get_or rows k none) c)) (there e) ∙ sym (there e)
+    by_cases false e = ap (λ b. is_offered (take k rows) c || b) e ∙ or_none (is_offered (take k rows) c)
 
 pub kinds_none : (rows : List RowView) → AreKinds rows 0 []
 kinds_none rows = record { long = refl; each = λ k lt. absurd (omega arith) }

@@ -1,7 +1,7 @@
 -- The CPUs of classes, dealt to rows.
-use Rattle.std.specs.Prelude.{◌≡◌, ℕ, ◌+◌, ◌<◌, ◌≤◌, true, false, ◌||◌, List, All, AllPairs, length, slice_index_or}
+use Rattle.std.specs.Prelude.{◌≡◌, ℕ, ◌+◌, ◌<◌, ◌≤◌, true, false, ◌||◌, Option, MatchOption, List, All, AllPairs, length, slice_index_or}
 use Rattle.std.specs.FinSet as set
-use Rattle.cpu_set.specs.Ids.{Ids, IsDisjoint}
+use Rattle.cpu_set.specs.Ids.{Ids, IsDisjoint, NoneFrom, IsFirstFrom}
 use Rattle.cpu_set.specs.Members.{InRange}
 use Rattle.certificate.specs.RowView.{RowView}
 use Rattle.certificate.specs.IsDealt.{Holds, IsDealt}
@@ -32,6 +32,14 @@ pub record IsTaken (old new taken : Ids) (count : ℕ) : Type 0 where
   pub below : (a b : ℕ) → set.contains taken a ≡ true → set.contains new b ≡ true → a < b
   pub as_many : set.len taken ≡ count
   pub left : set.len new + count ≡ set.len old
+
+-- they are moved into another set
+abbrev pub IsMoved : Ids → Ids → Ids → Ids → ℕ → Type 0
+IsMoved old new own_old own_new count = (taken : Ids) × IsTaken old new taken count × (own_new ≡ set.union own_old taken)
+
+-- the first number of a set, or that it has none
+abbrev pub IsFirst : Ids → Option ℕ → Type 0
+IsFirst s next = MatchOption next (NoneFrom s 0) (λ n. IsFirstFrom s 0 n)
 
 -- the CPUs of one class are dealt to the holders of shares, in the rows' order, and nothing else changes
 pub record IsClassDeal (class : Ids) (shares : List Share) (old new : List Ids) : Type 0 where

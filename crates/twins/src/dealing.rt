@@ -1,13 +1,13 @@
 //! The CPUs of classes, dealt to rows.
-ghost use Rattle.std.specs.Prelude.{◌≡◌, ℕ, ◌<◌, ◌≤◌, true, IfOk, OnOk, All, AllPairs, length};
+ghost use Rattle.std.specs.Prelude.{◌≡◌, ℕ, ◌<◌, ◌≤◌, true, IfOk, IfSome, OnOk, All, AllPairs, length};
 ghost use Rattle.std.specs.List.Sorted.{IsPermutation, IsNonDecreasingBy};
 ghost use Rattle.std.specs.FinSet as set;
 ghost use Rattle.cpu_set.specs.Ids.{IsDisjoint};
-ghost use Rattle.cpu_set.specs.Members.{InRange};
+ghost use Rattle.cpu_set.specs.Members.{IsCpu, InRange};
 ghost use Rattle.certificate.specs.IsDealt.{Holds};
 ghost use Rattle.twins.specs.IsGrouping.{class_at};
 ghost use Rattle.twins.specs.Holdings.{shared_out, held_of};
-ghost use Rattle.twins.specs.IsDeal.{IsDeal, IsClassDeal, IsTaken};
+ghost use Rattle.twins.specs.IsDeal.{IsDeal, IsClassDeal, IsMoved, IsFirst};
 
 use crate::{Classes, Holders, Share};
 use cpu_set::IdSet;
@@ -103,23 +103,33 @@ fn deal_in_order(class: &IdSet, shares: &[Share], sets: &mut [IdSet])
     ensures { IsClassDeal class.now shares.now sets.old sets.new }
 {
     let mut rest = *class;
+    let mut next = rest.first();
     for share in shares {
-        let dealt = take_lowest(&mut rest, share.amount);
-        sets[share.row] = sets[share.row].union(&dealt);
+        next = move_lowest(&mut rest, &mut sets[share.row], share.amount, next);
     }
 }
 
-/// Takes the lowest CPUs out of a set.
-fn take_lowest(rest: &mut IdSet, count: u32) -> IdSet
-    requires { count ≤ set.len rest.old }
-    ensures { IsTaken rest.old rest.new result count }
+/// Moves the lowest CPUs of a set, of which the first is known, into another, and returns the first that is left.
+fn move_lowest(
+    rest: &mut IdSet,
+    own: &mut IdSet,
+    count: u32,
+    first: Option<u16>,
+) -> Option<u16>
+    requires count { count ≤ set.len rest.old }
+    requires first { IsFirst rest.old first }
+    requires in_range { IfSome first (λ n. IsCpu n) }
+    ensures moved { IsMoved rest.old rest.new own.old own.new count }
+    ensures first { IsFirst rest.new result }
+    ensures in_range { IfSome result (λ n. IsCpu n) }
 {
-    let mut taken = IdSet::empty();
+    let mut next = first;
     for _ in 0..count {
-        if let Some(cpu) = rest.first() {
+        if let Some(cpu) = next {
             rest.remove(cpu);
-            taken.insert(cpu);
+            own.insert(cpu);
+            next = rest.next_after(cpu);
         }
     }
-    taken
+    next
 }

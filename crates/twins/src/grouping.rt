@@ -41,7 +41,7 @@ fn group_body(alloc: Global, rows: &[Row], kinds: &[usize]) -> Result<Vec<IdSet>
     requires kinds { AreKinds rows.now (length rows.now) kinds.now }
     ensures { IfOk result (λ sets. IsGrouping rows.now sets.items) }
 {
-    let offered = offered_cpus(rows);
+    let offered = offered_cpus(rows, kinds);
     let edges = edges_of(rows, kinds, &offered);
     let runs = edges.meet(&offered).count();
     let mut alone = Vec::with_capacity(alloc, runs as usize)?;
@@ -70,13 +70,17 @@ fn unsplit(alloc: Global, all: &IdSet) -> Result<Vec<IdSet>, AllocError>
     Ok(parts)
 }
 
-/// The CPUs with a weight in some row.
-fn offered_cpus(rows: &[Row]) -> IdSet
+/// The CPUs with a weight in some row. A row of the kind of an earlier one adds none.
+fn offered_cpus(rows: &[Row], kinds: &[usize]) -> IdSet
+    requires { AreKinds rows.now (length rows.now) kinds.now }
     ensures { (cpu : ℕ) → set.contains result cpu ≡ is_offered rows.now cpu }
 {
     let mut offered = IdSet::empty();
-    for row in rows {
-        offered = offered.union(&row.offers.cpus());
+    for k in 0..rows.len() {
+        if kinds[k] == k {
+            let row = &rows[k];
+            offered = offered.union(&row.offers.cpus());
+        }
     }
     offered
 }

@@ -1,7 +1,5 @@
-use Rattle.std.proofs.Common.{◌≡◌}
-use Rattle.rows.specs.Offers.{offers_below}
+use Rattle.rows.proofs.OfferLemmas.{Offering}
 use Rattle.rows.proofs.offers.offers_of.Given as goal
 
--- the lesser weights are offered
 abbrev pub invariant-loop-weight : goal.invariant-loop-weight
-invariant-loop-weight l = l.offers ≡ offers_below l.machine l.homes l.cpus l.weight
+invariant-loop-weight l = Offering l.machine l.homes l.cpus l.weight l.offers l.left

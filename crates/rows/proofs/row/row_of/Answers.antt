@@ -3,7 +3,7 @@ use Rattle.rows.proofs.row.row_of.Goals as goal
 
 pub offers_among-requires-clause-reach : goal.offers_among-requires-clause-reach
 offers_among-requires-clause-reach c = λ cpu has.
-    let allowed = allowed_part _ _ _ cpu c.meet-cpus.ensures has in (c.requires.fits.present cpu allowed, c.requires.fits.in_reach cpu allowed)
+    let allowed = allowed_part _ _ _ cpu c.available-cpus.ensures has in (c.requires.fits.present cpu allowed, c.requires.fits.in_reach cpu allowed)
 
 pub returns-clause-fits : goal.returns-clause-fits
 returns-clause-fits c = pinned_row_fits c.args.machine.now _ c.args.demand.now c.in-Pinned.count _ _ c.requires.fits c.in-Pinned.is c.in_ok-offers_among.ensures.offers

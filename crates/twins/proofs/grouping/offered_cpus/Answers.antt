@@ -1,22 +1,31 @@
-use Rattle.std.proofs.Common.{sym, ap, ◌∙◌, ◌||◌, is_some, take, take_all}
+use Rattle.std.proofs.Common.{◌+◌, ◌<◌, sym, ap, ◌∙◌, ◌||◌, is_some, take, take_all, arith}
 use Rattle.std.specs.FinSet as set
 use Rattle.std.proofs.lemmas.List.Folds.{list_any_more}
 use Rattle.cpu_set.specs.Pointwise.{contains-empty, contains-union}
 use Rattle.certificate.specs.RowView.{RowView}
 use Rattle.certificate.specs.Weight.{weight}
 use Rattle.certificate.specs.IsShortage.{is_offered}
+use Rattle.twins.specs.Kinds.{kind_at}
+use Rattle.twins.proofs.SameOffers.{kind_offers_none}
 use Rattle.twins.proofs.grouping.offered_cpus.Goals as goal
+use Rattle.twins.proofs.grouping.offered_cpus.Goals.{then-kinds-k, else-kinds-k}
 
-pub loop-row-init : goal.loop-row-init
-loop-row-init c = rw c.empty-offered.ensures contains-empty
+pub loop-k-init : goal.loop-k-init
+loop-k-init c = rw c.empty-offered.ensures contains-empty
 
-pub loop-row-preserved : goal.loop-row-preserved
-loop-row-preserved c = λ cpu.
-    ap (λ s. set.contains s cpu) c.union-offered.ensures ∙ contains-union _ _ cpu
-    ∙ ap (λ b. b || set.contains c.cpus.result cpu) (c.loop-row.invariant cpu)
-    ∙ ap (λ b. is_offered (take c.loop-row.row-index c.args.rows.now) cpu || b)
-    (c.cpus.ensures cpu ∙ ap (λ (row : RowView). is_some (weight row cpu)) (c.row.view_is ∙ c.row-item.is))
-    ∙ sym (list_any_more (λ (row : RowView). is_some (weight row cpu)) c.args.rows.now c.loop-row.row-index c.row-item.result c.loop-row-test.true)
+pub loop-k-preserved : goal.loop-k-preserved
+loop-k-preserved c = elim c.if-kinds-k.branch [
+  | then-kinds-k w ↦ rw w.offered-is (λ cpu.
+      ap (λ s. set.contains s cpu) w.union-offered.ensures ∙ contains-union _ _ cpu
+      ∙ ap (λ b. b || set.contains w.cpus.result cpu) (c.loop-k.invariant cpu)
+      ∙ ap (λ b. is_offered (take c.loop-k.k c.args.rows.now) cpu || b)
+      (w.cpus.ensures cpu ∙ ap (λ (row : RowView). is_some (weight row cpu)) (w.row.view_is ∙ w.index-rows-k.is))
+      ∙ sym (list_any_more (λ (row : RowView). is_some (weight row cpu)) c.args.rows.now c.loop-k.k w.index-rows-k.result c.loop-k-test.true))
+  | else-kinds-k w ↦ rw w.offered-is (λ cpu.
+      let kind = c.requires.each c.loop-k.k c.loop-k-test.true in
+      let earlier : kind_at c.args.kinds.now c.loop-k.k < c.loop-k.k = omega (arith, kind.no_later, w.if-kinds-k.false) in
+      c.loop-k.invariant cpu ∙ sym (kind_offers_none _ _ _ _ kind earlier c.loop-k-test.true cpu))
+]
 
 pub returns : goal.returns
-returns c = λ cpu. c.loop-row.invariant cpu ∙ ap (λ rows. is_offered rows cpu) (take_all _ _ c.loop-row-test.false)
+returns c = λ cpu. c.loop-k.invariant cpu ∙ ap (λ rows. is_offered rows cpu) (take_all _ _ c.loop-k-test.false)

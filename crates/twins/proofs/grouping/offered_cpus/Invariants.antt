@@ -3,5 +3,5 @@ use Rattle.std.specs.FinSet as set
 use Rattle.certificate.specs.IsShortage.{is_offered}
 use Rattle.twins.proofs.grouping.offered_cpus.Given as goal
 
-abbrev pub invariant-loop-row : goal.invariant-loop-row
-invariant-loop-row l = (cpu : ℕ) → set.contains l.offered cpu ≡ is_offered (take l.row-index l.rows) cpu
+abbrev pub invariant-loop-k : goal.invariant-loop-k
+invariant-loop-k l = (cpu : ℕ) → set.contains l.offered cpu ≡ is_offered (take l.k l.rows) cpu

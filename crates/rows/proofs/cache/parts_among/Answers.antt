@@ -1,0 +1,21 @@
+use Rattle.std.proofs.Common.{◌∙◌}
+use Rattle.std.proofs.lemmas.List.Elements.{All-push}
+use Rattle.rows.specs.CachedOffers.{IsCached}
+use Rattle.rows.proofs.CacheLemmas.{parts_are}
+use Rattle.rows.proofs.LimitLemmas.{offers_of_distances}
+use Rattle.rows.proofs.cache.parts_among.Goals as goal
+
+pub parts_for-requires : goal.parts_for-requires
+parts_for-requires c = (c.args.machine.now, (c.in-Some.ensures c.args.machine.now (rw c.as_slice.ensures.value c.requires.cache)).entry)
+
+pub returns-in-Some-clause-parts : goal.returns-in-Some-clause-parts
+returns-in-Some-clause-parts c =
+    parts_are _ _ _ _ _ _ (c.in-Some.ensures c.args.machine.now (rw c.as_slice.ensures.value c.requires.cache)) c.parts_for.ensures
+
+pub parts_of-parts-requires : goal.parts_of-parts-requires
+parts_of-parts-requires c = rw c.in_ok-offers.ensures (offers_of_distances _ _ _)
+
+pub returns-clause-cache : goal.returns-clause-cache
+returns-clause-cache c =
+    rw c.in_ok-push.ensures.items
+    (All-push (IsCached c.args.machine.now) _ _ c.requires.cache (record { offers = c.in_ok-offers.ensures; parts = c.in_ok-copy.ensures ∙ c.in_ok-parts.ensures }))
