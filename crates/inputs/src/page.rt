@@ -1,4 +1,4 @@
-ghost use Rattle.std.specs.Prelude.{◌≡◌, ◌-◌, ◌≤◌, [], OnOk, drop, length, min, take};
+ghost use Rattle.std.specs.Prelude.{◌≡◌, ◌-◌, [], OnOk, length, min, take};
 ghost use Rattle.std.specs.Io.KnownBytes.{Appends, Keeps, WriteAppends};
 ghost use Rattle.inputs.specs.Pages.{TakesIfRoom, contents_of};
 
@@ -62,22 +62,10 @@ impl<W: Write> Page<W> {
             if sent == 0 {
                 return Err(io::Error::from(ErrorKind::WriteZero));
             }
-            self.waiting = without_first(&self.waiting, sent);
+            self.waiting.drain(..sent);
         }
         Ok(())
     }
-}
-
-/// All but the first so many of the bytes.
-fn without_first(bytes: &ArrayVec<u8, ROOM>, count: usize) -> ArrayVec<u8, ROOM>
-    requires { count ≤ length bytes.now.items }
-    ensures { result.items ≡ drop count bytes.now.items }
-{
-    let mut rest = ArrayVec::new();
-    if count < bytes.len() {
-        let _all_fits = rest.write(&bytes.as_slice()[count..]);
-    }
-    rest
 }
 
 impl<W: Write> Write for Page<W> {
