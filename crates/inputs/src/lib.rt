@@ -2,7 +2,7 @@
 #![tactic(auto)]
 
 mod input;
-mod limits;
+pub mod laws;
 mod output;
 mod page;
 mod read_fault;
@@ -10,7 +10,6 @@ mod reading;
 mod refusal;
 
 pub use input::{Input, Opened, Source};
-pub use limits::the_limits;
 pub use output::{put_error_line, put_number_line};
 pub use page::Page;
 pub use read_fault::ReadFault;

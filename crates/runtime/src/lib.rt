@@ -7,7 +7,7 @@ mod bundle_list;
 mod bundles;
 mod commands;
 mod events;
-mod laws;
+pub mod laws;
 mod outcomes;
 mod plans;
 mod queries;
@@ -17,9 +17,5 @@ mod runner;
 pub use booting::{FIRST_PID, boot};
 pub use bundle_list::BundleList;
 pub use bundles::Bundles;
-pub use laws::{
-    booted_nodes, certificates_are_told, lines_are_calls, rebalances_are_told,
-    scripts_serve_configs, the_limits,
-};
 pub use refusal::Refusal;
 pub use runner::Runner;

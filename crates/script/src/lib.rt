@@ -2,7 +2,7 @@
 #![tactic(auto)]
 
 mod command;
-mod laws;
+pub mod laws;
 mod line_buffer;
 mod number;
 mod request;
@@ -12,7 +12,6 @@ mod target;
 mod word;
 
 pub use command::{Command, Request};
-pub use laws::{no_text_is_bad, the_limits};
 pub use line_buffer::MOST_LINE_BYTES;
 pub use request::read_request;
 pub use running::{MOST_READS, run_script};
