@@ -8,8 +8,7 @@ ghost use Rattle.certificate_text.specs.declared.certificates.Certificate.TheVar
 ghost use Rattle.certificate_text.specs.Line.{HeaderLine, RowLine, HoldLine, PriceLine, TotalLine, ShortLine, EndLine};
 ghost use Rattle.certificate_text.specs.Written.{offer_text, line_text, text_of, CanWrite, IsHeld, IsOfferHeld, IsRowHeld, IsPriceHeld};
 
-use crate::Certificate;
-use crate::laws;
+use crate::{Certificate, laws};
 use byte_output::{put, put_all, put_number};
 use certificate::{MOVE_SCALE, Offer, Offers, Price, PriceList, Prices, Row};
 use cpu_list::write_list;

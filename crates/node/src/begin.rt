@@ -119,9 +119,12 @@ impl<K: Kernel + Drop> Node<K> {
         let entries = entries_in(self.alloc, &self.kernel, &self.containers, sets, &pool)?;
         let requested_at_begin = requests_of(self.alloc, &self.kernel, &entries)?;
         let handover = Handover::new(entries, self.machine.reserved());
-        Ok((pool, Ongoing {
-            handover,
-            requested_at_begin,
-        }))
+        Ok((
+            pool,
+            Ongoing {
+                handover,
+                requested_at_begin,
+            },
+        ))
     }
 }

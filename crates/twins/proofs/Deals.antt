@@ -115,12 +115,12 @@ move_more old new own_old own_new count cpu so_far first = (
   fin.insert so_far.0 cpu,
   taken_more old new so_far.0 (fin.remove new cpu) (fin.insert so_far.0 cpu) count cpu so_far.1 first refl refl,
   ap (λ s. fin.insert s cpu) so_far.2
-  ∙ same_members _ _ (λ c.
-  contains-insert (fin.union own_old so_far.0) cpu c
-  ∙ ap (λ b. (c == cpu) || b) (contains-union own_old so_far.0 c)
-  ∙ swap (c == cpu) (fin.contains own_old c) (fin.contains so_far.0 c)
-  ∙ ap (λ b. fin.contains own_old c || b) (sym (contains-insert so_far.0 cpu c))
-  ∙ sym (contains-union own_old (fin.insert so_far.0 cpu) c)),
+      ∙ same_members _ _ (λ c.
+      contains-insert (fin.union own_old so_far.0) cpu c
+      ∙ ap (λ b. (c == cpu) || b) (contains-union own_old so_far.0 c)
+      ∙ swap (c == cpu) (fin.contains own_old c) (fin.contains so_far.0 c)
+      ∙ ap (λ b. fin.contains own_old c || b) (sym (contains-insert so_far.0 cpu c))
+      ∙ sym (contains-union own_old (fin.insert so_far.0 cpu) c)),
 )
   where
     swap : (a b d : Bool) → (a || (b || d)) ≡ (b || (a || d))

@@ -110,12 +110,7 @@ fn deal_in_order(class: &IdSet, shares: &[Share], sets: &mut [IdSet])
 }
 
 /// Moves the lowest CPUs of a set, of which the first is known, into another, and returns the first that is left.
-fn move_lowest(
-    rest: &mut IdSet,
-    own: &mut IdSet,
-    count: u32,
-    first: Option<u16>,
-) -> Option<u16>
+fn move_lowest(rest: &mut IdSet, own: &mut IdSet, count: u32, first: Option<u16>) -> Option<u16>
     requires count { count ≤ set.len rest.old }
     requires first { IsFirst rest.old first }
     requires in_range { IfSome first (λ n. IsCpu n) }
