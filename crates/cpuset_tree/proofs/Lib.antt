@@ -6,5 +6,5 @@ pub mod ParentLemmas
 pub mod RefreshLemmas
 pub mod LeafLemmas
 pub mod SoundLemmas
-pub mod NodeLemmas
+pub mod CgroupLemmas
 pub mod WriteLemmas

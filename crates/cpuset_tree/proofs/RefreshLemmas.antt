@@ -20,7 +20,7 @@ use Rattle.cpuset_tree.specs.GroupLemmas.{same_group-key, same_group-equal, entr
 use Rattle.cpuset_tree.specs.WellFormedLemmas.{serial_below}
 use Rattle.cpuset_tree.proofs.KeptLemmas.{listed_at, key_is_absent, listed-others, AllKept-others, kept-effective, IsOrder-drop, IsFalling-listed}
 use Rattle.cpuset_tree.proofs.PlaceLemmas.{place, SamePlaces-from_kept, same_from_change, IsOrder-same}
-use Rattle.cpuset_tree.proofs.NodeLemmas.{KeptThere}
+use Rattle.cpuset_tree.proofs.CgroupLemmas.{KeptThere}
 
 -- a fact on a parent among the older groups, at the parent that a group has
 pub at_parent : (s : Slab Cgroup) (older : List ℕ) (n : Cgroup) → HasParentAmong s n.parent older → (p : Group) → n.parent ≡ Some p → HasParentAmong s (Some p) older

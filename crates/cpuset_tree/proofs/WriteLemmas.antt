@@ -16,7 +16,7 @@ use Rattle.cpuset_tree.proofs.ShareLemmas.{held, SameHeld, AllKept-same}
 use Rattle.cpuset_tree.proofs.ChangeLemmas.{listed-written}
 use Rattle.cpuset_tree.proofs.RefreshLemmas.{requested_place}
 use Rattle.cpuset_tree.proofs.SoundLemmas.{IsSound-same}
-use Rattle.cpuset_tree.proofs.NodeLemmas.{KeptThere}
+use Rattle.cpuset_tree.proofs.CgroupLemmas.{KeptThere}
 
 before-bare : (r : Resource) (o : Option Cgroup) (l : List GroupEntry) → before o l ≡ before (option_map (bare r) o) l
 before-bare r None l = refl

@@ -130,10 +130,10 @@ impl Tree {
     pub fn contains(&self, group: Group) -> bool
         ensures { result ≡ has_group self.now group }
     {
-        self.node(group).is_some()
+        self.cgroup(group).is_some()
     }
 
-    fn node(&self, group: Group) -> Option<&Cgroup>
+    fn cgroup(&self, group: Group) -> Option<&Cgroup>
         ensures { IsKeptOf self.now group (option_copied result) }
     {
         match self.groups.get(group.key) {
@@ -175,7 +175,7 @@ impl Tree {
     pub fn make(&mut self, parent: Group, name: &str) -> Result<Group, OrMemory<TreeFault>>
         ensures { Makes self.old parent name.now result self.new }
     {
-        let Some(above) = self.node(parent) else {
+        let Some(above) = self.cgroup(parent) else {
             return Err(OrMemory::Fault(TreeFault::NoGroup));
         };
         let shares = Shares::unrequested(above.shares.cpus.effective, above.shares.mems.effective);
@@ -235,7 +235,7 @@ impl Tree {
     pub fn removable(&self, group: Group) -> Result<(), TreeFault>
         ensures { MatchResult result (λ _. remove_refusal self.now group ≡ None) (λ fault. remove_refusal self.now group ≡ Some fault) }
     {
-        let kept = self.node(group).ok_or(TreeFault::NoGroup)?;
+        let kept = self.cgroup(group).ok_or(TreeFault::NoGroup)?;
         if kept.parent.is_none() {
             return Err(TreeFault::IsRoot);
         }
@@ -283,7 +283,7 @@ impl Tree {
     fn writable(&self, group: Group) -> Result<(), TreeFault>
         ensures { MatchResult result (λ _. write_refusal self.now group ≡ None) (λ fault. write_refusal self.now group ≡ Some fault) }
     {
-        match self.node(group) {
+        match self.cgroup(group) {
             None => Err(TreeFault::NoGroup),
             Some(kept) if kept.parent.is_none() => Err(TreeFault::IsRoot),
             Some(_) => Ok(()),
@@ -339,7 +339,7 @@ impl Tree {
     pub fn cpus(&self, group: Group) -> Result<&IdSet, TreeFault>
         ensures { behind result ≡ read_of self.now group (requested_cpus self.now group) }
     {
-        let kept = self.node(group).ok_or(TreeFault::NoGroup)?;
+        let kept = self.cgroup(group).ok_or(TreeFault::NoGroup)?;
         Ok(&kept.shares.cpus.requested)
     }
 
@@ -350,7 +350,7 @@ impl Tree {
     pub fn effective_cpus(&self, group: Group) -> Result<&IdSet, TreeFault>
         ensures { behind result ≡ read_of self.now group (effective_cpus self.now group) }
     {
-        let kept = self.node(group).ok_or(TreeFault::NoGroup)?;
+        let kept = self.cgroup(group).ok_or(TreeFault::NoGroup)?;
         Ok(&kept.shares.cpus.effective)
     }
 
@@ -361,7 +361,7 @@ impl Tree {
     pub fn mems(&self, group: Group) -> Result<&IdSet, TreeFault>
         ensures { behind result ≡ read_of self.now group (requested_mems self.now group) }
     {
-        let kept = self.node(group).ok_or(TreeFault::NoGroup)?;
+        let kept = self.cgroup(group).ok_or(TreeFault::NoGroup)?;
         Ok(&kept.shares.mems.requested)
     }
 
@@ -372,7 +372,7 @@ impl Tree {
     pub fn effective_mems(&self, group: Group) -> Result<&IdSet, TreeFault>
         ensures { behind result ≡ read_of self.now group (effective_mems self.now group) }
     {
-        let kept = self.node(group).ok_or(TreeFault::NoGroup)?;
+        let kept = self.cgroup(group).ok_or(TreeFault::NoGroup)?;
         Ok(&kept.shares.mems.effective)
     }
 
@@ -383,7 +383,7 @@ impl Tree {
     pub fn find(&self, parent: Group, name: &str) -> Result<Option<Group>, TreeFault>
         ensures { result ≡ read_of self.now parent (child_of self.now parent name.now) }
     {
-        match self.node(parent) {
+        match self.cgroup(parent) {
             None => Err(TreeFault::NoGroup),
             Some(_) => Ok(self.child(parent, name)),
         }

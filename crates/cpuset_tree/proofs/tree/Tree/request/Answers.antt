@@ -3,7 +3,7 @@ use Rattle.cpu_set.specs.Ids.{Ids}
 use Rattle.cpuset_tree.specs.TreeState.{TreeState}
 use Rattle.cpuset_tree.specs.Groups.{has_group}
 use Rattle.cpuset_tree.specs.Kept.{top_of, with_request, AllKept, ElsewhereGranted}
-use Rattle.cpuset_tree.proofs.NodeLemmas.{KeptThere, kept_there}
+use Rattle.cpuset_tree.proofs.CgroupLemmas.{KeptThere, kept_there}
 use Rattle.cpuset_tree.proofs.PlaceLemmas.{SamePlaces-from_kept}
 use Rattle.cpuset_tree.proofs.RefreshLemmas.{ElsewhereGranted-written, group_at-written}
 use Rattle.cpuset_tree.proofs.ParentLemmas.{AreParentsUpTo-same}

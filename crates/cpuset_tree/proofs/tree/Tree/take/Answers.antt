@@ -5,7 +5,7 @@ use Rattle.cpuset_tree.specs.TreeState.{TreeState}
 use Rattle.cpuset_tree.specs.Groups.{has_group, is_root, has_children}
 use Rattle.cpuset_tree.specs.TreeChanges.{without_group}
 use Rattle.cpuset_tree.specs.Kept.{IsSound, listed}
-use Rattle.cpuset_tree.proofs.NodeLemmas.{KeptThere, kept_there}
+use Rattle.cpuset_tree.proofs.CgroupLemmas.{KeptThere, kept_there}
 use Rattle.cpuset_tree.proofs.ChangeLemmas.{listed-removed}
 use Rattle.cpuset_tree.proofs.SoundLemmas.{IsSound-removed}
 use Rattle.cpuset_tree.proofs.ParentLemmas.{AreParentsUpTo-removed}

@@ -5,9 +5,9 @@ use Rattle.cpuset_tree.specs.declared.groups.Cgroup.{Cgroup}
 use Rattle.cpuset_tree.specs.TreeState.{TreeState}
 use Rattle.cpuset_tree.specs.Groups.{same_group}
 use Rattle.cpuset_tree.specs.Kept.{IsKeptOf}
-use Rattle.cpuset_tree.proofs.NodeLemmas.{kept_of, none_kept}
-use Rattle.cpuset_tree.proofs.tree.Tree.node.Goals as goal
-use Rattle.cpuset_tree.proofs.tree.Tree.node.Goals.{in_default-via-in-Some+else-eq, in_default-via-in_default}
+use Rattle.cpuset_tree.proofs.CgroupLemmas.{kept_of, none_kept}
+use Rattle.cpuset_tree.proofs.tree.Tree.cgroup.Goals as goal
+use Rattle.cpuset_tree.proofs.tree.Tree.cgroup.Goals.{in_default-via-in-Some+else-eq, in_default-via-in_default}
 
 pub returns-in-Some : goal.returns-in-Some
 returns-in-Some c =
