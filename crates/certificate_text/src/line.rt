@@ -49,28 +49,22 @@ pub fn read_line(alloc: Global, line: &[u8]) -> Result<Line<'_>, OrMemory<BadLin
         return Ok(Line::Row(read_row(alloc, text)?));
     }
     if kind == b"hold".as_slice() {
-        return match read_hold(text) {
-            Some(hold) => Ok(Line::Hold(hold)),
-            None => Err(OrMemory::Fault(BadLine)),
+        let Some(hold) = read_hold(text) else {
+            return Err(OrMemory::Fault(BadLine));
         };
+        return Ok(Line::Hold(hold));
     }
     if kind == b"price".as_slice() {
-        return match read_price(text) {
-            Some(price) => Ok(Line::Price(price)),
-            None => Err(OrMemory::Fault(BadLine)),
-        };
+        let price = read_price(text).ok_or(BadLine)?;
+        return Ok(Line::Price(price));
     }
     if kind == b"total".as_slice() {
-        return match read_total(text) {
-            Some(total) => Ok(Line::Total(total)),
-            None => Err(OrMemory::Fault(BadLine)),
-        };
+        let total = read_total(text).ok_or(BadLine)?;
+        return Ok(Line::Total(total));
     }
     if kind == b"short".as_slice() {
-        return match read_short(text) {
-            Some(id) => Ok(Line::Short(id)),
-            None => Err(OrMemory::Fault(BadLine)),
-        };
+        let id = read_short(text).ok_or(BadLine)?;
+        return Ok(Line::Short(id));
     }
     Err(OrMemory::Fault(BadLine))
 }

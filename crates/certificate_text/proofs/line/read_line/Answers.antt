@@ -1,4 +1,4 @@
-use Rattle.std.proofs.Common.{◌≡◌, ◌∷◌, ap, ◌∙◌}
+use Rattle.std.proofs.Common.{◌≡◌, None, ◌∷◌, ap, ◌∙◌, arith}
 use Rattle.std.specs.Prelude.{codes}
 use Rattle.std.proofs.lemmas.Result.{err_from_is_err_and}
 use Rattle.certificate_text.specs.Line.{words}
@@ -18,17 +18,21 @@ returns-in_err-read_row-clause-bad c =
     let p = err_from_is_err_and c.from_residual.result c.from_residual.ensures.1 in
     rw (p.1, p.2) (λ _ bad. no_row c.args.line.now (words c.in-Some.text.now) (c.in-Some.ensures.0 ∙ ap (λ k. k ∷ words c.in-Some.text.now) kind) (c.in_err-read_row.ensures.bad _ bad))
 
-pub returns-in-None-clause-bad : goal.returns-in-None-clause-bad
-returns-in-None-clause-bad c =
+pub returns-in_default-read_hold-clause-bad : goal.returns-in_default-read_hold-clause-bad
+returns-in_default-read_hold-clause-bad c =
     let kind : c.in-Some.kind.now ≡ codes "hold" = same_word c.in-Some.kind.now c.as_slice-5.result.now (codes "hold") c.if-eq-5.ensures c.as_slice-5.ensures in
-    λ _ bad. no_hold c.args.line.now (words c.in-Some.text.now) (c.in-Some.ensures.0 ∙ ap (λ k. k ∷ words c.in-Some.text.now) kind) c.in-None.ensures
+    λ _ bad. no_hold c.args.line.now (words c.in-Some.text.now) (c.in-Some.ensures.0 ∙ ap (λ k. k ∷ words c.in-Some.text.now) kind) c.in_default-read_hold.ensures
 
-pub returns-in-None-read_price-clause-bad : goal.returns-in-None-read_price-clause-bad
-returns-in-None-read_price-clause-bad c =
+pub returns-in_err-price-clause-bad : goal.returns-in_err-price-clause-bad
+returns-in_err-price-clause-bad c =
     let kind : c.in-Some.kind.now ≡ codes "price" = same_word c.in-Some.kind.now c.as_slice-6.result.now (codes "price") c.if-eq-6.ensures c.as_slice-6.ensures in
-    λ _ bad. no_price c.args.line.now (words c.in-Some.text.now) (c.in-Some.ensures.0 ∙ ap (λ k. k ∷ words c.in-Some.text.now) kind) c.in-None-read_price.ensures
+    let p = err_from_is_err_and c.from_residual-in_err-price.result c.from_residual-in_err-price.ensures.1 in
+    let none : c.read_price.result ≡ None = grind arith in
+    rw (p.1, p.2) (λ _ bad. no_price c.args.line.now (words c.in-Some.text.now) (c.in-Some.ensures.0 ∙ ap (λ k. k ∷ words c.in-Some.text.now) kind) (rw none at c.read_price.ensures))
 
-pub returns-in-None-read_total-clause-bad : goal.returns-in-None-read_total-clause-bad
-returns-in-None-read_total-clause-bad c =
+pub returns-in_err-total-clause-bad : goal.returns-in_err-total-clause-bad
+returns-in_err-total-clause-bad c =
     let kind : c.in-Some.kind.now ≡ codes "total" = same_word c.in-Some.kind.now c.as_slice-7.result.now (codes "total") c.if-eq-7.ensures c.as_slice-7.ensures in
-    λ _ bad. no_total c.args.line.now (words c.in-Some.text.now) (c.in-Some.ensures.0 ∙ ap (λ k. k ∷ words c.in-Some.text.now) kind) c.in-None-read_total.ensures
+    let p = err_from_is_err_and c.from_residual-in_err-total.result c.from_residual-in_err-total.ensures.1 in
+    let none : c.read_total.result ≡ None = grind arith in
+    rw (p.1, p.2) (λ _ bad. no_total c.args.line.now (words c.in-Some.text.now) (c.in-Some.ensures.0 ∙ ap (λ k. k ∷ words c.in-Some.text.now) kind) (rw none at c.read_total.ensures))
