@@ -1,6 +1,7 @@
-use Rattle.std.proofs.Common.{IfSome, subst}
+use Rattle.std.proofs.Common.{IfSome, subst, arith}
 use Rattle.cpu_set.specs.Ids.{IsFirstFrom}
 use Rattle.cpu_set.specs.Members.{IsCpu}
+use Rattle.twins.specs.IsDeal.{IsMoved}
 use Rattle.twins.proofs.Deals.{move_start, move_more, first_of_some, first_of_none, next_first, still_some}
 use Rattle.twins.proofs.dealing.move_lowest.Goals as goal
 use Rattle.twins.proofs.dealing.move_lowest.Goals.{in-Some, in_default}
@@ -26,3 +27,7 @@ loop-preserved c =
           })
       | in_default w ↦ absurd (still_some _ _ c.loop.invariant.moved.0 _ _ c.loop.invariant.moved.1 c.loop-test.true c.requires.count (first_of_none _ _ c.loop.invariant.first w.in_default.not-Some))
     ]
+
+pub returns-clause-moved : goal.returns-clause-moved
+returns-clause-moved c =
+    subst (λ n. IsMoved c.args.rest.now c.loop.rest c.args.own.now c.loop.own n) (omega (arith, c.loop-test.false, c.loop.auto.counter-end)) c.loop.invariant.moved
