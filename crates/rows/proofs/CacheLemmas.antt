@@ -17,16 +17,12 @@ pub found : (m : Layout) (cache : List CachedOffers) (i : ℕ) (w : CachedOffers
     → is_same w.homes homes ≡ true → is_same w.cpus cpus ≡ true → All (IsCached m) cache → IsCachedFor m homes cpus w
 found m cache i w homes cpus within at same_homes same_cpus all = record {
   entry = subst (IsCached m) (sym at) (All-get_or (IsCached m) cache i w within all);
-  homes = same_subsets w.homes homes same_homes;
-  cpus = same_subsets w.cpus cpus same_cpus;
+  same_homes = same_subsets w.homes homes same_homes;
+  same_cpus = same_subsets w.cpus cpus same_cpus;
 }
 
 pub offers_are : (m : Layout) (homes cpus : Ids) (w : CachedOffers) → IsCachedFor m homes cpus w → w.offers ≡ offers_of m homes cpus
-offers_are m homes cpus w h = h.entry.offers ∙ ap (λ s. offers_of m s w.cpus) h.homes ∙ ap (offers_of m homes) h.cpus
-
-pub parts_are : (m : Layout) (homes cpus held : Ids) (w : CachedOffers) (parts : List Offer) → IsCachedFor m homes cpus w
-    → parts ≡ flat_map (parted held) w.offers → parts ≡ flat_map (parted held) (offers_of m homes cpus)
-parts_are m homes cpus held w parts h are = are ∙ ap (flat_map (parted held)) (offers_are m homes cpus w h)
+offers_are m homes cpus w h = h.entry.offers ∙ ap (λ s. offers_of m s w.cpus) h.same_homes ∙ ap (offers_of m homes) h.same_cpus
 
 -- parts that are kept are those of whoever holds the same
 pub kept_parts : (m : Layout) (w : CachedOffers) (kept : CachedParts) (held : Ids) → IsCached m w → w.parts ≡ Some kept → is_same kept.held held ≡ true

@@ -160,9 +160,10 @@ pub offering_end : (m : Layout) (homes cpus left : Ids) (weights : List ℕ) (n 
     → more ≡ offers ++ filter has_some (record { weight = v; cpus = left } ∷ []) → more ≡ offers_of m homes cpus
 unfolding offers_of
 offering_end m homes cpus left weights n v offers more reach are below most h same is =
+    let whole : (n + 1) + (254 - n) ≡ 255 = omega (arith, below) in
     added m homes cpus left n v offers more same h.so_far rest is
     ∙ sym (none_between m homes cpus (n + 1) (254 - n) (λ c has above under. let near : weight m homes c ≤ n = low c has in omega (arith, near, above)))
-    ∙ ap (offers_below m homes cpus) (omega (arith, below))
+    ∙ ap (offers_below m homes cpus) whole
   where
     low : (c : ℕ) → set.contains cpus c ≡ true → weight m homes c ≤ n
     low c has =

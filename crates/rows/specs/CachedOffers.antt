@@ -15,5 +15,5 @@ pub record IsCached (m : Layout) (w : CachedOffers) : Type 0 where
 -- they are those of these CPUs for these homes
 pub record IsCachedFor (m : Layout) (homes cpus : Ids) (w : CachedOffers) : Type 0 where
   pub entry : IsCached m w
-  pub homes : w.homes ≡ homes
-  pub cpus : w.cpus ≡ cpus
+  pub same_homes : w.homes ≡ homes
+  pub same_cpus : w.cpus ≡ cpus

@@ -1,4 +1,4 @@
-use Rattle.std.proofs.Common.{◌∙◌}
+use Rattle.std.proofs.Common.{◌≡◌, ◌∙◌, IfOk, subst}
 use Rattle.std.proofs.lemmas.List.Elements.{All-push}
 use Rattle.rows.specs.CachedOffers.{IsCached}
 use Rattle.rows.proofs.CacheLemmas.{offers_are}
@@ -6,7 +6,9 @@ use Rattle.rows.proofs.cache.offers_among.Goals as goal
 
 pub returns-in-Some-clause-offers : goal.returns-in-Some-clause-offers
 returns-in-Some-clause-offers c =
-    c.in_ok-copy.ensures ∙ offers_are _ _ _ _ (c.in-Some.ensures c.args.machine.now (rw c.as_slice.ensures.value c.requires.cache))
+    subst (λ all. IfOk c.copy.result (λ offers. offers ≡ all))
+    (offers_are _ _ _ _ (c.in-Some.ensures c.args.machine.now (rw c.as_slice.ensures.value c.requires.cache)))
+    c.copy.ensures
 
 pub returns-clause-cache : goal.returns-clause-cache
 returns-clause-cache c =

@@ -1,7 +1,9 @@
-use Rattle.std.proofs.Common.{◌∙◌}
+use Rattle.std.proofs.Common.{◌≡◌, ◌∙◌, IfOk, subst}
+use Rattle.std.specs.List.{flat_map}
 use Rattle.std.proofs.lemmas.List.Elements.{All-push}
 use Rattle.rows.specs.CachedOffers.{IsCached}
-use Rattle.rows.proofs.CacheLemmas.{parts_are}
+use Rattle.rows.specs.Scaled.{parted}
+use Rattle.rows.proofs.CacheLemmas.{offers_are}
 use Rattle.rows.proofs.LimitLemmas.{offers_of_distances}
 use Rattle.rows.proofs.cache.parts_among.Goals as goal
 
@@ -10,10 +12,12 @@ parts_for-requires c = (c.args.machine.now, (c.in-Some.ensures c.args.machine.no
 
 pub returns-in-Some-clause-parts : goal.returns-in-Some-clause-parts
 returns-in-Some-clause-parts c =
-    parts_are _ _ _ _ _ _ (c.in-Some.ensures c.args.machine.now (rw c.as_slice.ensures.value c.requires.cache)) c.parts_for.ensures
+    subst (λ offers. IfOk c.parts_for.result (λ parts. parts ≡ flat_map (parted c.args.held.now) offers))
+    (offers_are _ _ _ _ (c.in-Some.ensures c.args.machine.now (rw c.as_slice.ensures.value c.requires.cache)))
+    c.parts_for.ensures
 
-pub parts_of-parts-requires : goal.parts_of-parts-requires
-parts_of-parts-requires c = rw c.in_ok-offers.ensures (offers_of_distances _ _ _)
+pub parts_of-requires : goal.parts_of-requires
+parts_of-requires c = rw c.in_ok-offers.ensures (offers_of_distances _ _ _)
 
 pub returns-clause-cache : goal.returns-clause-cache
 returns-clause-cache c =
