@@ -1,17 +1,19 @@
 -- What offers know of themselves, as they come.
 use Rattle.certificate.specs.Limits.{is_rising}
-use Rattle.certificate.specs.RisingOffers.{AreRising, AreTold}
+use Rattle.certificate.specs.RisingOffers.{AreRising}
 use Rattle.certificate.specs.declared.rows.Offer.{Offer}
-use Rattle.std.proofs.Common.{Bool, List, [], ap, arith, get_or, inl, inr, length, refl, subst, sym, true, ℕ, ◌++◌, ◌+◌, ◌-◌, ◌<◌, ◌∷◌, ◌≡◌, ◌≤◌}
+use Rattle.std.proofs.Common.{◌↔◌, Bool, List, [], ap, arith, get_or, inl, inr, length, refl, subst, true, ℕ, ◌++◌, ◌+◌, ◌-◌, ◌<◌, ◌∷◌, ◌≡◌, ◌≤◌}
 use Rattle.std.proofs.lemmas.Bool.{cases_eq, cases_lt}
 use Rattle.std.proofs.lemmas.List.{get_or_append_left, get_or_push, length_push}
 
-pub told_none : AreTold [] true 0
-told_none = record {
-  rising = (λ on i j d before lt. absurd (omega (arith, lt)), λ up. refl);
-  none = λ e. refl;
-  last = λ i d e. absurd (omega (arith, e));
-}
+-- they are said to rise where they do, and the bound is right above the last weight
+pub record AreTold (offers : List Offer) (is_rising : Bool) (least : ℕ) : Type 0 where
+  pub rising : (is_rising ≡ true) ↔ AreRising offers
+  pub none : length offers ≡ 0 → least ≡ 0
+  pub last : (i : ℕ) (d : Offer) → i + 1 ≡ length offers → least ≡ (get_or offers i d).weight + 1
+
+pub rising_none : (true ≡ true) ↔ AreRising []
+rising_none = (λ on i j d before lt. absurd (omega (arith, lt)), λ up. refl)
 
 -- all of them are below the bound where they rise
 below : (offers : List Offer) (least : ℕ) → AreTold offers true least → (i : ℕ) (d : Offer) → i < length offers → (get_or offers i d).weight < least
@@ -24,12 +26,9 @@ below offers least told i d lt = elim (cases_eq (i + 1) (length offers)) [
 pub told_more :
     (offers : List Offer) (o : Offer) (is_rising still : Bool) (least : ℕ) → AreTold offers is_rising least
     → (still ≡ true → (is_rising ≡ true) × (least ≤ o.weight)) → (is_rising ≡ true → least ≤ o.weight → still ≡ true)
-    → AreTold (offers ++ o ∷ []) still (o.weight + 1)
-told_more offers o is_rising still least told rises stays = record {
-  rising = (λ on. up (rises on).0 (rises on).1, λ all. stays (told.rising.1 (front all)) (above all));
-  none = λ e. absurd (omega (arith, e, length_push offers o));
-  last = λ i d e. ap (λ (p : Offer). p.weight + 1) (sym (last i d (omega (arith, e, length_push offers o))));
-}
+    → ((still ≡ true) ↔ AreRising (offers ++ o ∷ []))
+told_more offers o is_rising still least told rises stays =
+    (λ on. up (rises on).0 (rises on).1, λ all. stays (told.rising.1 (front all)) (above all))
   where
     earlier : (i : ℕ) (d : Offer) → i < length offers → get_or (offers ++ o ∷ []) i d ≡ get_or offers i d
     earlier i d lt = get_or_append_left offers (o ∷ []) d i lt

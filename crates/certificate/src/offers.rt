@@ -1,4 +1,4 @@
-ghost use Rattle.std.specs.Prelude.{◌≡◌, ◌↔◌, ℕ, ◌<◌, ◌++◌, [], ◌∷◌, All, IsTrue, IfOk, OnOk, OnErr, is_some, length, slice_index_or};
+ghost use Rattle.std.specs.Prelude.{◌≡◌, ◌↔◌, ℕ, ◌+◌, ◌<◌, ◌++◌, [], ◌∷◌, All, IsTrue, IfOk, OnOk, OnErr, is_some, length, slice_index_or};
 ghost use Rattle.std.specs.FinSet as set;
 ghost use Rattle.certificate.specs.Weight.{weight_in};
 ghost use Rattle.cpu_set.specs.Ranges.{in_ranges};
@@ -20,15 +20,13 @@ pub struct Offers {
     // The CPUs of each offer, with its weight.
     sets: TaggedSets<u32>,
     is_rising: bool,
-    // The least weight with which the next offer weighs more than the last.
-    least: u64,
 }
 
 impl Model for Offers {
-    ghost use Rattle.std.specs.Prelude.{List};
+    ghost use Rattle.std.specs.Prelude.{◌↔◌, IsTrue, List};
     ghost use Rattle.certificate.specs.RowView.{offers_code};
     ghost use Rattle.certificate.specs.declared.rows.Offer.{Offer};
-    ghost use Rattle.certificate.specs.RisingOffers.{AreTold};
+    ghost use Rattle.certificate.specs.RisingOffers.{AreRising};
     ghost use Rattle.certificate.specs.OffersOf.{offers_of};
 
     ghost Value = { List Offer };
@@ -37,7 +35,7 @@ impl Model for Offers {
 
     ghost view = { λ a. offers_of a.sets };
 
-    ghost invariant = { λ a. AreTold (offers_of a.sets) a.is_rising a.least };
+    ghost invariant = { λ a. IsTrue a.is_rising ↔ AreRising (offers_of a.sets) };
 }
 
 impl Offers {
@@ -48,7 +46,6 @@ impl Offers {
         Offers {
             sets: TaggedSets::new(alloc),
             is_rising: true,
-            least: 0,
         }
     }
 
@@ -60,13 +57,21 @@ impl Offers {
         ensures ok { OnOk result (self.new ≡ self.old ++ offer ∷ []) }
         ensures err { OnErr result (self.new ≡ self.old) }
     {
-        let weight = u64::from(offer.weight);
+        let rises = u64::from(offer.weight) >= self.least();
         self.sets.push(offer.weight, &offer.cpus)?;
-        if weight < self.least {
-            self.is_rising = false;
-        }
-        self.least = weight + 1;
+        self.is_rising = self.is_rising && rises;
         Ok(())
+    }
+
+    /// The least weight with which the next offer weighs more than the last.
+    fn least(&self) -> u64
+        ensures none { length self.now ≡ 0 → result ≡ 0 }
+        ensures last { (i : ℕ) (d : Offer) → i + 1 ≡ length self.now → result ≡ (slice_index_or self.now i d).weight + 1 }
+    {
+        if self.len() == 0 {
+            return 0;
+        }
+        u64::from(self.weight(self.len() - 1)) + 1
     }
 
     /// The same offers once more.
@@ -80,7 +85,6 @@ impl Offers {
         Ok(Offers {
             sets,
             is_rising: self.is_rising,
-            least: self.least,
         })
     }
 

@@ -1,5 +1,5 @@
-use Rattle.certificate.proofs.Offering.{told_none}
+use Rattle.certificate.proofs.Offering.{rising_none}
 use Rattle.certificate.proofs.offers.Offers.new.Goals as goal
 
 pub invariant_of-result : goal.invariant_of-result
-invariant_of-result c = rw c.new.ensures told_none
+invariant_of-result c = rw c.new.ensures rising_none

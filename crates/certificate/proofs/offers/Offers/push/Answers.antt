@@ -1,12 +1,31 @@
-use Rattle.certificate.proofs.Offering.{told_more}
+use Rattle.certificate.proofs.Offering.{AreTold, told_more}
 use Rattle.certificate.proofs.OffersKept.{push_is}
-use Rattle.std.proofs.Common.{arith}
+use Rattle.certificate.specs.RisingOffers.{AreRising}
+use Rattle.certificate.specs.declared.rows.Offer.{Offer}
+use Rattle.std.proofs.Common.{◌≡◌, ◌↔◌, ◌≤◌, ◌∙◌, ℕ, List, nat_le, true, arith, subst, sym}
 use Rattle.std.proofs.lemmas.Bool.{false≢true}
+use Rattle.std.proofs.lemmas.Bool.Decides.{nat_tests}
 use Rattle.certificate.proofs.offers.Offers.push.Goals as goal
-use Rattle.certificate.proofs.offers.Offers.push.Goals.{then-weight-self, else-weight-self}
+use Rattle.certificate.proofs.offers.Offers.push.Goals.{then-self, else-self}
+
+tested : {a b : ℕ} → a ≤ b → nat_le a b ≡ true
+tested le = grind (arith, nat_tests)
+
+within : {a b : ℕ} → nat_le a b ≡ true → a ≤ b
+within test = grind (arith, nat_tests)
 
 pub invariant_of-self-2 : goal.invariant_of-self-2
-invariant_of-self-2 c = elim c.if-weight-self.branch [
-  | then-weight-self w ↦ rw (w.self-inside-is, c.in_ok-push.ensures.ok, push_is c.self.inside.sets c.args.offer, c.from-weight.ensures) (told_more _ _ _ _ _ c.self.invariant (λ on. absurd (false≢true on)) (λ on over. absurd (omega (arith, over, w.if-weight-self.true, c.from-weight.ensures))))
-  | else-weight-self w ↦ rw (w.self-inside-is, c.in_ok-push.ensures.ok, push_is c.self.inside.sets c.args.offer, c.from-weight.ensures) (told_more _ _ _ _ _ c.self.invariant (λ on. (on, omega (arith, w.if-weight-self.false, c.from-weight.ensures))) (λ on over. on))
-]
+invariant_of-self-2 c =
+    let told : AreTold _ c.self.inside.is_rising c.least.result =
+    subst (λ (offers : List Offer). AreTold offers c.self.inside.is_rising c.least.result) (sym c.self.view_is) (record {
+      rising = subst (λ (offers : List Offer). (c.self.inside.is_rising ≡ true) ↔ AreRising offers) c.self.view_is c.self.invariant;
+      none = c.least.ensures.none;
+      last = c.least.ensures.last;
+    }) in
+    rw (c.in_ok-push.ensures.ok, push_is c.self.inside.sets c.args.offer) (elim c.if-self.branch [
+      | then-self w ↦
+          told_more _ _ _ (c.if-self.self) _ told (λ on. (w.if-self.true, let fits : c.least.result ≤ c.from.result = within (sym w.self-is ∙ on) in omega (arith, fits, c.from.ensures)))
+          (λ on over. w.self-is ∙ tested (omega (arith, over, c.from.ensures)))
+      | else-self w ↦
+          told_more _ _ _ (c.if-self.self) _ told (λ on. absurd (false≢true (sym w.if-self.false ∙ (sym w.self-is ∙ on)))) (λ on over. w.self-is ∙ on)
+    ])
