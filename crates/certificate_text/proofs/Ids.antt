@@ -1,10 +1,9 @@
 -- What the bytes of an id are, and which ids a list of rows has.
-use Rattle.std.proofs.Common.{◌≡◌, ℕ, ◌<◌, Bool, true, false, ◌||◌, cond, List, [], ◌∷◌, ◌++◌, String, string_bytes, length, get_or, refl, sym, ap, ◌∙◌, arith}
+use Rattle.std.proofs.Common.{◌≡◌, ℕ, ◌<◌, Bool, true, false, ◌||◌, cond, List, [], ◌∷◌, ◌++◌, Bor, length, get_or, refl, sym, ap, ◌∙◌, arith}
 use Rattle.std.specs.List.{list_any, All}
 use Rattle.std.specs.Str.{IsUtf8, bytes_eq}
-use Rattle.std.specs.String.{string_cmp}
 use Rattle.std.specs.BTreeSet as sorted
-use Rattle.std.specs.BTreeSet.{BTreeSet, contains_text}
+use Rattle.std.specs.BTreeSet.{BTreeSet}
 use Rattle.std.specs.Cmp.Lexicographic.{slice_cmp}
 use Rattle.std.specs.Ordering.{nat_cmp}
 use Rattle.std.specs.Bool.{one_answer}
@@ -12,9 +11,10 @@ use Rattle.std.proofs.lemmas.Str.{IsUtf8-from_ascii}
 use Rattle.std.proofs.lemmas.Str.Ascii.{IsAscii-from_all}
 use Rattle.std.proofs.lemmas.List.Folds.{list_any-append, list_all_at}
 use Rattle.std.proofs.lemmas.Slice.Eq.{bytes_eq-Decides}
-use Rattle.std.proofs.lemmas.Map.Text.{btree_set_updates_text}
+use Rattle.std.proofs.lemmas.Map.Text.{is_eq-slice_cmp}
 use Rattle.certificate_text.specs.IdWord.{is_id_letter, IsId}
 use Rattle.certificate.specs.RowView.{RowView}
+use Rattle.certificate_text.specs.DraftRead.{keeps_id}
 use Rattle.certificate_text.specs.DraftView.{has_id}
 
 letter_is_ascii : (b : ℕ) → is_id_letter b ≡ true → b < 128
@@ -50,9 +50,10 @@ has_id_more id rows row =
     list_any-append (λ r. bytes_eq id r.id) rows (row ∷ []) ∙ ap (λ b. list_any (λ r. bytes_eq id r.id) rows || b) (or_false (bytes_eq id row.id))
 
 -- a key more in the set, and its row more in the list
-pub ids_more : {Y : Type 0} (rows : List RowView) (row : RowView) (key : String Y) (s n : BTreeSet (String Y))
-    → sorted.UpdatesBy string_cmp (λ k. slice_cmp nat_cmp (string_bytes key) (string_bytes k)) s n true → string_bytes key ≡ row.id
-    → ((id : List ℕ) → contains_text s id ≡ has_id id rows) → (id : List ℕ) → contains_text n id ≡ has_id id (rows ++ row ∷ [])
+pub ids_more : (rows : List RowView) (row : RowView) (key : Bor (List ℕ)) (s n : BTreeSet (Bor (List ℕ)))
+    → sorted.UpdatesBy (λ x y. slice_cmp nat_cmp x.now y.now) (λ k. slice_cmp nat_cmp key.now k.now) s n true → key.now ≡ row.id
+    → ((id : List ℕ) → keeps_id s id ≡ has_id id rows) → (id : List ℕ) → keeps_id n id ≡ has_id id (rows ++ row ∷ [])
 ids_more rows row key s n updates key_is known id =
-    btree_set_updates_text (string_bytes key) s n true updates id ∙ cond-true (bytes_eq (string_bytes key) id) (contains_text s id)
+    updates.0 (record key { now = id }) ∙ ap (λ b. cond b true (keeps_id s id)) (is_eq-slice_cmp key.now id)
+    ∙ cond-true (bytes_eq key.now id) (keeps_id s id)
     ∙ rw (key_is, known id, bytes_eq_sym row.id id) (sym (has_id_more id rows row))

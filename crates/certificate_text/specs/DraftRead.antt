@@ -1,6 +1,9 @@
 -- What the code's draft holds.
-use Rattle.std.specs.Prelude.{◌≡◌, ℕ, ◌≤◌, List, length}
-use Rattle.std.specs.BTreeSet.{contains_text}
+use Rattle.std.specs.Prelude.{◌≡◌, ℕ, ◌≤◌, Bool, List, length}
+use Rattle.std.specs.Borrow.{Bor}
+use Rattle.std.specs.BTreeSet.{BTreeSet, contains_by}
+use Rattle.std.specs.Cmp.Lexicographic.{slice_cmp}
+use Rattle.std.specs.Ordering.{nat_cmp}
 use Rattle.certificate_text.specs.declared.draft.Draft.TheInside.{Inside}
 use Rattle.certificate_text.specs.DraftView.{DraftView, has_id}
 
@@ -18,7 +21,11 @@ draft_view d = record {
   scaled = d.scaled;
 }
 
+-- whether these slices of the text are those of an id
+abbrev pub keeps_id : BTreeSet (Bor (List ℕ)) → List ℕ → Bool
+keeps_id ids id = contains_by (λ k. slice_cmp nat_cmp id k.now) ids
+
 -- the kept ids are those of the rows, and the members are rows
 pub record IsKept (d : Inside) : Type 0 where
-  pub ids : (id : List ℕ) → contains_text d.ids id ≡ has_id id d.rows.items
+  pub ids : (id : List ℕ) → keeps_id d.ids id ≡ has_id id d.rows.items
   pub within : d.from ≤ length d.rows.items

@@ -1,10 +1,10 @@
 ghost use Rattle.std.specs.Prelude.{◌≡◌, ◌+◌, ◌<◌, ◌^◌, length, slice_get, IfSome};
-ghost use Rattle.certificate_text.specs.Line.{HeaderLine, RowLine, HoldLine, PriceLine, TotalLine, ShortLine, EndLine};
+ghost use Rattle.certificate_text.specs.Line.{HeaderLine, RowLine, HoldLine, PriceLine, TotalLine, ShortLine, EndLine, Spells};
 ghost use Rattle.certificate_text.specs.LineRead.{line_view};
 ghost use Rattle.certificate_text.specs.Takes.{Takes};
 
 use crate::bad_line::BadLine;
-use crate::line::Line;
+use crate::line::{Line, second_word};
 use crate::line_words::{Hold, Total};
 use crate::stage::Stage;
 use crate::{Certificate, Members};
@@ -17,10 +17,11 @@ use std::marker::Model;
 
 /// What has been read of a certificate's text.
 #[derive(Drop)]
-pub struct Draft {
+pub struct Draft<'a> {
     stage: Stage,
     rows: Vec<Row>,
-    ids: BTreeSet<String>,
+    /// The ids of the rows, where the text has them.
+    ids: BTreeSet<&'a [u8]>,
     sets: Vec<IdSet>,
     values: Vec<u64>,
     prices: PriceList,
@@ -31,7 +32,7 @@ pub struct Draft {
     scaled: bool,
 }
 
-impl Model for Draft {
+impl<'a> Model for Draft<'a> {
     ghost use Rattle.certificate_text.specs.DraftView.{DraftView, draft_code};
 
     ghost Value = { DraftView };
@@ -45,12 +46,12 @@ impl Model for Draft {
     ghost invariant = { IsKept };
 }
 
-impl Draft {
+impl<'a> Draft<'a> {
     ghost use Rattle.certificate_text.specs.DraftView.{empty_draft, has_id, has_no_plan, is_held, is_id_of, number_of, takes_members, takes_row};
     ghost use Rattle.certificate_text.specs.Finished.{finished};
 
     /// A draft of which nothing has been read.
-    pub fn new(alloc: Global) -> Draft
+    pub fn new(alloc: Global) -> Draft<'a>
         ensures { result ≡ empty_draft }
     {
         Draft {
@@ -68,12 +69,13 @@ impl Draft {
     }
 
     /// Adds what the next line of the text says, if that line can follow the lines before it.
-    pub fn take(&mut self, line: Line<'_>) -> Result<(), OrMemory<BadLine>>
-        ensures { Takes result self.old (line_view line.entry) self.new }
+    pub fn take(&mut self, said: Line<'_>, line: &'a [u8]) -> Result<(), OrMemory<BadLine>>
+        requires { Spells line.now (line_view said) }
+        ensures { Takes result self.old (line_view said.entry) self.new }
     {
-        match line {
+        match said {
             Line::Header(scaled) => self.begin(scaled),
-            Line::Row(row) => self.add_row(row),
+            Line::Row(row) => self.add_row(second_word(line), row),
             Line::Hold(hold) => self.add_hold(hold),
             Line::Price(price) => self.add_price(price),
             Line::Total(total) => self.add_total(total),
@@ -118,7 +120,8 @@ impl Draft {
     }
 
     /// Rows come before all sets, prices and members, and no two have one id.
-    fn add_row(&mut self, row: Row) -> Result<(), OrMemory<BadLine>>
+    fn add_row(&mut self, id: &'a [u8], row: Row) -> Result<(), OrMemory<BadLine>>
+        requires { id.now ≡ row.id }
         ensures { Takes result self.old (RowLine row) self.new }
     {
         let Stage::Body = self.stage else {
@@ -127,10 +130,9 @@ impl Draft {
         if !self.has_no_plan() {
             return Err(OrMemory::Fault(BadLine));
         }
-        if self.ids.contains(row.id.as_str()) {
+        if self.ids.contains(id) {
             return Err(OrMemory::Fault(BadLine));
         }
-        let id = row.id.clone()?;
         self.rows.reserve(1)?;
         self.ids.insert(id)?;
         self.rows.push(row)?;
@@ -263,7 +265,7 @@ impl Draft {
 
     /// The certificate, if all of it has been read.
     pub fn finish(self) -> Option<Certificate>
-        ensures { result ≡ finished self }
+        ensures { result ≡ finished self.entry }
     {
         let problem = Problem { rows: self.rows };
         match self.stage {

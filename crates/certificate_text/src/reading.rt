@@ -73,18 +73,22 @@ fn read_text_body(alloc: Global, text: &[u8]) -> Result<Certificate, OrMemory<Ba
 }
 
 /// Adds what the next line of the text says.
-fn take_line(alloc: Global, draft: &mut Draft, line: &[u8]) -> Result<(), OrMemory<BadLine>>
+fn take_line<'a>(
+    alloc: Global,
+    draft: &mut Draft<'a>,
+    line: &'a [u8],
+) -> Result<(), OrMemory<BadLine>>
     ensures { TakesLine result draft.old line.now draft.new }
 {
     match read_line(alloc, line) {
-        Ok(said) => draft.take(said),
+        Ok(said) => draft.take(said, line),
         Err(OrMemory::Memory) => Err(row_fault(draft, line)),
         Err(OrMemory::Fault(BadLine)) => Err(OrMemory::Fault(BadLine)),
     }
 }
 
 /// What stands against a row's line for which there is no memory: that it can't follow, or else that.
-fn row_fault(draft: &Draft, line: &[u8]) -> OrMemory<BadLine>
+fn row_fault(draft: &Draft<'_>, line: &[u8]) -> OrMemory<BadLine>
     requires { (row : RowView) × Spells line.now (RowLine row) }
     ensures { TakesLine (Err result) draft.now line.now draft.now }
 {
