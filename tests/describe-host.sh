@@ -3,7 +3,7 @@
 # machine file that stands beside each; and of two recorded machines with those in examples/machines, which were read off the
 # same records by hand. What it writes of these is run, too. PROGRAM in the environment is run in place of the one that this
 # builds.
-set -eu
+set -euo pipefail
 top=$(cd "$(dirname "$0")/.." && pwd)
 scratch=$(mktemp -d)
 trap 'rm -rf "$scratch"' EXIT

@@ -4,7 +4,7 @@
 # The status is 1 while the words are collected, 2 while they are parsed, and 1 from then on.
 # Under a script one command may answer E1, and all others what they answer where that one is left out; and what a create left that
 # was answered by E1 is read from the kernel.
-# Of the solver, over a plan and a shortage, a front of the answer and an error of status 1 stand for the line of E1.
+# Of the solver, over a plan and a shortage, a prefix of the answer and an error of status 1 stand for the line of E1.
 set -u
 top=$(cd "$(dirname "$0")/.." && pwd)
 work=$(mktemp -d)

@@ -2,7 +2,7 @@
 # Tries the scripts of examples/ for those who operate machines: a quick look, machine files of what hwloc tells, pictures of
 # plans, the agent, the comparison with other ways to place, the count of moves, and the man page. What a machine lacks for it is passed over,
 # and named. PROGRAM in the environment is run in place of the one that this builds.
-set -eu
+set -euo pipefail
 top=$(cd "$(dirname "$0")/.." && pwd)
 . "$top/tests/build-program.sh"
 SCRATCH=$(mktemp -d)
