@@ -38,6 +38,11 @@ weight_at sets k w o lt weighs =
     ∙ ap (λ (p : Offer). p.weight)
     (sym (get_or-map offer_of sets k d) ∙ get_or_default (offers_of sets) k (offer_of d) o (omega (arith, length-offers_of sets)))
 
+pub cpus_at : (sets : List (ℕ × Ids)) (k : ℕ) (e : ℕ × Ids) (o : Offer) → k < length sets → (get_or sets k e).1 ≡ (get_or (offers_of sets) k o).cpus
+cpus_at sets k e o lt =
+    ap (λ (p : Offer). p.cpus)
+    (sym (get_or-map offer_of sets k e) ∙ get_or_default (offers_of sets) k (offer_of e) o (omega (arith, length-offers_of sets)))
+
 in_any-is : (sets : List (ℕ × Ids)) (q : ℕ) → in_any sets q ≡ is_in_one (λ (o : Offer). o.cpus) (offers_of sets) q
 in_any-is [] q = refl
 in_any-is (p ∷ sets) q = ap (λ b. set.contains p.1 q || b) (in_any-is sets q)

@@ -63,6 +63,22 @@ impl Offers {
         Ok(())
     }
 
+    /// Adds an offer of other ones after the others, with a weight of its own: its ranges are copied as they stand. O(r)
+    /// of its r ranges.
+    ///
+    /// # Errors
+    /// Lack of memory, which changes nothing.
+    pub fn push_from(&mut self, weight: u32, other: &Offers, at: usize) -> Result<(), AllocError>
+        requires { at < length other.now }
+        ensures ok { (d : Offer) → OnOk result (self.new ≡ self.old ++ (record { weight = weight; cpus = (slice_index_or other.now at d).cpus }) ∷ []) }
+        ensures err { OnErr result (self.new ≡ self.old) }
+    {
+        let rises = u64::from(weight) >= self.least();
+        self.sets.push_from(weight, &other.sets, at)?;
+        self.is_rising = self.is_rising && rises;
+        Ok(())
+    }
+
     /// The least weight with which the next offer weighs more than the last.
     fn least(&self) -> u64
         ensures none { length self.now ≡ 0 → result ≡ 0 }

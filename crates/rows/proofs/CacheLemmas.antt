@@ -1,11 +1,10 @@
 -- Offers that are cached.
-use Rattle.std.proofs.Common.{◌≡◌, ℕ, ◌<◌, true, Option, Some, IfSome, List, All, length, get_or, sym, ap, ◌∙◌, subst}
+use Rattle.std.proofs.Common.{◌≡◌, ℕ, ◌<◌, true, Some, IfSome, List, All, length, get_or, sym, ap, ◌∙◌, subst}
 use Rattle.std.specs.List.{flat_map}
 use Rattle.std.proofs.lemmas.List.Elements.{All-get_or}
 use Rattle.cpu_set.specs.Ids.{Ids, is_same}
 use Rattle.cpu_set.specs.Pointwise.{same_subsets}
 use Rattle.machine.specs.Layout.{Layout}
-use Rattle.certificate.specs.declared.Offer.{Offer}
 use Rattle.rows.specs.declared.cache.CachedOffers.{CachedOffers}
 use Rattle.rows.specs.declared.cache.CachedParts.{CachedParts}
 use Rattle.rows.specs.CachedOffers.{IsCached, IsCachedFor}

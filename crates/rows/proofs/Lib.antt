@@ -5,3 +5,4 @@ pub mod CacheLemmas
 pub mod PartLemmas
 pub mod PartLimits
 pub mod PartRising
+pub mod HeldLemmas

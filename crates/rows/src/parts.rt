@@ -1,26 +1,119 @@
 //! Offers in two parts: the CPUs that are held, and those that are not.
-ghost use Rattle.std.specs.Prelude.{◌≡◌, ◌++◌, [], ◌∷◌, filter, IfOk, IsTrue, OnOk};
-ghost use Rattle.std.specs.List.{flat_map};
+ghost use Rattle.std.specs.Prelude.{◌≡◌, ℕ, ◌<◌, ◌≤◌, ◌++◌, [], ◌∷◌, filter, true, false, length, slice_index_or, IfOk, IsTrue, IsFalse, OnOk};
+ghost use Rattle.std.specs.List.{flat_map, list_all};
+ghost use Rattle.std.specs.FinSet as set;
+ghost use Rattle.cpu_set.specs.Ranges.{in_ranges};
+ghost use Rattle.certificate.specs.declared.Offer.{Offer};
 ghost use Rattle.rows.specs.Offers.{has_some};
 ghost use Rattle.rows.specs.Scaled.{are_distances, parted};
 
 use certificate::{MOVE_SCALE, Offer, Offers};
-use cpu_set::IdSet;
+use cpu_set::{CPU_LIMIT, IdSet};
 use std::alloc::{AllocError, Global};
 
-/// The offers, scaled, with the CPUs that are held apart from the others: these weigh one more.
+/// The offers, scaled, with the CPUs that are held apart from the others: these weigh one more. O(r) of the offers' r
+/// ranges, and a step for each number that there may be for an offer with a CPU that is held.
 pub(crate) fn parts_of(alloc: Global, offers: &Offers, held: &IdSet) -> Result<Offers, AllocError>
-    requires { IsTrue (are_distances offers.now) }
+    requires distances { IsTrue (are_distances offers.now) }
+    requires some { IsTrue (list_all has_some offers.now) }
     ensures { IfOk result (λ parts. parts ≡ flat_map (parted held.now) offers.now) }
 {
+    let span = span_of(held);
     let mut parts = Offers::new(alloc);
     for at in 0..offers.len() {
-        let offer = offers.offer(at);
-        let weight = offer.weight * MOVE_SCALE;
-        push_some(&mut parts, weight, offer.cpus.meet(held))?;
-        push_some(&mut parts, weight + 1, offer.cpus.minus(held))?;
+        push_parts(&mut parts, offers, at, held, span)?;
     }
     Ok(parts)
+}
+
+/// The numbers from a first up to a last.
+#[derive(Clone, Copy)]
+struct Span {
+    first: u16,
+    last: u16,
+}
+
+/// A span with all numbers of the set.
+fn span_of(ids: &IdSet) -> Span
+    ensures { (n : ℕ) → set.contains ids.now n ≡ true → (result.first ≤ n) × (n ≤ result.last) }
+{
+    Span {
+        first: ids.first().unwrap_or(CPU_LIMIT),
+        last: greatest(ids),
+    }
+}
+
+/// No number of the set is above this one. O(log n) of the n numbers that there may be.
+#[tactic(auto, using(crate::proofs::HeldLemmas::at_most))]
+fn greatest(ids: &IdSet) -> u16
+    ensures { (n : ℕ) → set.contains ids.now n ≡ true → n ≤ result }
+{
+    ids.stays_below_the_limit();
+    let mut low = 0;
+    let mut high = CPU_LIMIT - 1;
+    while low < high {
+        let middle = low + (high - low) / 2;
+        match ids.next_after(middle) {
+            Some(next) => low = next,
+            None => high = middle,
+        }
+    }
+    high
+}
+
+/// Adds the parts of an offer. Most offers have no CPU that is held: such a one is copied as it stands.
+fn push_parts(
+    parts: &mut Offers,
+    offers: &Offers,
+    at: usize,
+    held: &IdSet,
+    span: Span,
+) -> Result<(), AllocError>
+    requires place { at < length offers.now }
+    requires distances { IsTrue (are_distances offers.now) }
+    requires some { IsTrue (list_all has_some offers.now) }
+    requires span { (n : ℕ) → set.contains held.now n ≡ true → (span.first ≤ n) × (n ≤ span.last) }
+    ensures { (d : Offer) → OnOk result (parts.new ≡ parts.old ++ parted held.now (slice_index_or offers.now at d)) }
+{
+    let weight = offers.weight(at) * MOVE_SCALE;
+    if have_none(offers.ranges(at), held, span) {
+        return parts.push_from(weight + 1, offers, at);
+    }
+    let cpus = offers.offer(at).cpus;
+    push_some(parts, weight, cpus.meet(held))?;
+    push_some(parts, weight + 1, cpus.minus(held))
+}
+
+/// Whether no CPU of the ranges is held, where all that are held are in the span.
+fn have_none(ranges: &[(u16, u16)], held: &IdSet, span: Span) -> bool
+    requires { (n : ℕ) → set.contains held.now n ≡ true → (span.first ≤ n) × (n ≤ span.last) }
+    ensures { IsTrue result → (n : ℕ) → in_ranges ranges.now n ≡ true → set.contains held.now n ≡ false }
+{
+    for range in ranges {
+        let (first, last) = *range;
+        if has_one(first, last, held, span) {
+            return false;
+        }
+    }
+    true
+}
+
+/// Whether a CPU from a first up to a last is held, where all that are held are in the span.
+#[tactic(auto, using(crate::proofs::HeldLemmas::outside))]
+fn has_one(first: u16, last: u16, held: &IdSet, span: Span) -> bool
+    requires { (n : ℕ) → set.contains held.now n ≡ true → (span.first ≤ n) × (n ≤ span.last) }
+    ensures { IsFalse result → (n : ℕ) → first ≤ n → n ≤ last → set.contains held.now n ≡ false }
+{
+    if last < span.first || span.last < first {
+        return false;
+    }
+    if held.contains(first) {
+        return true;
+    }
+    match held.next_after(first) {
+        Some(next) => next <= last,
+        None => false,
+    }
 }
 
 /// Adds an offer of these CPUs, if there are any.

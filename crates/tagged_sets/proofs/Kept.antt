@@ -1,5 +1,6 @@
 -- Ranges, one set's behind another's.
 use Rattle.cpu_set.specs.Ids.{Ids}
+use Rattle.cpu_set.specs.Members.{InRange}
 use Rattle.cpu_set.specs.Ranges.{in_ranges}
 use Rattle.std.proofs.Common.{List, [], ap, arith, drop, drop-drop, get_or, length, length-append, length-drop, refl, subst, suc, sym, take, take-append-drop, zero, ℕ, ◌&&◌, ◌++◌, ◌+◌, ◌-◌, ◌<◌, ◌||◌, ◌∙◌, ◌∷◌, ◌≡◌, ◌≤◌}
 use Rattle.std.proofs.Math.Seq.{drop-append_seam}
@@ -7,7 +8,7 @@ use Rattle.std.proofs.lemmas.List.{drop-append-le, drop_all, length-take-le, tak
 use Rattle.std.proofs.lemmas.List.Elements.{All-append, All-nil}
 use Rattle.std.proofs.lemmas.List.Folds.{list_any-append}
 use Rattle.std.specs.Prelude.{All, nat_le, slice_range}
-use Rattle.tagged_sets.proofs.Sets.{IsBelow, below_if_of_set, in_of_set}
+use Rattle.tagged_sets.proofs.Sets.{IsBelow, are_of_set, below_if_of_set, in_of_set}
 use Rattle.tagged_sets.specs.Tagged.{AreKept, IsOfSet, in_any, ranges_of_set, set_of_ranges, start_at, tagged}
 use Rattle.tagged_sets.specs.declared.tagged_sets.Head.{Head}
 use Rattle.std.specs.FinSet as set
@@ -106,6 +107,13 @@ module _ {T : Type 0} where
     subst IsOfSet (sym (part_before ranges new start g.end kept.0 (kept_within ranges g.end more kept.2))) kept.1,
     kept_more ranges new g.end more h kept.2 e of,
   )
+
+  -- the ranges of one of some sets are those of a set
+  pub of_one_set : (ranges : List (ℕ × ℕ)) (sets : List (T × Ids)) (k : ℕ) (t : T) → ((d : T × Ids) → ranges ≡ ranges_of_set (get_or sets k d).1)
+      → ((d : T × Ids) → InRange (get_or sets k d).1) → IsOfSet ranges
+  of_one_set ranges sets k t are low =
+      let d : T × Ids = (t, set.empty) in
+      subst IsOfSet (sym (are d)) (are_of_set (get_or sets k d).1 (low d))
 
   -- all ranges have the numbers of all sets
   pub in_any-ranges : (ranges : List (ℕ × ℕ)) (start : ℕ) (heads : List (Head T)) → AreKept ranges start heads → (q : ℕ)

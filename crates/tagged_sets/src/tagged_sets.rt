@@ -68,6 +68,27 @@ impl<T: Copy> TaggedSets<T> {
         Ok(())
     }
 
+    /// Adds a set of another list with a tag of its own behind the others: its ranges are copied as they stand, and no
+    /// set is made of them. O(r) of its r ranges.
+    ///
+    /// # Errors
+    /// Lack of memory, which changes nothing.
+    pub fn push_from(&mut self, tag: T, other: &TaggedSets<T>, at: usize) -> Result<(), AllocError>
+        requires { at < length other.now }
+        ensures ok { (d : T × Ids) → OnOk result (self.new ≡ self.old ++ (tag, (slice_index_or other.now at d).1) ∷ []) }
+        ensures err { OnErr result (self.new ≡ self.old) }
+    {
+        let more = other.ranges(at);
+        self.ranges.reserve(more.len())?;
+        let head = Head {
+            tag,
+            end: self.ranges.len() + more.len(),
+        };
+        self.heads.push(head)?;
+        self.ranges.extend_from_slice(more)?;
+        Ok(())
+    }
+
     /// The same sets once more.
     ///
     /// # Errors

@@ -4,6 +4,7 @@ use Rattle.std.proofs.lemmas.List.Elements.{All-push}
 use Rattle.rows.specs.CachedOffers.{IsCached}
 use Rattle.rows.specs.Scaled.{parted}
 use Rattle.rows.proofs.CacheLemmas.{offers_are}
+use Rattle.rows.proofs.HeldLemmas.{offers_of_some}
 use Rattle.rows.proofs.LimitLemmas.{offers_of_distances}
 use Rattle.rows.proofs.cache.parts_among.Goals as goal
 
@@ -17,7 +18,7 @@ returns-in-Some-clause-parts c =
     c.parts_for.ensures
 
 pub parts_of-requires : goal.parts_of-requires
-parts_of-requires c = rw c.in_ok-offers.ensures (offers_of_distances _ _ _)
+parts_of-requires c = record { distances = rw c.in_ok-offers.ensures (offers_of_distances _ _ _); some = rw c.in_ok-offers.ensures (offers_of_some _ _ _) }
 
 pub returns-clause-cache : goal.returns-clause-cache
 returns-clause-cache c =

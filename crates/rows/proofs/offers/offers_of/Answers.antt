@@ -1,4 +1,4 @@
-use Rattle.std.proofs.Common.{◌≡◌, ◌+◌, ◌<◌, ◌≤◌, sym, ap, ◌∙◌, subst, refl, arith}
+use Rattle.std.proofs.Common.{◌≡◌, ◌+◌, ◌<◌, ◌≤◌, sym, ◌∙◌, subst, refl, arith}
 use Rattle.machine.specs.Layout.{node_count}
 use Rattle.machine.specs.Weight.{AreWeights}
 use Rattle.machine.specs.declared.TheConstants.{NODE_LIMIT}

@@ -1,0 +1,107 @@
+-- Offers with no CPU that is held.
+use Rattle.std.proofs.Common.{◌≡◌, ℕ, ◌+◌, ◌*◌, ◌<◌, ◌≤◌, Bool, true, false, cond, not, ◌&&◌, nat_lt, nat_le, Option, Some, None, unwrap_or, MatchOption, IfSome, List, [], ◌∷◌, filter, length, map, take, get_or, ◌++◌, inl, inr, refl, sym, ap, ◌∙◌, arith}
+use Rattle.std.specs.List.{flat_map, list_all, range_with_len}
+use Rattle.std.specs.FinSet as set
+use Rattle.std.proofs.lemmas.Bool.{cases_eq, cases_lt, false≢true}
+use Rattle.std.proofs.lemmas.Bool.Decides.{nat_tests}
+use Rattle.std.proofs.lemmas.List.{flat_map_more, take_more}
+use Rattle.std.proofs.lemmas.List.Sums.{AllPass-from_list_all}
+use Rattle.cpu_set.specs.Ids.{Ids, NoneFrom, IsFirstFrom}
+use Rattle.cpu_set.specs.Pointwise.{same_members, contains-empty, contains-intersection, contains-difference}
+use Rattle.cpu_set.specs.declared.TheConstants.{CPU_LIMIT}
+use Rattle.machine.specs.Layout.{Layout}
+use Rattle.certificate.specs.declared.Offer.{Offer}
+use Rattle.certificate.specs.declared.limits.TheConstants.{MOVE_SCALE}
+use Rattle.rows.specs.Offers.{has_some, offer_at, offers_of}
+use Rattle.rows.specs.Scaled.{are_distances, kept, moved, parted}
+
+-- none up to the last number where the first is not held, and the next one that is comes after the last
+pub none_up_to :
+    (held : Ids) (first last : ℕ) (next : Option ℕ) → set.contains held first ≡ false → MatchOption next (NoneFrom held (first + 1)) (IsFirstFrom held (first + 1))
+    → IfSome next (λ n. last < n) → (n : ℕ) → first ≤ n → n ≤ last → set.contains held n ≡ false
+none_up_to held first last None here none far n above below = elim (cases_eq n first) [
+  | inl is ↦ ap (set.contains held) is ∙ here
+  | inr other ↦ none n (omega arith)
+]
+none_up_to held first last (Some next) here is far n above below = elim (cases_eq n first) [
+  | inl same ↦ ap (set.contains held) same ∙ here
+  | inr other ↦ is.least n (omega arith) (omega arith)
+]
+
+-- the least number, or the limit where there is none, is above no number of the set
+pub least_first : (s : Ids) (next : Option ℕ) (first n : ℕ) → MatchOption next (NoneFrom s 0) (IsFirstFrom s 0) → first ≡ unwrap_or next CPU_LIMIT → set.contains s n ≡ true → first ≤ n
+least_first s None first n none is has = absurd (false≢true (sym (none n (omega arith)) ∙ has))
+least_first s (Some next) first n least is has = elim (cases_lt n next) [
+  | inl lt ↦ absurd (false≢true (sym (least.least n (omega arith) lt) ∙ has))
+  | inr le ↦ omega arith
+]
+
+-- where none is above a number, each is at most that number
+pub at_most : (s : Ids) (middle n : ℕ) → NoneFrom s (middle + 1) → set.contains s n ≡ true → n ≤ middle
+at_most s middle n none has = elim (cases_lt middle n) [
+  | inl lt ↦ absurd (false≢true (sym (none n (omega arith)) ∙ has))
+  | inr le ↦ omega arith
+]
+
+-- a number outside of the span of a set is not in it
+pub outside : (s : Ids) (first last n : ℕ) → ((k : ℕ) → set.contains s k ≡ true → (first ≤ k) × (k ≤ last)) → (first ≤ n → n ≤ last → ⊥) → set.contains s n ≡ false
+outside s first last n span out = by_cases (set.contains s n) refl
+  where
+    by_cases : (b : Bool) → set.contains s n ≡ b → b ≡ false
+    by_cases false e = refl
+    by_cases true e = absurd (out (span n e).0 (span n e).1)
+
+one_of_two : (x y : Offer) → has_some x ≡ false → has_some y ≡ true → filter has_some (x ∷ y ∷ []) ≡ y ∷ []
+one_of_two x y none some = rw (none, some) refl
+
+-- an offer with no CPU that is held is one part, with all its CPUs
+pub parted_none : (held : Ids) (o : Offer) → has_some o ≡ true → ((n : ℕ) → set.contains o.cpus n ≡ true → set.contains held n ≡ false)
+    → parted held o ≡ record { weight = o.weight * MOVE_SCALE + 1; cpus = o.cpus } ∷ []
+parted_none held o some none =
+    one_of_two (kept held o) (moved held o) (ap (λ s. nat_lt 0 (set.len s)) no_more ∙ ap (nat_lt 0) (set.len-empty _)) (ap (λ s. nat_lt 0 (set.len s)) no_less ∙ some)
+    ∙ ap (λ (s : Ids). record { weight = o.weight * MOVE_SCALE + 1; cpus = s } ∷ []) no_less
+  where
+    apart : (a b : Bool) → (a ≡ true → b ≡ false) → (a && b) ≡ false
+    apart true b f = f refl
+    apart false b f = refl
+
+    stays : (a b : Bool) → (a ≡ true → b ≡ false) → (a && not b) ≡ a
+    stays true b f = ap not (f refl)
+    stays false b f = refl
+
+    no_more : set.intersection o.cpus held ≡ set.empty
+    no_more = same_members _ _ (λ q. contains-intersection o.cpus held q ∙ apart _ _ (none q) ∙ sym (contains-empty q))
+
+    no_less : set.difference o.cpus held ≡ o.cpus
+    no_less = same_members _ _ (λ q. contains-difference o.cpus held q ∙ stays _ _ (none q))
+
+kept_some : (b : Bool) (o : Offer) (rest : List Offer) → has_some o ≡ b → list_all has_some rest ≡ true → list_all has_some (cond b (o ∷ rest) rest) ≡ true
+kept_some true o rest is all = rw is all
+kept_some false o rest is all = all
+
+all_some : (offers : List Offer) → list_all has_some (filter has_some offers) ≡ true
+all_some [] = refl
+all_some (o ∷ offers) = kept_some (has_some o) o (filter has_some offers) refl (all_some offers)
+
+-- each offer has a CPU
+pub offers_of_some : (m : Layout) (homes cpus : Ids) → list_all has_some (offers_of m homes cpus) ≡ true
+unfolding offers_of
+offers_of_some m homes cpus = all_some (map (offer_at m homes cpus) (range_with_len 0 255))
+
+-- the weight of an offer at a distance
+pub distance_at : (offers : List Offer) (k w : ℕ) → are_distances offers ≡ true → k < length offers → ((d : Offer) → w ≡ (get_or offers k d).weight) → w ≤ 254
+distance_at offers k w all lt is =
+    let d : Offer = record { weight = 0; cpus = set.empty } in
+    omega (arith, is d, low _ (AllPass-from_list_all (λ (o : Offer). nat_le o.weight 254) offers all k d lt))
+  where
+    low : (x : ℕ) → nat_le x 254 ≡ true → x ≤ 254
+    low x e = grind (arith, nat_tests)
+
+-- one offer more in its parts
+pub parted_more : (held : Ids) (offers so_far more : List Offer) (k : ℕ) → k < length offers → so_far ≡ flat_map (parted held) (take k offers)
+    → ((d : Offer) → more ≡ so_far ++ parted held (get_or offers k d)) → more ≡ flat_map (parted held) (take (k + 1) offers)
+parted_more held offers so_far more k lt before are =
+    let d : Offer = record { weight = 0; cpus = set.empty } in
+    are d ∙ ap (λ l. l ++ parted held (get_or offers k d)) before
+    ∙ flat_map_more (parted held) [] (take k offers) (get_or offers k d)
+    ∙ ap (flat_map (parted held)) (sym (take_more offers k d lt))
