@@ -6,7 +6,7 @@ ghost use Rattle.tagged_sets.specs.Tagged.{ranges_of_set, start_at, in_any};
 ghost use Rattle.cpu_set.specs.Ranges.{in_ranges};
 
 use crate::Tag;
-use cpu_set::{CPU_LIMIT, IdSet, Ranges};
+use cpu_set::{CPU_LIMIT, IdSet};
 use std::alloc::{AllocError, Global};
 use std::marker::Model;
 
@@ -189,7 +189,7 @@ fn part_of(ranges: &[(u16, u16)], start: usize, end: usize) -> &[(u16, u16)]
     &ranges[start..end]
 }
 
-/// Adds the ranges of a set; lack of memory changes nothing.
+/// Adds the ranges of a set, each up to the next number that the set lacks; lack of memory changes nothing.
 fn add_ranges(ranges: &mut Vec<(u16, u16)>, cpus: &IdSet) -> Result<(), AllocError>
     ensures ok { OnOk result (ranges.new.items ≡ ranges.old.items ++ ranges_of_set cpus.now) }
     ensures err { OnErr result (ranges.new.items ≡ ranges.old.items) }
@@ -197,11 +197,15 @@ fn add_ranges(ranges: &mut Vec<(u16, u16)>, cpus: &IdSet) -> Result<(), AllocErr
 {
     cpus.stays_below_the_limit();
     let before = ranges.len();
-    for range in Ranges::of(cpus) {
+    let absent = cpus.complement();
+    let mut next = cpus.first();
+    while let Some(first) = next {
+        let range = (first, absent.next_after(first).unwrap_or(CPU_LIMIT) - 1);
         if ranges.push(range).is_err() {
             ranges.truncate(before);
             return Err(AllocError);
         }
+        next = cpus.next_after(range.1);
     }
     Ok(())
 }
