@@ -111,6 +111,7 @@ impl Cgroup {
     }
 
     /// Writes what the group has in effect of a resource.
+    #[inline(always)]
     pub fn give(&mut self, resource: Resource, ids: IdSet)
         ensures { self.new ≡ with_effective resource ids self.old }
     {
@@ -134,6 +135,7 @@ impl Cgroup {
 }
 
 /// What a group that requests these has in effect of what its parent has: all of it, where it requests none of it.
+#[inline(always)]
 pub fn granted_of(requested: &IdSet, above: &IdSet) -> IdSet
     ensures { result ≡ granted requested.now above.now }
 {

@@ -19,15 +19,19 @@ fn effective_of(groups: &Slab<Cgroup>, group: Group, resource: Resource) -> IdSe
 }
 
 /// What a group is to have in effect, whose parent is up to date.
+#[inline(always)]
 fn standing_of(groups: &Slab<Cgroup>, kept: &Cgroup, resource: Resource, top: &IdSet) -> IdSet
     ensures { result ≡ stands resource groups.now top.now kept.now }
 {
     match kept.parent {
         None => *top,
-        Some(parent) => granted_of(
-            &kept.share(resource).requested,
-            &effective_of(groups, parent, resource),
-        ),
+        Some(parent) => {
+            let requested = &kept.share(resource).requested;
+            match groups.get(parent.key) {
+                None => granted_of(requested, &IdSet::empty()),
+                Some(above) => granted_of(requested, &above.share(resource).effective),
+            }
+        }
     }
 }
 
