@@ -15,8 +15,8 @@ use Rattle.apply_plan.specs.Targets.{HaveSomeTarget, IsPlaced, ArePlaced}
 use Rattle.apply_plan.specs.Kept.{kept}
 use Rattle.apply_plan.specs.KeptLemmas.{kept_target}
 use Rattle.apply_plan.specs.DueWrite.{held, kept_of, must_release, must_move, release_of, move_of, first_write, due_write}
-use Rattle.apply_plan.specs.Walks.{its_way, release_from, its_release}
-use Rattle.apply_plan.proofs.ListLemmas.{all_map2, find_among, find_none, none_found}
+use Rattle.apply_plan.specs.Walks.{moving, release_from, its_release}
+use Rattle.apply_plan.proofs.ListLemmas.{all_map2, all_at, find_among, find_none, none_found}
 
 -- an entry lets go, or none must and one takes its target, or nothing is due
 pub data Due (k : KernelState) (reserved : Ids) (entries : List Entry) : Option Write → Type 0 where
@@ -51,25 +51,22 @@ keeps_its_target k reserved e some stays = by (is_alive k.table e.pid) (is_same 
       ap (λ s. is_alive k.table e.pid && not s) (is_kept ((is_same_decides _ _).0 is)) ∙ ap (λ a. a && false) lives
   by true false lives is = absurd (false≢true (sym stays ∙ (λ i. lives i && not (is i))))
 
--- what an entry holds that does not hold its target
-pub way_none : (k : KernelState) (e : Entry) → its_way k e ≡ None → must_move k e ≡ false
-way_none k e none = by (must_move k e) refl where
-  by : (b : Bool) → must_move k e ≡ b → must_move k e ≡ false
-  by false is = is
-  by true is = absurd (none-some (held k e) (sym none ∙ ap (λ b. cond b (Some (held k e)) None) is))
+-- a container that keeps all that it requests has nothing to let go
+pub keeps_all_of_it : (k : KernelState) (reserved : Ids) (e : Entry) → kept_of k reserved e ≡ held k e → its_release k reserved e ≡ None
+keeps_all_of_it k reserved e keeps =
+    ap (λ b. cond (is_alive k.table e.pid && not b) (Some (release_of k reserved e)) None) ((is_same_decides _ _).1 keeps)
+    ∙ none_at (is_alive k.table e.pid)
+  where
+    none_at : (lives : Bool) → cond (lives && false) (Some (release_of k reserved e)) None ≡ None
+    none_at true = refl
+    none_at false = refl
 
-pub way_some : (k : KernelState) (e : Entry) (cpus : Ids) → its_way k e ≡ Some cpus → (must_move k e ≡ true) × (held k e ≡ cpus)
-way_some k e cpus some = by (must_move k e) refl where
-  by : (b : Bool) → must_move k e ≡ b → (must_move k e ≡ true) × (held k e ≡ cpus)
-  by false is = absurd (none-some cpus (sym (ap (λ b. cond b (Some (held k e)) None) is) ∙ some))
-  by true is = (is, cc (sym (ap (λ b. cond b (Some (held k e)) None) is) ∙ some))
+-- a live container lets go of what it holds, and one that has ended does not
+pub release_if_alive : (k : KernelState) (reserved : Ids) (e : Entry) → is_alive k.table e.pid ≡ true → release_from reserved e (held k e) ≡ its_release k reserved e
+release_if_alive k reserved e lives = ap (λ a. cond (a && not (is_same (kept_of k reserved e) (held k e))) (Some (release_of k reserved e)) None) (sym lives)
 
--- a live container lets go of what it holds
-pub release_from_is : (k : KernelState) (reserved : Ids) (e : Entry) → must_move k e ≡ true → release_from reserved e (held k e) ≡ its_release k reserved e
-release_from_is k reserved e must = by (is_alive k.table e.pid) refl where
-  by : (a : Bool) → is_alive k.table e.pid ≡ a → release_from reserved e (held k e) ≡ its_release k reserved e
-  by true lives = ap (λ a. cond (a && not (is_same (kept_of k reserved e) (held k e))) (Some (release_of k reserved e)) None) (sym lives)
-  by false dead = absurd (false≢true (sym (ap (λ a. a && not (is_same (held k e) e.target)) dead) ∙ must))
+pub no_release_if_dead : (k : KernelState) (reserved : Ids) (e : Entry) → is_alive k.table e.pid ≡ false → its_release k reserved e ≡ None
+no_release_if_dead k reserved e dead = ap (λ a. cond (a && not (is_same (kept_of k reserved e) (held k e))) (Some (release_of k reserved e)) None) dead
 
 pub release_none : (k : KernelState) (reserved : Ids) (e : Entry) → its_release k reserved e ≡ None → must_release k reserved e ≡ false
 release_none k reserved e none = by (must_release k reserved e) refl where
@@ -90,13 +87,28 @@ found_here test entries i e within at passes =
     ap (find test) (drop_more entries i e within ∙ ap (λ x. x ∷ drop (i + 1) entries) (sym at))
     ∙ ap (λ b. cond b (Some e) (find test (drop (i + 1) entries))) passes
 
--- the first move that was found stays the first
-pub first_stays : (first new : Option Write) (w : Write) (later all : Option Write) → option_or first (Some w) ≡ all
-    → ((is_some first ≡ false) × (new ≡ Some w)) ⊎ ((is_some first ≡ true) × (new ≡ first)) → option_or new later ≡ all
-first_stays None new w later all is (inl (none, e)) = ap (λ m. option_or m later) e ∙ is
-first_stays None new w later all is (inr (some, e)) = absurd (false≢true some)
-first_stays (Some v) new w later all is (inl (none, e)) = absurd (false≢true (sym none))
-first_stays (Some v) new w later all is (inr (some, e)) = ap (λ m. option_or m later) e ∙ is
+-- the first to move among those that are left is the first of all, once this one was looked at
+pub first_is_left : (k : KernelState) (entries : List Entry) (i : ℕ) (e : Entry) (first next : Option Entry) → i < length entries → e ≡ get_or entries i e
+    → next ≡ option_or first (moving k e) → option_or first (find (must_move k) (drop i entries)) ≡ find (must_move k) entries
+    → option_or next (find (must_move k) (drop (i + 1) entries)) ≡ find (must_move k) entries
+first_is_left k entries i e first next within at is same =
+    ap (λ n. option_or n (find (must_move k) (drop (i + 1) entries))) is
+    ∙ or_else first (must_move k e) (find (must_move k) (drop (i + 1) entries))
+    ∙ ap (λ l. option_or first (find (must_move k) l)) (sym (drop_more entries i e within ∙ ap (λ x. x ∷ drop (i + 1) entries) (sym at)))
+    ∙ same
+  where
+    or_else : (first : Option Entry) (b : Bool) (later : Option Entry) → option_or (option_or first (cond b (Some e) None)) later ≡ option_or first (cond b (Some e) later)
+    or_else None true later = refl
+    or_else None false later = refl
+    or_else (Some f) b later = refl
+
+-- an entry that passes is found
+pub some_is_found : (test : Entry → Bool) (entries : List Entry) (i : ℕ) (e : Entry) → i < length entries → e ≡ get_or entries i e → test e ≡ true
+    → is_none (find test entries) ≡ false
+some_is_found test entries i e within at passes = by (find test entries) refl where
+  by : (found : Option Entry) → find test entries ≡ found → is_none (find test entries) ≡ false
+  by None none = absurd (false≢true (sym (all_at (λ a. test a ≡ false) entries i e (find_none test entries none) within at) ∙ passes))
+  by (Some f) some = ap is_none some
 
 -- where each live container holds its target nothing is due
 pub nothing_is_due : (k : KernelState) (reserved : Ids) (entries : List Entry) → HaveSomeTarget entries → is_none (find (must_move k) entries) ≡ true

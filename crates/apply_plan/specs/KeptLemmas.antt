@@ -1,10 +1,10 @@
 -- What is kept of a set on the way to a target.
-use Rattle.std.proofs.Common.{◌≡◌, ℕ, Bool, true, false, ◌&&◌, ◌||◌, refl, sym, ap, ◌∙◌, eq-eqb}
+use Rattle.std.proofs.Common.{◌≡◌, ℕ, Bool, true, false, not, ◌&&◌, ◌||◌, refl, sym, ap, ◌∙◌, eq-eqb}
 use Rattle.std.proofs.lemmas.Bool.{ne_eqb, cond-true, cond-false, false≢true}
 use Rattle.std.specs.Ordering.{nat_cmp}
 use Rattle.std.specs.FinSet as set
 use Rattle.cpu_set.specs.Ids.{Ids, is_empty}
-use Rattle.cpu_set.specs.Pointwise.{same_members, contains-union, contains-intersection}
+use Rattle.cpu_set.specs.Pointwise.{same_members, contains-union, contains-intersection, contains-difference, is_subset-contains}
 use Rattle.apply_plan.specs.Kept.{within, kept}
 
 pub is_empty-empty : (s : Ids) → s ≡ set.empty → is_empty s ≡ true
@@ -79,6 +79,20 @@ module _ (reserved target : Ids) where
   -- of what is the whole of its part, all is kept
   kept_whole : (cpus : Ids) → within reserved target cpus ≡ cpus → is_empty cpus ≡ false → kept reserved target cpus ≡ cpus
   kept_whole cpus whole some = kept_some reserved target cpus (ap is_empty whole ∙ some) ∙ whole
+
+  bools_all : (c t r : Bool) → ((c && not t) ≡ true → r ≡ true) → (c && (t || r)) ≡ c
+  bools_all true true r f = refl
+  bools_all true false r f = f refl
+  bools_all false t r f = refl
+
+  -- of some CPUs that are each in the target or reserved, all are kept
+  pub kept_all : (cpus : Ids) → set.is_subset (set.difference cpus target) reserved ≡ true → is_empty cpus ≡ false → kept reserved target cpus ≡ cpus
+  kept_all cpus sub some =
+      kept_whole cpus
+      (same_members _ _ (λ q. in_within cpus q
+      ∙ bools_all (set.contains cpus q) (set.contains target q) (set.contains reserved q)
+      (λ left. is_subset-contains (set.difference cpus target) reserved sub q (contains-difference cpus target q ∙ left))))
+      some
 
   -- the target is kept
   pub kept_target : is_empty target ≡ false → kept reserved target target ≡ target

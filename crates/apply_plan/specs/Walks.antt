@@ -11,9 +11,9 @@ use Rattle.apply_plan.specs.Targets.{Targets, ArePlaced}
 use Rattle.apply_plan.specs.Kept.{kept}
 use Rattle.apply_plan.specs.DueWrite.{held, must_release, must_move, release_of, move_of, due, written}
 
--- what an entry holds that does not hold its target
-abbrev pub its_way : KernelState → Entry → Option Ids
-its_way k e = cond (must_move k e) (Some (held k e)) None
+-- an entry whose container must move
+abbrev pub moving : KernelState → Entry → Option Entry
+moving k e = cond (must_move k e) (Some e) None
 
 -- the write by which an entry that holds these CPUs lets go, if it must
 abbrev pub release_from : Ids → Entry → Ids → Option Write

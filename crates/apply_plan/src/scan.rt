@@ -1,10 +1,11 @@
 //! The entries looked through for the write that is due.
-ghost use Rattle.std.specs.Prelude.{◌≡◌, true, IfSome, is_none, find, option_copied};
+ghost use Rattle.std.specs.Prelude.{◌≡◌, true, IsTrue, IfSome, is_none, find, option_copied};
+ghost use Rattle.std.specs.Option.{option_or};
 ghost use Rattle.cpuset_tree.specs.Groups.{has_group};
 ghost use Rattle.apply_plan.specs.Kept.{kept};
-ghost use Rattle.apply_plan.specs.Targets.{HaveSomeTarget, IsPlaced, ArePlaced};
+ghost use Rattle.apply_plan.specs.Targets.{IsPlaced, ArePlaced};
 ghost use Rattle.apply_plan.specs.DueWrite.{must_move, due_write};
-ghost use Rattle.apply_plan.specs.Walks.{its_way, release_from, its_release, its_move, IsMadeIfAny};
+ghost use Rattle.apply_plan.specs.Walks.{moving, release_from, its_release, its_move, IsMadeIfAny};
 
 use crate::Entry;
 use cpu_set::IdSet;
@@ -26,19 +27,12 @@ fn kept_of(reserved: &IdSet, target: &IdSet, cpus: &IdSet) -> IdSet
     if within.is_empty() { *reserved } else { within }
 }
 
-/// What a live container requests that does not hold its target.
-fn held_on_the_way<'a, K: Kernel>(kernel: &'a K, entry: &Entry) -> Option<&'a IdSet>
-    requires { has_group (K.state kernel.now).tree entry.now.group ≡ true }
-    ensures { option_copied result ≡ its_way (K.state kernel.now) entry.now }
+/// Whether a container that requests these CPUs keeps all of them on the way to its target: they are some, and each is in
+/// the target or reserved. So most entries are passed over without a set being made.
+fn keeps_all(reserved: &IdSet, target: &IdSet, held: &IdSet) -> bool
+    ensures { IsTrue result → kept reserved.now target.now held.now ≡ held.now }
 {
-    if !kernel.first_alive(entry.pid) {
-        return None;
-    }
-    let held = requested(kernel, entry.group);
-    if *held == entry.target {
-        return None;
-    }
-    Some(held)
+    held.minus(target).is_subset(reserved) && !held.is_empty()
 }
 
 /// The write by which a container that requests these CPUs lets go of what it is not to have, where that is any.
@@ -55,16 +49,29 @@ fn release_from(reserved: &IdSet, entry: &Entry, held: &IdSet) -> Option<Write>
     })
 }
 
-/// The write by which a live container lets go of what it is not to have, where it holds any of that.
+/// The write by which a live container lets go of what it is not to have, where it holds any of that. Most hold none of it,
+/// so that is tested before the process is looked up.
 pub fn release_of<K: Kernel>(kernel: &K, reserved: &IdSet, entry: &Entry) -> Option<Write>
     requires { has_group (K.state kernel.now).tree entry.now.group ≡ true }
     ensures { result ≡ its_release (K.state kernel.now) reserved.now entry.now }
 {
+    let held = requested(kernel, entry.group);
+    if keeps_all(reserved, &entry.target, held) {
+        return None;
+    }
     if kernel.first_alive(entry.pid) {
-        release_from(reserved, entry, requested(kernel, entry.group))
+        release_from(reserved, entry, held)
     } else {
         None
     }
+}
+
+/// Whether a live container does not hold its target.
+fn must_move<K: Kernel>(kernel: &K, entry: &Entry) -> bool
+    requires { has_group (K.state kernel.now).tree entry.now.group ≡ true }
+    ensures { result ≡ must_move (K.state kernel.now) entry.now }
+{
+    *requested(kernel, entry.group) != entry.target && kernel.first_alive(entry.pid)
 }
 
 /// The write by which a live container takes its target, where it does not hold that.
@@ -72,45 +79,62 @@ pub fn move_of<K: Kernel>(kernel: &K, entry: &Entry) -> Option<Write>
     requires { has_group (K.state kernel.now).tree entry.now.group ≡ true }
     ensures { result ≡ its_move (K.state kernel.now) entry.now }
 {
-    held_on_the_way(kernel, entry)?;
-    Some(Write {
-        group: entry.group,
-        cpus: entry.target,
-    })
+    if must_move(kernel, entry) {
+        Some(Write {
+            group: entry.group,
+            cpus: entry.target,
+        })
+    } else {
+        None
+    }
+}
+
+/// The first entry whose live container does not hold its target: the one that was found, or else this one, if it is such.
+fn first_to_move<'a, K: Kernel>(
+    kernel: &K,
+    found: Option<&'a Entry>,
+    entry: &'a Entry,
+) -> Option<&'a Entry>
+    requires { has_group (K.state kernel.now).tree entry.now.group ≡ true }
+    ensures { option_copied result ≡ option_or (option_copied found.entry) (moving (K.state kernel.now) entry.now) }
+{
+    if found.is_none() && must_move(kernel, entry) {
+        Some(entry)
+    } else {
+        found
+    }
 }
 
 /// The write that is due: of the first live container that holds what it is to let go, else of the first that does not
-/// hold its target. A container that holds its target has nothing to let go, so it is passed over by one comparison.
+/// hold its target.
 pub fn due<K: Kernel>(kernel: &K, reserved: &IdSet, entries: &[Entry]) -> Option<Write>
-    requires placed { ArePlaced (K.state kernel.now) entries.now }
-    requires some { HaveSomeTarget entries.now }
+    requires { ArePlaced (K.state kernel.now) entries.now }
     ensures { result ≡ due_write (K.state kernel.now) reserved.now entries.now }
 {
-    let mut first_move = None;
+    let mut moving = None;
     for entry in entries {
-        let Some(held) = held_on_the_way(kernel, entry) else {
-            continue;
-        };
-        if let Some(write) = release_from(reserved, entry, held) {
+        if let Some(write) = release_of(kernel, reserved, entry) {
             return Some(write);
         }
-        if first_move.is_none() {
-            first_move = Some(Write {
-                group: entry.group,
-                cpus: entry.target,
-            });
-        }
+        moving = first_to_move(kernel, moving, entry);
     }
-    first_move
+    match moving {
+        Some(entry) => Some(Write {
+            group: entry.group,
+            cpus: entry.target,
+        }),
+        None => None,
+    }
 }
 
-/// Whether each live container holds its target. It ends at the first that does not.
+/// Whether each live container holds its target. It is looked for from the end on, and ends at the first that does not:
+/// the entries take their targets from the start on, so that while writes are to come the last has mostly not got its own.
 pub fn all_arrived<K: Kernel>(kernel: &K, entries: &[Entry]) -> bool
     requires { ArePlaced (K.state kernel.now) entries.now }
     ensures { result ≡ is_none (find (must_move (K.state kernel.now)) entries.now) }
 {
-    for entry in entries {
-        if held_on_the_way(kernel, entry).is_some() {
+    for place in (0..entries.len()).rev() {
+        if must_move(kernel, &entries[place]) {
             return false;
         }
     }
@@ -134,8 +158,7 @@ pub fn make_due<K: Kernel>(
     reserved: &IdSet,
     entries: &[Entry],
 ) -> Result<(), KernelFault>
-    requires placed { ArePlaced (K.state kernel.old) entries.now }
-    requires some { HaveSomeTarget entries.now }
+    requires { ArePlaced (K.state kernel.old) entries.now }
     ensures made { IsMadeIfAny (due_write (K.state kernel.old) reserved.now entries.now) (K.state kernel.old) result (K.state kernel.new) }
     ensures placed { ArePlaced (K.state kernel.new) entries.now }
 {

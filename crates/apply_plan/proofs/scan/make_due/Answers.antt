@@ -3,7 +3,7 @@ use Rattle.apply_plan.proofs.DueLemmas.{due_is_placed}
 use Rattle.apply_plan.proofs.scan.make_due.Goals as goal
 
 pub make_if_any-requires : goal.make_if_any-requires
-make_if_any-requires g c = rw c.due.ensures (due_is_placed _ _ _ c.requires.placed)
+make_if_any-requires g c = rw c.due.ensures (due_is_placed _ _ _ c.requires)
 
 pub returns-clause-placed : goal.returns-clause-placed
-returns-clause-placed g c = made_is_placed _ _ _ _ c.make_if_any.ensures _ c.requires.placed
+returns-clause-placed g c = made_is_placed _ _ _ _ c.make_if_any.ensures _ c.requires
