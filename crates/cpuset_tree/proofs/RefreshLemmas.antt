@@ -45,7 +45,7 @@ module _ (r : Resource) (s : Slab Cgroup) (top : Ids) where
   stands-effective next older n order kept parent =
       standing_alike (requested_of r) top n.parent (share_of r n).requested _ _ (λ p of. kept-effective r s top next older order kept p (at_parent s older n parent p of))
 
-  IsGranted-kept : (next : ℕ) (keys : List ℕ) → IsInOrder s next keys → AllKept r s top keys → (key : ℕ) (n : Cgroup) → list_any (λ k. k == key) keys ≡ true
+  pub IsGranted-kept : (next : ℕ) (keys : List ℕ) → IsInOrder s next keys → AllKept r s top keys → (key : ℕ) (n : Cgroup) → list_any (λ k. k == key) keys ≡ true
       → get s key ≡ Some n → IsGranted r s top n
   IsGranted-kept next [] _ _ key n there at = absurd (both_ways false refl there)
   IsGranted-kept next (k ∷ older) (m, at_k, knows, below, parent, rest) kept key n there at =
@@ -183,7 +183,7 @@ module _ (r : Resource) (s : Slab Cgroup) (top : Ids) (written : ℕ) (n : Cgrou
   pub passed_changed : may_change written n ≡ true → passed r s top written n ≡ with_effective r (stands r s top n) n
   passed_changed e = cond-true (may_change written n) (with_effective r (stands r s top n) n) n e
 
-  passed_kept : may_change written n ≡ false → passed r s top written n ≡ n
+  pub passed_kept : may_change written n ≡ false → passed r s top written n ≡ n
   passed_kept e = cond-false (may_change written n) (with_effective r (stands r s top n) n) n e
 
   pub passed_bare : bare r (passed r s top written n) ≡ bare r n

@@ -10,3 +10,4 @@ pub mod GrantedLemmas
 pub mod WellFormedLemmas
 pub mod TreeLemmas
 pub mod Kept
+pub mod Near

@@ -1,5 +1,5 @@
 -- What each call of a tree answers: the first thing that stands against it, in the order written here, or what it is for.
-use Rattle.std.specs.Prelude.{◌≡◌, ℕ, false, not, ◌==◌, if◌then◌else◌, List, Option, Some, None, is_some, Result, Ok, Err}
+use Rattle.std.specs.Prelude.{◌≡◌, ℕ, false, not, ◌==◌, if◌then◌else◌, List, Option, Some, None, is_some, Result}
 use Rattle.faults.specs.declared.or_memory.OrMemory.{OrMemory}
 use Rattle.faults.specs.Calls.{Grows}
 use Rattle.faults.specs.First.{value_where}

@@ -2,6 +2,8 @@ ghost use Rattle.std.specs.Prelude.{◌≡◌, nat_eq, string_bytes};
 ghost use Rattle.std.specs.Cmp.Lexicographic.{pointwise};
 ghost use Rattle.cpuset_tree.specs.Groups.{is_parent};
 ghost use Rattle.cpuset_tree.specs.Effective.{granted};
+ghost use Rattle.cpu_set.specs.Members.{IsCpu};
+ghost use Rattle.cpuset_tree.specs.Near.{having};
 ghost use Rattle.cpuset_tree.specs.Kept.{ChangesAt, share_of, unrequested, with_requested, with_effective, may_change};
 
 use cpu_set::IdSet;
@@ -121,6 +123,18 @@ impl Cgroup {
         }
     }
 
+    /// Puts a CPU among those in effect, or takes it out.
+    pub fn have(&mut self, cpu: u16, has: bool)
+        requires { IsCpu cpu }
+        ensures { self.new ≡ having cpu has self.old }
+    {
+        if has {
+            self.shares.cpus.effective.insert(cpu);
+        } else {
+            self.shares.cpus.effective.remove(cpu);
+        }
+    }
+
     /// Whether a write of the group of this serial can change what this group has in effect.
     ///
     /// That can be where it is that group, or its parent is no older, since what is below a group is newer.
@@ -141,6 +155,16 @@ pub fn granted_of(requested: &IdSet, above: &IdSet) -> IdSet
 {
     let granted = requested.meet(above);
     if granted.is_empty() { *above } else { granted }
+}
+
+/// Puts a CPU among those that the group under a key has in effect, or takes it out.
+pub fn have_at(groups: &mut Slab<Cgroup>, key: usize, cpu: u16, has: bool)
+    requires { IsCpu cpu }
+    ensures { ChangesAt groups.old groups.new key (having cpu has) }
+{
+    if let Some(kept) = groups.get_mut(key) {
+        kept.have(cpu, has);
+    }
 }
 
 /// Writes what the group under a key requests of a resource.

@@ -6,6 +6,7 @@
 mod fault;
 mod groups;
 pub mod laws;
+mod one_cpu;
 mod refresh;
 mod tree;
 

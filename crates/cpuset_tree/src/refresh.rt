@@ -36,7 +36,13 @@ fn standing_of(groups: &Slab<Cgroup>, kept: &Cgroup, resource: Resource, top: &I
 }
 
 /// Brings one group up to date, whose parent is, where a write of the group of this serial can change it.
-fn pass_group(groups: &mut Slab<Cgroup>, key: usize, resource: Resource, top: &IdSet, written: u64)
+pub fn pass_group(
+    groups: &mut Slab<Cgroup>,
+    key: usize,
+    resource: Resource,
+    top: &IdSet,
+    written: u64,
+)
     ensures { ChangesAt groups.old groups.new key (passed resource groups.old top.now written) }
 {
     let Some(kept) = groups.get(key) else {

@@ -9,7 +9,8 @@ ghost use Rattle.cpuset_tree.specs.TreeWellFormed.{IsWellFormed};
 ghost use Rattle.cpuset_tree.specs.TreeLaws.{RunsUpThePath};
 
 use crate::groups::{Cgroup, Resource, Shares, request_at};
-use crate::refresh::{refresh, refresh_written};
+use crate::one_cpu::refresh_online;
+use crate::refresh::refresh_written;
 use crate::{Group, SERIAL_LIMIT, TreeFault};
 use cpu_set::IdSet;
 use faults::OrMemory;
@@ -25,7 +26,7 @@ use std::marker::Model;
 ///
 /// What is in effect is kept up to date by the writes, so that each read takes O(1) steps. Of g groups `find`, `make` and
 /// `remove` take O(g); `write_cpus` and `write_mems` O(1) where the group is newer than each group with children, else O(g);
-/// `set_online` O(g).
+/// `set_online` O(g), and where one CPU goes or comes, for most groups by a few tests of single CPUs.
 #[derive(Drop)]
 pub struct Tree {
     alloc: Global,
@@ -321,15 +322,10 @@ impl Tree {
     pub fn set_online(&mut self, online: IdSet)
         ensures { self.new ≡ with_online self.old online }
     {
+        let was = self.online;
         self.online = online;
         let oldest = self.root.serial;
-        refresh(
-            &mut self.groups,
-            &self.order,
-            Resource::Cpus,
-            &self.online,
-            oldest,
-        );
+        refresh_online(&mut self.groups, &self.order, &was, &self.online, oldest);
     }
 
     /// The CPUs that a group requests.
