@@ -24,11 +24,11 @@ process-pid (p ∷ later) pid q at =
       | false ↦ λ e. process-pid later pid q (sym (process-there p later pid e) ∙ at)
     ] refl
 
-rises_to : (low next : ℕ) (live : List Process) → RisesBelow low next live → low ≤ next
+pub rises_to : (low next : ℕ) (live : List Process) → RisesBelow low next live → low ≤ next
 rises_to low next [] h = h
 rises_to low next (p ∷ later) (le, rest) = let above : p.pid + 1 ≤ next = rises_to (p.pid + 1) next later rest in omega arith
 
-rises_from : (low lower next : ℕ) (live : List Process) → lower ≤ low → RisesBelow low next live → RisesBelow lower next live
+pub rises_from : (low lower next : ℕ) (live : List Process) → lower ≤ low → RisesBelow low next live → RisesBelow lower next live
 rises_from low lower next [] le h = omega arith
 rises_from low lower next (p ∷ later) le (at, rest) = (omega arith, rest)
 

@@ -4,6 +4,7 @@
 mod fault;
 pub mod laws;
 mod processes;
+mod slots;
 
 pub use fault::ProcFault;
 pub use processes::{ProcTable, Process};

@@ -1,11 +1,13 @@
-ghost use Rattle.std.specs.Prelude.{◌≡◌, ◌≢◌, ◌≤◌, IfOk, IfErr, OnErr, slice_index_or};
+ghost use Rattle.std.specs.Prelude.{◌≡◌, ◌≢◌, ◌≤◌, true, Some, IfOk, OnErr};
 ghost use Rattle.faults.specs.Calls.{Decides};
 ghost use Rattle.proctable.specs.Processes.{process_of, is_alive, group_of, count_in};
 ghost use Rattle.proctable.specs.TableChanges.{first_table, exited, ended_in};
 ghost use Rattle.proctable.specs.TableAnswers.{exit_refusal, AddsProcess, Spawns, Forks};
 ghost use Rattle.proctable.specs.TableWellFormed.{IsWellFormed};
-ghost use Rattle.proctable.specs.Kept.{BelongsNext, IsAt, nobody};
+ghost use Rattle.proctable.specs.Kept.{BelongsNext};
+ghost use Rattle.proctable.specs.declared.processes.Process.{Process};
 
+use crate::slots::{Slot, count_of, end_one, pack, process_in};
 use crate::{LAST_PID, ProcFault};
 use cpuset_tree::Group;
 use faults::OrMemory;
@@ -25,11 +27,15 @@ pub struct Process {
 
 /// The live processes. Their pids rise and are never used again.
 ///
-/// Of p live processes `alive` and `group_of` take O(log p) steps, `spawn` and `fork` those of a search and a push, and
-/// `count_in`, `exit` and `end_in` O(p).
+/// Of p live processes `alive` and `group_of` take O(log p) steps, `spawn` and `fork` those of a search and a push, `count_in`
+/// and `end_in` O(p), and so `exit` of a first process. The `exit` of another takes O(log p) amortized: it is marked as ended,
+/// and those that have ended are taken out once they are more than the live ones.
 #[derive(Drop)]
 pub struct ProcTable {
-    live: Vec<Process>,
+    // By rising pid, with some that have ended.
+    slots: Vec<Slot>,
+    // How many of them have ended.
+    ended: usize,
     next_pid: u32,
 }
 
@@ -40,14 +46,14 @@ impl Model for ProcTable {
 
     ghost coded = { table_code };
 
-    ghost use Rattle.proctable.specs.Kept.{IsSound};
+    ghost use Rattle.proctable.specs.Kept.{live_of, IsSound};
 
     ghost view = { λ t. record {
-      live = t.live.items;
+      live = live_of t.slots.items;
       next_pid = t.next_pid;
     } };
 
-    ghost invariant = { λ t. IsSound t.live.items t.next_pid };
+    ghost invariant = { λ t. IsSound t.slots.items t.next_pid };
 }
 
 impl ProcTable {
@@ -58,7 +64,8 @@ impl ProcTable {
         ensures { result ≡ first_table first_pid }
     {
         ProcTable {
-            live: Vec::new(alloc),
+            slots: Vec::new(alloc),
+            ended: 0,
             next_pid: first_pid,
         }
     }
@@ -67,24 +74,13 @@ impl ProcTable {
     pub fn well_formed(&self)
         ensures { IsWellFormed self.now }
     {
-        let _ = &self.live;
-    }
-
-    /// The place of a pid among those of the live processes, which rise, or where it would be.
-    fn search(&self, pid: u32) -> Result<usize, usize>
-        ensures found { IfOk result (IsAt self.now.live pid) }
-        ensures absent { IfErr result (λ _. process_of self.now pid ≡ None) }
-    {
-        self.live.binary_search_by_key(&pid, |process| process.pid)
+        let _ = &self.slots;
     }
 
     fn process(&self, pid: u32) -> Option<Process>
         ensures { result ≡ process_of self.now pid }
     {
-        match self.search(pid) {
-            Ok(place) => Some(self.live[place]),
-            Err(_) => None,
-        }
+        process_in(self.slots.as_slice(), pid)
     }
 
     /// Whether a process of this pid is alive.
@@ -105,10 +101,7 @@ impl ProcTable {
     pub fn count_in(&self, group: Group) -> usize
         ensures { result ≡ count_in self.now group }
     {
-        self.live
-            .iter()
-            .filter(|process| process.group == group)
-            .count()
+        count_of(self.slots.as_slice(), group)
     }
 
     /// Makes a first process in a group.
@@ -147,7 +140,11 @@ impl ProcTable {
         ensures err { OnErr result (self.new ≡ self.old) }
     {
         let pid = self.next_pid;
-        self.live.push(Process { pid, group, first })?;
+        let process = Process { pid, group, first };
+        self.slots.push(Slot {
+            process,
+            ended: false,
+        })?;
         self.next_pid = pid + 1;
         Ok(pid)
     }
@@ -159,13 +156,13 @@ impl ProcTable {
     pub fn exit(&mut self, pid: u32) -> Result<(), ProcFault>
         ensures { Decides (exit_refusal self.old pid) (λ _ new. new ≡ exited self.old pid) self.old result self.new }
     {
-        let Ok(place) = self.search(pid) else {
+        let Some(process) = self.process(pid) else {
             return Err(ProcFault::NoProcess);
         };
-        if self.live[place].first == pid {
+        if process.first == pid {
             self.end_with(pid);
         } else {
-            self.end_at(place, pid);
+            self.end_alone(pid);
         }
         Ok(())
     }
@@ -174,23 +171,39 @@ impl ProcTable {
     fn end_with(&mut self, pid: u32)
         ensures { self.new ≡ exited self.old pid }
     {
-        self.live
-            .retain(|process| !(process.pid == pid || process.first == pid));
+        self.ended = 0;
+        self.slots.retain(|slot| {
+            !slot.ended && !(slot.process.pid == pid || slot.process.first == pid)
+        });
     }
 
-    /// Ends a process at its place, to which no other belongs, since it is no first one.
-    fn end_at(&mut self, place: usize, pid: u32)
-        requires at { IsAt self.old.live pid place }
-        requires other { (slice_index_or self.old.live place nobody).first ≢ pid }
+    /// Ends a process to which no other belongs, since it is no first one.
+    fn end_alone(&mut self, pid: u32)
+        requires other { (p : Process) → process_of self.old pid ≡ Some p → p.first ≢ pid }
+        requires alive { is_alive self.old pid ≡ true }
         ensures { self.new ≡ exited self.old pid }
     {
-        self.live.remove(place);
+        end_one(&mut self.slots, pid);
+        self.ended = self.ended.saturating_add(1);
+        self.pack_where_half_ended();
+    }
+
+    /// Takes out the processes that have ended, where they are more than the live ones.
+    fn pack_where_half_ended(&mut self)
+        ensures { self.new ≡ self.old }
+    {
+        if self.ended > self.slots.len() / 2 {
+            pack(&mut self.slots);
+            self.ended = 0;
+        }
     }
 
     /// Ends all processes of a group.
     pub fn end_in(&mut self, group: Group)
         ensures { self.new ≡ ended_in self.old group }
     {
-        self.live.retain(|process| process.group != group);
+        self.ended = 0;
+        self.slots
+            .retain(|slot| !slot.ended && slot.process.group != group);
     }
 }

@@ -1,32 +1,38 @@
-use Rattle.std.proofs.Common.{◌≡◌, ℕ, ◌+◌, ◌≤◌, List, [], ◌∷◌, ◌++◌, sym, ap, ◌∙◌, refl, subst, arith, ⊎_elim}
+use Rattle.std.proofs.Common.{◌≡◌, ℕ, ◌+◌, ◌≤◌, List, [], ◌∷◌, ◌++◌, sym, ap, ◌∙◌, false, refl, subst, arith, ⊎_elim}
 use Rattle.std.specs.Prelude.{Some, is_some}
 use Rattle.cpuset_tree.specs.declared.Group.{Group}
 use Rattle.proctable.specs.declared.processes.Process.{Process}
+use Rattle.proctable.specs.declared.slots.Slot.{Slot}
 use Rattle.proctable.specs.declared.TheConstants.{LAST_PID}
 use Rattle.proctable.specs.TableState.{TableState}
 use Rattle.proctable.specs.Processes.{process_of}
 use Rattle.proctable.specs.TableAnswers.{AddsProcess}
-use Rattle.proctable.specs.TableWellFormed.{Belongs}
-use Rattle.proctable.specs.Kept.{IsSound, BelongsNext}
-use Rattle.proctable.specs.ProcessLemmas.{RisesBelow-push, AllBelong-push, process-fresh, process-push-new, process-push-old}
+use Rattle.proctable.specs.TableWellFormed.{Belongs, AllBelong}
+use Rattle.proctable.specs.Kept.{live_of, IsSound, BelongsNext}
+use Rattle.proctable.specs.ProcessLemmas.{AllBelong-push, process-fresh, process-push-new, process-push-old}
+use Rattle.proctable.proofs.PlaceLemmas.{live_rises, live_push, pids_push}
 use Rattle.proctable.proofs.processes.ProcTable.add.Goals as goal
 
 -- a table stays sound when a process of the next pid comes that belongs to itself or to a live first process
-sound-push : (live : List Process) (next : ℕ) (g : Group) (first : ℕ) → IsSound live next → next ≤ LAST_PID → BelongsNext (record { live = live; next_pid = next }) g first
-    → IsSound (live ++ record { pid = next; group = g; first = first } ∷ []) (next + 1)
-sound-push live next g first sound room belongs = record {
-  rising = RisesBelow-push 0 next live x sound.rising refl;
-  belong = AllBelong-push live x live (⊎_elim own other belongs) sound.belong;
+sound-push : (slots : List Slot) (next : ℕ) (g : Group) (first : ℕ) → IsSound slots next → next ≤ LAST_PID
+    → BelongsNext (record { live = live_of slots; next_pid = next }) g first
+    → IsSound (slots ++ record { process = record { pid = next; group = g; first = first }; ended = false } ∷ []) (next + 1)
+sound-push slots next g first sound room belongs = record {
+  rising = pids_push 0 next slots (record { process = x; ended = false }) sound.rising refl;
+  belong = subst (λ (l : List Process). AllBelong l l) (sym (live_push slots x)) (AllBelong-push live x live (⊎_elim own other belongs) sound.belong);
   limit = omega arith;
 }
   where
+    live : List Process
+    live = live_of slots
+
     x : Process
     x = record { pid = next; group = g; first = first }
 
     own : first ≡ next → Belongs (live ++ x ∷ []) x
     own is = record {
       first = x;
-      alive = ap (λ (n : ℕ). process_of (record { live = live ++ x ∷ []; next_pid = next }) n) is ∙ process-push-new live x (process-fresh 0 next next live sound.rising (omega arith));
+      alive = ap (λ (n : ℕ). process_of (record { live = live ++ x ∷ []; next_pid = next }) n) is ∙ process-push-new live x (process-fresh 0 next next live (live_rises 0 next slots sound.rising) (omega arith));
       own = refl;
       group = refl;
     }
@@ -37,17 +43,20 @@ sound-push live next g first sound room belongs = record {
 pub invariant_of-self-2 : goal.invariant_of-self-2
 invariant_of-self-2 c =
     let i = c.self.inside in
-    subst (λ (l : List Process). IsSound l (i.next_pid + 1)) (sym c.in_ok-push.ensures.items)
-    (sound-push i.live.items i.next_pid c.args.group c.args.first c.self.invariant
+    subst (λ (l : List Slot). IsSound l (i.next_pid + 1)) (sym c.in_ok-push.ensures.items)
+    (sound-push i.slots.items i.next_pid c.args.group c.args.first c.self.invariant
     (subst (λ (t : TableState). t.next_pid ≤ LAST_PID) (sym c.self.view_is) c.requires.pids)
     (subst (λ (t : TableState). BelongsNext t c.args.group c.args.first) (sym c.self.view_is) c.requires.belongs))
 
 pub returns-clause-ok : goal.returns-clause-ok
 returns-clause-ok c =
     let i = c.self.inside in
-    subst (λ (t : TableState). AddsProcess t c.args.group c.args.first i.next_pid (record { live = c.push.new.self.items; next_pid = i.next_pid + 1 })) c.self.view_is
+    subst (λ (t : TableState). AddsProcess t c.args.group c.args.first i.next_pid (record { live = live_of c.push.new.self.items; next_pid = i.next_pid + 1 })) c.self.view_is
     (record {
       next = refl;
-      fresh = ap is_some (process-fresh 0 i.next_pid i.next_pid i.live.items c.self.invariant.rising (omega arith));
-      added = λ j. record { live = c.in_ok-push.ensures.items j; next_pid = i.next_pid + 1 };
+      fresh = ap is_some (process-fresh 0 i.next_pid i.next_pid (live_of i.slots.items) (live_rises 0 i.next_pid i.slots.items c.self.invariant.rising) (omega arith));
+      added = λ j. record {
+        live = (ap live_of c.in_ok-push.ensures.items ∙ live_push i.slots.items (record { pid = i.next_pid; group = c.args.group; first = c.args.first })) j;
+        next_pid = i.next_pid + 1;
+      };
     })
