@@ -91,7 +91,7 @@ pub(crate) fn are_in_one(offers: &OfferSets, hints: &[usize], cpus: &IdSet) -> b
         return false;
     };
     let Some(at) = place_of(offers, hints, cpu) else {
-        return false;
+        return cpus.is_disjoint(offers.cpus());
     };
     let items = offers.as_slice();
     let offer = &items[at];
