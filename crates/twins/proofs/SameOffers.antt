@@ -1,7 +1,7 @@
 -- Rows with the same offers.
 use Rattle.std.proofs.Common.{◌≡◌, ℕ, ◌+◌, ◌<◌, Bool, true, false, ◌||◌, is_some, List, [], ◌∷◌, ◌++◌, length, take, get_or, refl, sym, ap, subst, ◌∙◌, inl, inr, arith}
 use Rattle.std.proofs.lemmas.Bool.{cases_lt}
-use Rattle.std.proofs.lemmas.List.{get_or_default, get_or-map, get_or_push, get_or_append_left, length_push, length-take, get_or-take, take_more_same}
+use Rattle.std.proofs.lemmas.List.{get_or_default, get_or-map, get_or_push, get_or_append_left, length_push, length-take, get_or-take}
 use Rattle.std.proofs.lemmas.List.Folds.{list_any_more, list_any_at}
 use Rattle.certificate.specs.IsShortage.{is_offered}
 use Rattle.certificate.specs.RowView.{RowView}

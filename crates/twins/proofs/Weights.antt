@@ -1,10 +1,9 @@
 -- CPUs of one weight, offer by offer.
-use Rattle.std.proofs.Common.{◌≡◌, ℕ, zero, suc, ◌+◌, ◌<◌, ◌≤◌, Bool, true, false, cond, not, ◌&&◌, ◌||◌, ◌==◌, Option, Some, None, option_map, is_some, List, [], ◌∷◌, length, take, take_all, drop, get_or, refl, sym, ap, ◌∙◌, inl, inr, arith}
+use Rattle.std.proofs.Common.{◌≡◌, ℕ, ◌+◌, ◌<◌, Bool, true, false, cond, not, ◌&&◌, ◌||◌, ◌==◌, Option, Some, None, option_map, is_some, List, [], ◌∷◌, length, take, drop, get_or, refl, sym, ap, ◌∙◌}
 use Rattle.std.specs.Option.{option_or}
 use Rattle.std.specs.FinSet as set
-use Rattle.std.proofs.lemmas.Bool.{cases_eq, cases_lt, eqb-true, eq-eqb, ne_eqb, true≢false, false≢true}
+use Rattle.std.proofs.lemmas.Bool.{eqb-true, eq-eqb, ne_eqb, true≢false, false≢true}
 use Rattle.std.proofs.lemmas.List.{get_or_default, take_more, take-append-drop}
-use Rattle.std.proofs.Math.Numerals.{add-one}
 use Rattle.certificate.specs.Tests.{both, or_right}
 use Rattle.std.proofs.lemmas.List.Folds.{find-append}
 use Rattle.certificate.specs.Weight.{weight_in}
@@ -13,8 +12,11 @@ use Rattle.certificate.specs.declared.rows.Offer.{Offer}
 use Rattle.certificate.specs.ApartTest.{apart_at}
 use Rattle.certificate.specs.OfferLaws.{offers_apart}
 use Rattle.certificate.specs.Offers.{is_some-find}
-use Rattle.twins.specs.IsPart.{is_same_weight, HasAt}
-use Rattle.certificate.specs.RisingOffers.{AreRising}
+use Rattle.twins.specs.IsPart.{is_same_weight}
+
+-- an offer at a place, by any default
+pub at_place : (offers : List Offer) (k : ℕ) (d : Offer) → k < length offers → get_or offers k d ≡ get_or offers k (get_or offers k d)
+at_place offers k d lt = get_or_default offers k d (get_or offers k d) lt
 
 -- the test says what its name does
 pub same_says : (v w : Option ℕ) → is_same_weight v w ≡ true → v ≡ w
@@ -98,37 +100,6 @@ none_more offers k o c lt is off none =
     still None e = refl
     still (Some p) e = e
 
--- by rising weight, the CPUs of an offer are all of its weight
-module _ (offers : List Offer) (k : ℕ) (o : Offer) (q : ℕ) (lt : k < length offers) (is : o ≡ get_or offers k o) (fit : offers_fit offers ≡ true) (rising : AreRising offers) where
-  differ : (n : ℕ) → n < length offers → (n ≡ k → ⊥) → (get_or offers n o).weight ≡ o.weight → ⊥
-  differ n in_n ne e =
-      let own : o.weight ≡ (get_or offers k o).weight = ap (λ (p : Offer). p.weight) is in
-      elim (cases_lt n k) [
-        | inl before ↦ omega (arith, rising n k o before lt, own, e)
-        | inr after ↦ omega (arith, rising k n o (omega (arith, after, ne)) in_n, own, e)
-      ]
-
-  without : (n : ℕ) (found : Bool) → n < length offers → (n ≡ k → ⊥) → found ≡ is_same_weight (Some o.weight) (weight_in (take n offers) q)
-      → found ≡ is_same_weight (Some o.weight) (weight_in (take (n + 1) offers) q)
-  without n found in_n ne =
-      same_without o.weight offers n (get_or offers n o) found q in_n (get_or_default offers n o (get_or offers n o) in_n) fit (differ n in_n ne)
-
-  none_before : (n : ℕ) → n ≤ k → false ≡ is_same_weight (Some o.weight) (weight_in (take n offers) q)
-  none_before zero le = refl
-  none_before (suc n) le = rw (← add-one) (without n false (omega (arith, le, lt)) (λ e. omega (arith, e, le)) (none_before n (omega (arith, le))))
-
-  all_after : (n : ℕ) → k < n → n ≤ length offers → set.contains o.cpus q ≡ is_same_weight (Some o.weight) (weight_in (take n offers) q)
-  all_after zero later le = absurd (omega (arith, later))
-  all_after (suc n) later le = elim (cases_eq n k) [
-    | inl e ↦ rw (e, ← add-one) (same_with o.weight offers k o false q lt is fit refl (none_before k (omega arith)))
-    | inr ne ↦ rw (← add-one) (without n (set.contains o.cpus q) (omega (arith, le)) ne (all_after n (omega (arith, later, ne)) (omega (arith, le))))
-  ]
-
-  pub rising_same : set.contains o.cpus q ≡ is_same_weight (Some o.weight) (weight_in offers q)
-  rising_same =
-      all_after (length offers) lt (omega arith)
-      ∙ ap (λ l. is_same_weight (Some o.weight) (weight_in l q)) (take_all (length offers) offers (omega arith))
-
 extended : (found later : Option Offer) (w : ℕ) → option_map (λ (o : Offer). o.weight) found ≡ Some w → option_map (λ (o : Offer). o.weight) (option_or found later) ≡ Some w
 extended None later w e = (let none : None ≡ Some w = e in cc)
 extended (Some o) later w e = e
@@ -143,11 +114,6 @@ in_offer offers k o c lt is fit has =
     ap (λ l. weight_in l c) (sym (take-append-drop (k + 1) offers))
     ∙ ap (option_map (λ (p : Offer). p.weight)) (find-append (λ (p : Offer). set.contains p.cpus c) (take (k + 1) offers) (drop (k + 1) offers))
     ∙ extended _ _ o.weight first
-
--- a CPU has the weight of an offer at a place that has it
-pub offer_at :
-    (offers : List Offer) (at : ℕ) (o : Offer) (c : ℕ) → HasAt offers c at → o ≡ get_or offers at o → offers_fit offers ≡ true → weight_in offers c ≡ Some o.weight
-offer_at offers at o c h is fit = in_offer offers at o c h.within is fit (ap (λ (p : Offer). set.contains p.cpus c) is ∙ h.has o)
 
 -- CPUs of one weight in some offers, which both are in one more or both not
 pub same_with_one_more :

@@ -1,10 +1,9 @@
 -- Sets of CPUs on the way to classes of twins: CPUs that the first rows do not tell apart.
-use Rattle.std.specs.Prelude.{◌≡◌, ℕ, ◌+◌, ◌<◌, ◌==◌, Bool, true, false, cond, ◌⊎◌, Option, Some, None, List, [], ◌∷◌, ◌++◌, All, take, length, slice_index_or, sum_by}
+use Rattle.std.specs.Prelude.{◌≡◌, ℕ, ◌+◌, ◌<◌, ◌==◌, Bool, true, false, cond, ◌⊎◌, Option, Some, None, List, [], ◌∷◌, ◌++◌, All, take, length, sum_by}
 use Rattle.std.specs.FinSet as set
 use Rattle.cpu_set.specs.Ids.{Ids}
 use Rattle.cpu_set.specs.Members.{InRange}
 use Rattle.certificate.specs.RowView.{RowView}
-use Rattle.certificate.specs.declared.rows.Offer.{Offer}
 use Rattle.certificate.specs.IsDealt.{AreTwins}
 use Rattle.certificate.specs.IsShortage.{is_offered}
 use Rattle.twins.specs.Edges.{IsRun}
@@ -15,11 +14,6 @@ is_same_weight None None = true
 is_same_weight (Some v) (Some w) = v == w
 is_same_weight (Some v) None = false
 is_same_weight None (Some w) = false
-
--- there is an offer at this place, and it has the CPU
-pub record HasAt (offers : List Offer) (cpu at : ℕ) : Type 0 where
-  pub within : at < length offers
-  pub has : (d : Offer) → set.contains (slice_index_or offers at d).cpus cpu ≡ true
 
 -- some CPUs that are twins to the first k rows, with all their twins that have a weight at all
 pub record IsPart (rows : List RowView) (k : ℕ) (s : Ids) : Type 0 where

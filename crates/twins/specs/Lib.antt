@@ -8,4 +8,4 @@ pub mod IsPriced
 pub mod IsClosed
 pub mod Kinds
 pub mod Edges
-pub mod AreKnown
+pub mod AreSpans

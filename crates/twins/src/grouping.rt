@@ -8,13 +8,14 @@ ghost use Rattle.certificate.specs.IsShortage.{is_offered};
 ghost use Rattle.twins.specs.IsGrouping.{IsGrouping};
 ghost use Rattle.twins.specs.Kinds.{AreKinds};
 ghost use Rattle.twins.specs.Edges.{AreEdges};
+ghost use Rattle.twins.specs.AreSpans.{AreSpans};
 ghost use Rattle.twins.specs.IsPart.{IsPart, IsUnsplit, ArePieces, IsSplit, IsPutTo};
 
 use crate::Classes;
-use crate::alike::{alike, are_in_one, note_places};
+use crate::alike::{alike, are_alike};
 use crate::edges::{are_in_one_run, edges_of};
-use crate::offer_sets::OfferSets;
-use certificate::{Problem, Row};
+use crate::spans::Spans;
+use certificate::{Offers, Problem, Row};
 use cpu_set::{CPU_LIMIT, IdSet};
 use std::alloc::{AllocError, Global};
 
@@ -46,10 +47,10 @@ fn group_body(alloc: Global, rows: &[Row], kinds: &[usize]) -> Result<Vec<IdSet>
     let runs = edges.meet(&offered).count();
     let mut alone = Vec::with_capacity(alloc, runs as usize)?;
     let mut parts = unsplit(alloc, &offered)?;
-    let mut hints = vec![in alloc; 0usize; CPU_LIMIT as usize]?;
+    let mut spans = Spans::new(alloc)?;
     for k in 0..rows.len() {
         if kinds[k] == k {
-            parts = split_all(alloc, rows, k, &parts, &mut hints, &edges, &mut alone)?;
+            parts = split_all(alloc, rows, k, &parts, &mut spans, &edges, &mut alone)?;
         }
     }
     for part in &parts {
@@ -91,7 +92,7 @@ fn split_all(
     rows: &[Row],
     k: usize,
     sets: &[IdSet],
-    hints: &mut [usize],
+    spans: &mut Spans,
     edges: &IdSet,
     alone: &mut Vec<IdSet>,
 ) -> Result<Vec<IdSet>, AllocError>
@@ -106,22 +107,20 @@ fn split_all(
         return Ok(Vec::new(alloc));
     }
     let row = &rows[k];
-    let offers = OfferSets::of(alloc, &row.offers)?;
-    let items = offers.as_slice();
-    note_places(items, hints);
-    let mut parts = Vec::with_capacity(alloc, sets.len() + items.len())?;
+    spans.note(&row.offers)?;
+    let mut parts = Vec::with_capacity(alloc, sets.len())?;
     for part in sets {
-        split(rows, k, &offers, hints, edges, part, &mut parts, alone)?;
+        split(rows, k, &row.offers, spans, edges, part, &mut parts, alone)?;
     }
     Ok(parts)
 }
 
-/// One set, split by the weights that its CPUs have in row `k`. A set within an offer stays whole.
+/// One set, split by the weights that its CPUs have in row `k`. One that is seen to have one weight stays whole.
 fn split(
     rows: &[Row],
     k: usize,
-    offers: &OfferSets,
-    hints: &[usize],
+    offers: &Offers,
+    spans: &Spans,
     edges: &IdSet,
     part: &IdSet,
     parts: &mut Vec<IdSet>,
@@ -130,19 +129,20 @@ fn split(
     requires fit { IsTrue (list_all row_fits rows.now) }
     requires there { k < length rows.now }
     requires offers { (d : RowView) → offers.now ≡ (slice_index_or rows.now k d).offers }
+    requires spans { AreSpans offers.now spans.now }
     requires edges { AreEdges rows.now edges.now }
     requires part { IsPart rows.now k part.now }
     requires parts { All (IsPart rows.now (k + 1)) parts.old.items }
     requires alone { All (IsPart rows.now (length rows.now)) alone.old.items }
     ensures { OnOk result (IsSplit rows.now (k + 1) part.now parts.old.items alone.old.items parts.new.items alone.new.items) }
 {
-    if are_in_one(offers, hints, part) {
+    if are_alike(spans, part) {
         parts.push(*part)?;
         return Ok(());
     }
     let mut rest = *part;
     while let Some(cpu) = rest.first() {
-        let piece = alike(offers, hints, cpu, &rest);
+        let piece = alike(offers, spans, cpu, &rest);
         put(piece, edges, parts, alone)?;
         rest = rest.minus(&piece);
     }

@@ -14,8 +14,8 @@ mod grouping;
 mod holders;
 mod kinds;
 pub mod laws;
-mod offer_sets;
 mod pricing;
+mod spans;
 
 pub use classes::Classes;
 pub use dealing::deal;

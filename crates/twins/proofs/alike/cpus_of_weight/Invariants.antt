@@ -4,5 +4,5 @@ use Rattle.certificate.specs.Weight.{weight_in}
 use Rattle.twins.specs.IsPart.{is_same_weight}
 use Rattle.twins.proofs.alike.cpus_of_weight.Given as goal
 
-abbrev pub invariant-loop-offer : goal.invariant-loop-offer
-invariant-loop-offer l = (q : ℕ) → set.contains l.found q ≡ is_same_weight (Some l.weight) (weight_in (take l.offer-index l.offers) q)
+abbrev pub invariant-loop-at : goal.invariant-loop-at
+invariant-loop-at l = (q : ℕ) → set.contains l.found q ≡ is_same_weight (Some l.weight) (weight_in (take l.at l.offers) q)

@@ -1,4 +1,4 @@
-use Rattle.std.proofs.Common.{◌≡◌, ℕ, true, ap, ◌∙◌, arith}
+use Rattle.std.proofs.Common.{ap, ◌∙◌}
 use Rattle.std.specs.FinSet as set
 use Rattle.twins.proofs.Ends.{stays_inserted, is_inserted}
 use Rattle.twins.proofs.edges.add.Goals as goal

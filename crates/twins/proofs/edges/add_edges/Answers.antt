@@ -1,6 +1,4 @@
-use Rattle.certificate.specs.Weight.{weight}
 use Rattle.certificate.specs.declared.rows.Offer.{Offer}
-use Rattle.cpu_set.specs.Members.{cpus}
 use Rattle.std.proofs.Common.{arith, get_or, length, refl, sym, take_all, ◌+◌, ◌<◌, ◌∙◌}
 use Rattle.std.proofs.lemmas.List.{get_or_default}
 use Rattle.twins.proofs.Ends.{off_before}

@@ -1,4 +1,4 @@
-use Rattle.std.proofs.Common.{◌+◌, ◌<◌, sym, ap, ◌∙◌, ◌||◌, is_some, take, take_all, arith}
+use Rattle.std.proofs.Common.{◌<◌, sym, ap, ◌∙◌, ◌||◌, is_some, take, take_all, arith}
 use Rattle.std.specs.FinSet as set
 use Rattle.std.proofs.lemmas.List.Folds.{list_any_more}
 use Rattle.cpu_set.specs.Pointwise.{contains-empty, contains-union}

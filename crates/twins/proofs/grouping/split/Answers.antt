@@ -7,6 +7,7 @@ use Rattle.std.proofs.Common.{List, [], get_or, length, subst, sym, true, ℕ, �
 use Rattle.std.proofs.lemmas.List.{get_or_default}
 use Rattle.std.specs.List.{list_all}
 use Rattle.twins.proofs.Splitting.{IsAlike, less_left, splitting_end, splitting_more, splitting_start, unsplit}
+use Rattle.twins.specs.AreSpans.{AreAlike}
 use Rattle.twins.specs.IsPart.{is_same_weight}
 use Rattle.std.specs.FinSet as set
 use Rattle.twins.proofs.grouping.split.Goals as goal
@@ -28,23 +29,18 @@ fit : (rows : List RowView) (k : ℕ) (offers : List Offer) → list_all row_fit
 fit rows k offers fits lt is =
     subst (λ (o : List Offer). offers_fit o ≡ true) (sym (is none)) (row_offers_fit (row_at rows k) (passes_at row_fits rows k (row_at rows k) fits lt (is_row rows k lt)))
 
-pub are_in_one-requires : goal.are_in_one-requires
-are_in_one-requires c = fit c.args.rows.now c.args.k c.args.offers.now c.requires.fit c.requires.there c.requires.offers
-
-pub returns-then-are_in_one : goal.returns-then-are_in_one
-returns-then-are_in_one c =
+pub returns-then-are_alike : goal.returns-then-are_alike
+returns-then-are_alike c =
     unsplit c.args.rows.now c.args.k (row_at c.args.rows.now c.args.k) c.args.part.now _ _ _ c.requires.there (is_row c.args.rows.now c.args.k c.requires.there) c.requires.part c.requires.parts c.requires.alone
-    (subst
-    (λ (o : List Offer). (a b : ℕ) → set.contains c.args.part.now a ≡ true → set.contains c.args.part.now b ≡ true → weight_in o a ≡ weight_in o b)
-    (c.requires.offers none) (c.are_in_one.ensures c.if-are_in_one.true))
+    (subst (λ (o : List Offer). AreAlike o c.args.part.now) (c.requires.offers none) (c.are_alike.ensures c.args.offers.now c.requires.spans c.if-are_alike.true))
     c.in_ok-push.ensures.items
 
 alike : (c : goal.After-minus-rest) → IsAlike (row_at c.args.rows.now c.args.k) c.in-Some.cpu c.loop-cpu.rest c.alike-piece.result
 alike c =
     subst (λ (o : List Offer). (q : ℕ) → set.contains c.alike-piece.result q ≡ (set.contains c.loop-cpu.rest q && is_same_weight (weight_in o c.in-Some.cpu) (weight_in o q))) (c.requires.offers none) c.alike-piece.ensures
 
-pub alike-piece-requires : goal.alike-piece-requires
-alike-piece-requires c = fit c.args.rows.now c.args.k c.args.offers.now c.requires.fit c.requires.there c.requires.offers
+pub alike-piece-requires-clause-fit : goal.alike-piece-requires-clause-fit
+alike-piece-requires-clause-fit c = fit c.args.rows.now c.args.k c.args.offers.now c.requires.fit c.requires.there c.requires.offers
 
 pub loop-cpu-preserved : goal.loop-cpu-preserved
 loop-cpu-preserved c =

@@ -1,9 +1,15 @@
-use Rattle.std.proofs.Common.{ap, ◌∙◌}
+use Rattle.std.proofs.Common.{◌≡◌, true, subst, sym, ap, ◌∙◌}
 use Rattle.std.proofs.lemmas.List.{get_or_default}
+use Rattle.certificate.specs.OfferLaws.{passes_at, row_offers_fit}
+use Rattle.certificate.specs.Limits.{row_fits, offers_fit}
 use Rattle.certificate.specs.RowView.{RowView}
 use Rattle.twins.proofs.grouping.split_all.Goals as goal
 
+pub note-requires : goal.note-requires
+note-requires c =
+    subst (λ (r : RowView). offers_fit r.offers ≡ true) (sym c.row.view_is)
+    (row_offers_fit c.index-rows-k.result (passes_at row_fits c.args.rows.now c.args.k c.index-rows-k.result c.requires.fit c.requires.there c.index-rows-k.is))
+
 pub split-requires-clause-offers : goal.split-requires-clause-offers
 split-requires-clause-offers c = λ d.
-    c.in_ok-offers.ensures
-    ∙ ap (λ (r : RowView). r.offers) (c.row.view_is ∙ c.index-rows-k.is ∙ get_or_default c.args.rows.now c.args.k _ d c.requires.there)
+    ap (λ (r : RowView). r.offers) (c.row.view_is ∙ c.index-rows-k.is ∙ get_or_default c.args.rows.now c.args.k _ d c.requires.there)

@@ -1,0 +1,22 @@
+-- Ranges of CPUs, each of one weight to a row.
+use Rattle.std.specs.Prelude.{◌≡◌, ℕ, ◌≤◌, true, Some, List, All, is_some}
+use Rattle.std.specs.FinSet as set
+use Rattle.cpu_set.specs.Ids.{Ids}
+use Rattle.certificate.specs.Weight.{weight_in}
+use Rattle.certificate.specs.declared.rows.Offer.{Offer}
+use Rattle.twins.specs.declared.spans.Span.{Span}
+use Rattle.twins.specs.declared.spans.Spans.{Spans}
+
+-- each CPU of the range has its weight
+abbrev pub IsSpan : List Offer → Span → Type 0
+IsSpan offers s = (cpu : ℕ) → s.first ≤ cpu → cpu ≤ s.last → weight_in offers cpu ≡ Some s.weight
+
+-- the ranges have the weights of the offers, and the set has the CPUs of the offers
+pub record AreSpans (offers : List Offer) (spans : Spans) : Type 0 where
+  pub each : All (IsSpan offers) spans.items.items
+  pub cpus : (cpu : ℕ) → set.contains spans.cpus cpu ≡ is_some (weight_in offers cpu)
+
+-- all of the CPUs have the same weight, or none of them has one
+abbrev pub AreAlike : List Offer → Ids → Type 0
+AreAlike offers cpus =
+    (a b : ℕ) → set.contains cpus a ≡ true → set.contains cpus b ≡ true → weight_in offers a ≡ weight_in offers b
