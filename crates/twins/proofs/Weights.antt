@@ -1,8 +1,9 @@
 -- CPUs of one weight, offer by offer.
-use Rattle.std.proofs.Common.{◌≡◌, ℕ, ◌+◌, ◌<◌, Bool, true, false, cond, not, ◌&&◌, ◌||◌, ◌==◌, Option, Some, None, option_map, is_some, List, [], ◌∷◌, length, take, drop, get_or, refl, sym, ap, ◌∙◌}
+use Rattle.std.proofs.Common.{◌≡◌, ℕ, zero, suc, ◌+◌, ◌<◌, ◌≤◌, Bool, true, false, cond, not, ◌&&◌, ◌||◌, ◌==◌, Option, Some, None, option_map, is_some, List, [], ◌∷◌, length, take, take_all, drop, get_or, refl, sym, ap, ◌∙◌, inl, inr, arith}
 use Rattle.std.specs.Option.{option_or}
 use Rattle.std.specs.FinSet as set
-use Rattle.std.proofs.lemmas.Bool.{eqb-true, eq-eqb, ne_eqb, true≢false, false≢true}
+use Rattle.std.proofs.Math.Numerals.{add-one}
+use Rattle.std.proofs.lemmas.Bool.{cases_eq, cases_lt, eqb-true, eq-eqb, ne_eqb, true≢false, false≢true}
 use Rattle.std.proofs.lemmas.List.{get_or_default, take_more, take-append-drop}
 use Rattle.certificate.specs.Tests.{both, or_right}
 use Rattle.std.proofs.lemmas.List.Folds.{find-append}
@@ -13,6 +14,7 @@ use Rattle.certificate.specs.ApartTest.{apart_at}
 use Rattle.certificate.specs.OfferLaws.{offers_apart}
 use Rattle.certificate.specs.Offers.{is_some-find}
 use Rattle.twins.specs.IsPart.{is_same_weight}
+use Rattle.certificate.specs.RisingOffers.{AreRising}
 
 -- an offer at a place, by any default
 pub at_place : (offers : List Offer) (k : ℕ) (d : Offer) → k < length offers → get_or offers k d ≡ get_or offers k (get_or offers k d)
@@ -99,6 +101,37 @@ none_more offers k o c lt is off none =
     still : (before : Option Offer) → option_map (λ (p : Offer). p.weight) before ≡ None → option_map (λ (p : Offer). p.weight) (option_or before None) ≡ None
     still None e = refl
     still (Some p) e = e
+
+-- by rising weight, the CPUs of an offer are all of its weight
+module _ (offers : List Offer) (k : ℕ) (o : Offer) (q : ℕ) (lt : k < length offers) (is : o ≡ get_or offers k o) (fit : offers_fit offers ≡ true) (rising : AreRising offers) where
+  differ : (n : ℕ) → n < length offers → (n ≡ k → ⊥) → (get_or offers n o).weight ≡ o.weight → ⊥
+  differ n in_n ne e =
+      let own : o.weight ≡ (get_or offers k o).weight = ap (λ (p : Offer). p.weight) is in
+      elim (cases_lt n k) [
+        | inl before ↦ omega (arith, rising n k o before lt, own, e)
+        | inr after ↦ omega (arith, rising k n o (omega (arith, after, ne)) in_n, own, e)
+      ]
+
+  without : (n : ℕ) (found : Bool) → n < length offers → (n ≡ k → ⊥) → found ≡ is_same_weight (Some o.weight) (weight_in (take n offers) q)
+      → found ≡ is_same_weight (Some o.weight) (weight_in (take (n + 1) offers) q)
+  without n found in_n ne =
+      same_without o.weight offers n (get_or offers n o) found q in_n (get_or_default offers n o (get_or offers n o) in_n) fit (differ n in_n ne)
+
+  none_before : (n : ℕ) → n ≤ k → false ≡ is_same_weight (Some o.weight) (weight_in (take n offers) q)
+  none_before zero le = refl
+  none_before (suc n) le = rw (← add-one) (without n false (omega (arith, le, lt)) (λ e. omega (arith, e, le)) (none_before n (omega (arith, le))))
+
+  all_after : (n : ℕ) → k < n → n ≤ length offers → set.contains o.cpus q ≡ is_same_weight (Some o.weight) (weight_in (take n offers) q)
+  all_after zero later le = absurd (omega (arith, later))
+  all_after (suc n) later le = elim (cases_eq n k) [
+    | inl e ↦ rw (e, ← add-one) (same_with o.weight offers k o false q lt is fit refl (none_before k (omega arith)))
+    | inr ne ↦ rw (← add-one) (without n (set.contains o.cpus q) (omega (arith, le)) ne (all_after n (omega (arith, later, ne)) (omega (arith, le))))
+  ]
+
+  pub rising_same : set.contains o.cpus q ≡ is_same_weight (Some o.weight) (weight_in offers q)
+  rising_same =
+      all_after (length offers) lt (omega arith)
+      ∙ ap (λ l. is_same_weight (Some o.weight) (weight_in l q)) (take_all (length offers) offers (omega arith))
 
 extended : (found later : Option Offer) (w : ℕ) → option_map (λ (o : Offer). o.weight) found ≡ Some w → option_map (λ (o : Offer). o.weight) (option_or found later) ≡ Some w
 extended None later w e = (let none : None ≡ Some w = e in cc)

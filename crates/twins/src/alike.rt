@@ -95,8 +95,36 @@ fn has(ranges: &[(u16, u16)], cpu: u16) -> bool
     ranges.iter().any(|range| range.0 <= cpu && cpu <= range.1)
 }
 
-/// The CPUs of this weight: those of each offer that has it.
+/// The CPUs of this weight. Where the weights rise, one offer alone has them, and it is found by halves.
 fn cpus_of_weight(offers: &Offers, weight: u32) -> IdSet
+    requires { IsTrue (offers_fit offers.now) }
+    ensures { (q : ℕ) → set.contains result q ≡ is_same_weight (Some weight) (weight_in offers.now q) }
+{
+    let at = place_by_halves(offers, weight);
+    if offers.are_rising() && at < offers.len() && offers.weight(at) == weight {
+        let offer = offers.offer(at);
+        return offer.cpus;
+    }
+    cpus_of_offers(offers, weight)
+}
+
+/// Where the weight stands, if the weights rise.
+fn place_by_halves(offers: &Offers, weight: u32) -> usize {
+    let mut low = 0;
+    let mut high = offers.len();
+    while low < high {
+        let middle = low + (high - low) / 2;
+        if offers.weight(middle) < weight {
+            low = middle + 1;
+        } else {
+            high = middle;
+        }
+    }
+    low
+}
+
+/// The CPUs of this weight: those of each offer that has it.
+fn cpus_of_offers(offers: &Offers, weight: u32) -> IdSet
     requires { IsTrue (offers_fit offers.now) }
     ensures { (q : ℕ) → set.contains result q ≡ is_same_weight (Some weight) (weight_in offers.now q) }
 {

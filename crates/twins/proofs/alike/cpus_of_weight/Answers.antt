@@ -1,26 +1,12 @@
-use Rattle.std.proofs.Common.{get_or, arith, sym, ap, ◌∙◌}
-use Rattle.std.specs.FinSet as set
-use Rattle.cpu_set.specs.Pointwise.{contains-empty, contains-union}
+use Rattle.std.proofs.Common.{Some, sym, ap, ◌∙◌, arith}
+use Rattle.certificate.specs.Weight.{weight_in}
 use Rattle.certificate.specs.declared.rows.Offer.{Offer}
-use Rattle.twins.proofs.Weights.{at_place, same_with, same_without}
+use Rattle.twins.specs.IsPart.{is_same_weight}
+use Rattle.twins.proofs.Weights.{rising_same}
 use Rattle.twins.proofs.alike.cpus_of_weight.Goals as goal
-use Rattle.twins.proofs.alike.cpus_of_weight.Goals.{then-weight, else-weight}
 
-none : Offer
-none = record { weight = 0; cpus = set.empty }
-
-pub loop-at-init : goal.loop-at-init
-loop-at-init c = rw c.empty-found.ensures contains-empty
-
-pub loop-at-preserved : goal.loop-at-preserved
-loop-at-preserved c =
-    elim c.if-weight.branch [
-      | then-weight w ↦ λ q.
-          ap (λ s. set.contains s q) (w.found-is ∙ w.union-found.ensures) ∙ contains-union _ _ q
-          ∙ same_with c.args.weight c.args.offers.now c.loop-at.at w.offer.result _ q
-          (omega arith) w.offer.ensures c.requires (sym (c.weight.ensures w.offer.result ∙ ap (λ (o : Offer). o.weight) (sym w.offer.ensures)) ∙ w.if-weight.true) (c.loop-at.invariant q)
-      | else-weight w ↦ λ q.
-          ap (λ s. set.contains s q) w.found-is
-          ∙ same_without c.args.weight c.args.offers.now c.loop-at.at (get_or c.args.offers.now c.loop-at.at none) _ q
-          (omega arith) (at_place c.args.offers.now c.loop-at.at none (omega arith)) c.requires (λ e. w.if-weight.false (c.weight.ensures none ∙ e)) (c.loop-at.invariant q)
-    ]
+pub returns-then-weight : goal.returns-then-weight
+returns-then-weight c = λ q.
+    rising_same c.args.offers.now c.place_by_halves-at.result c.offer-offer.result q (omega arith) c.offer-offer.ensures c.requires (c.are_rising.ensures.0 c.if-are_rising.true)
+    ∙ ap (λ w. is_same_weight (Some w) (weight_in c.args.offers.now q))
+    (ap (λ (o : Offer). o.weight) c.offer-offer.ensures ∙ sym (c.weight.ensures c.offer-offer.result) ∙ c.if-weight.true)
