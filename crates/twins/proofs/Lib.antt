@@ -13,3 +13,4 @@ pub mod Closing
 pub mod Few
 pub mod SameOffers
 pub mod Ends
+pub mod Placed

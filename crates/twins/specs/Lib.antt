@@ -9,3 +9,4 @@ pub mod IsClosed
 pub mod Kinds
 pub mod Edges
 pub mod AreSpans
+pub mod PartsView

@@ -6,21 +6,20 @@ ghost use Rattle.certificate.specs.Weight.{weight_in};
 ghost use Rattle.certificate.specs.Limits.{offers_fit};
 ghost use Rattle.certificate.specs.declared.rows.Offer.{Offer};
 ghost use Rattle.twins.specs.IsPart.{is_same_weight};
+ghost use Rattle.twins.specs.PartsView.{AreBounds};
 ghost use Rattle.twins.specs.AreSpans.{IsSpan, AreSpans, AreAlike};
 
 use crate::spans::{Span, Spans};
 use certificate::Offers;
 use cpu_set::IdSet;
 
-/// Whether some CPUs are seen to be alike: they lie in ranges of one weight, or in none.
-pub(crate) fn are_alike(spans: &Spans, cpus: &IdSet) -> bool
+/// Whether some CPUs, from a first up to a last, are seen to be alike: they lie in ranges of one weight, or in none.
+pub(crate) fn are_alike(spans: &Spans, cpus: &IdSet, first: u16, last: u16) -> bool
+    requires { AreBounds cpus.now first last }
     ensures { (offers : List Offer) → AreSpans offers spans.now → IsTrue result → AreAlike offers cpus.now }
 {
-    let Some(first) = cpus.first() else {
-        return false;
-    };
     match spans.span_at(first) {
-        Some(span) => lie_in_weight(spans, cpus, span),
+        Some(span) => last <= span.last || lie_in_weight(spans, cpus, span),
         None => cpus.is_disjoint(spans.cpus()),
     }
 }

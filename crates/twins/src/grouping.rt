@@ -1,5 +1,5 @@
 //! Classes of twins, by splitting sets of CPUs row by row.
-ghost use Rattle.std.specs.Prelude.{◌≡◌, ℕ, ◌<◌, ◌≤◌, ◌+◌, IsTrue, IfOk, OnOk, All, length, slice_index_or};
+ghost use Rattle.std.specs.Prelude.{◌≡◌, ℕ, ◌<◌, ◌≤◌, ◌+◌, ◌++◌, [], IsTrue, IfOk, OnOk, All, length, slice_index_or};
 ghost use Rattle.std.specs.List.{list_all};
 ghost use Rattle.std.specs.FinSet as set;
 ghost use Rattle.certificate.specs.RowView.{RowView};
@@ -14,6 +14,7 @@ ghost use Rattle.twins.specs.IsPart.{IsPart, IsUnsplit, ArePieces, IsSplit, IsPu
 use crate::Classes;
 use crate::alike::{alike, are_alike};
 use crate::edges::{are_in_one_run, edges_of};
+use crate::parts::Parts;
 use crate::spans::Spans;
 use certificate::{Offers, Problem, Row};
 use cpu_set::{CPU_LIMIT, IdSet};
@@ -50,24 +51,34 @@ fn group_body(alloc: Global, rows: &[Row], kinds: &[usize]) -> Result<Vec<IdSet>
     let mut spans = Spans::new(alloc)?;
     for k in 0..rows.len() {
         if kinds[k] == k {
-            parts = split_all(alloc, rows, k, &parts, &mut spans, &edges, &mut alone)?;
+            split_all(rows, k, &mut parts, &mut spans, &edges, &mut alone)?;
         }
     }
-    for part in &parts {
-        alone.push(*part)?;
-    }
+    add_open(&parts, &mut alone)?;
     Ok(alone)
 }
 
-/// The one set in a list, or no set where it is empty.
-fn unsplit(alloc: Global, all: &IdSet) -> Result<Vec<IdSet>, AllocError>
-    ensures { IfOk result (λ parts. IsUnsplit all.now parts.items) }
+/// Adds the parts that are left to the classes.
+fn add_open(parts: &Parts, classes: &mut Vec<IdSet>) -> Result<(), AllocError>
+    ensures { OnOk result (classes.new.items ≡ classes.old.items ++ parts.now.waiting) }
 {
-    let mut parts = Vec::new(alloc);
+    for at in 0..parts.len() {
+        classes.push(*parts.cpus(at))?;
+    }
+    Ok(())
+}
+
+/// One part with all CPUs, or none where there is no CPU.
+fn unsplit(alloc: Global, all: &IdSet) -> Result<Parts, AllocError>
+    ensures waiting { IfOk result (λ parts. IsUnsplit all.now parts.waiting) }
+    ensures done { IfOk result (λ parts. parts.done ≡ []) }
+{
+    let mut parts = Parts::new(alloc);
     if all.count() == 0 {
         return Ok(parts);
     }
-    parts.push(*all)?;
+    parts.add(all)?;
+    parts.turn();
     Ok(parts)
 }
 
@@ -86,44 +97,45 @@ fn offered_cpus(rows: &[Row], kinds: &[usize]) -> IdSet
     offered
 }
 
-/// Sets that agree on the rows before row `k`, split so that they agree on it too.
+/// Parts that agree on the rows before row `k`, split so that they agree on it too.
 fn split_all(
-    alloc: Global,
     rows: &[Row],
     k: usize,
-    sets: &[IdSet],
+    parts: &mut Parts,
     spans: &mut Spans,
     edges: &IdSet,
     alone: &mut Vec<IdSet>,
-) -> Result<Vec<IdSet>, AllocError>
+) -> Result<(), AllocError>
     requires fit { IsTrue (list_all row_fits rows.now) }
     requires there { k < length rows.now }
     requires edges { AreEdges rows.now edges.now }
-    requires sets { All (IsPart rows.now k) sets.now }
+    requires parts { All (IsPart rows.now k) parts.old.waiting }
+    requires done { parts.old.done ≡ [] }
     requires alone { All (IsPart rows.now (length rows.now)) alone.old.items }
-    ensures { IfOk result (λ parts. ArePieces rows.now (k + 1) sets.now alone.old.items parts.items alone.new.items) }
+    ensures pieces { OnOk result (ArePieces rows.now (k + 1) parts.old.waiting alone.old.items parts.new.waiting alone.new.items) }
+    ensures done { OnOk result (parts.new.done ≡ []) }
 {
-    if sets.is_empty() {
-        return Ok(Vec::new(alloc));
+    if parts.len() == 0 {
+        return Ok(());
     }
     let row = &rows[k];
     spans.note(&row.offers)?;
-    let mut parts = Vec::with_capacity(alloc, sets.len())?;
-    for part in sets {
-        split(rows, k, &row.offers, spans, edges, part, &mut parts, alone)?;
+    for at in 0..parts.len() {
+        split(rows, k, &row.offers, spans, edges, at, parts, alone)?;
     }
-    Ok(parts)
+    parts.turn();
+    Ok(())
 }
 
-/// One set, split by the weights that its CPUs have in row `k`. One that is seen to have one weight stays whole.
+/// One part, split by the weights that its CPUs have in row `k`. One that is seen to have one weight stays whole.
 fn split(
     rows: &[Row],
     k: usize,
     offers: &Offers,
     spans: &Spans,
     edges: &IdSet,
-    part: &IdSet,
-    parts: &mut Vec<IdSet>,
+    at: usize,
+    parts: &mut Parts,
     alone: &mut Vec<IdSet>,
 ) -> Result<(), AllocError>
     requires fit { IsTrue (list_all row_fits rows.now) }
@@ -131,19 +143,22 @@ fn split(
     requires offers { (d : RowView) → offers.now ≡ (slice_index_or rows.now k d).offers }
     requires spans { AreSpans offers.now spans.now }
     requires edges { AreEdges rows.now edges.now }
-    requires part { IsPart rows.now k part.now }
-    requires parts { All (IsPart rows.now (k + 1)) parts.old.items }
+    requires at { at < length parts.old.waiting }
+    requires part { IsPart rows.now k (slice_index_or parts.old.waiting at set.empty) }
+    requires parts { All (IsPart rows.now (k + 1)) parts.old.done }
     requires alone { All (IsPart rows.now (length rows.now)) alone.old.items }
-    ensures { OnOk result (IsSplit rows.now (k + 1) part.now parts.old.items alone.old.items parts.new.items alone.new.items) }
+    ensures waiting { OnOk result (parts.new.waiting ≡ parts.old.waiting) }
+    ensures split { OnOk result (IsSplit rows.now (k + 1) (slice_index_or parts.old.waiting at set.empty) parts.old.done alone.old.items parts.new.done alone.new.items) }
 {
-    if are_alike(spans, part) {
-        parts.push(*part)?;
+    let (first, last) = parts.bounds(at);
+    if are_alike(spans, parts.cpus(at), first, last) {
+        parts.keep(at)?;
         return Ok(());
     }
-    let mut rest = *part;
+    let mut rest = *parts.cpus(at);
     while let Some(cpu) = rest.first() {
         let piece = alike(offers, spans, cpu, &rest);
-        put(piece, edges, parts, alone)?;
+        put(&piece, edges, parts, alone)?;
         rest = rest.minus(&piece);
     }
     Ok(())
@@ -151,17 +166,18 @@ fn split(
 
 /// Adds a set to those that may be split, or to those of one run.
 fn put(
-    piece: IdSet,
+    piece: &IdSet,
     edges: &IdSet,
-    parts: &mut Vec<IdSet>,
+    parts: &mut Parts,
     alone: &mut Vec<IdSet>,
 ) -> Result<(), AllocError>
-    ensures { OnOk result (IsPutTo edges.now piece parts.old.items alone.old.items parts.new.items alone.new.items) }
+    ensures waiting { OnOk result (parts.new.waiting ≡ parts.old.waiting) }
+    ensures put { OnOk result (IsPutTo edges.now piece.now parts.old.done alone.old.items parts.new.done alone.new.items) }
 {
-    if are_in_one_run(&piece, edges) {
-        alone.push(piece)?;
+    if are_in_one_run(piece, edges) {
+        alone.push(*piece)?;
     } else {
-        parts.push(piece)?;
+        parts.add(piece)?;
     }
     Ok(())
 }

@@ -14,6 +14,7 @@ mod grouping;
 mod holders;
 mod kinds;
 pub mod laws;
+mod parts;
 mod pricing;
 mod spans;
 

@@ -3,7 +3,7 @@ use Rattle.certificate.specs.OfferLaws.{passes_at, row_offers_fit}
 use Rattle.certificate.specs.RowView.{RowView}
 use Rattle.certificate.specs.Weight.{weight_in}
 use Rattle.certificate.specs.declared.rows.Offer.{Offer}
-use Rattle.std.proofs.Common.{List, [], get_or, length, subst, sym, true, ℕ, ◌&&◌, ◌<◌, ◌≡◌}
+use Rattle.std.proofs.Common.{List, [], get_or, length, refl, subst, sym, true, ℕ, ◌&&◌, ◌<◌, ◌≡◌, ◌∙◌}
 use Rattle.std.proofs.lemmas.List.{get_or_default}
 use Rattle.std.specs.List.{list_all}
 use Rattle.twins.proofs.Splitting.{IsAlike, less_left, splitting_end, splitting_more, splitting_start, unsplit}
@@ -13,7 +13,10 @@ use Rattle.std.specs.FinSet as set
 use Rattle.twins.proofs.grouping.split.Goals as goal
 
 pub loop-cpu-init : goal.loop-cpu-init
-loop-cpu-init c = splitting_start _ _ _ _ _ c.requires.part c.requires.parts c.requires.alone
+loop-cpu-init c = record {
+  waiting = refl;
+  splitting = rw (c.cpus-2.ensures set.empty) (splitting_start _ _ _ _ _ c.requires.part c.requires.parts c.requires.alone);
+}
 
 abbrev none : RowView
 none = record { id = []; demand = 0; offers = [] }
@@ -29,11 +32,12 @@ fit : (rows : List RowView) (k : ℕ) (offers : List Offer) → list_all row_fit
 fit rows k offers fits lt is =
     subst (λ (o : List Offer). offers_fit o ≡ true) (sym (is none)) (row_offers_fit (row_at rows k) (passes_at row_fits rows k (row_at rows k) fits lt (is_row rows k lt)))
 
-pub returns-then-are_alike : goal.returns-then-are_alike
-returns-then-are_alike c =
-    unsplit c.args.rows.now c.args.k (row_at c.args.rows.now c.args.k) c.args.part.now _ _ _ c.requires.there (is_row c.args.rows.now c.args.k c.requires.there) c.requires.part c.requires.parts c.requires.alone
-    (subst (λ (o : List Offer). AreAlike o c.args.part.now) (c.requires.offers none) (c.are_alike.ensures c.args.offers.now c.requires.spans c.if-are_alike.true))
-    c.in_ok-push.ensures.items
+pub returns-then-are_alike-clause-split : goal.returns-then-are_alike-clause-split
+returns-then-are_alike-clause-split c =
+    unsplit c.args.rows.now c.args.k (row_at c.args.rows.now c.args.k) (get_or c.args.parts.now.waiting c.args.at set.empty) _ _ _ c.requires.there (is_row c.args.rows.now c.args.k c.requires.there) c.requires.part c.requires.parts c.requires.alone
+    (subst (λ (o : List Offer). AreAlike o (get_or c.args.parts.now.waiting c.args.at set.empty)) (c.requires.offers none)
+    (subst (AreAlike c.args.offers.now) (c.cpus.ensures set.empty) (c.are_alike.ensures c.args.offers.now c.requires.spans c.if-are_alike.true)))
+    (c.in_ok-keep.ensures set.empty).done
 
 alike : (c : goal.After-minus-rest) → IsAlike (row_at c.args.rows.now c.args.k) c.in-Some.cpu c.loop-cpu.rest c.alike-piece.result
 alike c =
@@ -43,14 +47,16 @@ pub alike-piece-requires-clause-fit : goal.alike-piece-requires-clause-fit
 alike-piece-requires-clause-fit c = fit c.args.rows.now c.args.k c.args.offers.now c.requires.fit c.requires.there c.requires.offers
 
 pub loop-cpu-preserved : goal.loop-cpu-preserved
-loop-cpu-preserved c =
-    splitting_more c.args.rows.now c.args.k c.in-Some.cpu (row_at c.args.rows.now c.args.k) c.args.edges.now c.args.part.now c.loop-cpu.rest c.alike-piece.result c.minus-rest.result _ _ _ _ _ _
-    c.requires.there (is_row c.args.rows.now c.args.k c.requires.there) c.requires.edges c.requires.part c.loop-cpu.invariant c.in-Some.ensures.first.member (alike c) c.in_ok-put.ensures c.minus-rest.ensures
+loop-cpu-preserved c = record {
+  waiting = c.in_ok-put.ensures.waiting ∙ c.loop-cpu.invariant.waiting;
+  splitting = splitting_more c.args.rows.now c.args.k c.in-Some.cpu (row_at c.args.rows.now c.args.k) c.args.edges.now (get_or c.args.parts.now.waiting c.args.at set.empty) c.loop-cpu.rest c.alike-piece.result c.minus-rest.result _ _ _ _ _ _
+      c.requires.there (is_row c.args.rows.now c.args.k c.requires.there) c.requires.edges c.requires.part c.loop-cpu.invariant.splitting c.in-Some.ensures.first.member (alike c) c.in_ok-put.ensures.put c.minus-rest.ensures;
+}
 
 pub loop-cpu-smaller : goal.loop-cpu-smaller
 loop-cpu-smaller c =
-    less_left c.args.rows.now c.args.k c.in-Some.cpu (row_at c.args.rows.now c.args.k) c.args.part.now c.loop-cpu.rest c.alike-piece.result c.minus-rest.result _ _ _ _
-    c.requires.part c.loop-cpu.invariant c.in-Some.ensures.first.member (alike c) c.minus-rest.ensures
+    less_left c.args.rows.now c.args.k c.in-Some.cpu (row_at c.args.rows.now c.args.k) (get_or c.args.parts.now.waiting c.args.at set.empty) c.loop-cpu.rest c.alike-piece.result c.minus-rest.result _ _ _ _
+    c.requires.part c.loop-cpu.invariant.splitting c.in-Some.ensures.first.member (alike c) c.minus-rest.ensures
 
-pub returns : goal.returns
-returns c = splitting_end _ _ _ _ _ _ _ _ c.loop-cpu.invariant c.in_default.ensures.first
+pub returns-clause-split : goal.returns-clause-split
+returns-clause-split c = splitting_end _ _ _ _ _ _ _ _ c.loop-cpu.invariant.splitting c.in_default.ensures.first

@@ -1,10 +1,13 @@
-use Rattle.std.proofs.Common.{◌+◌}
+use Rattle.std.proofs.Common.{◌≡◌, ◌+◌, get_or}
 use Rattle.std.specs.FinSet as set
 use Rattle.twins.proofs.Splitting.{Splitting}
 use Rattle.twins.proofs.grouping.split.Given as goal
 
 abbrev pub invariant-loop-cpu : goal.invariant-loop-cpu
-invariant-loop-cpu l = Splitting l.rows (l.k + 1) l.part l.rest l.fn.parts.items l.fn.alone.items l.parts.items l.alone.items
+invariant-loop-cpu l = record {
+  waiting : l.parts.waiting ≡ l.fn.parts.waiting;
+  splitting : Splitting l.rows (l.k + 1) (get_or l.fn.parts.waiting l.at set.empty) l.rest l.fn.parts.done l.fn.alone.items l.parts.done l.alone.items;
+}
 
 abbrev pub decreases-loop-cpu : goal.decreases-loop-cpu
 decreases-loop-cpu l = set.len l.rest
