@@ -1,4 +1,5 @@
-ghost use Rattle.std.specs.Prelude.{◌≡◌, ℕ, ◌+◌, ◌*◌, ◌<◌, ◌≤◌, ◌↔◌, ◌||◌, ◌&&◌, ◌==◌, nat_le, not, length, IsTrue, IfSome, MatchOption};
+ghost use Rattle.std.specs.Prelude.{◌≡◌, ℕ, ◌+◌, ◌*◌, ◌/◌, ◌%◌, ◌<◌, ◌≤◌, ◌↔◌, ◌||◌, ◌&&◌, ◌==◌, nat_le, not, length, IsTrue, IfSome, MatchOption};
+ghost use Rattle.std.specs.Int.{bit_at};
 ghost use Rattle.std.specs.FinSet as set;
 ghost use Rattle.cpu_set.specs.Ids.{IsDisjoint, NoneFrom, IsFirstFrom};
 ghost use Rattle.cpu_set.specs.Members.{IsCpu, InRange, IsComplement, members};
@@ -184,6 +185,14 @@ impl IdSet {
             Some(i) => Some((k * WORD_BITS) as u16 + i as u16),
             None => self.first_in_words(k + 1),
         }
+    }
+
+    // The numbers from 64 times this place on as bits.
+    pub(crate) fn word(&self, at: usize) -> u64
+        requires { at < WORDS }
+        ensures { (q : ℕ) → q / 64 ≡ at → (bit_at result (q % 64) == 1) ≡ set.contains self.now q }
+    {
+        self.words[at]
     }
 
     // The least number in the words from this one on.
