@@ -202,7 +202,7 @@ is_gone q n b e = grind (arith, nat_tests)
 is_left : (q n : ℕ) (b : Bool) → (n ≡ q → ⊥) → b ≡ (not (q == n) && b)
 is_left q n b ne = grind (arith, nat_tests)
 
-inserted_bit : (word n q : ℕ) → q / 64 ≡ n / 64 → (bit_at (bit_or word (1 * 2 ^ (n % 64) % 2 ^ 64)) (q % 64) == 1) ≡ ((q == n) || (bit_at word (q % 64) == 1))
+pub inserted_bit : (word n q : ℕ) → q / 64 ≡ n / 64 → (bit_at (bit_or word (1 * 2 ^ (n % 64) % 2 ^ 64)) (q % 64) == 1) ≡ ((q == n) || (bit_at word (q % 64) == 1))
 inserted_bit word n q same =
     elim (cases_eq n q) [
       | inl e ↦ ap (λ v. bit_at (bit_or word (1 * 2 ^ (n % 64) % 2 ^ 64)) v == 1) (ap (λ v. v % 64) (sym e)) ∙ ap (λ v. v == 1) (bit_at_set_same w64 word (n % 64) (omega arith)) ∙ is_itself q n _ e

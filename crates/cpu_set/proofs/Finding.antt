@@ -38,7 +38,7 @@ first-lower s from middle (Some n) le none is = IsFirstFrom-lower s from middle 
 unset : (b : ℕ) → b ≡ 0 → (b == 1) ≡ false
 unset b e = rw e refl
 
-bit_none : (words : List ℕ) (k q : ℕ) → AreWords words → q / 64 ≡ k → bit_at (get_or words k 0) (q % 64) ≡ 0 → finset.contains (set_of_words words) q ≡ false
+pub bit_none : (words : List ℕ) (k q : ℕ) → AreWords words → q / 64 ≡ k → bit_at (get_or words k 0) (q % 64) ≡ 0 → finset.contains (set_of_words words) q ≡ false
 bit_none words k q are at none =
     contains-set_of_words words are q ∙ unset _ (ap (λ j. bit_at (get_or words j 0) (q % 64)) at ∙ none)
 

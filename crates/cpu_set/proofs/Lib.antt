@@ -3,3 +3,5 @@ pub mod Combined
 pub mod Finding
 pub mod Counted
 pub mod SetRanges
+pub mod OneWord
+pub mod Last

@@ -28,6 +28,11 @@ pub record IsFirstFrom (s : Ids) (from n : ℕ) : Type 0 where
   pub member : set.contains s n ≡ true
   pub least : (k : ℕ) → from ≤ k → k < n → set.contains s k ≡ false
 
+-- the greatest member
+pub record IsLast (s : Ids) (n : ℕ) : Type 0 where
+  pub member : set.contains s n ≡ true
+  pub most : (k : ℕ) → set.contains s k ≡ true → k ≤ n
+
 -- each is within the other
 abbrev pub is_same : Ids → Ids → Bool
 is_same s t = set.is_subset s t && set.is_subset t s

@@ -8,6 +8,7 @@ pub mod LeastLaws
 pub mod Word
 pub mod Words
 pub mod WordLaws
+pub mod WordSets
 pub mod Ranges
 pub mod RangesFrom
 pub mod RangeLaws

@@ -1,6 +1,7 @@
-ghost use Rattle.std.specs.Prelude.{◌≡◌, ℕ, ◌+◌, ◌*◌, ◌<◌, ◌≤◌, ◌↔◌, ◌||◌, ◌&&◌, ◌==◌, nat_le, not, length, IsTrue, IfSome, MatchOption};
+ghost use Rattle.std.specs.Prelude.{◌≡◌, ℕ, ◌+◌, ◌*◌, ◌/◌, ◌%◌, ◌<◌, ◌≤◌, ◌↔◌, ◌||◌, ◌&&◌, ◌==◌, nat_le, not, length, IsTrue, IfSome, MatchOption};
+ghost use Rattle.std.specs.Int.{bit_at};
 ghost use Rattle.std.specs.FinSet as set;
-ghost use Rattle.cpu_set.specs.Ids.{IsDisjoint, NoneFrom, IsFirstFrom};
+ghost use Rattle.cpu_set.specs.Ids.{IsDisjoint, NoneFrom, IsFirstFrom, IsLast};
 ghost use Rattle.cpu_set.specs.Members.{IsCpu, InRange, IsComplement, members};
 ghost use Rattle.cpu_set.specs.Words.{AreWords, set_of_words};
 
@@ -169,6 +170,22 @@ impl IdSet {
         self.first_in_words(0)
     }
 
+    /// The greatest number of the set.
+    pub fn last(&self) -> Option<u16>
+        ensures last { MatchOption result (NoneFrom self.now 0) (λ n. IsLast self.now n) }
+        ensures in_range { IfSome result (λ n. IsCpu n) }
+    {
+        let mut k = WORDS;
+        while k > 0 {
+            k -= 1;
+            let word = self.words[k];
+            if word != 0 {
+                return Some((k * WORD_BITS) as u16 + (63 - word.leading_zeros()) as u16);
+            }
+        }
+        None
+    }
+
     /// The least number of the set above `n`.
     pub fn next_after(&self, n: u16) -> Option<u16>
         ensures first { MatchOption result (NoneFrom self.now (n + 1)) (λ m. IsFirstFrom self.now (n + 1) m) }
@@ -184,6 +201,14 @@ impl IdSet {
             Some(i) => Some((k * WORD_BITS) as u16 + i as u16),
             None => self.first_in_words(k + 1),
         }
+    }
+
+    // The numbers from 64 times this place on as bits.
+    pub(crate) fn word(&self, at: usize) -> u64
+        requires { at < WORDS }
+        ensures { (q : ℕ) → q / 64 ≡ at → (bit_at result (q % 64) == 1) ≡ set.contains self.now q }
+    {
+        self.words[at]
     }
 
     // The least number in the words from this one on.

@@ -8,9 +8,11 @@ mod id_set;
 pub mod laws;
 mod ranges;
 mod word;
+mod word_set;
 
 pub use id_set::IdSet;
 pub use ranges::Ranges;
+pub use word_set::WordSet;
 
 /// CPU numbers are below this limit, and so are all numbers in a set.
 pub const CPU_LIMIT: u16 = 4_096;
