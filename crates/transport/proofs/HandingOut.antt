@@ -35,6 +35,7 @@ sorted_free ws offers firsts residual less l h long down = record {
   order = h.order;
   opened_in = h.opened_in;
   arcs = h.arcs;
+  blocks = h.blocks;
   cursor_in = h.cursor_in;
   full = λ i lt. omega (arith, h.full i lt, down (arc_at l.arcs.items i).class);
   hits = h.hits;

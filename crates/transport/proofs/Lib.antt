@@ -28,3 +28,4 @@ pub mod Shortage
 pub mod Solving
 pub mod Totals
 pub mod Holders
+pub mod Blocks

@@ -26,6 +26,7 @@ use Rattle.transport.specs.Orders.{weighted_at, weighted_in, offered, IsWeighted
 use Rattle.transport.specs.declared.arcs.WeightedOffer.{WeightedOffer}
 use Rattle.transport.specs.declared.arcs.OfferOrder.TheVariants.{AsOffered, ByWeight}
 use Rattle.transport.specs.declared.arcs.SortedArcs.{SortedArcs}
+use Rattle.transport.proofs.Blocks.{no_blocks}
 
 pub weighted_none : (offers : List Offer) → AreAllWeighted offers [] 0
 weighted_none offers = record { its = All-nil (IsWeighted offers); all = λ o x lt is. absurd (omega arith) }
@@ -193,6 +194,7 @@ new_sorted offers firsts residual l apart long h = record {
   order = h.order;
   opened_in = omega (arith, h.opened);
   arcs = rw (h.opened, h.arcs) none;
+  blocks = rw (h.arcs, h.blocks) (no_blocks firsts);
   cursor_in = omega (arith, h.cursor);
   full = λ i lt. absurd (omega (arith, lt, h.cursor));
   hits = λ o g w has. in_offers offers firsts g has.in_range ∙ first_has offers (number firsts g) o has.offer apart has.its has.has ∙ ap Some has.weight;

@@ -7,8 +7,10 @@ use Rattle.std.proofs.lemmas.Bool.{cases_eq, cases_lt}
 use Rattle.certificate.specs.declared.rows.Offer.{Offer}
 use Rattle.cpu_set.specs.Ids.{Ids, NoneFrom, IsFirstFrom}
 use Rattle.transport.specs.Numbers.{number, IsIn}
+use Rattle.transport.specs.Blocks.{AreBlocks}
 use Rattle.transport.specs.Scans.{arc_at, IsPast}
-use Rattle.transport.specs.SortedArcs.{IsArc, HasOffer, IsToCome, AreArcs, IsSortedArcs, IsScanned, IsFreeArc, IsFoundFreeEnd, IsAhead, IsOpening, CanOpen}
+use Rattle.transport.specs.SortedArcs.{IsArc, HasOffer, IsToCome, AreArcs, IsSortedArcs, IsScanned, IsFreeArc, IsFoundFreeEnd, IsOpening, CanOpen}
+use Rattle.transport.specs.Walks.{IsAhead}
 use Rattle.transport.specs.Orders.{weighted_at, weighted_in, AreWeighted}
 use Rattle.transport.specs.declared.arcs.WeightedOffer.{WeightedOffer}
 use Rattle.transport.specs.declared.arcs.Arc.{Arc}
@@ -203,11 +205,12 @@ pub can_open : (ws : ℕ → Option ℕ) (offers : List Offer) (firsts residual 
 can_open ws offers firsts residual l offer weight h more its weighs = record { weighted_are = h.order.weighted; in_weighted = omega (arith, more, h.order.long); its = its; weighs = weighs; arcs_are = h.arcs; hits = h.hits }
 
 pub sorted_opened : (ws : ℕ → Option ℕ) (offers : List Offer) (firsts residual : List ℕ) (l new : SortedArcs) → IsSortedArcs ws offers firsts residual l → l.opened < length offers
-    → IsOpening ws offers firsts (weighted_in offers l.order) l.opened l.arcs.items new.arcs.items None → new.order ≡ l.order → new.opened ≡ l.opened + 1 → new.cursor ≡ l.cursor → IsSortedArcs ws offers firsts residual new
-sorted_opened ws offers firsts residual l new h more o order opened cursor = record {
+    → IsOpening ws offers firsts (weighted_in offers l.order) l.opened l.arcs.items new.arcs.items None → AreBlocks firsts new.arcs.items new.blocks.items → new.order ≡ l.order → new.opened ≡ l.opened + 1 → new.cursor ≡ l.cursor → IsSortedArcs ws offers firsts residual new
+sorted_opened ws offers firsts residual l new h more o blocks order opened cursor = record {
   order = rw order h.order;
   opened_in = rw opened (omega (arith, more));
   arcs = rw (order, opened) (opening_all ws offers firsts (weighted_in offers l.order) l.opened l.arcs.items new.arcs.items o);
+  blocks = blocks;
   cursor_in = rw cursor (omega (arith, h.cursor_in, o.longer));
   full = λ i lt. full i (omega (arith, lt, cursor));
   hits = h.hits;
@@ -218,12 +221,13 @@ sorted_opened ws offers firsts residual l new h more o order opened cursor = rec
     full : (i : ℕ) → i < l.cursor → number residual (arc_at new.arcs.items i).class ≡ 0
     full i lt = rw (o.kept i (omega (arith, lt, h.cursor_in))) (h.full i lt)
 
-pub sorted_moved : (ws : ℕ → Option ℕ) (offers : List Offer) (firsts residual : List ℕ) (l new : SortedArcs) → IsSortedArcs ws offers firsts residual l → new.order ≡ l.order → new.opened ≡ l.opened → new.arcs ≡ l.arcs
+pub sorted_moved : (ws : ℕ → Option ℕ) (offers : List Offer) (firsts residual : List ℕ) (l new : SortedArcs) → IsSortedArcs ws offers firsts residual l → new.order ≡ l.order → new.opened ≡ l.opened → new.arcs ≡ l.arcs → new.blocks ≡ l.blocks
     → new.cursor ≤ length l.arcs.items → ((i : ℕ) → i < new.cursor → number residual (arc_at l.arcs.items i).class ≡ 0) → IsSortedArcs ws offers firsts residual new
-sorted_moved ws offers firsts residual l new h order opened arcs cursor full = record {
+sorted_moved ws offers firsts residual l new h order opened arcs blocks cursor full = record {
   order = rw order h.order;
   opened_in = rw opened h.opened_in;
   arcs = rw (order, opened, arcs) h.arcs;
+  blocks = rw (arcs, blocks) h.blocks;
   cursor_in = rw arcs cursor;
   full = rw arcs full;
   hits = h.hits;
@@ -273,9 +277,9 @@ found_cases ws offers firsts residual l limit arc (Some a) h lt is stop found = 
 
 -- the cursor moves past full classes
 pub sorted_skipped : (ws : ℕ → Option ℕ) (offers : List Offer) (firsts residual : List ℕ) (l : SortedArcs) (xs : List Arc) (r : ℕ) → IsSortedArcs ws offers firsts residual l → xs ≡ l.arcs.items → r ≤ length xs
-    → ((i : ℕ) → i < r → number residual (arc_at xs i).class ≡ 0) → IsSortedArcs ws offers firsts residual (record { order = l.order; opened = l.opened; arcs = l.arcs; cursor = r })
+    → ((i : ℕ) → i < r → number residual (arc_at xs i).class ≡ 0) → IsSortedArcs ws offers firsts residual (record { order = l.order; opened = l.opened; arcs = l.arcs; blocks = l.blocks; cursor = r })
 sorted_skipped ws offers firsts residual l xs r h e le full =
-    sorted_moved ws offers firsts residual l _ h refl refl refl (omega (arith, ap length e, le)) (subst (λ ys. (i : ℕ) → i < r → number residual (arc_at ys i).class ≡ 0) e full)
+    sorted_moved ws offers firsts residual l _ h refl refl refl refl (omega (arith, ap length e, le)) (subst (λ ys. (i : ℕ) → i < r → number residual (arc_at ys i).class ≡ 0) e full)
 
 pub stop_at : (residual : List ℕ) (limit : Option ℕ) (xs ys : List Arc) (r : ℕ) → xs ≡ ys → r < length ys → (r < length xs → IsPast limit (arc_at xs r).weight ⊎ (0 < number residual (arc_at xs r).class))
     → IsPast limit (arc_at ys r).weight ⊎ (0 < number residual (arc_at ys r).class)

@@ -16,5 +16,7 @@ pub mod States
 pub mod Totals
 pub mod Weights
 pub mod Representatives
+pub mod Blocks
+pub mod Walks
 pub mod Places
 pub mod Solved

@@ -5,6 +5,8 @@ use Rattle.certificate.specs.Weight.{weight_in}
 use Rattle.certificate.specs.declared.rows.Offer.{Offer}
 use Rattle.transport.specs.Numbers.{number}
 use Rattle.transport.specs.Scans.{arc_at, IsPast}
+use Rattle.transport.specs.Blocks.{AreBlocks}
+use Rattle.transport.specs.Walks.{IsAhead}
 use Rattle.transport.specs.Orders.{weighted_at, weighted_in, AreWeighted, IsOrder}
 use Rattle.transport.specs.declared.arcs.WeightedOffer.{WeightedOffer}
 use Rattle.transport.specs.declared.arcs.Arc.{Arc}
@@ -41,6 +43,7 @@ pub record IsNewSortedArcs (offers : List Offer) (l : SortedArcs) : Type 0 where
   pub order : IsOrder offers l.order
   pub opened : l.opened ≡ 0
   pub arcs : l.arcs.items ≡ []
+  pub blocks : l.blocks.items ≡ []
   pub cursor : l.cursor ≡ 0
 
 -- the classes of the opened offers are arcs, by rising weight
@@ -55,6 +58,7 @@ pub record IsSortedArcs (ws : ℕ → Option ℕ) (offers : List Offer) (firsts 
   pub order : IsOrder offers l.order
   pub opened_in : l.opened ≤ length offers
   pub arcs : AreArcs ws offers firsts (weighted_in offers l.order) l.opened l.arcs.items
+  pub blocks : AreBlocks firsts l.arcs.items l.blocks.items
   pub cursor_in : l.cursor ≤ length l.arcs.items
   pub full : (i : ℕ) → i < l.cursor → number residual (arc_at l.arcs.items i).class ≡ 0
   pub hits : (o g w : ℕ) → HasOffer offers firsts o g w → ws g ≡ Some w
@@ -75,11 +79,6 @@ pub record IsFreeArc (ws : ℕ → Option ℕ) (residual : List ℕ) (limit : Op
 abbrev pub IsFoundFreeEnd : (ℕ → Option ℕ) → List ℕ → Option ℕ → SortedArcs → Option Arc → Type 0
 IsFoundFreeEnd ws residual limit l None = IsScanned ws l limit
 IsFoundFreeEnd ws residual limit l (Some arc) = IsFreeArc ws residual limit l arc
-
--- the next CPU of a walk is no higher
-abbrev pub IsAhead : Option ℕ → ℕ → Type 0
-IsAhead None cpu = ⊥
-IsAhead (Some next) cpu = next ≤ cpu
 
 -- the classes of an offer, of those first CPUs from the next one on still to come, beside the arcs so far
 pub record IsOpening (ws : ℕ → Option ℕ) (offers : List Offer) (firsts : List ℕ) (weighted : List WeightedOffer) (opened : ℕ) (old arcs : List Arc) (next : Option ℕ) : Type 0 where

@@ -1,5 +1,8 @@
 //! A row's classes by weight, made as far as searches come to them.
-ghost use Rattle.std.specs.Prelude.{◌≡◌, ◌↔◌, ℕ, ◌+◌, ◌<◌, ◌≤◌, ◌⊎◌, IsTrue, Option, None, List, length, MatchOption, IfOk, OnOk};
+ghost use Rattle.std.specs.Prelude.{◌≡◌, ◌↔◌, ℕ, ◌+◌, ◌<◌, ◌≤◌, ◌⊎◌, ◌||◌, ◌==◌, false, IsTrue, Option, None, List, length, MatchOption, IfOk, OnOk};
+ghost use Rattle.std.specs.FinSet as set;
+ghost use Rattle.cpu_set.specs.Members.{IsCpu};
+ghost use Rattle.transport.specs.Blocks.{InBlocks, AreBlocks};
 ghost use Rattle.transport.specs.Numbers.{number};
 ghost use Rattle.transport.specs.Scans.{arc_at, IsPast};
 ghost use Rattle.certificate.specs.declared.rows.Offer.{Offer};
@@ -9,6 +12,7 @@ ghost use Rattle.transport.specs.Orders.{weighted_at, weighted_in, AreAllWeighte
 
 use crate::Representatives;
 use certificate::{Offer, Offers};
+use cpu_set::WordSet;
 use std::alloc::{AllocError, Global};
 
 /// For how many arcs there is room at first, at most.
@@ -21,12 +25,22 @@ pub(crate) struct Arc {
     pub(crate) class: usize,
 }
 
-/// A row's offers in rising weight, the classes of those that are opened, and how far they are full.
+/// Classes that follow each other in a row's arcs, at one weight, by their first CPUs, which lie together.
+///
+/// Most of the classes that a scan comes to are taken up already. By blocks they are passed over many at a time.
+#[derive(Debug, Drop)]
+pub(crate) struct Block {
+    pub(crate) weight: u32,
+    pub(crate) firsts: WordSet,
+}
+
+/// A row's offers in rising weight, the classes of those that are opened, in blocks too, and how far they are full.
 #[derive(Debug, Drop)]
 pub(crate) struct SortedArcs {
     pub(crate) order: OfferOrder,
     pub(crate) opened: usize,
     pub(crate) arcs: Vec<Arc>,
+    pub(crate) blocks: Vec<Block>,
     pub(crate) cursor: usize,
 }
 
@@ -41,6 +55,7 @@ impl SortedArcs {
             order,
             opened: 0,
             arcs,
+            blocks: Vec::new(alloc),
             cursor: 0,
         })
     }
@@ -84,7 +99,13 @@ impl SortedArcs {
         prove!(self.opened < offers.len());
         let weighted_offer = self.order.weighted_offer(offers, self.opened);
         let offer = offers.offer(weighted_offer.offer);
-        push_arcs(&mut self.arcs, &offer, firsts, weighted_offer.weight)?;
+        push_arcs(
+            &mut self.arcs,
+            &mut self.blocks,
+            &offer,
+            firsts,
+            weighted_offer.weight,
+        )?;
         self.opened += 1;
         Ok(())
     }
@@ -93,11 +114,13 @@ impl SortedArcs {
 /// Adds the classes of an offer, at its weight, in the order of their first CPUs.
 fn push_arcs(
     arcs: &mut Vec<Arc>,
+    blocks: &mut Vec<Block>,
     offer: &Offer,
     firsts: &Representatives,
     weight: u32,
 ) -> Result<(), AllocError>
-    ensures { OnOk result ((ws : ℕ → Option ℕ) (offers : List Offer) (weighted : List WeightedOffer) (opened : ℕ) → CanOpen ws offers firsts.now weighted opened offer.now weight arcs.old.items
+    ensures blocks { OnOk result (AreBlocks firsts.now arcs.old.items blocks.old.items → AreBlocks firsts.now arcs.new.items blocks.new.items) }
+    ensures arcs { OnOk result ((ws : ℕ → Option ℕ) (offers : List Offer) (weighted : List WeightedOffer) (opened : ℕ) → CanOpen ws offers firsts.now weighted opened offer.now weight arcs.old.items
         → IsOpening ws offers firsts.now weighted opened arcs.old.items arcs.new.items None) }
 {
     let there = firsts.among(&offer.cpus);
@@ -105,9 +128,50 @@ fn push_arcs(
     while let Some(cpu) = next {
         let class = firsts.class_of(cpu);
         arcs.push(Arc { weight, class })?;
+        add_to_blocks(blocks, weight, cpu)?;
         next = there.next_after(cpu);
     }
     Ok(())
+}
+
+/// Adds a CPU at a weight: to the last block, where it lies behind the CPUs there, else as a block of its own.
+fn add_to_blocks(blocks: &mut Vec<Block>, weight: u32, cpu: u16) -> Result<(), AllocError>
+    requires { IsCpu cpu }
+    ensures sound { OnOk result ((c w : ℕ) → InBlocks blocks.new.items c w → InBlocks blocks.old.items c w ⊎ ((c ≡ cpu) × (w ≡ weight))) }
+    ensures kept { OnOk result ((c w : ℕ) → InBlocks blocks.old.items c w → InBlocks blocks.new.items c w) }
+    ensures added { OnOk result (InBlocks blocks.new.items cpu weight) }
+{
+    if extend_last(blocks, weight, cpu) {
+        return Ok(());
+    }
+    let firsts = WordSet::of(cpu);
+    blocks.push(Block { weight, firsts })?;
+    Ok(())
+}
+
+/// Adds a CPU to the last block, if that is of this weight and the CPU lies behind those there; says whether it was added.
+fn extend_last(blocks: &mut [Block], weight: u32, cpu: u16) -> bool
+    requires { IsCpu cpu }
+    ensures sound { IsTrue result → (c w : ℕ) → InBlocks blocks.new c w → InBlocks blocks.old c w ⊎ ((c ≡ cpu) × (w ≡ weight)) }
+    ensures kept { IsTrue result → (c w : ℕ) → InBlocks blocks.old c w → InBlocks blocks.new c w }
+    ensures added { IsTrue result → InBlocks blocks.new cpu weight }
+    ensures same { result ≡ false → blocks.new ≡ blocks.old }
+{
+    if blocks.len() == 0 {
+        return false;
+    }
+    let last = blocks.len() - 1;
+    extend(&mut blocks[last], weight, cpu)
+}
+
+/// Adds a CPU to a block, if that is of this weight and the CPU lies behind those there; says whether it was added.
+fn extend(block: &mut Block, weight: u32, cpu: u16) -> bool
+    requires { IsCpu cpu }
+    ensures firsts { IsTrue result → (q : ℕ) → set.contains block.new.firsts q ≡ (set.contains block.old.firsts q || (q == cpu)) }
+    ensures weight { IsTrue result → (block.old.weight ≡ weight) × (block.new.weight ≡ weight) }
+    ensures same { result ≡ false → block.new ≡ block.old }
+{
+    block.weight == weight && block.firsts.extend(cpu)
 }
 
 impl Arc {

@@ -1,5 +1,7 @@
 //! What a search reads: rows, kinds, and classes by their first CPUs.
-ghost use Rattle.std.specs.Prelude.{◌≡◌, ℕ, ◌<◌, true, map, length, IfOk, MatchOption};
+ghost use Rattle.std.specs.Prelude.{◌≡◌, ℕ, ◌<◌, true, map, length, IfOk, IfSome};
+ghost use Rattle.cpu_set.specs.Members.{IsCpu};
+ghost use Rattle.transport.specs.Blocks.{IsFirstOf};
 ghost use Rattle.transport.specs.Numbers.{number, IsIn, IsEachOnce};
 ghost use Rattle.transport.specs.Representatives.{first_of};
 ghost use Rattle.std.specs.FinSet as set;
@@ -64,6 +66,17 @@ impl Representatives {
         ensures all { (g : ℕ) → g < length self.now → set.contains cpus.now (number self.now g) ≡ true → set.contains result (number self.now g) ≡ true }
     {
         self.set.meet(cpus)
+    }
+
+    /// The first CPU of a class, if there is the class.
+    pub(crate) fn first(&self, class: usize) -> Option<u16>
+        ensures its { IfSome result (λ cpu. IsFirstOf self.now class cpu) }
+        ensures in_range { IfSome result (λ cpu. IsCpu cpu) }
+    {
+        match self.cpus.get(class) {
+            Some(cpu) => Some(*cpu),
+            None => None,
+        }
     }
 
     /// The class whose first CPU it is.

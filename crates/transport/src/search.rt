@@ -1,19 +1,22 @@
 //! The search for an augmenting path: rows are scanned, duals are updated, until a class with a free CPU is at slack 0.
-ghost use Rattle.std.specs.Prelude.{◌≡◌, ℕ, ◌+◌, ◌<◌, ◌≤◌, ◌^◌, Option, [], ◌∷◌, length, OnOk, IfOk, true, IfSome, MatchOption};
+ghost use Rattle.std.specs.Prelude.{◌≡◌, ℕ, ◌+◌, ◌<◌, ◌≤◌, ◌^◌, ◌⊎◌, Option, None, [], ◌∷◌, length, OnOk, IfOk, true, IfSome, MatchOption};
 ghost use Rattle.transport.specs.Numbers.{number, IsRaised, IsEachOnce};
 ghost use Rattle.transport.specs.States.{IsRunning, HasTaken, IsSameRoot, HasScanned};
 ghost use Rattle.transport.specs.Weights.{weights, AreSortedArcs};
 ghost use Rattle.transport.specs.Answers.{IsAnswer, IsSameRest, IsNoFreeEndAt0, IsFreeEndAt0};
 ghost use Rattle.transport.specs.ReachedRows.{is_reached};
 ghost use Rattle.transport.specs.SortedArcs.{IsSortedArcs, IsFoundFreeEnd, IsScanned};
+ghost use Rattle.transport.specs.Blocks.{AreTakenFirsts, CanLabelBlock, HasLabelledBlock, IsFirstIn};
+ghost use Rattle.std.specs.FinSet as set;
 ghost use Rattle.twins.specs.Kinds.{offers_of};
-ghost use Rattle.transport.specs.Scans.{IsLimit, IsBoundOf, CanLabelArc, CanLabelArcs, IsArcLabelled, HasLabelled, AreRising, IsBetter, IsSeen, CanLimit, IsFreeEndLabelled};
+ghost use Rattle.transport.specs.Scans.{IsLimit, IsBoundOf, CanLabelArc, IsArcLabelled, HasLabelled, IsBetter, IsSeen, CanLimit, IsFreeEndLabelled};
 
-use crate::arcs::{Arc, SortedArcs};
+use crate::arcs::{Arc, Block, SortedArcs};
 use crate::duals::{least_slack, raise, slack};
 use crate::labels::{FreeEnd, Label, Labels};
 use crate::tree::{SearchTree, take_class};
-use crate::{Assignment, Instance};
+use crate::{Assignment, Instance, Representatives};
+use cpu_set::IdSet;
 use std::alloc::AllocError;
 
 /// Goes on until a class with a free CPU is at slack 0, or no class is left.
@@ -33,6 +36,8 @@ pub(crate) fn find_augmenting_path(
     ensures answer { IfOk result (IsAnswer (weights instance.now) assignment.new tree.new) }
 {
     let mut scanned = 0;
+    let mut noted = 0;
+    let mut taken_firsts = IdSet::empty();
     'steps: loop {
         if let Some(free_end) = find_free_class(
             instance,
@@ -43,7 +48,21 @@ pub(crate) fn find_augmenting_path(
         )? {
             return Ok(Some(free_end));
         }
-        scan_rows(instance, assignment, arcs_by_kind, tree, scanned)?;
+        note_taken(
+            &mut taken_firsts,
+            &instance.firsts,
+            &tree.tree_classes.order,
+            noted,
+        );
+        noted = tree.tree_classes.order.len();
+        scan_rows(
+            instance,
+            assignment,
+            arcs_by_kind,
+            &taken_firsts,
+            tree,
+            scanned,
+        )?;
         scanned = tree.reached_rows.order.len();
         let least = least_slack(
             assignment,
@@ -60,6 +79,17 @@ pub(crate) fn find_augmenting_path(
         }
         take_nearest(assignment, tree)?;
         tree.labels.strike_taken(&tree.tree_classes.taken);
+    }
+}
+
+/// Adds the first CPUs of the classes that are listed from a place on.
+fn note_taken(taken_firsts: &mut IdSet, firsts: &Representatives, order: &[usize], from: usize)
+    ensures { (cpu : ℕ) → set.contains taken_firsts.new cpu ≡ true → (set.contains taken_firsts.old cpu ≡ true) ⊎ IsFirstIn firsts.now order.now cpu }
+{
+    for at in from..order.len() {
+        if let Some(cpu) = firsts.first(order[at]) {
+            taken_firsts.insert(cpu);
+        }
     }
 }
 
@@ -120,6 +150,7 @@ pub(crate) fn scan_rows(
     instance: &Instance,
     assignment: &Assignment,
     arcs_by_kind: &mut [SortedArcs],
+    taken_firsts: &IdSet,
     tree: &mut SearchTree,
     from: usize,
 ) -> Result<(), AllocError>
@@ -128,6 +159,7 @@ pub(crate) fn scan_rows(
     requires arcs_by_kind { AreSortedArcs instance.now assignment.now.residual.items arcs_by_kind.old }
     requires from { from ≤ length tree.old.reached_rows.order.items }
     requires scanned { HasScanned (weights instance.now) assignment.now tree.old from }
+    requires taken { AreTakenFirsts instance.now.firsts taken_firsts.now tree.old.tree_classes }
     ensures arcs_by_kind { OnOk result (AreSortedArcs instance.now assignment.now.residual.items arcs_by_kind.new) }
     ensures better { OnOk result (IsBetter (weights instance.now) assignment.now tree.old tree.new) }
     ensures scanned { OnOk result (HasScanned (weights instance.now) assignment.now tree.new (length tree.new.reached_rows.order.items)) }
@@ -135,7 +167,14 @@ pub(crate) fn scan_rows(
     for at in from..tree.reached_rows.order.len() {
         let row = tree.reached_rows.order[at];
         let kind = instance.kinds[row];
-        scan_row(instance, assignment, &mut arcs_by_kind[kind], tree, row)?;
+        scan_row(
+            instance,
+            assignment,
+            &mut arcs_by_kind[kind],
+            taken_firsts,
+            tree,
+            row,
+        )?;
     }
     Ok(())
 }
@@ -145,6 +184,7 @@ pub(crate) fn scan_row(
     instance: &Instance,
     assignment: &Assignment,
     sorted_arcs: &mut SortedArcs,
+    taken_firsts: &IdSet,
     tree: &mut SearchTree,
     row: usize,
 ) -> Result<(), AllocError>
@@ -152,43 +192,77 @@ pub(crate) fn scan_row(
     requires row { row < length instance.now.rows.now }
     requires there { is_reached tree.old.reached_rows row ≡ true }
     requires sorted_arcs { IsSortedArcs (weights instance.now row) (offers_of instance.now.rows.now row) instance.now.firsts assignment.now.residual.items sorted_arcs.old }
+    requires taken { AreTakenFirsts instance.now.firsts taken_firsts.now tree.old.tree_classes }
     ensures sorted_arcs { OnOk result (IsSortedArcs (weights instance.now row) (offers_of instance.now.rows.now row) instance.now.firsts assignment.now.residual.items sorted_arcs.new) }
     ensures seen { OnOk result (IsSeen (weights instance.now) assignment.now row tree.old tree.new) }
 {
     find_free_class_of(instance, assignment, sorted_arcs, tree, row)?;
     let limit = limit_of(&assignment.values, tree.labels.free_end, row);
     label_arcs(
+        instance,
         assignment,
-        &sorted_arcs.arcs,
-        sorted_arcs.cursor,
+        sorted_arcs,
+        taken_firsts,
         tree,
         row,
         limit,
     )
 }
 
-/// Labels the classes of a row's first arcs that are nearer than the free end.
+/// Labels the classes of a row's arcs that are nearer than the free end, block by block.
 pub(crate) fn label_arcs(
+    instance: &Instance,
     assignment: &Assignment,
-    arcs: &[Arc],
-    upto: usize,
+    sorted_arcs: &SortedArcs,
+    taken_firsts: &IdSet,
     tree: &mut SearchTree,
     row: usize,
     limit: Option<u64>,
 ) -> Result<(), AllocError>
-    requires upto { upto ≤ length arcs.now }
-    requires rising { AreRising arcs.now }
+    requires running { IsRunning (weights instance.now) assignment.now tree.old }
+    requires there { is_reached tree.old.reached_rows row ≡ true }
+    requires sorted_arcs { IsSortedArcs (weights instance.now row) (offers_of instance.now.rows.now row) instance.now.firsts assignment.now.residual.items sorted_arcs.now }
     requires limit { IsLimit assignment.now.values.items row tree.old.labels.free_end limit }
-    requires can { (ws : ℕ → ℕ → Option ℕ) × CanLabelArcs ws assignment.now tree.old row arcs.now upto }
-    ensures { OnOk result ((ws : ℕ → ℕ → Option ℕ) → CanLabelArcs ws assignment.now tree.old row arcs.now upto → HasLabelled ws assignment.now row tree.old tree.new arcs.now upto) }
+    requires scanned { IsScanned (weights instance.now row) sorted_arcs.now limit }
+    requires taken { AreTakenFirsts instance.now.firsts taken_firsts.now tree.old.tree_classes }
+    ensures { OnOk result (HasLabelled (weights instance.now) assignment.now row tree.old tree.new sorted_arcs.now.arcs.items sorted_arcs.now.cursor) }
 {
     let bound = bound_of(limit);
-    for at in 0..upto {
-        let arc = arcs[at];
-        if arc.weight as u64 >= bound {
-            return Ok(());
+    for at in 0..sorted_arcs.blocks.len() {
+        let block = &sorted_arcs.blocks[at];
+        if (block.weight as u64) < bound {
+            label_block(instance, assignment, block, taken_firsts, tree, row, bound)?;
         }
+    }
+    Ok(())
+}
+
+/// Labels the classes of a block, but for those taken up, unless they lie past the free end.
+fn label_block(
+    instance: &Instance,
+    assignment: &Assignment,
+    block: &Block,
+    taken_firsts: &IdSet,
+    tree: &mut SearchTree,
+    row: usize,
+    bound: u64,
+) -> Result<(), AllocError>
+    requires bound { (limit : Option ℕ) × IsLimit assignment.now.values.items row tree.old.labels.free_end limit × IsBoundOf limit bound }
+    requires running { IsRunning (weights instance.now) assignment.now tree.old }
+    requires there { is_reached tree.old.reached_rows row ≡ true }
+    requires block { CanLabelBlock (weights instance.now row) assignment.now.residual.items instance.now.firsts block.now }
+    requires taken { AreTakenFirsts instance.now.firsts taken_firsts.now tree.old.tree_classes }
+    ensures { OnOk result (HasLabelledBlock (weights instance.now) assignment.now row tree.old tree.new instance.now.firsts block.now None) }
+{
+    let open = block.firsts.minus(taken_firsts);
+    let mut next = open.first();
+    while let Some(cpu) = next {
+        let arc = Arc {
+            weight: block.weight,
+            class: instance.firsts.class_of(cpu),
+        };
         label_arc(assignment, tree, arc, row, bound)?;
+        next = open.next_after(cpu);
     }
     Ok(())
 }

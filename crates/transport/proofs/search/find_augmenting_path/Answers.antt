@@ -1,4 +1,9 @@
-use Rattle.std.proofs.Common.{◌≡◌, length, refl, sym, ◌∙◌, subst, arith}
+use Rattle.std.proofs.Common.{◌≡◌, ◌⊎◌, ℕ, true, length, refl, sym, ◌∙◌, subst, arith}
+use Rattle.std.specs.FinSet as set
+use Rattle.cpu_set.specs.Pointwise.{contains-empty}
+use Rattle.transport.specs.Blocks.{AreTakenFirsts, IsFirstIn}
+use Rattle.transport.proofs.Blocks.{taken_firsts_more, taken_firsts_kept}
+use Rattle.transport.proofs.Numbers.{not_both}
 use Rattle.transport.specs.States.{IsRunning, HasScanned, IsLeastOf, IsLeastUpTo, IsStruck}
 use Rattle.transport.specs.Scans.{IsBetter}
 use Rattle.transport.specs.Weights.{weights}
@@ -7,7 +12,7 @@ use Rattle.transport.proofs.LeastSlack.{least_some}
 use Rattle.transport.proofs.Steps.{closed, raise_rows, raise_classes, raise_values_fit, raise_prices_fit, nearest_in, step_raised, step_running, step_scanned_on, step_root, step_smaller}
 use Rattle.transport.proofs.Striking.{running_struck, scanned_struck}
 use Rattle.transport.proofs.search.find_augmenting_path.Goals as goal
-use Rattle.transport.proofs.search.find_augmenting_path.Goals.{After-least_slack, In-Some-least, After-update_duals, After-strike_taken}
+use Rattle.transport.proofs.search.find_augmenting_path.Goals.{After-note_taken, After-least_slack, In-Some-least, After-update_duals, After-strike_taken}
 
 pub steps-init : goal.steps-init
 steps-init c = record {
@@ -18,6 +23,7 @@ steps-init c = record {
   scanned = record { covered = λ k g w on here its off. absurd (omega (arith, here)) };
   rest = record { residual = refl; deficit = refl; holdings = refl };
   root = record { row = refl; bottlenecks = refl };
+  taken = λ cpu g on lt is. absurd (not_both _ on (rw c.empty-taken_firsts.ensures (contains-empty cpu)));
 }
 
 better : (c : After-least_slack) → IsBetter (weights c.args.instance.now) c.steps.assignment c.steps.tree (with_nearest c.scan_rows.new.tree c.least_slack.new.nearest)
@@ -25,6 +31,13 @@ better c = better_listed _ _ _ _ c.least_slack.new.nearest (better_more _ _ _ _ 
 
 pub least_slack-requires : goal.least_slack-requires
 least_slack-requires c = (weights c.args.instance.now, c.scan_rows.new.tree, c.in_ok-scan_rows.ensures.better.running)
+
+-- the first CPUs that are noted are of classes that are taken up
+noted : (c : After-note_taken) → AreTakenFirsts c.args.instance.now.firsts c.note_taken.new.taken_firsts c.find_free_class.new.tree.tree_classes
+noted c =
+    let b = c.in_ok-free_end.ensures.better in
+    taken_firsts_more _ c.steps.taken_firsts _ c.find_free_class.new.tree.tree_classes (subst (AreTakenFirsts c.args.instance.now.firsts c.steps.taken_firsts) (sym b.tree_classes) c.steps.invariant.taken) b.running.search.listing
+    (subst (λ order. (cpu : ℕ) → set.contains c.note_taken.new.taken_firsts cpu ≡ true → (set.contains c.steps.taken_firsts cpu ≡ true) ⊎ IsFirstIn c.args.instance.now.firsts order cpu) c.deref.ensures.value c.note_taken.ensures)
 
 pub scan_rows-requires : goal.scan_rows-requires
 scan_rows-requires c =
@@ -35,6 +48,7 @@ scan_rows-requires c =
       arcs_by_kind = c.in_ok-free_end.ensures.arcs_by_kind;
       from = rw b.reached_rows c.steps.invariant.from;
       scanned = scanned_better _ _ _ _ _ b c.steps.invariant.scanned;
+      taken = noted (goal.at.scan_rows-requires c).After-note_taken;
     }
 
 pub returns-in_default-least-clause-answer : goal.returns-in_default-least-clause-answer
@@ -92,7 +106,7 @@ returns-in-Some-free_end_at_0-clause-answer c = record {
 
 -- the classes that the step took up are struck out
 struck : (c : After-strike_taken) → IsStruck c.take_nearest.new.tree.tree_classes.taken.items c.take_nearest.new.tree.labels c.strike_taken.new.self
-struck c = subst (λ taken. IsStruck taken c.take_nearest.new.tree.labels c.strike_taken.new.self) c.deref.ensures.value c.strike_taken.ensures
+struck c = subst (λ taken. IsStruck taken c.take_nearest.new.tree.labels c.strike_taken.new.self) c.deref-in-steps.ensures.value c.strike_taken.ensures
 
 pub steps-preserved : goal.steps-preserved
 steps-preserved c =
@@ -112,6 +126,8 @@ steps-preserved c =
       scanned = scanned_struck (weights c.args.instance.now) c.update_duals.new.assignment v _ x c.len-scanned.result (subst (λ n. HasScanned (weights c.args.instance.now) c.update_duals.new.assignment v n) (sym e)
           (step_scanned_on _ _ c.update_duals.new.assignment _ _ _ b all l r.values r.prices r.residual r.holdings _ c.in_ok-take_nearest.ensures));
       rest = record { residual = r.residual ∙ c.steps.invariant.rest.residual; deficit = r.deficit ∙ c.steps.invariant.rest.deficit; holdings = r.holdings ∙ c.steps.invariant.rest.holdings };
+      taken = taken_firsts_kept _ _ c.scan_rows.new.tree.tree_classes v.tree_classes
+          (subst (AreTakenFirsts c.args.instance.now.firsts c.note_taken.new.taken_firsts) (sym c.in_ok-scan_rows.ensures.better.tree_classes) (noted i.After-note_taken)) c.in_ok-take_nearest.ensures.kept;
       root = step_root _ _ c.update_duals.new.assignment _ _ _ b all l r.values r.prices r.residual r.holdings _ c.in_ok-take_nearest.ensures c.args.tree.now c.steps.invariant.root;
     }
 

@@ -2,6 +2,7 @@ use Rattle.std.proofs.Common.{◌≡◌, ◌-◌, ◌≤◌, length}
 use Rattle.transport.specs.States.{IsRunning, HasScanned, IsSameRoot}
 use Rattle.transport.specs.Weights.{weights, AreSortedArcs}
 use Rattle.transport.specs.Answers.{IsSameRest}
+use Rattle.transport.specs.Blocks.{AreTakenFirsts}
 use Rattle.transport.proofs.search.find_augmenting_path.Given as goal
 
 abbrev pub invariant-steps : goal.invariant-steps
@@ -13,6 +14,7 @@ invariant-steps l = record {
   scanned : HasScanned (weights l.instance) l.assignment l.tree l.scanned;
   rest : IsSameRest l.initial.assignment l.assignment;
   root : IsSameRoot l.initial.tree.reached_rows l.tree.reached_rows;
+  taken : AreTakenFirsts l.instance.firsts l.taken_firsts l.tree.tree_classes;
 }
 
 abbrev pub decreases-steps : goal.decreases-steps

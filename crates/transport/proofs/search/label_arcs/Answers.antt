@@ -1,32 +1,40 @@
-use Rattle.std.proofs.Common.{◌≡◌, subst, arith}
-use Rattle.transport.specs.Scans.{HasLabelled}
-use Rattle.transport.proofs.Labelling.{labelled_start, labelled_more, labelled_past, past_rise, past_of, arc_can, limit_same}
+use Rattle.std.proofs.Common.{◌+◌, sym, subst, arith}
+use Rattle.transport.specs.Weights.{weights}
+use Rattle.transport.specs.Scans.{IsLimit}
+use Rattle.transport.specs.Blocks.{HasLabelledBlocks}
+use Rattle.transport.proofs.Labelling.{limit_same, past_of}
+use Rattle.transport.proofs.Blocks.{blocks_start, blocks_labelled, blocks_past, blocks_all, block_can, not_past}
 use Rattle.transport.proofs.search.label_arcs.Goals as goal
+use Rattle.transport.proofs.search.label_arcs.Goals.{then-block-bound+in_ok-label_block, else-block-bound}
 
 pub loop-at-init : goal.loop-at-init
-loop-at-init c = record { labelled = λ ws can. labelled_start ws _ _ _ _ can.running; limit = c.requires.limit }
+loop-at-init c = record { labelled = blocks_start _ _ _ _ _ _ c.requires.running; limit = c.requires.limit }
 
-pub label_arc-requires : goal.label_arc-requires
-label_arc-requires c = record {
-  bound = (c.args.limit, c.loop-at.invariant.limit, c.bound_of-bound.ensures);
-  can = (c.requires.can.0, arc_can _ _ _ _ _ c.args.arcs.now _ _ c.requires.can.1 (c.loop-at.invariant.labelled _ c.requires.can.1) c.loop-at-test.true);
-}
+pub label_block-requires-clause-block : goal.label_block-requires-clause-block
+label_block-requires-clause-block c =
+    block_can _ _ _ _ c.args.sorted_arcs.now c.loop-at.at c.index-block.result.now c.args.limit c.requires.sorted_arcs c.requires.scanned
+    (omega (arith, c.loop-at-test.true, c.len-at-end.ensures, c.args.sorted_arcs.now.blocks.ok.0)) c.index-block.ensures
+    (not_past c.args.limit c.bound_of-bound.result _ c.bound_of-bound.ensures (omega (arith, c.if-block-bound.true)))
 
 pub loop-at-preserved : goal.loop-at-preserved
-loop-at-preserved c =
-    let can = c.requires.can.1 in
-    let one = c.in_ok-label_arc.ensures c.requires.can.0 (arc_can _ _ _ _ _ c.args.arcs.now _ _ can (c.loop-at.invariant.labelled _ can) c.loop-at-test.true) in
-    record {
-      labelled = λ ws can. labelled_more ws _ _ _ _ _ c.args.arcs.now _ (c.loop-at.invariant.labelled ws can) (c.in_ok-label_arc.ensures ws (arc_can ws _ _ _ _ c.args.arcs.now _ _ can (c.loop-at.invariant.labelled ws can) c.loop-at-test.true));
-      limit = limit_same _ _ _ _ _ one.free_end c.loop-at.invariant.limit;
-    }
-
-pub returns-then-arc-bound : goal.returns-then-arc-bound
-returns-then-arc-bound c = λ ws can.
-    labelled_past ws _ _ _ _ c.args.arcs.now c.loop-at.at c.args.upto c.args.limit (c.loop-at.invariant.labelled ws can) c.loop-at.invariant.limit
-    (λ j le lt. past_rise c.args.limit _ _ (c.requires.rising c.loop-at.at j le (omega (arith, lt, c.requires.upto))) (past_of c.args.limit _ _ c.bound_of-bound.ensures (omega arith) c.if-arc-bound.true))
+loop-at-preserved c = elim c.if-block-bound.branch [
+  | then-block-bound+in_ok-label_block w ↦
+      let n = w.in_ok-label_block.ensures in
+      subst (λ t. record { labelled : HasLabelledBlocks (weights c.args.instance.now) c.args.assignment.now c.args.row c.args.tree.now t c.args.instance.now.firsts c.args.sorted_arcs.now.blocks.items (c.loop-at.at + 1); limit : IsLimit c.args.assignment.now.values.items c.args.row t.labels.free_end c.args.limit }) (sym w.tree-is)
+      (record {
+        labelled = blocks_labelled _ _ _ _ _ _ _ _ c.loop-at.at c.index-block.result.now c.index-block.ensures c.loop-at.invariant.labelled n;
+        limit = limit_same _ _ _ _ _ n.free_end c.loop-at.invariant.limit;
+      })
+  | else-block-bound w ↦
+      subst (λ t. record { labelled : HasLabelledBlocks (weights c.args.instance.now) c.args.assignment.now c.args.row c.args.tree.now t c.args.instance.now.firsts c.args.sorted_arcs.now.blocks.items (c.loop-at.at + 1); limit : IsLimit c.args.assignment.now.values.items c.args.row t.labels.free_end c.args.limit }) (sym w.tree-is)
+      (record {
+        labelled = blocks_past _ _ _ _ _ _ _ c.loop-at.at c.index-block.result.now c.args.limit c.index-block.ensures c.loop-at.invariant.labelled c.loop-at.invariant.limit
+            (past_of c.args.limit c.bound_of-bound.result _ c.bound_of-bound.ensures (omega arith) (omega (arith, w.if-block-bound.false)));
+        limit = c.loop-at.invariant.limit;
+      })
+]
 
 pub returns : goal.returns
-returns c = λ ws can.
-    let e : c.loop-at.at ≡ c.args.upto = omega (arith, c.loop-at.auto.at-end, c.loop-at-test.false) in
-    subst (λ n. HasLabelled ws c.args.assignment.now c.args.row c.args.tree.now c.loop-at.tree c.args.arcs.now n) e (c.loop-at.invariant.labelled ws can)
+returns c =
+    blocks_all _ _ _ _ _ _ _ _ c.loop-at.at _ c.requires.sorted_arcs.blocks (omega (arith, c.loop-at-test.false, c.len-at-end.ensures, c.args.sorted_arcs.now.blocks.ok.0)) c.requires.sorted_arcs.cursor_in
+    c.loop-at.invariant.labelled

@@ -1,9 +1,10 @@
-use Rattle.std.proofs.Common.{ℕ, Option}
-use Rattle.transport.specs.Scans.{CanLabelArcs, HasLabelled, IsLimit}
+use Rattle.transport.specs.Weights.{weights}
+use Rattle.transport.specs.Scans.{IsLimit}
+use Rattle.transport.specs.Blocks.{HasLabelledBlocks}
 use Rattle.transport.proofs.search.label_arcs.Given as goal
 
 abbrev pub invariant-loop-at : goal.invariant-loop-at
 invariant-loop-at l = record {
-  labelled : (ws : ℕ → ℕ → Option ℕ) → CanLabelArcs ws l.assignment l.initial.tree l.row l.arcs l.upto → HasLabelled ws l.assignment l.row l.initial.tree l.tree l.arcs l.at;
+  labelled : HasLabelledBlocks (weights l.instance) l.assignment l.row l.initial.tree l.tree l.instance.firsts l.sorted_arcs.blocks.items l.at;
   limit : IsLimit l.assignment.values.items l.row l.tree.labels.free_end l.fn.limit;
 }

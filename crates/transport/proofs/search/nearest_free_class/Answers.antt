@@ -1,7 +1,6 @@
-use Rattle.std.proofs.Common.{◌≡◌, refl, sym, ap, ◌∙◌, subst}
+use Rattle.std.proofs.Common.{refl, sym, ap, ◌∙◌, subst}
 use Rattle.certificate.specs.RowView.{RowView}
 use Rattle.transport.specs.SortedArcs.{IsFoundFreeEnd}
-use Rattle.twins.specs.Kinds.{offers_of}
 use Rattle.transport.specs.Weights.{weights}
 use Rattle.transport.proofs.Scanning.{offers_read, sorted_as, sorted_back}
 use Rattle.transport.proofs.search.nearest_free_class.Goals as goal

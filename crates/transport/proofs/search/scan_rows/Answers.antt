@@ -1,4 +1,5 @@
-use Rattle.std.proofs.Common.{◌≡◌, ◌<◌, true, length, ap, subst, arith}
+use Rattle.std.proofs.Common.{◌≡◌, ◌<◌, true, length, sym, ap, subst, arith}
+use Rattle.transport.specs.Blocks.{AreTakenFirsts}
 use Rattle.transport.specs.ReachedRows.{is_reached, row_at}
 use Rattle.transport.specs.Weights.{weights}
 use Rattle.transport.specs.States.{HasScanned}
@@ -49,6 +50,7 @@ scan_row-requires c =
       row = omega (arith, in_arcs i, c.loop-at.invariant.arcs_by_kind.long);
       there = (read i).1;
       sorted_arcs = arcs_of_kind _ _ _ _ _ c.loop-at.invariant.arcs_by_kind (in_arcs i);
+      taken = subst (AreTakenFirsts c.args.instance.now.firsts c.args.taken_firsts.now) (sym c.loop-at.invariant.better.tree_classes) c.requires.taken;
     }
 
 pub loop-at-preserved : goal.loop-at-preserved

@@ -11,10 +11,10 @@ pub returns : goal.returns
 returns c = record {
   sorted_arcs = λ (ws : ℕ → Option ℕ) (residual : List ℕ) h.
       sorted_opened ws _ _ residual c.args.self.now _ h c.requires.more
-      (c.in_ok-push_arcs.ensures ws _ _ _
+      (c.in_ok-push_arcs.ensures.arcs ws _ _ _
       (can_open ws _ _ residual c.args.self.now _ _ h c.requires.more
       (offer_read _ (weighted_in c.args.offers.now c.args.self.now.order) c.args.self.now.opened _ _ c.weighted_offer-weighted_offer.ensures (weighted_within _ _ _ _ h.order.weighted (omega (arith, c.requires.more, h.order.long)) c.weighted_offer-weighted_offer.ensures) c.offer-offer.ensures)
       (ap (λ (b : WeightedOffer). b.weight) c.weighted_offer-weighted_offer.ensures)))
-      refl refl refl;
+      (c.in_ok-push_arcs.ensures.blocks h.blocks) refl refl refl;
   opened = refl;
 }

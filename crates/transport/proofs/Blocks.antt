@@ -1,0 +1,374 @@
+-- Arcs in blocks, as arcs are added and as blocks are labelled.
+use Rattle.std.proofs.Common.{◌≡◌, ℕ, ◌+◌, ◌<◌, ◌≤◌, ◌==◌, ◌||◌, Bool, true, false, List, [], ◌∷◌, ◌++◌, length, get_or, Option, Some, None, MatchOption, ◌⊎◌, refl, sym, ap, ◌∙◌, subst, inl, inr, arith}
+use Rattle.std.specs.FinSet as set
+use Rattle.std.specs.Prelude.{slice_set as set_at}
+use Rattle.std.proofs.lemmas.List.{length_push, get_or_push, get_or_append_left, get_or_read, length-set, get_or-set_same, get_or-set_other}
+use Rattle.std.proofs.lemmas.Bool.{cases_eq, cases_lt, cases_Bool}
+use Rattle.std.proofs.lemmas.Bool.Decides.{nat_tests}
+use Rattle.cpu_set.specs.Ids.{Ids, NoneFrom, IsFirstFrom}
+use Rattle.certificate.specs.declared.rows.Offer.{Offer}
+use Rattle.transport.specs.Numbers.{number, IsIn, IsListing}
+use Rattle.transport.specs.ReachedRows.{is_reached}
+use Rattle.transport.specs.Searches.{is_taken, IsCovered}
+use Rattle.transport.specs.States.{IsRunning}
+use Rattle.transport.specs.Scans.{arc_at, IsPast, IsLimit, IsBoundOf, CanLabelArc, IsArcLabelled, HasLabelled}
+use Rattle.transport.specs.SortedArcs.{IsSortedArcs, IsScanned}
+use Rattle.transport.specs.Blocks.{IsFirstOf, InBlocks, IsArcOf, AreBlocks, AreTakenFirsts, CanLabelBlock, HasLabelledBlock, HasLabelledBlocks, IsFirstIn}
+use Rattle.transport.specs.Walks.{IsAhead}
+use Rattle.transport.specs.declared.arcs.Arc.{Arc}
+use Rattle.transport.specs.declared.arcs.Block.{Block}
+use Rattle.transport.specs.declared.arcs.SortedArcs.{SortedArcs}
+use Rattle.transport.specs.declared.assignment.Assignment.{Assignment}
+use Rattle.transport.specs.declared.tree.SearchTree.{SearchTree}
+use Rattle.transport.specs.declared.tree.TreeClasses.{TreeClasses}
+use Rattle.transport.proofs.Numbers.{not_both}
+use Rattle.transport.proofs.Labelling.{better_same, better_more, covered_past, past_rise}
+
+pub no_blocks : (firsts : List ℕ) → AreBlocks firsts [] []
+no_blocks firsts = record {
+  sound = λ cpu w b. absurd (omega (arith, b.within));
+  all = λ i lt. absurd (omega (arith, lt));
+  classes = λ i lt. absurd (omega (arith, lt));
+}
+
+in_blocks_at : (blocks : List Block) (at : ℕ) (block : Block) (cpu w : ℕ) → at < length blocks → ((d : Block) → get_or blocks at d ≡ block) → set.contains block.firsts cpu ≡ true → block.weight ≡ w → InBlocks blocks cpu w
+in_blocks_at blocks at block cpu w lt its has weight = record { index = at; block = block; its = its; within = lt; has = has; weight = weight }
+
+pub either : (a b : Bool) → (a || b) ≡ true → (a ≡ true) ⊎ (b ≡ true)
+either true b on = inl refl
+either false b on = inr on
+
+or_left : (a b : Bool) → a ≡ true → (a || b) ≡ true
+or_left true b on = refl
+or_left false b on = absurd (not_both _ on refl)
+
+or_same : (a : Bool) (n : ℕ) → (a || (n == n)) ≡ true
+or_same a n = grind (arith, nat_tests)
+
+pub equal : (a b : ℕ) → (a == b) ≡ true → a ≡ b
+equal a b on = grind (arith, nat_tests)
+
+-- a CPU more in one block
+module _ (blocks : List Block) (at : ℕ) (block changed : Block) (cpu weight : ℕ) (lt : at < length blocks) (its : (d : Block) → get_or blocks at d ≡ block) (weighs : block.weight ≡ weight) (still : changed.weight ≡ weight)
+    (grows : (q : ℕ) → set.contains changed.firsts q ≡ (set.contains block.firsts q || (q == cpu))) where
+  abbrev extended : List Block
+  extended = set_at blocks at changed
+
+  long : length extended ≡ length blocks
+  long = length-set blocks at changed
+
+  pub extended_sound : (c w : ℕ) → InBlocks extended c w → InBlocks blocks c w ⊎ ((c ≡ cpu) × (w ≡ weight))
+  extended_sound c w b = elim (cases_eq b.index at) [
+    | inl e ↦ here e
+    | inr ne ↦ inl (record {
+      index = b.index;
+      block = b.block;
+      its = λ d. sym (get_or-set_other blocks at b.index changed d ne) ∙ b.its d;
+      within = omega (arith, b.within, long);
+      has = b.has;
+      weight = b.weight;
+    })
+  ]
+    where
+      here : b.index ≡ at → InBlocks blocks c w ⊎ ((c ≡ cpu) × (w ≡ weight))
+      here e =
+          let same : changed ≡ b.block = sym (get_or-set_same blocks at changed changed lt) ∙ ap (λ i. get_or extended i changed) (sym e) ∙ b.its changed in
+          let on : set.contains changed.firsts c ≡ true = subst (λ (x : Block). set.contains x.firsts c ≡ true) (sym same) b.has in
+          let its_weight : weight ≡ w = sym still ∙ ap (λ (x : Block). x.weight) same ∙ b.weight in
+          elim (either _ _ (sym (grows c) ∙ on)) [
+            | inl was ↦ inl (in_blocks_at blocks at block c w lt its was (weighs ∙ its_weight))
+            | inr is ↦ inr (equal c cpu is, sym its_weight)
+          ]
+
+  pub extended_kept : (c w : ℕ) → InBlocks blocks c w → InBlocks extended c w
+  extended_kept c w b = elim (cases_eq b.index at) [
+    | inl e ↦ (let same : block ≡ b.block = sym (its block) ∙ ap (λ i. get_or blocks i block) (sym e) ∙ b.its block in
+        let on : set.contains block.firsts c ≡ true = subst (λ (x : Block). set.contains x.firsts c ≡ true) (sym same) b.has in
+        in_blocks_at extended at changed c w (omega (arith, lt, long)) (λ d. get_or-set_same blocks at changed d lt) (grows c ∙ or_left _ _ on) (still ∙ sym weighs ∙ ap (λ (x : Block). x.weight) same ∙ b.weight))
+    | inr ne ↦ record {
+      index = b.index;
+      block = b.block;
+      its = λ d. get_or-set_other blocks at b.index changed d ne ∙ b.its d;
+      within = omega (arith, b.within, long);
+      has = b.has;
+      weight = b.weight;
+    }
+  ]
+
+  pub extended_added : InBlocks extended cpu weight
+  extended_added = in_blocks_at extended at changed cpu weight (omega (arith, lt, long)) (λ d. get_or-set_same blocks at changed d lt) (grows cpu ∙ or_same _ cpu) still
+
+-- a block more
+module _ (blocks : List Block) (firsts : Ids) (cpu weight : ℕ) (one : (q : ℕ) → set.contains firsts q ≡ (q == cpu)) where
+  abbrev fresh : Block
+  fresh = record { weight = weight; firsts = firsts }
+
+  abbrev longer : List Block
+  longer = blocks ++ fresh ∷ []
+
+  more_long : length longer ≡ length blocks + 1
+  more_long = length_push blocks fresh
+
+  pub pushed_sound : (c w : ℕ) → InBlocks longer c w → InBlocks blocks c w ⊎ ((c ≡ cpu) × (w ≡ weight))
+  pushed_sound c w b = elim (cases_lt b.index (length blocks)) [
+    | inl early ↦ inl (record {
+      index = b.index;
+      block = b.block;
+      its = λ d. sym (get_or_append_left blocks (fresh ∷ []) d b.index early) ∙ b.its d;
+      within = early;
+      has = b.has;
+      weight = b.weight;
+    })
+    | inr late ↦ (let e : b.index ≡ length blocks = omega (arith, late, b.within, more_long) in
+        let same : fresh ≡ b.block = sym (get_or_push blocks fresh fresh b.index (sym e)) ∙ b.its fresh in
+        let on : set.contains firsts c ≡ true = subst (λ (x : Block). set.contains x.firsts c ≡ true) (sym same) b.has in
+        inr (equal c cpu (sym (one c) ∙ on), sym b.weight ∙ ap (λ (x : Block). x.weight) (sym same)))
+  ]
+
+  pub pushed_kept : (c w : ℕ) → InBlocks blocks c w → InBlocks longer c w
+  pushed_kept c w b = record {
+    index = b.index;
+    block = b.block;
+    its = λ d. get_or_append_left blocks (fresh ∷ []) d b.index b.within ∙ b.its d;
+    within = omega (arith, b.within, more_long);
+    has = b.has;
+    weight = b.weight;
+  }
+
+  pub pushed_added : InBlocks longer cpu weight
+  pushed_added = in_blocks_at longer (length blocks) fresh cpu weight (omega (arith, more_long)) (λ d. get_or_push blocks fresh d (length blocks) refl) (one cpu ∙ same cpu) refl
+    where
+      same : (n : ℕ) → (n == n) ≡ true
+      same n = grind (arith, nat_tests)
+
+-- the class of a CPU, which is the first of one
+pub first_of_class : (firsts : List ℕ) (cpu g : ℕ) → IsIn firsts cpu → ((h : ℕ) → h < length firsts → number firsts h ≡ cpu → g ≡ h) → IsFirstOf firsts g cpu
+first_of_class firsts cpu g is own =
+    let same : g ≡ is.index = own is.index is.within is.is in
+    record {
+      within = omega (arith, same, is.within);
+      is = ap (λ j. number firsts j) same ∙ is.is;
+      once = λ h lt e. sym (own h lt e);
+    }
+
+module _ (firsts : List ℕ) (arcs : List Arc) (old new : List Block) (cpu g weight : ℕ) (h : AreBlocks firsts arcs old) (first : IsFirstOf firsts g cpu)
+    (sound : (c w : ℕ) → InBlocks new c w → InBlocks old c w ⊎ ((c ≡ cpu) × (w ≡ weight))) (kept : (c w : ℕ) → InBlocks old c w → InBlocks new c w) (added : InBlocks new cpu weight) where
+  abbrev arc : Arc
+  arc = record { weight = weight; class = g }
+
+  abbrev more : List Arc
+  more = arcs ++ arc ∷ []
+
+  before : (i : ℕ) → i < length arcs → arc_at more i ≡ arc_at arcs i
+  before i lt = get_or_append_left arcs (arc ∷ []) _ i lt
+
+  last : (i : ℕ) → i ≡ length arcs → arc_at more i ≡ arc
+  last i e = get_or_push arcs arc _ i (sym e)
+
+  arcs_long : length more ≡ length arcs + 1
+  arcs_long = length_push arcs arc
+
+  of_arc : (c w : ℕ) → IsArcOf firsts arcs c w → IsArcOf firsts more c w
+  of_arc c w a = record {
+    index = a.index;
+    within = omega (arith, a.within, arcs_long);
+    first = rw (before a.index a.within) a.first;
+    weight = rw (before a.index a.within) a.weight;
+  }
+
+  own : IsArcOf firsts more cpu weight
+  own = record {
+    index = length arcs;
+    within = omega (arith, arcs_long);
+    first = rw (last (length arcs) refl) first;
+    weight = rw (last (length arcs) refl) refl;
+  }
+
+  -- an arc more, and its class in the blocks
+  pub blocks_more : AreBlocks firsts more new
+  blocks_more = record {
+    sound = λ c w b. elim (sound c w b) [
+      | inl was ↦ of_arc c w (h.sound c w was)
+      | inr here ↦ subst (λ x. IsArcOf firsts more x w) (sym here.0) (subst (λ x. IsArcOf firsts more cpu x) (sym here.1) own)
+    ];
+    all = λ i lt. elim (cases_lt i (length arcs)) [
+      | inl b ↦ rw (before i b) (kept _ _ (h.all i b))
+      | inr a ↦ rw (last i (omega (arith, a, lt, arcs_long))) (rw first.is added)
+    ];
+    classes = λ i lt. elim (cases_lt i (length arcs)) [
+      | inl b ↦ rw (before i b) (h.classes i b)
+      | inr a ↦ rw (last i (omega (arith, a, lt, arcs_long))) first.within
+    ];
+  }
+
+-- ---- a block, CPU by CPU
+
+pub ahead : (s : Ids) (from c : ℕ) (next : Option ℕ) → MatchOption next (NoneFrom s from) (λ n. IsFirstFrom s from n) → from ≤ c → set.contains s c ≡ true → IsAhead next c
+ahead s from c None none le on = not_both _ on (none c le)
+ahead s from c (Some n) first le on = elim (cases_lt c n) [
+  | inl below ↦ absurd (not_both _ on (first.least c le below))
+  | inr at ↦ at
+]
+
+-- what is not taken up is still to come
+pub block_start : (ws : ℕ → ℕ → Option ℕ) (s : Assignment) (t : SearchTree) (k : ℕ) (firsts : List ℕ) (block : Block) (taken left : Ids) (next : Option ℕ) → IsRunning ws s t → AreTakenFirsts firsts taken t.tree_classes
+    → ((cpu : ℕ) → set.contains block.firsts cpu ≡ true → set.contains taken cpu ≡ false → set.contains left cpu ≡ true)
+    → MatchOption next (NoneFrom left 0) (λ n. IsFirstFrom left 0 n) → HasLabelledBlock ws s k t t firsts block next
+block_start ws s t k firsts block taken left next h marks rest first = record {
+  better = better_same ws s t h;
+  free_end = refl;
+  each = λ cpu g has lt is off. inl (ahead left 0 cpu next first (omega arith) (rest cpu has (unmarked cpu g lt is off)));
+}
+  where
+    unmarked : (cpu g : ℕ) → g < length firsts → number firsts g ≡ cpu → is_taken t.tree_classes g ≡ false → set.contains taken cpu ≡ false
+    unmarked cpu g lt is off = elim (cases_Bool (set.contains taken cpu)) [
+      | inl on ↦ absurd (not_both _ (marks cpu g on lt is) off)
+      | inr none ↦ none
+    ]
+
+-- a class of the block more, and the next CPU
+pub block_more : (ws : ℕ → ℕ → Option ℕ) (s : Assignment) (t mid new : SearchTree) (k : ℕ) (firsts : List ℕ) (block : Block) (left : Ids) (cpu g : ℕ) (next : Option ℕ) → HasLabelledBlock ws s k t mid firsts block (Some cpu)
+    → ((h : ℕ) → h < length firsts → number firsts h ≡ cpu → g ≡ h) → IsArcLabelled ws s k mid new (record { weight = block.weight; class = g })
+    → ((c : ℕ) → set.contains block.firsts c ≡ true → cpu < c → set.contains left c ≡ true ⊎ ((j : ℕ) → j < length firsts → number firsts j ≡ c → is_taken t.tree_classes j ≡ true))
+    → MatchOption next (NoneFrom left (cpu + 1)) (λ n. IsFirstFrom left (cpu + 1) n) → HasLabelledBlock ws s k t new firsts block next
+block_more ws s t mid new k firsts block left cpu g next h own n rest first = record {
+  better = better_more ws s t mid new h.better n.better;
+  free_end = n.free_end ∙ h.free_end;
+  each = each;
+}
+  where
+    still : (j : ℕ) → is_taken new.tree_classes j ≡ false → is_taken mid.tree_classes j ≡ false
+    still j off = subst (λ ts. is_taken ts j ≡ false) n.better.tree_classes off
+
+    at_first : (j : ℕ) → is_taken new.tree_classes j ≡ false → is_taken t.tree_classes j ≡ false
+    at_first j off = subst (λ ts. is_taken ts j ≡ false) h.better.tree_classes (still j off)
+
+    here : (j : ℕ) → g ≡ j → is_taken new.tree_classes j ≡ false → IsCovered s.values.items s.prices.items new.labels k j block.weight
+    here j e off = subst (λ x. IsCovered s.values.items s.prices.items new.labels k x block.weight) e (n.own (subst (λ x. is_taken new.tree_classes x ≡ false) (sym e) off))
+
+    each : (c j : ℕ) → set.contains block.firsts c ≡ true → j < length firsts → number firsts j ≡ c → is_taken new.tree_classes j ≡ false → IsAhead next c ⊎ IsCovered s.values.items s.prices.items new.labels k j block.weight
+    each c j has lt is off = elim (h.each c j has lt is (still j off)) [
+      | inl le ↦ elim (cases_eq c cpu) [
+        | inl e ↦ inr (here j (own j lt (is ∙ e)) off)
+        | inr ne ↦ elim (rest c has (omega (arith, le, ne))) [
+          | inl on ↦ inl (ahead left (cpu + 1) c next first (omega (arith, le, ne)) on)
+          | inr taken ↦ absurd (not_both _ (taken j lt is) (at_first j off))
+        ]
+      ]
+      | inr covered ↦ inr (n.better.covers k j block.weight covered)
+    ]
+
+-- a class of a block can be labelled
+pub block_arc : (ws : ℕ → ℕ → Option ℕ) (s : Assignment) (t mid : SearchTree) (k : ℕ) (firsts : List ℕ) (block : Block) (cpu g : ℕ) (next : Option ℕ) → CanLabelBlock (ws k) s.residual.items firsts block → set.contains block.firsts cpu ≡ true
+    → ((h : ℕ) → h < length firsts → number firsts h ≡ cpu → g ≡ h) → is_reached t.reached_rows k ≡ true → HasLabelledBlock ws s k t mid firsts block next → CanLabelArc ws s mid k (record { weight = block.weight; class = g })
+block_arc ws s t mid k firsts block cpu g next can has own on h =
+    let c = can cpu has in
+    let f = first_of_class firsts cpu g c.0 own in
+    let facts = c.1 g f.within f.is in
+    record {
+      running = h.better.running;
+      there = subst (λ q. is_reached q k ≡ true) (sym h.better.reached_rows) on;
+      weighs = facts.0;
+      full = facts.1;
+    }
+
+-- ---- block by block
+
+pub blocks_start : (ws : ℕ → ℕ → Option ℕ) (s : Assignment) (t : SearchTree) (k : ℕ) (firsts : List ℕ) (blocks : List Block) → IsRunning ws s t → HasLabelledBlocks ws s k t t firsts blocks 0
+blocks_start ws s t k firsts blocks h = record { better = better_same ws s t h; free_end = refl; each = λ cpu w g b lt. absurd (omega (arith, lt)) }
+
+its_block : (blocks : List Block) (at : ℕ) (block : Block) (cpu w : ℕ) (b : InBlocks blocks cpu w) → b.index ≡ at → block ≡ get_or blocks at block → b.block ≡ block
+its_block blocks at block cpu w b e is = sym (b.its block) ∙ ap (λ i. get_or blocks i block) e ∙ sym is
+
+-- a block more was labelled
+pub blocks_labelled : (ws : ℕ → ℕ → Option ℕ) (s : Assignment) (t mid new : SearchTree) (k : ℕ) (firsts : List ℕ) (blocks : List Block) (at : ℕ) (block : Block) → block ≡ get_or blocks at block
+    → HasLabelledBlocks ws s k t mid firsts blocks at → HasLabelledBlock ws s k mid new firsts block None → HasLabelledBlocks ws s k t new firsts blocks (at + 1)
+blocks_labelled ws s t mid new k firsts blocks at block is h n = record {
+  better = better_more ws s t mid new h.better n.better;
+  free_end = n.free_end ∙ h.free_end;
+  each = λ cpu w g b lt in_firsts e off. elim (cases_lt b.index at) [
+    | inl before ↦ n.better.covers k g w (h.each cpu w g b before in_firsts e (subst (λ ts. is_taken ts g ≡ false) n.better.tree_classes off))
+    | inr after ↦ here cpu w g b (omega (arith, after, lt)) in_firsts e off
+  ];
+}
+  where
+    here : (cpu w g : ℕ) (b : InBlocks blocks cpu w) → b.index ≡ at → g < length firsts → number firsts g ≡ cpu → is_taken new.tree_classes g ≡ false → IsCovered s.values.items s.prices.items new.labels k g w
+    here cpu w g b e in_firsts first off =
+        let same : b.block ≡ block = its_block blocks at block cpu w b e is in
+        let weight : block.weight ≡ w = ap (λ (x : Block). x.weight) (sym same) ∙ b.weight in
+        let has : set.contains block.firsts cpu ≡ true = subst (λ (x : Block). set.contains x.firsts cpu ≡ true) same b.has in
+        elim (n.each cpu g has in_firsts first off) [
+          | inl none ↦ absurd none
+          | inr covered ↦ subst (λ x. IsCovered s.values.items s.prices.items new.labels k g x) weight covered
+        ]
+
+-- a block more lies past the free end
+pub blocks_past : (ws : ℕ → ℕ → Option ℕ) (s : Assignment) (t new : SearchTree) (k : ℕ) (firsts : List ℕ) (blocks : List Block) (at : ℕ) (block : Block) (limit : Option ℕ) → block ≡ get_or blocks at block
+    → HasLabelledBlocks ws s k t new firsts blocks at → IsLimit s.values.items k new.labels.free_end limit → IsPast limit block.weight → HasLabelledBlocks ws s k t new firsts blocks (at + 1)
+blocks_past ws s t new k firsts blocks at block limit is h l past = record {
+  better = h.better;
+  free_end = h.free_end;
+  each = λ cpu w g b lt in_firsts e off. elim (cases_lt b.index at) [
+    | inl before ↦ h.each cpu w g b before in_firsts e off
+    | inr after ↦ (let same : b.block ≡ block = its_block blocks at block cpu w b (omega (arith, after, lt)) is in
+        let weight : block.weight ≡ w = ap (λ (x : Block). x.weight) (sym same) ∙ b.weight in
+        covered_past s new.labels k g w new.labels.free_end limit refl l (past_rise limit block.weight _ (omega (arith, weight)) past))
+  ];
+}
+
+-- all blocks were labelled or lie past the free end, so all arcs
+pub blocks_all : (ws : ℕ → ℕ → Option ℕ) (s : Assignment) (t new : SearchTree) (k : ℕ) (firsts : List ℕ) (arcs : List Arc) (blocks : List Block) (upto cursor : ℕ) → AreBlocks firsts arcs blocks → length blocks ≤ upto → cursor ≤ length arcs
+    → HasLabelledBlocks ws s k t new firsts blocks upto → HasLabelled ws s k t new arcs cursor
+blocks_all ws s t new k firsts arcs blocks upto cursor are all cursor_in h = record {
+  better = h.better;
+  free_end = h.free_end;
+  each = λ i lt off. (let b = are.all i (omega (arith, lt, cursor_in)) in
+      h.each _ _ _ b (omega (arith, b.within, all)) (are.classes i (omega (arith, lt, cursor_in))) refl off);
+}
+
+-- a weight below the bound is not past the limit
+pub not_past : (limit : Option ℕ) (bound w : ℕ) → IsBoundOf limit bound → w < bound → IsPast limit w → ⊥
+not_past None bound w is lt past = past
+not_past (Some limit) bound w is lt past = omega (arith, is, lt, past)
+
+-- the classes of a block below the limit are full
+pub block_can : (ws : ℕ → Option ℕ) (offers : List Offer) (firsts residual : List ℕ) (l : SortedArcs) (at : ℕ) (block : Block) (limit : Option ℕ) → IsSortedArcs ws offers firsts residual l → IsScanned ws l limit
+    → at < length l.blocks.items → block ≡ get_or l.blocks.items at block → (IsPast limit block.weight → ⊥) → CanLabelBlock ws residual firsts block
+block_can ws offers firsts residual l at block limit h scanned lt is below cpu has =
+    let b : InBlocks l.blocks.items cpu block.weight = record {
+      index = at;
+      block = block;
+      its = λ d. get_or_again l.blocks.items at block d lt is;
+      within = lt;
+      has = has;
+      weight = refl;
+    } in
+    let a = h.blocks.sound cpu block.weight b in
+    let weighs : ws (arc_at l.arcs.items a.index).class ≡ Some block.weight = h.arcs.sound a.index a.within ∙ ap Some a.weight in (
+      record { index = _; within = a.first.within; is = a.first.is },
+      λ g in_firsts first.
+          let same : g ≡ (arc_at l.arcs.items a.index).class = a.first.once g in_firsts first in
+          let its : ws g ≡ Some block.weight = ap ws same ∙ weighs in
+          (its, full g its),
+    )
+  where
+    get_or_again : (blocks : List Block) (i : ℕ) (x d : Block) → i < length blocks → x ≡ get_or blocks i x → get_or blocks i d ≡ x
+    get_or_again blocks i x d lt is = sym (get_or_read blocks i x lt is d)
+
+    full : (g : ℕ) → ws g ≡ Some block.weight → number residual g ≡ 0
+    full g its = elim (scanned g block.weight its) [
+      | inl arc ↦ sym (ap (λ j. number residual j) arc.class) ∙ h.full arc.index arc.within
+      | inr past ↦ absurd (below past)
+    ]
+
+-- ---- the first CPUs of what is taken up
+
+pub taken_firsts_more : (firsts : List ℕ) (old new : Ids) (ts : TreeClasses) → AreTakenFirsts firsts old ts → IsListing ts.order.items ts.taken.items
+    → ((cpu : ℕ) → set.contains new cpu ≡ true → (set.contains old cpu ≡ true) ⊎ IsFirstIn firsts ts.order.items cpu) → AreTakenFirsts firsts new ts
+taken_firsts_more firsts old new ts h listing from cpu g on lt is = elim (from cpu on) [
+  | inl was ↦ h cpu g was lt is
+  | inr f ↦ subst (λ j. is_taken ts j ≡ true) (sym (f.first.once g lt is)) (listing.on f.at f.within)
+]
+
+pub taken_firsts_kept : (firsts : List ℕ) (cpus : Ids) (old new : TreeClasses) → AreTakenFirsts firsts cpus old → ((g : ℕ) → is_taken old g ≡ true → is_taken new g ≡ true) → AreTakenFirsts firsts cpus new
+taken_firsts_kept firsts cpus old new h kept cpu g on lt is = kept g (h cpu g on lt is)

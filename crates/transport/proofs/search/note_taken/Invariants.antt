@@ -1,0 +1,7 @@
+use Rattle.std.proofs.Common.{◌≡◌, true, ℕ, ◌⊎◌}
+use Rattle.std.specs.FinSet as set
+use Rattle.transport.specs.Blocks.{IsFirstIn}
+use Rattle.transport.proofs.search.note_taken.Given as goal
+
+abbrev pub invariant-loop-at : goal.invariant-loop-at
+invariant-loop-at l = (cpu : ℕ) → set.contains l.taken_firsts cpu ≡ true → (set.contains l.initial.taken_firsts cpu ≡ true) ⊎ IsFirstIn l.firsts l.order cpu

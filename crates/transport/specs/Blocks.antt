@@ -1,0 +1,70 @@
+-- A row's arcs in blocks, by the first CPUs of their classes.
+use Rattle.std.specs.Prelude.{◌≡◌, ℕ, ◌<◌, ◌⊎◌, true, false, Option, Some, List, length, slice_index_or}
+use Rattle.std.specs.FinSet as set
+use Rattle.cpu_set.specs.Ids.{Ids}
+use Rattle.transport.specs.Numbers.{number, IsIn}
+use Rattle.transport.specs.Scans.{arc_at, IsBetter}
+use Rattle.transport.specs.Searches.{is_taken, IsCovered}
+use Rattle.transport.specs.Walks.{IsAhead}
+use Rattle.transport.specs.declared.assignment.Assignment.{Assignment}
+use Rattle.transport.specs.declared.tree.SearchTree.{SearchTree}
+use Rattle.transport.specs.declared.arcs.Arc.{Arc}
+use Rattle.transport.specs.declared.arcs.Block.{Block}
+use Rattle.transport.specs.declared.tree.TreeClasses.{TreeClasses}
+
+-- the CPU is the first of that class and of no other
+pub record IsFirstOf (firsts : List ℕ) (g cpu : ℕ) : Type 0 where
+  pub within : g < length firsts
+  pub is : number firsts g ≡ cpu
+  pub once : (h : ℕ) → h < length firsts → number firsts h ≡ cpu → h ≡ g
+
+-- one of the blocks is of that weight and has the CPU
+pub record InBlocks (blocks : List Block) (cpu w : ℕ) : Type 0 where
+  pub index : ℕ
+  pub block : Block
+  pub its : (d : Block) → slice_index_or blocks index d ≡ block
+  pub within : index < length blocks
+  pub has : set.contains block.firsts cpu ≡ true
+  pub weight : block.weight ≡ w
+
+-- one of the arcs is of that weight, and its class has the CPU as its first
+pub record IsArcOf (firsts : List ℕ) (arcs : List Arc) (cpu w : ℕ) : Type 0 where
+  pub index : ℕ
+  pub within : index < length arcs
+  pub first : IsFirstOf firsts (arc_at arcs index).class cpu
+  pub weight : (arc_at arcs index).weight ≡ w
+
+-- the blocks have the classes of the arcs, at their weights, and no others
+pub record AreBlocks (firsts : List ℕ) (arcs : List Arc) (blocks : List Block) : Type 0 where
+  pub sound : (cpu w : ℕ) → InBlocks blocks cpu w → IsArcOf firsts arcs cpu w
+  pub all : (i : ℕ) → i < length arcs → InBlocks blocks (number firsts (arc_at arcs i).class) (arc_at arcs i).weight
+  pub classes : (i : ℕ) → i < length arcs → (arc_at arcs i).class < length firsts
+
+-- these CPUs are the first ones of classes that are taken up
+abbrev pub AreTakenFirsts : List ℕ → Ids → TreeClasses → Type 0
+AreTakenFirsts firsts cpus ts = (cpu g : ℕ) → set.contains cpus cpu ≡ true → g < length firsts → number firsts g ≡ cpu → is_taken ts g ≡ true
+
+-- the classes whose first CPUs are in the block weigh as much in a row, and have no free CPU
+abbrev pub CanLabelBlock : (ℕ → Option ℕ) → List ℕ → List ℕ → Block → Type 0
+CanLabelBlock ws residual firsts block = (cpu : ℕ) → set.contains block.firsts cpu ≡ true
+    → IsIn firsts cpu × ((g : ℕ) → g < length firsts → number firsts g ≡ cpu → (ws g ≡ Some block.weight) × (number residual g ≡ 0))
+
+-- the classes of a block are labelled from a row, those from some CPU on not yet; those that are taken up need not be
+pub record HasLabelledBlock (ws : ℕ → ℕ → Option ℕ) (s : Assignment) (k : ℕ) (old new : SearchTree) (firsts : List ℕ) (block : Block) (next : Option ℕ) : Type 0 where
+  pub better : IsBetter ws s old new
+  pub free_end : new.labels.free_end ≡ old.labels.free_end
+  pub each : (cpu g : ℕ) → set.contains block.firsts cpu ≡ true → g < length firsts → number firsts g ≡ cpu → is_taken new.tree_classes g ≡ false
+      → IsAhead next cpu ⊎ IsCovered s.values.items s.prices.items new.labels k g block.weight
+
+-- the classes of the first blocks are labelled from a row, or taken up
+pub record HasLabelledBlocks (ws : ℕ → ℕ → Option ℕ) (s : Assignment) (k : ℕ) (old new : SearchTree) (firsts : List ℕ) (blocks : List Block) (upto : ℕ) : Type 0 where
+  pub better : IsBetter ws s old new
+  pub free_end : new.labels.free_end ≡ old.labels.free_end
+  pub each : (cpu w g : ℕ) → (b : InBlocks blocks cpu w) → b.index < upto → g < length firsts → number firsts g ≡ cpu → is_taken new.tree_classes g ≡ false
+      → IsCovered s.values.items s.prices.items new.labels k g w
+
+-- a class of the list has the CPU as its first
+pub record IsFirstIn (firsts order : List ℕ) (cpu : ℕ) : Type 0 where
+  pub at : ℕ
+  pub within : at < length order
+  pub first : IsFirstOf firsts (number order at) cpu
