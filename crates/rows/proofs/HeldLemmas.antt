@@ -6,7 +6,7 @@ use Rattle.std.proofs.lemmas.Bool.{cases_eq, cases_lt, false≢true}
 use Rattle.std.proofs.lemmas.Bool.Decides.{nat_tests}
 use Rattle.std.proofs.lemmas.List.{flat_map_more, take_more}
 use Rattle.std.proofs.lemmas.List.Sums.{AllPass-from_list_all}
-use Rattle.cpu_set.specs.Ids.{Ids, NoneFrom, IsFirstFrom}
+use Rattle.cpu_set.specs.Ids.{Ids, NoneFrom, IsFirstFrom, IsLast}
 use Rattle.cpu_set.specs.Pointwise.{same_members, contains-empty, contains-intersection, contains-difference}
 use Rattle.cpu_set.specs.declared.TheConstants.{CPU_LIMIT}
 use Rattle.machine.specs.Layout.{Layout}
@@ -36,12 +36,10 @@ least_first s (Some next) first n least is has = elim (cases_lt n next) [
   | inr le ↦ omega arith
 ]
 
--- where none is above a number, each is at most that number
-pub at_most : (s : Ids) (middle n : ℕ) → NoneFrom s (middle + 1) → set.contains s n ≡ true → n ≤ middle
-at_most s middle n none has = elim (cases_lt middle n) [
-  | inl lt ↦ absurd (false≢true (sym (none n (omega arith)) ∙ has))
-  | inr le ↦ omega arith
-]
+-- the greatest number, or 0 where there is none, is below no number of the set
+pub last_most : (s : Ids) (found : Option ℕ) (last n : ℕ) → MatchOption found (NoneFrom s 0) (IsLast s) → last ≡ unwrap_or found 0 → set.contains s n ≡ true → n ≤ last
+last_most s None last n none is has = absurd (false≢true (sym (none n (omega arith)) ∙ has))
+last_most s (Some found) last n greatest is has = rw is (greatest.most n has)
 
 -- a number outside of the span of a set is not in it
 pub outside : (s : Ids) (first last n : ℕ) → ((k : ℕ) → set.contains s k ≡ true → (first ≤ k) × (k ≤ last)) → (first ≤ n → n ≤ last → ⊥) → set.contains s n ≡ false

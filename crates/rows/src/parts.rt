@@ -39,26 +39,8 @@ fn span_of(ids: &IdSet) -> Span
 {
     Span {
         first: ids.first().unwrap_or(CPU_LIMIT),
-        last: greatest(ids),
+        last: ids.last().unwrap_or(0),
     }
-}
-
-/// No number of the set is above this one. O(log n) of the n numbers that there may be.
-#[tactic(auto, using(crate::proofs::HeldLemmas::at_most))]
-fn greatest(ids: &IdSet) -> u16
-    ensures { (n : ℕ) → set.contains ids.now n ≡ true → n ≤ result }
-{
-    ids.stays_below_the_limit();
-    let mut low = 0;
-    let mut high = CPU_LIMIT - 1;
-    while low < high {
-        let middle = low + (high - low) / 2;
-        match ids.next_after(middle) {
-            Some(next) => low = next,
-            None => high = middle,
-        }
-    }
-    high
 }
 
 /// Adds the parts of an offer. Most offers have no CPU that is held: such a one is copied as it stands.

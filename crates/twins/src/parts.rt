@@ -3,7 +3,7 @@ ghost use Rattle.std.specs.FinSet as set;
 ghost use Rattle.cpu_set.specs.Ids.{Ids};
 ghost use Rattle.twins.specs.PartsView.{PartsView, AreBounds, IsAdded};
 
-use cpu_set::{CPU_LIMIT, IdSet};
+use cpu_set::IdSet;
 use std::alloc::{AllocError, Global};
 use std::marker::Model;
 use std::mem;
@@ -121,23 +121,6 @@ fn part_of(place: usize, cpus: &IdSet) -> Part
     Part {
         place,
         first: cpus.first().unwrap_or(0),
-        last: last_of(cpus),
+        last: cpus.last().unwrap_or(0),
     }
-}
-
-/// The last CPU of a set, found by halves; 0 where it has none.
-fn last_of(cpus: &IdSet) -> u16
-    ensures { (cpu : ℕ) → set.contains cpus.now cpu ≡ true → cpu ≤ result }
-{
-    cpus.stays_below_the_limit();
-    let mut low = 0;
-    let mut high = CPU_LIMIT - 1;
-    while low < high {
-        let middle = (low + high) / 2;
-        match cpus.next_after(middle) {
-            Some(cpu) => low = cpu,
-            None => high = middle,
-        }
-    }
-    high
 }
