@@ -1,7 +1,7 @@
 -- Sets within one word.
 use Rattle.std.proofs.Common.{◌≡◌, ℕ, ◌+◌, ◌*◌, ◌/◌, ◌%◌, ◌^◌, ◌<◌, ◌≤◌, ◌==◌, true, false, ◌-◌, not, ◌&&◌, ◌||◌, Bool, List, length, get_or, set, Option, Some, None, MatchOption, refl, sym, ap, ◌∙◌, inl, inr, arith}
 use Rattle.std.specs.Prelude.{bit_and, bit_or, replicate}
-use Rattle.std.specs.Int.{bit_at, bit_not, w64}
+use Rattle.std.specs.Int.{bit_at, bit_not, w64, trailing_zeros}
 use Rattle.std.specs.Int.Bits.{or_zero_l}
 use Rattle.std.specs.FinSet as finset
 use Rattle.std.proofs.lemmas.Bool.{cases_lt}
@@ -14,6 +14,7 @@ use Rattle.cpu_set.specs.Words.{AreWords}
 use Rattle.cpu_set.specs.WordSets.{set_of_word, IsWordSet}
 use Rattle.cpu_set.specs.WordLaws.{contains-set_of_words}
 use Rattle.cpu_set.specs.declared.id_set.TheConstants.{WORDS}
+use Rattle.cpu_set.proofs.Bits.{first_shifted}
 use Rattle.cpu_set.proofs.Combined.{AreWords-set, has_bit-set, each_word, removed_fits, inserted_fits, inserted_bit, without-IsBitwise}
 use Rattle.cpu_set.proofs.Finding.{NoneFrom-lower}
 
@@ -101,6 +102,22 @@ with_bit at bits n q is e =
   where
     more : (k l q n : ℕ) (v u : Bool) → n / 64 ≡ l → (k ≡ l → v ≡ ((q == n) || u)) → (q ≡ n → k ≡ n / 64) → ((k == l) && v) ≡ (((k == l) && u) || (q == n))
     more k l q n v u e f g = grind (arith, nat_tests)
+
+-- why a number can't be one more: it lies in another word than a member, or not behind all of them
+pub apart : (at bits n m : ℕ) → IsWordSet at bits → finset.contains (set_of_word at bits) m ≡ true → m / 64 ≡ n / 64 → (n / 64 ≡ at → ⊥) → ⊥
+apart at bits n m is on same ne = off _ on (outside at bits m is (λ e. ne (sym same ∙ e)))
+  where
+    off : (a : Bool) → (a ≡ true) → (a ≡ false) → ⊥
+    off a here gone = cc
+
+pub behind : (at bits n : ℕ) → IsWordSet at bits → n / 64 ≡ at → (bits / 2 ^ (n % 64) ≡ 0 → ⊥) → NoneFrom (set_of_word at bits) n → ⊥
+behind at bits n is e some none =
+    let i = n % 64 + trailing_zeros w64 (bits / 2 ^ (n % 64)) in
+    let first = first_of_word at bits n (n % 64) (Some i) is (omega arith) (omega arith) (first_shifted bits (n % 64) is.fits (omega (arith, some))) in
+    off _ first.member (none _ first.above)
+  where
+    off : (a : Bool) → (a ≡ true) → (a ≡ false) → ⊥
+    off a here gone = cc
 
 -- one bit alone
 pub one_bit_alone : (n q : ℕ) → n / 64 < WORDS → finset.contains (set_of_word (n / 64) (1 * 2 ^ (n % 64) % 2 ^ 64)) q ≡ (q == n)

@@ -1,4 +1,4 @@
-ghost use Rattle.std.specs.Prelude.{◌≡◌, ℕ, ◌+◌, ◌&&◌, ◌||◌, ◌==◌, false, not, IsTrue, IfSome, MatchOption};
+ghost use Rattle.std.specs.Prelude.{◌≡◌, ℕ, ◌+◌, ◌/◌, ◌&&◌, ◌||◌, ◌==◌, true, false, not, IsTrue, IfSome, MatchOption};
 ghost use Rattle.std.specs.FinSet as set;
 ghost use Rattle.cpu_set.specs.Ids.{NoneFrom, IsFirstFrom};
 ghost use Rattle.cpu_set.specs.Members.{IsCpu};
@@ -45,6 +45,7 @@ impl WordSet {
         requires { IsCpu n }
         ensures added { IsTrue result → (q : ℕ) → set.contains self.new q ≡ (set.contains self.old q || (q == n)) }
         ensures same { result ≡ false → self.new ≡ self.old }
+        ensures refused { result ≡ false → (m : ℕ) → set.contains self.old m ≡ true → m / 64 ≡ n / 64 → NoneFrom self.old n → ⊥ }
     {
         let place = n % 64;
         if n as usize / 64 != self.at || self.bits >> place != 0 {

@@ -1,7 +1,5 @@
-use Rattle.std.proofs.Common.{arith, sym, subst, Option}
-use Rattle.std.specs.Prelude.{MatchOption, Some, None}
-use Rattle.cpu_set.specs.Ids.{NoneFrom, IsFirstFrom}
-use Rattle.cpu_set.specs.Word.{NoBitFrom, IsFirstBit}
+use Rattle.std.proofs.Common.{arith}
+use Rattle.std.specs.Prelude.{Some, None}
 use Rattle.cpu_set.proofs.OneWord.{none_past, first_of_word}
 use Rattle.cpu_set.proofs.word_set.WordSet.first_from.Goals as goal
 
