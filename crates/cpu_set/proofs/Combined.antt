@@ -209,7 +209,7 @@ inserted_bit word n q same =
       | inr ne ↦ ap (λ v. v == 1) (bit_at_set_other w64 word (n % 64) (omega arith) (q % 64) (λ e. ne (omega arith))) ∙ is_other q n _ ne
     ]
 
-removed_bit : (word n q : ℕ) → q / 64 ≡ n / 64 → (bit_at (bit_and word (bit_not w64 (1 * 2 ^ (n % 64) % 2 ^ 64))) (q % 64) == 1) ≡ (not (q == n) && (bit_at word (q % 64) == 1))
+pub removed_bit : (word n q : ℕ) → q / 64 ≡ n / 64 → (bit_at (bit_and word (bit_not w64 (1 * 2 ^ (n % 64) % 2 ^ 64))) (q % 64) == 1) ≡ (not (q == n) && (bit_at word (q % 64) == 1))
 removed_bit word n q same =
     elim (cases_eq n q) [
       | inl e ↦ ap (λ v. bit_at (bit_and word (bit_not w64 (1 * 2 ^ (n % 64) % 2 ^ 64))) v == 1) (ap (λ v. v % 64) (sym e)) ∙ ap (λ v. v == 1) (bit_at_clear_same w64 word (n % 64) (omega arith)) ∙ is_gone q n _ e

@@ -1,5 +1,5 @@
 -- Sets within one word.
-use Rattle.std.proofs.Common.{◌≡◌, ℕ, ◌+◌, ◌*◌, ◌/◌, ◌%◌, ◌^◌, ◌<◌, ◌≤◌, ◌==◌, true, false, ◌-◌, not, ◌&&◌, ◌||◌, Bool, List, length, get_or, set, Option, Some, None, MatchOption, refl, sym, ap, ◌∙◌, inl, inr, arith}
+use Rattle.std.proofs.Common.{◌≡◌, ℕ, ◌+◌, ◌*◌, ◌/◌, ◌%◌, ◌^◌, ◌<◌, ◌≤◌, ◌==◌, true, false, ◌-◌, not, ◌&&◌, ◌||◌, Bool, List, length, get_or, set, Option, Some, None, MatchOption, refl, sym, ap, ◌∙◌, subst, inl, inr, arith}
 use Rattle.std.specs.Prelude.{bit_and, bit_or, replicate}
 use Rattle.std.specs.Int.{bit_at, bit_not, w64, trailing_zeros}
 use Rattle.std.specs.Int.Bits.{or_zero_l}
@@ -9,13 +9,14 @@ use Rattle.std.proofs.lemmas.Bool.Decides.{nat_tests}
 use Rattle.std.proofs.lemmas.List.{get_or-replicate, length-replicate}
 use Rattle.std.proofs.lemmas.Nat.Bits.{bit_at-zero}
 use Rattle.cpu_set.specs.Ids.{NoneFrom, IsFirstFrom}
+use Rattle.cpu_set.specs.Pointwise.{same_members, contains-remove}
 use Rattle.cpu_set.specs.Word.{NoBitFrom, IsFirstBit}
 use Rattle.cpu_set.specs.Words.{AreWords}
 use Rattle.cpu_set.specs.WordSets.{set_of_word, IsWordSet}
 use Rattle.cpu_set.specs.WordLaws.{contains-set_of_words}
 use Rattle.cpu_set.specs.declared.id_set.TheConstants.{WORDS}
 use Rattle.cpu_set.proofs.Bits.{first_shifted}
-use Rattle.cpu_set.proofs.Combined.{AreWords-set, has_bit-set, each_word, removed_fits, inserted_fits, inserted_bit, without-IsBitwise}
+use Rattle.cpu_set.proofs.Combined.{AreWords-set, has_bit-set, each_word, removed_fits, inserted_fits, inserted_bit, removed_bit, without-IsBitwise}
 use Rattle.cpu_set.proofs.Finding.{NoneFrom-lower}
 
 -- no word has a bit
@@ -102,6 +103,24 @@ with_bit at bits n q is e =
   where
     more : (k l q n : ℕ) (v u : Bool) → n / 64 ≡ l → (k ≡ l → v ≡ ((q == n) || u)) → (q ≡ n → k ≡ n / 64) → ((k == l) && v) ≡ (((k == l) && u) || (q == n))
     more k l q n v u e f g = grind (arith, nat_tests)
+
+-- a bit less
+pub without_bit :
+    (at bits i : ℕ) → IsWordSet at bits → i < 64 → set_of_word at (bit_and bits (bit_not w64 (1 * 2 ^ i % 2 ^ 64))) ≡ finset.remove (set_of_word at bits) (at * 64 + i)
+without_bit at bits i is lt = same_members _ _ (λ q.
+    in_word at _ q (record { within = is.within; fits = removed_fits bits _ is.fits })
+    ∙ less (q / 64) at q (at * 64 + i) _ _ (bit q)
+    ∙ ap (λ v. not (q == at * 64 + i) && v) (sym (in_word at bits q is))
+    ∙ sym (contains-remove _ (at * 64 + i) q))
+  where
+    place : (at * 64 + i) % 64 ≡ i
+    place = omega arith
+
+    bit : (q : ℕ) → q / 64 ≡ at → (bit_at (bit_and bits (bit_not w64 (1 * 2 ^ i % 2 ^ 64))) (q % 64) == 1) ≡ (not (q == at * 64 + i) && (bit_at bits (q % 64) == 1))
+    bit q same = subst (λ j. (bit_at (bit_and bits (bit_not w64 (1 * 2 ^ j % 2 ^ 64))) (q % 64) == 1) ≡ (not (q == at * 64 + i) && (bit_at bits (q % 64) == 1))) place (removed_bit bits (at * 64 + i) q (omega arith))
+
+    less : (k l q n : ℕ) (v u : Bool) → (k ≡ l → v ≡ (not (q == n) && u)) → ((k == l) && v) ≡ (not (q == n) && ((k == l) && u))
+    less k l q n v u f = grind (arith, nat_tests)
 
 -- why a number can't be one more: it lies in another word than a member, or not behind all of them
 pub apart : (at bits n m : ℕ) → IsWordSet at bits → finset.contains (set_of_word at bits) m ≡ true → m / 64 ≡ n / 64 → (n / 64 ≡ at → ⊥) → ⊥

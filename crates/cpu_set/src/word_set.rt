@@ -4,7 +4,6 @@ ghost use Rattle.cpu_set.specs.Ids.{NoneFrom, IsFirstFrom};
 ghost use Rattle.cpu_set.specs.Members.{IsCpu};
 
 use crate::id_set::IdSet;
-use crate::word::first_bit;
 use std::marker::Model;
 
 /// Numbers that lie together: some of the 64 from a multiple of 64 on. Small, so that many of them take little memory,
@@ -65,34 +64,17 @@ impl WordSet {
         }
     }
 
-    /// The least number at or above a place.
-    fn first_from(&self, from: usize) -> Option<u16>
-        ensures first { MatchOption result (NoneFrom self.now from) (λ n. IsFirstFrom self.now from n) }
+    /// Takes out the least number.
+    pub fn take_first(&mut self) -> Option<u16>
+        ensures first { MatchOption result (NoneFrom self.old 0) (λ n. IsFirstFrom self.old 0 n) }
+        ensures left { MatchOption result (self.new ≡ self.old) (λ n. self.new ≡ set.remove self.old n) }
         ensures in_range { IfSome result (λ n. IsCpu n) }
     {
-        let start = self.at * 64;
-        if from >= start + 64 {
+        if self.bits == 0 {
             return None;
         }
-        match first_bit(self.bits, from.saturating_sub(start) as u32) {
-            Some(i) => Some((start + i as usize) as u16),
-            None => None,
-        }
-    }
-
-    /// The least number.
-    pub fn first(&self) -> Option<u16>
-        ensures first { MatchOption result (NoneFrom self.now 0) (λ n. IsFirstFrom self.now 0 n) }
-        ensures in_range { IfSome result (λ n. IsCpu n) }
-    {
-        self.first_from(0)
-    }
-
-    /// The least number above `n`.
-    pub fn next_after(&self, n: u16) -> Option<u16>
-        ensures first { MatchOption result (NoneFrom self.now (n + 1)) (λ m. IsFirstFrom self.now (n + 1) m) }
-        ensures in_range { IfSome result (λ m. IsCpu m) }
-    {
-        self.first_from(n as usize + 1)
+        let i = self.bits.trailing_zeros();
+        self.bits = self.bits & !(1 << i);
+        Some((self.at * 64 + i as usize) as u16)
     }
 }
