@@ -1,11 +1,13 @@
 -- Arcs in blocks, as arcs are added and as blocks are labelled.
-use Rattle.std.proofs.Common.{◌≡◌, ℕ, ◌+◌, ◌<◌, ◌≤◌, ◌==◌, ◌||◌, Bool, true, false, List, [], ◌∷◌, ◌++◌, length, get_or, Option, Some, None, MatchOption, ◌⊎◌, refl, sym, ap, ◌∙◌, subst, inl, inr, arith}
+use Rattle.std.proofs.Common.{◌≡◌, ℕ, ◌+◌, ◌-◌, ◌<◌, ◌≤◌, ◌==◌, not, ◌&&◌, ◌||◌, Bool, true, false, cond, List, [], ◌∷◌, ◌++◌, length, get_or, Option, Some, None, ◌⊎◌, refl, sym, ap, ◌∙◌, subst, inl, inr, arith}
 use Rattle.std.specs.FinSet as set
+use Rattle.std.specs.Cmp.{nat_cmp_total}
 use Rattle.std.specs.Prelude.{slice_set as set_at}
 use Rattle.std.proofs.lemmas.List.{length_push, get_or_push, get_or_append_left, get_or_read, length-set, get_or-set_same, get_or-set_other}
-use Rattle.std.proofs.lemmas.Bool.{cases_eq, cases_lt, cases_Bool}
+use Rattle.std.proofs.lemmas.Bool.{cases_eq, cases_lt}
 use Rattle.std.proofs.lemmas.Bool.Decides.{nat_tests}
-use Rattle.cpu_set.specs.Ids.{Ids, NoneFrom, IsFirstFrom}
+use Rattle.cpu_set.specs.Ids.{Ids}
+use Rattle.cpu_set.specs.Pointwise.{contains-empty, contains-remove}
 use Rattle.certificate.specs.declared.rows.Offer.{Offer}
 use Rattle.transport.specs.Numbers.{number, IsIn, IsListing}
 use Rattle.transport.specs.ReachedRows.{is_reached}
@@ -14,7 +16,6 @@ use Rattle.transport.specs.States.{IsRunning}
 use Rattle.transport.specs.Scans.{arc_at, IsPast, IsLimit, IsBoundOf, CanLabelArc, IsArcLabelled, HasLabelled}
 use Rattle.transport.specs.SortedArcs.{IsSortedArcs, IsScanned}
 use Rattle.transport.specs.Blocks.{IsFirstOf, InBlocks, IsArcOf, AreBlocks, AreTakenFirsts, CanLabelBlock, HasLabelledBlock, HasLabelledBlocks, IsFirstIn}
-use Rattle.transport.specs.Walks.{IsAhead}
 use Rattle.transport.specs.declared.arcs.Arc.{Arc}
 use Rattle.transport.specs.declared.arcs.Block.{Block}
 use Rattle.transport.specs.declared.arcs.SortedArcs.{SortedArcs}
@@ -203,35 +204,11 @@ module _ (firsts : List ℕ) (arcs : List Arc) (old new : List Block) (cpu g wei
 
 -- ---- a block, CPU by CPU
 
-pub ahead : (s : Ids) (from c : ℕ) (next : Option ℕ) → MatchOption next (NoneFrom s from) (λ n. IsFirstFrom s from n) → from ≤ c → set.contains s c ≡ true → IsAhead next c
-ahead s from c None none le on = not_both _ on (none c le)
-ahead s from c (Some n) first le on = elim (cases_lt c n) [
-  | inl below ↦ absurd (not_both _ on (first.least c le below))
-  | inr at ↦ at
-]
-
--- what is not taken up is still to come
-pub block_start : (ws : ℕ → ℕ → Option ℕ) (s : Assignment) (t : SearchTree) (k : ℕ) (firsts : List ℕ) (block : Block) (taken left : Ids) (next : Option ℕ) → IsRunning ws s t → AreTakenFirsts firsts taken t.tree_classes
-    → ((cpu : ℕ) → set.contains block.firsts cpu ≡ true → set.contains taken cpu ≡ false → set.contains left cpu ≡ true)
-    → MatchOption next (NoneFrom left 0) (λ n. IsFirstFrom left 0 n) → HasLabelledBlock ws s k t t firsts block next
-block_start ws s t k firsts block taken left next h marks rest first = record {
-  better = better_same ws s t h;
-  free_end = refl;
-  each = λ cpu g has lt is off. inl (ahead left 0 cpu next first (omega arith) (rest cpu has (unmarked cpu g lt is off)));
-}
-  where
-    unmarked : (cpu g : ℕ) → g < length firsts → number firsts g ≡ cpu → is_taken t.tree_classes g ≡ false → set.contains taken cpu ≡ false
-    unmarked cpu g lt is off = elim (cases_Bool (set.contains taken cpu)) [
-      | inl on ↦ absurd (not_both _ (marks cpu g on lt is) off)
-      | inr none ↦ none
-    ]
-
--- a class of the block more, and the next CPU
-pub block_more : (ws : ℕ → ℕ → Option ℕ) (s : Assignment) (t mid new : SearchTree) (k : ℕ) (firsts : List ℕ) (block : Block) (left : Ids) (cpu g : ℕ) (next : Option ℕ) → HasLabelledBlock ws s k t mid firsts block (Some cpu)
-    → ((h : ℕ) → h < length firsts → number firsts h ≡ cpu → g ≡ h) → IsArcLabelled ws s k mid new (record { weight = block.weight; class = g })
-    → ((c : ℕ) → set.contains block.firsts c ≡ true → cpu < c → set.contains left c ≡ true ⊎ ((j : ℕ) → j < length firsts → number firsts j ≡ c → is_taken t.tree_classes j ≡ true))
-    → MatchOption next (NoneFrom left (cpu + 1)) (λ n. IsFirstFrom left (cpu + 1) n) → HasLabelledBlock ws s k t new firsts block next
-block_more ws s t mid new k firsts block left cpu g next h own n rest first = record {
+-- a class of the block more
+pub block_more : (ws : ℕ → ℕ → Option ℕ) (s : Assignment) (t mid new : SearchTree) (k : ℕ) (firsts : List ℕ) (block : Block) (before left : Ids) (cpu g : ℕ) → HasLabelledBlock ws s k t mid firsts block before
+    → left ≡ set.remove before cpu → ((h : ℕ) → h < length firsts → number firsts h ≡ cpu → g ≡ h) → IsArcLabelled ws s k mid new (record { weight = block.weight; class = g })
+    → HasLabelledBlock ws s k t new firsts block left
+block_more ws s t mid new k firsts block before left cpu g h less own n = record {
   better = better_more ws s t mid new h.better n.better;
   free_end = n.free_end ∙ h.free_end;
   each = each;
@@ -240,28 +217,42 @@ block_more ws s t mid new k firsts block left cpu g next h own n rest first = re
     still : (j : ℕ) → is_taken new.tree_classes j ≡ false → is_taken mid.tree_classes j ≡ false
     still j off = subst (λ ts. is_taken ts j ≡ false) n.better.tree_classes off
 
-    at_first : (j : ℕ) → is_taken new.tree_classes j ≡ false → is_taken t.tree_classes j ≡ false
-    at_first j off = subst (λ ts. is_taken ts j ≡ false) h.better.tree_classes (still j off)
-
     here : (j : ℕ) → g ≡ j → is_taken new.tree_classes j ≡ false → IsCovered s.values.items s.prices.items new.labels k j block.weight
     here j e off = subst (λ x. IsCovered s.values.items s.prices.items new.labels k x block.weight) e (n.own (subst (λ x. is_taken new.tree_classes x ≡ false) (sym e) off))
 
-    each : (c j : ℕ) → set.contains block.firsts c ≡ true → j < length firsts → number firsts j ≡ c → is_taken new.tree_classes j ≡ false → IsAhead next c ⊎ IsCovered s.values.items s.prices.items new.labels k j block.weight
+    other : (a b : ℕ) (v : Bool) → (a ≡ b → ⊥) → v ≡ true → (not (a == b) && v) ≡ true
+    other a b v ne on = grind (arith, nat_tests)
+
+    each : (c j : ℕ) → set.contains block.firsts c ≡ true → j < length firsts → number firsts j ≡ c → is_taken new.tree_classes j ≡ false → (set.contains left c ≡ true) ⊎ IsCovered s.values.items s.prices.items new.labels k j block.weight
     each c j has lt is off = elim (h.each c j has lt is (still j off)) [
-      | inl le ↦ elim (cases_eq c cpu) [
+      | inl on ↦ elim (cases_eq c cpu) [
         | inl e ↦ inr (here j (own j lt (is ∙ e)) off)
-        | inr ne ↦ elim (rest c has (omega (arith, le, ne))) [
-          | inl on ↦ inl (ahead left (cpu + 1) c next first (omega (arith, le, ne)) on)
-          | inr taken ↦ absurd (not_both _ (taken j lt is) (at_first j off))
-        ]
+        | inr ne ↦ inl (rw less (contains-remove before cpu c ∙ other c cpu _ ne on))
       ]
       | inr covered ↦ inr (n.better.covers k j block.weight covered)
     ]
 
+-- what is left was there before
+pub left_within : (before left : Ids) (cpu c : ℕ) → left ≡ set.remove before cpu → set.contains left c ≡ true → set.contains before c ≡ true
+left_within before left cpu c less on = was (c == cpu) _ (sym (contains-remove before cpu c) ∙ subst (λ s. set.contains s c ≡ true) less on)
+  where
+    was : (a b : Bool) → (not a && b) ≡ true → b ≡ true
+    was true b on = absurd (not_both _ on refl)
+    was false b on = on
+
+pub left_fewer : (before left : Ids) (cpu : ℕ) → left ≡ set.remove before cpu → set.contains before cpu ≡ true → set.len left < set.len before
+left_fewer before left cpu less on = omega (arith, fewer, some)
+  where
+    fewer : set.len left ≡ set.len before - 1
+    fewer = ap set.len less ∙ set.len-remove nat_cmp_total before cpu ∙ ap (λ b. cond b (set.len before - 1) (set.len before)) on
+
+    some : set.len before ≡ 0 → ⊥
+    some none = not_both _ on (ap (λ s. set.contains s cpu) (set.empty_of_len before none) ∙ contains-empty cpu)
+
 -- a class of a block can be labelled
-pub block_arc : (ws : ℕ → ℕ → Option ℕ) (s : Assignment) (t mid : SearchTree) (k : ℕ) (firsts : List ℕ) (block : Block) (cpu g : ℕ) (next : Option ℕ) → CanLabelBlock (ws k) s.residual.items firsts block → set.contains block.firsts cpu ≡ true
-    → ((h : ℕ) → h < length firsts → number firsts h ≡ cpu → g ≡ h) → is_reached t.reached_rows k ≡ true → HasLabelledBlock ws s k t mid firsts block next → CanLabelArc ws s mid k (record { weight = block.weight; class = g })
-block_arc ws s t mid k firsts block cpu g next can has own on h =
+pub block_arc : (ws : ℕ → ℕ → Option ℕ) (s : Assignment) (t mid : SearchTree) (k : ℕ) (firsts : List ℕ) (block : Block) (left : Ids) (cpu g : ℕ) → CanLabelBlock (ws k) s.residual.items firsts block → set.contains block.firsts cpu ≡ true
+    → ((h : ℕ) → h < length firsts → number firsts h ≡ cpu → g ≡ h) → is_reached t.reached_rows k ≡ true → HasLabelledBlock ws s k t mid firsts block left → CanLabelArc ws s mid k (record { weight = block.weight; class = g })
+block_arc ws s t mid k firsts block left cpu g can has own on h =
     let c = can cpu has in
     let f = first_of_class firsts cpu g c.0 own in
     let facts = c.1 g f.within f.is in
@@ -282,7 +273,7 @@ its_block blocks at block cpu w b e is = sym (b.its block) ∙ ap (λ i. get_or 
 
 -- a block more was labelled
 pub blocks_labelled : (ws : ℕ → ℕ → Option ℕ) (s : Assignment) (t mid new : SearchTree) (k : ℕ) (firsts : List ℕ) (blocks : List Block) (at : ℕ) (block : Block) → block ≡ get_or blocks at block
-    → HasLabelledBlocks ws s k t mid firsts blocks at → HasLabelledBlock ws s k mid new firsts block None → HasLabelledBlocks ws s k t new firsts blocks (at + 1)
+    → HasLabelledBlocks ws s k t mid firsts blocks at → HasLabelledBlock ws s k mid new firsts block set.empty → HasLabelledBlocks ws s k t new firsts blocks (at + 1)
 blocks_labelled ws s t mid new k firsts blocks at block is h n = record {
   better = better_more ws s t mid new h.better n.better;
   free_end = n.free_end ∙ h.free_end;
@@ -298,7 +289,7 @@ blocks_labelled ws s t mid new k firsts blocks at block is h n = record {
         let weight : block.weight ≡ w = ap (λ (x : Block). x.weight) (sym same) ∙ b.weight in
         let has : set.contains block.firsts cpu ≡ true = subst (λ (x : Block). set.contains x.firsts cpu ≡ true) same b.has in
         elim (n.each cpu g has in_firsts first off) [
-          | inl none ↦ absurd none
+          | inl on ↦ absurd (not_both _ on (contains-empty cpu))
           | inr covered ↦ subst (λ x. IsCovered s.values.items s.prices.items new.labels k g x) weight covered
         ]
 

@@ -1,81 +1,24 @@
 -- A class is labelled, or the free end, and what a search knows stays true.
-use Rattle.std.proofs.Common.{◌≡◌, ℕ, ◌+◌, ◌-◌, ◌^◌, ◌<◌, ◌≤◌, true, false, List, [], ◌∷◌, ◌++◌, length, get_or, set, Option, Some, None, Vec, Global, refl, sym, ap, ◌∙◌, subst, inl, inr, arith}
-use Rattle.std.proofs.lemmas.List.{length-set, length_push, get_or-set_same, get_or-set_other, get_or_push, get_or_append_left}
-use Rattle.std.proofs.lemmas.Bool.{cases_eq, cases_lt}
+use Rattle.std.proofs.Common.{◌≡◌, ℕ, ◌+◌, ◌-◌, ◌^◌, ◌<◌, ◌≤◌, true, false, List, length, get_or, Option, Some, None, Vec, Global, refl, sym, ap, ◌∙◌, subst, inl, inr, arith}
+use Rattle.std.proofs.lemmas.Bool.{cases_eq}
 use Rattle.transport.specs.Numbers.{number, IsIn}
-use Rattle.transport.specs.ReachedRows.{is_reached}
-use Rattle.transport.specs.Searches.{label_of, is_taken, IsLabelled, IsFreeEnd, IsSearch, IsCovered}
+use Rattle.transport.specs.ReachedRows.{is_reached, row_at}
+use Rattle.transport.specs.Searches.{label_of, is_taken, HasLabel, IsLabelled, IsFreeEnd, IsSearch, IsCovered}
 use Rattle.transport.specs.States.{IsRunning, HasScanned, cell}
-use Rattle.transport.specs.Scans.{IsPast, IsLimit, IsBoundOf, IsLabelledNow, IsBetter, CanImprove, CanLabelArc, CanLabelArcs, IsArcLabelled, HasLabelled, arc_at}
+use Rattle.transport.specs.Scans.{IsPast, IsLimit, IsBoundOf, IsLabelledNow, IsBetter, CanImprove, CanLabelArc, IsArcLabelled}
 use Rattle.transport.specs.declared.labels.Label.{Label}
 use Rattle.transport.specs.declared.labels.FreeEnd.{FreeEnd}
 use Rattle.transport.specs.declared.labels.Labels.{Labels}
 use Rattle.transport.specs.declared.assignment.Assignment.{Assignment}
 use Rattle.transport.specs.declared.tree.SearchTree.{SearchTree}
 use Rattle.transport.specs.declared.arcs.Arc.{Arc}
-use Rattle.transport.proofs.Numbers.{not_both, in_push, in_last}
-use Rattle.transport.proofs.ReachedRowsLemmas.{marked_below}
+use Rattle.transport.proofs.Numbers.{not_both}
 
 some_same : (n m : Label) (o : Option Label) → o ≡ Some n → o ≡ Some m → n ≡ m
 some_same n m o a b = let both : Some n ≡ Some m = sym a ∙ b in cc
 
--- the first label of a class
-pub labelled_first : (values : List ℕ) (old new : Labels) (g : ℕ) (label : Label) → g < length old.of_class.items → label_of old g ≡ None → new.free_end ≡ old.free_end
-    → new.of_class.items ≡ set old.of_class.items g (Some label) → new.labelled.items ≡ old.labelled.items ++ g ∷ [] → IsLabelledNow values old new g label
-labelled_first values old new g label lt none free_end of_class labelled = record {
-  free_end = free_end;
-  long = ap length of_class ∙ length-set _ _ _;
-  others = λ h ne. rw of_class (get_or-set_other old.of_class.items g h (Some label) None ne);
-  now = label;
-  its = rw of_class (get_or-set_same old.of_class.items g (Some label) None lt);
-  choice = inl refl;
-  less = omega arith;
-  better = λ n is. (let no : Some n ≡ None = sym is ∙ none in cc);
-  kept = λ h there. rw labelled (in_push old.labelled.items g h there);
-  listed = rw labelled (in_last old.labelled.items g);
-  labelled_in = λ n i all here within. elim (cases_lt i (length old.labelled.items)) [
-    | inl before ↦ rw (labelled, get_or_append_left old.labelled.items (g ∷ []) 0 i before) (all i before)
-    | inr after ↦ rw (labelled, get_or_push old.labelled.items g 0 i (omega (arith, after, within, ap length labelled, length_push old.labelled.items g))) here
-  ];
-}
-
--- a nearer row
-pub labelled_nearer : (values : List ℕ) (old new : Labels) (g : ℕ) (label was : Label) → g < length old.of_class.items → label_of old g ≡ Some was → IsIn old.labelled.items g
-    → label.weight + number values was.row < was.weight + number values label.row → new.free_end ≡ old.free_end
-    → new.of_class.items ≡ set old.of_class.items g (Some label) → new.labelled.items ≡ old.labelled.items → IsLabelledNow values old new g label
-labelled_nearer values old new g label was lt is there less free_end of_class labelled = record {
-  free_end = free_end;
-  long = ap length of_class ∙ length-set _ _ _;
-  others = λ h ne. rw of_class (get_or-set_other old.of_class.items g h (Some label) None ne);
-  now = label;
-  its = rw of_class (get_or-set_same old.of_class.items g (Some label) None lt);
-  choice = inl refl;
-  less = omega arith;
-  better = λ n its. (let same = some_same was n (label_of old g) is its in subst (λ x. label.weight + number values x.row ≤ x.weight + number values label.row) same (omega (arith, less)));
-  kept = λ h here. rw labelled here;
-  listed = rw labelled there;
-  labelled_in = λ n i all here within. rw labelled (all i (omega (arith, within, ap length labelled)));
-}
-
--- the label stays
-pub labelled_stays : (values : List ℕ) (old : Labels) (g : ℕ) (label was : Label) → label_of old g ≡ Some was → IsIn old.labelled.items g
-    → was.weight + number values label.row ≤ label.weight + number values was.row → IsLabelledNow values old old g label
-labelled_stays values old g label was is there less = record {
-  free_end = refl;
-  long = refl;
-  others = λ h ne. refl;
-  now = was;
-  its = is;
-  choice = inr is;
-  less = less;
-  better = λ n its. (let same = some_same was n (label_of old g) is its in subst (λ x. was.weight + number values x.row ≤ x.weight + number values was.row) same (omega arith));
-  kept = λ h here. here;
-  listed = there;
-  labelled_in = λ n i all here within. all i within;
-}
-
 module _ (ws : ℕ → ℕ → Option ℕ) (s : Assignment) (t : SearchTree) (new : SearchTree) (g : ℕ) (label : Label) (h : IsRunning ws s t)
-    (reached_rows : new.reached_rows ≡ t.reached_rows) (tree_classes : new.tree_classes ≡ t.tree_classes) (n : IsLabelledNow s.values.items t.labels new.labels g label)
+    (reached_rows : new.reached_rows ≡ t.reached_rows) (tree_classes : new.tree_classes ≡ t.tree_classes) (n : IsLabelledNow s.values.items (number s.prices.items g + number s.values.items (row_at t.reached_rows 0)) t.labels new.labels g label)
     (there : is_reached t.reached_rows label.row ≡ true) (weighs : ws label.row g ≡ Some label.weight) (full : number s.residual.items g ≡ 0) (left : is_taken t.tree_classes g ≡ false) where
   old : IsSearch ws (cell s.holdings.items) s.values.items s.prices.items s.residual.items t.reached_rows t.labels t.tree_classes
   old = h.search
@@ -106,12 +49,37 @@ module _ (ws : ℕ → ℕ → Option ℕ) (s : Assignment) (t : SearchTree) (ne
     | inr ne ↦ n.kept j (old.listed j m (sym (n.others j ne) ∙ is) off)
   ]
 
+  seen_now : (i : ℕ) → i < length new.labels.labelled.items → HasLabel new.labels (number new.labels.labelled.items i)
+  seen_now i within = elim (n.members i within) [
+    | inl was ↦ elim (cases_eq (number new.labels.labelled.items i) g) [
+      | inl e ↦ at_g e
+      | inr ne ↦ (let o = old.seen was.index was.within in record { label = o.label; its = n.others _ ne ∙ ap (label_of t.labels) (sym was.is) ∙ o.its })
+    ]
+    | inr e ↦ at_g e
+  ]
+    where
+      at_g : number new.labels.labelled.items i ≡ g → HasLabel new.labels (number new.labels.labelled.items i)
+      at_g e = record { label = n.now; its = ap (label_of new.labels) e ∙ n.its }
+
+  due_now_at : (j : ℕ) (m : Label) → label_of new.labels j ≡ Some m → is_taken t.tree_classes j ≡ false
+      → number new.labels.due.items j + number s.values.items m.row ≡ m.weight + (number s.prices.items j + number s.values.items (row_at t.reached_rows 0))
+  due_now_at j m is off = elim (cases_eq j g) [
+    | inl e ↦ at_g e
+    | inr ne ↦ rw (n.due_others j ne) (old.due j m (sym (n.others j ne) ∙ is) off)
+  ]
+    where
+      at_g : j ≡ g → number new.labels.due.items j + number s.values.items m.row ≡ m.weight + (number s.prices.items j + number s.values.items (row_at t.reached_rows 0))
+      at_g e =
+          let same : n.now ≡ m = some_same n.now m (label_of new.labels g) n.its (subst (λ x. label_of new.labels x ≡ Some m) e is) in
+          rw (e, ← same) n.is_due
+
   search_labelled : IsSearch ws (cell s.holdings.items) s.values.items s.prices.items s.residual.items t.reached_rows new.labels t.tree_classes
   search_labelled = record {
     reached_rows = old.reached_rows;
     listing = old.listing;
     taken_long = old.taken_long;
     labels_long = n.long ∙ old.labels_long;
+    due_long = n.due_long ∙ old.due_long;
     residual_long = old.residual_long;
     dual = old.dual;
     rooted = old.rooted;
@@ -120,7 +88,12 @@ module _ (ws : ℕ → ℕ → Option ℕ) (s : Assignment) (t : SearchTree) (ne
     bottlenecks = old.bottlenecks;
     labelled = labelled_now;
     listed = listed_now;
-    labelled_in = λ i within. n.labelled_in _ i old.labelled_in (h.fit.class label.row g label.weight weighs) within;
+    labelled_in = λ i within. elim (n.members i within) [
+      | inl was ↦ subst (λ x. x < length s.prices.items) was.is (old.labelled_in was.index was.within)
+      | inr e ↦ rw e (h.fit.class label.row g label.weight weighs)
+    ];
+    seen = seen_now;
+    due = due_now_at;
     linked = λ j on. (let l = old.linked j on in record { label = l.label; its = n.others j (other j on) ∙ l.its; equal = l.equal });
     holders = old.holders;
     free_end = λ e is. old.free_end e (sym n.free_end ∙ is);
@@ -158,7 +131,7 @@ module _ (ws : ℕ → ℕ → Option ℕ) (s : Assignment) (t : SearchTree) (ne
 
 -- a nearer free end
 module _ (ws : ℕ → ℕ → Option ℕ) (s : Assignment) (t : SearchTree) (new : SearchTree) (e : FreeEnd) (h : IsRunning ws s t)
-    (reached_rows : new.reached_rows ≡ t.reached_rows) (tree_classes : new.tree_classes ≡ t.tree_classes) (of_class : new.labels.of_class ≡ t.labels.of_class) (labelled : new.labels.labelled ≡ t.labels.labelled) (free_end : new.labels.free_end ≡ Some e)
+    (reached_rows : new.reached_rows ≡ t.reached_rows) (tree_classes : new.tree_classes ≡ t.tree_classes) (of_class : new.labels.of_class ≡ t.labels.of_class) (due : new.labels.due ≡ t.labels.due) (labelled : new.labels.labelled ≡ t.labels.labelled) (free_end : new.labels.free_end ≡ Some e)
     (there : is_reached t.reached_rows e.label.row ≡ true) (weighs : ws e.label.row e.class ≡ Some e.label.weight) (some_free : 0 < number s.residual.items e.class)
     (nearer : (o : FreeEnd) → t.labels.free_end ≡ Some o → e.label.weight + number s.values.items o.label.row ≤ o.label.weight + number s.values.items e.label.row) where
   was : IsSearch ws (cell s.holdings.items) s.values.items s.prices.items s.residual.items t.reached_rows t.labels t.tree_classes
@@ -176,6 +149,7 @@ module _ (ws : ℕ → ℕ → Option ℕ) (s : Assignment) (t : SearchTree) (ne
     listing = was.listing;
     taken_long = was.taken_long;
     labels_long = ap (λ (v : Vec (Option Label) Global). length v.items) of_class ∙ was.labels_long;
+    due_long = ap (λ (v : Vec ℕ Global). length v.items) due ∙ was.due_long;
     residual_long = was.residual_long;
     dual = was.dual;
     rooted = was.rooted;
@@ -184,6 +158,8 @@ module _ (ws : ℕ → ℕ → Option ℕ) (s : Assignment) (t : SearchTree) (ne
     labelled = λ j m is. (let o = was.labelled j m (sym (label_same j) ∙ is) in record { there = o.there; weighs = o.weighs; full = o.full });
     listed = λ j m is off. rw labelled (was.listed j m (sym (label_same j) ∙ is) off);
     labelled_in = rw labelled was.labelled_in;
+    seen = subst (λ (v : Vec ℕ Global). (i : ℕ) → i < length v.items → HasLabel new.labels (number v.items i)) (sym labelled) (λ i lt. (let o = was.seen i lt in record { label = o.label; its = label_same _ ∙ o.its }));
+    due = rw due (λ j m is off. was.due j m (sym (label_same j) ∙ is) off);
     linked = λ j on. (let l = was.linked j on in record { label = l.label; its = label_same j ∙ l.its; equal = l.equal });
     holders = was.holders;
     free_end = λ f is. subst (IsFreeEnd ws s.residual.items t.reached_rows) (free_end_same f is) (record { there = there; weighs = weighs; some_free = some_free });
@@ -244,7 +220,7 @@ scanned_better ws s old new upto b all = rw (b.reached_rows, b.tree_classes) (re
 
 -- the class is labelled, or need not be
 pub arc_labelled : (ws : ℕ → ℕ → Option ℕ) (s : Assignment) (t new : SearchTree) (k : ℕ) (arc : Arc) → CanLabelArc ws s t k arc → is_taken t.tree_classes arc.class ≡ false
-    → new.reached_rows ≡ t.reached_rows → new.tree_classes ≡ t.tree_classes → IsLabelledNow s.values.items t.labels new.labels arc.class (record { row = k; weight = arc.weight }) → IsArcLabelled ws s k t new arc
+    → new.reached_rows ≡ t.reached_rows → new.tree_classes ≡ t.tree_classes → IsLabelledNow s.values.items (number s.prices.items arc.class + number s.values.items (row_at t.reached_rows 0)) t.labels new.labels arc.class (record { row = k; weight = arc.weight }) → IsArcLabelled ws s k t new arc
 arc_labelled ws s t new k arc can left reached_rows tree_classes n = record {
   better = better_labelled ws s t new arc.class _ can.running reached_rows tree_classes n can.there can.weighs can.full left;
   free_end = n.free_end;
@@ -254,43 +230,6 @@ arc_labelled ws s t new k arc can left reached_rows tree_classes n = record {
 pub arc_taken : (ws : ℕ → ℕ → Option ℕ) (s : Assignment) (t : SearchTree) (k : ℕ) (arc : Arc) → CanLabelArc ws s t k arc → is_taken t.tree_classes arc.class ≡ true → IsArcLabelled ws s k t t arc
 arc_taken ws s t k arc can on = record { better = better_same ws s t can.running; free_end = refl; own = λ off. absurd (not_both _ on off) }
 
-pub arc_past : (ws : ℕ → ℕ → Option ℕ) (s : Assignment) (t : SearchTree) (k : ℕ) (arc : Arc) (limit : Option ℕ) → CanLabelArc ws s t k arc → IsLimit s.values.items k t.labels.free_end limit
-    → IsPast limit (arc.weight + number s.prices.items arc.class) → IsArcLabelled ws s k t t arc
-arc_past ws s t k arc limit can l past = record { better = better_same ws s t can.running; free_end = refl; own = λ off. covered_past s t.labels k arc.class arc.weight t.labels.free_end limit refl l past }
-
--- arc by arc
-pub labelled_start : (ws : ℕ → ℕ → Option ℕ) (s : Assignment) (t : SearchTree) (k : ℕ) (arcs : List Arc) → IsRunning ws s t → HasLabelled ws s k t t arcs 0
-labelled_start ws s t k arcs h = record { better = better_same ws s t h; free_end = refl; each = λ i lt. absurd (omega arith) }
-
-pub labelled_more : (ws : ℕ → ℕ → Option ℕ) (s : Assignment) (a b d : SearchTree) (k : ℕ) (arcs : List Arc) (i : ℕ) → HasLabelled ws s k a b arcs i → IsArcLabelled ws s k b d (arc_at arcs i) → HasLabelled ws s k a d arcs (i + 1)
-labelled_more ws s a b d k arcs i h n = record {
-  better = better_more ws s a b d h.better n.better;
-  free_end = n.free_end ∙ h.free_end;
-  each = λ j lt off. elim (cases_lt j i) [
-    | inl before ↦ n.better.covers k _ _ (h.each j before (subst (λ ts. is_taken ts (arc_at arcs j).class ≡ false) n.better.tree_classes off))
-    | inr after ↦ at_end j (omega arith) off
-  ];
-}
-  where
-    at_end : (j : ℕ) → j ≡ i → is_taken d.tree_classes (arc_at arcs j).class ≡ false → IsCovered s.values.items s.prices.items d.labels k (arc_at arcs j).class (arc_at arcs j).weight
-    at_end j e off = subst (λ x. IsCovered s.values.items s.prices.items d.labels k (arc_at arcs x).class (arc_at arcs x).weight) (sym e) (n.own (subst (λ x. is_taken d.tree_classes (arc_at arcs x).class ≡ false) e off))
-
--- the rest lies past the free end
-pub labelled_past : (ws : ℕ → ℕ → Option ℕ) (s : Assignment) (a b : SearchTree) (k : ℕ) (arcs : List Arc) (i upto : ℕ) (limit : Option ℕ) → HasLabelled ws s k a b arcs i → IsLimit s.values.items k b.labels.free_end limit
-    → ((j : ℕ) → i ≤ j → j < upto → IsPast limit (arc_at arcs j).weight) → HasLabelled ws s k a b arcs upto
-labelled_past ws s a b k arcs i upto limit h l past = record {
-  better = h.better;
-  free_end = h.free_end;
-  each = λ j lt off. elim (cases_lt j i) [
-    | inl before ↦ h.each j before off
-    | inr after ↦ covered_past s b.labels k _ _ b.labels.free_end limit refl l (past_more limit (arc_at arcs j).weight (number s.prices.items (arc_at arcs j).class) (past j after lt))
-  ];
-}
-  where
-    past_more : (o : Option ℕ) (w p : ℕ) → IsPast o w → IsPast o (w + p)
-    past_more None w p h = h
-    past_more (Some x) w p h = omega (arith, h)
-
 pub past_of : (limit : Option ℕ) (bound w : ℕ) → IsBoundOf limit bound → w < 2 ^ 64 - 1 → bound ≤ w → IsPast limit w
 past_of None bound w is small le = omega (arith, is, small, le)
 past_of (Some limit) bound w is small le = omega (arith, is, le)
@@ -299,25 +238,16 @@ pub past_rise : (o : Option ℕ) (v w : ℕ) → v ≤ w → IsPast o v → IsPa
 past_rise None v w le h = h
 past_rise (Some x) v w le h = omega (arith, h, le)
 
-pub can_improve : (ws : ℕ → ℕ → Option ℕ) (s : Assignment) (t : SearchTree) (k : ℕ) (arc : Arc) → CanLabelArc ws s t k arc → is_taken t.tree_classes arc.class ≡ false
-    → CanImprove s.values.items t.labels arc.class (record { row = k; weight = arc.weight })
-can_improve ws s t k arc can left = record {
+-- the class of an arc can be labelled from the row, by the values of the scan
+pub can_improve : (ws : ℕ → ℕ → Option ℕ) (s : Assignment) (t : SearchTree) (k : ℕ) (arc : Arc) (due : ℕ) → CanLabelArc ws s t k arc → is_taken t.tree_classes arc.class ≡ false
+    → due + number s.values.items k ≡ arc.weight + (number s.prices.items arc.class + number s.values.items (row_at t.reached_rows 0))
+    → CanImprove s.values.items (number s.prices.items arc.class + number s.values.items (row_at t.reached_rows 0)) t.labels arc.class (record { row = k; weight = arc.weight }) due
+can_improve ws s t k arc due can left is_due = record {
   class = omega (arith, can.running.fit.class k arc.class arc.weight can.weighs, can.running.search.labels_long);
-  row = reached_below k can.there;
-  fits = can.running.search.values_fit;
-  before = λ n is. reached_below n.row (can.running.search.labelled arc.class n is).there;
+  due_class = omega (arith, can.running.fit.class k arc.class arc.weight can.weighs, can.running.search.due_long);
+  is_due = is_due;
+  before = λ n is. can.running.search.due arc.class n is left;
   listed = λ n is. can.running.search.listed arc.class n is left;
-}
-  where
-    reached_below : (j : ℕ) → is_reached t.reached_rows j ≡ true → j < length s.values.items
-    reached_below j on = omega (arith, marked_below t.reached_rows.reached.items j on, can.running.search.reached_rows.reached_long)
-
-pub arc_can : (ws : ℕ → ℕ → Option ℕ) (s : Assignment) (a b : SearchTree) (k : ℕ) (arcs : List Arc) (upto i : ℕ) → CanLabelArcs ws s a k arcs upto → HasLabelled ws s k a b arcs i → i < upto → CanLabelArc ws s b k (arc_at arcs i)
-arc_can ws s a b k arcs upto i can h lt = record {
-  running = h.better.running;
-  there = subst (λ q. is_reached q k ≡ true) (sym h.better.reached_rows) can.there;
-  weighs = can.full.weighs i lt;
-  full = can.full.full i lt;
 }
 
 pub limit_same : (values : List ℕ) (k : ℕ) (a b : Option FreeEnd) (limit : Option ℕ) → b ≡ a → IsLimit values k a limit → IsLimit values k b limit

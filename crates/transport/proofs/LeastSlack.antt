@@ -1,15 +1,19 @@
 -- The least slack, class by class, and the classes that have it.
-use Rattle.std.proofs.Common.{◌≡◌, ℕ, zero, suc, ◌+◌, ◌<◌, ◌≤◌, false, List, [], ◌∷◌, ◌++◌, length, take, Option, Some, None, refl, sym, ap, ◌∙◌, subst, inl, inr, arith}
-use Rattle.std.proofs.lemmas.List.{length-take-le, get_or-take, length_push, get_or_push, get_or_append_left}
+use Rattle.std.proofs.Common.{◌≡◌, ℕ, zero, suc, ◌+◌, ◌-◌, ◌<◌, ◌≤◌, Bool, false, List, [], ◌∷◌, ◌++◌, length, get_or, take, Option, Some, None, refl, sym, ap, ◌∙◌, subst, inl, inr, arith}
+use Rattle.std.proofs.lemmas.List.{length-take-le, get_or-take, length_push, get_or_push, get_or_append_left, get_or_read}
 use Rattle.std.proofs.lemmas.Bool.{cases_lt}
 use Rattle.transport.specs.Numbers.{number, IsIn}
-use Rattle.transport.specs.Searches.{label_of, is_taken, IsSlack}
-use Rattle.transport.specs.States.{IsLeastOf, IsLeastUpTo, IsLesser, IsTakenOrUnseen}
+use Rattle.transport.specs.ReachedRows.{row_at}
+use Rattle.transport.specs.Searches.{label_of, is_taken, HasLabel, IsSlack}
+use Rattle.transport.specs.States.{IsRunning, IsLeastOf, IsLeastUpTo, IsLesser, IsTakenOrUnseen}
 use Rattle.transport.specs.declared.labels.Label.{Label}
 use Rattle.transport.specs.declared.labels.FreeEnd.{FreeEnd}
 use Rattle.transport.specs.declared.labels.Labels.{Labels}
 use Rattle.transport.specs.declared.tree.TreeClasses.{TreeClasses}
-use Rattle.transport.proofs.Numbers.{not_both, in_push, in_last}
+use Rattle.transport.specs.declared.assignment.Assignment.{Assignment}
+use Rattle.transport.specs.declared.tree.SearchTree.{SearchTree}
+use Rattle.transport.proofs.Numbers.{not_both, in_push, in_last, read_mark, read_number}
+use Rattle.transport.proofs.ReachedRowsLemmas.{marked_below}
 
 -- no slack of the class is less
 abbrev IsAtLeast : List ℕ → List ℕ → Labels → TreeClasses → ℕ → ℕ → Type 0
@@ -28,6 +32,37 @@ least_free_end values prices ns ts xs nearest e by empty is equal = record {
   all = λ i lt. absurd (omega arith);
   attained = inl (record { free_end = e; its = is; equal = equal });
 }
+
+-- how far the root's value is from the one by which a listed class is at slack 0, as both are read
+module _ (ws : ℕ → ℕ → Option ℕ) (s : Assignment) (t : SearchTree) (xs : List ℕ) (i : ℕ) (h : IsRunning ws s t) (are : xs ≡ t.labels.labelled.items) (lt : i < length xs)
+    (off : Bool) (off_is : off ≡ get_or t.tree_classes.taken.items (number xs i) off) where
+  seen : HasLabel t.labels (number xs i)
+  seen = subst (λ ys. HasLabel t.labels (number ys i)) (sym are) (h.search.seen i (omega (arith, lt, ap length are)))
+
+  class : number xs i < length s.prices.items
+  class = subst (λ ys. number ys i < length s.prices.items) (sym are) (h.search.labelled_in i (omega (arith, lt, ap length are)))
+
+  pub listed_taken : (b : Bool) → off ≡ b → is_taken t.tree_classes (number xs i) ≡ b
+  listed_taken b is = read_mark _ _ _ _ _ class h.search.taken_long off_is is
+
+  module _ (at root root_row : ℕ) (is_off : off ≡ false) (at_is : at ≡ get_or t.labels.due.items (number xs i) at)
+      (root_at : row_at t.reached_rows 0 ≡ root_row) (root_is : root ≡ get_or s.values.items root_row root) where
+    root_value : root ≡ number s.values.items (row_at t.reached_rows 0)
+    root_value =
+        let on = marked_below t.reached_rows.reached.items _ (h.search.reached_rows.on 0 h.search.rooted) in
+        get_or_read s.values.items root_row root (subst (λ k. k < length s.values.items) root_at (omega (arith, on, h.search.reached_rows.reached_long))) root_is 0 ∙ ap (number s.values.items) (sym root_at)
+
+    due : at + number s.values.items seen.label.row ≡ seen.label.weight + (number s.prices.items (number xs i) + number s.values.items (row_at t.reached_rows 0))
+    due = omega (arith, h.search.due _ seen.label seen.its (listed_taken false is_off), read_number _ _ _ _ class h.search.due_long at_is)
+
+    below : number s.values.items seen.label.row ≤ seen.label.weight + number s.prices.items (number xs i)
+    below = h.search.dual.below _ _ _ (h.search.labelled _ seen.label seen.its).weighs
+
+    pub root_below : root ≤ at
+    root_below = omega (arith, due, below, root_value)
+
+    pub listed_slack : IsSlack s.values.items s.prices.items t.labels t.tree_classes (number xs i) (at - root)
+    listed_slack = record { label = seen.label; its = seen.its; left = listed_taken false is_off; equal = omega (arith, due, below, root_value) }
 
 -- what holds of each class so far, and of the next
 at_next : (P : ℕ → Type 0) (xs : List ℕ) (i x : ℕ) → i < length xs → x ≡ number xs i → ((j : ℕ) → j < length (take i xs) → P (number (take i xs) j)) → P x

@@ -6,7 +6,7 @@ use Rattle.std.specs.FinSet as set
 use Rattle.std.proofs.lemmas.Bool.{cases_lt, cases_Bool, ltb-true, lt-ltb}
 use Rattle.std.proofs.lemmas.List.{get_or_default, get_or-map, length-map, get_or_past, get_or_push, get_or_append_left, length_push}
 use Rattle.std.proofs.lemmas.Option.{slice_get-get_or, get_or_from_slice_get, slice_get_within}
-use Rattle.std.proofs.lemmas.List.Elements.{All-push, All-nil, Contains-push, Contains-append_left}
+use Rattle.std.proofs.lemmas.List.Elements.{All-push, Contains-push, Contains-append_left}
 use Rattle.std.proofs.lemmas.List.FromFn.{get_or-map-range_with_len, length-map-range_with_len}
 use Rattle.std.proofs.lemmas.List.Sorted.{All-permutation, Contains-permutation}
 use Rattle.cpu_set.specs.Ids.{IsDisjoint}
@@ -27,9 +27,6 @@ use Rattle.transport.specs.declared.arcs.WeightedOffer.{WeightedOffer}
 use Rattle.transport.specs.declared.arcs.OfferOrder.TheVariants.{AsOffered, ByWeight}
 use Rattle.transport.specs.declared.arcs.SortedArcs.{SortedArcs}
 use Rattle.transport.proofs.Blocks.{no_blocks}
-
-pub weighted_none : (offers : List Offer) → AreAllWeighted offers [] 0
-weighted_none offers = record { its = All-nil (IsWeighted offers); all = λ o x lt is. absurd (omega arith) }
 
 -- one offer more
 pub weighted_more : (offers : List Offer) (weighted : List WeightedOffer) (k : ℕ) (x : Offer) → slice_get offers k ≡ Some x → AreAllWeighted offers weighted k → AreAllWeighted offers (weighted ++ record { weight = x.weight; offer = k } ∷ []) (k + 1)

@@ -115,6 +115,7 @@ module _ (ws : ℕ → ℕ → Option ℕ) (cells : ℕ → ℕ → ℕ) (values
       listing = s.listing;
       taken_long = s.taken_long ∙ sym longs;
       labels_long = s.labels_long ∙ sym longs;
+      due_long = s.due_long ∙ sym longs;
       residual_long = s.residual_long ∙ sym longs;
       dual = record {
         below = below_new;
@@ -127,6 +128,8 @@ module _ (ws : ℕ → ℕ → Option ℕ) (cells : ℕ → ℕ → ℕ) (values
       labelled = s.labelled;
       listed = s.listed;
       labelled_in = λ i lt. omega (arith, s.labelled_in i lt, longs);
+      seen = s.seen;
+      due = λ g n its off. omega (arith, s.due g n its off, rv n.row (s.labelled g n its).there, op g off, rv (row_at q 0) root_on);
       linked = linked_new;
       holders = s.holders;
       free_end = s.free_end;

@@ -9,7 +9,7 @@ use Rattle.transport.specs.Numbers.{number}
 use Rattle.transport.specs.ReachedRows.{is_reached, index, row_at}
 use Rattle.transport.specs.Searches.{is_taken, IsCovered}
 use Rattle.transport.specs.States.{IsRunning, HasScanned}
-use Rattle.transport.specs.Scans.{IsPast, IsLimit, CanLimit, IsBetter, HasLabelled, CanLabelArcs, IsSeen, IsFreeEndLabelled, arc_at}
+use Rattle.transport.specs.Scans.{IsPast, IsLimit, CanLimit, IsBetter, HasLabelled, IsSeen, IsFreeEndLabelled, arc_at}
 use Rattle.transport.specs.SortedArcs.{weight_of, IsArc, IsSortedArcs, IsScanned, IsFoundFreeEnd}
 use Rattle.twins.specs.Kinds.{offers_of, kind_at, IsKindOf}
 use Rattle.transport.specs.Weights.{weights, AreSortedArcs}
@@ -56,7 +56,7 @@ module _ (ws : ℕ → ℕ → Option ℕ) (s : Assignment) (t new : SearchTree)
     reached_rows = reached_rows;
     tree_classes = tree_classes;
   }
-  free_end_better (Some arc) f x = better_free_end ws s t new _ h reached_rows tree_classes x.of_class x.labelled x.free_end on f.weighs f.some_free nearer
+  free_end_better (Some arc) f x = better_free_end ws s t new _ h reached_rows tree_classes x.of_class x.due x.labelled x.free_end on f.weighs f.some_free nearer
     where
       nearer : (o : FreeEnd) → t.labels.free_end ≡ Some o → arc.weight + number s.values.items o.label.row ≤ o.label.weight + number s.values.items k
       nearer o is = below_limit s.values.items k arc.weight o limit (subst (λ e. IsLimit s.values.items k e limit) is at) f.below_limit
@@ -74,15 +74,6 @@ module _ (ws : ℕ → ℕ → Option ℕ) (s : Assignment) (t new : SearchTree)
 -- a better tree has the same rows
 pub reached_still : (ws : ℕ → ℕ → Option ℕ) (s : Assignment) (old new : SearchTree) (k : ℕ) → IsBetter ws s old new → is_reached old.reached_rows k ≡ true → is_reached new.reached_rows k ≡ true
 reached_still ws s old new k b on = subst (λ q. is_reached q k ≡ true) (sym b.reached_rows) on
-
--- the arcs before the cursor
-pub arcs_can : (ws : ℕ → ℕ → Option ℕ) (s : Assignment) (t : SearchTree) (k : ℕ) (offers : List Offer) (firsts : List ℕ) (l : SortedArcs) → IsRunning ws s t → is_reached t.reached_rows k ≡ true → IsSortedArcs (ws k) offers firsts s.residual.items l
-    → CanLabelArcs ws s t k l.arcs.items l.cursor
-arcs_can ws s t k offers firsts l h on sorted_arcs = record {
-  running = h;
-  there = on;
-  full = record { weighs = λ i lt. sorted_arcs.arcs.sound i (omega (arith, lt, sorted_arcs.cursor_in)); full = sorted_arcs.full };
-}
 
 pub seen : (ws : ℕ → ℕ → Option ℕ) (s : Assignment) (t mid new : SearchTree) (k : ℕ) (l : SortedArcs) (limit : Option ℕ) → IsBetter ws s t mid → IsScanned (ws k) l limit → IsLimit s.values.items k mid.labels.free_end limit
     → HasLabelled ws s k mid new l.arcs.items l.cursor → IsSeen ws s k t new

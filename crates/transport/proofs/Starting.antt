@@ -60,11 +60,12 @@ reached_none rows q h = record {
 
 -- a tree before the first search
 pub tidy_none : (rows classes : ℕ) (t : SearchTree) → IsUnreached rows t.reached_rows → t.labels.of_class.items ≡ replicate classes None → t.labels.labelled.items ≡ []
-    → t.tree_classes.taken.items ≡ replicate classes false → t.tree_classes.order.items ≡ [] → IsTidy rows classes t
-tidy_none rows classes t reached_rows of_class labelled taken order = record {
+    → length t.labels.due.items ≡ classes → t.tree_classes.taken.items ≡ replicate classes false → t.tree_classes.order.items ≡ [] → IsTidy rows classes t
+tidy_none rows classes t reached_rows of_class labelled due_long taken order = record {
   reached_rows = reached_none rows t.reached_rows reached_rows;
   labels_long = ap length of_class ∙ length-replicate {A = Option Label} classes None;
   labelled = record {
+    due_long = due_long ∙ sym (ap length of_class ∙ length-replicate {A = Option Label} classes None);
     all = λ g n is. (let no_label : Some n ≡ None = sym is ∙ ap (λ ns. get_or ns g None) of_class ∙ replicate_default classes g None in cc);
     labelled_in = λ i lt. absurd (omega (arith, lt, ap length labelled));
     taken_in = λ i lt. absurd (omega (arith, lt, ap length order));
@@ -112,6 +113,7 @@ tidy_running ws s t h = record {
   reached_rows = h.search.reached_rows;
   labels_long = h.search.labels_long;
   labelled = record {
+    due_long = h.search.due_long ∙ sym h.search.labels_long;
     all = λ g n is. elim (cases_Bool (is_taken t.tree_classes g)) [
       | inl on ↦ inr (h.search.listing.all g on)
       | inr off ↦ inl (h.search.listed g n is off)
@@ -146,6 +148,7 @@ module _ (ws : ℕ → ℕ → Option ℕ) (s : Assignment) (t : SearchTree) (ro
     };
     taken_long = f.tree_classes.taken_long;
     labels_long = f.labels.labels_long;
+    due_long = f.labels.due_long;
     residual_long = h.residual_long;
     dual = h.dual;
     rooted = omega (arith, f.at_root.one);
@@ -154,6 +157,8 @@ module _ (ws : ℕ → ℕ → Option ℕ) (s : Assignment) (t : SearchTree) (ro
     labelled = λ g n is. (let no_label : Some n ≡ None = sym is ∙ f.labels.of_class g in cc);
     listed = λ g n is. (let no_label : Some n ≡ None = sym is ∙ f.labels.of_class g in cc);
     labelled_in = λ i lt. absurd (omega (arith, lt, ap length f.labels.labelled));
+    seen = λ i lt. absurd (omega (arith, lt, ap length f.labels.labelled));
+    due = λ g n is. (let no_label : Some n ≡ None = sym is ∙ f.labels.of_class g in cc);
     linked = λ g on. absurd (no_taken g on);
     holders = λ k g on. absurd (no_taken g on);
     free_end = λ e is. (let no_free_end : Some e ≡ None = sym is ∙ f.labels.free_end in cc);

@@ -137,6 +137,7 @@ module _ (ws : ℕ → ℕ → Option ℕ) (cells : ℕ → ℕ → ℕ) (values
     listing = rw (taken.taken, taken.order) (listing_push ts.order.items ts.taken.items g s.listing (omega (arith, s.taken_long, in_range)) left);
     taken_long = ap length taken.taken ∙ length-set _ _ _ ∙ s.taken_long;
     labels_long = s.labels_long;
+    due_long = s.due_long;
     residual_long = s.residual_long;
     dual = s.dual;
     rooted = omega (arith, s.rooted, grown.longer);
@@ -148,6 +149,8 @@ module _ (ws : ℕ → ℕ → Option ℕ) (cells : ℕ → ℕ → ℕ) (values
     labelled = λ h m is. (let o = s.labelled h m is in record { there = (grown.kept m.row o.there).reached; weighs = o.weighs; full = o.full });
     listed = λ h m is off. s.listed h m is (was_left h off);
     labelled_in = s.labelled_in;
+    seen = s.seen;
+    due = λ h m is off. rw root_same (s.due h m is (was_left h off));
     linked = λ h on. elim (taken_cases h on) [
       | inl e ↦ subst (IsLinked values prices ns) (sym e) (record { label = n; its = its; equal = equal })
       | inr was ↦ s.linked h was

@@ -5,7 +5,6 @@ use Rattle.cpu_set.specs.Ids.{Ids}
 use Rattle.transport.specs.Numbers.{number, IsIn}
 use Rattle.transport.specs.Scans.{arc_at, IsBetter}
 use Rattle.transport.specs.Searches.{is_taken, IsCovered}
-use Rattle.transport.specs.Walks.{IsAhead}
 use Rattle.transport.specs.declared.assignment.Assignment.{Assignment}
 use Rattle.transport.specs.declared.tree.SearchTree.{SearchTree}
 use Rattle.transport.specs.declared.arcs.Arc.{Arc}
@@ -49,12 +48,12 @@ abbrev pub CanLabelBlock : (ℕ → Option ℕ) → List ℕ → List ℕ → Bl
 CanLabelBlock ws residual firsts block = (cpu : ℕ) → set.contains block.firsts cpu ≡ true
     → IsIn firsts cpu × ((g : ℕ) → g < length firsts → number firsts g ≡ cpu → (ws g ≡ Some block.weight) × (number residual g ≡ 0))
 
--- the classes of a block are labelled from a row, those from some CPU on not yet; those that are taken up need not be
-pub record HasLabelledBlock (ws : ℕ → ℕ → Option ℕ) (s : Assignment) (k : ℕ) (old new : SearchTree) (firsts : List ℕ) (block : Block) (next : Option ℕ) : Type 0 where
+-- the classes of a block are labelled from a row, except for those that are left; those that are taken up need not be
+pub record HasLabelledBlock (ws : ℕ → ℕ → Option ℕ) (s : Assignment) (k : ℕ) (old new : SearchTree) (firsts : List ℕ) (block : Block) (left : Ids) : Type 0 where
   pub better : IsBetter ws s old new
   pub free_end : new.labels.free_end ≡ old.labels.free_end
   pub each : (cpu g : ℕ) → set.contains block.firsts cpu ≡ true → g < length firsts → number firsts g ≡ cpu → is_taken new.tree_classes g ≡ false
-      → IsAhead next cpu ⊎ IsCovered s.values.items s.prices.items new.labels k g block.weight
+      → (set.contains left cpu ≡ true) ⊎ IsCovered s.values.items s.prices.items new.labels k g block.weight
 
 -- the classes of the first blocks are labelled from a row, or taken up
 pub record HasLabelledBlocks (ws : ℕ → ℕ → Option ℕ) (s : Assignment) (k : ℕ) (old new : SearchTree) (firsts : List ℕ) (blocks : List Block) (upto : ℕ) : Type 0 where

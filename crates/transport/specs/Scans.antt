@@ -1,7 +1,7 @@
 -- What a scan of a row labels.
 use Rattle.std.specs.Prelude.{◌≡◌, ℕ, ◌+◌, ◌-◌, ◌<◌, ◌≤◌, ◌^◌, true, false, Option, Some, None, List, ◌⊎◌, length, slice_index_or}
 use Rattle.transport.specs.Numbers.{number, IsIn}
-use Rattle.transport.specs.ReachedRows.{is_reached}
+use Rattle.transport.specs.ReachedRows.{is_reached, row_at}
 use Rattle.transport.specs.Searches.{label_of, is_taken, IsCovered, top, weight_limit}
 use Rattle.transport.specs.States.{IsRunning}
 use Rattle.transport.specs.declared.labels.Label.{Label}
@@ -10,6 +10,8 @@ use Rattle.transport.specs.declared.labels.Labels.{Labels}
 use Rattle.transport.specs.declared.assignment.Assignment.{Assignment}
 use Rattle.transport.specs.declared.tree.SearchTree.{SearchTree}
 use Rattle.transport.specs.declared.arcs.Arc.{Arc}
+use Rattle.transport.specs.declared.search.Scan.{Scan}
+use Rattle.transport.specs.declared.tree.ReachedRows.{ReachedRows}
 
 -- a weight is at the limit or above it
 abbrev pub IsPast : Option ℕ → ℕ → Type 0
@@ -28,6 +30,11 @@ abbrev pub IsBoundOf : Option ℕ → ℕ → Type 0
 IsBoundOf None bound = bound ≡ 2 ^ 64 - 1
 IsBoundOf (Some limit) bound = bound ≡ limit
 
+-- the values by which a row is scanned
+pub record IsScan (s : Assignment) (q : ReachedRows) (scan : Scan) : Type 0 where
+  pub row : scan.row_value ≡ number s.values.items scan.row
+  pub root : scan.root_value ≡ number s.values.items (row_at q 0)
+
 -- rows in range, and a free end no nearer than its row's value allows
 pub record CanLimit (values : List ℕ) (k : ℕ) (free_end : Option FreeEnd) : Type 0 where
   pub row : k < length values
@@ -36,18 +43,21 @@ pub record CanLimit (values : List ℕ) (k : ℕ) (free_end : Option FreeEnd) : 
   pub above : (e : FreeEnd) → free_end ≡ Some e → number values e.label.row ≤ e.label.weight
   pub light : (e : FreeEnd) → free_end ≡ Some e → e.label.weight < weight_limit
 
--- what the label of a class rests on
-pub record CanImprove (values : List ℕ) (ns : Labels) (g : ℕ) (label : Label) : Type 0 where
+-- what the label of a class rests on, which is at slack 0 where the root's value is as much as this; above the weight and the row's value
+-- lie the class's price and the root's value
+pub record CanImprove (values : List ℕ) (above : ℕ) (ns : Labels) (g : ℕ) (label : Label) (due : ℕ) : Type 0 where
   pub class : g < length ns.of_class.items
-  pub row : label.row < length values
-  pub fits : (k : ℕ) → number values k ≤ top
-  pub before : (n : Label) → label_of ns g ≡ Some n → n.row < length values
+  pub due_class : g < length ns.due.items
+  pub is_due : due + number values label.row ≡ label.weight + above
+  pub before : (n : Label) → label_of ns g ≡ Some n → number ns.due.items g + number values n.row ≡ n.weight + above
   pub listed : (n : Label) → label_of ns g ≡ Some n → IsIn ns.labelled.items g
 
 -- a class is labelled with this row, unless it was labelled with one that is no further
-pub record IsLabelledNow (values : List ℕ) (old new : Labels) (g : ℕ) (label : Label) : Type 0 where
+pub record IsLabelledNow (values : List ℕ) (above : ℕ) (old new : Labels) (g : ℕ) (label : Label) : Type 0 where
   pub free_end : new.free_end ≡ old.free_end
   pub long : length new.of_class.items ≡ length old.of_class.items
+  pub due_long : length new.due.items ≡ length old.due.items
+  pub due_others : (h : ℕ) → (h ≡ g → ⊥) → number new.due.items h ≡ number old.due.items h
   pub others : (h : ℕ) → (h ≡ g → ⊥) → label_of new h ≡ label_of old h
   pub now : Label
   pub its : label_of new g ≡ Some now
@@ -56,21 +66,11 @@ pub record IsLabelledNow (values : List ℕ) (old new : Labels) (g : ℕ) (label
   pub better : (n : Label) → label_of old g ≡ Some n → now.weight + number values n.row ≤ n.weight + number values now.row
   pub kept : (h : ℕ) → IsIn old.labelled.items h → IsIn new.labelled.items h
   pub listed : IsIn new.labelled.items g
-  pub labelled_in : (n i : ℕ) → ((j : ℕ) → j < length old.labelled.items → number old.labelled.items j < n) → g < n → i < length new.labelled.items → number new.labelled.items i < n
+  pub members : (i : ℕ) → i < length new.labelled.items → IsIn old.labelled.items (number new.labelled.items i) ⊎ (number new.labelled.items i ≡ g)
+  pub is_due : number new.due.items g + number values now.row ≡ now.weight + above
 
 abbrev pub arc_at : List Arc → ℕ → Arc
 arc_at arcs i = slice_index_or arcs i (record { weight = 0; class = 0 })
-
--- the first arcs are of full classes, at their weights in the row
-pub record AreFull (ws : ℕ → ℕ → Option ℕ) (residual : List ℕ) (k : ℕ) (arcs : List Arc) (upto : ℕ) : Type 0 where
-  pub weighs : (i : ℕ) → i < upto → ws k (arc_at arcs i).class ≡ Some (arc_at arcs i).weight
-  pub full : (i : ℕ) → i < upto → number residual (arc_at arcs i).class ≡ 0
-
--- the first arcs of a reached row are of full classes, and rise
-pub record CanLabelArcs (ws : ℕ → ℕ → Option ℕ) (s : Assignment) (t : SearchTree) (k : ℕ) (arcs : List Arc) (upto : ℕ) : Type 0 where
-  pub running : IsRunning ws s t
-  pub there : is_reached t.reached_rows k ≡ true
-  pub full : AreFull ws s.residual.items k arcs upto
 
 abbrev pub AreRising : List Arc → Type 0
 AreRising arcs = (i j : ℕ) → i ≤ j → j < length arcs → (arc_at arcs i).weight ≤ (arc_at arcs j).weight
@@ -109,6 +109,7 @@ pub record IsSeen (ws : ℕ → ℕ → Option ℕ) (s : Assignment) (k : ℕ) (
 
 pub record IsNewFreeEnd (old new : Labels) (k : ℕ) (arc : Arc) : Type 0 where
   pub of_class : new.of_class ≡ old.of_class
+  pub due : new.due ≡ old.due
   pub labelled : new.labelled ≡ old.labelled
   pub free_end : new.free_end ≡ Some (record { class = arc.class; label = record { row = k; weight = arc.weight } })
 

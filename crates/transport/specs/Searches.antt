@@ -22,6 +22,11 @@ pub record IsLabelled (ws : ℕ → ℕ → Option ℕ) (residual : List ℕ) (q
   pub weighs : ws n.row g ≡ Some n.weight
   pub full : number residual g ≡ 0
 
+-- a class has a label
+pub record HasLabel (ns : Labels) (g : ℕ) : Type 0 where
+  pub label : Label
+  pub its : label_of ns g ≡ Some label
+
 -- a class with a free CPU, and a reached row that has a weight for it
 pub record IsFreeEnd (ws : ℕ → ℕ → Option ℕ) (residual : List ℕ) (q : ReachedRows) (e : FreeEnd) : Type 0 where
   pub there : is_reached q e.label.row ≡ true
@@ -65,6 +70,7 @@ pub record IsSearch (ws : ℕ → ℕ → Option ℕ) (cells : ℕ → ℕ → �
   pub listing : IsListing ts.order.items ts.taken.items
   pub taken_long : length ts.taken.items ≡ length prices
   pub labels_long : length ns.of_class.items ≡ length prices
+  pub due_long : length ns.due.items ≡ length prices
   pub residual_long : length residual ≡ length prices
   pub dual : IsDual ws values prices cells residual
   pub rooted : 0 < length q.order.items
@@ -73,6 +79,8 @@ pub record IsSearch (ws : ℕ → ℕ → Option ℕ) (cells : ℕ → ℕ → �
   pub labelled : (g : ℕ) (n : Label) → label_of ns g ≡ Some n → IsLabelled ws residual q g n
   pub listed : (g : ℕ) (n : Label) → label_of ns g ≡ Some n → is_taken ts g ≡ false → IsIn ns.labelled.items g
   pub labelled_in : (i : ℕ) → i < length ns.labelled.items → number ns.labelled.items i < length prices
+  pub seen : (i : ℕ) → i < length ns.labelled.items → HasLabel ns (number ns.labelled.items i)
+  pub due : (g : ℕ) (n : Label) → label_of ns g ≡ Some n → is_taken ts g ≡ false → number ns.due.items g + number values n.row ≡ n.weight + (number prices g + number values (row_at q 0))
   pub linked : (g : ℕ) → is_taken ts g ≡ true → IsLinked values prices ns g
   pub holders : (k g : ℕ) → is_taken ts g ≡ true → 0 < cells k g → is_reached q k ≡ true
   pub free_end : (e : FreeEnd) → ns.free_end ≡ Some e → IsFreeEnd ws residual q e

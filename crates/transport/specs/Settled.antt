@@ -22,6 +22,7 @@ pub record IsSettled (ws : ℕ → ℕ → Option ℕ) (s : Assignment) : Type 0
 -- no class is labelled, and there is no free end
 pub record AreNoneLabelled (classes : ℕ) (ns : Labels) : Type 0 where
   pub labels_long : length ns.of_class.items ≡ classes
+  pub due_long : length ns.due.items ≡ classes
   pub of_class : (g : ℕ) → label_of ns g ≡ None
   pub labelled : ns.labelled.items ≡ []
   pub free_end : ns.free_end ≡ None
@@ -41,6 +42,7 @@ pub record IsFresh (rows classes root amount : ℕ) (t : SearchTree) : Type 0 wh
 -- each labelled class stands in the list, or among those taken up
 pub record AreListed (ns : Labels) (taken : List ℕ) : Type 0 where
   pub all : (g : ℕ) (n : Label) → label_of ns g ≡ Some n → IsIn ns.labelled.items g ⊎ IsIn taken g
+  pub due_long : length ns.due.items ≡ length ns.of_class.items
   pub labelled_in : (i : ℕ) → i < length ns.labelled.items → number ns.labelled.items i < length ns.of_class.items
   pub taken_in : (i : ℕ) → i < length taken → number taken i < length ns.of_class.items
 

@@ -39,9 +39,12 @@ pub record IsRunning (ws : ℕ → ℕ → Option ℕ) (s : Assignment) (t : Sea
   pub search : IsSearch ws (cell s.holdings.items) s.values.items s.prices.items s.residual.items t.reached_rows t.labels t.tree_classes
   pub holdings : AreHoldings (length s.values.items) (length s.prices.items) s.holdings.items
 
--- labels and classes taken up are those of a search that runs
-abbrev pub AreRunning : Assignment → Labels → TreeClasses → Type 0
-AreRunning s ns ts = (ws : ℕ → ℕ → Option ℕ) × (t : SearchTree) × IsRunning ws s (record { reached_rows = t.reached_rows; labels = ns; tree_classes = ts; nearest = t.nearest })
+-- labels and classes taken up are those of a search that runs from that row
+pub record AreRunning (s : Assignment) (ns : Labels) (ts : TreeClasses) (root : ℕ) : Type 0 where
+  pub ws : ℕ → ℕ → Option ℕ
+  pub tree : SearchTree
+  pub running : IsRunning ws s (record { reached_rows = tree.reached_rows; labels = ns; tree_classes = ts; nearest = tree.nearest })
+  pub root_at : row_at tree.reached_rows 0 ≡ root
 
 -- the classes of the rows up to some place that are not taken up are covered
 abbrev pub HasScanned : (ℕ → ℕ → Option ℕ) → Assignment → SearchTree → ℕ → Type 0
@@ -77,7 +80,14 @@ pub record HasTaken (s : Assignment) (old new : SearchTree) (done : List ℕ) : 
 pub record IsStruck (taken : List Bool) (old new : Labels) : Type 0 where
   pub labelled : new.labelled.items ≡ filter (λ g. not (is_marked taken g)) old.labelled.items
   pub of_class : new.of_class ≡ old.of_class
+  pub due : new.due ≡ old.due
   pub free_end : new.free_end ≡ old.free_end
+
+-- the classes taken up are struck out of the list of labelled ones, or nothing changes
+pub record AreStruckOrSame (old new : SearchTree) : Type 0 where
+  pub labels : (new.labels ≡ old.labels) ⊎ IsStruck old.tree_classes.taken.items old.labels new.labels
+  pub reached_rows : new.reached_rows ≡ old.reached_rows
+  pub tree_classes : new.tree_classes ≡ old.tree_classes
 
 -- neither a free end nor a class of these is left
 pub record IsNoneLeft (ns : Labels) (ts : TreeClasses) (done : List ℕ) : Type 0 where

@@ -1,8 +1,8 @@
 //! Slack, and the dual variables raised by the least of it.
-ghost use Rattle.std.specs.Prelude.{◌≡◌, ◌+◌, ◌<◌, ◌≤◌, MatchOption, IfOk, length, ℕ, ◌^◌};
+ghost use Rattle.std.specs.Prelude.{◌≡◌, ◌+◌, ◌<◌, ◌≤◌, IfOk, length, ℕ, ◌^◌};
 ghost use Rattle.transport.specs.Numbers.{number, IsRaised};
-ghost use Rattle.transport.specs.Searches.{top, IsSlack};
-ghost use Rattle.transport.specs.States.{AreRunning, IsLeastUpTo, IsLesser, IsTakenOrUnseen};
+ghost use Rattle.transport.specs.Searches.{top};
+ghost use Rattle.transport.specs.States.{AreRunning, IsLeastUpTo, IsLesser};
 
 use crate::Assignment;
 use crate::labels::{Label, Labels};
@@ -25,43 +25,25 @@ pub(crate) fn least_slack(
     assignment: &Assignment,
     labels: &Labels,
     tree_classes: &TreeClasses,
+    root: usize,
     nearest: &mut Vec<usize>,
 ) -> Result<Option<u64>, AllocError>
-    requires { AreRunning assignment.now labels.now tree_classes.now }
+    requires { AreRunning assignment.now labels.now tree_classes.now root }
     ensures { IfOk result (IsLeastUpTo assignment.now.values.items assignment.now.prices.items labels.now tree_classes.now labels.now.labelled.items nearest.new.items) }
 {
     nearest.clear();
+    let root_value = assignment.values[root];
     let mut least = match labels.free_end {
         Some(free_end) => Some(slack(assignment, free_end.class, free_end.label)),
         None => None,
     };
     for class in &labels.labelled {
-        if let Some(slack) = open_slack(assignment, labels, tree_classes, *class) {
+        if !tree_classes.taken[*class] {
+            let slack = labels.due[*class] - root_value;
             least = Some(lesser(least, *class, slack, nearest)?);
         }
     }
     Ok(least)
-}
-
-/// The slack of a class that is labelled and not taken up.
-fn open_slack(
-    assignment: &Assignment,
-    labels: &Labels,
-    tree_classes: &TreeClasses,
-    class: usize,
-) -> Option<u64>
-    requires class { class < length assignment.now.prices.items }
-    requires running { AreRunning assignment.now labels.now tree_classes.now }
-    ensures { MatchOption result (IsTakenOrUnseen labels.now tree_classes.now class)
-        (IsSlack assignment.now.values.items assignment.now.prices.items labels.now tree_classes.now class) }
-{
-    if tree_classes.taken[class] {
-        return None;
-    }
-    match labels.of_class[class] {
-        Some(label) => Some(slack(assignment, class, label)),
-        None => None,
-    }
 }
 
 /// The lesser of the least slack so far and that of a class, which is listed where its slack is no more.

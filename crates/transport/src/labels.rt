@@ -1,5 +1,5 @@
 //! The labels of one search: for each class the row by which it is nearest, and the nearest class with a free CPU.
-ghost use Rattle.std.specs.Prelude.{ℕ, ◌<◌, length, OnOk};
+ghost use Rattle.std.specs.Prelude.{ℕ, ◌<◌, List, length, OnOk};
 ghost use Rattle.transport.specs.Numbers.{number};
 ghost use Rattle.transport.specs.States.{IsStruck};
 ghost use Rattle.transport.specs.Scans.{CanImprove, IsLabelledNow};
@@ -25,7 +25,9 @@ pub(crate) struct FreeEnd {
 #[derive(Debug, Drop)]
 pub(crate) struct Labels {
     pub(crate) of_class: Vec<Option<Label>>,
-    /// The classes that have a label and are not taken up.
+    /// For each labelled class the root's value by which it is at slack 0. It stays as values and prices rise.
+    pub(crate) due: Vec<u64>,
+    /// The classes that have a label, except for some of those that are taken up.
     pub(crate) labelled: Vec<usize>,
     pub(crate) free_end: Option<FreeEnd>,
 }
@@ -50,27 +52,21 @@ impl Labels {
             .retain(|class| !matches!(taken.get(*class), Some(true)));
     }
 
-    /// Labels a class, unless it has a label by which it is as near.
-    pub(crate) fn improve(
-        &mut self,
-        class: usize,
-        label: Label,
-        values: &[u64],
-    ) -> Result<(), AllocError>
-        requires { CanImprove values.now self.old class label }
-        ensures { OnOk result (IsLabelledNow values.now self.old self.new class label) }
+    /// Labels a class that is at slack 0 by some value of the root, unless it has a label by which it is as near.
+    pub(crate) fn improve(&mut self, class: usize, label: Label, due: u64) -> Result<(), AllocError>
+        requires { (values : List ℕ) × (above : ℕ) × CanImprove values above self.old class label due }
+        ensures { OnOk result ((values : List ℕ) (above : ℕ) → CanImprove values above self.old class label due → IsLabelledNow values above self.old self.new class label) }
     {
         match self.of_class[class] {
-            None => {
-                self.labelled.push(class)?;
-                self.of_class[class] = Some(label);
-            }
-            Some(old) => {
-                if label.weight as u64 + values[old.row] < old.weight as u64 + values[label.row] {
-                    self.of_class[class] = Some(label);
+            None => self.labelled.push(class)?,
+            Some(_) => {
+                if self.due[class] <= due {
+                    return Ok(());
                 }
             }
         }
+        self.of_class[class] = Some(label);
+        self.due[class] = due;
         Ok(())
     }
 }

@@ -1,23 +1,33 @@
 //! The search for an augmenting path: rows are scanned, duals are updated, until a class with a free CPU is at slack 0.
 ghost use Rattle.std.specs.Prelude.{◌≡◌, ℕ, ◌+◌, ◌<◌, ◌≤◌, ◌^◌, ◌⊎◌, Option, None, [], ◌∷◌, length, OnOk, IfOk, true, IfSome, MatchOption};
 ghost use Rattle.transport.specs.Numbers.{number, IsRaised, IsEachOnce};
-ghost use Rattle.transport.specs.States.{IsRunning, HasTaken, IsSameRoot, HasScanned};
+ghost use Rattle.transport.specs.States.{IsRunning, HasTaken, IsSameRoot, HasScanned, AreStruckOrSame};
 ghost use Rattle.transport.specs.Weights.{weights, AreSortedArcs};
 ghost use Rattle.transport.specs.Answers.{IsAnswer, IsSameRest, IsNoFreeEndAt0, IsFreeEndAt0};
-ghost use Rattle.transport.specs.ReachedRows.{is_reached};
+ghost use Rattle.transport.specs.ReachedRows.{is_reached, row_at};
 ghost use Rattle.transport.specs.SortedArcs.{IsSortedArcs, IsFoundFreeEnd, IsScanned};
 ghost use Rattle.transport.specs.Blocks.{AreTakenFirsts, CanLabelBlock, HasLabelledBlock, IsFirstIn};
 ghost use Rattle.std.specs.FinSet as set;
 ghost use Rattle.twins.specs.Kinds.{offers_of};
-ghost use Rattle.transport.specs.Scans.{IsLimit, IsBoundOf, CanLabelArc, IsArcLabelled, HasLabelled, IsBetter, IsSeen, CanLimit, IsFreeEndLabelled};
+ghost use Rattle.transport.specs.Scans.{IsScan, IsLimit, IsBoundOf, CanLabelArc, IsArcLabelled, HasLabelled, IsBetter, IsSeen, CanLimit, IsFreeEndLabelled};
 
 use crate::arcs::{Arc, Block, SortedArcs};
 use crate::duals::{least_slack, raise, slack};
 use crate::labels::{FreeEnd, Label, Labels};
-use crate::tree::{SearchTree, take_class};
+use crate::tree::{ReachedRows, SearchTree, take_class};
 use crate::{Assignment, Instance, Representatives};
 use cpu_set::IdSet;
 use std::alloc::AllocError;
+
+/// What a scan of a row goes by.
+#[derive(Clone, Copy, Debug)]
+pub(crate) struct Scan {
+    pub(crate) row: usize,
+    pub(crate) row_value: u64,
+    pub(crate) root_value: u64,
+    /// A class whose weight with its price is this or more lies no nearer than the free end.
+    pub(crate) bound: u64,
+}
 
 /// Goes on until a class with a free CPU is at slack 0, or no class is left.
 pub(crate) fn find_augmenting_path(
@@ -37,6 +47,7 @@ pub(crate) fn find_augmenting_path(
 {
     let mut scanned = 0;
     let mut noted = 0;
+    let mut struck = 0;
     let mut taken_firsts = IdSet::empty();
     'steps: loop {
         if let Some(free_end) = find_free_class(
@@ -68,6 +79,7 @@ pub(crate) fn find_augmenting_path(
             assignment,
             &tree.labels,
             &tree.tree_classes,
+            tree.reached_rows.order[0],
             &mut tree.nearest,
         )?;
         let Some(least) = least else {
@@ -78,8 +90,21 @@ pub(crate) fn find_augmenting_path(
             return Ok(Some(free_end));
         }
         take_nearest(assignment, tree)?;
-        tree.labels.strike_taken(&tree.tree_classes.taken);
+        struck = strike_when_many(tree, struck);
     }
+}
+
+/// Strikes the classes that are taken up out of the list of labelled ones, where those taken up since the last time are an
+/// eighth of it or more; says how many were taken up when this was done last.
+fn strike_when_many(tree: &mut SearchTree, struck: usize) -> usize
+    ensures { AreStruckOrSame tree.old tree.new }
+{
+    let taken = tree.tree_classes.order.len();
+    if taken.saturating_sub(struck) < tree.labels.labelled.len() / 8 {
+        return struck;
+    }
+    tree.labels.strike_taken(&tree.tree_classes.taken);
+    taken
 }
 
 /// Adds the first CPUs of the classes that are listed from a place on.
@@ -227,14 +252,36 @@ pub(crate) fn label_arcs(
     requires taken { AreTakenFirsts instance.now.firsts taken_firsts.now tree.old.tree_classes }
     ensures { OnOk result (HasLabelled (weights instance.now) assignment.now row tree.old tree.new sorted_arcs.now.arcs.items sorted_arcs.now.cursor) }
 {
-    let bound = bound_of(limit);
+    let scan = scan_of(assignment, &tree.reached_rows, row, limit);
     for at in 0..sorted_arcs.blocks.len() {
         let block = &sorted_arcs.blocks[at];
-        if (block.weight as u64) < bound {
-            label_block(instance, assignment, block, taken_firsts, tree, row, bound)?;
+        if (block.weight as u64) < scan.bound {
+            label_block(instance, assignment, block, taken_firsts, tree, scan)?;
         }
     }
     Ok(())
+}
+
+/// What the scan of a row goes by, up to a limit of weight with price.
+fn scan_of(
+    assignment: &Assignment,
+    reached_rows: &ReachedRows,
+    row: usize,
+    limit: Option<u64>,
+) -> Scan
+    requires row { row < length assignment.now.values.items }
+    requires rooted { 0 < length reached_rows.now.order.items }
+    requires root { row_at reached_rows.now 0 < length assignment.now.values.items }
+    ensures row { result.row ≡ row }
+    ensures values { IsScan assignment.now reached_rows.now result }
+    ensures bound { IsBoundOf limit result.bound }
+{
+    Scan {
+        row,
+        row_value: assignment.values[row],
+        root_value: assignment.values[reached_rows.order[0]],
+        bound: limit.unwrap_or(u64::MAX),
+    }
 }
 
 /// Labels the classes of a block, but for those taken up, unless they lie past the free end.
@@ -244,37 +291,25 @@ fn label_block(
     block: &Block,
     taken_firsts: &IdSet,
     tree: &mut SearchTree,
-    row: usize,
-    bound: u64,
+    scan: Scan,
 ) -> Result<(), AllocError>
-    requires bound { (limit : Option ℕ) × IsLimit assignment.now.values.items row tree.old.labels.free_end limit × IsBoundOf limit bound }
+    requires scan { IsScan assignment.now tree.old.reached_rows scan }
+    requires bound { (limit : Option ℕ) × IsLimit assignment.now.values.items scan.row tree.old.labels.free_end limit × IsBoundOf limit scan.bound }
     requires running { IsRunning (weights instance.now) assignment.now tree.old }
-    requires there { is_reached tree.old.reached_rows row ≡ true }
-    requires block { CanLabelBlock (weights instance.now row) assignment.now.residual.items instance.now.firsts block.now }
+    requires there { is_reached tree.old.reached_rows scan.row ≡ true }
+    requires block { CanLabelBlock (weights instance.now scan.row) assignment.now.residual.items instance.now.firsts block.now }
     requires taken { AreTakenFirsts instance.now.firsts taken_firsts.now tree.old.tree_classes }
-    ensures { OnOk result (HasLabelledBlock (weights instance.now) assignment.now row tree.old tree.new instance.now.firsts block.now None) }
+    ensures { OnOk result (HasLabelledBlock (weights instance.now) assignment.now scan.row tree.old tree.new instance.now.firsts block.now set.empty) }
 {
-    let open = block.firsts.minus(taken_firsts);
-    let mut next = open.first();
-    while let Some(cpu) = next {
+    let mut left = block.firsts.minus(taken_firsts);
+    while let Some(cpu) = left.take_first() {
         let arc = Arc {
             weight: block.weight,
             class: instance.firsts.class_of(cpu),
         };
-        label_arc(assignment, tree, arc, row, bound)?;
-        next = open.next_after(cpu);
+        label_arc(assignment, tree, arc, scan)?;
     }
     Ok(())
-}
-
-/// The limit as a number.
-fn bound_of(limit: Option<u64>) -> u64
-    ensures { IsBoundOf limit result }
-{
-    match limit {
-        Some(limit) => limit,
-        None => u64::MAX,
-    }
 }
 
 /// Labels the class of a row's arc, unless it lies past the free end or is taken up.
@@ -282,24 +317,26 @@ fn label_arc(
     assignment: &Assignment,
     tree: &mut SearchTree,
     arc: Arc,
-    row: usize,
-    bound: u64,
+    scan: Scan,
 ) -> Result<(), AllocError>
-    requires bound { (limit : Option ℕ) × IsLimit assignment.now.values.items row tree.old.labels.free_end limit × IsBoundOf limit bound }
-    requires can { (ws : ℕ → ℕ → Option ℕ) × CanLabelArc ws assignment.now tree.old row arc }
-    ensures { OnOk result ((ws : ℕ → ℕ → Option ℕ) → CanLabelArc ws assignment.now tree.old row arc → IsArcLabelled ws assignment.now row tree.old tree.new arc) }
+    requires scan { IsScan assignment.now tree.old.reached_rows scan }
+    requires bound { (limit : Option ℕ) × IsLimit assignment.now.values.items scan.row tree.old.labels.free_end limit × IsBoundOf limit scan.bound }
+    requires can { (ws : ℕ → ℕ → Option ℕ) × CanLabelArc ws assignment.now tree.old scan.row arc }
+    ensures { OnOk result ((ws : ℕ → ℕ → Option ℕ) → CanLabelArc ws assignment.now tree.old scan.row arc → IsArcLabelled ws assignment.now scan.row tree.old tree.new arc) }
 {
     if tree.tree_classes.taken[arc.class] {
         return Ok(());
     }
-    if arc.weight as u64 + assignment.prices[arc.class] >= bound {
+    let reach = arc.weight as u64 + assignment.prices[arc.class];
+    if reach >= scan.bound {
         return Ok(());
     }
     let label = Label {
-        row,
+        row: scan.row,
         weight: arc.weight,
     };
-    tree.labels.improve(arc.class, label, &assignment.values)
+    let due = reach + scan.root_value - scan.row_value;
+    tree.labels.improve(arc.class, label, due)
 }
 
 /// Seeks the free end from the rows that are reached, from a place in their order on, until it is at slack 0.

@@ -27,11 +27,13 @@ impl SearchTree {
     {
         let reached_rows = ReachedRows::new(alloc, rows)?;
         let of_class = vec![in alloc; None; classes]?;
+        let due = vec![in alloc; 0u64; classes]?;
         let taken = vec![in alloc; false; classes]?;
         Ok(SearchTree {
             reached_rows,
             labels: Labels {
                 of_class,
+                due,
                 labelled: Vec::new(alloc),
                 free_end: None,
             },

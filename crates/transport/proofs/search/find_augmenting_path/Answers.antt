@@ -1,10 +1,12 @@
-use Rattle.std.proofs.Common.{◌≡◌, ◌⊎◌, ℕ, true, length, refl, sym, ◌∙◌, subst, arith}
+use Rattle.std.proofs.Common.{◌≡◌, ◌⊎◌, ℕ, ◌-◌, ◌<◌, true, length, refl, sym, ap, ◌∙◌, subst, arith}
 use Rattle.std.specs.FinSet as set
 use Rattle.cpu_set.specs.Pointwise.{contains-empty}
 use Rattle.transport.specs.Blocks.{AreTakenFirsts, IsFirstIn}
 use Rattle.transport.proofs.Blocks.{taken_firsts_more, taken_firsts_kept}
-use Rattle.transport.proofs.Numbers.{not_both}
-use Rattle.transport.specs.States.{IsRunning, HasScanned, IsLeastOf, IsLeastUpTo, IsStruck}
+use Rattle.transport.proofs.Numbers.{not_both, read_number}
+use Rattle.transport.specs.States.{IsRunning, HasScanned, IsLeastOf, IsLeastUpTo, IsSameRoot}
+use Rattle.transport.specs.declared.tree.ReachedRows.{ReachedRows}
+use Rattle.transport.specs.declared.tree.TreeClasses.{TreeClasses}
 use Rattle.transport.specs.Scans.{IsBetter}
 use Rattle.transport.specs.Weights.{weights}
 use Rattle.transport.proofs.Labelling.{with_nearest, better_listed, better_more, scanned_better}
@@ -12,7 +14,7 @@ use Rattle.transport.proofs.LeastSlack.{least_some}
 use Rattle.transport.proofs.Steps.{closed, raise_rows, raise_classes, raise_values_fit, raise_prices_fit, nearest_in, step_raised, step_running, step_scanned_on, step_root, step_smaller}
 use Rattle.transport.proofs.Striking.{running_struck, scanned_struck}
 use Rattle.transport.proofs.search.find_augmenting_path.Goals as goal
-use Rattle.transport.proofs.search.find_augmenting_path.Goals.{After-note_taken, After-least_slack, In-Some-least, After-update_duals, After-strike_taken}
+use Rattle.transport.proofs.search.find_augmenting_path.Goals.{After-note_taken, After-least_slack, In-Some-least, After-update_duals}
 
 pub steps-init : goal.steps-init
 steps-init c = record {
@@ -30,7 +32,12 @@ better : (c : After-least_slack) → IsBetter (weights c.args.instance.now) c.st
 better c = better_listed _ _ _ _ c.least_slack.new.nearest (better_more _ _ _ _ _ c.in_ok-free_end.ensures.better c.in_ok-scan_rows.ensures.better)
 
 pub least_slack-requires : goal.least_slack-requires
-least_slack-requires c = (weights c.args.instance.now, c.scan_rows.new.tree, c.in_ok-scan_rows.ensures.better.running)
+least_slack-requires c = record {
+  ws = weights c.args.instance.now;
+  tree = c.scan_rows.new.tree;
+  running = c.in_ok-scan_rows.ensures.better.running;
+  root_at = read_number _ 0 _ _ c.in_ok-scan_rows.ensures.better.running.search.rooted refl c.index.ensures;
+}
 
 -- the first CPUs that are noted are of classes that are taken up
 noted : (c : After-note_taken) → AreTakenFirsts c.args.instance.now.firsts c.note_taken.new.taken_firsts c.find_free_class.new.tree.tree_classes
@@ -104,36 +111,34 @@ returns-in-Some-free_end_at_0-clause-answer c = record {
   equal = c.in-Some-free_end_at_0.ensures.equal;
 }
 
--- the classes that the step took up are struck out
-struck : (c : After-strike_taken) → IsStruck c.take_nearest.new.tree.tree_classes.taken.items c.take_nearest.new.tree.labels c.strike_taken.new.self
-struck c = subst (λ taken. IsStruck taken c.take_nearest.new.tree.labels c.strike_taken.new.self) c.deref-in-steps.ensures.value c.strike_taken.ensures
-
 pub steps-preserved : goal.steps-preserved
 steps-preserved c =
     let i = goal.at.steps-preserved c in
-    let x = struck i.After-strike_taken in
+    let x = c.strike_when_many-struck.ensures in
     let v = c.take_nearest.new.tree in
+    let u = c.strike_when_many-struck.new.tree in
     let b = better i.After-least_slack in
     let all = c.in_ok-scan_rows.ensures.scanned in
     let l = least i.In-Some-least in
     let r = c.update_duals.ensures in
     let e : c.len-scanned.result ≡ length c.scan_rows.new.tree.reached_rows.order.items = omega (arith, c.len-scanned.ensures, c.scan_rows.new.tree.reached_rows.order.ok.0) in
     record {
-      running = running_struck (weights c.args.instance.now) c.update_duals.new.assignment v _ x (step_running _ _ c.update_duals.new.assignment _ _ _ b all l r.values r.prices r.residual r.holdings _ c.in_ok-take_nearest.ensures);
+      running = running_struck (weights c.args.instance.now) c.update_duals.new.assignment v u x (step_running _ _ c.update_duals.new.assignment _ _ _ b all l r.values r.prices r.residual r.holdings _ c.in_ok-take_nearest.ensures);
       rows = c.steps.invariant.rows ∙ sym r.values.long;
       arcs_by_kind = rw r.residual c.in_ok-scan_rows.ensures.arcs_by_kind;
-      from = omega (arith, e, c.in_ok-take_nearest.ensures.longer);
-      scanned = scanned_struck (weights c.args.instance.now) c.update_duals.new.assignment v _ x c.len-scanned.result (subst (λ n. HasScanned (weights c.args.instance.now) c.update_duals.new.assignment v n) (sym e)
+      from = omega (arith, e, c.in_ok-take_nearest.ensures.longer, ap (λ (q : ReachedRows). length q.order.items) x.reached_rows);
+      scanned = scanned_struck (weights c.args.instance.now) c.update_duals.new.assignment v u x c.len-scanned.result (subst (λ n. HasScanned (weights c.args.instance.now) c.update_duals.new.assignment v n) (sym e)
           (step_scanned_on _ _ c.update_duals.new.assignment _ _ _ b all l r.values r.prices r.residual r.holdings _ c.in_ok-take_nearest.ensures));
       rest = record { residual = r.residual ∙ c.steps.invariant.rest.residual; deficit = r.deficit ∙ c.steps.invariant.rest.deficit; holdings = r.holdings ∙ c.steps.invariant.rest.holdings };
-      taken = taken_firsts_kept _ _ c.scan_rows.new.tree.tree_classes v.tree_classes
-          (subst (AreTakenFirsts c.args.instance.now.firsts c.note_taken.new.taken_firsts) (sym c.in_ok-scan_rows.ensures.better.tree_classes) (noted i.After-note_taken)) c.in_ok-take_nearest.ensures.kept;
-      root = step_root _ _ c.update_duals.new.assignment _ _ _ b all l r.values r.prices r.residual r.holdings _ c.in_ok-take_nearest.ensures c.args.tree.now c.steps.invariant.root;
+      taken = subst (AreTakenFirsts c.args.instance.now.firsts c.note_taken.new.taken_firsts) (sym x.tree_classes) (taken_firsts_kept _ _ c.scan_rows.new.tree.tree_classes v.tree_classes
+          (subst (AreTakenFirsts c.args.instance.now.firsts c.note_taken.new.taken_firsts) (sym c.in_ok-scan_rows.ensures.better.tree_classes) (noted i.After-note_taken)) c.in_ok-take_nearest.ensures.kept);
+      root = subst (IsSameRoot c.args.tree.now.reached_rows) (sym x.reached_rows) (step_root _ _ c.update_duals.new.assignment _ _ _ b all l r.values r.prices r.residual r.holdings _ c.in_ok-take_nearest.ensures c.args.tree.now c.steps.invariant.root);
     }
 
 pub steps-smaller : goal.steps-smaller
 steps-smaller c =
     let i = goal.at.steps-smaller c in
     let r = c.update_duals.ensures in
-    step_smaller _ _ c.update_duals.new.assignment _ _ _ (better i.After-least_slack) c.in_ok-scan_rows.ensures.scanned (least i.In-Some-least) r.values r.prices r.residual r.holdings _ c.in_ok-take_nearest.ensures
-    c.in_default-free_end_at_0.ensures
+    subst (λ (ts : TreeClasses). length c.update_duals.new.assignment.prices.items - length ts.order.items < length c.steps.assignment.prices.items - length c.steps.tree.tree_classes.order.items) (sym c.strike_when_many-struck.ensures.tree_classes)
+    (step_smaller _ _ c.update_duals.new.assignment _ _ _ (better i.After-least_slack) c.in_ok-scan_rows.ensures.scanned (least i.In-Some-least) r.values r.prices r.residual r.holdings _ c.in_ok-take_nearest.ensures
+    c.in_default-free_end_at_0.ensures)

@@ -16,6 +16,7 @@ returns c =
     let new_is : (with_items mid c.forget-2.new.of_class).items ≡ c.forget-2.new.of_class = with_items_is mid c.forget-2.new.of_class (omega (arith, taken.long, ap length mid_is, mid.ok.0)) in
     record {
       labels_long = ap length new_is ∙ taken.long ∙ labelled.long;
+      due_long = c.requires.due_long;
       of_class = λ g. ap (λ ns. label_at ns g) new_is ∙ both_forgotten _ _ _ _ _ c.requires.all labelled taken g;
       labelled = c.clear.ensures.items;
       free_end = refl;

@@ -7,5 +7,6 @@ pub returns : goal.returns
 returns c = record {
   labelled = filter_same _ (λ g. not (is_marked c.args.taken.now g)) _ (λ x b f' k. search rules) _ _ c.retain.ensures.filtered;
   of_class = refl;
+  due = refl;
   free_end = refl;
 }
