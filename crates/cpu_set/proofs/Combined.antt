@@ -74,7 +74,7 @@ set_of_words-lanes f g op pointwise xs ys bitwise of_xs of_ys =
 pub or-IsBitwise : IsBitwise bit_or (λ a b. a || b)
 or-IsBitwise = record { none = refl; fits = λ a b fa fb. or_lt 64 a b fa fb; bits = λ a b i _ _ _. bit-or a b i }
 
-pub and_fits : (a b : ℕ) → a < 2 ^ 64 → bit_and a b < 2 ^ 64
+and_fits : (a b : ℕ) → a < 2 ^ 64 → bit_and a b < 2 ^ 64
 and_fits a b fits = let le : bit_and a b ≤ a = and_le_l a b in omega arith
 
 pub and-IsBitwise : IsBitwise bit_and (λ a b. a && b)

@@ -33,16 +33,6 @@ pub record IsLast (s : Ids) (n : ℕ) : Type 0 where
   pub member : set.contains s n ≡ true
   pub most : (k : ℕ) → set.contains s k ≡ true → k ≤ n
 
--- no member is below `to`
-abbrev pub NoneBelow : Ids → ℕ → Type 0
-NoneBelow s to = (n : ℕ) → n < to → set.contains s n ≡ false
-
--- the greatest member below `to`
-pub record IsLastBelow (s : Ids) (to n : ℕ) : Type 0 where
-  pub below : n < to
-  pub member : set.contains s n ≡ true
-  pub most : (k : ℕ) → n < k → k < to → set.contains s k ≡ false
-
 -- each is within the other
 abbrev pub is_same : Ids → Ids → Bool
 is_same s t = set.is_subset s t && set.is_subset t s

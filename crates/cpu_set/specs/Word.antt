@@ -12,13 +12,3 @@ pub record IsFirstBit (word from at : ℕ) : Type 0 where
   pub below : at < 64
   pub is_set : bit_at word at ≡ 1
   pub least : (i : ℕ) → from ≤ i → i < at → bit_at word i ≡ 0
-
--- no bit is set at or below a place
-abbrev pub NoBitUpTo : ℕ → ℕ → Type 0
-NoBitUpTo word upto = (i : ℕ) → i ≤ upto → bit_at word i ≡ 0
-
--- the highest bit that is set at or below a place
-pub record IsLastBit (word upto at : ℕ) : Type 0 where
-  pub below : at ≤ upto
-  pub is_set : bit_at word at ≡ 1
-  pub most : (i : ℕ) → at < i → i ≤ upto → bit_at word i ≡ 0

@@ -1,13 +1,13 @@
 ghost use Rattle.std.specs.Prelude.{◌≡◌, ℕ, ◌+◌, ◌*◌, ◌/◌, ◌%◌, ◌<◌, ◌≤◌, ◌↔◌, ◌||◌, ◌&&◌, ◌==◌, nat_le, not, length, IsTrue, IfSome, MatchOption};
 ghost use Rattle.std.specs.Int.{bit_at};
 ghost use Rattle.std.specs.FinSet as set;
-ghost use Rattle.cpu_set.specs.Ids.{IsDisjoint, NoneFrom, IsFirstFrom, NoneBelow, IsLast, IsLastBelow};
+ghost use Rattle.cpu_set.specs.Ids.{IsDisjoint, NoneFrom, IsFirstFrom, IsLast};
 ghost use Rattle.cpu_set.specs.Members.{IsCpu, InRange, IsComplement, members};
 ghost use Rattle.cpu_set.specs.Words.{AreWords, set_of_words};
 
 use crate::CPU_LIMIT;
 use crate::ranges::Ranges;
-use crate::word::{bits_between, bits_of_range, first_bit, last_bit};
+use crate::word::{bits_between, bits_of_range, first_bit};
 use std::fmt;
 use std::marker::Model;
 use std::simd::prelude::*;
@@ -175,23 +175,15 @@ impl IdSet {
         ensures last { MatchOption result (NoneFrom self.now 0) (λ n. IsLast self.now n) }
         ensures in_range { IfSome result (λ n. IsCpu n) }
     {
-        last_in_words(&self.words, WORDS)
-    }
-
-    /// The greatest number of the set that is not above `n`.
-    pub fn last_up_to(&self, n: u16) -> Option<u16>
-        ensures last { MatchOption result (NoneBelow self.now (n + 1)) (λ m. IsLastBelow self.now (n + 1) m) }
-        ensures in_range { IfSome result (λ m. IsCpu m) }
-    {
-        let words = &self.words;
-        let k = n as usize / WORD_BITS;
-        if k >= WORDS {
-            return last_in_words(words, WORDS);
+        let mut k = WORDS;
+        while k > 0 {
+            k -= 1;
+            let word = self.words[k];
+            if word != 0 {
+                return Some((k * WORD_BITS) as u16 + (63 - word.leading_zeros()) as u16);
+            }
         }
-        match last_bit(words[k], n % 64) {
-            Some(i) => Some((k * WORD_BITS) as u16 + i as u16),
-            None => last_in_words(words, k),
-        }
+        None
     }
 
     /// The least number of the set above `n`.
@@ -259,23 +251,6 @@ fn has_none(lanes: Simd<u64, WORDS>) -> bool
     ensures { IsTrue result ↔ (set_of_words lanes ≡ set.empty) }
 {
     lanes.reduce_or() == 0
-}
-
-// The greatest number in the words before this one.
-fn last_in_words(words: &[u64; WORDS], upto: usize) -> Option<u16>
-    requires { AreWords words.now × (upto ≤ WORDS) }
-    ensures last { MatchOption result (NoneBelow (set_of_words words.now) (upto * 64)) (λ n. IsLastBelow (set_of_words words.now) (upto * 64) n) }
-    ensures in_range { IfSome result (λ n. IsCpu n) }
-{
-    let mut k = upto;
-    while k > 0 {
-        k -= 1;
-        let word = words[k];
-        if word != 0 {
-            return Some((k * WORD_BITS) as u16 + (63 - word.leading_zeros()) as u16);
-        }
-    }
-    None
 }
 
 // As a list, `{0-2,7}`.

@@ -1,7 +1,7 @@
 //! A word of 64 bits, seen by its bits.
 ghost use Rattle.std.specs.Prelude.{◌≡◌, ℕ, ◌+◌, ◌<◌, ◌≤◌, ◌&&◌, ◌==◌, nat_le, MatchOption};
 ghost use Rattle.std.specs.Int.{bit_at};
-ghost use Rattle.cpu_set.specs.Word.{IsFirstBit, NoBitFrom, IsLastBit, NoBitUpTo};
+ghost use Rattle.cpu_set.specs.Word.{IsFirstBit, NoBitFrom};
 
 /// The lowest set bit at or above a place.
 pub fn first_bit(word: u64, from: u32) -> Option<u32>
@@ -13,19 +13,6 @@ pub fn first_bit(word: u64, from: u32) -> Option<u32>
         None
     } else {
         Some(from + rest.trailing_zeros())
-    }
-}
-
-/// The highest set bit at or below a place.
-pub fn last_bit(word: u64, upto: u16) -> Option<u32>
-    requires { upto < 64 }
-    ensures { MatchOption result (NoBitUpTo word upto) (IsLastBit word upto) }
-{
-    let rest = word & bits_between(0, upto);
-    if rest == 0 {
-        None
-    } else {
-        Some(63 - rest.leading_zeros())
     }
 }
 

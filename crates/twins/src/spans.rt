@@ -21,9 +21,7 @@ pub(crate) struct Span {
 #[derive(Drop)]
 pub(crate) struct Spans {
     items: Vec<Span>,
-    // The first CPU of each range, and each multiple of 64 behind it that the range has: so no walk back is long.
-    starts: IdSet,
-    // At each of these CPUs where its range stands. At others is what rows before left, which nothing reads.
+    // For each CPU where its range stands. What a row before left here is seen by its range, which has not the CPU.
     hints: Vec<u16>,
     cpus: IdSet,
 }
@@ -34,7 +32,6 @@ impl Spans {
         let hints = vec![in alloc; 0u16; CPU_LIMIT as usize]?;
         Ok(Spans {
             items: Vec::new(alloc),
-            starts: IdSet::empty(),
             hints,
             cpus: IdSet::empty(),
         })
@@ -46,15 +43,8 @@ impl Spans {
         ensures { OnOk result (AreSpans offers.now self.new) }
     {
         self.items.clear();
-        self.starts = IdSet::empty();
         for at in 0..offers.len() {
-            note_ranges(
-                &mut self.items,
-                &mut self.starts,
-                &mut self.hints,
-                offers,
-                at,
-            )?;
+            note_ranges(&mut self.items, &mut self.hints, offers, at)?;
         }
         self.cpus = offers.cpus();
         Ok(())
@@ -65,11 +55,7 @@ impl Spans {
         ensures has { IfSome result (λ span. (span.first ≤ cpu) × (cpu ≤ span.last)) }
         ensures weighs { (offers : List Offer) → All (IsSpan offers) self.now.items.items → IfSome result (IsSpan offers) }
     {
-        if !self.cpus.contains(cpu) {
-            return None;
-        }
-        let start = self.starts.last_up_to(cpu)?;
-        let hint = *self.hints.get(start as usize)?;
+        let hint = *self.hints.get(cpu as usize)?;
         let span = *self.items.get(hint as usize)?;
         if span.first <= cpu && cpu <= span.last {
             Some(span)
@@ -86,10 +72,9 @@ impl Spans {
     }
 }
 
-/// Adds the ranges of one offer, and notes where they stand.
+/// Adds the ranges of one offer, and notes at their CPUs where they stand.
 fn note_ranges(
     items: &mut Vec<Span>,
-    starts: &mut IdSet,
     hints: &mut [u16],
     offers: &Offers,
     at: usize,
@@ -102,7 +87,7 @@ fn note_ranges(
     let weight = offers.weight(at);
     for range in offers.ranges(at) {
         let (first, last) = *range;
-        note_starts(starts, hints, first, last, items.len());
+        note_hint(hints, first, last, items.len());
         items.push(Span {
             first,
             last,
@@ -112,16 +97,12 @@ fn note_ranges(
     Ok(())
 }
 
-/// Notes where a range stands: at its first CPU, and at each multiple of 64 behind that.
-fn note_starts(starts: &mut IdSet, hints: &mut [u16], first: u16, last: u16, place: usize) {
+/// Notes at the CPUs of a range where it stands.
+fn note_hint(hints: &mut [u16], first: u16, last: u16, place: usize)
+    ensures { length hints.new ≡ length hints.old }
+{
     let hint = place.min(u16::MAX as usize) as u16;
-    for k in first as usize / 64..last as usize / 64 + 1 {
-        let at = (k * 64).max(first as usize);
-        if at < CPU_LIMIT as usize {
-            starts.insert(at as u16);
-            if let Some(own) = hints.get_mut(at) {
-                *own = hint;
-            }
-        }
+    if let Some(own) = hints.get_mut(first as usize..last as usize + 1) {
+        own.fill(hint);
     }
 }
