@@ -98,6 +98,7 @@ fn offered_cpus(rows: &[Row], kinds: &[usize]) -> IdSet
 }
 
 /// Parts that agree on the rows before row `k`, split so that they agree on it too.
+#[inline(never)]
 fn split_all(
     rows: &[Row],
     k: usize,
@@ -155,6 +156,34 @@ fn split(
         parts.keep(at)?;
         return Ok(());
     }
+    split_apart(rows, k, offers, spans, edges, at, parts, alone)
+}
+
+/// One part, split by the weights that its CPUs have in row `k`.
+// Not inlined: inlined, it makes a stack slot for the copy that is split, which is cleared for each part that stays whole too.
+#[inline(never)]
+fn split_apart(
+    rows: &[Row],
+    k: usize,
+    offers: &Offers,
+    spans: &Spans,
+    edges: &IdSet,
+    at: usize,
+    parts: &mut Parts,
+    alone: &mut Vec<IdSet>,
+) -> Result<(), AllocError>
+    requires fit { IsTrue (list_all row_fits rows.now) }
+    requires there { k < length rows.now }
+    requires offers { (d : RowView) → offers.now ≡ (slice_index_or rows.now k d).offers }
+    requires spans { AreSpans offers.now spans.now }
+    requires edges { AreEdges rows.now edges.now }
+    requires at { at < length parts.old.waiting }
+    requires part { IsPart rows.now k (slice_index_or parts.old.waiting at set.empty) }
+    requires parts { All (IsPart rows.now (k + 1)) parts.old.done }
+    requires alone { All (IsPart rows.now (length rows.now)) alone.old.items }
+    ensures waiting { OnOk result (parts.new.waiting ≡ parts.old.waiting) }
+    ensures split { OnOk result (IsSplit rows.now (k + 1) (slice_index_or parts.old.waiting at set.empty) parts.old.done alone.old.items parts.new.done alone.new.items) }
+{
     let mut rest = *parts.cpus(at);
     while let Some(cpu) = rest.first() {
         let piece = alike(offers, spans, cpu, &rest);

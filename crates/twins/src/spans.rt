@@ -103,6 +103,8 @@ fn note_hint(hints: &mut [u16], first: u16, last: u16, place: usize)
 {
     let hint = place.min(u16::MAX as usize) as u16;
     if let Some(own) = hints.get_mut(first as usize..last as usize + 1) {
-        own.fill(hint);
+        for one in own {
+            *one = hint;
+        }
     }
 }

@@ -1,22 +1,11 @@
-use Rattle.certificate.specs.Limits.{offers_fit, row_fits}
-use Rattle.certificate.specs.OfferLaws.{passes_at, row_offers_fit}
 use Rattle.certificate.specs.RowView.{RowView}
-use Rattle.certificate.specs.Weight.{weight_in}
 use Rattle.certificate.specs.declared.rows.Offer.{Offer}
-use Rattle.std.proofs.Common.{List, [], get_or, length, refl, subst, sym, true, ℕ, ◌&&◌, ◌<◌, ◌≡◌, ◌∙◌}
+use Rattle.std.proofs.Common.{List, [], get_or, length, subst, ℕ, ◌<◌, ◌≡◌}
 use Rattle.std.proofs.lemmas.List.{get_or_default}
-use Rattle.std.specs.List.{list_all}
-use Rattle.twins.proofs.Splitting.{IsAlike, less_left, splitting_end, splitting_more, splitting_start, unsplit}
+use Rattle.twins.proofs.Splitting.{unsplit}
 use Rattle.twins.specs.AreSpans.{AreAlike}
-use Rattle.twins.specs.IsPart.{is_same_weight}
 use Rattle.std.specs.FinSet as set
 use Rattle.twins.proofs.grouping.split.Goals as goal
-
-pub loop-cpu-init : goal.loop-cpu-init
-loop-cpu-init c = record {
-  waiting = refl;
-  splitting = rw (c.cpus-2.ensures set.empty) (splitting_start _ _ _ _ _ c.requires.part c.requires.parts c.requires.alone);
-}
 
 abbrev none : RowView
 none = record { id = []; demand = 0; offers = [] }
@@ -28,35 +17,9 @@ row_at rows k = get_or rows k none
 is_row : (rows : List RowView) (k : ℕ) → k < length rows → row_at rows k ≡ get_or rows k (row_at rows k)
 is_row rows k lt = get_or_default rows k none _ lt
 
-fit : (rows : List RowView) (k : ℕ) (offers : List Offer) → list_all row_fits rows ≡ true → k < length rows → ((d : RowView) → offers ≡ (get_or rows k d).offers) → offers_fit offers ≡ true
-fit rows k offers fits lt is =
-    subst (λ (o : List Offer). offers_fit o ≡ true) (sym (is none)) (row_offers_fit (row_at rows k) (passes_at row_fits rows k (row_at rows k) fits lt (is_row rows k lt)))
-
 pub returns-then-are_alike-clause-split : goal.returns-then-are_alike-clause-split
 returns-then-are_alike-clause-split c =
     unsplit c.args.rows.now c.args.k (row_at c.args.rows.now c.args.k) (get_or c.args.parts.now.waiting c.args.at set.empty) _ _ _ c.requires.there (is_row c.args.rows.now c.args.k c.requires.there) c.requires.part c.requires.parts c.requires.alone
     (subst (λ (o : List Offer). AreAlike o (get_or c.args.parts.now.waiting c.args.at set.empty)) (c.requires.offers none)
     (subst (AreAlike c.args.offers.now) (c.cpus.ensures set.empty) (c.are_alike.ensures c.args.offers.now c.requires.spans c.if-are_alike.true)))
     (c.in_ok-keep.ensures set.empty).done
-
-alike : (c : goal.After-minus-rest) → IsAlike (row_at c.args.rows.now c.args.k) c.in-Some.cpu c.loop-cpu.rest c.alike-piece.result
-alike c =
-    subst (λ (o : List Offer). (q : ℕ) → set.contains c.alike-piece.result q ≡ (set.contains c.loop-cpu.rest q && is_same_weight (weight_in o c.in-Some.cpu) (weight_in o q))) (c.requires.offers none) c.alike-piece.ensures
-
-pub alike-piece-requires-clause-fit : goal.alike-piece-requires-clause-fit
-alike-piece-requires-clause-fit c = fit c.args.rows.now c.args.k c.args.offers.now c.requires.fit c.requires.there c.requires.offers
-
-pub loop-cpu-preserved : goal.loop-cpu-preserved
-loop-cpu-preserved c = record {
-  waiting = c.in_ok-put.ensures.waiting ∙ c.loop-cpu.invariant.waiting;
-  splitting = splitting_more c.args.rows.now c.args.k c.in-Some.cpu (row_at c.args.rows.now c.args.k) c.args.edges.now (get_or c.args.parts.now.waiting c.args.at set.empty) c.loop-cpu.rest c.alike-piece.result c.minus-rest.result _ _ _ _ _ _
-      c.requires.there (is_row c.args.rows.now c.args.k c.requires.there) c.requires.edges c.requires.part c.loop-cpu.invariant.splitting c.in-Some.ensures.first.member (alike c) c.in_ok-put.ensures.put c.minus-rest.ensures;
-}
-
-pub loop-cpu-smaller : goal.loop-cpu-smaller
-loop-cpu-smaller c =
-    less_left c.args.rows.now c.args.k c.in-Some.cpu (row_at c.args.rows.now c.args.k) (get_or c.args.parts.now.waiting c.args.at set.empty) c.loop-cpu.rest c.alike-piece.result c.minus-rest.result _ _ _ _
-    c.requires.part c.loop-cpu.invariant.splitting c.in-Some.ensures.first.member (alike c) c.minus-rest.ensures
-
-pub returns-clause-split : goal.returns-clause-split
-returns-clause-split c = splitting_end _ _ _ _ _ _ _ _ c.loop-cpu.invariant.splitting c.in_default.ensures.first

@@ -1,7 +1,7 @@
 use Rattle.std.proofs.Common.{◌≡◌, ◌+◌, get_or}
 use Rattle.std.specs.FinSet as set
 use Rattle.twins.proofs.Splitting.{Splitting}
-use Rattle.twins.proofs.grouping.split.Given as goal
+use Rattle.twins.proofs.grouping.split_apart.Given as goal
 
 abbrev pub invariant-loop-cpu : goal.invariant-loop-cpu
 invariant-loop-cpu l = record {
