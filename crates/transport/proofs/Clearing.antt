@@ -3,6 +3,7 @@ use Rattle.std.proofs.Common.{◌≡◌, ℕ, ◌+◌, ◌<◌, ◌≤◌, Bool,
 use Rattle.std.proofs.lemmas.List.{length-set, get_or-set_same, get_or-set_other}
 use Rattle.std.proofs.lemmas.Bool.{cases_eq, cases_Bool}
 use Rattle.transport.specs.Numbers.{number, is_marked, IsIn}
+use Rattle.transport.specs.Searches.{never, AreNeverDue}
 use Rattle.transport.specs.Settled.{IsForgotten}
 use Rattle.transport.specs.declared.labels.Label.{Label}
 use Rattle.transport.proofs.Numbers.{not_both}
@@ -89,6 +90,13 @@ forgetting_end old of_class classes upto h past = record {
   none = λ g p. subst (λ x. label_at of_class x ≡ None) p.is (h.none p.index (omega (arith, p.within, past)));
   left = h.left;
 }
+
+-- a class more with no label is never due
+pub never_more : (of_class : List (Option Label)) (due : List ℕ) (g : ℕ) → g < length of_class → length due ≡ length of_class → AreNeverDue of_class due → AreNeverDue (set of_class g None) (set due g never)
+never_more of_class due g lt long h k within none = elim (cases_eq k g) [
+  | inl same ↦ ap (number (set due g never)) same ∙ get_or-set_same due g never 0 (omega (arith, lt, long))
+  | inr other ↦ get_or-set_other due g k never 0 other ∙ h k (omega (arith, within, length-set of_class g None)) (sym (get_or-set_other of_class g k None None other) ∙ none)
+]
 
 -- each labelled class stands in one list or in the other
 pub both_forgotten : (old mid new : List (Option Label)) (xs ys : List ℕ) → ((g : ℕ) (n : Label) → label_at old g ≡ Some n → IsIn xs g ⊎ IsIn ys g) → IsForgotten old mid xs → IsForgotten mid new ys

@@ -3,7 +3,7 @@ use Rattle.std.proofs.Common.{◌≡◌, ℕ, ◌+◌, ◌-◌, ◌^◌, ◌<◌
 use Rattle.std.proofs.lemmas.Bool.{cases_eq}
 use Rattle.transport.specs.Numbers.{number, IsIn}
 use Rattle.transport.specs.ReachedRows.{is_reached, row_at}
-use Rattle.transport.specs.Searches.{label_of, is_taken, HasLabel, IsLabelled, IsFreeEnd, IsSearch, IsCovered}
+use Rattle.transport.specs.Searches.{label_of, is_taken, never, AreNeverDue, HasLabel, IsLabelled, IsFreeEnd, IsSearch, IsCovered}
 use Rattle.transport.specs.States.{IsRunning, HasScanned, cell}
 use Rattle.transport.specs.Scans.{IsPast, IsLimit, IsBoundOf, IsLabelledNow, IsBetter, CanImprove, CanLabelArc, IsArcLabelled}
 use Rattle.transport.specs.declared.labels.Label.{Label}
@@ -73,6 +73,15 @@ module _ (ws : ℕ → ℕ → Option ℕ) (s : Assignment) (t : SearchTree) (ne
           let same : n.now ≡ m = some_same n.now m (label_of new.labels g) n.its (subst (λ x. label_of new.labels x ≡ Some m) e is) in
           rw (e, ← same) n.is_due
 
+  unlabelled_now : AreNeverDue new.labels.of_class.items new.labels.due.items
+  unlabelled_now j lt none = elim (cases_eq j g) [
+    | inl e ↦ absurd (not_labelled n.now (sym n.its ∙ ap (label_of new.labels) (sym e) ∙ none))
+    | inr ne ↦ n.due_others j ne ∙ old.unlabelled j (omega (arith, lt, n.long)) (sym (n.others j ne) ∙ none)
+  ]
+    where
+      not_labelled : (m : Label) → Some m ≡ None → ⊥
+      not_labelled m is = cc
+
   search_labelled : IsSearch ws (cell s.holdings.items) s.values.items s.prices.items s.residual.items t.reached_rows new.labels t.tree_classes
   search_labelled = record {
     reached_rows = old.reached_rows;
@@ -92,6 +101,7 @@ module _ (ws : ℕ → ℕ → Option ℕ) (s : Assignment) (t : SearchTree) (ne
       | inl was ↦ subst (λ x. x < length s.prices.items) was.is (old.labelled_in was.index was.within)
       | inr e ↦ rw e (h.fit.class label.row g label.weight weighs)
     ];
+    unlabelled = unlabelled_now;
     seen = seen_now;
     due = due_now_at;
     linked = λ j on. (let l = old.linked j on in record { label = l.label; its = n.others j (other j on) ∙ l.its; equal = l.equal });
@@ -159,6 +169,7 @@ module _ (ws : ℕ → ℕ → Option ℕ) (s : Assignment) (t : SearchTree) (ne
     listed = λ j m is off. rw labelled (was.listed j m (sym (label_same j) ∙ is) off);
     labelled_in = rw labelled was.labelled_in;
     seen = subst (λ (v : Vec ℕ Global). (i : ℕ) → i < length v.items → HasLabel new.labels (number v.items i)) (sym labelled) (λ i lt. (let o = was.seen i lt in record { label = o.label; its = label_same _ ∙ o.its }));
+    unlabelled = λ j lt none. ap (λ (v : Vec ℕ Global). number v.items j) due ∙ was.unlabelled j (omega (arith, lt, ap (λ (v : Vec (Option Label) Global). length v.items) of_class)) (sym (label_same j) ∙ none);
     due = rw due (λ j m is off. was.due j m (sym (label_same j) ∙ is) off);
     linked = λ j on. (let l = was.linked j on in record { label = l.label; its = label_same j ∙ l.its; equal = l.equal });
     holders = was.holders;
@@ -247,6 +258,8 @@ can_improve ws s t k arc due can left is_due = record {
   due_class = omega (arith, can.running.fit.class k arc.class arc.weight can.weighs, can.running.search.due_long);
   is_due = is_due;
   before = λ n is. can.running.search.due arc.class n is left;
+  unlabelled = λ none. (let is_never = can.running.search.unlabelled arc.class (omega (arith, can.running.fit.class k arc.class arc.weight can.weighs, can.running.search.labels_long)) none in
+      omega (arith, is_never, is_due, can.running.fit.low k arc.class arc.weight can.weighs, can.running.search.prices_fit arc.class, can.running.search.values_fit (row_at t.reached_rows 0)));
   listed = λ n is. can.running.search.listed arc.class n is left;
 }
 

@@ -128,6 +128,7 @@ module _ (ws : ℕ → ℕ → Option ℕ) (cells : ℕ → ℕ → ℕ) (values
       labelled = s.labelled;
       listed = s.listed;
       labelled_in = λ i lt. omega (arith, s.labelled_in i lt, longs);
+      unlabelled = s.unlabelled;
       seen = s.seen;
       due = λ g n its off. omega (arith, s.due g n its off, rv n.row (s.labelled g n its).there, op g off, rv (row_at q 0) root_on);
       linked = linked_new;

@@ -7,7 +7,7 @@ use Rattle.std.proofs.lemmas.List.Sums.{sum_by-cons, count_by-le-length}
 use Rattle.certificate.specs.declared.limits.TheConstants.{MAX_ROWS}
 use Rattle.transport.specs.Numbers.{number, is_marked}
 use Rattle.transport.specs.ReachedRows.{IsReachedRows, IsUnreached, IsAtRoot, IsReached, is_reached, index, bottleneck, row_at}
-use Rattle.transport.specs.Searches.{is_taken, IsSearch, IsClose, most}
+use Rattle.transport.specs.Searches.{is_taken, never, IsSearch, IsClose, most}
 use Rattle.transport.specs.States.{cell, IsRunning}
 use Rattle.transport.specs.Answers.{IsFound}
 use Rattle.transport.specs.Settled.{IsSettled, IsFresh, IsTidy, IsTreeOf}
@@ -60,12 +60,13 @@ reached_none rows q h = record {
 
 -- a tree before the first search
 pub tidy_none : (rows classes : ℕ) (t : SearchTree) → IsUnreached rows t.reached_rows → t.labels.of_class.items ≡ replicate classes None → t.labels.labelled.items ≡ []
-    → length t.labels.due.items ≡ classes → t.tree_classes.taken.items ≡ replicate classes false → t.tree_classes.order.items ≡ [] → IsTidy rows classes t
-tidy_none rows classes t reached_rows of_class labelled due_long taken order = record {
+    → t.labels.due.items ≡ replicate classes never → t.tree_classes.taken.items ≡ replicate classes false → t.tree_classes.order.items ≡ [] → IsTidy rows classes t
+tidy_none rows classes t reached_rows of_class labelled due taken order = record {
   reached_rows = reached_none rows t.reached_rows reached_rows;
   labels_long = ap length of_class ∙ length-replicate {A = Option Label} classes None;
   labelled = record {
-    due_long = due_long ∙ sym (ap length of_class ∙ length-replicate {A = Option Label} classes None);
+    due_long = ap length due ∙ length-replicate {A = ℕ} classes never ∙ sym (ap length of_class ∙ length-replicate {A = Option Label} classes None);
+    unlabelled = λ g lt _. ap (λ xs. number xs g) due ∙ get_or-replicate classes g never 0 (omega (arith, lt, ap length of_class, length-replicate {A = Option Label} classes None));
     all = λ g n is. (let no_label : Some n ≡ None = sym is ∙ ap (λ ns. get_or ns g None) of_class ∙ replicate_default classes g None in cc);
     labelled_in = λ i lt. absurd (omega (arith, lt, ap length labelled));
     taken_in = λ i lt. absurd (omega (arith, lt, ap length order));
@@ -114,6 +115,7 @@ tidy_running ws s t h = record {
   labels_long = h.search.labels_long;
   labelled = record {
     due_long = h.search.due_long ∙ sym h.search.labels_long;
+    unlabelled = h.search.unlabelled;
     all = λ g n is. elim (cases_Bool (is_taken t.tree_classes g)) [
       | inl on ↦ inr (h.search.listing.all g on)
       | inr off ↦ inl (h.search.listed g n is off)
@@ -157,6 +159,7 @@ module _ (ws : ℕ → ℕ → Option ℕ) (s : Assignment) (t : SearchTree) (ro
     labelled = λ g n is. (let no_label : Some n ≡ None = sym is ∙ f.labels.of_class g in cc);
     listed = λ g n is. (let no_label : Some n ≡ None = sym is ∙ f.labels.of_class g in cc);
     labelled_in = λ i lt. absurd (omega (arith, lt, ap length f.labels.labelled));
+    unlabelled = f.labels.due;
     seen = λ i lt. absurd (omega (arith, lt, ap length f.labels.labelled));
     due = λ g n is. (let no_label : Some n ≡ None = sym is ∙ f.labels.of_class g in cc);
     linked = λ g on. absurd (no_taken g on);

@@ -56,6 +56,7 @@ module _ (ws : ℕ → ℕ → Option ℕ) (s : Assignment) (t : SearchTree) (ns
     listed = λ g n is off. rw x.labelled (in_filter _ t.labels.labelled.items g (h.listed g n (sym (label_same g) ∙ is) off) (ap not off));
     labelled_in = rw x.labelled (filter_all (λ n. n < length s.prices.items) _ t.labels.labelled.items h.labelled_in);
     seen = subst (λ xs. (i : ℕ) → i < length xs → HasLabel ns (number xs i)) (sym x.labelled) (filter_all (HasLabel ns) _ t.labels.labelled.items (λ i lt. (let o = h.seen i lt in record { label = o.label; its = label_same _ ∙ o.its })));
+    unlabelled = λ g lt none. ap (λ (v : Vec ℕ Global). number v.items g) x.due ∙ h.unlabelled g (omega (arith, lt, ap (λ (v : Vec (Option Label) Global). length v.items) x.of_class)) (sym (label_same g) ∙ none);
     due = rw x.due (λ g n is off. h.due g n (sym (label_same g) ∙ is) off);
     linked = λ g on. (let l = h.linked g on in record { label = l.label; its = label_same g ∙ l.its; equal = l.equal });
     holders = h.holders;

@@ -149,6 +149,7 @@ module _ (ws : ℕ → ℕ → Option ℕ) (cells : ℕ → ℕ → ℕ) (values
     labelled = λ h m is. (let o = s.labelled h m is in record { there = (grown.kept m.row o.there).reached; weighs = o.weighs; full = o.full });
     listed = λ h m is off. s.listed h m is (was_left h off);
     labelled_in = s.labelled_in;
+    unlabelled = s.unlabelled;
     seen = s.seen;
     due = λ h m is off. rw root_same (s.due h m is (was_left h off));
     linked = λ h on. elim (taken_cases h on) [

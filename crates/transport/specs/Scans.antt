@@ -50,6 +50,7 @@ pub record CanImprove (values : List ℕ) (above : ℕ) (ns : Labels) (g : ℕ) 
   pub due_class : g < length ns.due.items
   pub is_due : due + number values label.row ≡ label.weight + above
   pub before : (n : Label) → label_of ns g ≡ Some n → number ns.due.items g + number values n.row ≡ n.weight + above
+  pub unlabelled : label_of ns g ≡ None → due < number ns.due.items g
   pub listed : (n : Label) → label_of ns g ≡ Some n → IsIn ns.labelled.items g
 
 -- a class is labelled with this row, unless it was labelled with one that is no further

@@ -1,5 +1,5 @@
 -- What holds in the course of a search.
-use Rattle.std.specs.Prelude.{◌≡◌, ℕ, ◌+◌, ◌*◌, ◌<◌, ◌≤◌, Bool, true, false, List, [], ◌∷◌, ◌++◌, Option, Some, None, ◌⊎◌, length, slice_index_or, slice_set}
+use Rattle.std.specs.Prelude.{◌≡◌, ℕ, ◌+◌, ◌-◌, ◌*◌, ◌^◌, ◌<◌, ◌≤◌, Bool, true, false, List, [], ◌∷◌, ◌++◌, Option, Some, None, ◌⊎◌, length, slice_index_or, slice_set}
 use Rattle.certificate.specs.declared.limits.TheConstants.{MAX_ROWS, MAX_WEIGHT}
 use Rattle.transport.specs.Numbers.{number, is_marked, IsIn, IsListing}
 use Rattle.transport.specs.ReachedRows.{IsReachedRows, is_reached, parent_class, bottleneck, index, row_at}
@@ -26,6 +26,14 @@ pub record IsLabelled (ws : ℕ → ℕ → Option ℕ) (residual : List ℕ) (q
 pub record HasLabel (ns : Labels) (g : ℕ) : Type 0 where
   pub label : Label
   pub its : label_of ns g ≡ Some label
+
+-- no value comes to this
+abbrev pub never : ℕ
+never = 2 ^ 64 - 1
+
+-- a class with no label is never due
+abbrev pub AreNeverDue : List (Option Label) → List ℕ → Type 0
+AreNeverDue of_class due = (g : ℕ) → g < length of_class → slice_index_or of_class g None ≡ None → number due g ≡ never
 
 -- a class with a free CPU, and a reached row that has a weight for it
 pub record IsFreeEnd (ws : ℕ → ℕ → Option ℕ) (residual : List ℕ) (q : ReachedRows) (e : FreeEnd) : Type 0 where
@@ -79,6 +87,7 @@ pub record IsSearch (ws : ℕ → ℕ → Option ℕ) (cells : ℕ → ℕ → �
   pub labelled : (g : ℕ) (n : Label) → label_of ns g ≡ Some n → IsLabelled ws residual q g n
   pub listed : (g : ℕ) (n : Label) → label_of ns g ≡ Some n → is_taken ts g ≡ false → IsIn ns.labelled.items g
   pub labelled_in : (i : ℕ) → i < length ns.labelled.items → number ns.labelled.items i < length prices
+  pub unlabelled : AreNeverDue ns.of_class.items ns.due.items
   pub seen : (i : ℕ) → i < length ns.labelled.items → HasLabel ns (number ns.labelled.items i)
   pub due : (g : ℕ) (n : Label) → label_of ns g ≡ Some n → is_taken ts g ≡ false → number ns.due.items g + number values n.row ≡ n.weight + (number prices g + number values (row_at q 0))
   pub linked : (g : ℕ) → is_taken ts g ≡ true → IsLinked values prices ns g

@@ -3,7 +3,7 @@ use Rattle.std.specs.Prelude.{◌≡◌, ℕ, ◌<◌, ◌≤◌, false, List, O
 use Rattle.transport.specs.Numbers.{number, IsIn, IsListing}
 use Rattle.transport.specs.ReachedRows.{IsReachedRows, IsAtRoot}
 use Rattle.transport.specs.Duals.{IsDual}
-use Rattle.transport.specs.Searches.{label_of, is_taken, most, AreWeights}
+use Rattle.transport.specs.Searches.{label_of, is_taken, most, AreNeverDue, AreWeights}
 use Rattle.transport.specs.States.{cell, AreHoldings}
 use Rattle.transport.specs.declared.labels.Label.{Label}
 use Rattle.transport.specs.declared.labels.Labels.{Labels}
@@ -23,6 +23,7 @@ pub record IsSettled (ws : ℕ → ℕ → Option ℕ) (s : Assignment) : Type 0
 pub record AreNoneLabelled (classes : ℕ) (ns : Labels) : Type 0 where
   pub labels_long : length ns.of_class.items ≡ classes
   pub due_long : length ns.due.items ≡ classes
+  pub due : AreNeverDue ns.of_class.items ns.due.items
   pub of_class : (g : ℕ) → label_of ns g ≡ None
   pub labelled : ns.labelled.items ≡ []
   pub free_end : ns.free_end ≡ None
@@ -43,6 +44,7 @@ pub record IsFresh (rows classes root amount : ℕ) (t : SearchTree) : Type 0 wh
 pub record AreListed (ns : Labels) (taken : List ℕ) : Type 0 where
   pub all : (g : ℕ) (n : Label) → label_of ns g ≡ Some n → IsIn ns.labelled.items g ⊎ IsIn taken g
   pub due_long : length ns.due.items ≡ length ns.of_class.items
+  pub unlabelled : AreNeverDue ns.of_class.items ns.due.items
   pub labelled_in : (i : ℕ) → i < length ns.labelled.items → number ns.labelled.items i < length ns.of_class.items
   pub taken_in : (i : ℕ) → i < length taken → number taken i < length ns.of_class.items
 

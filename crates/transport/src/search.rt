@@ -235,6 +235,7 @@ pub(crate) fn scan_row(
 }
 
 /// Labels the classes of a row's arcs that are nearer than the free end, block by block.
+#[inline(never)]
 pub(crate) fn label_arcs(
     instance: &Instance,
     assignment: &Assignment,

@@ -6,7 +6,7 @@ ghost use Rattle.transport.specs.Shares.{AllBelow, holders_of};
 ghost use Rattle.transport.specs.ReachedRows.{IsReachedRows, IsUnreached, IsReached, IsGrown, is_reached, bottleneck};
 ghost use Rattle.transport.specs.States.{IsTakenUp};
 
-use crate::labels::Labels;
+use crate::labels::{Labels, NEVER};
 use std::alloc::{AllocError, Global};
 use twins::Share;
 
@@ -27,7 +27,7 @@ impl SearchTree {
     {
         let reached_rows = ReachedRows::new(alloc, rows)?;
         let of_class = vec![in alloc; None; classes]?;
-        let due = vec![in alloc; 0u64; classes]?;
+        let due = vec![in alloc; NEVER; classes]?;
         let taken = vec![in alloc; false; classes]?;
         Ok(SearchTree {
             reached_rows,

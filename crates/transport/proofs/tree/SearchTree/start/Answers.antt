@@ -8,6 +8,7 @@ returns c = λ rows classes tidy lt. record {
   labels = record {
     labels_long = search rules;
     due_long = search rules;
+    due = c.clear-2.ensures.due;
     of_class = c.clear-2.ensures.of_class;
     labelled = c.clear-2.ensures.labelled;
     free_end = c.clear-2.ensures.free_end;
