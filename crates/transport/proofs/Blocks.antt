@@ -4,10 +4,10 @@ use Rattle.std.specs.FinSet as set
 use Rattle.std.specs.Cmp.{nat_cmp_total}
 use Rattle.std.specs.Prelude.{slice_set as set_at}
 use Rattle.std.proofs.lemmas.List.{length_push, get_or_push, get_or_append_left, get_or_read, length-set, get_or-set_same, get_or-set_other}
-use Rattle.std.proofs.lemmas.Bool.{cases_eq, cases_lt}
+use Rattle.std.proofs.lemmas.Bool.{cases_eq, cases_lt, cases_Bool}
 use Rattle.std.proofs.lemmas.Bool.Decides.{nat_tests}
 use Rattle.cpu_set.specs.Ids.{Ids}
-use Rattle.cpu_set.specs.Pointwise.{contains-empty, contains-remove}
+use Rattle.cpu_set.specs.Pointwise.{contains-empty, contains-insert, contains-remove}
 use Rattle.certificate.specs.declared.rows.Offer.{Offer}
 use Rattle.transport.specs.Numbers.{number, IsIn, IsListing}
 use Rattle.transport.specs.ReachedRows.{is_reached}
@@ -15,7 +15,7 @@ use Rattle.transport.specs.Searches.{is_taken, IsCovered}
 use Rattle.transport.specs.States.{IsRunning}
 use Rattle.transport.specs.Scans.{arc_at, IsPast, IsLimit, IsBoundOf, CanLabelArc, IsArcLabelled, HasLabelled}
 use Rattle.transport.specs.SortedArcs.{IsSortedArcs, IsScanned}
-use Rattle.transport.specs.Blocks.{IsFirstOf, InBlocks, IsArcOf, AreBlocks, AreTakenFirsts, CanLabelBlock, HasLabelledBlock, HasLabelledBlocks, IsFirstIn}
+use Rattle.transport.specs.Blocks.{IsFirstOf, InBlocks, IsArcOf, AreBlocks, AreFirstsOfTaken, AreTakenFirsts, AreNoted, CanLabelBlock, HasLabelledBlock, HasLabelledBlocks, IsFirstIn}
 use Rattle.transport.specs.declared.arcs.Arc.{Arc}
 use Rattle.transport.specs.declared.arcs.Block.{Block}
 use Rattle.transport.specs.declared.arcs.SortedArcs.{SortedArcs}
@@ -217,8 +217,8 @@ block_more ws s t mid new k firsts block before left cpu g h less own n = record
     still : (j : ℕ) → is_taken new.tree_classes j ≡ false → is_taken mid.tree_classes j ≡ false
     still j off = subst (λ ts. is_taken ts j ≡ false) n.better.tree_classes off
 
-    here : (j : ℕ) → g ≡ j → is_taken new.tree_classes j ≡ false → IsCovered s.values.items s.prices.items new.labels k j block.weight
-    here j e off = subst (λ x. IsCovered s.values.items s.prices.items new.labels k x block.weight) e (n.own (subst (λ x. is_taken new.tree_classes x ≡ false) (sym e) off))
+    here : (j : ℕ) → g ≡ j → IsCovered s.values.items s.prices.items new.labels k j block.weight
+    here j e = subst (λ x. IsCovered s.values.items s.prices.items new.labels k x block.weight) e n.own
 
     other : (a b : ℕ) (v : Bool) → (a ≡ b → ⊥) → v ≡ true → (not (a == b) && v) ≡ true
     other a b v ne on = grind (arith, nat_tests)
@@ -226,7 +226,7 @@ block_more ws s t mid new k firsts block before left cpu g h less own n = record
     each : (c j : ℕ) → set.contains block.firsts c ≡ true → j < length firsts → number firsts j ≡ c → is_taken new.tree_classes j ≡ false → (set.contains left c ≡ true) ⊎ IsCovered s.values.items s.prices.items new.labels k j block.weight
     each c j has lt is off = elim (h.each c j has lt is (still j off)) [
       | inl on ↦ elim (cases_eq c cpu) [
-        | inl e ↦ inr (here j (own j lt (is ∙ e)) off)
+        | inl e ↦ inr (here j (own j lt (is ∙ e)))
         | inr ne ↦ inl (rw less (contains-remove before cpu c ∙ other c cpu _ ne on))
       ]
       | inr covered ↦ inr (n.better.covers k j block.weight covered)
@@ -250,9 +250,10 @@ left_fewer before left cpu less on = omega (arith, fewer, some)
     some none = not_both _ on (ap (λ s. set.contains s cpu) (set.empty_of_len before none) ∙ contains-empty cpu)
 
 -- a class of a block can be labelled
-pub block_arc : (ws : ℕ → ℕ → Option ℕ) (s : Assignment) (t mid : SearchTree) (k : ℕ) (firsts : List ℕ) (block : Block) (left : Ids) (cpu g : ℕ) → CanLabelBlock (ws k) s.residual.items firsts block → set.contains block.firsts cpu ≡ true
-    → ((h : ℕ) → h < length firsts → number firsts h ≡ cpu → g ≡ h) → is_reached t.reached_rows k ≡ true → HasLabelledBlock ws s k t mid firsts block left → CanLabelArc ws s mid k (record { weight = block.weight; class = g })
-block_arc ws s t mid k firsts block left cpu g can has own on h =
+pub block_arc : (ws : ℕ → ℕ → Option ℕ) (s : Assignment) (t mid : SearchTree) (k : ℕ) (firsts : List ℕ) (block : Block) (taken left : Ids) (cpu g : ℕ) → CanLabelBlock (ws k) s.residual.items firsts block → set.contains block.firsts cpu ≡ true
+    → AreTakenFirsts firsts taken t.tree_classes → set.contains taken cpu ≡ false → ((h : ℕ) → h < length firsts → number firsts h ≡ cpu → g ≡ h) → is_reached t.reached_rows k ≡ true → HasLabelledBlock ws s k t mid firsts block left
+    → CanLabelArc ws s mid k (record { weight = block.weight; class = g })
+block_arc ws s t mid k firsts block taken left cpu g can has marks off own on h =
     let c = can cpu has in
     let f = first_of_class firsts cpu g c.0 own in
     let facts = c.1 g f.within f.is in
@@ -261,7 +262,14 @@ block_arc ws s t mid k firsts block left cpu g can has own on h =
       there = subst (λ q. is_reached q k ≡ true) (sym h.better.reached_rows) on;
       weighs = facts.0;
       full = facts.1;
+      left = subst (λ ts. is_taken ts g ≡ false) (sym h.better.tree_classes) (still_left f);
     }
+  where
+    still_left : IsFirstOf firsts g cpu → is_taken t.tree_classes g ≡ false
+    still_left f = elim (cases_Bool (is_taken t.tree_classes g)) [
+      | inl up ↦ absurd (not_both _ (subst (λ n. set.contains taken n ≡ true) f.is (marks.all g f.within up)) off)
+      | inr not ↦ not
+    ]
 
 -- ---- block by block
 
@@ -354,12 +362,45 @@ block_can ws offers firsts residual l at block limit h scanned lt is below cpu h
 
 -- ---- the first CPUs of what is taken up
 
-pub taken_firsts_more : (firsts : List ℕ) (old new : Ids) (ts : TreeClasses) → AreTakenFirsts firsts old ts → IsListing ts.order.items ts.taken.items
-    → ((cpu : ℕ) → set.contains new cpu ≡ true → (set.contains old cpu ≡ true) ⊎ IsFirstIn firsts ts.order.items cpu) → AreTakenFirsts firsts new ts
-taken_firsts_more firsts old new ts h listing from cpu g on lt is = elim (from cpu on) [
-  | inl was ↦ h cpu g was lt is
-  | inr f ↦ subst (λ j. is_taken ts j ≡ true) (sym (f.first.once g lt is)) (listing.on f.at f.within)
-]
+pub taken_firsts_more : (firsts : List ℕ) (old new : Ids) (ts : TreeClasses) → AreFirstsOfTaken firsts old ts → IsListing ts.order.items ts.taken.items
+    → ((cpu : ℕ) → set.contains new cpu ≡ true → (set.contains old cpu ≡ true) ⊎ IsFirstIn firsts ts.order.items cpu) → AreNoted firsts new ts.order.items (length ts.order.items) → AreTakenFirsts firsts new ts
+taken_firsts_more firsts old new ts h listing from noted = record {
+  only = λ cpu g on lt is. elim (from cpu on) [
+    | inl was ↦ h cpu g was lt is
+    | inr f ↦ subst (λ j. is_taken ts j ≡ true) (sym (f.first.once g lt is)) (listing.on f.at f.within)
+  ];
+  all = λ g lt on. (let p = listing.all g on in subst (λ j. set.contains new (number firsts j) ≡ true) p.is (noted p.index p.within (subst (λ j. j < length firsts) (sym p.is) lt)));
+}
 
-pub taken_firsts_kept : (firsts : List ℕ) (cpus : Ids) (old new : TreeClasses) → AreTakenFirsts firsts cpus old → ((g : ℕ) → is_taken old g ≡ true → is_taken new g ≡ true) → AreTakenFirsts firsts cpus new
+-- a class more is noted by its first CPU, or has none
+pub noted_more : (firsts order : List ℕ) (old new : Ids) (at cpu : ℕ) → new ≡ set.insert old cpu → number firsts (number order at) ≡ cpu → AreNoted firsts old order at → AreNoted firsts new order (at + 1)
+noted_more firsts order old new at cpu grown is h i lt within =
+    rw grown (contains-insert old cpu (number firsts (number order i)) ∙ elim (cases_lt i at) [
+      | inl before ↦ or_right (number firsts (number order i) == cpu) _ (h i before within)
+      | inr after ↦ or_left _ _ (here i (omega (arith, lt, after)))
+    ])
+  where
+    or_right : (a b : Bool) → b ≡ true → (a || b) ≡ true
+    or_right true b on = refl
+    or_right false b on = on
+
+    itself : (a b : ℕ) → a ≡ b → (a == b) ≡ true
+    itself a b e = grind (arith, nat_tests)
+
+    here : (j : ℕ) → j ≡ at → (number firsts (number order j) == cpu) ≡ true
+    here j e = itself _ _ (ap (λ k. number firsts (number order k)) e ∙ is)
+
+pub noted_past : (firsts order : List ℕ) (cpus : Ids) (at : ℕ) → length firsts ≤ number order at → AreNoted firsts cpus order at → AreNoted firsts cpus order (at + 1)
+noted_past firsts order cpus at past h i lt within = elim (cases_lt i at) [
+  | inl before ↦ h i before within
+  | inr after ↦ absurd (none i (omega (arith, lt, after)) within)
+]
+  where
+    none : (j : ℕ) → j ≡ at → number order j < length firsts → ⊥
+    none j e lt_firsts = omega (arith, ap (number order) e, lt_firsts, past)
+
+pub noted_kept : (firsts : List ℕ) (cpus : Ids) (old new : List ℕ) (upto : ℕ) → upto ≤ length old → ((i : ℕ) → i < length old → number new i ≡ number old i) → AreNoted firsts cpus old upto → AreNoted firsts cpus new upto
+noted_kept firsts cpus old new upto le before h i lt = rw (before i (omega arith)) (h i lt)
+
+pub taken_firsts_kept : (firsts : List ℕ) (cpus : Ids) (old new : TreeClasses) → AreFirstsOfTaken firsts cpus old → ((g : ℕ) → is_taken old g ≡ true → is_taken new g ≡ true) → AreFirstsOfTaken firsts cpus new
 taken_firsts_kept firsts cpus old new h kept cpu g on lt is = kept g (h cpu g on lt is)

@@ -3,7 +3,7 @@ use Rattle.std.proofs.Common.{◌≡◌, ℕ, ◌+◌, ◌-◌, ◌^◌, ◌<◌
 use Rattle.std.proofs.lemmas.Bool.{cases_eq}
 use Rattle.transport.specs.Numbers.{number, IsIn}
 use Rattle.transport.specs.ReachedRows.{is_reached, row_at}
-use Rattle.transport.specs.Searches.{label_of, is_taken, never, AreNeverDue, HasLabel, IsLabelled, IsFreeEnd, IsSearch, IsCovered}
+use Rattle.transport.specs.Searches.{label_of, is_taken, AreNeverDue, HasLabel, IsLabelled, IsFreeEnd, IsSearch, IsCovered}
 use Rattle.transport.specs.States.{IsRunning, HasScanned, cell}
 use Rattle.transport.specs.Scans.{IsPast, IsLimit, IsBoundOf, IsLabelledNow, IsBetter, CanImprove, CanLabelArc, IsArcLabelled}
 use Rattle.transport.specs.declared.labels.Label.{Label}
@@ -229,17 +229,14 @@ better_more ws s a b d f g = record {
 pub scanned_better : (ws : ℕ → ℕ → Option ℕ) (s : Assignment) (old new : SearchTree) (upto : ℕ) → IsBetter ws s old new → HasScanned ws s old upto → HasScanned ws s new upto
 scanned_better ws s old new upto b all = rw (b.reached_rows, b.tree_classes) (record { covered = λ k j w on here its off. b.covers k j w (all.covered k j w on here its off) })
 
--- the class is labelled, or need not be
-pub arc_labelled : (ws : ℕ → ℕ → Option ℕ) (s : Assignment) (t new : SearchTree) (k : ℕ) (arc : Arc) → CanLabelArc ws s t k arc → is_taken t.tree_classes arc.class ≡ false
-    → new.reached_rows ≡ t.reached_rows → new.tree_classes ≡ t.tree_classes → IsLabelledNow s.values.items (number s.prices.items arc.class + number s.values.items (row_at t.reached_rows 0)) t.labels new.labels arc.class (record { row = k; weight = arc.weight }) → IsArcLabelled ws s k t new arc
-arc_labelled ws s t new k arc can left reached_rows tree_classes n = record {
-  better = better_labelled ws s t new arc.class _ can.running reached_rows tree_classes n can.there can.weighs can.full left;
+-- the class of an arc is labelled
+pub arc_labelled : (ws : ℕ → ℕ → Option ℕ) (s : Assignment) (t new : SearchTree) (k : ℕ) (arc : Arc) → CanLabelArc ws s t k arc → new.reached_rows ≡ t.reached_rows → new.tree_classes ≡ t.tree_classes
+    → IsLabelledNow s.values.items (number s.prices.items arc.class + number s.values.items (row_at t.reached_rows 0)) t.labels new.labels arc.class (record { row = k; weight = arc.weight }) → IsArcLabelled ws s k t new arc
+arc_labelled ws s t new k arc can reached_rows tree_classes n = record {
+  better = better_labelled ws s t new arc.class _ can.running reached_rows tree_classes n can.there can.weighs can.full can.left;
   free_end = n.free_end;
-  own = λ _. covered_own ws s t new arc.class _ can.running reached_rows tree_classes n can.there can.weighs can.full left;
+  own = covered_own ws s t new arc.class _ can.running reached_rows tree_classes n can.there can.weighs can.full can.left;
 }
-
-pub arc_taken : (ws : ℕ → ℕ → Option ℕ) (s : Assignment) (t : SearchTree) (k : ℕ) (arc : Arc) → CanLabelArc ws s t k arc → is_taken t.tree_classes arc.class ≡ true → IsArcLabelled ws s k t t arc
-arc_taken ws s t k arc can on = record { better = better_same ws s t can.running; free_end = refl; own = λ off. absurd (not_both _ on off) }
 
 pub past_of : (limit : Option ℕ) (bound w : ℕ) → IsBoundOf limit bound → w < 2 ^ 64 - 1 → bound ≤ w → IsPast limit w
 past_of None bound w is small le = omega (arith, is, small, le)
@@ -250,17 +247,16 @@ past_rise None v w le h = h
 past_rise (Some x) v w le h = omega (arith, h, le)
 
 -- the class of an arc can be labelled from the row, by the values of the scan
-pub can_improve : (ws : ℕ → ℕ → Option ℕ) (s : Assignment) (t : SearchTree) (k : ℕ) (arc : Arc) (due : ℕ) → CanLabelArc ws s t k arc → is_taken t.tree_classes arc.class ≡ false
-    → due + number s.values.items k ≡ arc.weight + (number s.prices.items arc.class + number s.values.items (row_at t.reached_rows 0))
+pub can_improve : (ws : ℕ → ℕ → Option ℕ) (s : Assignment) (t : SearchTree) (k : ℕ) (arc : Arc) (due : ℕ) → CanLabelArc ws s t k arc → due + number s.values.items k ≡ arc.weight + (number s.prices.items arc.class + number s.values.items (row_at t.reached_rows 0))
     → CanImprove s.values.items (number s.prices.items arc.class + number s.values.items (row_at t.reached_rows 0)) t.labels arc.class (record { row = k; weight = arc.weight }) due
-can_improve ws s t k arc due can left is_due = record {
+can_improve ws s t k arc due can is_due = record {
   class = omega (arith, can.running.fit.class k arc.class arc.weight can.weighs, can.running.search.labels_long);
   due_class = omega (arith, can.running.fit.class k arc.class arc.weight can.weighs, can.running.search.due_long);
   is_due = is_due;
-  before = λ n is. can.running.search.due arc.class n is left;
+  before = λ n is. can.running.search.due arc.class n is can.left;
   unlabelled = λ none. (let is_never = can.running.search.unlabelled arc.class (omega (arith, can.running.fit.class k arc.class arc.weight can.weighs, can.running.search.labels_long)) none in
       omega (arith, is_never, is_due, can.running.fit.low k arc.class arc.weight can.weighs, can.running.search.prices_fit arc.class, can.running.search.values_fit (row_at t.reached_rows 0)));
-  listed = λ n is. can.running.search.listed arc.class n is left;
+  listed = λ n is. can.running.search.listed arc.class n is can.left;
 }
 
 pub limit_same : (values : List ℕ) (k : ℕ) (a b : Option FreeEnd) (limit : Option ℕ) → b ≡ a → IsLimit values k a limit → IsLimit values k b limit

@@ -1,6 +1,6 @@
 -- A step of a search, for an assignment and a tree.
 use Rattle.std.proofs.Common.{◌≡◌, ℕ, zero, suc, ◌∷◌, take, ◌+◌, ◌<◌, ◌≤◌, Bool, true, false, List, [], length, get_or, Option, Some, None, Vec, Global, refl, sym, ap, ◌∙◌, subst, inl, inr, arith}
-use Rattle.std.proofs.lemmas.List.{get_or_read, get_or-set_same, get_or-set_other, length_push, length-take-le, get_or-take}
+use Rattle.std.proofs.lemmas.List.{get_or_read, get_or-set_same, get_or-set_other, get_or_append_left, length_push, length-take-le, get_or-take}
 use Rattle.std.proofs.lemmas.Bool.{cases_lt}
 use Rattle.transport.specs.Numbers.{number, IsListing, IsRaised}
 use Rattle.twins.specs.Holdings.{share_of}
@@ -123,6 +123,7 @@ taken_none s t done all = record {
   longer = omega arith;
   root = λ ws h. record { row = refl; bottlenecks = refl };
   kept = λ g on. on;
+  before = λ i lt. refl;
   all = all;
   grew = inl refl;
 }
@@ -148,6 +149,7 @@ taken_one s old new g n shares its left equal in_range long are up = record {
   longer = up.grown.longer;
   root = λ ws h. running_root ws s old new g n shares h its left equal in_range are up;
   kept = λ h on. rw up.taken.taken (get_or-set_other old.tree_classes.taken.items g h true false (λ e. not_both _ (subst (λ x. is_taken old.tree_classes x ≡ true) e on) left) ∙ on);
+  before = λ i lt. rw up.taken.order (get_or_append_left old.tree_classes.order.items (g ∷ []) 0 i lt);
   all = all;
   grew = inr (omega (arith, ap length up.taken.order, length_push old.tree_classes.order.items g));
 }
@@ -169,6 +171,10 @@ taken_more s a b d xs i x lt is f g = record {
   root = λ ws h. (let p = f.root ws h in let r = g.root ws (f.running ws h) in
       record { row = r.row ∙ p.row; bottlenecks = subst (λ k. bottleneck d.reached_rows k ≡ bottleneck b.reached_rows k) p.row r.bottlenecks ∙ p.bottlenecks });
   kept = λ k on. g.kept k (f.kept k on);
+  before = λ j lt. g.before j (elim f.grew [
+    | inl same ↦ subst (λ ts. j < length ts.order.items) (sym same) lt
+    | inr more ↦ omega (arith, more, lt)
+  ]) ∙ f.before j lt;
   all = λ j n within. all j n (omega (arith, within, length-take-le (i + 1) xs (omega arith)));
   grew = elim f.grew [
     | inl same ↦ elim g.grew [ inl again ↦ inl (again ∙ same) | inr more ↦ inr (subst (λ ts. length ts.order.items < length d.tree_classes.order.items) same more) ]

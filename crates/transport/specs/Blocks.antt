@@ -40,8 +40,17 @@ pub record AreBlocks (firsts : List ℕ) (arcs : List Arc) (blocks : List Block)
   pub classes : (i : ℕ) → i < length arcs → (arc_at arcs i).class < length firsts
 
 -- these CPUs are the first ones of classes that are taken up
-abbrev pub AreTakenFirsts : List ℕ → Ids → TreeClasses → Type 0
-AreTakenFirsts firsts cpus ts = (cpu g : ℕ) → set.contains cpus cpu ≡ true → g < length firsts → number firsts g ≡ cpu → is_taken ts g ≡ true
+abbrev pub AreFirstsOfTaken : List ℕ → Ids → TreeClasses → Type 0
+AreFirstsOfTaken firsts cpus ts = (cpu g : ℕ) → set.contains cpus cpu ≡ true → g < length firsts → number firsts g ≡ cpu → is_taken ts g ≡ true
+
+-- and those of all that are taken up
+pub record AreTakenFirsts (firsts : List ℕ) (cpus : Ids) (ts : TreeClasses) : Type 0 where
+  pub only : AreFirstsOfTaken firsts cpus ts
+  pub all : (g : ℕ) → g < length firsts → is_taken ts g ≡ true → set.contains cpus (number firsts g) ≡ true
+
+-- among these CPUs are the first ones of the classes that are listed up to a place
+abbrev pub AreNoted : List ℕ → Ids → List ℕ → ℕ → Type 0
+AreNoted firsts cpus order upto = (i : ℕ) → i < upto → number order i < length firsts → set.contains cpus (number firsts (number order i)) ≡ true
 
 -- the classes whose first CPUs are in the block weigh as much in a row, and have no free CPU
 abbrev pub CanLabelBlock : (ℕ → Option ℕ) → List ℕ → List ℕ → Block → Type 0

@@ -83,18 +83,19 @@ pub record IsBetter (ws : ℕ → ℕ → Option ℕ) (s : Assignment) (old new 
   pub reached_rows : new.reached_rows ≡ old.reached_rows
   pub tree_classes : new.tree_classes ≡ old.tree_classes
 
--- a reached row has that weight for a full class
+-- a reached row has that weight for a full class that is not taken up
 pub record CanLabelArc (ws : ℕ → ℕ → Option ℕ) (s : Assignment) (t : SearchTree) (k : ℕ) (arc : Arc) : Type 0 where
   pub running : IsRunning ws s t
   pub there : is_reached t.reached_rows k ≡ true
   pub weighs : ws k arc.class ≡ Some arc.weight
   pub full : number s.residual.items arc.class ≡ 0
+  pub left : is_taken t.tree_classes arc.class ≡ false
 
--- the class is labelled, or lies past the free end, or is taken up
+-- the class is labelled, or lies past the free end
 pub record IsArcLabelled (ws : ℕ → ℕ → Option ℕ) (s : Assignment) (k : ℕ) (old new : SearchTree) (arc : Arc) : Type 0 where
   pub better : IsBetter ws s old new
   pub free_end : new.labels.free_end ≡ old.labels.free_end
-  pub own : is_taken new.tree_classes arc.class ≡ false → IsCovered s.values.items s.prices.items new.labels k arc.class arc.weight
+  pub own : IsCovered s.values.items s.prices.items new.labels k arc.class arc.weight
 
 -- the first arcs of a row are labelled, except for those of classes taken up
 pub record HasLabelled (ws : ℕ → ℕ → Option ℕ) (s : Assignment) (k : ℕ) (old new : SearchTree) (arcs : List Arc) (upto : ℕ) : Type 0 where

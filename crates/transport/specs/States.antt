@@ -72,6 +72,7 @@ pub record HasTaken (s : Assignment) (old new : SearchTree) (done : List ℕ) : 
   pub longer : length old.reached_rows.order.items ≤ length new.reached_rows.order.items
   pub root : (ws : ℕ → ℕ → Option ℕ) → IsRunning ws s old → IsSameRoot old.reached_rows new.reached_rows
   pub kept : (g : ℕ) → is_taken old.tree_classes g ≡ true → is_taken new.tree_classes g ≡ true
+  pub before : (i : ℕ) → i < length old.tree_classes.order.items → number new.tree_classes.order.items i ≡ number old.tree_classes.order.items i
   pub all : (i : ℕ) (n : Label) → i < length done → label_of old.labels (number done i) ≡ Some n
       → number s.values.items n.row ≡ n.weight + number s.prices.items (number done i) → is_taken new.tree_classes (number done i) ≡ true
   pub grew : (new.tree_classes ≡ old.tree_classes) ⊎ (length old.tree_classes.order.items < length new.tree_classes.order.items)

@@ -1,5 +1,5 @@
 //! What a search reads: rows, kinds, and classes by their first CPUs.
-ghost use Rattle.std.specs.Prelude.{◌≡◌, ℕ, ◌<◌, true, map, length, IfOk, IfSome};
+ghost use Rattle.std.specs.Prelude.{◌≡◌, ℕ, ◌<◌, ◌≤◌, true, map, length, IfOk, IfSome, MatchOption};
 ghost use Rattle.cpu_set.specs.Members.{IsCpu};
 ghost use Rattle.transport.specs.Blocks.{IsFirstOf};
 ghost use Rattle.transport.specs.Numbers.{number, IsIn, IsEachOnce};
@@ -70,7 +70,7 @@ impl Representatives {
 
     /// The first CPU of a class, if there is the class.
     pub(crate) fn first(&self, class: usize) -> Option<u16>
-        ensures its { IfSome result (λ cpu. IsFirstOf self.now class cpu) }
+        ensures its { MatchOption result (length self.now ≤ class) (λ cpu. IsFirstOf self.now class cpu) }
         ensures in_range { IfSome result (λ cpu. IsCpu cpu) }
     {
         match self.cpus.get(class) {

@@ -6,7 +6,7 @@ ghost use Rattle.transport.specs.Weights.{weights, AreSortedArcs};
 ghost use Rattle.transport.specs.Answers.{IsAnswer, IsSameRest, IsNoFreeEndAt0, IsFreeEndAt0};
 ghost use Rattle.transport.specs.ReachedRows.{is_reached, row_at};
 ghost use Rattle.transport.specs.SortedArcs.{IsSortedArcs, IsFoundFreeEnd, IsScanned};
-ghost use Rattle.transport.specs.Blocks.{AreTakenFirsts, CanLabelBlock, HasLabelledBlock, IsFirstIn};
+ghost use Rattle.transport.specs.Blocks.{AreNoted, AreTakenFirsts, CanLabelBlock, HasLabelledBlock, IsFirstIn};
 ghost use Rattle.std.specs.FinSet as set;
 ghost use Rattle.twins.specs.Kinds.{offers_of};
 ghost use Rattle.transport.specs.Scans.{IsScan, IsLimit, IsBoundOf, CanLabelArc, IsArcLabelled, HasLabelled, IsBetter, IsSeen, CanLimit, IsFreeEndLabelled};
@@ -109,7 +109,8 @@ fn strike_when_many(tree: &mut SearchTree, struck: usize) -> usize
 
 /// Adds the first CPUs of the classes that are listed from a place on.
 fn note_taken(taken_firsts: &mut IdSet, firsts: &Representatives, order: &[usize], from: usize)
-    ensures { (cpu : ℕ) → set.contains taken_firsts.new cpu ≡ true → (set.contains taken_firsts.old cpu ≡ true) ⊎ IsFirstIn firsts.now order.now cpu }
+    ensures only { (cpu : ℕ) → set.contains taken_firsts.new cpu ≡ true → (set.contains taken_firsts.old cpu ≡ true) ⊎ IsFirstIn firsts.now order.now cpu }
+    ensures all { AreNoted firsts.now taken_firsts.old order.now from → AreNoted firsts.now taken_firsts.new order.now (length order.now) }
 {
     for at in from..order.len() {
         if let Some(cpu) = firsts.first(order[at]) {
@@ -313,7 +314,7 @@ fn label_block(
     Ok(())
 }
 
-/// Labels the class of a row's arc, unless it lies past the free end or is taken up.
+/// Labels the class of a row's arc, unless it lies past the free end.
 fn label_arc(
     assignment: &Assignment,
     tree: &mut SearchTree,
@@ -325,9 +326,6 @@ fn label_arc(
     requires can { (ws : ℕ → ℕ → Option ℕ) × CanLabelArc ws assignment.now tree.old scan.row arc }
     ensures { OnOk result ((ws : ℕ → ℕ → Option ℕ) → CanLabelArc ws assignment.now tree.old scan.row arc → IsArcLabelled ws assignment.now scan.row tree.old tree.new arc) }
 {
-    if tree.tree_classes.taken[arc.class] {
-        return Ok(());
-    }
     let reach = arc.weight as u64 + assignment.prices[arc.class];
     if reach >= scan.bound {
         return Ok(());

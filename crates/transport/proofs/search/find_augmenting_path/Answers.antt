@@ -1,8 +1,8 @@
-use Rattle.std.proofs.Common.{◌≡◌, ◌⊎◌, ℕ, ◌-◌, ◌<◌, true, length, refl, sym, ap, ◌∙◌, subst, arith}
+use Rattle.std.proofs.Common.{◌≡◌, ◌⊎◌, ℕ, ◌-◌, ◌<◌, ◌≤◌, true, length, inl, inr, refl, sym, ap, ◌∙◌, subst, arith}
 use Rattle.std.specs.FinSet as set
 use Rattle.cpu_set.specs.Pointwise.{contains-empty}
-use Rattle.transport.specs.Blocks.{AreTakenFirsts, IsFirstIn}
-use Rattle.transport.proofs.Blocks.{taken_firsts_more, taken_firsts_kept}
+use Rattle.transport.specs.Blocks.{AreFirstsOfTaken, AreTakenFirsts, AreNoted, IsFirstIn}
+use Rattle.transport.proofs.Blocks.{taken_firsts_more, taken_firsts_kept, noted_kept}
 use Rattle.transport.proofs.Numbers.{not_both, read_number}
 use Rattle.transport.specs.States.{IsRunning, HasScanned, IsLeastOf, IsLeastUpTo, IsSameRoot}
 use Rattle.transport.specs.declared.tree.ReachedRows.{ReachedRows}
@@ -26,6 +26,8 @@ steps-init c = record {
   rest = record { residual = refl; deficit = refl; holdings = refl };
   root = record { row = refl; bottlenecks = refl };
   taken = λ cpu g on lt is. absurd (not_both _ on (rw c.empty-taken_firsts.ensures (contains-empty cpu)));
+  noted_in = omega arith;
+  noted = λ i lt. absurd (omega (arith, lt));
 }
 
 better : (c : After-least_slack) → IsBetter (weights c.args.instance.now) c.steps.assignment c.steps.tree (with_nearest c.scan_rows.new.tree c.least_slack.new.nearest)
@@ -39,12 +41,19 @@ least_slack-requires c = record {
   root_at = read_number _ 0 _ _ c.in_ok-scan_rows.ensures.better.running.search.rooted refl c.index.ensures;
 }
 
--- the first CPUs that are noted are of classes that are taken up
+-- the first CPUs of all that is taken up are noted by then
+all_noted : (c : After-note_taken) → AreNoted c.args.instance.now.firsts c.note_taken.new.taken_firsts c.find_free_class.new.tree.tree_classes.order.items (length c.find_free_class.new.tree.tree_classes.order.items)
+all_noted c =
+    let b = c.in_ok-free_end.ensures.better in
+    subst (λ order. AreNoted c.args.instance.now.firsts c.steps.taken_firsts order c.steps.noted → AreNoted c.args.instance.now.firsts c.note_taken.new.taken_firsts order (length order)) c.deref.ensures.value c.note_taken.ensures.all
+    (subst (λ (ts : TreeClasses). AreNoted c.args.instance.now.firsts c.steps.taken_firsts ts.order.items c.steps.noted) (sym b.tree_classes) c.steps.invariant.noted)
+
 noted : (c : After-note_taken) → AreTakenFirsts c.args.instance.now.firsts c.note_taken.new.taken_firsts c.find_free_class.new.tree.tree_classes
 noted c =
     let b = c.in_ok-free_end.ensures.better in
-    taken_firsts_more _ c.steps.taken_firsts _ c.find_free_class.new.tree.tree_classes (subst (AreTakenFirsts c.args.instance.now.firsts c.steps.taken_firsts) (sym b.tree_classes) c.steps.invariant.taken) b.running.search.listing
-    (subst (λ order. (cpu : ℕ) → set.contains c.note_taken.new.taken_firsts cpu ≡ true → (set.contains c.steps.taken_firsts cpu ≡ true) ⊎ IsFirstIn c.args.instance.now.firsts order cpu) c.deref.ensures.value c.note_taken.ensures)
+    taken_firsts_more _ c.steps.taken_firsts _ c.find_free_class.new.tree.tree_classes (subst (AreFirstsOfTaken c.args.instance.now.firsts c.steps.taken_firsts) (sym b.tree_classes) c.steps.invariant.taken) b.running.search.listing
+    (subst (λ order. (cpu : ℕ) → set.contains c.note_taken.new.taken_firsts cpu ≡ true → (set.contains c.steps.taken_firsts cpu ≡ true) ⊎ IsFirstIn c.args.instance.now.firsts order cpu) c.deref.ensures.value c.note_taken.ensures.only)
+    (all_noted c)
 
 pub scan_rows-requires : goal.scan_rows-requires
 scan_rows-requires c =
@@ -121,6 +130,9 @@ steps-preserved c =
     let all = c.in_ok-scan_rows.ensures.scanned in
     let l = least i.In-Some-least in
     let r = c.update_duals.ensures in
+    let q = c.scan_rows.new.tree.tree_classes in
+    let n : c.len-noted.result ≡ length q.order.items = omega (arith, c.len-noted.ensures, c.find_free_class.new.tree.tree_classes.order.ok.0, ap (λ (ts : TreeClasses). length ts.order.items) c.in_ok-scan_rows.ensures.better.tree_classes) in
+    let more : length q.order.items ≤ length v.tree_classes.order.items = elim c.in_ok-take_nearest.ensures.grew [ inl same ↦ omega (arith, ap (λ (ts : TreeClasses). length ts.order.items) same) | inr longer ↦ omega (arith, longer) ] in
     let e : c.len-scanned.result ≡ length c.scan_rows.new.tree.reached_rows.order.items = omega (arith, c.len-scanned.ensures, c.scan_rows.new.tree.reached_rows.order.ok.0) in
     record {
       running = running_struck (weights c.args.instance.now) c.update_duals.new.assignment v u x (step_running _ _ c.update_duals.new.assignment _ _ _ b all l r.values r.prices r.residual r.holdings _ c.in_ok-take_nearest.ensures);
@@ -130,8 +142,14 @@ steps-preserved c =
       scanned = scanned_struck (weights c.args.instance.now) c.update_duals.new.assignment v u x c.len-scanned.result (subst (λ n. HasScanned (weights c.args.instance.now) c.update_duals.new.assignment v n) (sym e)
           (step_scanned_on _ _ c.update_duals.new.assignment _ _ _ b all l r.values r.prices r.residual r.holdings _ c.in_ok-take_nearest.ensures));
       rest = record { residual = r.residual ∙ c.steps.invariant.rest.residual; deficit = r.deficit ∙ c.steps.invariant.rest.deficit; holdings = r.holdings ∙ c.steps.invariant.rest.holdings };
-      taken = subst (AreTakenFirsts c.args.instance.now.firsts c.note_taken.new.taken_firsts) (sym x.tree_classes) (taken_firsts_kept _ _ c.scan_rows.new.tree.tree_classes v.tree_classes
-          (subst (AreTakenFirsts c.args.instance.now.firsts c.note_taken.new.taken_firsts) (sym c.in_ok-scan_rows.ensures.better.tree_classes) (noted i.After-note_taken)) c.in_ok-take_nearest.ensures.kept);
+      taken = subst (AreFirstsOfTaken c.args.instance.now.firsts c.note_taken.new.taken_firsts) (sym x.tree_classes)
+          (taken_firsts_kept _ _ c.scan_rows.new.tree.tree_classes v.tree_classes
+          (subst (AreFirstsOfTaken c.args.instance.now.firsts c.note_taken.new.taken_firsts) (sym c.in_ok-scan_rows.ensures.better.tree_classes) (noted i.After-note_taken).only) c.in_ok-take_nearest.ensures.kept);
+      noted_in = omega (arith, n, more, ap (λ (ts : TreeClasses). length ts.order.items) x.tree_classes);
+      noted = subst (λ (ts : TreeClasses). AreNoted c.args.instance.now.firsts c.note_taken.new.taken_firsts ts.order.items c.len-noted.result) (sym x.tree_classes)
+          (noted_kept _ _ c.scan_rows.new.tree.tree_classes.order.items v.tree_classes.order.items _ (omega (arith, n)) c.in_ok-take_nearest.ensures.before
+          (subst (AreNoted c.args.instance.now.firsts c.note_taken.new.taken_firsts q.order.items) (sym n)
+          (subst (λ (ts : TreeClasses). AreNoted c.args.instance.now.firsts c.note_taken.new.taken_firsts ts.order.items (length ts.order.items)) (sym c.in_ok-scan_rows.ensures.better.tree_classes) (all_noted i.After-note_taken))));
       root = subst (IsSameRoot c.args.tree.now.reached_rows) (sym x.reached_rows) (step_root _ _ c.update_duals.new.assignment _ _ _ b all l r.values r.prices r.residual r.holdings _ c.in_ok-take_nearest.ensures c.args.tree.now c.steps.invariant.root);
     }
 

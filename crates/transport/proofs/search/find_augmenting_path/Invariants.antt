@@ -2,7 +2,7 @@ use Rattle.std.proofs.Common.{◌≡◌, ◌-◌, ◌≤◌, length}
 use Rattle.transport.specs.States.{IsRunning, HasScanned, IsSameRoot}
 use Rattle.transport.specs.Weights.{weights, AreSortedArcs}
 use Rattle.transport.specs.Answers.{IsSameRest}
-use Rattle.transport.specs.Blocks.{AreTakenFirsts}
+use Rattle.transport.specs.Blocks.{AreFirstsOfTaken, AreNoted}
 use Rattle.transport.proofs.search.find_augmenting_path.Given as goal
 
 abbrev pub invariant-steps : goal.invariant-steps
@@ -14,7 +14,9 @@ invariant-steps l = record {
   scanned : HasScanned (weights l.instance) l.assignment l.tree l.scanned;
   rest : IsSameRest l.initial.assignment l.assignment;
   root : IsSameRoot l.initial.tree.reached_rows l.tree.reached_rows;
-  taken : AreTakenFirsts l.instance.firsts l.taken_firsts l.tree.tree_classes;
+  taken : AreFirstsOfTaken l.instance.firsts l.taken_firsts l.tree.tree_classes;
+  noted_in : l.noted ≤ length l.tree.tree_classes.order.items;
+  noted : AreNoted l.instance.firsts l.taken_firsts l.tree.tree_classes.order.items l.noted;
 }
 
 abbrev pub decreases-steps : goal.decreases-steps

@@ -3,32 +3,24 @@ use Rattle.std.proofs.lemmas.Result.{on_ok_weaker}
 use Rattle.transport.specs.Numbers.{number}
 use Rattle.transport.specs.ReachedRows.{row_at}
 use Rattle.transport.specs.Scans.{CanImprove, CanLabelArc}
-use Rattle.transport.proofs.Numbers.{read_mark, read_number}
-use Rattle.transport.proofs.Labelling.{arc_labelled, arc_taken, can_improve}
+use Rattle.transport.proofs.Numbers.{read_number}
+use Rattle.transport.proofs.Labelling.{arc_labelled, can_improve}
 use Rattle.transport.proofs.search.label_arc.Goals as goal
 use Rattle.transport.proofs.search.label_arc.Goals.{Else-reach-scan}
-
-pub returns-then-index : goal.returns-then-index
-returns-then-index c = λ ws can.
-    arc_taken ws _ _ _ _ can (read_mark _ _ _ _ _ (can.running.fit.class _ _ _ can.weighs) can.running.search.taken_long c.index.ensures c.if-index.true)
 
 is_due :
     (c : Else-reach-scan) (ws : ℕ → ℕ → Option ℕ) (can : CanLabelArc ws c.args.assignment.now c.args.tree.now c.args.scan.row c.args.arc)
     → CanImprove c.args.assignment.now.values.items (number c.args.assignment.now.prices.items c.args.arc.class + number c.args.assignment.now.values.items (row_at c.args.tree.now.reached_rows 0)) c.args.tree.now.labels c.args.arc.class
-    (record { row = c.args.scan.row; weight = c.args.arc.weight }) (c.args.arc.weight + c.index-2.result.now + c.args.scan.root_value - c.args.scan.row_value)
+    (record { row = c.args.scan.row; weight = c.args.arc.weight }) (c.args.arc.weight + c.index.result.now + c.args.scan.root_value - c.args.scan.row_value)
 is_due c ws can =
-    let price = read_number _ _ _ _ (can.running.fit.class _ _ _ can.weighs) refl c.index-2.ensures in
+    let price = read_number _ _ _ _ (can.running.fit.class _ _ _ can.weighs) refl c.index.ensures in
     let below = can.running.search.dual.below _ _ _ can.weighs in
-    can_improve ws _ _ _ c.args.arc _ can
-    (read_mark _ _ _ _ _ (can.running.fit.class _ _ _ can.weighs) can.running.search.taken_long c.index.ensures c.if-index.false)
-    (omega (arith, price, below, c.requires.scan.row, c.requires.scan.root))
+    can_improve ws _ _ _ c.args.arc _ can (omega (arith, price, below, c.requires.scan.row, c.requires.scan.root))
 
 pub improve-requires : goal.improve-requires
 improve-requires c = (_, _, is_due (goal.at.improve-requires c).Else-reach-scan c.requires.can.0 c.requires.can.1)
 
 pub returns : goal.returns
 returns c = on_ok_weaker c.improve.result
-    (λ n ws can. arc_labelled ws _ _ _ _ c.args.arc can
-    (read_mark _ _ _ _ _ (can.running.fit.class _ _ _ can.weighs) can.running.search.taken_long c.index.ensures c.if-index.false) refl refl
-    (n _ _ (is_due (goal.at.returns c).Else-reach-scan ws can)))
+    (λ n ws can. arc_labelled ws _ _ _ _ c.args.arc can refl refl (n _ _ (is_due (goal.at.returns c).Else-reach-scan ws can)))
     c.improve.ensures

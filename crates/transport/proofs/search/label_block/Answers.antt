@@ -1,5 +1,3 @@
-use Rattle.std.proofs.Common.{◌≡◌, true}
-use Rattle.std.specs.FinSet as set
 use Rattle.transport.specs.Weights.{weights}
 use Rattle.transport.proofs.Blocks.{block_arc, block_more, left_within, left_fewer}
 use Rattle.transport.proofs.search.label_block.Goals as goal
@@ -11,10 +9,10 @@ pub loop-cpu-preserved : goal.loop-cpu-preserved
 loop-cpu-preserved c =
     let ws = weights c.args.instance.now in
     let s = c.args.assignment.now in
-    let has : set.contains c.args.block.now.firsts c.in-Some.cpu ≡ true = c.loop-cpu.invariant.within _ c.in-Some.ensures.first.member in
+    let has = c.loop-cpu.invariant.within _ c.in-Some.ensures.first.member in
     let labelled = c.loop-cpu.invariant.labelled in
     record {
       labelled = block_more ws s _ _ _ c.args.scan.row _ c.args.block.now _ _ c.in-Some.cpu c.class_of.result labelled c.in-Some.ensures.left c.class_of.ensures
-          (c.in_ok-label_arc.ensures ws (block_arc ws s _ _ c.args.scan.row _ c.args.block.now _ c.in-Some.cpu c.class_of.result c.requires.block has c.class_of.ensures c.requires.there labelled));
+          (c.in_ok-label_arc.ensures ws (block_arc ws s _ _ c.args.scan.row _ c.args.block.now _ _ c.in-Some.cpu c.class_of.result c.requires.block has.0 c.requires.taken has.1 c.class_of.ensures c.requires.there labelled));
       within = λ cpu on. c.loop-cpu.invariant.within cpu (left_within _ _ _ cpu c.in-Some.ensures.left on);
     }
