@@ -43,8 +43,8 @@ pub record CanLimit (values : List ℕ) (k : ℕ) (free_end : Option FreeEnd) : 
   pub above : (e : FreeEnd) → free_end ≡ Some e → number values e.label.row ≤ e.label.weight
   pub light : (e : FreeEnd) → free_end ≡ Some e → e.label.weight < weight_limit
 
--- what the label of a class rests on, which is at slack 0 where the root's value is as much as this; above the weight and the row's value
--- lie the class's price and the root's value
+-- a label that a class may get, by which it is at slack 0 where the root's value is the last number; the class's price with the
+-- root's value is what lies above its weight
 pub record CanImprove (values : List ℕ) (above : ℕ) (ns : Labels) (g : ℕ) (label : Label) (due : ℕ) : Type 0 where
   pub class : g < length ns.of_class.items
   pub due_class : g < length ns.due.items
