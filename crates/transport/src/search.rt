@@ -14,7 +14,7 @@ ghost use Rattle.transport.specs.Scans.{IsScan, IsLimit, IsBoundOf, CanLabelArc,
 use crate::arcs::{Arc, Block, SortedArcs};
 use crate::duals::{least_slack, raise, slack};
 use crate::labels::{FreeEnd, Label, Labels};
-use crate::tree::{ReachedRows, SearchTree, take_class};
+use crate::tree::{ReachedRows, SearchTree, TreeClasses, take_class};
 use crate::{Assignment, Instance, Representatives};
 use cpu_set::IdSet;
 use std::alloc::AllocError;
@@ -48,7 +48,7 @@ pub(crate) fn find_augmenting_path(
     let mut scanned = 0;
     let mut noted = 0;
     let mut struck = 0;
-    let mut taken_firsts = IdSet::empty();
+    let mut taken = IdSet::empty();
     'steps: loop {
         if let Some(free_end) = find_free_class(
             instance,
@@ -59,21 +59,8 @@ pub(crate) fn find_augmenting_path(
         )? {
             return Ok(Some(free_end));
         }
-        note_taken(
-            &mut taken_firsts,
-            &instance.firsts,
-            &tree.tree_classes.order,
-            noted,
-        );
-        noted = tree.tree_classes.order.len();
-        scan_rows(
-            instance,
-            assignment,
-            arcs_by_kind,
-            &taken_firsts,
-            tree,
-            scanned,
-        )?;
+        noted = note_taken(&mut taken, &instance.firsts, &tree.tree_classes, noted);
+        scan_rows(instance, assignment, arcs_by_kind, &taken, tree, scanned)?;
         scanned = tree.reached_rows.order.len();
         let least = least_slack(
             assignment,
@@ -107,16 +94,24 @@ fn strike_when_many(tree: &mut SearchTree, struck: usize) -> usize
     taken
 }
 
-/// Adds the first CPUs of the classes that are listed from a place on.
-fn note_taken(taken_firsts: &mut IdSet, firsts: &Representatives, order: &[usize], from: usize)
-    ensures only { (cpu : ℕ) → set.contains taken_firsts.new cpu ≡ true → (set.contains taken_firsts.old cpu ≡ true) ⊎ IsFirstIn firsts.now order.now cpu }
-    ensures all { AreNoted firsts.now taken_firsts.old order.now from → AreNoted firsts.now taken_firsts.new order.now (length order.now) }
+/// Adds the first CPUs of the classes that are listed as taken up from a place on; says how many are listed.
+fn note_taken(
+    taken_firsts: &mut IdSet,
+    firsts: &Representatives,
+    tree_classes: &TreeClasses,
+    from: usize,
+) -> usize
+    ensures only { (cpu : ℕ) → set.contains taken_firsts.new cpu ≡ true → (set.contains taken_firsts.old cpu ≡ true) ⊎ IsFirstIn firsts.now tree_classes.now.order.items cpu }
+    ensures all { AreNoted firsts.now taken_firsts.old tree_classes.now.order.items from → AreNoted firsts.now taken_firsts.new tree_classes.now.order.items result }
+    ensures listed { result ≡ length tree_classes.now.order.items }
 {
-    for at in from..order.len() {
-        if let Some(cpu) = firsts.first(order[at]) {
+    let listed = tree_classes.order.len();
+    for at in from..listed {
+        if let Some(cpu) = firsts.first(tree_classes.order[at]) {
             taken_firsts.insert(cpu);
         }
     }
+    listed
 }
 
 /// Raises the values of the reached rows and the prices of the classes taken up.

@@ -1,7 +1,6 @@
-use Rattle.std.proofs.Common.{◌≡◌, ◌⊎◌, ℕ, ◌-◌, ◌<◌, ◌≤◌, true, length, inl, inr, refl, sym, ap, ◌∙◌, subst, arith}
-use Rattle.std.specs.FinSet as set
+use Rattle.std.proofs.Common.{◌≡◌, ◌-◌, ◌<◌, ◌≤◌, length, inl, inr, refl, sym, ap, ◌∙◌, subst, arith}
 use Rattle.cpu_set.specs.Pointwise.{contains-empty}
-use Rattle.transport.specs.Blocks.{AreFirstsOfTaken, AreTakenFirsts, AreNoted, IsFirstIn}
+use Rattle.transport.specs.Blocks.{AreFirstsOfTaken, AreTakenFirsts, AreNoted}
 use Rattle.transport.proofs.Blocks.{taken_firsts_more, taken_firsts_kept, noted_kept}
 use Rattle.transport.proofs.Numbers.{not_both, read_number}
 use Rattle.transport.specs.States.{IsRunning, HasScanned, IsLeastOf, IsLeastUpTo, IsSameRoot}
@@ -14,7 +13,7 @@ use Rattle.transport.proofs.LeastSlack.{least_some}
 use Rattle.transport.proofs.Steps.{closed, raise_rows, raise_classes, raise_values_fit, raise_prices_fit, nearest_in, step_raised, step_running, step_scanned_on, step_root, step_smaller}
 use Rattle.transport.proofs.Striking.{running_struck, scanned_struck}
 use Rattle.transport.proofs.search.find_augmenting_path.Goals as goal
-use Rattle.transport.proofs.search.find_augmenting_path.Goals.{After-note_taken, After-least_slack, In-Some-least, After-update_duals}
+use Rattle.transport.proofs.search.find_augmenting_path.Goals.{After-note_taken-noted, After-least_slack, In-Some-least, After-update_duals}
 
 pub steps-init : goal.steps-init
 steps-init c = record {
@@ -25,7 +24,7 @@ steps-init c = record {
   scanned = record { covered = λ k g w on here its off. absurd (omega (arith, here)) };
   rest = record { residual = refl; deficit = refl; holdings = refl };
   root = record { row = refl; bottlenecks = refl };
-  taken = λ cpu g on lt is. absurd (not_both _ on (rw c.empty-taken_firsts.ensures (contains-empty cpu)));
+  taken = λ cpu g on lt is. absurd (not_both _ on (rw c.empty-taken.ensures (contains-empty cpu)));
   noted_in = omega arith;
   noted = λ i lt. absurd (omega (arith, lt));
 }
@@ -42,18 +41,17 @@ least_slack-requires c = record {
 }
 
 -- the first CPUs of all that is taken up are noted by then
-all_noted : (c : After-note_taken) → AreNoted c.args.instance.now.firsts c.note_taken.new.taken_firsts c.find_free_class.new.tree.tree_classes.order.items (length c.find_free_class.new.tree.tree_classes.order.items)
+all_noted : (c : After-note_taken-noted) → AreNoted c.args.instance.now.firsts c.note_taken-noted.new.taken_firsts c.find_free_class.new.tree.tree_classes.order.items c.note_taken-noted.result
 all_noted c =
-    let b = c.in_ok-free_end.ensures.better in
-    subst (λ order. AreNoted c.args.instance.now.firsts c.steps.taken_firsts order c.steps.noted → AreNoted c.args.instance.now.firsts c.note_taken.new.taken_firsts order (length order)) c.deref.ensures.value c.note_taken.ensures.all
-    (subst (λ (ts : TreeClasses). AreNoted c.args.instance.now.firsts c.steps.taken_firsts ts.order.items c.steps.noted) (sym b.tree_classes) c.steps.invariant.noted)
+    c.note_taken-noted.ensures.all
+    (subst (λ (ts : TreeClasses). AreNoted c.args.instance.now.firsts c.steps.taken ts.order.items c.steps.noted) (sym c.in_ok-free_end.ensures.better.tree_classes) c.steps.invariant.noted)
 
-noted : (c : After-note_taken) → AreTakenFirsts c.args.instance.now.firsts c.note_taken.new.taken_firsts c.find_free_class.new.tree.tree_classes
+noted : (c : After-note_taken-noted) → AreTakenFirsts c.args.instance.now.firsts c.note_taken-noted.new.taken_firsts c.find_free_class.new.tree.tree_classes
 noted c =
     let b = c.in_ok-free_end.ensures.better in
-    taken_firsts_more _ c.steps.taken_firsts _ c.find_free_class.new.tree.tree_classes (subst (AreFirstsOfTaken c.args.instance.now.firsts c.steps.taken_firsts) (sym b.tree_classes) c.steps.invariant.taken) b.running.search.listing
-    (subst (λ order. (cpu : ℕ) → set.contains c.note_taken.new.taken_firsts cpu ≡ true → (set.contains c.steps.taken_firsts cpu ≡ true) ⊎ IsFirstIn c.args.instance.now.firsts order cpu) c.deref.ensures.value c.note_taken.ensures.only)
-    (all_noted c)
+    taken_firsts_more _ c.steps.taken _ c.find_free_class.new.tree.tree_classes (subst (AreFirstsOfTaken c.args.instance.now.firsts c.steps.taken) (sym b.tree_classes) c.steps.invariant.taken) b.running.search.listing
+    c.note_taken-noted.ensures.only
+    (subst (AreNoted c.args.instance.now.firsts c.note_taken-noted.new.taken_firsts c.find_free_class.new.tree.tree_classes.order.items) c.note_taken-noted.ensures.listed (all_noted c))
 
 pub scan_rows-requires : goal.scan_rows-requires
 scan_rows-requires c =
@@ -64,7 +62,7 @@ scan_rows-requires c =
       arcs_by_kind = c.in_ok-free_end.ensures.arcs_by_kind;
       from = rw b.reached_rows c.steps.invariant.from;
       scanned = scanned_better _ _ _ _ _ b c.steps.invariant.scanned;
-      taken = noted (goal.at.scan_rows-requires c).After-note_taken;
+      taken = noted (goal.at.scan_rows-requires c).After-note_taken-noted;
     }
 
 pub returns-in_default-least-clause-answer : goal.returns-in_default-least-clause-answer
@@ -131,7 +129,7 @@ steps-preserved c =
     let l = least i.In-Some-least in
     let r = c.update_duals.ensures in
     let q = c.scan_rows.new.tree.tree_classes in
-    let n : c.len-noted.result ≡ length q.order.items = omega (arith, c.len-noted.ensures, c.find_free_class.new.tree.tree_classes.order.ok.0, ap (λ (ts : TreeClasses). length ts.order.items) c.in_ok-scan_rows.ensures.better.tree_classes) in
+    let n : c.note_taken-noted.result ≡ length q.order.items = omega (arith, c.note_taken-noted.ensures.listed, ap (λ (ts : TreeClasses). length ts.order.items) c.in_ok-scan_rows.ensures.better.tree_classes) in
     let more : length q.order.items ≤ length v.tree_classes.order.items = elim c.in_ok-take_nearest.ensures.grew [ inl same ↦ omega (arith, ap (λ (ts : TreeClasses). length ts.order.items) same) | inr longer ↦ omega (arith, longer) ] in
     let e : c.len-scanned.result ≡ length c.scan_rows.new.tree.reached_rows.order.items = omega (arith, c.len-scanned.ensures, c.scan_rows.new.tree.reached_rows.order.ok.0) in
     record {
@@ -142,14 +140,13 @@ steps-preserved c =
       scanned = scanned_struck (weights c.args.instance.now) c.update_duals.new.assignment v u x c.len-scanned.result (subst (λ n. HasScanned (weights c.args.instance.now) c.update_duals.new.assignment v n) (sym e)
           (step_scanned_on _ _ c.update_duals.new.assignment _ _ _ b all l r.values r.prices r.residual r.holdings _ c.in_ok-take_nearest.ensures));
       rest = record { residual = r.residual ∙ c.steps.invariant.rest.residual; deficit = r.deficit ∙ c.steps.invariant.rest.deficit; holdings = r.holdings ∙ c.steps.invariant.rest.holdings };
-      taken = subst (AreFirstsOfTaken c.args.instance.now.firsts c.note_taken.new.taken_firsts) (sym x.tree_classes)
+      taken = subst (AreFirstsOfTaken c.args.instance.now.firsts c.note_taken-noted.new.taken_firsts) (sym x.tree_classes)
           (taken_firsts_kept _ _ c.scan_rows.new.tree.tree_classes v.tree_classes
-          (subst (AreFirstsOfTaken c.args.instance.now.firsts c.note_taken.new.taken_firsts) (sym c.in_ok-scan_rows.ensures.better.tree_classes) (noted i.After-note_taken).only) c.in_ok-take_nearest.ensures.kept);
+          (subst (AreFirstsOfTaken c.args.instance.now.firsts c.note_taken-noted.new.taken_firsts) (sym c.in_ok-scan_rows.ensures.better.tree_classes) (noted i.After-note_taken-noted).only) c.in_ok-take_nearest.ensures.kept);
       noted_in = omega (arith, n, more, ap (λ (ts : TreeClasses). length ts.order.items) x.tree_classes);
-      noted = subst (λ (ts : TreeClasses). AreNoted c.args.instance.now.firsts c.note_taken.new.taken_firsts ts.order.items c.len-noted.result) (sym x.tree_classes)
+      noted = subst (λ (ts : TreeClasses). AreNoted c.args.instance.now.firsts c.note_taken-noted.new.taken_firsts ts.order.items c.note_taken-noted.result) (sym x.tree_classes)
           (noted_kept _ _ c.scan_rows.new.tree.tree_classes.order.items v.tree_classes.order.items _ (omega (arith, n)) c.in_ok-take_nearest.ensures.before
-          (subst (AreNoted c.args.instance.now.firsts c.note_taken.new.taken_firsts q.order.items) (sym n)
-          (subst (λ (ts : TreeClasses). AreNoted c.args.instance.now.firsts c.note_taken.new.taken_firsts ts.order.items (length ts.order.items)) (sym c.in_ok-scan_rows.ensures.better.tree_classes) (all_noted i.After-note_taken))));
+          (subst (λ (ts : TreeClasses). AreNoted c.args.instance.now.firsts c.note_taken-noted.new.taken_firsts ts.order.items c.note_taken-noted.result) (sym c.in_ok-scan_rows.ensures.better.tree_classes) (all_noted i.After-note_taken-noted)));
       root = subst (IsSameRoot c.args.tree.now.reached_rows) (sym x.reached_rows) (step_root _ _ c.update_duals.new.assignment _ _ _ b all l r.values r.prices r.residual r.holdings _ c.in_ok-take_nearest.ensures c.args.tree.now c.steps.invariant.root);
     }
 

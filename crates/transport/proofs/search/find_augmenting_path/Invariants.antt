@@ -14,9 +14,9 @@ invariant-steps l = record {
   scanned : HasScanned (weights l.instance) l.assignment l.tree l.scanned;
   rest : IsSameRest l.initial.assignment l.assignment;
   root : IsSameRoot l.initial.tree.reached_rows l.tree.reached_rows;
-  taken : AreFirstsOfTaken l.instance.firsts l.taken_firsts l.tree.tree_classes;
+  taken : AreFirstsOfTaken l.instance.firsts l.taken l.tree.tree_classes;
   noted_in : l.noted ≤ length l.tree.tree_classes.order.items;
-  noted : AreNoted l.instance.firsts l.taken_firsts l.tree.tree_classes.order.items l.noted;
+  noted : AreNoted l.instance.firsts l.taken l.tree.tree_classes.order.items l.noted;
 }
 
 abbrev pub decreases-steps : goal.decreases-steps
