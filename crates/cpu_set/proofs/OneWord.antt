@@ -15,7 +15,7 @@ use Rattle.cpu_set.specs.Words.{AreWords}
 use Rattle.cpu_set.specs.WordSets.{set_of_word, IsWordSet}
 use Rattle.cpu_set.specs.WordLaws.{contains-set_of_words}
 use Rattle.cpu_set.specs.declared.id_set.TheConstants.{WORDS}
-use Rattle.cpu_set.proofs.Bits.{first_shifted}
+use Rattle.cpu_set.proofs.Bits.{none_shifted, first_shifted}
 use Rattle.cpu_set.proofs.Combined.{AreWords-set, has_bit-set, each_word, removed_fits, inserted_fits, inserted_bit, removed_bit, without-IsBitwise}
 use Rattle.cpu_set.proofs.Finding.{NoneFrom-lower}
 
@@ -137,6 +137,10 @@ behind at bits n is e some none =
   where
     off : (a : Bool) → (a ≡ true) → (a ≡ false) → ⊥
     off a here gone = cc
+
+-- and none is at or above one that can be
+pub none_behind : (at bits n : ℕ) → IsWordSet at bits → n / 64 ≡ at → bits / 2 ^ (n % 64) ≡ 0 → NoneFrom (set_of_word at bits) n
+none_behind at bits n is e none = first_of_word at bits n (n % 64) None is (omega arith) (omega arith) (none_shifted bits (n % 64) none)
 
 -- one bit alone
 pub one_bit_alone : (n q : ℕ) → n / 64 < WORDS → finset.contains (set_of_word (n / 64) (1 * 2 ^ (n % 64) % 2 ^ 64)) q ≡ (q == n)

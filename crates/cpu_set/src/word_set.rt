@@ -43,6 +43,7 @@ impl WordSet {
     pub fn extend(&mut self, n: u16) -> bool
         requires { IsCpu n }
         ensures added { IsTrue result → (q : ℕ) → set.contains self.new q ≡ (set.contains self.old q || (q == n)) }
+        ensures above { IsTrue result → NoneFrom self.old n }
         ensures same { result ≡ false → self.new ≡ self.old }
         ensures refused { result ≡ false → (m : ℕ) → set.contains self.old m ≡ true → m / 64 ≡ n / 64 → NoneFrom self.old n → ⊥ }
     {

@@ -23,8 +23,6 @@ pub struct CachedOffers {
     pub offers: Offers,
     /// The offers in parts, as the first container had them that asked for parts.
     pub parts: Option<CachedParts>,
-    // That of the homes and the CPUs.
-    fingerprint: u64,
 }
 
 /// Offers in parts, for a container that holds these CPUs.
@@ -34,40 +32,31 @@ pub struct CachedParts {
     pub offers: Offers,
 }
 
-/// The entry of these CPUs for these homes. The fingerprints of most entries differ from theirs, so few are
-/// compared whole.
-fn find<'a>(
-    cache: &'a [CachedOffers],
-    homes: &IdSet,
-    cpus: &IdSet,
-    fingerprint: u64,
-) -> Option<&'a CachedOffers>
+/// The entry of these CPUs for these homes. Most others lack the least of the homes, or the first or the last of the CPUs, so few
+/// are compared whole.
+fn find<'a>(cache: &'a [CachedOffers], homes: &IdSet, cpus: &IdSet) -> Option<&'a CachedOffers>
     ensures { (m : Layout) → All (IsCached m) cache.now → IfSome result (λ cached. IsCachedFor m homes.now cpus.now cached.now) }
 {
+    let home = homes.first();
+    let first = cpus.first();
+    let last = cpus.last();
     for cached in cache {
-        if cached.fingerprint == fingerprint && cached.cpus == *cpus && cached.homes == *homes {
+        let is_near = has(&cached.homes, home)
+            && has(&cached.cpus, first)
+            && has(&cached.cpus, last);
+        if is_near && cached.cpus == *cpus && cached.homes == *homes {
             return Some(cached);
         }
     }
     None
 }
 
-/// A number that is the same for the same homes and CPUs, and differs where those differ early.
-fn fingerprint_of(homes: &IdSet, cpus: &IdSet) -> u64 {
-    taken_in(taken_in(0, homes), cpus)
-}
-
-/// A fingerprint that takes in some numbers of a set: the first, and then each time the next one twice as far on.
-fn taken_in(fingerprint: u64, ids: &IdSet) -> u64 {
-    let mut fingerprint = fingerprint;
-    let mut next = ids.first();
-    for doubled in 0..12_u32 {
-        if let Some(id) = next {
-            fingerprint = fingerprint.rotate_left(12) ^ u64::from(id);
-            next = ids.next_after(id.saturating_add(1 << doubled));
-        }
+/// Whether the set has the number, where there is one.
+fn has(ids: &IdSet, id: Option<u16>) -> bool {
+    match id {
+        Some(id) => ids.contains(id),
+        None => true,
     }
-    fingerprint
 }
 
 /// The offers of these CPUs for these homes; they are worked out once.
@@ -84,8 +73,7 @@ pub(crate) fn offers_among(
     ensures offers { IfOk result (λ offers. offers ≡ offers_of machine.now homes.now cpus.now) }
     ensures cache { All (IsCached machine.now) cache.new.items }
 {
-    let fingerprint = fingerprint_of(homes, cpus);
-    if let Some(cached) = find(cache.as_slice(), homes, cpus, fingerprint) {
+    if let Some(cached) = find(cache.as_slice(), homes, cpus) {
         return cached.offers.copy(alloc);
     }
     let offers = offers_of(alloc, machine, homes, cpus)?;
@@ -94,7 +82,6 @@ pub(crate) fn offers_among(
         cpus: *cpus,
         offers: offers.copy(alloc)?,
         parts: None,
-        fingerprint,
     })?;
     Ok(offers)
 }
@@ -115,8 +102,7 @@ pub(crate) fn parts_among(
     ensures parts { IfOk result (λ parts. parts ≡ flat_map (parted held.now) (offers_of machine.now homes.now cpus.now)) }
     ensures cache { All (IsCached machine.now) cache.new.items }
 {
-    let fingerprint = fingerprint_of(homes, cpus);
-    if let Some(cached) = find(cache.as_slice(), homes, cpus, fingerprint) {
+    if let Some(cached) = find(cache.as_slice(), homes, cpus) {
         return parts_for(alloc, cached, held);
     }
     let offers = offers_of(alloc, machine, homes, cpus)?;
@@ -130,7 +116,6 @@ pub(crate) fn parts_among(
         cpus: *cpus,
         offers,
         parts: Some(kept),
-        fingerprint,
     })?;
     Ok(parts)
 }
