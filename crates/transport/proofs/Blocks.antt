@@ -15,7 +15,7 @@ use Rattle.transport.specs.Searches.{is_taken, IsCovered}
 use Rattle.transport.specs.States.{IsRunning}
 use Rattle.transport.specs.Scans.{arc_at, IsPast, IsLimit, IsBoundOf, CanLabelArc, IsArcLabelled, HasLabelled}
 use Rattle.transport.specs.SortedArcs.{IsSortedArcs, IsScanned}
-use Rattle.transport.specs.Blocks.{IsFirstOf, InBlocks, IsArcOf, AreBlocks, AreFirstsOfTaken, AreTakenFirsts, AreNoted, CanLabelBlock, HasLabelledBlock, HasLabelledBlocks, IsFirstIn}
+use Rattle.transport.specs.Blocks.{IsFirstOf, InBlocks, IsArcOf, block_at, IsWeightOfArc, AreNoHeavier, AreWeightsAdded, AreBlocks, AreFirstsOfTaken, AreTakenFirsts, AreNoted, CanLabelBlock, HasLabelledBlock, HasLabelledBlocks, IsFirstIn}
 use Rattle.transport.specs.declared.arcs.Arc.{Arc}
 use Rattle.transport.specs.declared.arcs.Block.{Block}
 use Rattle.transport.specs.declared.arcs.SortedArcs.{SortedArcs}
@@ -30,6 +30,8 @@ no_blocks firsts = record {
   sound = λ cpu w b. absurd (omega (arith, b.within));
   all = λ i lt. absurd (omega (arith, lt));
   classes = λ i lt. absurd (omega (arith, lt));
+  rising = λ i j le lt. absurd (omega (arith, lt));
+  weights = λ i lt. absurd (omega (arith, lt));
 }
 
 in_blocks_at : (blocks : List Block) (at : ℕ) (block : Block) (cpu w : ℕ) → at < length blocks → ((d : Block) → get_or blocks at d ≡ block) → set.contains block.firsts cpu ≡ true → block.weight ≡ w → InBlocks blocks cpu w
@@ -99,6 +101,17 @@ module _ (blocks : List Block) (at : ℕ) (block changed : Block) (cpu weight : 
   pub extended_added : InBlocks extended cpu weight
   extended_added = in_blocks_at extended at changed cpu weight (omega (arith, lt, long)) (λ d. get_or-set_same blocks at changed d lt) (grows cpu ∙ or_same _ cpu) still
 
+  pub extended_weights : AreWeightsAdded blocks extended weight
+  extended_weights = record {
+    longer = omega (arith, long);
+    kept = λ i within. elim (cases_eq i at) [
+      | inl e ↦ subst (λ j. (block_at extended j).weight ≡ (block_at blocks j).weight) (sym e)
+          (ap (λ (x : Block). x.weight) (get_or-set_same blocks at changed _ lt) ∙ still ∙ sym weighs ∙ ap (λ (x : Block). x.weight) (sym (its _)))
+      | inr ne ↦ ap (λ (x : Block). x.weight) (get_or-set_other blocks at i changed _ ne)
+    ];
+    behind = λ i from within. absurd (omega (arith, from, within, long));
+  }
+
 -- a block more
 module _ (blocks : List Block) (firsts : Ids) (cpu weight : ℕ) (one : (q : ℕ) → set.contains firsts q ≡ (q == cpu)) where
   abbrev fresh : Block
@@ -142,6 +155,20 @@ module _ (blocks : List Block) (firsts : Ids) (cpu weight : ℕ) (one : (q : ℕ
       same : (n : ℕ) → (n == n) ≡ true
       same n = grind (arith, nat_tests)
 
+  pub pushed_weights : AreWeightsAdded blocks longer weight
+  pushed_weights = record {
+    longer = omega (arith, more_long);
+    kept = λ i within. ap (λ (x : Block). x.weight) (get_or_append_left blocks (fresh ∷ []) _ i within);
+    behind = λ i from within. ap (λ (x : Block). x.weight) (get_or_push blocks fresh _ i (omega (arith, from, within, more_long)));
+  }
+
+-- an arc more of that weight
+pub no_heavier_more : (arcs : List Arc) (g weight : ℕ) → AreNoHeavier arcs weight → AreNoHeavier (arcs ++ (record { weight = weight; class = g }) ∷ []) weight
+no_heavier_more arcs g weight low i within = elim (cases_lt i (length arcs)) [
+  | inl b ↦ rw (get_or_append_left arcs _ _ i b) (low i b)
+  | inr a ↦ rw (get_or_push arcs _ _ i (omega (arith, a, within, length_push arcs (record { weight = weight; class = g })))) (omega arith)
+]
+
 -- the class of a CPU, which is the first of one
 pub first_of_class : (firsts : List ℕ) (cpu g : ℕ) → IsIn firsts cpu → ((h : ℕ) → h < length firsts → number firsts h ≡ cpu → g ≡ h) → IsFirstOf firsts g cpu
 first_of_class firsts cpu g is own =
@@ -153,7 +180,8 @@ first_of_class firsts cpu g is own =
     }
 
 module _ (firsts : List ℕ) (arcs : List Arc) (old new : List Block) (cpu g weight : ℕ) (h : AreBlocks firsts arcs old) (first : IsFirstOf firsts g cpu)
-    (sound : (c w : ℕ) → InBlocks new c w → InBlocks old c w ⊎ ((c ≡ cpu) × (w ≡ weight))) (kept : (c w : ℕ) → InBlocks old c w → InBlocks new c w) (added : InBlocks new cpu weight) where
+    (sound : (c w : ℕ) → InBlocks new c w → InBlocks old c w ⊎ ((c ≡ cpu) × (w ≡ weight))) (kept : (c w : ℕ) → InBlocks old c w → InBlocks new c w) (added : InBlocks new cpu weight)
+    (low : AreNoHeavier arcs weight) (weighed : AreWeightsAdded old new weight) where
   abbrev arc : Arc
   arc = record { weight = weight; class = g }
 
@@ -185,6 +213,33 @@ module _ (firsts : List ℕ) (arcs : List Arc) (old new : List Block) (cpu g wei
     weight = rw (last (length arcs) refl) refl;
   }
 
+  block_low : (i : ℕ) → i < length old → (block_at old i).weight ≤ weight
+  block_low i lt = let a = h.weights i lt in omega (arith, low a.index a.within, a.weight)
+
+  rising_more : (i j : ℕ) → i ≤ j → j < length new → (block_at new i).weight ≤ (block_at new j).weight
+  rising_more i j le within = elim (cases_lt j (length old)) [
+    | inl b ↦ rw (weighed.kept i (omega (arith, le, b)), weighed.kept j b) (h.rising i j le b)
+    | inr a ↦ elim (cases_lt i (length old)) [
+      | inl b ↦ rw (weighed.kept i b, weighed.behind j a within) (block_low i b)
+      | inr from ↦ rw (weighed.behind i from (omega (arith, le, within)), weighed.behind j a within) (omega arith)
+    ]
+  ]
+
+  weights_more : (i : ℕ) → i < length new → IsWeightOfArc more (block_at new i).weight
+  weights_more i within = elim (cases_lt i (length old)) [
+    | inl b ↦ (let a = h.weights i b in
+        record {
+          index = a.index;
+          within = omega (arith, a.within, arcs_long);
+          weight = rw (before a.index a.within) (a.weight ∙ sym (weighed.kept i b));
+        })
+    | inr from ↦ record {
+      index = length arcs;
+      within = omega (arith, arcs_long);
+      weight = rw (last (length arcs) refl) (sym (weighed.behind i from within));
+    }
+  ]
+
   -- an arc more, and its class in the blocks
   pub blocks_more : AreBlocks firsts more new
   blocks_more = record {
@@ -200,6 +255,8 @@ module _ (firsts : List ℕ) (arcs : List Arc) (old new : List Block) (cpu g wei
       | inl b ↦ rw (before i b) (h.classes i b)
       | inr a ↦ rw (last i (omega (arith, a, lt, arcs_long))) first.within
     ];
+    rising = rising_more;
+    weights = weights_more;
   }
 
 -- ---- a block, CPU by CPU
@@ -301,21 +358,7 @@ blocks_labelled ws s t mid new k firsts blocks at block is h n = record {
           | inr covered ↦ subst (λ x. IsCovered s.values.items s.prices.items new.labels k g x) weight covered
         ]
 
--- a block more lies past the free end
-pub blocks_past : (ws : ℕ → ℕ → Option ℕ) (s : Assignment) (t new : SearchTree) (k : ℕ) (firsts : List ℕ) (blocks : List Block) (at : ℕ) (block : Block) (limit : Option ℕ) → block ≡ get_or blocks at block
-    → HasLabelledBlocks ws s k t new firsts blocks at → IsLimit s.values.items k new.labels.free_end limit → IsPast limit block.weight → HasLabelledBlocks ws s k t new firsts blocks (at + 1)
-blocks_past ws s t new k firsts blocks at block limit is h l past = record {
-  better = h.better;
-  free_end = h.free_end;
-  each = λ cpu w g b lt in_firsts e off. elim (cases_lt b.index at) [
-    | inl before ↦ h.each cpu w g b before in_firsts e off
-    | inr after ↦ (let same : b.block ≡ block = its_block blocks at block cpu w b (omega (arith, after, lt)) is in
-        let weight : block.weight ≡ w = ap (λ (x : Block). x.weight) (sym same) ∙ b.weight in
-        covered_past s new.labels k g w new.labels.free_end limit refl l (past_rise limit block.weight _ (omega (arith, weight)) past))
-  ];
-}
-
--- all blocks were labelled or lie past the free end, so all arcs
+-- all blocks were labelled, so all arcs
 pub blocks_all : (ws : ℕ → ℕ → Option ℕ) (s : Assignment) (t new : SearchTree) (k : ℕ) (firsts : List ℕ) (arcs : List Arc) (blocks : List Block) (upto cursor : ℕ) → AreBlocks firsts arcs blocks → length blocks ≤ upto → cursor ≤ length arcs
     → HasLabelledBlocks ws s k t new firsts blocks upto → HasLabelled ws s k t new arcs cursor
 blocks_all ws s t new k firsts arcs blocks upto cursor are all cursor_in h = record {
@@ -324,6 +367,25 @@ blocks_all ws s t new k firsts arcs blocks upto cursor are all cursor_in h = rec
   each = λ i lt off. (let b = are.all i (omega (arith, lt, cursor_in)) in
       h.each _ _ _ b (omega (arith, b.within, all)) (are.classes i (omega (arith, lt, cursor_in))) refl off);
 }
+
+-- the first blocks were labelled and the next one lies past the free end, so all behind it do
+pub blocks_past : (ws : ℕ → ℕ → Option ℕ) (s : Assignment) (t new : SearchTree) (k : ℕ) (firsts : List ℕ) (arcs : List Arc) (blocks : List Block) (at cursor : ℕ) (block : Block) (limit : Option ℕ) → AreBlocks firsts arcs blocks → at < length blocks
+    → block ≡ get_or blocks at block → cursor ≤ length arcs → HasLabelledBlocks ws s k t new firsts blocks at → IsLimit s.values.items k new.labels.free_end limit → IsPast limit block.weight → HasLabelled ws s k t new arcs cursor
+blocks_past ws s t new k firsts arcs blocks at cursor block limit are at_in is cursor_in h l past = record {
+  better = h.better;
+  free_end = h.free_end;
+  each = λ i lt off. (let b = are.all i (omega (arith, lt, cursor_in)) in
+      elim (cases_lt b.index at) [
+        | inl before ↦ h.each _ _ _ b before (are.classes i (omega (arith, lt, cursor_in))) refl off
+        | inr behind ↦ covered_past s new.labels k _ _ new.labels.free_end limit refl l (past_rise limit block.weight _ (omega (arith, heavier b behind)) past)
+      ]);
+}
+  where
+    heavier : {cpu w : ℕ} (b : InBlocks blocks cpu w) → at ≤ b.index → block.weight ≤ w
+    heavier b behind =
+        let here : block.weight ≡ (block_at blocks at).weight = ap (λ (x : Block). x.weight) (get_or_read blocks at block at_in is _) in
+        let there : (block_at blocks b.index).weight ≡ b.block.weight = ap (λ (x : Block). x.weight) (b.its _) in
+        omega (arith, here, there, are.rising at b.index behind b.within, b.weight)
 
 -- a weight below the bound is not past the limit
 pub not_past : (limit : Option ℕ) (bound w : ℕ) → IsBoundOf limit bound → w < bound → IsPast limit w → ⊥

@@ -7,7 +7,7 @@ use Rattle.std.proofs.lemmas.Bool.{cases_eq, cases_lt}
 use Rattle.certificate.specs.declared.rows.Offer.{Offer}
 use Rattle.cpu_set.specs.Ids.{Ids, NoneFrom, IsFirstFrom}
 use Rattle.transport.specs.Numbers.{number, IsIn}
-use Rattle.transport.specs.Blocks.{AreBlocks}
+use Rattle.transport.specs.Blocks.{AreBlocks, AreNoHeavier}
 use Rattle.transport.specs.Scans.{arc_at, IsPast}
 use Rattle.transport.specs.SortedArcs.{IsArc, HasOffer, IsToCome, AreArcs, IsSortedArcs, IsScanned, IsFreeArc, IsFoundFreeEnd, IsOpening, CanOpen}
 use Rattle.transport.specs.Walks.{IsAhead}
@@ -203,6 +203,10 @@ opening_all ws offers firsts weighted opened old arcs h = record {
 pub can_open : (ws : ℕ → Option ℕ) (offers : List Offer) (firsts residual : List ℕ) (l : SortedArcs) (offer : Offer) (weight : ℕ) → IsSortedArcs ws offers firsts residual l → l.opened < length offers
     → slice_get offers (weighted_at (weighted_in offers l.order) l.opened).offer ≡ Some offer → weight ≡ (weighted_at (weighted_in offers l.order) l.opened).weight → CanOpen ws offers firsts (weighted_in offers l.order) l.opened offer weight l.arcs.items
 can_open ws offers firsts residual l offer weight h more its weighs = record { weighted_are = h.order.weighted; in_weighted = omega (arith, more, h.order.long); its = its; weighs = weighs; arcs_are = h.arcs; hits = h.hits }
+
+-- no arc weighs more than the offer
+pub arcs_low : (ws : ℕ → Option ℕ) (offers : List Offer) (firsts : List ℕ) (weighted : List WeightedOffer) (opened : ℕ) (offer : Offer) (weight : ℕ) (arcs : List Arc) → CanOpen ws offers firsts weighted opened offer weight arcs → AreNoHeavier arcs weight
+arcs_low ws offers firsts weighted opened offer weight arcs can i lt = omega (arith, can.arcs_are.low i opened lt (omega arith) can.in_weighted, can.weighs)
 
 pub sorted_opened : (ws : ℕ → Option ℕ) (offers : List Offer) (firsts residual : List ℕ) (l new : SortedArcs) → IsSortedArcs ws offers firsts residual l → l.opened < length offers
     → IsOpening ws offers firsts (weighted_in offers l.order) l.opened l.arcs.items new.arcs.items None → AreBlocks firsts new.arcs.items new.blocks.items → new.order ≡ l.order → new.opened ≡ l.opened + 1 → new.cursor ≡ l.cursor → IsSortedArcs ws offers firsts residual new

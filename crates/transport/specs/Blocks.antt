@@ -1,5 +1,5 @@
 -- A row's arcs in blocks, by the first CPUs of their classes.
-use Rattle.std.specs.Prelude.{◌≡◌, ℕ, ◌<◌, ◌⊎◌, true, false, Option, Some, List, length, slice_index_or}
+use Rattle.std.specs.Prelude.{◌≡◌, ℕ, ◌<◌, ◌≤◌, ◌⊎◌, true, false, Option, Some, List, length, slice_index_or}
 use Rattle.std.specs.FinSet as set
 use Rattle.cpu_set.specs.Ids.{Ids}
 use Rattle.transport.specs.Numbers.{number, IsIn}
@@ -33,11 +33,33 @@ pub record IsArcOf (firsts : List ℕ) (arcs : List Arc) (cpu w : ℕ) : Type 0 
   pub first : IsFirstOf firsts (arc_at arcs index).class cpu
   pub weight : (arc_at arcs index).weight ≡ w
 
--- the blocks have the classes of the arcs, at their weights, and no others
+-- the block at a place
+abbrev pub block_at : List Block → ℕ → Block
+block_at blocks i = slice_index_or blocks i (record { weight = 0; firsts = set.empty })
+
+-- one of the arcs is of that weight
+pub record IsWeightOfArc (arcs : List Arc) (w : ℕ) : Type 0 where
+  pub index : ℕ
+  pub within : index < length arcs
+  pub weight : (arc_at arcs index).weight ≡ w
+
+-- none of the arcs weighs more
+abbrev pub AreNoHeavier : List Arc → ℕ → Type 0
+AreNoHeavier arcs weight = (i : ℕ) → i < length arcs → (arc_at arcs i).weight ≤ weight
+
+-- the blocks there weigh what they did, and those that came behind them are of that weight
+pub record AreWeightsAdded (old new : List Block) (weight : ℕ) : Type 0 where
+  pub longer : length old ≤ length new
+  pub kept : (i : ℕ) → i < length old → (block_at new i).weight ≡ (block_at old i).weight
+  pub behind : (i : ℕ) → length old ≤ i → i < length new → (block_at new i).weight ≡ weight
+
+-- the blocks have the classes of the arcs, at their weights, and no others, by rising weight
 pub record AreBlocks (firsts : List ℕ) (arcs : List Arc) (blocks : List Block) : Type 0 where
   pub sound : (cpu w : ℕ) → InBlocks blocks cpu w → IsArcOf firsts arcs cpu w
   pub all : (i : ℕ) → i < length arcs → InBlocks blocks (number firsts (arc_at arcs i).class) (arc_at arcs i).weight
   pub classes : (i : ℕ) → i < length arcs → (arc_at arcs i).class < length firsts
+  pub rising : (i j : ℕ) → i ≤ j → j < length blocks → (block_at blocks i).weight ≤ (block_at blocks j).weight
+  pub weights : (i : ℕ) → i < length blocks → IsWeightOfArc arcs (block_at blocks i).weight
 
 -- these CPUs are the first ones of classes that are taken up
 abbrev pub AreFirstsOfTaken : List ℕ → Ids → TreeClasses → Type 0

@@ -2,7 +2,7 @@
 ghost use Rattle.std.specs.Prelude.{◌≡◌, ◌↔◌, ℕ, ◌+◌, ◌<◌, ◌≤◌, ◌⊎◌, ◌||◌, ◌==◌, false, IsTrue, Option, None, List, length, MatchOption, IfOk, OnOk};
 ghost use Rattle.std.specs.FinSet as set;
 ghost use Rattle.cpu_set.specs.Members.{IsCpu};
-ghost use Rattle.transport.specs.Blocks.{InBlocks, AreBlocks};
+ghost use Rattle.transport.specs.Blocks.{InBlocks, AreBlocks, AreNoHeavier, AreWeightsAdded};
 ghost use Rattle.transport.specs.Numbers.{number};
 ghost use Rattle.transport.specs.Scans.{arc_at, IsPast};
 ghost use Rattle.certificate.specs.declared.rows.Offer.{Offer};
@@ -119,7 +119,7 @@ fn push_arcs(
     firsts: &Representatives,
     weight: u32,
 ) -> Result<(), AllocError>
-    ensures blocks { OnOk result (AreBlocks firsts.now arcs.old.items blocks.old.items → AreBlocks firsts.now arcs.new.items blocks.new.items) }
+    ensures blocks { OnOk result (AreNoHeavier arcs.old.items weight → AreBlocks firsts.now arcs.old.items blocks.old.items → AreBlocks firsts.now arcs.new.items blocks.new.items) }
     ensures arcs { OnOk result ((ws : ℕ → Option ℕ) (offers : List Offer) (weighted : List WeightedOffer) (opened : ℕ) → CanOpen ws offers firsts.now weighted opened offer.now weight arcs.old.items
         → IsOpening ws offers firsts.now weighted opened arcs.old.items arcs.new.items None) }
 {
@@ -140,6 +140,7 @@ fn add_to_blocks(blocks: &mut Vec<Block>, weight: u32, cpu: u16) -> Result<(), A
     ensures sound { OnOk result ((c w : ℕ) → InBlocks blocks.new.items c w → InBlocks blocks.old.items c w ⊎ ((c ≡ cpu) × (w ≡ weight))) }
     ensures kept { OnOk result ((c w : ℕ) → InBlocks blocks.old.items c w → InBlocks blocks.new.items c w) }
     ensures added { OnOk result (InBlocks blocks.new.items cpu weight) }
+    ensures weights { OnOk result (AreWeightsAdded blocks.old.items blocks.new.items weight) }
 {
     if extend_last(blocks, weight, cpu) {
         return Ok(());
@@ -155,6 +156,7 @@ fn extend_last(blocks: &mut [Block], weight: u32, cpu: u16) -> bool
     ensures sound { IsTrue result → (c w : ℕ) → InBlocks blocks.new c w → InBlocks blocks.old c w ⊎ ((c ≡ cpu) × (w ≡ weight)) }
     ensures kept { IsTrue result → (c w : ℕ) → InBlocks blocks.old c w → InBlocks blocks.new c w }
     ensures added { IsTrue result → InBlocks blocks.new cpu weight }
+    ensures weights { IsTrue result → AreWeightsAdded blocks.old blocks.new weight }
     ensures same { result ≡ false → blocks.new ≡ blocks.old }
 {
     if blocks.len() == 0 {

@@ -230,7 +230,8 @@ pub(crate) fn scan_row(
     )
 }
 
-/// Labels the classes of a row's arcs that are nearer than the free end, block by block.
+/// Labels the classes of a row's arcs that are nearer than the free end, block by block, and ends at the first block past the
+/// bound: those behind it weigh no less.
 #[inline(never)]
 pub(crate) fn label_arcs(
     instance: &Instance,
@@ -252,9 +253,10 @@ pub(crate) fn label_arcs(
     let scan = scan_of(assignment, &tree.reached_rows, row, limit);
     for at in 0..sorted_arcs.blocks.len() {
         let block = &sorted_arcs.blocks[at];
-        if (block.weight as u64) < scan.bound {
-            label_block(instance, assignment, block, taken_firsts, tree, scan)?;
+        if block.weight as u64 >= scan.bound {
+            return Ok(());
         }
+        label_block(instance, assignment, block, taken_firsts, tree, scan)?;
     }
     Ok(())
 }

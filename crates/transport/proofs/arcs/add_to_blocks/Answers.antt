@@ -1,8 +1,8 @@
 use Rattle.std.proofs.Common.{◌≡◌, ℕ, List, ◌∷◌, [], ◌++◌, length, take, drop, refl, sym, ap, ◌∙◌, subst, arith}
 use Rattle.std.proofs.Math.Seq.{take-append_seam}
-use Rattle.transport.specs.Blocks.{InBlocks}
+use Rattle.transport.specs.Blocks.{InBlocks, AreWeightsAdded}
 use Rattle.transport.specs.declared.arcs.Block.{Block}
-use Rattle.transport.proofs.Blocks.{pushed_sound, pushed_kept, pushed_added}
+use Rattle.transport.proofs.Blocks.{pushed_sound, pushed_kept, pushed_added, pushed_weights}
 use Rattle.transport.proofs.arcs.add_to_blocks.Goals as goal
 use Rattle.transport.proofs.arcs.add_to_blocks.Goals.{In_ok-push}
 
@@ -32,3 +32,8 @@ pub returns-clause-added : goal.returns-clause-added
 returns-clause-added c =
     let i = (goal.at.returns-clause-added c).In_ok-push in
     subst (λ xs. InBlocks xs c.args.cpu c.args.weight) (sym (items i)) (pushed_added _ c.of-firsts.result c.args.cpu c.args.weight c.of-firsts.ensures)
+
+pub returns-clause-weights : goal.returns-clause-weights
+returns-clause-weights c =
+    let i = (goal.at.returns-clause-weights c).In_ok-push in
+    subst (λ xs. AreWeightsAdded c.args.blocks.now.items xs c.args.weight) (sym (items i)) (pushed_weights _ c.of-firsts.result c.args.cpu c.args.weight c.of-firsts.ensures)
