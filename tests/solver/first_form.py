@@ -1,0 +1,101 @@
+"""Writes problems for the solver and its first form into a folder, `first_form.py FOLDER`; and says what the answers beside
+them are, `first_form.py --seen FOLDER`, which fails where there are too few of one kind.
+
+The solver's steps depend on how many classes a search has labelled and taken up, on which of them lie in one word of 64 CPUs,
+on whether offers rise, and on how a row's ranges cut the classes of other rows. So problems have few CPUs and many, near and
+far ones, lists in one run and in many, and mostly few weights, so that many plans cost the same."""
+
+import os
+import random
+import sys
+from collections import Counter
+from pathlib import Path
+
+HERE = os.path.dirname(os.path.abspath(__file__))
+sys.path[:0] = [os.path.join(HERE, "..", "..", "benches", "solver")]
+from families import FAMILIES, shown, text
+
+# Problems of one file, and the CPUs, rows and weights that they have at most.
+MADE = {
+    "few-cpus": (1500, 12, 4, 3),
+    "one-word": (300, 64, 12, 2),
+    "some-words": (120, 300, 40, 4),
+    "many-weights": (60, 300, 40, 200),
+    "many-words": (25, 1500, 120, 3),
+    "one-weight": (25, 1500, 120, 1),
+}
+# The sizes of the families of benches/solver, as the last CPU and the rows.
+SIZES = [(40, 9), (255, 64)]
+
+
+def listed(cpus):
+    """Some of the CPUs: a run of them, some runs, every other one, or by chance."""
+    start, end = sorted(random.sample(range(len(cpus) + 1), 2))
+    kind = random.randrange(5)
+    if kind == 0:
+        return cpus[start:end]
+    if kind == 1:
+        return cpus[:start] + cpus[end:]
+    if kind == 2:
+        return cpus[start % 2 :: random.randint(2, 3)]
+    if kind == 3:
+        return random.sample(cpus, random.randint(1, len(cpus)))
+    return cpus
+
+
+def offers_of(cpus, weights):
+    """The CPUs in offers by any order, of which some have the weight of another one."""
+    by_offer = {}
+    bounds = sorted(random.sample(cpus, min(len(cpus), random.randint(0, 6))))
+    for cpu in cpus:
+        part = sum(bound <= cpu for bound in bounds) if random.random() < 0.95 else random.randint(0, 6)
+        by_offer.setdefault(part, []).append(cpu)
+    offers = [(random.randint(1, weights), part) for part in by_offer.values()]
+    return sorted(offers) if random.random() < 0.5 else random.sample(offers, len(offers))
+
+
+def made(most_cpus, most_rows, weights):
+    """Rows with lists of their own or like those of a row before, which together ask for about what there is."""
+    count = random.randint(1, most_cpus)
+    start = random.randrange(4097 - count)
+    cpus = list(range(start, start + count)) if random.random() < 0.5 else sorted(random.sample(range(4096), count))
+    rows = []
+    size = random.randint(1, most_rows)
+    full = random.choice((0.5, 0.9, 1, 1.1))
+    for k in range(size):
+        offers = random.choice(rows)[1] if rows and random.random() < 0.3 else offers_of(sorted(listed(cpus)) or cpus, weights)
+        demand = max(1, round(full * count / size) + random.randint(-1, 1))
+        rows.append((demand, offers))
+    return rows
+
+
+def problem(rows):
+    lines = ["numarun-certificate 1"]
+    for k, (demand, offers) in enumerate(rows):
+        lines.append(" ".join([f"row r{k} {demand}"] + [f"{weight}:{shown(part)}" for weight, part in offers]))
+    return "\n".join(lines + ["short r0", "end", ""])
+
+
+def write(folder):
+    for name, (count, cpus, rows, weights) in MADE.items():
+        random.seed(name)
+        Path(folder, name).write_text("".join(problem(made(cpus, rows, weights)) for _ in range(count)))
+    for name, family in FAMILIES.items():
+        random.seed(name)
+        sized = [list(family(range(1, last + 1), rows)) for last, rows in SIZES]
+        Path(folder, name).write_text("".join(text(rows) for rows in sized if all(demand for demand, _ in rows)))
+
+
+def see(folder):
+    """Of each made file, how many answers are plans and shortages; and that there are many of both in all."""
+    seen = Counter()
+    for name in MADE:
+        answers = Path(folder, name + ".stdout").read_text().split("turns ")
+        for answer in answers[:-1]:
+            seen["shortages" if "short " in answer else "plans"] += 1
+    print("first-form:", ", ".join(f"{seen[name]} {name}" for name in ("plans", "shortages")))
+    if min(seen["plans"], seen["shortages"]) < 300:
+        sys.exit("first-form: too few of one kind")
+
+
+see(sys.argv[2]) if sys.argv[1] == "--seen" else write(sys.argv[1])
