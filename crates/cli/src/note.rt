@@ -1,5 +1,5 @@
 ghost use Rattle.std.specs.Prelude.{◌≡◌, option_map};
-ghost use Rattle.cli.specs.Notes.{note_of, note_text, shown, standard_input};
+ghost use Rattle.cli.specs.Notes.{note_of, note_text};
 ghost use Rattle.cli.specs.declared.note.Note.{Note};
 
 use crate::printed::Printed;
@@ -41,10 +41,3 @@ impl Printed for Option<Note<'_>> {
 
 /// How standard input is called.
 pub const STANDARD_INPUT: &str = "standard input";
-
-/// How an input of this name is called that is standard input where its name is `-`.
-pub fn shown(name: &str) -> &str
-    ensures { result.now ≡ shown name.now }
-{
-    if name == "-" { STANDARD_INPUT } else { name }
-}

@@ -59,33 +59,6 @@ fn has(ids: &IdSet, id: Option<u16>) -> bool {
     }
 }
 
-/// The offers of these CPUs for these homes; they are worked out once.
-pub(crate) fn offers_among(
-    alloc: Global,
-    machine: &Machine,
-    homes: &IdSet,
-    cpus: &IdSet,
-    cache: &mut Vec<CachedOffers>,
-) -> Result<Offers, AllocError>
-    requires reach { AreInReach machine.now homes.now cpus.now }
-    requires homes { AreHomes machine.now homes.now }
-    requires cache { All (IsCached machine.now) cache.old.items }
-    ensures offers { IfOk result (λ offers. offers ≡ offers_of machine.now homes.now cpus.now) }
-    ensures cache { All (IsCached machine.now) cache.new.items }
-{
-    if let Some(cached) = find(cache.as_slice(), homes, cpus) {
-        return cached.offers.copy(alloc);
-    }
-    let offers = offers_of(alloc, machine, homes, cpus)?;
-    cache.push(CachedOffers {
-        homes: *homes,
-        cpus: *cpus,
-        offers: offers.copy(alloc)?,
-        parts: None,
-    })?;
-    Ok(offers)
-}
-
 /// The offers of these CPUs for these homes in parts, for a container that holds some CPUs. They are worked out once
 /// for containers that hold the same, as all do that no plan has met.
 pub(crate) fn parts_among(

@@ -11,4 +11,4 @@ mod parts;
 mod row;
 
 pub use cache::{CachedOffers, CachedParts};
-pub use row::{row_of, scaled_row_of};
+pub use row::scaled_row_of;

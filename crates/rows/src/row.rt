@@ -3,51 +3,22 @@ ghost use Rattle.certificate.specs.Limits.{row_fits};
 ghost use Rattle.demand.specs.FitsMachine.{FitsMachine};
 ghost use Rattle.rows.specs.RowOf.{available, row_of};
 ghost use Rattle.rows.specs.CachedOffers.{IsCached};
-ghost use Rattle.rows.specs.Scaled.{are_distances, scaled};
+ghost use Rattle.rows.specs.Scaled.{scaled};
 
-use crate::cache::{CachedOffers, offers_among, parts_among};
+use crate::cache::{CachedOffers, parts_among};
 use certificate::Row;
 use cpu_set::IdSet;
 use demand::{Demand, Kind};
 use machine::Machine;
 use std::alloc::{AllocError, Global};
 
-/// The row of a container that asks for CPUs of its own while these CPUs are online; a shared one has none.
+/// The row of a container that asks for CPUs of its own while these CPUs are online, and that holds some already; a shared one has
+/// none.
 ///
 /// It offers the CPUs that the container may get and that are online. Each weighs as much as the distance from its node
-/// to the nearest home; there is one offer for each weight, the least weight first. Offers that are cached are taken from
-/// there, and new ones are added. O(c + n * h) of c cached offers, n nodes and h homes.
-///
-/// # Errors
-/// Lack of memory.
-pub fn row_of(
-    alloc: Global,
-    machine: &Machine,
-    online: &IdSet,
-    id: &str,
-    demand: &Demand,
-    cache: &mut Vec<CachedOffers>,
-) -> Result<Option<Row>, AllocError>
-    requires fits { FitsMachine machine.now demand.now }
-    requires cache { All (IsCached machine.now) cache.old.items }
-    ensures row { IfOk result (λ row. row ≡ row_of machine.now online.now id.now demand.now) }
-    ensures fits { IfOk result (λ row. IfSome row (λ r. IsTrue (row_fits r))) }
-    ensures distances { IfOk result (λ row. IfSome row (λ r. IsTrue (are_distances r.offers))) }
-    ensures cache { All (IsCached machine.now) cache.new.items }
-{
-    let Kind::Pinned(count) = demand.kind else {
-        return Ok(None);
-    };
-    let cpus = available(demand, online);
-    Ok(Some(Row {
-        id: String::from_str(alloc, id)?,
-        demand: count,
-        offers: offers_among(alloc, machine, &demand.homes, &cpus, cache)?,
-    }))
-}
-
-/// The same row where the container holds these CPUs already: distances are scaled by
-/// [`MOVE_SCALE`](certificate::MOVE_SCALE), and each CPU that it does not hold weighs one more.
+/// to the nearest home, scaled by [`MOVE_SCALE`](certificate::MOVE_SCALE), and one more where the container does not hold it.
+/// There is one offer for each weight, the least weight first. Offers that are cached are taken from there, and new ones
+/// are added. O(c + n * h) of c cached offers, n nodes and h homes.
 ///
 /// # Errors
 /// Lack of memory.
