@@ -94,6 +94,12 @@ def many(count):
             text("row a 1 1:5", "hold a 5 1", *["price 0 5"] * count, "total 1")]
 
 
+def wide(count):
+    """A row's offers, and prices, that have 2,048 ranges each: together more than 65,536 of them."""
+    return [one(f"row a 1{f' 1:{EVEN}' * count}", "hold a 0 1", "price 0 0", "total 1"),
+            text("row a 1 1:0", "hold a 0 1", *[f"price 0 {EVEN}"] * count, "total 1")]
+
+
 def half_zero(amount=VALUE):
     """A row of weight 0 whose value is a price alone, which is the largest one."""
     return valued(amount, amount)
@@ -184,5 +190,5 @@ SIZES = [
     (every_other(demand=2047), "refused E71 WrongCount 0"),
     (text(f"row a 2049 1:{EVEN}", "short a"), "short demand 2049 cpus 2048"),
     (text(f"row a 2048 1:{ODD}", "short a"), "refused E76 NoShortage"),
-] + [(told, PROBLEM) for told in many(20_000)]
+] + [(told, PROBLEM) for told in many(20_000) + wide(40)]
 TEXTS = PLAIN + NUMBERS + ROWS + SIZES

@@ -2,8 +2,8 @@
 
 A case of the table is a line `$ numarun WORD..`, with `< INPUT`, `> PLACE` and `2> PLACE` behind it where the standard
 streams are others than nothing, a pipe and a pipe; then `status N`; then standard output, each line behind `|`, and
-standard error, each line behind `!`; `|< NAME` stands for the lines of a file. A word in `$'..'` has escapes. A stream at
-`closed` is closed. The program is run as a user who may not read the file `locked`.
+standard error, each line behind `!`; `|< NAME` stands for the lines of a file. A word in `$'..'` has escapes, and `<N TEXT>` is
+TEXT so many times. A stream at `closed` is closed. The program is run as a user who may not read the file `locked`.
 """
 
 import os
@@ -126,7 +126,7 @@ def cases(table):
     """(line number, words, places of the streams, status, output, error)"""
     found = None
     for at, line in enumerate(open(table, encoding="utf-8"), 1):
-        line = line.rstrip("\n")
+        line = re.sub(r"<(\d+) ([^>]+)>", lambda found: found[2] * int(found[1]), line.rstrip("\n"))
         if line.startswith("$ "):
             if found:
                 yield found

@@ -25,7 +25,7 @@ def defined(crate, pages):
         if not path.is_file():
             sys.exit(f"docs/definitions.md: {crate} has no page {page} in specs/")
         text = path.read_text(encoding="utf-8")
-        found.update(re.findall(r"^ *(?:(?:abbrev|unfoldable|record|data|pub) )*([^\s:]+) .*:", text, re.MULTILINE))
+        found.update(re.findall(r"^ *(?:(?:abbrev|unfoldable|record|data|pub) )+([^\s:]+) .*:", text, re.MULTILINE))
     return found
 
 

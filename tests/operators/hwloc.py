@@ -16,11 +16,13 @@ NODE = ('<topology version="2.0"><object type="Machine" os_index="0" cpuset="0x{
 LAST = "80000000" + ",0x0" * 127
 
 
-def recorded(name, *words, said="", **expected):
+def recorded(name, *words, said=(), **expected):
+    """The machine file of a recorded machine has these members; each line on standard error says one of these, in their order."""
     status, out, err = told("describe-hwloc.py", os.path.join(MACHINES, name + ".xml"), *words)
     found = json.loads(out) if status == 0 else {}
     check(name, {key: found.get(key) for key in expected}, expected)
-    check(f"{name}: said", all(line in err for line in said.split("|")), True)
+    lines = err.splitlines()
+    check(f"{name}: said {lines}", [text in line for text, line in zip(said, lines)] + [len(lines)], [True] * len(said) + [len(said)])
 
 
 def same_as_by_hand(name, reserved):
@@ -40,14 +42,15 @@ def same_as_of_this_machine():
     check("this machine", (found[0], json.loads(found[1] or "{}")), (expected[0], json.loads(expected[1] or "{}")))
 
 
+FROM_ITSELF = ["node 2 is at 17 from itself", "node 16 is at 14 from itself", "left out, as no node has them: CPUs 4-7,20-23"]
 same_as_by_hand("two-socket", "0,16")
 same_as_by_hand("two-nodes-a-socket", "0-1,64-65")
 same_as_of_this_machine()
 recorded("offline", nodes=["0-15"], distances=[[10]], reserved="0", offline="2,5,7-11,13-14")
-recorded("memory-and-a-hole", "--renumber", said="node 16 is at 14 from itself|CPUs 4-7,20-23",
+recorded("memory-and-a-hole", "--renumber", said=FROM_ITSELF,
          nodes=["0-3", "16-19", ""], distances=[[10, 17, 17], [17, 10, 10], [14, 14, 10]], reserved="0", offline="")
-recorded("memory-and-a-hole", said="become nodes without CPUs: 1,3-15", nodes=["0-3", "", "16-19"] + [""] * 14)
-recorded("no-distances", "--reserved", "7", said="it tells no distances", nodes=["0-1", "2-3", "4-5", "6-7"], reserved="7",
+recorded("memory-and-a-hole", said=FROM_ITSELF + ["become nodes without CPUs: 1,3-15"], nodes=["0-3", "", "16-19"] + [""] * 14)
+recorded("no-distances", "--reserved", "7", said=["it tells no distances"], nodes=["0-1", "2-3", "4-5", "6-7"], reserved="7",
          distances=[[10 if a == b else 255 for b in range(4)] for a in range(4)], offline="")
 
 status, out, err = told("describe-hwloc.py", text=NODE.format(online=LAST, all=LAST, node=127))

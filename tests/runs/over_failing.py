@@ -93,7 +93,8 @@ def of_steps():
     """A step fails, and the hand-over is over."""
     kept = [(11, [], [A_OLD, B_RESERVED]), (12, [MORE], [A_RESERVED, B_RESERVED]), (13, [MORE, MORE], [A_NEW, B_RESERVED])]
     for fail, steps, sets in kept:
-        yield Run(fail, BOTH_BEGIN + steps + [FAILS] + sets + [UNSETTLED, NONE_OPEN] + AT_ONCE)
+        both = ("list", "a created\nb created\nend")
+        yield Run(fail, BOTH_BEGIN + steps + [FAILS] + sets + [UNSETTLED, both, NONE_OPEN] + AT_ONCE)
         # In a rebalance, too; the next hand-over makes those writes alone that are still due.
         left = [MORE] * (13 - fail) + [DONE]
         yield Run(fail, BOTH_COME + [("rebalance", FAULT)] + sets + [UNSETTLED, ("begin", PLAN_OF_BOTH)] + left + IN_PLACE)

@@ -1,5 +1,6 @@
 """Counts what the program allocates: `memory.py PROGRAM REFUSE.SO`. A script takes as many allocations as the same one with a
-thousand lines more of the commands that take no memory, whether they are carried out or refused."""
+thousand lines more of the commands that take no memory, whether they are carried out or refused. And a rebalance of containers
+that are alike takes few for each: what their rows have in common is worked out once."""
 
 import os
 import sys
@@ -30,6 +31,21 @@ def allocations(program, library, words, lines):
     return os.fstat(3).st_size, done.stdout.count(b"\n")
 
 
+def of_alike_ones(program, library):
+    """The allocations of a first rebalance for each container more, of containers with the same config: its name in its row,
+    the two lists of its offers, and no others."""
+    words = place(MACHINE, None, {"b": config({"quota": 100000})})
+    counts = []
+    for containers in (30, 120):
+        creates = [f"create c{k} b" for k in range(containers)]
+        before, behind = (allocations(program, library, words, creates + more)[0] for more in ([], ["rebalance"]))
+        counts.append(behind - before)
+    each = (counts[1] - counts[0]) / 90
+    if not 3 <= each < 4:
+        sys.exit(f"memory: a rebalance takes {each} allocations for each container more that is like the others")
+    return each
+
+
 def main(program, library):
     program, library = os.path.abspath(program), os.path.abspath(library)
     with tempfile.TemporaryDirectory() as folder:
@@ -45,8 +61,10 @@ def main(program, library):
             found, answered = allocations(program, library, words, BEFORE + lines)
             if found != few or answered < answers + len(lines) - lines.count(""):
                 sys.exit(f"memory: {name}: {found} allocations, {few} without, and {answered - answers} lines of answers")
+        each = of_alike_ones(program, library)
         os.chdir("/")
     print(f"memory: {few} allocations, and no more with", "; ".join(f"{len(COMMANDS[name])} of {name}" for name in COMMANDS))
+    print(f"memory: {each:.2f} allocations of a rebalance for each container that is like another")
 
 
 main(*sys.argv[1:])

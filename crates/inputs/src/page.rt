@@ -8,7 +8,7 @@ use std::io;
 use std::io::{ErrorKind, Write};
 
 /// How many bytes a page holds.
-const ROOM: usize = 8192;
+pub(crate) const ROOM: usize = 8192;
 
 /// A writer that keeps what it is given, up to 8,192 bytes, until it is flushed, so that a short answer goes out in
 /// one write. It takes no memory. What waits when it is dropped is lost.

@@ -14,7 +14,7 @@ pub const MOST_BYTES: usize = 67_108_864;
 pub const MOST_READS: u32 = 1_000_000;
 
 /// The most bytes that are asked for at once.
-const PIECE: usize = 8192;
+pub(crate) const PIECE: usize = 8192;
 
 /// All that the reader has left.
 ///

@@ -14,6 +14,7 @@ use Rattle.node.specs.declared.sets.Sets.{Sets}
 use Rattle.node.specs.declared.fault.NodeFault.{NodeFault}
 use Rattle.node.specs.declared.outcome.Outcome.{Outcome}
 use Rattle.node.specs.declared.outcome.Outcome.TheVariants.{Plan, Short}
+use Rattle.node.specs.Asking.{ShortStands}
 use Rattle.node.specs.Headline.{Headline, IsRebalanced, IsShort}
 use Rattle.node.specs.IsNode.{IsNode}
 use Rattle.node.specs.Listed.{listed}
@@ -151,6 +152,11 @@ abbrev pub BegunAreTold : Type 0
 BegunAreTold = (old new : RuntimeState) (more : List ℕ) → Answered old ask.begin (codes "plan total " ++ more) new
     → (total : ℕ) × Begun old.node total new.node × (codes "plan total " ++ more ≡ outcome_text new.node (Plan total))
 
+-- and one that begins as a shortage's does is the text of a shortage, of containers that live and ask for CPUs of their own
+abbrev pub BegunShortAreTold : Type 0
+BegunShortAreTold = (old new : RuntimeState) (more : List ℕ) → IsNode old.node → Answered old ask.begin (codes "short demand " ++ more) new
+    → (wanted : ℕ) × (allowed : Ids) × IsShort old.node wanted allowed new.node × (codes "short demand " ++ more ≡ outcome_text new.node (Short wanted allowed))
+
 -- a rebalance in the midst of a script: what was answered before it and behind it, and that it left what the headline says
 pub record IsRebalanceOf (first : RuntimeState) (before after : List (List ℕ)) (text : List ℕ) (last : RuntimeState) : Type 0 where
   pub old : RuntimeState
@@ -269,6 +275,15 @@ begun_told old new more (Err error) b e = absurd (let same : 112 ≡ 114 = ap (�
 
 pub begun_are_told : BegunAreTold
 begun_are_told old new more ((r, b, e), same) = begun_told old.node new.node more r b e
+
+begun_short_told : ShortStands → (old new : NodeState) (more : List ℕ) (r : Result Outcome (OrMemory NodeFault)) → IsNode old → Begins old r new → codes "short demand " ++ more ≡ answer_text (outcome_text new) of_either r
+    → (wanted : ℕ) × (allowed : Ids) × IsShort old wanted allowed new × (codes "short demand " ++ more ≡ outcome_text new (Short wanted allowed))
+begun_short_told stands old new more (Ok (Plan total)) node b e = absurd (let same : 115 ≡ 112 = ap (λ t. get_or t 0 0) e in let f : ⊥ = omega (arith, same) in f)
+begun_short_told stands old new more (Ok (Short wanted allowed)) node b e = (wanted, allowed, stands old wanted allowed new node b, e)
+begun_short_told stands old new more (Err error) node b e = absurd (let same : 115 ≡ 114 = ap (λ t. get_or t 0 0) e in let f : ⊥ = omega (arith, same) in f)
+
+pub begun_short_are_told : ShortStands → BegunShortAreTold
+begun_short_are_told stands old new more node ((r, b, e), same) = begun_short_told stands old.node new.node more r node b e
 
 short_told : (old new : NodeState) (more : List ℕ) (r : Result Outcome (OrMemory NodeFault)) → Headline old r new → codes "short demand " ++ more ≡ answer_text (outcome_text new) of_either r
     → (wanted : ℕ) × (allowed : Ids) × IsShort old wanted allowed new × (codes "short demand " ++ more ≡ outcome_text new (Short wanted allowed))

@@ -3,7 +3,7 @@ ghost use Rattle.std.specs.Prelude.{◌≡◌};
 ghost use Rattle.runtime.specs.Boots.{BootsNodes};
 ghost use Rattle.runtime.specs.CertificatesTold.{CertificatesAreTold};
 ghost use Rattle.runtime.specs.ConfigsServed.{ScriptsServeConfigs};
-ghost use Rattle.runtime.specs.ScriptLaws.{BegunAreTold, CommandsAreCalls, LinesAreCalls, PlansAreTold, RebalancesAreTold, ScriptsRebalance, ShortagesAreTold};
+ghost use Rattle.runtime.specs.ScriptLaws.{BegunAreTold, BegunShortAreTold, CommandsAreCalls, LinesAreCalls, PlansAreTold, RebalancesAreTold, ScriptsRebalance, ShortagesAreTold};
 
 use crate::FIRST_PID;
 
@@ -25,8 +25,10 @@ pub fn rebalances_are_told()
     ensures shortages { ShortagesAreTold }
     ensures scripts { ScriptsRebalance }
     ensures begun { BegunAreTold }
+    ensures begun_short { BegunShortAreTold }
 {
     node::laws::each_rebalance();
+    node::laws::whose_rows();
 }
 
 /// What a script plans for the containers of its bundles, from a node of no container on: the headline holds of each line that

@@ -1,6 +1,8 @@
 //! Tests that run several crates together, and the conditions that they see to.
 #![tactic(auto)]
 
+#[cfg(test)]
+mod calls;
 mod conditions;
 #[cfg(test)]
 mod hand_over;

@@ -18,7 +18,7 @@ use std::io::{Read, Write};
 pub const MOST_READS: u32 = 1_000_000;
 
 /// The most bytes that are asked for at once.
-const PIECE: usize = 8192;
+pub(crate) const PIECE: usize = 8192;
 
 /// Runs a script over the target: the reader's lines are carried out one after another, and answered to the writer.
 /// Bytes are read as they come, and the writer is flushed behind each answer. It takes no memory of its own.
