@@ -2,7 +2,7 @@ pub mod Rising
 pub mod RowFaults
 pub mod CostSums
 pub mod PriceSums
-pub mod Members
+pub mod MemberRows
 pub mod Offering
 pub mod TooHigh
 pub mod Duality
@@ -17,4 +17,5 @@ pub mod PricesKept
 pub mod Elements
 pub mod Noting
 pub mod TwoCosts
+pub mod Verdicts
 pub mod SameWeights

@@ -1,6 +1,7 @@
 pub mod FaultTitle
 pub mod RowView
 pub mod SetsCode
+pub mod MembersCode
 pub mod PricesView
 pub mod Weight
 pub mod RisingOffers
@@ -24,6 +25,7 @@ pub mod PlanFault
 pub mod ShortageFault
 pub mod IsCause
 pub mod Scaled
+pub mod Verdict
 pub mod WeighSame
 pub mod Laws
 pub mod Tests

@@ -5,15 +5,21 @@
 //! that the plan is one of the least cost: the prices give a lower bound on the cost of every plan, and
 //! the plan's own cost is that bound. A yes of [`check_shortage`] means that no plan exists: the rows that it
 //! names ask together for more CPUs than the union of their offers has.
+//!
+//! A [`Certificate`] is a problem with one of both, and [`check`] checks it, with the total that its writer claims. So
+//! whoever trusts the check reads this crate alone.
 #![tactic(auto)]
 
 mod amounts;
+mod certificates;
 mod check_faults;
+mod checking;
 mod checks;
 mod costs;
 pub mod laws;
 mod limit_checks;
 mod limits;
+mod members;
 mod offers;
 mod plans;
 mod price_lists;
@@ -25,11 +31,14 @@ mod set_checks;
 mod shortages;
 mod value_checks;
 
+pub use certificates::Certificate;
 pub use check_faults::CheckFault;
+pub use checking::{Verdict, check};
 pub use checks::check_plan;
 pub use costs::proved_cost;
 pub use limit_checks::rows_fit;
 pub use limits::{MAX_AMOUNT, MAX_DEMAND, MAX_ROWS, MAX_WEIGHT, MOVE_SCALE};
+pub use members::Members;
 pub use offers::Offers;
 pub use plans::Plan;
 pub use price_lists::{Price, PriceList, Prices};

@@ -13,6 +13,7 @@ use Rattle.cpu_set.specs.Pointwise.{contains-empty, contains-insert}
 use Rattle.cpu_set.specs.declared.TheConstants.{CPU_LIMIT}
 use Rattle.cpu_list.specs.ListText.{IsList, names, item_of, number_of, range_of}
 use Rattle.certificate.specs.RowView.{RowView}
+use Rattle.certificate.specs.declared.certificates.Certificate.{Certificate}
 use Rattle.certificate_text.specs.declared.stage.Stage.{Stage}
 use Rattle.certificate_text.specs.declared.stage.Stage.TheVariants.{Start, Body, Totalled, Planned, Named, Shown}
 use Rattle.certificate_text.specs.IdWord.{is_id_letter, IsId}
@@ -20,7 +21,6 @@ use Rattle.certificate_text.specs.ListWord.{IsListWord}
 use Rattle.certificate_text.specs.NumberWord.{IsNumber}
 use Rattle.certificate_text.specs.Line.{LineView, HeaderLine, HoldLine, TotalLine, EndLine, Spells, words}
 use Rattle.certificate_text.specs.Begun.{run, IsBegun}
-use Rattle.certificate_text.specs.declared.certificates.Certificate.{Certificate}
 use Rattle.certificate_text.specs.FirstBadLine.{CanBegin}
 use Rattle.certificate_text.specs.Finished.{plan_of, shortage_of, finished, finished_at}
 use Rattle.certificate_text.specs.DraftView.{DraftView, next, next_at, empty_draft}

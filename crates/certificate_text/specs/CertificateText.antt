@@ -5,8 +5,8 @@ use Rattle.std.specs.List.Sorted.{IsStrictlyIncreasing}
 use Rattle.std.specs.Option.{option_map_or}
 use Rattle.cpu_set.specs.Ids.{Ids}
 use Rattle.certificate.specs.RowView.{RowView}
-use Rattle.certificate_text.specs.declared.certificates.Certificate.{Certificate}
-use Rattle.certificate_text.specs.declared.certificates.Certificate.TheVariants.{Plan, Short}
+use Rattle.certificate.specs.declared.certificates.Certificate.{Certificate}
+use Rattle.certificate.specs.declared.certificates.Certificate.TheVariants.{Plan, Short}
 use Rattle.certificate_text.specs.Line.{LineView, HeaderLine, RowLine, HoldLine, PriceLine, TotalLine, ShortLine, EndLine, Spells}
 use Rattle.certificate_text.specs.Parts.{parts}
 

@@ -1,6 +1,6 @@
 -- Which line of a text is named where the text stands for no certificate.
 use Rattle.std.specs.Prelude.{◌≡◌, ℕ, ◌+◌, ◌⊎◌, List, [], ◌∷◌, ◌++◌, length}
-use Rattle.certificate_text.specs.declared.certificates.Certificate.{Certificate}
+use Rattle.certificate.specs.declared.certificates.Certificate.{Certificate}
 use Rattle.certificate_text.specs.CertificateText.{AreLines, IsText}
 use Rattle.certificate_text.specs.Parts.{parts}
 

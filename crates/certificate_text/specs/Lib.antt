@@ -4,7 +4,6 @@ pub mod NumberWord
 pub mod ListWord
 pub mod Line
 pub mod LineRead
-pub mod MembersCode
 pub mod CertificateText
 pub mod FirstBadLine
 pub mod DraftView

@@ -2,7 +2,7 @@
 use Rattle.std.specs.Prelude.{◌≡◌, ◌≢◌, ℕ, List, [], ◌∷◌, ◌++◌, Result, MatchResult}
 use Rattle.faults.specs.declared.or_memory.OrMemory.{OrMemory}
 use Rattle.faults.specs.declared.or_memory.OrMemory.TheVariants.{Memory, Fault}
-use Rattle.certificate_text.specs.declared.certificates.Certificate.{Certificate}
+use Rattle.certificate.specs.declared.certificates.Certificate.{Certificate}
 use Rattle.certificate_text.specs.declared.reading.BadText.{BadText}
 use Rattle.certificate_text.specs.FirstBadLine.{CanBegin, IsFirstBadLine}
 use Rattle.certificate_text.specs.Line.{LineView, Spells}

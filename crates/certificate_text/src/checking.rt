@@ -1,27 +1,11 @@
-ghost use Rattle.std.specs.Prelude.{◌≡◌, Ok, Some, None, IfOk, IfErr, OnOk};
-ghost use Rattle.certificate_text.specs.declared.certificates.Certificate.TheVariants.{Plan as PlanCertificate, Short as ShortCertificate};
-ghost use Rattle.certificate_text.specs.declared.checking.Verdict.{Verdict};
-ghost use Rattle.certificate_text.specs.Verdict.{IsProvedCertificate, IsBest, IsVerdict, SaysLeast, IsFaultOf, IsVerdictError, IsAnswered, plan_verdict, scale_fault};
+ghost use Rattle.std.specs.Prelude.{IfOk, IfErr};
+ghost use Rattle.certificate.specs.declared.checking.Verdict.{Verdict};
+ghost use Rattle.certificate_text.specs.Verdict.{IsVerdict, SaysLeast, IsVerdictError, IsAnswered};
 
 use crate::reading::{BadText, read_text};
-use crate::{Certificate, Members};
-use certificate::{
-    CheckFault, MOVE_SCALE, Plan, Prices, Problem, are_scaled, check_plan, check_shortage, laws,
-};
+use certificate::{CheckFault, Verdict, check};
 use faults::{Fault, OrMemory};
 use std::alloc::Global;
-
-/// What a certificate proves.
-#[derive(Clone, Copy, Debug, PartialEq, Eq)]
-pub enum Verdict {
-    /// The certificate's plan costs this, and no plan costs less.
-    Plan(u64),
-    /// The certificate's plan has this distance and moves so many CPUs: no plan's distance is less, and none of that
-    /// distance moves fewer.
-    Moves(u64, u64),
-    /// The certificate's members ask together for so many CPUs, and may have so many, which are fewer: there is no plan.
-    Short(u64, u32),
-}
 
 /// Why a text proves nothing.
 #[derive(Clone, Copy, Debug, PartialEq, Eq)]
@@ -29,7 +13,8 @@ pub enum VerdictFault {
     /// E77: the text is no certificate's.
     BadText(BadText),
     /// The certificate is refused: `BadProblem` (E70) where weights should be scaled and one isn't, then the first cause as
-    /// [`check_plan`] or [`check_shortage`] words it, then `Gap` (E75) where the written total isn't the plan's cost.
+    /// [`check_plan`](certificate::check_plan) or [`check_shortage`](certificate::check_shortage) words it, then `Gap` (E75)
+    /// where the written total isn't the plan's cost.
     Check(CheckFault),
 }
 
@@ -61,96 +46,4 @@ pub fn check_text(alloc: Global, text: &[u8]) -> Result<Verdict, OrMemory<Verdic
         Ok(verdict) => Ok(verdict),
         Err(fault) => Err(OrMemory::Fault(VerdictFault::Check(fault))),
     }
-}
-
-/// Checks a certificate, as its text says it or as it was built. This takes no memory, so only the reading of a text can
-/// want any. It takes steps in the order of those of [`check_plan`] or [`check_shortage`].
-///
-/// # Errors
-/// `BadProblem` where weights should be scaled and one isn't; then those of [`check_plan`], then `Gap` where the written
-/// total isn't the plan's cost; for a shortage those of [`check_shortage`].
-pub fn check(certificate: &Certificate) -> Result<Verdict, CheckFault>
-    // A yes: values and prices prove the plan to cost the total, or the members are short by these counts; where weights
-    // are scaled, they are distances times the scale, and one more at most.
-    ensures proved { IfOk result (λ v. IsProvedCertificate certificate.now v) }
-    // Hence no plan of the rows costs less, where weights are scaled none is nearer, and none as near moves fewer CPUs; or
-    // the rows have no plan.
-    ensures best { IfOk result (λ v. IsBest certificate.now v) }
-    // A yes wherever that holds.
-    ensures complete { (v : Verdict) → IsProvedCertificate certificate.now v → result ≡ Ok v }
-    // A no: the certificate's first fault, and its cause stands.
-    ensures fault { IfErr result (λ fault. IsFaultOf fault certificate.now) }
-{
-    match certificate {
-        Certificate::Plan {
-            problem,
-            plan,
-            prices,
-            total,
-            scaled,
-        } => check_total(problem, plan, prices, *total, *scaled),
-        Certificate::Short {
-            problem,
-            members,
-            scaled,
-        } => check_members(problem, members, *scaled),
-    }
-}
-
-/// Checks the plan, and the total that is written with it.
-#[tactic(auto, using(crate::proofs::Verdicts::scale_first, crate::proofs::Verdicts::plan_second, crate::proofs::Verdicts::gap_last, crate::proofs::Verdicts::plan_proved, crate::proofs::Verdicts::plan_best))]
-fn check_total(
-    problem: &Problem,
-    plan: &Plan,
-    prices: &Prices,
-    total: u64,
-    scaled: bool,
-) -> Result<Verdict, CheckFault>
-    ensures proved { IfOk result (λ v. IsProvedCertificate (PlanCertificate problem.now plan.now prices.now total scaled) v) }
-    ensures best { IfOk result (λ v. IsBest (PlanCertificate problem.now plan.now prices.now total scaled) v) }
-    ensures complete { (v : Verdict) → IsProvedCertificate (PlanCertificate problem.now plan.now prices.now total scaled) v → result ≡ Ok v }
-    ensures fault { IfErr result (λ fault. IsFaultOf fault (PlanCertificate problem.now plan.now prices.now total scaled)) }
-{
-    laws::scaled_rows_have_two_costs();
-    check_scale(problem, scaled)?;
-    let cost = check_plan(problem, plan, prices)?;
-    if cost != total {
-        return Err(CheckFault::Gap);
-    }
-    Ok(plan_verdict(cost, scaled))
-}
-
-/// What a proved plan of this cost comes to.
-fn plan_verdict(cost: u64, scaled: bool) -> Verdict
-    ensures { result ≡ plan_verdict cost scaled }
-{
-    if scaled {
-        let scale = u64::from(MOVE_SCALE);
-        Verdict::Moves(cost / scale, cost % scale)
-    } else {
-        Verdict::Plan(cost)
-    }
-}
-
-/// Refuses rows whose weights should be scaled and aren't.
-fn check_scale(problem: &Problem, scaled: bool) -> Result<(), CheckFault>
-    ensures ok { OnOk result (scale_fault scaled problem.now ≡ None) }
-    ensures err { IfErr result (λ fault. scale_fault scaled problem.now ≡ Some fault) }
-{
-    if scaled && !are_scaled(problem.rows.as_slice()) {
-        return Err(CheckFault::BadProblem);
-    }
-    Ok(())
-}
-
-#[tactic(auto, using(crate::proofs::Verdicts::short_scale_first, crate::proofs::Verdicts::short_second, crate::proofs::Verdicts::short_proved))]
-fn check_members(problem: &Problem, members: &Members, scaled: bool) -> Result<Verdict, CheckFault>
-    ensures proved { IfOk result (λ v. IsProvedCertificate (ShortCertificate problem.now members.now scaled) v) }
-    ensures best { IfOk result (λ v. IsBest (ShortCertificate problem.now members.now scaled) v) }
-    ensures complete { (v : Verdict) → IsProvedCertificate (ShortCertificate problem.now members.now scaled) v → result ≡ Ok v }
-    ensures fault { IfErr result (λ fault. IsFaultOf fault (ShortCertificate problem.now members.now scaled)) }
-{
-    check_scale(problem, scaled)?;
-    let (asked, allowed) = check_shortage(problem, members.rows.as_slice())?;
-    Ok(Verdict::Short(asked, allowed))
 }

@@ -1,10 +1,9 @@
 //! Certificates as text, line by line: [`read_text`] reads one, [`check`] checks it, and [`check_text`] does both.
 //!
-//! The grammar is in [`read_text`]'s words; the check itself is the crate `certificate`'s.
+//! The grammar is in [`read_text`]'s words; certificates and [`check`] are the crate `certificate`'s, and passed on here.
 #![tactic(auto)]
 
 mod bad_line;
-mod certificates;
 mod checking;
 mod decimal;
 mod draft;
@@ -13,7 +12,6 @@ pub mod laws;
 mod line;
 mod line_words;
 mod list_word;
-mod members;
 mod offer;
 mod reading;
 mod split_once;
@@ -21,9 +19,8 @@ mod stage;
 mod word_pairs;
 mod writing;
 
-pub use certificates::Certificate;
-pub use checking::{Verdict, VerdictFault, check, check_text};
+pub use certificate::{Certificate, Members, Verdict, check};
+pub use checking::{VerdictFault, check_text};
 pub use id::{ID_LIMIT, is_id};
-pub use members::Members;
 pub use reading::{BadText, read_text};
 pub use writing::write_text;

@@ -1,7 +1,7 @@
 ghost use Rattle.std.specs.Prelude.{Err, IfOk, IfErr};
 ghost use Rattle.certificate.specs.RowView.{RowView};
+ghost use Rattle.certificate.specs.declared.certificates.Certificate.{Certificate};
 ghost use Rattle.certificate_text.specs.Line.{RowLine, Spells};
-ghost use Rattle.certificate_text.specs.declared.certificates.Certificate.{Certificate};
 ghost use Rattle.certificate_text.specs.CertificateText.{IsText};
 ghost use Rattle.certificate_text.specs.LineTaken.{TakesLine};
 ghost use Rattle.certificate_text.specs.TextError.{IsTextError, IsRead};

@@ -3,8 +3,8 @@ ghost use Rattle.std.specs.Prelude.{◌≡◌, ◌<◌, ◌^◌, ◌++◌, All, 
 ghost use Rattle.cpu_set.specs.Members.{InRange};
 ghost use Rattle.std.specs.List.{flat_map};
 ghost use Rattle.byte_output.specs.Output.{Writes};
+ghost use Rattle.certificate.specs.declared.certificates.Certificate.TheVariants.{Plan, Short};
 ghost use Rattle.certificate_text.specs.CertificateText.{CanBeText, IsText, hold_lines, id_at};
-ghost use Rattle.certificate_text.specs.declared.certificates.Certificate.TheVariants.{Plan, Short};
 ghost use Rattle.certificate_text.specs.Line.{HeaderLine, RowLine, HoldLine, PriceLine, TotalLine, ShortLine, EndLine};
 ghost use Rattle.certificate_text.specs.Written.{offer_text, line_text, text_of, CanWrite, IsHeld, IsOfferHeld, IsRowHeld, IsPriceHeld};
 

@@ -2,8 +2,8 @@
 use Rattle.std.proofs.Common.{◌≡◌, ℕ, List, Err, refl}
 use Rattle.faults.specs.declared.or_memory.OrMemory.{OrMemory}
 use Rattle.faults.specs.declared.or_memory.OrMemory.TheVariants.{Memory, Fault}
+use Rattle.certificate.specs.declared.checking.Verdict.{Verdict}
 use Rattle.certificate_text.specs.Verdict.{IsVerdict, IsVerdictError}
-use Rattle.certificate_text.specs.declared.checking.Verdict.{Verdict}
 use Rattle.certificate_text.specs.declared.checking.VerdictFault.{VerdictFault}
 use Rattle.certificate_text.specs.declared.checking.VerdictFault.TheVariants.{BadText, Check}
 use Rattle.cli.specs.CheckAnswer.{IsAnswerTo}

@@ -1,9 +1,9 @@
 -- What numarun answers to the bytes of a certificate.
 use Rattle.std.specs.Prelude.{◌≡◌, ℕ, List, ◌++◌, Result, MatchResult, codes, decimal}
+use Rattle.certificate.specs.declared.checking.Verdict.{Verdict}
+use Rattle.certificate.specs.declared.checking.Verdict.TheVariants.{Plan, Moves, Short}
 use Rattle.certificate_text.specs.TextError.{AsksForMemory}
 use Rattle.certificate_text.specs.Verdict.{IsVerdict, IsVerdictError, SaysLeast}
-use Rattle.certificate_text.specs.declared.checking.Verdict.{Verdict}
-use Rattle.certificate_text.specs.declared.checking.Verdict.TheVariants.{Plan, Moves, Short}
 use Rattle.certificate_text.specs.declared.checking.VerdictFault.TheVariants as wrong
 use Rattle.faults.specs.declared.or_memory.OrMemory.TheVariants.{Fault}
 use Rattle.inputs.specs.declared.refusal.Refusal.{Refusal}

@@ -1,5 +1,5 @@
 //! `numarun check`.
-ghost use Rattle.certificate_text.specs.declared.checking.Verdict.TheVariants.{Moves, Short};
+ghost use Rattle.certificate.specs.declared.checking.Verdict.TheVariants.{Moves, Short};
 ghost use Rattle.byte_output.specs.Output.{Writes};
 ghost use Rattle.cli.specs.CheckAnswer.{IsAnswerTo, verdict_line};
 ghost use Rattle.cli.specs.Named.{reads_named};
@@ -13,7 +13,8 @@ use crate::note::STANDARD_INPUT;
 use crate::opens::{NamedFile, Opens};
 use crate::printed::Printed;
 use byte_output::put_number;
-use certificate_text::{Verdict, check_text};
+use certificate::Verdict;
+use certificate_text::check_text;
 use inputs::{Input, Opened, Refusal, Source, put_number_line};
 use std::alloc::Global;
 use std::io;

@@ -21,11 +21,11 @@ use Rattle.certificate.specs.Cost.{cost}
 use Rattle.certificate.specs.Limits.{rows_fit}
 use Rattle.certificate.specs.Scaled.{with_weights, by_distance, by_moves, is_scaled, are_scaled, CostSplits, MovesAreFew, LeastIsNearest}
 use Rattle.certificate.specs.declared.limits.TheConstants.{MOVE_SCALE}
-use Rattle.certificate_text.specs.Verdict.{AreParts}
+use Rattle.certificate.specs.Verdict.{AreParts}
+use Rattle.certificate.specs.declared.certificates.Certificate.{Certificate}
+use Rattle.certificate.specs.declared.certificates.Certificate.TheVariants.{Plan, Short}
 use Rattle.certificate_text.specs.Written.{CanWrite}
-use Rattle.certificate_text.specs.declared.certificates.Certificate.{Certificate}
-use Rattle.certificate_text.specs.declared.certificates.Certificate.TheVariants.{Plan, Short}
-use Rattle.decision.specs.Decides.{Decides, DecidesPlan, DecidesShort}
+use Rattle.node.specs.Decides.{Decides, DecidesPlan, DecidesShort}
 use Rattle.rows.specs.Scaled.{DistancesStay, MovesAreUnheld, PartsAreScaled, ScaledRowsWeigh}
 use Rattle.rows.specs.Weighs.{RowsWeigh}
 use Rattle.kernel_model.specs.KernelState.{KernelState}
@@ -194,12 +194,12 @@ module _ (n : NodeState) (h : IsNode n) (weigh : RowsWeigh) (parts : ScaledRowsW
           parts = are_parts splits few nearest sets d.least whole d.proved.costs;
         }
 
-    pub comes_to : (c : Certificate) → Decides rows true c → ComesTo n c
+    pub comes_to : (c : Certificate) → Decides rows c → ComesTo n c
     comes_to (Plan own sets prices whole said) d =
         (d.1, subst (λ (rs : List RowView). IsAnswer n rs sets prices whole) (sym d.0) (is_answer sets prices whole d.2))
     comes_to (Short own named said) d = (d.1, d.0, subst (λ (rs : List RowView). DecidesShort rs named) (sym d.0) d.2)
 
-    pub proves_itself : rows_fit rows ≡ true → (c : Certificate) → Decides rows true c → ProvesItself c
+    pub proves_itself : rows_fit rows ≡ true → (c : Certificate) → Decides rows c → ProvesItself c
     proves_itself fit (Plan own sets prices whole said) d =
         (d.1, ap are_scaled d.0 ∙ rows_are_scaled, subst (λ (rs : List RowView). IsProved rs sets prices whole) (sym d.0) d.2.proved)
     proves_itself fit (Short own named said) d =
@@ -207,10 +207,10 @@ module _ (n : NodeState) (h : IsNode n) (weigh : RowsWeigh) (parts : ScaledRowsW
 
     -- so does what the program makes of its problem, unless memory is wanting
     module _ {E : Type 0} (problem : List RowView) (is : problem ≡ rows) where
-      pub all_come : (r : Result Certificate E) → IfOk r (Decides problem true) → IfOk r (ComesTo n)
-      all_come (Ok c) d = comes_to c (subst (λ (rs : List RowView). Decides rs true c) is d)
+      pub all_come : (r : Result Certificate E) → IfOk r (Decides problem) → IfOk r (ComesTo n)
+      all_come (Ok c) d = comes_to c (subst (λ (rs : List RowView). Decides rs c) is d)
       all_come (Err e) d = tt
 
-      pub all_kept : rows_fit problem ≡ true → (r : Result Certificate E) → IfOk r (Decides problem true) → IfOk r CanWrite → IfOk r IsKept
-      all_kept fit (Ok c) d can = (can, proves_itself (ap rows_fit (sym is) ∙ fit) c (subst (λ (rs : List RowView). Decides rs true c) is d))
+      pub all_kept : rows_fit problem ≡ true → (r : Result Certificate E) → IfOk r (Decides problem) → IfOk r CanWrite → IfOk r IsKept
+      all_kept fit (Ok c) d can = (can, proves_itself (ap rows_fit (sym is) ∙ fit) c (subst (λ (rs : List RowView). Decides rs c) is d))
       all_kept fit (Err e) d can = tt

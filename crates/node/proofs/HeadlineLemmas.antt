@@ -16,7 +16,7 @@ use Rattle.demand.specs.declared.Demand.{Demand}
 use Rattle.certificate.specs.IsPlan.{IsPlan}
 use Rattle.certificate.specs.IsLeast.{IsLeast}
 use Rattle.certificate.specs.Cost.{cost}
-use Rattle.certificate_text.specs.declared.certificates.Certificate.{Certificate}
+use Rattle.certificate.specs.declared.certificates.Certificate.{Certificate}
 use Rattle.rows.specs.Scaled.{ScaledRowsWeigh}
 use Rattle.rows.specs.Weighs.{RowsWeigh}
 use Rattle.faults.specs.declared.OrMemory.{OrMemory}

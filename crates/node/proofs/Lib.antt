@@ -17,6 +17,7 @@ pub mod PlanLemmas
 pub mod AskingLemmas
 pub mod DistanceLemmas
 pub mod EntryCount
+pub mod DecidingLemmas
 pub mod BestLemmas
 pub mod HeadlineLemmas
 pub mod ProvedLemmas

@@ -7,13 +7,14 @@ use Rattle.std.specs.Prelude.{IfSome}
 use Rattle.std.specs.FinSet as set
 use Rattle.certificate.specs.IsShortage.{chosen}
 use Rattle.certificate.specs.declared.limits.TheConstants.{MOVE_SCALE}
+use Rattle.certificate.specs.Verdict.{AreParts, IsProvedCertificate}
+use Rattle.certificate.specs.declared.certificates.Certificate.{Certificate}
+use Rattle.certificate.specs.declared.certificates.Certificate.TheVariants as certificate
+use Rattle.certificate.specs.declared.checking.Verdict.{Verdict}
+use Rattle.certificate.specs.declared.checking.Verdict.TheVariants.{Plan, Moves, Short}
 use Rattle.std.specs.Option.{option_map_or}
-use Rattle.certificate_text.specs.Verdict.{AreParts, IsProvedCertificate, IsVerdict}
+use Rattle.certificate_text.specs.Verdict.{IsVerdict}
 use Rattle.certificate_text.specs.Written.{WrittenReadsAgain, text_of}
-use Rattle.certificate_text.specs.declared.certificates.Certificate.{Certificate}
-use Rattle.certificate_text.specs.declared.certificates.Certificate.TheVariants as certificate
-use Rattle.certificate_text.specs.declared.checking.Verdict.{Verdict}
-use Rattle.certificate_text.specs.declared.checking.Verdict.TheVariants.{Plan, Moves, Short}
 use Rattle.node.specs.IsNode.{IsKept, ProvesItself}
 use Rattle.node.specs.NodeState.{NodeState}
 use Rattle.node.specs.Rows.{scaled_rows_of, planned}

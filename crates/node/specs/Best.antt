@@ -12,8 +12,8 @@ use Rattle.demand.specs.declared.Kind.{Kind}
 use Rattle.demand.specs.declared.Kind.TheVariants.{Pinned, Shared}
 use Rattle.demand.specs.declared.Demand.{Demand}
 use Rattle.certificate.specs.PricesView.{PricesView}
-use Rattle.certificate_text.specs.Verdict.{AreParts}
-use Rattle.certificate_text.specs.declared.certificates.Certificate.{Certificate}
+use Rattle.certificate.specs.Verdict.{AreParts}
+use Rattle.certificate.specs.declared.certificates.Certificate.{Certificate}
 use Rattle.node.specs.NodeState.{ContainerState, NodeState}
 use Rattle.node.specs.Owners.{is_pinned}
 use Rattle.node.specs.Status.{is_live}

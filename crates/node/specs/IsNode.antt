@@ -23,9 +23,9 @@ use Rattle.certificate.specs.IsProved.{IsProved}
 use Rattle.certificate.specs.IsShortage.{IsShortage}
 use Rattle.certificate.specs.Limits.{rows_fit}
 use Rattle.certificate.specs.Scaled.{are_scaled}
+use Rattle.certificate.specs.declared.certificates.Certificate.{Certificate}
+use Rattle.certificate.specs.declared.certificates.Certificate.TheVariants.{Plan, Short}
 use Rattle.certificate_text.specs.Written.{CanWrite}
-use Rattle.certificate_text.specs.declared.certificates.Certificate.{Certificate}
-use Rattle.certificate_text.specs.declared.certificates.Certificate.TheVariants.{Plan, Short}
 use Rattle.node.specs.NodeState.{ContainerState, NodeState, is_underway}
 use Rattle.node.specs.Owners.{Owner, owners_of}
 use Rattle.node.specs.Ongoing.{Stands}

@@ -13,6 +13,7 @@ pub mod Calls
 pub mod OpenCause
 pub mod Leaves
 pub mod Rows
+pub mod Decides
 pub mod Best
 pub mod Entries
 pub mod Rebalance

@@ -9,7 +9,7 @@ use Rattle.kernel_model.specs.KernelState.{KernelState}
 use Rattle.kernel_model.specs.WellFormed.{IsWellFormed}
 use Rattle.kernel_model.specs.Cases.{Forks, Exits, GoesOffline, ComesOnline}
 use Rattle.machine.specs.Layout.{Layout}
-use Rattle.certificate_text.specs.declared.certificates.Certificate.{Certificate}
+use Rattle.certificate.specs.declared.certificates.Certificate.{Certificate}
 use Rattle.faults.specs.declared.OrMemory.{OrMemory}
 use Rattle.apply_plan.specs.declared.Progress.{Progress}
 use Rattle.apply_plan.specs.Holders.{AreSafe, IsSafe}

@@ -15,8 +15,8 @@ use Rattle.demand.specs.declared.Demand.{Demand}
 use Rattle.certificate.specs.RowView.{RowView, rows_code}
 use Rattle.certificate.specs.PricesView.{PricesView, prices_code}
 use Rattle.certificate.specs.SetsCode.{sets_code}
-use Rattle.certificate_text.specs.declared.certificates.Certificate.{Certificate}
-use Rattle.certificate_text.specs.declared.certificates.Certificate.TheVariants.{Plan, Short}
+use Rattle.certificate.specs.declared.certificates.Certificate.{Certificate}
+use Rattle.certificate.specs.declared.certificates.Certificate.TheVariants.{Plan, Short}
 use Rattle.apply_plan.specs.Targets.{Targets, targets_code}
 use Rattle.node.specs.declared.phase.Phase.{Phase}
 use Rattle.node.specs.declared.phase.Phase.TheVariants.{Settled, Underway, Unsettled}

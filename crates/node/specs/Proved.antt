@@ -3,12 +3,13 @@ use Rattle.std.specs.Prelude.{◌≡◌, ℕ, Some, length}
 use Rattle.std.specs.FinSet as set
 use Rattle.cpu_set.specs.Ids.{Ids}
 use Rattle.certificate.specs.IsShortage.{asked, chosen, offered}
-use Rattle.certificate_text.specs.Verdict.{IsVerdict, plan_verdict}
+use Rattle.certificate.specs.Verdict.{plan_verdict}
+use Rattle.certificate.specs.declared.certificates.Certificate.{Certificate}
+use Rattle.certificate.specs.declared.certificates.Certificate.TheVariants as certificate
+use Rattle.certificate.specs.declared.checking.Verdict.{Verdict}
+use Rattle.certificate.specs.declared.checking.Verdict.TheVariants.{Moves, Short}
+use Rattle.certificate_text.specs.Verdict.{IsVerdict}
 use Rattle.certificate_text.specs.Written.{IsHeld, text_of}
-use Rattle.certificate_text.specs.declared.certificates.Certificate.{Certificate}
-use Rattle.certificate_text.specs.declared.certificates.Certificate.TheVariants as certificate
-use Rattle.certificate_text.specs.declared.checking.Verdict.{Verdict}
-use Rattle.certificate_text.specs.declared.checking.Verdict.TheVariants.{Moves, Short}
 use Rattle.node.specs.NodeState.{NodeState}
 use Rattle.node.specs.IsNode.{IsNode}
 use Rattle.node.specs.Best.{moved}

@@ -8,16 +8,16 @@ use Rattle.certificate.specs.PricesView.{PricesView}
 use Rattle.certificate.specs.IsLeast.{IsLeast}
 use Rattle.certificate.specs.IsShortage.{asked, chosen, is_offered}
 use Rattle.certificate.specs.declared.limits.TheConstants.{MOVE_SCALE}
-use Rattle.certificate_text.specs.declared.certificates.Certificate.{Certificate}
-use Rattle.certificate_text.specs.declared.certificates.Certificate.TheVariants as certificate
-use Rattle.certificate_text.specs.Verdict.{AreParts}
+use Rattle.certificate.specs.Verdict.{AreParts}
+use Rattle.certificate.specs.declared.certificates.Certificate.{Certificate}
+use Rattle.certificate.specs.declared.certificates.Certificate.TheVariants as certificate
 use Rattle.kernel_model.specs.declared.KernelFault.{KernelFault}
 use Rattle.faults.specs.declared.OrMemory.{OrMemory}
 use Rattle.faults.specs.declared.OrMemory.TheVariants.{Memory, Fault}
 use Rattle.apply_plan.specs.declared.Progress.{Progress}
 use Rattle.apply_plan.specs.declared.Progress.TheVariants.{More, Done}
 use Rattle.apply_plan.specs.DueWrite.{Steps}
-use Rattle.decision.specs.Decides.{DecidesPlan, DecidesShort}
+use Rattle.node.specs.Decides.{DecidesPlan, DecidesShort}
 use Rattle.node.specs.declared.fault.NodeFault.{NodeFault}
 use Rattle.node.specs.declared.fault.NodeFault.TheVariants.{Busy, NoHandover, NoAnswer, Kernel}
 use Rattle.node.specs.declared.outcome.Outcome.{Outcome}

@@ -6,8 +6,8 @@ use Rattle.kernel_model.specs.KernelState.{KernelState}
 use Rattle.machine.specs.Layout.{Layout}
 use Rattle.certificate.specs.RowView.{RowView}
 use Rattle.certificate.specs.PricesView.{PricesView}
-use Rattle.certificate_text.specs.declared.certificates.Certificate.{Certificate}
-use Rattle.certificate_text.specs.declared.certificates.Certificate.TheVariants as certificate
+use Rattle.certificate.specs.declared.certificates.Certificate.{Certificate}
+use Rattle.certificate.specs.declared.certificates.Certificate.TheVariants as certificate
 use Rattle.rows.specs.RowOf.{row_of}
 use Rattle.rows.specs.Scaled.{scaled}
 use Rattle.node.specs.NodeState.{ContainerState, NodeState}

@@ -5,6 +5,7 @@ mod begin;
 mod container;
 mod containers;
 mod create;
+mod deciding;
 mod events;
 mod fault;
 mod launch;

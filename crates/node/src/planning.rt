@@ -15,13 +15,12 @@ ghost use Rattle.node.specs.Headline.{Headline};
 ghost use Rattle.node.specs.Written.{RebalanceWrites};
 ghost use Rattle.node.specs.Rebalance.{Begins, ComesTo, Finishes, Rebalances, WorksOut, IsNeed, ShowsCertificate};
 
+use crate::deciding::decide;
 use crate::ongoing::Ongoing;
 use crate::{Node, NodeFault, Outcome, Phase};
 use apply_plan::laws;
-use certificate::{MOVE_SCALE, Problem, check_shortage, offered_to};
-use certificate_text::Certificate;
+use certificate::{Certificate, MOVE_SCALE, Problem, check_shortage, offered_to};
 use cpu_set::IdSet;
-use decision::decide;
 use faults::OrMemory;
 use kernel_model::{Kernel, KernelFault};
 use std::alloc::AllocError;
@@ -70,7 +69,7 @@ impl<K: Kernel + Drop> Node<K> {
         rows::laws::parts_rise();
         certificate::laws::scaled_rows_have_two_costs();
         self.holds();
-        decide(self.alloc, self.problem()?, true)
+        decide(self.alloc, self.problem()?)
     }
 
     /// Plans, and opens the hand-over to the plan; or finds a shortage.

@@ -1,8 +1,8 @@
 -- What a runtime may answer each command of a script, and what it is then.
 use Rattle.std.specs.Prelude.{◌≡◌, ◌⊎◌, ℕ, List, ◌++◌, Option, Some, None, Result, codes, String, string_bytes}
 use Rattle.std.specs.declared.alloc.Global.{Global}
+use Rattle.certificate.specs.declared.certificates.Certificate.{Certificate}
 use Rattle.certificate_text.specs.Written.{text_of}
-use Rattle.certificate_text.specs.declared.certificates.Certificate.{Certificate}
 use Rattle.apply_plan.specs.declared.Progress.{Progress}
 use Rattle.faults.specs.declared.or_memory.OrMemory.{OrMemory}
 use Rattle.kernel_model.specs.declared.fault.KernelFault.{KernelFault}

@@ -2,11 +2,11 @@
 use Rattle.std.specs.Prelude.{◌≡◌, ℕ, List, [], ◌∷◌, Option, Some, None, Ok, Err}
 use Rattle.std.specs.FinSet as set
 use Rattle.faults.specs.declared.or_memory.OrMemory.TheVariants.{Fault}
+use Rattle.certificate.specs.declared.certificates.Certificate.{Certificate}
+use Rattle.certificate.specs.declared.checking.Verdict.{Verdict}
+use Rattle.certificate.specs.declared.checking.Verdict.TheVariants as proves
 use Rattle.certificate_text.specs.Verdict.{IsVerdict}
 use Rattle.certificate_text.specs.Written.{IsHeld}
-use Rattle.certificate_text.specs.declared.certificates.Certificate.{Certificate}
-use Rattle.certificate_text.specs.declared.checking.Verdict.{Verdict}
-use Rattle.certificate_text.specs.declared.checking.Verdict.TheVariants as proves
 use Rattle.node.specs.declared.fault.NodeFault.TheVariants.{Kernel}
 use Rattle.node.specs.declared.outcome.Outcome.TheVariants.{Plan, Short}
 use Rattle.node.specs.Best.{moved}

@@ -4,8 +4,8 @@ use Rattle.faults.specs.declared.or_memory.OrMemory.{OrMemory}
 use Rattle.std.specs.Prelude.{String}
 use Rattle.cpu_set.specs.Ids.{Ids}
 use Rattle.std.specs.declared.alloc.Global.{Global}
+use Rattle.certificate.specs.declared.certificates.Certificate.{Certificate}
 use Rattle.certificate_text.specs.Written.{text_of}
-use Rattle.certificate_text.specs.declared.certificates.Certificate.{Certificate}
 use Rattle.apply_plan.specs.declared.Progress.{Progress}
 use Rattle.kernel_model.specs.declared.fault.KernelFault.{KernelFault}
 use Rattle.node.specs.declared.container.Status.{Status}

@@ -7,8 +7,7 @@ ghost use Rattle.runtime.specs.OutcomeTexts.{container_lines, end_lines, first_l
 
 use crate::answers::{put_labelled, put_set};
 use byte_output::{put, put_all, put_number};
-use certificate::Row;
-use certificate_text::Certificate;
+use certificate::{Certificate, Row};
 use cpu_set::IdSet;
 use kernel_model::Kernel;
 use node::{Node, Outcome, Progress};

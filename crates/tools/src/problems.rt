@@ -1,8 +1,8 @@
 //! The problems of certificates.
 
 use anyhow::{Result, bail};
-use certificate::Problem;
-use certificate_text::{Certificate, read_text};
+use certificate::{Certificate, Problem};
+use certificate_text::read_text;
 use faults::OrMemory;
 use std::alloc::{AllocError, Global};
 

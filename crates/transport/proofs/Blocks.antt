@@ -13,9 +13,9 @@ use Rattle.transport.specs.Numbers.{number, IsIn, IsListing}
 use Rattle.transport.specs.ReachedRows.{is_reached}
 use Rattle.transport.specs.Searches.{is_taken, IsCovered}
 use Rattle.transport.specs.States.{IsRunning}
-use Rattle.transport.specs.Scans.{arc_at, IsPast, IsLimit, IsBoundOf, CanLabelArc, IsArcLabelled, HasLabelled}
+use Rattle.transport.specs.Scans.{arc_at, IsPast, IsLimit, IsBoundOf, AreRising, CanLabelArc, IsArcLabelled, HasLabelled}
 use Rattle.transport.specs.SortedArcs.{IsSortedArcs, IsScanned}
-use Rattle.transport.specs.Blocks.{IsFirstOf, InBlocks, IsArcOf, block_at, IsWeightOfArc, AreNoHeavier, AreWeightsAdded, AreBlocks, AreFirstsOfTaken, AreTakenFirsts, AreNoted, CanLabelBlock, HasLabelledBlock, HasLabelledBlocks, IsFirstIn}
+use Rattle.transport.specs.Blocks.{IsFirstOf, InBlocks, IsArcOf, block_at, IsWeightOfArc, AreWeightsAdded, AreBlocks, AreFirstsOfTaken, AreTakenFirsts, AreNoted, CanLabelBlock, HasLabelledBlock, HasLabelledBlocks, IsFirstIn}
 use Rattle.transport.specs.declared.arcs.Arc.{Arc}
 use Rattle.transport.specs.declared.arcs.Block.{Block}
 use Rattle.transport.specs.declared.arcs.SortedArcs.{SortedArcs}
@@ -25,8 +25,8 @@ use Rattle.transport.specs.declared.tree.TreeClasses.{TreeClasses}
 use Rattle.transport.proofs.Numbers.{not_both}
 use Rattle.transport.proofs.Labelling.{better_same, better_more, covered_past, past_rise}
 
-pub no_blocks : (firsts : List ℕ) → AreBlocks firsts [] []
-no_blocks firsts = record {
+pub no_blocks : (firsts : List ℕ) (arcs : List Arc) → AreBlocks firsts arcs 0 []
+no_blocks firsts arcs = record {
   sound = λ cpu w b. absurd (omega (arith, b.within));
   all = λ i lt. absurd (omega (arith, lt));
   classes = λ i lt. absurd (omega (arith, lt));
@@ -162,13 +162,6 @@ module _ (blocks : List Block) (firsts : Ids) (cpu weight : ℕ) (one : (q : ℕ
     behind = λ i from within. ap (λ (x : Block). x.weight) (get_or_push blocks fresh _ i (omega (arith, from, within, more_long)));
   }
 
--- an arc more of that weight
-pub no_heavier_more : (arcs : List Arc) (g weight : ℕ) → AreNoHeavier arcs weight → AreNoHeavier (arcs ++ (record { weight = weight; class = g }) ∷ []) weight
-no_heavier_more arcs g weight low i within = elim (cases_lt i (length arcs)) [
-  | inl b ↦ rw (get_or_append_left arcs _ _ i b) (low i b)
-  | inr a ↦ rw (get_or_push arcs _ _ i (omega (arith, a, within, length_push arcs (record { weight = weight; class = g })))) (omega arith)
-]
-
 -- the class of a CPU, which is the first of one
 pub first_of_class : (firsts : List ℕ) (cpu g : ℕ) → IsIn firsts cpu → ((h : ℕ) → h < length firsts → number firsts h ≡ cpu → g ≡ h) → IsFirstOf firsts g cpu
 first_of_class firsts cpu g is own =
@@ -179,42 +172,19 @@ first_of_class firsts cpu g is own =
       once = λ h lt e. sym (own h lt e);
     }
 
-module _ (firsts : List ℕ) (arcs : List Arc) (old new : List Block) (cpu g weight : ℕ) (h : AreBlocks firsts arcs old) (first : IsFirstOf firsts g cpu)
+-- the class of the next arc is added to the blocks
+module _ (firsts : List ℕ) (arcs : List Arc) (at : ℕ) (old new : List Block) (cpu weight : ℕ) (h : AreBlocks firsts arcs at old) (in_arcs : at < length arcs) (rising : AreRising arcs)
+    (first : IsFirstOf firsts (arc_at arcs at).class cpu) (weighs : (arc_at arcs at).weight ≡ weight)
     (sound : (c w : ℕ) → InBlocks new c w → InBlocks old c w ⊎ ((c ≡ cpu) × (w ≡ weight))) (kept : (c w : ℕ) → InBlocks old c w → InBlocks new c w) (added : InBlocks new cpu weight)
-    (low : AreNoHeavier arcs weight) (weighed : AreWeightsAdded old new weight) where
-  abbrev arc : Arc
-  arc = record { weight = weight; class = g }
+    (weighed : AreWeightsAdded old new weight) where
+  of_arc : (c w : ℕ) → IsArcOf firsts arcs at c w → IsArcOf firsts arcs (at + 1) c w
+  of_arc c w a = record { index = a.index; within = omega (arith, a.within); first = a.first; weight = a.weight }
 
-  abbrev more : List Arc
-  more = arcs ++ arc ∷ []
-
-  before : (i : ℕ) → i < length arcs → arc_at more i ≡ arc_at arcs i
-  before i lt = get_or_append_left arcs (arc ∷ []) _ i lt
-
-  last : (i : ℕ) → i ≡ length arcs → arc_at more i ≡ arc
-  last i e = get_or_push arcs arc _ i (sym e)
-
-  arcs_long : length more ≡ length arcs + 1
-  arcs_long = length_push arcs arc
-
-  of_arc : (c w : ℕ) → IsArcOf firsts arcs c w → IsArcOf firsts more c w
-  of_arc c w a = record {
-    index = a.index;
-    within = omega (arith, a.within, arcs_long);
-    first = rw (before a.index a.within) a.first;
-    weight = rw (before a.index a.within) a.weight;
-  }
-
-  own : IsArcOf firsts more cpu weight
-  own = record {
-    index = length arcs;
-    within = omega (arith, arcs_long);
-    first = rw (last (length arcs) refl) first;
-    weight = rw (last (length arcs) refl) refl;
-  }
+  own : IsArcOf firsts arcs (at + 1) cpu weight
+  own = record { index = at; within = omega arith; first = first; weight = weighs }
 
   block_low : (i : ℕ) → i < length old → (block_at old i).weight ≤ weight
-  block_low i lt = let a = h.weights i lt in omega (arith, low a.index a.within, a.weight)
+  block_low i lt = let a = h.weights i lt in omega (arith, rising a.index at (omega (arith, a.within)) in_arcs, a.weight, weighs)
 
   rising_more : (i j : ℕ) → i ≤ j → j < length new → (block_at new i).weight ≤ (block_at new j).weight
   rising_more i j le within = elim (cases_lt j (length old)) [
@@ -225,39 +195,46 @@ module _ (firsts : List ℕ) (arcs : List Arc) (old new : List Block) (cpu g wei
     ]
   ]
 
-  weights_more : (i : ℕ) → i < length new → IsWeightOfArc more (block_at new i).weight
+  weights_more : (i : ℕ) → i < length new → IsWeightOfArc arcs (at + 1) (block_at new i).weight
   weights_more i within = elim (cases_lt i (length old)) [
     | inl b ↦ (let a = h.weights i b in
-        record {
-          index = a.index;
-          within = omega (arith, a.within, arcs_long);
-          weight = rw (before a.index a.within) (a.weight ∙ sym (weighed.kept i b));
-        })
-    | inr from ↦ record {
-      index = length arcs;
-      within = omega (arith, arcs_long);
-      weight = rw (last (length arcs) refl) (sym (weighed.behind i from within));
-    }
+        record { index = a.index; within = omega (arith, a.within); weight = a.weight ∙ sym (weighed.kept i b) })
+    | inr from ↦ record { index = at; within = omega arith; weight = weighs ∙ sym (weighed.behind i from within) }
   ]
 
-  -- an arc more, and its class in the blocks
-  pub blocks_more : AreBlocks firsts more new
+  here_added : (i : ℕ) → i ≡ at → InBlocks new (number firsts (arc_at arcs i).class) (arc_at arcs i).weight
+  here_added i e = subst (λ j. InBlocks new (number firsts (arc_at arcs j).class) (arc_at arcs j).weight) (sym e) (rw (first.is, weighs) added)
+
+  here_within : (i : ℕ) → i ≡ at → (arc_at arcs i).class < length firsts
+  here_within i e = subst (λ j. (arc_at arcs j).class < length firsts) (sym e) first.within
+
+  pub blocks_more : AreBlocks firsts arcs (at + 1) new
   blocks_more = record {
     sound = λ c w b. elim (sound c w b) [
       | inl was ↦ of_arc c w (h.sound c w was)
-      | inr here ↦ subst (λ x. IsArcOf firsts more x w) (sym here.0) (subst (λ x. IsArcOf firsts more cpu x) (sym here.1) own)
+      | inr here ↦ subst (λ x. IsArcOf firsts arcs (at + 1) x w) (sym here.0) (subst (λ x. IsArcOf firsts arcs (at + 1) cpu x) (sym here.1) own)
     ];
-    all = λ i lt. elim (cases_lt i (length arcs)) [
-      | inl b ↦ rw (before i b) (kept _ _ (h.all i b))
-      | inr a ↦ rw (last i (omega (arith, a, lt, arcs_long))) (rw first.is added)
+    all = λ i lt. elim (cases_lt i at) [
+      | inl b ↦ kept _ _ (h.all i b)
+      | inr a ↦ here_added i (omega (arith, a, lt))
     ];
-    classes = λ i lt. elim (cases_lt i (length arcs)) [
-      | inl b ↦ rw (before i b) (h.classes i b)
-      | inr a ↦ rw (last i (omega (arith, a, lt, arcs_long))) first.within
+    classes = λ i lt. elim (cases_lt i at) [
+      | inl b ↦ h.classes i b
+      | inr a ↦ here_within i (omega (arith, a, lt))
     ];
     rising = rising_more;
     weights = weights_more;
   }
+
+-- blocks of the first arcs stay so where the arcs are kept
+pub blocks_kept : (firsts : List ℕ) (arcs more : List Arc) (upto : ℕ) (blocks : List Block) → ((i : ℕ) → i < upto → arc_at more i ≡ arc_at arcs i) → AreBlocks firsts arcs upto blocks → AreBlocks firsts more upto blocks
+blocks_kept firsts arcs more upto blocks same h = record {
+  sound = λ c w b. (let a = h.sound c w b in record { index = a.index; within = a.within; first = rw (same a.index a.within) a.first; weight = rw (same a.index a.within) a.weight });
+  all = λ i lt. rw (same i lt) (h.all i lt);
+  classes = λ i lt. rw (same i lt) (h.classes i lt);
+  rising = h.rising;
+  weights = λ i lt. (let a = h.weights i lt in record { index = a.index; within = a.within; weight = rw (same a.index a.within) a.weight });
+}
 
 -- ---- a block, CPU by CPU
 
@@ -358,10 +335,10 @@ blocks_labelled ws s t mid new k firsts blocks at block is h n = record {
           | inr covered ↦ subst (λ x. IsCovered s.values.items s.prices.items new.labels k g x) weight covered
         ]
 
--- all blocks were labelled, so all arcs
-pub blocks_all : (ws : ℕ → ℕ → Option ℕ) (s : Assignment) (t new : SearchTree) (k : ℕ) (firsts : List ℕ) (arcs : List Arc) (blocks : List Block) (upto cursor : ℕ) → AreBlocks firsts arcs blocks → length blocks ≤ upto → cursor ≤ length arcs
+-- all blocks were labelled, so all arcs that are in them
+pub blocks_all : (ws : ℕ → ℕ → Option ℕ) (s : Assignment) (t new : SearchTree) (k : ℕ) (firsts : List ℕ) (arcs : List Arc) (blocks : List Block) (blocked upto cursor : ℕ) → AreBlocks firsts arcs blocked blocks → length blocks ≤ upto → cursor ≤ blocked
     → HasLabelledBlocks ws s k t new firsts blocks upto → HasLabelled ws s k t new arcs cursor
-blocks_all ws s t new k firsts arcs blocks upto cursor are all cursor_in h = record {
+blocks_all ws s t new k firsts arcs blocks blocked upto cursor are all cursor_in h = record {
   better = h.better;
   free_end = h.free_end;
   each = λ i lt off. (let b = are.all i (omega (arith, lt, cursor_in)) in
@@ -369,9 +346,9 @@ blocks_all ws s t new k firsts arcs blocks upto cursor are all cursor_in h = rec
 }
 
 -- the first blocks were labelled and the next one lies past the free end, so all behind it do
-pub blocks_past : (ws : ℕ → ℕ → Option ℕ) (s : Assignment) (t new : SearchTree) (k : ℕ) (firsts : List ℕ) (arcs : List Arc) (blocks : List Block) (at cursor : ℕ) (block : Block) (limit : Option ℕ) → AreBlocks firsts arcs blocks → at < length blocks
-    → block ≡ get_or blocks at block → cursor ≤ length arcs → HasLabelledBlocks ws s k t new firsts blocks at → IsLimit s.values.items k new.labels.free_end limit → IsPast limit block.weight → HasLabelled ws s k t new arcs cursor
-blocks_past ws s t new k firsts arcs blocks at cursor block limit are at_in is cursor_in h l past = record {
+pub blocks_past : (ws : ℕ → ℕ → Option ℕ) (s : Assignment) (t new : SearchTree) (k : ℕ) (firsts : List ℕ) (arcs : List Arc) (blocks : List Block) (blocked at cursor : ℕ) (block : Block) (limit : Option ℕ) → AreBlocks firsts arcs blocked blocks → at < length blocks
+    → block ≡ get_or blocks at block → cursor ≤ blocked → HasLabelledBlocks ws s k t new firsts blocks at → IsLimit s.values.items k new.labels.free_end limit → IsPast limit block.weight → HasLabelled ws s k t new arcs cursor
+blocks_past ws s t new k firsts arcs blocks blocked at cursor block limit are at_in is cursor_in h l past = record {
   better = h.better;
   free_end = h.free_end;
   each = λ i lt off. (let b = are.all i (omega (arith, lt, cursor_in)) in
@@ -405,7 +382,7 @@ block_can ws offers firsts residual l at block limit h scanned lt is below cpu h
       weight = refl;
     } in
     let a = h.blocks.sound cpu block.weight b in
-    let weighs : ws (arc_at l.arcs.items a.index).class ≡ Some block.weight = h.arcs.sound a.index a.within ∙ ap Some a.weight in (
+    let weighs : ws (arc_at l.arcs.items a.index).class ≡ Some block.weight = h.arcs.sound a.index (omega (arith, a.within, h.blocked_in, h.cursor_in)) ∙ ap Some a.weight in (
       record { index = _; within = a.first.within; is = a.first.is },
       λ g in_firsts first.
           let same : g ≡ (arc_at l.arcs.items a.index).class = a.first.once g in_firsts first in

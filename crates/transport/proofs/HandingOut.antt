@@ -36,10 +36,11 @@ sorted_free ws offers firsts residual less l h long down = record {
   opened_in = h.opened_in;
   arcs = h.arcs;
   blocks = h.blocks;
+  blocked_in = h.blocked_in;
   cursor_in = h.cursor_in;
   full = λ i lt. omega (arith, h.full i lt, down (arc_at l.arcs.items i).class);
   hits = h.hits;
-  classes = λ g w e. omega (arith, h.classes g w e, long);
+  classes = h.classes;
   firsts_in = omega (arith, h.firsts_in, long);
 }
 

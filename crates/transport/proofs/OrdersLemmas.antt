@@ -191,11 +191,12 @@ new_sorted offers firsts residual l apart long h = record {
   order = h.order;
   opened_in = omega (arith, h.opened);
   arcs = rw (h.opened, h.arcs) none;
-  blocks = rw (h.arcs, h.blocks) (no_blocks firsts);
+  blocks = rw (h.blocks, h.blocked) (no_blocks firsts l.arcs.items);
+  blocked_in = omega (arith, h.blocked);
   cursor_in = omega (arith, h.cursor);
   full = λ i lt. absurd (omega (arith, lt, h.cursor));
   hits = λ o g w has. in_offers offers firsts g has.in_range ∙ first_has offers (number firsts g) o has.offer apart has.its has.has ∙ ap Some has.weight;
-  classes = λ g w e. omega (arith, in_classes offers firsts g w e, long);
+  classes = λ g w e. in_classes offers firsts g w e;
   firsts_in = long;
 }
   where

@@ -7,7 +7,7 @@ use Rattle.std.proofs.lemmas.Bool.{cases_eq, cases_lt}
 use Rattle.certificate.specs.declared.rows.Offer.{Offer}
 use Rattle.cpu_set.specs.Ids.{Ids, NoneFrom, IsFirstFrom}
 use Rattle.transport.specs.Numbers.{number, IsIn}
-use Rattle.transport.specs.Blocks.{AreBlocks, AreNoHeavier}
+use Rattle.transport.specs.Blocks.{AreBlocks}
 use Rattle.transport.specs.Scans.{arc_at, IsPast}
 use Rattle.transport.specs.SortedArcs.{IsArc, HasOffer, IsToCome, AreArcs, IsSortedArcs, IsScanned, IsFreeArc, IsFoundFreeEnd, IsOpening, CanOpen}
 use Rattle.transport.specs.Walks.{IsAhead}
@@ -16,6 +16,7 @@ use Rattle.transport.specs.declared.arcs.WeightedOffer.{WeightedOffer}
 use Rattle.transport.specs.declared.arcs.Arc.{Arc}
 use Rattle.transport.specs.declared.arcs.SortedArcs.{SortedArcs}
 use Rattle.transport.proofs.Numbers.{not_both}
+use Rattle.transport.proofs.Blocks.{blocks_kept}
 use Rattle.transport.proofs.Labelling.{past_rise}
 
 -- where the cursor stops at an arc, each class is before it or no lighter
@@ -48,6 +49,10 @@ scanned_end ws offers firsts residual l limit h done past g w its = elim (h.arcs
         let weighted_offer = h.order.weighted.its b.index b.within in
         let same : weighted_offer.offer ≡ b.has.offer = (let both : Some weighted_offer.offer ≡ Some b.has.offer = sym weighted_offer.its ∙ b.has.its in cc) in
         omega (arith, h.order.weighted.rising l.opened b.index b.from b.within, weighted_offer.weight, ap (λ (o : Offer). o.weight) same, b.has.weight)
+
+-- the same arcs, and the cursor at the same place
+pub scanned_same : (ws : ℕ → Option ℕ) (l new : SortedArcs) (limit : Option ℕ) → new.arcs ≡ l.arcs → new.cursor ≡ l.cursor → IsScanned ws l limit → IsScanned ws new limit
+scanned_same ws l new limit arcs cursor h = rw (arcs, cursor) h
 
 -- a class with a free CPU at the cursor
 pub found_at : (ws : ℕ → Option ℕ) (offers : List Offer) (firsts residual : List ℕ) (l : SortedArcs) (limit : Option ℕ) (arc : Arc) → IsSortedArcs ws offers firsts residual l → l.cursor < length l.arcs.items
@@ -204,17 +209,14 @@ pub can_open : (ws : ℕ → Option ℕ) (offers : List Offer) (firsts residual 
     → slice_get offers (weighted_at (weighted_in offers l.order) l.opened).offer ≡ Some offer → weight ≡ (weighted_at (weighted_in offers l.order) l.opened).weight → CanOpen ws offers firsts (weighted_in offers l.order) l.opened offer weight l.arcs.items
 can_open ws offers firsts residual l offer weight h more its weighs = record { weighted_are = h.order.weighted; in_weighted = omega (arith, more, h.order.long); its = its; weighs = weighs; arcs_are = h.arcs; hits = h.hits }
 
--- no arc weighs more than the offer
-pub arcs_low : (ws : ℕ → Option ℕ) (offers : List Offer) (firsts : List ℕ) (weighted : List WeightedOffer) (opened : ℕ) (offer : Offer) (weight : ℕ) (arcs : List Arc) → CanOpen ws offers firsts weighted opened offer weight arcs → AreNoHeavier arcs weight
-arcs_low ws offers firsts weighted opened offer weight arcs can i lt = omega (arith, can.arcs_are.low i opened lt (omega arith) can.in_weighted, can.weighs)
-
 pub sorted_opened : (ws : ℕ → Option ℕ) (offers : List Offer) (firsts residual : List ℕ) (l new : SortedArcs) → IsSortedArcs ws offers firsts residual l → l.opened < length offers
-    → IsOpening ws offers firsts (weighted_in offers l.order) l.opened l.arcs.items new.arcs.items None → AreBlocks firsts new.arcs.items new.blocks.items → new.order ≡ l.order → new.opened ≡ l.opened + 1 → new.cursor ≡ l.cursor → IsSortedArcs ws offers firsts residual new
-sorted_opened ws offers firsts residual l new h more o blocks order opened cursor = record {
+    → IsOpening ws offers firsts (weighted_in offers l.order) l.opened l.arcs.items new.arcs.items None → new.blocks ≡ l.blocks → new.blocked ≡ l.blocked → new.order ≡ l.order → new.opened ≡ l.opened + 1 → new.cursor ≡ l.cursor → IsSortedArcs ws offers firsts residual new
+sorted_opened ws offers firsts residual l new h more o blocks blocked order opened cursor = record {
   order = rw order h.order;
   opened_in = rw opened (omega (arith, more));
   arcs = rw (order, opened) (opening_all ws offers firsts (weighted_in offers l.order) l.opened l.arcs.items new.arcs.items o);
-  blocks = blocks;
+  blocks = rw (blocks, blocked) (blocks_kept firsts l.arcs.items new.arcs.items l.blocked l.blocks.items (λ i lt. o.kept i (omega (arith, lt, h.blocked_in, h.cursor_in))) h.blocks);
+  blocked_in = omega (arith, h.blocked_in, blocked, cursor);
   cursor_in = rw cursor (omega (arith, h.cursor_in, o.longer));
   full = λ i lt. full i (omega (arith, lt, cursor));
   hits = h.hits;
@@ -225,13 +227,14 @@ sorted_opened ws offers firsts residual l new h more o blocks order opened curso
     full : (i : ℕ) → i < l.cursor → number residual (arc_at new.arcs.items i).class ≡ 0
     full i lt = rw (o.kept i (omega (arith, lt, h.cursor_in))) (h.full i lt)
 
-pub sorted_moved : (ws : ℕ → Option ℕ) (offers : List Offer) (firsts residual : List ℕ) (l new : SortedArcs) → IsSortedArcs ws offers firsts residual l → new.order ≡ l.order → new.opened ≡ l.opened → new.arcs ≡ l.arcs → new.blocks ≡ l.blocks
+pub sorted_moved : (ws : ℕ → Option ℕ) (offers : List Offer) (firsts residual : List ℕ) (l new : SortedArcs) → IsSortedArcs ws offers firsts residual l → new.order ≡ l.order → new.opened ≡ l.opened → new.arcs ≡ l.arcs → AreBlocks firsts l.arcs.items new.blocked new.blocks.items → new.blocked ≤ new.cursor
     → new.cursor ≤ length l.arcs.items → ((i : ℕ) → i < new.cursor → number residual (arc_at l.arcs.items i).class ≡ 0) → IsSortedArcs ws offers firsts residual new
-sorted_moved ws offers firsts residual l new h order opened arcs blocks cursor full = record {
+sorted_moved ws offers firsts residual l new h order opened arcs blocks blocked cursor full = record {
   order = rw order h.order;
   opened_in = rw opened h.opened_in;
   arcs = rw (order, opened, arcs) h.arcs;
-  blocks = rw (arcs, blocks) h.blocks;
+  blocks = rw arcs blocks;
+  blocked_in = blocked;
   cursor_in = rw arcs cursor;
   full = rw arcs full;
   hits = h.hits;
@@ -280,10 +283,10 @@ found_cases ws offers firsts residual l limit arc (Some a) h lt is stop found = 
 ]
 
 -- the cursor moves past full classes
-pub sorted_skipped : (ws : ℕ → Option ℕ) (offers : List Offer) (firsts residual : List ℕ) (l : SortedArcs) (xs : List Arc) (r : ℕ) → IsSortedArcs ws offers firsts residual l → xs ≡ l.arcs.items → r ≤ length xs
-    → ((i : ℕ) → i < r → number residual (arc_at xs i).class ≡ 0) → IsSortedArcs ws offers firsts residual (record { order = l.order; opened = l.opened; arcs = l.arcs; blocks = l.blocks; cursor = r })
-sorted_skipped ws offers firsts residual l xs r h e le full =
-    sorted_moved ws offers firsts residual l _ h refl refl refl refl (omega (arith, ap length e, le)) (subst (λ ys. (i : ℕ) → i < r → number residual (arc_at ys i).class ≡ 0) e full)
+pub sorted_skipped : (ws : ℕ → Option ℕ) (offers : List Offer) (firsts residual : List ℕ) (l : SortedArcs) (xs : List Arc) (r : ℕ) → IsSortedArcs ws offers firsts residual l → xs ≡ l.arcs.items → r ≤ length xs → l.cursor ≤ r
+    → ((i : ℕ) → i < r → number residual (arc_at xs i).class ≡ 0) → IsSortedArcs ws offers firsts residual (record { order = l.order; opened = l.opened; arcs = l.arcs; blocks = l.blocks; blocked = l.blocked; cursor = r })
+sorted_skipped ws offers firsts residual l xs r h e le forward full =
+    sorted_moved ws offers firsts residual l _ h refl refl refl h.blocks (omega (arith, h.blocked_in, forward)) (omega (arith, ap length e, le)) (subst (λ ys. (i : ℕ) → i < r → number residual (arc_at ys i).class ≡ 0) e full)
 
 pub stop_at : (residual : List ℕ) (limit : Option ℕ) (xs ys : List Arc) (r : ℕ) → xs ≡ ys → r < length ys → (r < length xs → IsPast limit (arc_at xs r).weight ⊎ (0 < number residual (arc_at xs r).class))
     → IsPast limit (arc_at ys r).weight ⊎ (0 < number residual (arc_at ys r).class)

@@ -26,10 +26,10 @@ pub record InBlocks (blocks : List Block) (cpu w : ℕ) : Type 0 where
   pub has : set.contains block.firsts cpu ≡ true
   pub weight : block.weight ≡ w
 
--- one of the arcs is of that weight, and its class has the CPU as its first
-pub record IsArcOf (firsts : List ℕ) (arcs : List Arc) (cpu w : ℕ) : Type 0 where
+-- one of the first arcs is of that weight, and its class has the CPU as its first
+pub record IsArcOf (firsts : List ℕ) (arcs : List Arc) (upto cpu w : ℕ) : Type 0 where
   pub index : ℕ
-  pub within : index < length arcs
+  pub within : index < upto
   pub first : IsFirstOf firsts (arc_at arcs index).class cpu
   pub weight : (arc_at arcs index).weight ≡ w
 
@@ -37,15 +37,11 @@ pub record IsArcOf (firsts : List ℕ) (arcs : List Arc) (cpu w : ℕ) : Type 0 
 abbrev pub block_at : List Block → ℕ → Block
 block_at blocks i = slice_index_or blocks i (record { weight = 0; firsts = set.empty })
 
--- one of the arcs is of that weight
-pub record IsWeightOfArc (arcs : List Arc) (w : ℕ) : Type 0 where
+-- one of the first arcs is of that weight
+pub record IsWeightOfArc (arcs : List Arc) (upto w : ℕ) : Type 0 where
   pub index : ℕ
-  pub within : index < length arcs
+  pub within : index < upto
   pub weight : (arc_at arcs index).weight ≡ w
-
--- none of the arcs weighs more
-abbrev pub AreNoHeavier : List Arc → ℕ → Type 0
-AreNoHeavier arcs weight = (i : ℕ) → i < length arcs → (arc_at arcs i).weight ≤ weight
 
 -- the blocks there weigh what they did, and those that came behind them are of that weight
 pub record AreWeightsAdded (old new : List Block) (weight : ℕ) : Type 0 where
@@ -53,13 +49,13 @@ pub record AreWeightsAdded (old new : List Block) (weight : ℕ) : Type 0 where
   pub kept : (i : ℕ) → i < length old → (block_at new i).weight ≡ (block_at old i).weight
   pub behind : (i : ℕ) → length old ≤ i → i < length new → (block_at new i).weight ≡ weight
 
--- the blocks have the classes of the arcs, at their weights, and no others, by rising weight
-pub record AreBlocks (firsts : List ℕ) (arcs : List Arc) (blocks : List Block) : Type 0 where
-  pub sound : (cpu w : ℕ) → InBlocks blocks cpu w → IsArcOf firsts arcs cpu w
-  pub all : (i : ℕ) → i < length arcs → InBlocks blocks (number firsts (arc_at arcs i).class) (arc_at arcs i).weight
-  pub classes : (i : ℕ) → i < length arcs → (arc_at arcs i).class < length firsts
+-- the blocks have the classes of the first arcs, at their weights, and no others, by rising weight
+pub record AreBlocks (firsts : List ℕ) (arcs : List Arc) (upto : ℕ) (blocks : List Block) : Type 0 where
+  pub sound : (cpu w : ℕ) → InBlocks blocks cpu w → IsArcOf firsts arcs upto cpu w
+  pub all : (i : ℕ) → i < upto → InBlocks blocks (number firsts (arc_at arcs i).class) (arc_at arcs i).weight
+  pub classes : (i : ℕ) → i < upto → (arc_at arcs i).class < length firsts
   pub rising : (i j : ℕ) → i ≤ j → j < length blocks → (block_at blocks i).weight ≤ (block_at blocks j).weight
-  pub weights : (i : ℕ) → i < length blocks → IsWeightOfArc arcs (block_at blocks i).weight
+  pub weights : (i : ℕ) → i < length blocks → IsWeightOfArc arcs upto (block_at blocks i).weight
 
 -- these CPUs are the first ones of classes that are taken up
 abbrev pub AreFirstsOfTaken : List ℕ → Ids → TreeClasses → Type 0

@@ -44,6 +44,7 @@ pub record IsNewSortedArcs (offers : List Offer) (l : SortedArcs) : Type 0 where
   pub opened : l.opened ≡ 0
   pub arcs : l.arcs.items ≡ []
   pub blocks : l.blocks.items ≡ []
+  pub blocked : l.blocked ≡ 0
   pub cursor : l.cursor ≡ 0
 
 -- the classes of the opened offers are arcs, by rising weight
@@ -53,16 +54,17 @@ pub record AreArcs (ws : ℕ → Option ℕ) (offers : List Offer) (firsts : Lis
   pub low : (i j : ℕ) → i < length arcs → opened ≤ j → j < length weighted → (arc_at arcs i).weight ≤ (weighted_at weighted j).weight
   pub all : (g w : ℕ) → ws g ≡ Some w → IsArc arcs (length arcs) g w ⊎ IsToCome offers firsts weighted opened g w
 
--- what sorted arcs keep: those before the cursor are of full classes
+-- what sorted arcs keep: those before the cursor are of full classes, and only such are in blocks
 pub record IsSortedArcs (ws : ℕ → Option ℕ) (offers : List Offer) (firsts residual : List ℕ) (l : SortedArcs) : Type 0 where
   pub order : IsOrder offers l.order
   pub opened_in : l.opened ≤ length offers
   pub arcs : AreArcs ws offers firsts (weighted_in offers l.order) l.opened l.arcs.items
-  pub blocks : AreBlocks firsts l.arcs.items l.blocks.items
+  pub blocks : AreBlocks firsts l.arcs.items l.blocked l.blocks.items
+  pub blocked_in : l.blocked ≤ l.cursor
   pub cursor_in : l.cursor ≤ length l.arcs.items
   pub full : (i : ℕ) → i < l.cursor → number residual (arc_at l.arcs.items i).class ≡ 0
   pub hits : (o g w : ℕ) → HasOffer offers firsts o g w → ws g ≡ Some w
-  pub classes : (g w : ℕ) → ws g ≡ Some w → g < length residual
+  pub classes : (g w : ℕ) → ws g ≡ Some w → g < length firsts
   pub firsts_in : length firsts ≤ length residual
 
 -- each class of the row is one of the arcs before the cursor, or lies past the limit

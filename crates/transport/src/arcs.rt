@@ -2,9 +2,9 @@
 ghost use Rattle.std.specs.Prelude.{◌≡◌, ◌↔◌, ℕ, ◌+◌, ◌<◌, ◌≤◌, ◌⊎◌, ◌||◌, ◌==◌, false, IsTrue, Option, None, List, length, MatchOption, IfOk, OnOk};
 ghost use Rattle.std.specs.FinSet as set;
 ghost use Rattle.cpu_set.specs.Members.{IsCpu};
-ghost use Rattle.transport.specs.Blocks.{InBlocks, AreBlocks, AreNoHeavier, AreWeightsAdded};
+ghost use Rattle.transport.specs.Blocks.{InBlocks, AreBlocks, AreWeightsAdded};
 ghost use Rattle.transport.specs.Numbers.{number};
-ghost use Rattle.transport.specs.Scans.{arc_at, IsPast};
+ghost use Rattle.transport.specs.Scans.{arc_at, AreRising, IsPast};
 ghost use Rattle.certificate.specs.declared.rows.Offer.{Offer};
 ghost use Rattle.transport.specs.declared.arcs.WeightedOffer.{WeightedOffer};
 ghost use Rattle.transport.specs.SortedArcs.{IsSortedArcs, IsNewSortedArcs, IsFoundFreeEnd, CanOpen, IsOpening};
@@ -34,13 +34,15 @@ pub(crate) struct Block {
     pub(crate) firsts: WordSet,
 }
 
-/// A row's offers in rising weight, the classes of those that are opened, in blocks too, and how far they are full.
+/// A row's offers in rising weight, the classes of those that are opened, and how far these are full. The first ones are in
+/// blocks too, as far as a scan has come.
 #[derive(Debug, Drop)]
 pub(crate) struct SortedArcs {
     pub(crate) order: OfferOrder,
     pub(crate) opened: usize,
     pub(crate) arcs: Vec<Arc>,
     pub(crate) blocks: Vec<Block>,
+    pub(crate) blocked: usize,
     pub(crate) cursor: usize,
 }
 
@@ -56,6 +58,7 @@ impl SortedArcs {
             opened: 0,
             arcs,
             blocks: Vec::new(alloc),
+            blocked: 0,
             cursor: 0,
         })
     }
@@ -99,14 +102,29 @@ impl SortedArcs {
         prove!(self.opened < offers.len());
         let weighted_offer = self.order.weighted_offer(offers, self.opened);
         let offer = offers.offer(weighted_offer.offer);
-        push_arcs(
-            &mut self.arcs,
-            &mut self.blocks,
-            &offer,
-            firsts,
-            weighted_offer.weight,
-        )?;
+        push_arcs(&mut self.arcs, &offer, firsts, weighted_offer.weight)?;
         self.opened += 1;
+        Ok(())
+    }
+
+    /// Adds the arcs before the cursor to the blocks, but for those that are there already.
+    ///
+    /// Only a scan reads blocks: a row from which no more than the free end is sought has none.
+    pub(crate) fn block_arcs(&mut self, firsts: &Representatives) -> Result<(), AllocError>
+        requires sorted_arcs { (ws : ℕ → Option ℕ) × (offers : List Offer) × (residual : List ℕ) × IsSortedArcs ws offers firsts.now residual self.old }
+        ensures sorted_arcs { OnOk result ((ws : ℕ → Option ℕ) (offers : List Offer) (residual : List ℕ) → IsSortedArcs ws offers firsts.now residual self.old → IsSortedArcs ws offers firsts.now residual self.new) }
+        ensures arcs { OnOk result (self.new.arcs ≡ self.old.arcs) }
+        ensures cursor { OnOk result (self.new.cursor ≡ self.old.cursor) }
+        ensures blocked { OnOk result (self.new.cursor ≤ self.new.blocked) }
+    {
+        add_arcs(
+            &mut self.blocks,
+            &self.arcs,
+            firsts,
+            self.blocked,
+            self.cursor,
+        )?;
+        self.blocked = self.cursor;
         Ok(())
     }
 }
@@ -114,13 +132,11 @@ impl SortedArcs {
 /// Adds the classes of an offer, at its weight, in the order of their first CPUs.
 fn push_arcs(
     arcs: &mut Vec<Arc>,
-    blocks: &mut Vec<Block>,
     offer: &Offer,
     firsts: &Representatives,
     weight: u32,
 ) -> Result<(), AllocError>
-    ensures blocks { OnOk result (AreNoHeavier arcs.old.items weight → AreBlocks firsts.now arcs.old.items blocks.old.items → AreBlocks firsts.now arcs.new.items blocks.new.items) }
-    ensures arcs { OnOk result ((ws : ℕ → Option ℕ) (offers : List Offer) (weighted : List WeightedOffer) (opened : ℕ) → CanOpen ws offers firsts.now weighted opened offer.now weight arcs.old.items
+    ensures { OnOk result ((ws : ℕ → Option ℕ) (offers : List Offer) (weighted : List WeightedOffer) (opened : ℕ) → CanOpen ws offers firsts.now weighted opened offer.now weight arcs.old.items
         → IsOpening ws offers firsts.now weighted opened arcs.old.items arcs.new.items None) }
 {
     let there = firsts.among(&offer.cpus);
@@ -128,8 +144,31 @@ fn push_arcs(
     while let Some(cpu) = next {
         let class = firsts.class_of(cpu);
         arcs.push(Arc { weight, class })?;
-        add_to_blocks(blocks, weight, cpu)?;
         next = there.next_after(cpu);
+    }
+    Ok(())
+}
+
+/// Adds the classes of the arcs from one place up to another to the blocks of the arcs before them.
+fn add_arcs(
+    blocks: &mut Vec<Block>,
+    arcs: &[Arc],
+    firsts: &Representatives,
+    from: usize,
+    upto: usize,
+) -> Result<(), AllocError>
+    requires from { from ≤ upto }
+    requires upto { upto ≤ length arcs.now }
+    requires rising { AreRising arcs.now }
+    requires classes { (i : ℕ) → i < length arcs.now → (arc_at arcs.now i).class < length firsts.now }
+    requires blocks { AreBlocks firsts.now arcs.now from blocks.old.items }
+    ensures { OnOk result (AreBlocks firsts.now arcs.now upto blocks.new.items) }
+{
+    for at in from..upto {
+        let arc = arcs[at];
+        if let Some(cpu) = firsts.first(arc.class) {
+            add_to_blocks(blocks, arc.weight, cpu)?;
+        }
     }
     Ok(())
 }
@@ -195,6 +234,7 @@ fn skip_full(arcs: &[Arc], from: usize, residual: &[u32], limit: Option<u64>) ->
     requires classes { (i : ℕ) → i < length arcs.now → (arc_at arcs.now i).class < length residual.now }
     requires full { (i : ℕ) → i < from → number residual.now (arc_at arcs.now i).class ≡ 0 }
     ensures within { result ≤ length arcs.now }
+    ensures forward { from ≤ result }
     ensures full { (i : ℕ) → i < result → number residual.now (arc_at arcs.now i).class ≡ 0 }
     ensures stop { result < length arcs.now → IsPast limit (arc_at arcs.now result).weight ⊎ (0 < number residual.now (arc_at arcs.now result).class) }
 {

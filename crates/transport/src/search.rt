@@ -218,6 +218,7 @@ pub(crate) fn scan_row(
     ensures seen { OnOk result (IsSeen (weights instance.now) assignment.now row tree.old tree.new) }
 {
     find_free_class_of(instance, assignment, sorted_arcs, tree, row)?;
+    sorted_arcs.block_arcs(&instance.firsts)?;
     let limit = limit_of(&assignment.values, tree.labels.free_end, row);
     label_arcs(
         instance,
@@ -247,6 +248,7 @@ pub(crate) fn label_arcs(
     requires sorted_arcs { IsSortedArcs (weights instance.now row) (offers_of instance.now.rows.now row) instance.now.firsts assignment.now.residual.items sorted_arcs.now }
     requires limit { IsLimit assignment.now.values.items row tree.old.labels.free_end limit }
     requires scanned { IsScanned (weights instance.now row) sorted_arcs.now limit }
+    requires blocked { sorted_arcs.now.cursor ≤ sorted_arcs.now.blocked }
     requires taken { AreTakenFirsts instance.now.firsts taken_firsts.now tree.old.tree_classes }
     ensures { OnOk result (HasLabelled (weights instance.now) assignment.now row tree.old tree.new sorted_arcs.now.arcs.items sorted_arcs.now.cursor) }
 {

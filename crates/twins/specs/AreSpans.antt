@@ -1,9 +1,10 @@
 -- Ranges of CPUs, each of one weight to a row.
-use Rattle.std.specs.Prelude.{◌≡◌, ℕ, ◌≤◌, true, Some, List, All, is_some}
+use Rattle.std.specs.Prelude.{◌≡◌, ℕ, ◌<◌, ◌≤◌, true, Some, None, List, All, is_some, length, slice_index_or}
 use Rattle.std.specs.FinSet as set
 use Rattle.cpu_set.specs.Ids.{Ids}
 use Rattle.certificate.specs.Weight.{weight_in}
 use Rattle.certificate.specs.declared.rows.Offer.{Offer}
+use Rattle.twins.specs.IsPart.{is_same_weight}
 use Rattle.twins.specs.declared.spans.Span.{Span}
 use Rattle.twins.specs.declared.spans.Spans.{Spans}
 
@@ -11,10 +12,18 @@ use Rattle.twins.specs.declared.spans.Spans.{Spans}
 abbrev pub IsSpan : List Offer → Span → Type 0
 IsSpan offers s = (cpu : ℕ) → s.first ≤ cpu → cpu ≤ s.last → weight_in offers cpu ≡ Some s.weight
 
--- the ranges have the weights of the offers, and the set has the CPUs of the offers
+-- the set at the place has the CPUs of the weight that the offer has
+pub record IsMade (offers : List Offer) (sets : List Ids) (at place : ℕ) : Type 0 where
+  pub there : place < length sets
+  pub members : (d : Offer) (q : ℕ) → set.contains (slice_index_or sets place set.empty) q ≡ is_same_weight (Some (slice_index_or offers at d).weight) (weight_in offers q)
+
+-- the ranges have the weights of the offers, the set has the CPUs of the offers, and each set that was made for an offer
+-- has the CPUs of its weight
 pub record AreSpans (offers : List Offer) (spans : Spans) : Type 0 where
   pub each : All (IsSpan offers) spans.items.items
   pub cpus : (cpu : ℕ) → set.contains spans.cpus cpu ≡ is_some (weight_in offers cpu)
+  pub places : length spans.places.items ≡ length offers
+  pub made : (at place : ℕ) → slice_index_or spans.places.items at None ≡ Some place → IsMade offers spans.sets.items at place
 
 -- all of the CPUs have the same weight, or none of them has one
 abbrev pub AreAlike : List Offer → Ids → Type 0

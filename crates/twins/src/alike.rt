@@ -1,5 +1,6 @@
 //! The CPUs that are alike to one row.
-ghost use Rattle.std.specs.Prelude.{◌≡◌, ℕ, ◌<◌, ◌≤◌, ◌&&◌, true, Some, List, IsTrue, length};
+ghost use Rattle.std.specs.Prelude.{◌≡◌, ℕ, ◌<◌, ◌≤◌, ◌&&◌, true, false, Some, List, length, slice_index_or};
+ghost use Rattle.std.specs.Prelude.{IsTrue, IfOk, OnOk, IfSome, IfNone};
 ghost use Rattle.std.specs.FinSet as set;
 ghost use Rattle.cpu_set.specs.Ranges.{in_ranges};
 ghost use Rattle.certificate.specs.Weight.{weight_in};
@@ -7,11 +8,12 @@ ghost use Rattle.certificate.specs.Limits.{offers_fit};
 ghost use Rattle.certificate.specs.declared.rows.Offer.{Offer};
 ghost use Rattle.twins.specs.IsPart.{is_same_weight};
 ghost use Rattle.twins.specs.PartsView.{AreBounds};
-ghost use Rattle.twins.specs.AreSpans.{IsSpan, AreSpans, AreAlike};
+ghost use Rattle.twins.specs.AreSpans.{IsSpan, IsMade, AreSpans, AreAlike};
 
 use crate::spans::{Span, Spans};
 use certificate::Offers;
 use cpu_set::IdSet;
+use std::alloc::AllocError;
 
 /// Whether some CPUs, from a first up to a last, are seen to be alike: they lie in ranges of one weight, or in none.
 pub(crate) fn are_alike(spans: &Spans, cpus: &IdSet, first: u16, last: u16) -> bool
@@ -46,16 +48,29 @@ fn lie_in_weight(spans: &Spans, cpus: &IdSet, span: Span) -> bool
 }
 
 /// Those of some CPUs that have the weight of one of them, or that have none as it has none.
-pub(crate) fn alike(offers: &Offers, spans: &Spans, cpu: u16, among: &IdSet) -> IdSet
+///
+/// # Errors
+/// Lack of memory.
+pub(crate) fn alike(
+    offers: &Offers,
+    spans: &mut Spans,
+    cpu: u16,
+    among: &IdSet,
+) -> Result<IdSet, AllocError>
     requires fit { IsTrue (offers_fit offers.now) }
-    requires spans { AreSpans offers.now spans.now }
-    ensures { (q : ℕ) → set.contains result q
-        ≡ (set.contains among.now q && is_same_weight (weight_in offers.now cpu) (weight_in offers.now q)) }
+    requires spans { AreSpans offers.now spans.old }
+    ensures alike { IfOk result (λ cpus. (q : ℕ) → set.contains cpus q
+        ≡ (set.contains among.now q && is_same_weight (weight_in offers.now cpu) (weight_in offers.now q))) }
+    ensures spans { OnOk result (AreSpans offers.now spans.new) }
 {
-    match weight_of(offers, spans, cpu) {
-        Some(weight) => among.meet(&cpus_of_weight(offers, weight)),
-        None => among.minus(spans.cpus()),
-    }
+    let Some(weight) = weight_of(offers, spans, cpu) else {
+        return Ok(among.minus(spans.cpus()));
+    };
+    let Some(at) = offer_of_weight(offers, weight) else {
+        unreachable!()
+    };
+    let place = place_of_set(offers, spans, at)?;
+    Ok(among.meet(&spans.sets[place]))
 }
 
 /// The weight of a CPU, by its range where that is known.
@@ -94,17 +109,23 @@ fn has(ranges: &[(u16, u16)], cpu: u16) -> bool
     ranges.iter().any(|range| range.0 <= cpu && cpu <= range.1)
 }
 
-/// The CPUs of this weight. Where the weights rise, one offer alone has them, and it is found by halves.
-fn cpus_of_weight(offers: &Offers, weight: u32) -> IdSet
+/// An offer of this weight, the same one at each look: the one that is found by halves, else the first.
+fn offer_of_weight(offers: &Offers, weight: u32) -> Option<usize>
     requires { IsTrue (offers_fit offers.now) }
-    ensures { (q : ℕ) → set.contains result q ≡ is_same_weight (Some weight) (weight_in offers.now q) }
+    ensures there { IfSome result (λ at. at < length offers.now) }
+    ensures weighs { (d : Offer) → IfSome result (λ at. (slice_index_or offers.now at d).weight ≡ weight) }
+    ensures none { IfNone result ((q : ℕ) → is_same_weight (Some weight) (weight_in offers.now q) ≡ false) }
 {
     let at = place_by_halves(offers, weight);
-    if offers.are_rising() && at < offers.len() && offers.weight(at) == weight {
-        let offer = offers.offer(at);
-        return offer.cpus;
+    if at < offers.len() && offers.weight(at) == weight {
+        return Some(at);
     }
-    cpus_of_offers(offers, weight)
+    for first in 0..offers.len() {
+        if offers.weight(first) == weight {
+            return Some(first);
+        }
+    }
+    None
 }
 
 /// Where the weight stands, if the weights rise.
@@ -120,6 +141,37 @@ fn place_by_halves(offers: &Offers, weight: u32) -> usize {
         }
     }
     low
+}
+
+/// Where the set of all CPUs of an offer's weight stands. It is made at the first look.
+fn place_of_set(offers: &Offers, spans: &mut Spans, at: usize) -> Result<usize, AllocError>
+    requires fit { IsTrue (offers_fit offers.now) }
+    requires there { at < length offers.now }
+    requires spans { AreSpans offers.now spans.old }
+    ensures made { IfOk result (λ place. IsMade offers.now spans.new.sets.items at place) }
+    ensures spans { OnOk result (AreSpans offers.now spans.new) }
+{
+    if let Some(place) = spans.places[at] {
+        return Ok(place);
+    }
+    let place = spans.sets.len();
+    spans.sets.push(cpus_of_weight(offers, at))?;
+    spans.places[at] = Some(place);
+    Ok(place)
+}
+
+/// The CPUs of the weight that an offer has. Where the weights rise, it alone has them.
+fn cpus_of_weight(offers: &Offers, at: usize) -> IdSet
+    requires fit { IsTrue (offers_fit offers.now) }
+    requires there { at < length offers.now }
+    ensures { (d : Offer) (q : ℕ) → set.contains result q
+        ≡ is_same_weight (Some (slice_index_or offers.now at d).weight) (weight_in offers.now q) }
+{
+    if offers.are_rising() {
+        let offer = offers.offer(at);
+        return offer.cpus;
+    }
+    cpus_of_offers(offers, offers.weight(at))
 }
 
 /// The CPUs of this weight: those of each offer that has it.

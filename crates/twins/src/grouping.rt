@@ -23,8 +23,8 @@ use std::alloc::{AllocError, Global};
 /// The CPUs with a weight in some row, in classes of twins. A CPU with none is in no class.
 ///
 /// Each row splits the sets that are left of the rows before it; a set that is one run of twins needs no more
-/// looks. A row of the kind of an earlier one splits none. At worst O(r * g * o) operations on sets, of r rows with at most
-/// o offers each and g classes.
+/// looks. A row of the kind of an earlier one splits none. At worst O(r * (g + o)) operations on sets and O(r * g * o) looks
+/// at offers, of r rows with at most o offers each and g classes: each offer's set is made at most once for a row.
 ///
 /// # Errors
 /// Lack of memory.
@@ -133,7 +133,7 @@ fn split(
     rows: &[Row],
     k: usize,
     offers: &Offers,
-    spans: &Spans,
+    spans: &mut Spans,
     edges: &IdSet,
     at: usize,
     parts: &mut Parts,
@@ -142,7 +142,7 @@ fn split(
     requires fit { IsTrue (list_all row_fits rows.now) }
     requires there { k < length rows.now }
     requires offers { (d : RowView) → offers.now ≡ (slice_index_or rows.now k d).offers }
-    requires spans { AreSpans offers.now spans.now }
+    requires spans { AreSpans offers.now spans.old }
     requires edges { AreEdges rows.now edges.now }
     requires at { at < length parts.old.waiting }
     requires part { IsPart rows.now k (slice_index_or parts.old.waiting at set.empty) }
@@ -150,6 +150,7 @@ fn split(
     requires alone { All (IsPart rows.now (length rows.now)) alone.old.items }
     ensures waiting { OnOk result (parts.new.waiting ≡ parts.old.waiting) }
     ensures split { OnOk result (IsSplit rows.now (k + 1) (slice_index_or parts.old.waiting at set.empty) parts.old.done alone.old.items parts.new.done alone.new.items) }
+    ensures spans { OnOk result (AreSpans offers.now spans.new) }
 {
     let (first, last) = parts.bounds(at);
     if are_alike(spans, parts.cpus(at), first, last) {
@@ -166,7 +167,7 @@ fn split_apart(
     rows: &[Row],
     k: usize,
     offers: &Offers,
-    spans: &Spans,
+    spans: &mut Spans,
     edges: &IdSet,
     at: usize,
     parts: &mut Parts,
@@ -175,7 +176,7 @@ fn split_apart(
     requires fit { IsTrue (list_all row_fits rows.now) }
     requires there { k < length rows.now }
     requires offers { (d : RowView) → offers.now ≡ (slice_index_or rows.now k d).offers }
-    requires spans { AreSpans offers.now spans.now }
+    requires spans { AreSpans offers.now spans.old }
     requires edges { AreEdges rows.now edges.now }
     requires at { at < length parts.old.waiting }
     requires part { IsPart rows.now k (slice_index_or parts.old.waiting at set.empty) }
@@ -183,10 +184,11 @@ fn split_apart(
     requires alone { All (IsPart rows.now (length rows.now)) alone.old.items }
     ensures waiting { OnOk result (parts.new.waiting ≡ parts.old.waiting) }
     ensures split { OnOk result (IsSplit rows.now (k + 1) (slice_index_or parts.old.waiting at set.empty) parts.old.done alone.old.items parts.new.done alone.new.items) }
+    ensures spans { OnOk result (AreSpans offers.now spans.new) }
 {
     let mut rest = *parts.cpus(at);
     while let Some(cpu) = rest.first() {
-        let piece = alike(offers, spans, cpu, &rest);
+        let piece = alike(offers, spans, cpu, &rest)?;
         put(&piece, edges, parts, alone)?;
         rest = rest.minus(&piece);
     }

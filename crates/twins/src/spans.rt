@@ -17,13 +17,17 @@ pub(crate) struct Span {
     pub weight: u32,
 }
 
-/// The offers of one row as ranges, in which many CPUs are looked up.
+/// The offers of one row as ranges, in which many CPUs are looked up, and the sets that were made of them.
 #[derive(Drop)]
 pub(crate) struct Spans {
     items: Vec<Span>,
     // For each CPU where its range stands. What a row before left here is seen by its range, which has not the CPU.
     hints: Vec<u16>,
     cpus: IdSet,
+    /// For each offer where the set of all CPUs of its weight stands, if it was made for this row.
+    pub places: Vec<Option<usize>>,
+    /// The sets that were made for this row.
+    pub sets: Vec<IdSet>,
 }
 
 impl Spans {
@@ -34,6 +38,8 @@ impl Spans {
             items: Vec::new(alloc),
             hints,
             cpus: IdSet::empty(),
+            places: Vec::new(alloc),
+            sets: Vec::new(alloc),
         })
     }
 
@@ -43,8 +49,11 @@ impl Spans {
         ensures { OnOk result (AreSpans offers.now self.new) }
     {
         self.items.clear();
+        self.places.clear();
+        self.sets.clear();
         for at in 0..offers.len() {
             note_ranges(&mut self.items, &mut self.hints, offers, at)?;
+            self.places.push(None)?;
         }
         self.cpus = offers.cpus();
         Ok(())

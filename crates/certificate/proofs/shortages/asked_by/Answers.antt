@@ -3,7 +3,7 @@ use Rattle.std.proofs.lemmas.List.{take_all}
 use Rattle.certificate.specs.RowView.{RowView}
 use Rattle.certificate.specs.IsShortage.{chosen, asked}
 use Rattle.certificate.specs.declared.limits.TheConstants.{MAX_DEMAND}
-use Rattle.certificate.proofs.Members.{IsRowAt, asked_more, row_small}
+use Rattle.certificate.proofs.MemberRows.{IsRowAt, asked_more, row_small}
 use Rattle.certificate.proofs.shortages.asked_by.Goals as goal
 use Rattle.certificate.proofs.shortages.asked_by.Goals.{After-from-asked}
 

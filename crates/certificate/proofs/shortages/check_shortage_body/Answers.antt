@@ -3,7 +3,7 @@ use Rattle.certificate.specs.RowView.{RowView}
 use Rattle.certificate.specs.IsShortage.{chosen}
 use Rattle.certificate.specs.Limits.{is_shortage_within_limits}
 use Rattle.certificate.proofs.LimitFacts.{AreNumbered, number_facts}
-use Rattle.certificate.proofs.Members.{offered_count}
+use Rattle.certificate.proofs.MemberRows.{offered_count}
 use Rattle.certificate.proofs.shortages.check_shortage_body.Goals as goal
 
 facts_of :

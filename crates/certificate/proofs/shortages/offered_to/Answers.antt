@@ -5,7 +5,7 @@ use Rattle.cpu_set.specs.Pointwise.{contains-empty}
 use Rattle.certificate.specs.RowView.{RowView}
 use Rattle.certificate.specs.Weight.{weight, weight_in}
 use Rattle.certificate.specs.IsShortage.{chosen, is_offered}
-use Rattle.certificate.proofs.Members.{IsRowAt, offered_more}
+use Rattle.certificate.proofs.MemberRows.{IsRowAt, offered_more}
 use Rattle.certificate.proofs.shortages.offered_to.Goals as goal
 use Rattle.certificate.proofs.shortages.offered_to.Goals.{After-union-offered}
 

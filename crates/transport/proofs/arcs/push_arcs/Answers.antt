@@ -1,10 +1,8 @@
-use Rattle.std.proofs.Common.{◌≡◌, ℕ, true, List, Option, IfSome, sym, subst}
+use Rattle.std.proofs.Common.{◌≡◌, ℕ, true, List, Option, IfSome, subst}
 use Rattle.std.specs.FinSet as set
 use Rattle.certificate.specs.declared.rows.Offer.{Offer}
 use Rattle.transport.specs.declared.arcs.WeightedOffer.{WeightedOffer}
 use Rattle.transport.specs.SortedArcs.{IsOpening}
-use Rattle.transport.specs.Blocks.{AreBlocks, AreNoHeavier}
-use Rattle.transport.proofs.Blocks.{first_of_class, no_heavier_more, blocks_more}
 use Rattle.transport.proofs.SortedArcsLemmas.{arcs_start, arcs_more, next_member}
 use Rattle.transport.proofs.arcs.push_arcs.Goals as goal
 
@@ -13,8 +11,6 @@ loop-next-init c = record {
   opening = λ ws offers weighted opened can. arcs_start ws offers _ weighted opened _ _ _ _ _ can c.among-there.ensures.all c.first-next.ensures.first;
   member = next_member _ 0 _ c.first-next.ensures.first;
   in_range = c.first-next.ensures.in_range;
-  low = λ low. low;
-  blocks = λ low h. h;
 }
 
 pub loop-next-preserved : goal.loop-next-preserved
@@ -27,16 +23,4 @@ loop-next-preserved c =
           (subst (λ next. IsOpening ws offers c.args.firsts.now weighted opened c.args.arcs.now.items c.loop-next.arcs.items next) c.in-Some.is (c.loop-next.invariant.opening ws offers weighted opened can));
       member = next_member _ _ _ c.next_after-next.ensures.first;
       in_range = c.next_after-next.ensures.in_range;
-      low = λ low.
-          subst (λ xs. AreNoHeavier xs c.args.weight) (sym c.in_ok-push.ensures.items)
-          (no_heavier_more c.loop-next.arcs.items c.class_of-class.result c.args.weight (c.loop-next.invariant.low low));
-      blocks = λ low h.
-          subst (λ xs. AreBlocks c.args.firsts.now xs c.add_to_blocks.new.blocks.items) (sym c.in_ok-push.ensures.items)
-          (blocks_more _ _ _ _ c.in-Some.cpu c.class_of-class.result c.args.weight (c.loop-next.invariant.blocks low h)
-          (first_of_class _ _ _ (c.among-there.ensures.first _ here) c.class_of-class.ensures)
-          c.in_ok-add_to_blocks.ensures.sound c.in_ok-add_to_blocks.ensures.kept c.in_ok-add_to_blocks.ensures.added
-          (c.loop-next.invariant.low low) c.in_ok-add_to_blocks.ensures.weights);
     }
-
-pub returns-clause-blocks : goal.returns-clause-blocks
-returns-clause-blocks c = λ low h. c.loop-next.invariant.blocks low h

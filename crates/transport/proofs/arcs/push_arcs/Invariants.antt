@@ -6,7 +6,6 @@ use Rattle.cpu_set.specs.declared.TheConstants.{CPU_LIMIT}
 use Rattle.certificate.specs.declared.rows.Offer.{Offer}
 use Rattle.transport.specs.declared.arcs.WeightedOffer.{WeightedOffer}
 use Rattle.transport.specs.SortedArcs.{CanOpen, IsOpening}
-use Rattle.transport.specs.Blocks.{AreBlocks, AreNoHeavier}
 use Rattle.transport.proofs.arcs.push_arcs.Given as goal
 
 abbrev pub invariant-loop-next : goal.invariant-loop-next
@@ -15,8 +14,6 @@ invariant-loop-next l = record {
       → IsOpening ws offers l.firsts weighted opened l.initial.arcs.items l.arcs.items l.next;
   member : IfSome l.next (λ c. set.contains l.there c ≡ true);
   in_range : IfSome l.next (λ c. IsCpu c);
-  low : AreNoHeavier l.initial.arcs.items l.weight → AreNoHeavier l.arcs.items l.weight;
-  blocks : AreNoHeavier l.initial.arcs.items l.weight → AreBlocks l.firsts l.initial.arcs.items l.initial.blocks.items → AreBlocks l.firsts l.arcs.items l.blocks.items;
 }
 
 abbrev pub decreases-loop-next : goal.decreases-loop-next

@@ -27,11 +27,11 @@ loop-at-preserved c =
 pub returns-then-block-scan : goal.returns-then-block-scan
 returns-then-block-scan c =
     let at_in : c.loop-at.at < length c.args.sorted_arcs.now.blocks.items = omega (arith, c.loop-at-test.true, c.len-at-end.ensures, c.args.sorted_arcs.now.blocks.ok.0) in
-    blocks_past _ _ _ _ _ _ _ _ c.loop-at.at _ c.index-block.result.now c.args.limit c.requires.sorted_arcs.blocks at_in c.index-block.ensures c.requires.sorted_arcs.cursor_in
+    blocks_past _ _ _ _ _ _ _ _ _ c.loop-at.at _ c.index-block.result.now c.args.limit c.requires.sorted_arcs.blocks at_in c.index-block.ensures c.requires.blocked
     c.loop-at.invariant.labelled c.loop-at.invariant.limit
     (past_of c.args.limit c.scan_of-scan.result.bound _ c.scan_of-scan.ensures.bound (omega arith) (omega (arith, c.if-block-scan.true)))
 
 pub returns : goal.returns
 returns c =
-    blocks_all _ _ _ _ _ _ _ _ c.loop-at.at _ c.requires.sorted_arcs.blocks (omega (arith, c.loop-at-test.false, c.len-at-end.ensures, c.args.sorted_arcs.now.blocks.ok.0)) c.requires.sorted_arcs.cursor_in
+    blocks_all _ _ _ _ _ _ _ _ _ c.loop-at.at _ c.requires.sorted_arcs.blocks (omega (arith, c.loop-at-test.false, c.len-at-end.ensures, c.args.sorted_arcs.now.blocks.ok.0)) c.requires.blocked
     c.loop-at.invariant.labelled

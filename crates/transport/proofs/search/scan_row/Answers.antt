@@ -3,6 +3,9 @@ use Rattle.std.proofs.lemmas.Result.{on_ok_weaker}
 use Rattle.transport.specs.Weights.{weights}
 use Rattle.transport.specs.Scans.{CanLimit, IsLimit}
 use Rattle.transport.specs.Blocks.{AreTakenFirsts}
+use Rattle.transport.specs.SortedArcs.{IsSortedArcs, IsScanned}
+use Rattle.twins.specs.Kinds.{offers_of}
+use Rattle.transport.proofs.SortedArcsLemmas.{scanned_same}
 use Rattle.transport.proofs.Scanning.{can_limit, reached_still, seen}
 use Rattle.transport.proofs.search.scan_row.Goals as goal
 use Rattle.transport.proofs.search.scan_row.Goals.{After-limit_of-limit}
@@ -15,6 +18,15 @@ limit_of-limit-requires c =
 limit : (c : After-limit_of-limit) → IsLimit c.args.assignment.now.values.items c.args.row c.find_free_class_of.new.tree.labels.free_end c.limit_of-limit.result
 limit c = subst (λ v. IsLimit v c.args.row c.find_free_class_of.new.tree.labels.free_end c.limit_of-limit.result) c.deref.ensures.value c.limit_of-limit.ensures
 
+-- the classes that were scanned are so still
+scanned : (c : After-limit_of-limit) → IsScanned (weights c.args.instance.now c.args.row) c.block_arcs.new.self c.limit_of-limit.result
+scanned c =
+    let found = c.in_ok-find_free_class_of.ensures.scanned c.limit_of-limit.result (limit c) in
+    scanned_same (weights c.args.instance.now c.args.row) c.find_free_class_of.new.sorted_arcs c.block_arcs.new.self c.limit_of-limit.result c.in_ok-block_arcs.ensures.arcs c.in_ok-block_arcs.ensures.cursor found
+
+sorted_arcs : (c : After-limit_of-limit) → IsSortedArcs (weights c.args.instance.now c.args.row) (offers_of c.args.instance.now.rows.now c.args.row) c.args.instance.now.firsts c.args.assignment.now.residual.items c.block_arcs.new.self
+sorted_arcs c = c.in_ok-block_arcs.ensures.sorted_arcs (weights c.args.instance.now c.args.row) _ _ c.in_ok-find_free_class_of.ensures.sorted_arcs
+
 pub label_arcs-requires : goal.label_arcs-requires
 label_arcs-requires c =
     let i = (goal.at.label_arcs-requires c).After-limit_of-limit in
@@ -22,21 +34,20 @@ label_arcs-requires c =
     record {
       running = b.running;
       there = reached_still _ _ _ _ _ b c.requires.there;
-      sorted_arcs = c.in_ok-find_free_class_of.ensures.sorted_arcs;
+      sorted_arcs = sorted_arcs i;
       limit = limit i;
-      scanned = c.in_ok-find_free_class_of.ensures.scanned c.limit_of-limit.result (limit i);
+      scanned = scanned i;
+      blocked = c.in_ok-block_arcs.ensures.blocked;
       taken = subst (AreTakenFirsts c.args.instance.now.firsts c.args.taken_firsts.now) (sym b.tree_classes) c.requires.taken;
     }
 
 pub returns : goal.returns
 returns c =
     let i = (goal.at.returns c).After-limit_of-limit in
-    let tree = c.find_free_class_of.new.tree in
-    let sorted_arcs = c.find_free_class_of.new.sorted_arcs in
     record {
-      sorted_arcs = on_ok_weaker c.label_arcs.result (λ _. c.in_ok-find_free_class_of.ensures.sorted_arcs) c.label_arcs.ensures;
+      sorted_arcs = on_ok_weaker c.label_arcs.result (λ _. sorted_arcs i) c.label_arcs.ensures;
       seen = on_ok_weaker c.label_arcs.result
-          (λ n. seen (weights c.args.instance.now) c.args.assignment.now c.args.tree.now tree c.label_arcs.new.tree c.args.row sorted_arcs c.limit_of-limit.result
-          c.in_ok-find_free_class_of.ensures.better (c.in_ok-find_free_class_of.ensures.scanned c.limit_of-limit.result (limit i)) (limit i) n)
+          (λ n. seen (weights c.args.instance.now) c.args.assignment.now c.args.tree.now c.find_free_class_of.new.tree c.label_arcs.new.tree c.args.row c.block_arcs.new.self c.limit_of-limit.result
+          c.in_ok-find_free_class_of.ensures.better (scanned i) (limit i) n)
           c.label_arcs.ensures;
     }

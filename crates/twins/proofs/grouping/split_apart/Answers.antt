@@ -13,6 +13,7 @@ use Rattle.twins.proofs.grouping.split_apart.Goals as goal
 
 pub loop-cpu-init : goal.loop-cpu-init
 loop-cpu-init c = record {
+  spans = c.requires.spans;
   waiting = refl;
   splitting = rw (c.cpus.ensures set.empty) (splitting_start _ _ _ _ _ c.requires.part c.requires.parts c.requires.alone);
 }
@@ -31,23 +32,24 @@ fit : (rows : List RowView) (k : ℕ) (offers : List Offer) → list_all row_fit
 fit rows k offers fits lt is =
     subst (λ (o : List Offer). offers_fit o ≡ true) (sym (is none)) (row_offers_fit (row_at rows k) (passes_at row_fits rows k (row_at rows k) fits lt (is_row rows k lt)))
 
-alike : (c : goal.After-minus-rest) → IsAlike (row_at c.args.rows.now c.args.k) c.in-Some.cpu c.loop-cpu.rest c.alike-piece.result
+alike : (c : goal.After-minus-rest) → IsAlike (row_at c.args.rows.now c.args.k) c.in-Some.cpu c.loop-cpu.rest c.in_ok-piece.piece
 alike c =
-    subst (λ (o : List Offer). (q : ℕ) → set.contains c.alike-piece.result q ≡ (set.contains c.loop-cpu.rest q && is_same_weight (weight_in o c.in-Some.cpu) (weight_in o q))) (c.requires.offers none) c.alike-piece.ensures
+    subst (λ (o : List Offer). (q : ℕ) → set.contains c.in_ok-piece.piece q ≡ (set.contains c.loop-cpu.rest q && is_same_weight (weight_in o c.in-Some.cpu) (weight_in o q))) (c.requires.offers none) c.in_ok-piece.ensures.alike
 
-pub alike-piece-requires-clause-fit : goal.alike-piece-requires-clause-fit
-alike-piece-requires-clause-fit c = fit c.args.rows.now c.args.k c.args.offers.now c.requires.fit c.requires.there c.requires.offers
+pub alike-requires-clause-fit : goal.alike-requires-clause-fit
+alike-requires-clause-fit c = fit c.args.rows.now c.args.k c.args.offers.now c.requires.fit c.requires.there c.requires.offers
 
 pub loop-cpu-preserved : goal.loop-cpu-preserved
 loop-cpu-preserved c = record {
+  spans = c.in_ok-piece.ensures.spans;
   waiting = c.in_ok-put.ensures.waiting ∙ c.loop-cpu.invariant.waiting;
-  splitting = splitting_more c.args.rows.now c.args.k c.in-Some.cpu (row_at c.args.rows.now c.args.k) c.args.edges.now (get_or c.args.parts.now.waiting c.args.at set.empty) c.loop-cpu.rest c.alike-piece.result c.minus-rest.result _ _ _ _ _ _
+  splitting = splitting_more c.args.rows.now c.args.k c.in-Some.cpu (row_at c.args.rows.now c.args.k) c.args.edges.now (get_or c.args.parts.now.waiting c.args.at set.empty) c.loop-cpu.rest c.in_ok-piece.piece c.minus-rest.result _ _ _ _ _ _
       c.requires.there (is_row c.args.rows.now c.args.k c.requires.there) c.requires.edges c.requires.part c.loop-cpu.invariant.splitting c.in-Some.ensures.first.member (alike c) c.in_ok-put.ensures.put c.minus-rest.ensures;
 }
 
 pub loop-cpu-smaller : goal.loop-cpu-smaller
 loop-cpu-smaller c =
-    less_left c.args.rows.now c.args.k c.in-Some.cpu (row_at c.args.rows.now c.args.k) (get_or c.args.parts.now.waiting c.args.at set.empty) c.loop-cpu.rest c.alike-piece.result c.minus-rest.result _ _ _ _
+    less_left c.args.rows.now c.args.k c.in-Some.cpu (row_at c.args.rows.now c.args.k) (get_or c.args.parts.now.waiting c.args.at set.empty) c.loop-cpu.rest c.in_ok-piece.piece c.minus-rest.result _ _ _ _
     c.requires.part c.loop-cpu.invariant.splitting c.in-Some.ensures.first.member (alike c) c.minus-rest.ensures
 
 pub returns-clause-split : goal.returns-clause-split

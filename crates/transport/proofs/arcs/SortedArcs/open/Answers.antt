@@ -1,7 +1,7 @@
 use Rattle.std.proofs.Common.{ℕ, List, Option, refl, ap, arith}
 use Rattle.transport.specs.Orders.{weighted_in}
 use Rattle.transport.specs.declared.arcs.WeightedOffer.{WeightedOffer}
-use Rattle.transport.proofs.SortedArcsLemmas.{can_open, arcs_low, sorted_opened, weighted_within, offer_read}
+use Rattle.transport.proofs.SortedArcsLemmas.{can_open, sorted_opened, weighted_within, offer_read}
 use Rattle.transport.proofs.arcs.SortedArcs.open.Goals as goal
 
 pub offer-offer-requires : goal.offer-offer-requires
@@ -14,7 +14,6 @@ returns c = record {
       can_open ws _ _ residual c.args.self.now _ _ h c.requires.more
       (offer_read _ (weighted_in c.args.offers.now c.args.self.now.order) c.args.self.now.opened _ _ c.weighted_offer-weighted_offer.ensures (weighted_within _ _ _ _ h.order.weighted (omega (arith, c.requires.more, h.order.long)) c.weighted_offer-weighted_offer.ensures) c.offer-offer.ensures)
       (ap (λ (b : WeightedOffer). b.weight) c.weighted_offer-weighted_offer.ensures) in
-      sorted_opened ws _ _ residual c.args.self.now _ h c.requires.more (c.in_ok-push_arcs.ensures.arcs ws _ _ _ can)
-      (c.in_ok-push_arcs.ensures.blocks (arcs_low ws _ _ _ _ _ _ _ can) h.blocks) refl refl refl;
+      sorted_opened ws _ _ residual c.args.self.now _ h c.requires.more (c.in_ok-push_arcs.ensures ws _ _ _ can) refl refl refl refl refl;
   opened = refl;
 }

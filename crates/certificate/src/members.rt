@@ -8,7 +8,7 @@ pub struct Members {
 
 impl Model for Members {
     ghost use Rattle.std.specs.Prelude.{List, ℕ};
-    ghost use Rattle.certificate_text.specs.MembersCode.{members_code};
+    ghost use Rattle.certificate.specs.MembersCode.{members_code};
 
     ghost Value = { List ℕ };
 

@@ -1,5 +1,5 @@
 -- What a problem comes to.
-use Rattle.std.specs.Prelude.{◌≡◌, ℕ, ◌<◌, Bool, List, All}
+use Rattle.std.specs.Prelude.{◌≡◌, ℕ, ◌<◌, true, List, All}
 use Rattle.std.specs.FinSet as set
 use Rattle.cpu_set.specs.Ids.{Ids}
 use Rattle.certificate.specs.RowView.{RowView}
@@ -8,8 +8,8 @@ use Rattle.certificate.specs.IsDealt.{IsDealt}
 use Rattle.certificate.specs.IsLeast.{IsLeast}
 use Rattle.certificate.specs.IsProved.{IsProved}
 use Rattle.certificate.specs.IsShortage.{IsShortage, HasNoPlan}
-use Rattle.certificate_text.specs.declared.certificates.Certificate.{Certificate}
-use Rattle.certificate_text.specs.declared.certificates.Certificate.TheVariants.{Plan, Short}
+use Rattle.certificate.specs.declared.certificates.Certificate.{Certificate}
+use Rattle.certificate.specs.declared.certificates.Certificate.TheVariants.{Plan, Short}
 use Rattle.transport.specs.declared.solver.Answer.{Answer}
 use Rattle.transport.specs.declared.solver.Answer.TheVariants as answer
 use Rattle.transport.specs.Solved.{IsPricedByClass}
@@ -28,12 +28,12 @@ pub record DecidesShort (rows : List RowView) (members : List ℕ) : Type 0 wher
   pub shortage : IsShortage rows members
   pub none : HasNoPlan rows
 
--- one of both, of these very rows, and with the word on their weights that was given
-abbrev pub Decides : List RowView → Bool → Certificate → Type 0
-Decides rows scaled (Plan own sets prices total said) = (own ≡ rows) × (said ≡ scaled) × DecidesPlan rows sets prices total
-Decides rows scaled (Short own members said) = (own ≡ rows) × (said ≡ scaled) × DecidesShort rows members
+-- one of both, of these very rows, whose weights are said to count moves
+abbrev pub Decides : List RowView → Certificate → Type 0
+Decides rows (Plan own sets prices total said) = (own ≡ rows) × (said ≡ true) × DecidesPlan rows sets prices total
+Decides rows (Short own members said) = (own ≡ rows) × (said ≡ true) × DecidesShort rows members
 
 -- a problem with its answer
-abbrev pub answered : List RowView → Bool → Answer → Certificate
-answered rows scaled (answer.Plan sets prices total turns) = Plan rows sets prices total scaled
-answered rows scaled (answer.Short members turns) = Short rows members.items scaled
+abbrev pub answered : List RowView → Answer → Certificate
+answered rows (answer.Plan sets prices total turns) = Plan rows sets prices total true
+answered rows (answer.Short members turns) = Short rows members.items true

@@ -1,5 +1,4 @@
-use crate::Members;
-use certificate::{Plan, Prices, Problem};
+use crate::{Members, Plan, Prices, Problem};
 
 /// A problem together with what shows its answer.
 #[derive(Debug, Drop)]
@@ -11,7 +10,7 @@ pub enum Certificate {
         prices: Prices,
         total: u64,
         /// Whether weights, and so the total, count moves besides the distance, as
-        /// [`MOVE_SCALE`](certificate::MOVE_SCALE) says.
+        /// [`MOVE_SCALE`](crate::MOVE_SCALE) says.
         scaled: bool,
     },
     /// Rows that together ask for more CPUs than they may have, so that there is no plan.

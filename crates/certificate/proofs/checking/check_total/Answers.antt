@@ -1,6 +1,6 @@
 use Rattle.std.proofs.Common.{◌≡◌, ◌∙◌, arith}
-use Rattle.certificate_text.proofs.Verdicts.{plan_best}
-use Rattle.certificate_text.proofs.checking.check_total.Goals as goal
+use Rattle.certificate.proofs.Verdicts.{plan_best}
+use Rattle.certificate.proofs.checking.check_total.Goals as goal
 
 pub returns-clause-best : goal.returns-clause-best
 returns-clause-best c =

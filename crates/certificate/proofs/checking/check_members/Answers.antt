@@ -1,6 +1,6 @@
 use Rattle.std.proofs.Common.{◌≡◌, ◌∙◌}
-use Rattle.certificate_text.proofs.Verdicts.{not_short}
-use Rattle.certificate_text.proofs.checking.check_members.Goals as goal
+use Rattle.certificate.proofs.Verdicts.{not_short}
+use Rattle.certificate.proofs.checking.check_members.Goals as goal
 
 pub returns-in_err-asked-clause-complete : goal.returns-in_err-asked-clause-complete
 returns-in_err-asked-clause-complete c =

@@ -1,5 +1,5 @@
 -- What comes of a problem can be written.
-use Rattle.std.proofs.Common.{◌≡◌, ℕ, suc, ◌<◌, Bool, List, [], ◌∷◌, length, refl, ap, ◌∙◌, arith}
+use Rattle.std.proofs.Common.{◌≡◌, ℕ, suc, ◌<◌, List, [], ◌∷◌, length, refl, ap, ◌∙◌, arith}
 use Rattle.std.specs.Prelude.{◌≢◌, All}
 use Rattle.std.specs.List.{AllZip}
 use Rattle.std.proofs.lemmas.List.Elements.{All-cons}
@@ -13,9 +13,9 @@ use Rattle.certificate.specs.AreWithin.{IsRowWithin, LimitsMean}
 use Rattle.transport.specs.Solved.{IsRight, IsDecided, AreTwinsDealt, ArePricesOfClasses}
 use Rattle.transport.specs.declared.solver.Answer.{Answer}
 use Rattle.transport.specs.declared.solver.Answer.TheVariants as answer
-use Rattle.certificate_text.specs.Written.{CanWrite, CanWriteRow}
-use Rattle.decision.specs.Decides.{Decides, answered}
 use Rattle.certificate_text.specs.CertificateText.{HaveOwnIds, HasShortText}
+use Rattle.certificate_text.specs.Written.{CanWrite, CanWriteRow}
+use Rattle.node.specs.Decides.{Decides, answered}
 
 some_members : (rows : List RowView) (members : List ℕ) → length (offered (chosen rows members)) < asked (chosen rows members) → 0 < length members
 some_members rows [] short = absurd (omega (arith, short))
@@ -43,19 +43,19 @@ sets_some (row ∷ rows) (s ∷ sets) within met =
     (sets_some rows sets (λ i d lt. within (suc i) d (omega arith)) met.1)
 
 -- what proves itself and has no price of no CPU can be written
-pub can_write : (rows : List RowView) (scaled : Bool) (a : Answer) → LimitsMean → All CanWriteRow rows → HaveOwnIds rows → IsRight rows a → ArePricesOfClasses rows a → CanWrite (answered rows scaled a)
-can_write rows scaled (answer.Plan sets prices total turns) means each apart proved priced =
+pub can_write : (rows : List RowView) (a : Answer) → LimitsMean → All CanWriteRow rows → HaveOwnIds rows → IsRight rows a → ArePricesOfClasses rows a → CanWrite (answered rows a)
+can_write rows (answer.Plan sets prices total turns) means each apart proved priced =
     let within = (means rows sets prices).0 proved.limits in (
       record { sets_len = within.same_sets; values_len = within.same_values; apart = apart },
       each,
       sets_some rows sets within.rows_are.each proved.plan.met,
       λ i d lt. not_empty _ (priced.1 i d lt).1,
     )
-can_write rows scaled (answer.Short members turns) means each apart short priced = (short_text rows members.items apart short, each)
+can_write rows (answer.Short members turns) means each apart short priced = (short_text rows members.items apart short, each)
 
 -- what the solver answers decides the problem
-pub decides : (rows : List RowView) (scaled : Bool) (a : Answer) → IsRight rows a → IsDecided rows a → AreTwinsDealt rows a → ArePricesOfClasses rows a
-    → Decides rows scaled (answered rows scaled a)
-decides rows scaled (answer.Plan sets prices total turns) right decided dealt priced =
+pub decides : (rows : List RowView) (a : Answer) → IsRight rows a → IsDecided rows a → AreTwinsDealt rows a → ArePricesOfClasses rows a
+    → Decides rows (answered rows a)
+decides rows (answer.Plan sets prices total turns) right decided dealt priced =
     (refl, refl, record { least = decided; proved = right; dealt = dealt; by_class = priced.0; some = priced.1 })
-decides rows scaled (answer.Short members turns) right decided dealt priced = (refl, refl, record { shortage = right; none = decided })
+decides rows (answer.Short members turns) right decided dealt priced = (refl, refl, record { shortage = right; none = decided })

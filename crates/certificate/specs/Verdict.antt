@@ -1,0 +1,97 @@
+-- What the check of a certificate answers.
+use Rattle.std.specs.Prelude.{◌≡◌, ◌≢◌, ◌⊎◌, ℕ, ◌+◌, ◌*◌, ◌/◌, ◌%◌, ◌<◌, ◌≤◌, Bool, true, false, not, ◌&&◌, ◌==◌, List, [], ◌∷◌, Option, Some}
+use Rattle.faults.specs.First.{when, first_of}
+use Rattle.cpu_set.specs.Ids.{Ids}
+use Rattle.certificate.specs.RowView.{RowView}
+use Rattle.certificate.specs.PricesView.{PricesView}
+use Rattle.certificate.specs.Cost.{cost}
+use Rattle.certificate.specs.IsCause.{IsCause, IsShortageCause}
+use Rattle.certificate.specs.IsLeast.{IsLeast}
+use Rattle.certificate.specs.IsPlan.{IsPlan}
+use Rattle.certificate.specs.IsProved.{IsProved}
+use Rattle.certificate.specs.IsShortage.{HasNoPlan}
+use Rattle.certificate.specs.IsShown.{IsShown}
+use Rattle.certificate.specs.PlanFault.{plan_fault}
+use Rattle.certificate.specs.Scaled.{are_scaled, by_distance, by_moves}
+use Rattle.certificate.specs.ShortageFault.{shortage_fault}
+use Rattle.certificate.specs.declared.check_faults.CheckFault.{CheckFault}
+use Rattle.certificate.specs.declared.check_faults.CheckFault.TheVariants.{BadProblem, Gap}
+use Rattle.certificate.specs.declared.limits.TheConstants.{MOVE_SCALE}
+use Rattle.certificate.specs.declared.certificates.Certificate.{Certificate}
+use Rattle.certificate.specs.declared.certificates.Certificate.TheVariants.{Plan as PlanCertificate, Short as ShortCertificate}
+use Rattle.certificate.specs.declared.checking.Verdict.{Verdict}
+use Rattle.certificate.specs.declared.checking.Verdict.TheVariants.{Plan, Moves, Short}
+
+-- the total in its two parts
+pub record AreParts (total distance moves : ℕ) : Type 0 where
+  pub moves_fit : moves < MOVE_SCALE
+  pub whole : total ≡ distance * MOVE_SCALE + moves
+
+-- values and prices prove the certificate's plan to cost its total, or its members are short by these counts; and where
+-- weights are scaled, each CPU of a row is one move or none
+abbrev pub IsProvedCertificate : Certificate → Verdict → Type 0
+IsProvedCertificate (PlanCertificate rows sets prices total false) (Plan proved) = IsProved rows sets prices total × (proved ≡ total)
+IsProvedCertificate (PlanCertificate rows sets prices total true) (Moves distance moves) =
+    (are_scaled rows ≡ true) × IsProved rows sets prices total × AreParts total distance moves
+IsProvedCertificate (ShortCertificate rows members false) (Short asked allowed) = IsShown rows members asked allowed
+IsProvedCertificate (ShortCertificate rows members true) (Short asked allowed) = (are_scaled rows ≡ true) × IsShown rows members asked allowed
+IsProvedCertificate _ _ = ⊥
+
+-- what a proved plan of this cost comes to
+abbrev pub plan_verdict : ℕ → Bool → Verdict
+plan_verdict cost false = Plan cost
+plan_verdict cost true = Moves (cost / MOVE_SCALE) (cost % MOVE_SCALE)
+
+-- the plan has this distance and these moves; no plan's distance is less, and none of that distance has fewer moves
+pub record IsBestByMoves (rows : List RowView) (sets : List Ids) (distance moves : ℕ) : Type 0 where
+  pub least : IsLeast rows sets
+  pub nearest : IsLeast (by_distance rows) sets
+  pub distance_is : cost (by_distance rows) sets ≡ distance
+  pub moves_are : cost (by_moves rows) sets ≡ moves
+  pub fewest : (others : List Ids) → IsPlan rows others → cost (by_distance rows) others ≡ distance → moves ≤ cost (by_moves rows) others
+
+-- hence no plan of the rows costs less than the certificate's, which costs this, or the rows have no plan
+abbrev pub IsBest : Certificate → Verdict → Type 0
+IsBest (PlanCertificate rows sets prices total false) (Plan proved) = IsLeast rows sets × (cost rows sets ≡ proved)
+IsBest (PlanCertificate rows sets prices total true) (Moves distance moves) = IsBestByMoves rows sets distance moves
+IsBest (ShortCertificate rows members scaled) (Short asked allowed) = HasNoPlan rows
+IsBest _ _ = ⊥
+
+-- a CPU of scaled rows is more than one move
+abbrev pub scale_fault : Bool → List RowView → Option CheckFault
+scale_fault scaled rows = when (scaled && not (are_scaled rows)) BadProblem
+
+-- the first fault of a certificate: a weight that is not scaled where it should be; then one of the plan and its prices, or
+-- another total than its cost; or one of the shortage
+abbrev pub certificate_fault : Certificate → Option CheckFault
+certificate_fault (PlanCertificate rows sets prices total scaled) = first_of (
+    scale_fault scaled rows
+    ∷ plan_fault rows sets prices
+    ∷ when (not (cost rows sets == total)) Gap
+    ∷ [])
+certificate_fault (ShortCertificate rows members scaled) = first_of (
+    scale_fault scaled rows
+    ∷ shortage_fault rows members
+    ∷ [])
+
+-- the plan is proved, to cost another total than the certificate's
+pub record IsOtherTotal (rows : List RowView) (sets : List Ids) (prices : PricesView) (total : ℕ) : Type 0 where
+  pub proved : IsProved rows sets prices (cost rows sets)
+  pub other : cost rows sets ≢ total
+
+-- weights should be scaled, and one isn't
+pub record IsNotScaled (rows : List RowView) (scaled : Bool) (fault : CheckFault) : Type 0 where
+  pub says_so : scaled ≡ true
+  pub not_so : are_scaled rows ≡ false
+  pub is : fault ≡ BadProblem
+
+-- the cause of each refusal
+abbrev pub IsCertificateCause : Certificate → CheckFault → Type 0
+IsCertificateCause (PlanCertificate rows sets prices total scaled) fault =
+    IsNotScaled rows scaled fault ⊎ (IsCause rows sets prices fault ⊎ ((fault ≡ Gap) × IsOtherTotal rows sets prices total))
+IsCertificateCause (ShortCertificate rows members scaled) fault = IsNotScaled rows scaled fault ⊎ IsShortageCause rows members fault
+
+-- a certificate's first fault, and that its cause stands
+pub record IsFaultOf (fault : CheckFault) (c : Certificate) : Type 0 where
+  pub first : certificate_fault c ≡ Some fault
+  pub cause : IsCertificateCause c fault
