@@ -1,5 +1,6 @@
 pub mod TreeState
 pub mod Groups
+pub mod Places
 pub mod Effective
 pub mod TreeChanges
 pub mod TreeAnswers

@@ -4,7 +4,8 @@ ghost use Rattle.cpuset_tree.specs.Groups.{root_of, has_group, is_root, child_of
 ghost use Rattle.cpuset_tree.specs.Effective.{effective_cpus, effective_mems};
 ghost use Rattle.cpuset_tree.specs.TreeChanges.{IsFirstTree, without_group, with_cpus, with_mems, with_online};
 ghost use Rattle.faults.specs.Calls.{Decides, behind};
-ghost use Rattle.cpuset_tree.specs.TreeAnswers.{Makes, AddsGroup, remove_refusal, write_refusal, read_of};
+ghost use Rattle.cpuset_tree.specs.TreeAnswers.{Makes, AddsGroup, make_refusal, remove_refusal, write_refusal, read_of};
+ghost use Rattle.cpuset_tree.specs.Places.{place_of, place_behind};
 ghost use Rattle.cpuset_tree.specs.TreeWellFormed.{IsWellFormed};
 ghost use Rattle.cpuset_tree.specs.TreeLaws.{RunsUpThePath};
 
@@ -188,6 +189,34 @@ impl Tree {
         }
         let name = String::from_str(self.alloc, name)?;
         Ok(self.add(parent, name, shares)?)
+    }
+
+    /// Whether a group can be made, or why not.
+    ///
+    /// # Errors
+    /// In this order: [`TreeFault::NoGroup`], [`TreeFault::Exists`], [`TreeFault::NoSerials`].
+    pub fn makable(&self, parent: Group, name: &str) -> Result<(), TreeFault>
+        ensures { MatchResult result (λ _. make_refusal self.now parent name.now ≡ None) (λ fault. make_refusal self.now parent name.now ≡ Some fault) }
+    {
+        if !self.contains(parent) {
+            return Err(TreeFault::NoGroup);
+        }
+        if self.child(parent, name).is_some() {
+            return Err(TreeFault::Exists);
+        }
+        if SERIAL_LIMIT == self.next_serial {
+            return Err(TreeFault::NoSerials);
+        }
+        Ok(())
+    }
+
+    /// The parent and the name of a group that is there and is not the root.
+    pub fn place(&self, group: Group) -> Option<(Group, &str)>
+        ensures { place_behind result ≡ place_of self.now group }
+    {
+        let kept = self.cgroup(group)?;
+        let parent = kept.parent?;
+        Some((parent, kept.name.as_str()))
     }
 
     /// Adds a group that has in effect what its parent has.

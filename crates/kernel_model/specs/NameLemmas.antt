@@ -10,7 +10,7 @@ use Rattle.cpu_set.specs.Ids.{Ids}
 use Rattle.cpuset_tree.specs.declared.Group.{Group}
 use Rattle.cpuset_tree.specs.TreeState.{GroupEntry, TreeState}
 use Rattle.cpuset_tree.specs.Groups.{same_group, entry_among, entry_of, is_parent, child_of}
-use Rattle.cpuset_tree.specs.TreeChanges.{new_entry, without_group, with_cpus, with_mems}
+use Rattle.cpuset_tree.specs.TreeChanges.{IsFirstTree, new_entry, without_group, with_cpus, with_mems}
 use Rattle.cpuset_tree.specs.TreeLaws.{StandsAs, GroupAdded}
 use Rattle.cpuset_tree.specs.TreeLemmas.{same_is_equal, stands_itself, added_leaves, removed_leaves, writes_leave_places}
 use Rattle.kernel_model.specs.declared.fault.KernelFault.{KernelFault}
@@ -44,6 +44,16 @@ stand_alike s new before own p q e f at_p at_q parent name =
     let b : StandsAs s q f = before q f at_q in
     own p q a.entry b.entry a.there b.there (sym a.place.parent ∙ parent ∙ b.place.parent) (sym a.place.name ∙ name ∙ b.place.name)
 
+-- no group has this parent and this name where no such child is found
+pub none_of_name : (s : TreeState) (parent : Group) (name : List ℕ) → child_of s parent name ≡ None
+    → (q : Group) (f : GroupEntry) → entry_of s q ≡ Some f → f.parent ≡ Some parent → f.name ≡ name → ⊥
+none_of_name s parent name free q f at below named =
+    let is_child : GroupEntry → Bool = λ e. is_parent e.parent parent && pointwise nat_eq e.name name in
+    both_ways (is_child f) (passed is_child q s.groups f (nothing_found (find is_child s.groups) free) at)
+    (and_from (is_parent f.parent parent) (pointwise nat_eq f.name name)
+    (ap (λ (o : Option Group). is_parent o parent) below ∙ (same_is_equal parent parent).1 refl)
+    ((bytes_eq-Decides f.name name).1 named))
+
 -- a group more, where its parent had no child of that name
 module _ (s new : TreeState) (parent : Group) (name : List ℕ) (g : Group) (added : GroupAdded s new parent name g) (free : child_of s parent name ≡ None)
     (own : HaveOwnNames s.groups) where
@@ -56,26 +66,16 @@ module _ (s new : TreeState) (parent : Group) (name : List ℕ) (g : Group) (add
   is_new : (p : Group) (e : GroupEntry) → same_group g p ≡ true → entry_of new p ≡ Some e → new_entry g (Some parent) name ≡ e
   is_new p e same at = same_Some (new_entry g (Some parent) name) e (sym added.there ∙ ap (entry_of new) (equal p same) ∙ at)
 
-  abbrev is_child : GroupEntry → Bool
-  is_child e = is_parent e.parent parent && pointwise nat_eq e.name name
-
-  none_there : (q : Group) (f : GroupEntry) → entry_of s q ≡ Some f → f.parent ≡ Some parent → f.name ≡ name → ⊥
-  none_there q f at below named =
-      both_ways (is_child f) (passed is_child q s.groups f (nothing_found (find is_child s.groups) free) at)
-      (and_from (is_parent f.parent parent) (pointwise nat_eq f.name name)
-      (ap (λ (o : Option Group). is_parent o parent) below ∙ (same_is_equal parent parent).1 refl)
-      ((bytes_eq-Decides f.name name).1 named))
-
   names_added : HaveOwnNames new.groups
   names_added p q e f at_p at_q above text = by (same_group g p) refl (same_group g q) refl where
     by : (a : Bool) → same_group g p ≡ a → (b : Bool) → same_group g q ≡ b → same_group p q ≡ true
     by true is_p true is_q = (same_is_equal p q).1 (sym (equal p is_p) ∙ equal q is_q)
     by true is_p false is_q =
         let new : new_entry g (Some parent) name ≡ e = is_new p e is_p at_p in
-        absurd (none_there q f (is_old q f is_q at_q) (sym above ∙ ap (λ (x : GroupEntry). x.parent) (sym new)) (sym text ∙ ap (λ (x : GroupEntry). x.name) (sym new)))
+        absurd (none_of_name s parent name free q f (is_old q f is_q at_q) (sym above ∙ ap (λ (x : GroupEntry). x.parent) (sym new)) (sym text ∙ ap (λ (x : GroupEntry). x.name) (sym new)))
     by false is_p true is_q =
         let new : new_entry g (Some parent) name ≡ f = is_new q f is_q at_q in
-        absurd (none_there p e (is_old p e is_p at_p) (above ∙ ap (λ (x : GroupEntry). x.parent) (sym new)) (text ∙ ap (λ (x : GroupEntry). x.name) (sym new)))
+        absurd (none_of_name s parent name free p e (is_old p e is_p at_p) (above ∙ ap (λ (x : GroupEntry). x.parent) (sym new)) (text ∙ ap (λ (x : GroupEntry). x.name) (sym new)))
     by false is_p false is_q = own p q e f (is_old p e is_p at_p) (is_old q f is_q at_q) above text
 
 -- a group less
@@ -89,27 +89,27 @@ abbrev Own : KernelState → Type 0
 Own k = HaveOwnNames k.tree.groups
 
 module _ (old : KernelState) (own : Own old) where
-  MakesGroup-names : (parent : Group) (name : List ℕ) (r : Result Group (OrMemory KernelFault)) (new : KernelState) → MakesGroup old parent name r new → Own new
+  pub MakesGroup-names : (parent : Group) (name : List ℕ) (r : Result Group (OrMemory KernelFault)) (new : KernelState) → MakesGroup old parent name r new → Own new
   MakesGroup-names parent name =
       GrowingWrites-keeps Own (make_refusal old parent name) (MakesGroupOf old parent name) old
       (λ g new none does. names_added old.tree new.tree parent name g (added_leaves old.tree new.tree parent name g does.does)
       (((calls_are_free old).make parent name).0 none).1 own)
       own own
 
-  RemovesGroup-names : (g : Group) (r : Result (Unit {0}) KernelFault) (new : KernelState) → RemovesGroup old g r new → Own new
+  pub RemovesGroup-names : (g : Group) (r : Result (Unit {0}) KernelFault) (new : KernelState) → RemovesGroup old g r new → Own new
   RemovesGroup-names g =
       Writes-keeps Own (remove_refusal old g) (λ _ new. new ≡ record (counted old) { tree = without_group old.tree g }) old
       (λ _ new none does. subst (λ (k : KernelState). Own k) (sym does) (stand_alike old.tree (without_group old.tree g) (still_there old.tree g) own))
       own own
 
-  WritesCpus-names : (g : Group) (cpus : Ids) (r : Result (Unit {0}) KernelFault) (new : KernelState) → WritesCpus old g cpus r new → Own new
+  pub WritesCpus-names : (g : Group) (cpus : Ids) (r : Result (Unit {0}) KernelFault) (new : KernelState) → WritesCpus old g cpus r new → Own new
   WritesCpus-names g cpus =
       Writes-keeps Own (write_refusal old g) (λ _ new. new ≡ record (counted old) { tree = with_cpus old.tree g cpus }) old
       (λ _ new none does. subst (λ (k : KernelState). Own k) (sym does)
       (stand_alike old.tree (with_cpus old.tree g cpus) (writes_leave_places.0 old.tree g cpus).before own))
       own own
 
-  WritesMems-names : (g : Group) (mems : Ids) (r : Result (Unit {0}) KernelFault) (new : KernelState) → WritesMems old g mems r new → Own new
+  pub WritesMems-names : (g : Group) (mems : Ids) (r : Result (Unit {0}) KernelFault) (new : KernelState) → WritesMems old g mems r new → Own new
   WritesMems-names g mems =
       Writes-keeps Own (write_refusal old g) (λ _ new. new ≡ record (counted old) { tree = with_mems old.tree g mems }) old
       (λ _ new none does. subst (λ (k : KernelState). Own k) (sym does)
@@ -159,9 +159,12 @@ root_alone root p e at = by (same_group root.group p) at where
   by true at = refl
   by false at = absurd (none-some e at)
 
-pub first_has_own_names : FirstHasOwnNames
-first_has_own_names present reserved online nodes first_pid k first =
-    subst (λ (t : TreeState). HaveOwnNames t.groups) (sym first.first_tree.is)
+pub names_of_first : (online nodes : Ids) (s : TreeState) → IsFirstTree online nodes 0 s → HaveOwnNames s.groups
+names_of_first online nodes s first =
+    subst (λ (t : TreeState). HaveOwnNames t.groups) (sym first.is)
     (λ p q e f at_p at_q above text.
-    let root = new_entry first.first_tree.root None [] in
+    let root = new_entry first.root None [] in
     (same_is_equal p q).1 (sym ((same_is_equal root.group p).0 (root_alone root p e at_p)) ∙ (same_is_equal root.group q).0 (root_alone root q f at_q)))
+
+pub first_has_own_names : FirstHasOwnNames
+first_has_own_names present reserved online nodes first_pid k first = names_of_first online nodes k.tree first.first_tree

@@ -11,6 +11,7 @@ pub mod laws;
 mod model_kernel;
 
 pub use call::{Call, Reply, make_call, make_calls};
+pub use count::WriteCount;
 pub use cpuset_tree::Group;
 pub use fault::KernelFault;
 pub use fused_kernel::{Fuse, FusedKernel};

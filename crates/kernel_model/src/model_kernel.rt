@@ -1,8 +1,10 @@
-ghost use Rattle.std.specs.Prelude.{◌≡◌, ◌≢◌, ◌≤◌, true, false, IfOk, MatchOption};
+ghost use Rattle.std.specs.Prelude.{◌≡◌, ◌≢◌, ◌≤◌, true, false, Some, None, IfOk, MatchOption, MatchResult};
 ghost use Rattle.std.specs.FinSet as set;
 ghost use Rattle.cpu_set.specs.Members.{IsCpu};
 ghost use Rattle.proctable.specs.declared.TheConstants.{LAST_PID};
+ghost use Rattle.cpuset_tree.specs.Places.{place_of, place_behind};
 ghost use Rattle.kernel_model.specs.KernelState.{IsFirstKernel};
+ghost use Rattle.kernel_model.specs.Refusals.{make_refusal, remove_refusal};
 
 use crate::count::WriteCount;
 use crate::fault::{of_proc, of_tree};
@@ -79,6 +81,37 @@ impl ModelKernel {
             reserved,
             writes: WriteCount::none(),
         })
+    }
+
+    /// Whether a group can be made, or why not.
+    ///
+    /// # Errors
+    /// In this order: `NoGroup`, `Exists`, `NoSerials`.
+    pub fn makable(&self, parent: Group, name: &str) -> Result<(), KernelFault>
+        ensures { MatchResult result (λ _. make_refusal self.now parent name.now ≡ None) (λ fault. make_refusal self.now parent name.now ≡ Some fault) }
+    {
+        Ok(self.tree.makable(parent, name)?)
+    }
+
+    /// Whether a group can be removed, or why not.
+    ///
+    /// # Errors
+    /// In this order: `NoGroup`, `IsRoot`, `HasChildren`, `HasProcesses`.
+    pub fn removable(&self, group: Group) -> Result<(), KernelFault>
+        ensures { MatchResult result (λ _. remove_refusal self.now group ≡ None) (λ fault. remove_refusal self.now group ≡ Some fault) }
+    {
+        self.tree.removable(group)?;
+        match self.table.count_in(group) {
+            0 => Ok(()),
+            _ => Err(KernelFault::HasProcesses),
+        }
+    }
+
+    /// The parent and the name of a group that is there and is not the root.
+    pub fn place(&self, group: Group) -> Option<(Group, &str)>
+        ensures { place_behind result ≡ place_of self.now.tree group }
+    {
+        self.tree.place(group)
     }
 
     /// No write of this kernel has failed; nothing runs.
