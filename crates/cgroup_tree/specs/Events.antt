@@ -1,0 +1,99 @@
+-- What was called of a mirrored kernel, and what each call asked of the files.
+use Rattle.std.specs.Prelude.{◌≡◌, ◌⊎◌, ℕ, List, [], ◌∷◌, ◌++◌, Result, Ok, Err}
+use Rattle.faults.specs.declared.or_memory.OrMemory.{OrMemory}
+use Rattle.faults.specs.declared.or_memory.OrMemory.TheVariants.{Memory, Fault}
+use Rattle.cpu_set.specs.Ids.{Ids}
+use Rattle.cpuset_tree.specs.declared.Group.{Group}
+use Rattle.cpuset_tree.specs.Effective.{granted}
+use Rattle.cpuset_tree.specs.TreeState.{TreeState}
+use Rattle.cpuset_tree.specs.TreeChanges.{IsFirstTree}
+use Rattle.kernel_model.specs.declared.KernelFault.{KernelFault}
+use Rattle.kernel_model.specs.declared.KernelFault.TheVariants.{Failed}
+use Rattle.kernel_model.specs.KernelState.{KernelState}
+use Rattle.kernel_model.specs.WellFormed.{IsWellFormed}
+use Rattle.kernel_model.specs.Cases.{MakesGroup, RemovesGroup, WritesCpus, WritesMems, Spawns, EndsGroup, Forks, Exits, GoesOffline, ComesOnline}
+use Rattle.cgroup_tree.specs.Asked.{Deed, Made, Removed, Written, Asked, Asks, done, refused}
+use Rattle.cgroup_tree.specs.Paths.{folder, below, list_line, cpus_file, mems_file, kill_file, controls_file, kill_line, controls_line}
+use Rattle.cgroup_tree.specs.Mirrored.{IsNamed}
+
+-- a call, with what it answered
+pub data Event : Type 0 where
+  MadeGroup : Group → List ℕ → Result Group (OrMemory KernelFault) → Event
+  RemovedGroup : Group → Result (Unit {0}) KernelFault → Event
+  WroteCpus : Group → Ids → Result (Unit {0}) KernelFault → Event
+  WroteMems : Group → Ids → Result (Unit {0}) KernelFault → Event
+  Spawned : Group → Result ℕ (OrMemory KernelFault) → Event
+  EndedGroup : Group → Result (Unit {0}) KernelFault → Event
+  Forked : ℕ → Result ℕ (OrMemory KernelFault) → Event
+  Exited : ℕ → Result (Unit {0}) KernelFault → Event
+  WentOffline : ℕ → Result (Unit {0}) KernelFault → Event
+  CameOnline : ℕ → Result (Unit {0}) KernelFault → Event
+
+-- a call is its case
+abbrev pub Happens : KernelState → Event → KernelState → Type 0
+Happens old (MadeGroup parent name r) new = MakesGroup old parent name r new
+Happens old (RemovedGroup g r) new = RemovesGroup old g r new
+Happens old (WroteCpus g cpus r) new = WritesCpus old g cpus r new
+Happens old (WroteMems g mems r) new = WritesMems old g mems r new
+Happens old (Spawned g r) new = Spawns old g r new
+Happens old (EndedGroup g r) new = EndsGroup old g r new
+Happens old (Forked parent r) new = Forks old parent r new
+Happens old (Exited pid r) new = Exits old pid r new
+Happens old (WentOffline cpu r) new = GoesOffline old cpu r new
+Happens old (CameOnline cpu r) new = ComesOnline old cpu r new
+
+-- what a write asked of the files, the newest first: where it is Ok this, which was done; where it failed this, which was refused,
+-- or nothing, for want of memory; and nothing where something stood against it
+abbrev pub IsAsked : {A : Type 0} → Deed → Result A KernelFault → List Asked → Type 0
+IsAsked deed (Ok value) these = these ≡ done deed ∷ []
+IsAsked deed (Err Failed) these = (these ≡ refused deed ∷ []) ⊎ (these ≡ [])
+IsAsked deed (Err fault) these = these ≡ []
+
+-- of a new group: the first and then the second, and the third where the model had no memory for it
+abbrev pub AreAsked : {A : Type 0} → Deed → Deed → Deed → Result A (OrMemory KernelFault) → List Asked → Type 0
+AreAsked first then undone (Ok value) these = these ≡ done then ∷ done first ∷ []
+AreAsked first then undone (Err Memory) these =
+    (these ≡ done undone ∷ done then ∷ done first ∷ []) ⊎ (these ≡ refused undone ∷ done then ∷ done first ∷ [])
+AreAsked first then undone (Err (Fault Failed)) these = (these ≡ refused then ∷ done first ∷ []) ⊎ (these ≡ refused first ∷ []) ⊎ (these ≡ [])
+AreAsked first then undone (Err (Fault fault)) these = these ≡ []
+
+-- a tree of the root group alone
+pub record IsAlone (s : TreeState) : Type 0 where
+  pub online : Ids
+  pub nodes : Ids
+  pub first : IsFirstTree online nodes 0 s
+
+-- where the root group's folder is this, and these nodes have memory
+module _ (root : List ℕ) (memory : Ids) where
+  -- the file of a group, or its folder
+  abbrev pub file_of : KernelState → Group → List ℕ → List ℕ
+  file_of k g file = root ++ (folder k.tree g ++ file)
+
+  abbrev pub AsksFor : KernelState → Event → List Asked → Type 0
+  AsksFor k (MadeGroup parent name r) these =
+      AreAsked (Written (file_of k parent controls_file) controls_line) (Made (file_of k parent (below name))) (Removed (file_of k parent (below name))) r these
+      × IsNamed name r
+  AsksFor k (RemovedGroup g r) these = IsAsked (Removed (file_of k g [])) r these
+  AsksFor k (WroteCpus g cpus r) these = IsAsked (Written (file_of k g cpus_file) (list_line cpus)) r these
+  AsksFor k (WroteMems g mems r) these = IsAsked (Written (file_of k g mems_file) (list_line (granted mems memory))) r these
+  AsksFor k (EndedGroup g r) these = IsAsked (Written (file_of k g kill_file) kill_line) r these
+  AsksFor k event these = these ≡ []
+
+  -- a kernel of the root group alone
+  pub record IsNew (k : KernelState) : Type 0 where
+    pub well : IsWellFormed k
+    pub alone : IsAlone k.tree
+
+  -- these calls, the newest first, led from such a kernel to this one, and asked for this, the newest first
+  unfoldable pub Past : List Event → KernelState → List Asked → Type 0
+  Past [] k asked = IsNew k × (asked ≡ [])
+  Past (event ∷ past) k asked =
+      (old : KernelState) × (before : List Asked) × (these : List Asked)
+      × Past past old before × Happens old event k × AsksFor old event these × (asked ≡ these ++ before)
+
+-- «Mirrored»: all that was asked of the files is what the calls of the kernel stand for, in their order
+pub record IsMirrored {F : Type 0} (asked : F → List Asked → Type 0) (root : List ℕ) (memory : Ids) (k : KernelState) (files : F) : Type 0 where
+  pub past : List Event
+  pub calls : List Asked
+  pub was : Past root memory past k calls
+  pub made : asked files calls

@@ -1,0 +1,14 @@
+pub mod Asked
+pub mod Paths
+pub mod Mirrored
+pub mod First
+pub mod FolderLemmas
+pub mod Standing
+pub mod StandingLemmas
+pub mod ApartLemmas
+pub mod ChangeLemmas
+pub mod Shown
+pub mod Events
+pub mod Stands
+pub mod PastLemmas
+pub mod MirroredLemmas

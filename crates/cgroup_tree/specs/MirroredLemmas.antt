@@ -1,0 +1,79 @@
+-- What a call of a mirrored kernel adds to what was asked of the files.
+use Rattle.std.proofs.Common.{◌≡◌, ℕ, refl, sym, ap, ◌∙◌, subst, inl, inr}
+use Rattle.std.specs.Prelude.{◌⊎◌, List, [], ◌∷◌, ◌++◌, Result, Ok, Err}
+use Rattle.faults.specs.declared.or_memory.OrMemory.{OrMemory}
+use Rattle.faults.specs.declared.or_memory.OrMemory.TheVariants.{Memory, Fault}
+use Rattle.cpu_set.specs.Ids.{Ids}
+use Rattle.kernel_model.specs.declared.KernelFault.{KernelFault}
+use Rattle.kernel_model.specs.declared.KernelFault.TheVariants.{Failed}
+use Rattle.kernel_model.specs.KernelState.{KernelState}
+use Rattle.kernel_model.specs.WellFormed.{IsWellFormed}
+use Rattle.cgroup_tree.specs.Asked.{Deed, Asked, Asks, done, refused}
+use Rattle.cgroup_tree.specs.Mirrored.{mirrored, Mirrors, MirrorsBoth}
+use Rattle.cgroup_tree.specs.Events.{Event, Happens, IsAsked, AreAsked, AsksFor, IsNew, Past, IsMirrored}
+use Rattle.cgroup_tree.specs.Stands.{FilesStand}
+use Rattle.cgroup_tree.specs.PastLemmas.{pasts_stand}
+
+-- some calls more, which are these
+pub record Grown {F : Type 0} (asked : F → List Asked → Type 0) (old : F) (Are : List Asked → Type 0) (new : F) : Type 0 where
+  pub these : List Asked
+  pub are : Are these
+  pub asks : Asks asked old these new
+
+module _ {F : Type 0} (asked : F → List Asked → Type 0) (old new : F) where
+  pub grown : {A : Type 0} → (deed : Deed) (r : Result A KernelFault) → Mirrors asked old deed r new → Grown asked old (IsAsked deed r) new
+  grown deed (Ok value) asks = record { these = done deed ∷ []; are = refl; asks = asks }
+  grown deed (Err Failed) (inl asks) = record { these = refused deed ∷ []; are = inl refl; asks = asks }
+  grown deed (Err Failed) (inr asks) = record { these = []; are = inr refl; asks = asks }
+  grown deed (Err fault) asks = record { these = []; are = refl; asks = asks }
+
+  pub grown_both : {A : Type 0} → (first then undone : Deed) (r : Result A (OrMemory KernelFault)) → MirrorsBoth asked old first then undone r new
+      → Grown asked old (AreAsked first then undone r) new
+  grown_both first then undone (Ok value) asks = record { these = done then ∷ done first ∷ []; are = refl; asks = asks }
+  grown_both first then undone (Err Memory) (inl asks) = record { these = done undone ∷ done then ∷ done first ∷ []; are = inl refl; asks = asks }
+  grown_both first then undone (Err Memory) (inr asks) = record { these = refused undone ∷ done then ∷ done first ∷ []; are = inr refl; asks = asks }
+  grown_both first then undone (Err (Fault Failed)) (inl asks) = record { these = refused then ∷ done first ∷ []; are = inl refl; asks = asks }
+  grown_both first then undone (Err (Fault Failed)) (inr (inl asks)) = record { these = refused first ∷ []; are = inr (inl refl); asks = asks }
+  grown_both first then undone (Err (Fault Failed)) (inr (inr asks)) = record { these = []; are = inr (inr refl); asks = asks }
+  grown_both first then undone (Err (Fault fault)) asks = record { these = []; are = refl; asks = asks }
+
+-- after one call more it is so too
+pub goes_on : {F : Type 0} (asked : F → List Asked → Type 0) (root root' : List ℕ) (memory memory' : Ids) (k new : KernelState) (files after : F) (event : Event)
+    → IsMirrored asked root memory k files → root' ≡ root → memory' ≡ memory → Happens k event new
+    → Grown asked files (AsksFor root memory k event) after → IsMirrored asked root' memory' new after
+unfolding Past
+goes_on asked root root' memory memory' k new files after event was same_root same_memory happens more =
+    subst (λ (r : List ℕ). IsMirrored asked r memory' new after) (sym same_root)
+    (subst (λ (m : Ids). IsMirrored asked root m new after) (sym same_memory) (record {
+      past = event ∷ was.past;
+      calls = more.these ++ was.calls;
+      was = (k, was.calls, more.these, was.was, happens, more.are, refl);
+      made = more.asks was.calls was.made;
+    }))
+
+-- where nothing was asked
+pub unasked : {F : Type 0} (asked : F → List Asked → Type 0) (old new : F) → new ≡ old → Grown asked old (λ these. these ≡ []) new
+unasked asked old new same = record { these = []; are = refl; asks = λ before held. subst (λ f. asked f before) (sym same) held }
+
+-- at the beginning
+pub starts : {F : Type 0} (asked : F → List Asked → Type 0) (root : List ℕ) (memory : Ids) (k : KernelState) (files : F) → IsNew root memory k → asked files []
+    → IsMirrored asked root memory k files
+unfolding Past
+starts asked root memory k files new none = record { past = []; calls = []; was = (new, refl); made = none }
+
+-- a kernel of which some writes never came to the model is well formed as the model is
+pub well_mirrored : (n : ℕ) (k : KernelState) → IsWellFormed k → IsWellFormed (mirrored n k)
+well_mirrored n k well = record {
+  tree = well.tree;
+  table = well.table;
+  placed = well.placed;
+  some_reserved = well.some_reserved;
+  reserved_online = well.reserved_online;
+  online_present = well.online_present;
+}
+
+pub stand : {F : Type 0} (asked : F → List Asked → Type 0) (root : List ℕ) (memory : Ids) (k : KernelState) (files : F) → IsMirrored asked root memory k files
+    → FilesStand asked root memory k files
+stand asked root memory k files was =
+    let it = pasts_stand root memory was.past k was.calls was.was in
+    record { calls = was.calls; made = was.made; stands = it.0; apart = it.1 }

@@ -1,0 +1,294 @@
+-- That files stand for the tree after any calls, proved.
+use Rattle.std.proofs.Common.{◌≡◌, ℕ, suc, Bool, true, false, refl, sym, ap, ◌∙◌, subst, inl, inr}
+use Rattle.std.specs.List.{list_any}
+use Rattle.std.specs.Prelude.{◌⊎◌, List, [], ◌∷◌, ◌++◌, Option, Some, None, is_some, is_none, option_map, Result, Ok, Err, not, if◌then◌else◌}
+use Rattle.faults.specs.declared.or_memory.OrMemory.{OrMemory}
+use Rattle.faults.specs.declared.or_memory.OrMemory.TheVariants.{Memory, Fault}
+use Rattle.std.proofs.lemmas.Bool.{both_ways}
+use Rattle.std.proofs.lemmas.Option.{same_Some, none-some}
+use Rattle.cpu_set.specs.Ids.{Ids}
+use Rattle.cpuset_tree.specs.declared.Group.{Group}
+use Rattle.cpuset_tree.specs.declared.TreeFault.TheVariants as tree
+use Rattle.cpuset_tree.specs.TreeState.{GroupEntry, TreeState}
+use Rattle.cpuset_tree.specs.TreeChanges.{new_entry, without_group, with_cpus, with_mems, with_online}
+use Rattle.cpuset_tree.specs.TreeAnswers.{AddsGroup}
+use Rattle.cpuset_tree.specs.TreeLaws.{GroupAdded}
+use Rattle.cpuset_tree.specs.TreeLemmas.{added_leaves, same_is_equal}
+use Rattle.cpuset_tree.specs.Effective.{granted}
+use Rattle.cpuset_tree.specs.GroupLemmas.{same_group-equal}
+use Rattle.cpuset_tree.specs.Groups.{same_group, entry_among, entry_of, cpus_in, mems_in, has_group, child_of, is_root_entry}
+use Rattle.cpuset_tree.specs.Places.{place_in, place_of}
+use Rattle.cpuset_tree.specs.TreeWellFormed as formed
+use Rattle.kernel_model.specs.declared.KernelFault.{KernelFault}
+use Rattle.kernel_model.specs.declared.KernelFault.TheVariants.{Failed}
+use Rattle.kernel_model.specs.Faults.{of_tree}
+use Rattle.kernel_model.specs.KernelState.{KernelState, counted, failed}
+use Rattle.kernel_model.specs.KernelLemmas.{each_case_keeps, writes_keep_tree, events_keep_groups}
+use Rattle.kernel_model.specs.RefusalLemmas.{calls_are_free}
+use Rattle.kernel_model.specs.NameLemmas.{MakesGroup-names, RemovesGroup-names, WritesCpus-names, WritesMems-names, names_of_first, none_of_name}
+use Rattle.kernel_model.specs.Names.{HaveOwnNames}
+use Rattle.kernel_model.specs.Refusals.{make_refusal, write_refusal}
+use Rattle.kernel_model.specs.Cases.{MakesGroup, RemovesGroup, WritesCpus, WritesMems, EndsGroup}
+use Rattle.kernel_model.specs.WellFormed.{IsWellFormed}
+use Rattle.cgroup_tree.specs.Asked.{Deed, Asked, Made, Removed, Written, Asks, done, refused}
+use Rattle.cgroup_tree.specs.Mirrored.{Mirrors, MirrorsBoth, IsNamed}
+use Rattle.cgroup_tree.specs.Paths.{is_slash, folder, below, cpus_file, mems_file, kill_file, kill_line, controls_file, controls_line, list_line}
+use Rattle.cgroup_tree.specs.Standing.{text_in, StandsFor, HavePlainNames, AreApart}
+use Rattle.cgroup_tree.specs.StandingLemmas.{folder_same, writes_stand, places_written, places_written_mems}
+use Rattle.cgroup_tree.specs.ChangeLemmas.{folders_stand, passed_on, unmade, gone, entry_left, there_left}
+use Rattle.cgroup_tree.specs.ApartLemmas.{plain_names_apart, one_folder_there, one_split, entry_placed, some_of}
+use Rattle.cgroup_tree.specs.Events.{Event, MadeGroup, RemovedGroup, WroteCpus, WroteMems, Spawned, EndedGroup, Forked, Exited, WentOffline, CameOnline, Happens, IsAsked, AreAsked, AsksFor, IsNew, Past, IsMirrored}
+use Rattle.cgroup_tree.specs.Stands.{PastsStand}
+
+-- a group has a place exactly where nothing stands against a write of it
+placed_at : (name : List ℕ) (parent : Option Group)
+    → is_none (option_map of_tree (if is_none parent then Some tree.IsRoot else None)) ≡ is_some (option_map {U = Group × List ℕ} (λ p. (p, name)) parent)
+placed_at name None = refl
+placed_at name (Some p) = refl
+
+placed_in : (o : Option GroupEntry)
+    → is_none (option_map of_tree (if not (is_some o) then Some tree.NoGroup else if is_root_entry o then Some tree.IsRoot else None)) ≡ is_some (place_in o)
+placed_in None = refl
+placed_in (Some e) = placed_at e.name e.parent
+
+placed : (k : KernelState) (g : Group) → write_refusal k g ≡ None → is_some (place_of k.tree g) ≡ true
+placed k g free = sym (placed_in (entry_of k.tree g)) ∙ ap is_none free
+
+abbrev tree_of : KernelState → TreeState
+tree_of k = k.tree
+
+-- a group with a place is not the root that stands alone
+no_place : (root : GroupEntry) (g : Group) → root.parent ≡ None → place_in (entry_among (root ∷ []) g) ≡ None
+no_place root g none =
+    elim (same_group root.group g) as (λ b. place_in (if b then Some root else None) ≡ None) [
+      | true ↦ ap (option_map {U = Group × List ℕ} (λ p. (p, root.name))) none
+      | false ↦ refl
+    ]
+
+-- what is kept over calls
+pub record Kept (root : List ℕ) (memory : Ids) (k : KernelState) (calls : List Asked) : Type 0 where
+  pub stands : StandsFor root memory k.tree calls
+  pub well : IsWellFormed k
+  pub own : HaveOwnNames k.tree.groups
+  pub plain : HavePlainNames k.tree
+
+module _ (root : List ℕ) (memory : Ids) (old : KernelState) (before : List Asked) (was : Kept root memory old before) where
+  -- the part of it that files and names have
+  record Part (t : TreeState) (calls : List Asked) : Type 0 where
+    stands : StandsFor root memory t calls
+    plain : HavePlainNames t
+
+  apart_old : AreApart old.tree
+  apart_old = plain_names_apart old.tree was.well.tree was.own was.plain
+
+  abbrev PartOf : TreeState → List Asked → Type 0
+  PartOf t these = Part t (these ++ before)
+
+  in_tree : (t u : TreeState) (these : List Asked) → t ≡ u → PartOf u these → PartOf t these
+  in_tree t u these same part = subst (λ (x : TreeState). PartOf x these) (sym same) part
+
+  of_calls : (t : TreeState) (these those : List Asked) → these ≡ those → PartOf t those → PartOf t these
+  of_calls t these those are part = subst (λ (x : List Asked). PartOf t x) (sym are) part
+
+  part_none : (t : TreeState) (these : List Asked) → t ≡ old.tree → these ≡ [] → PartOf t these
+  part_none t these same none = in_tree t old.tree these same (of_calls old.tree these [] none (record { stands = was.stands; plain = was.plain }))
+
+  part_refused : (t : TreeState) (deed : Deed) (these : List Asked) → t ≡ old.tree → these ≡ refused deed ∷ [] → PartOf t these
+  part_refused t deed these same are =
+      in_tree t old.tree these same (of_calls old.tree these (refused deed ∷ []) are
+      (record { stands = writes_stand.refused root memory old.tree deed before was.stands; plain = was.plain }))
+
+  part_failed : (t : TreeState) (deed : Deed) (these : List Asked) → t ≡ old.tree → (these ≡ refused deed ∷ []) ⊎ (these ≡ []) → PartOf t these
+  part_failed t deed these same (inl are) = part_refused t deed these same are
+  part_failed t deed these same (inr none) = part_none t these same none
+
+  -- a write of CPUs
+  cpus_part : (g : Group) (cpus : Ids) (r : Result (Unit {0}) KernelFault) (new : KernelState) (these : List Asked) → WritesCpus old g cpus r new
+      → IsAsked (Written (root ++ (folder old.tree g ++ cpus_file)) (list_line cpus)) r these → PartOf new.tree these
+  cpus_part g cpus (Ok value) new these h are =
+      in_tree new.tree (with_cpus old.tree g cpus) these (ap tree_of h.1) (of_calls (with_cpus old.tree g cpus) these _ are (record {
+        stands = writes_stand.cpus root memory old.tree g cpus before apart_old (placed old g h.0) was.stands;
+        plain = λ p q name is. was.plain p q name (sym (places_written old.tree g cpus p) ∙ is);
+      }))
+  cpus_part g cpus (Err Failed) new these h are = part_failed new.tree _ these (ap tree_of h) are
+  cpus_part g cpus (Err fault) new these h are = part_none new.tree these (ap tree_of h.1) are
+
+  -- of memory nodes
+  mems_part : (g : Group) (mems : Ids) (r : Result (Unit {0}) KernelFault) (new : KernelState) (these : List Asked) → WritesMems old g mems r new
+      → IsAsked (Written (root ++ (folder old.tree g ++ mems_file)) (list_line (granted mems memory))) r these → PartOf new.tree these
+  mems_part g mems (Ok value) new these h are =
+      in_tree new.tree (with_mems old.tree g mems) these (ap tree_of h.1) (of_calls (with_mems old.tree g mems) these _ are (record {
+        stands = writes_stand.mems root memory old.tree g mems before apart_old (placed old g h.0) was.stands;
+        plain = λ p q name is. was.plain p q name (sym (places_written_mems old.tree g mems p) ∙ is);
+      }))
+  mems_part g mems (Err Failed) new these h are = part_failed new.tree _ these (ap tree_of h) are
+  mems_part g mems (Err fault) new these h are = part_none new.tree these (ap tree_of h.1) are
+
+  -- an end of processes
+  end_part : (g : Group) (r : Result (Unit {0}) KernelFault) (new : KernelState) (these : List Asked) → EndsGroup old g r new
+      → IsAsked (Written (root ++ (folder old.tree g ++ kill_file)) kill_line) r these → PartOf new.tree these
+  end_part g (Ok value) new these h are =
+      in_tree new.tree old.tree these (ap tree_of h.1) (of_calls old.tree these _ are (record {
+        stands = writes_stand.killed root memory old.tree g before was.stands;
+        plain = was.plain;
+      }))
+  end_part g (Err Failed) new these h are = part_failed new.tree _ these (ap tree_of h) are
+  end_part g (Err fault) new these h are = part_none new.tree these (ap tree_of h.1) are
+
+  -- a group that is removed
+  remove_part : (g : Group) (r : Result (Unit {0}) KernelFault) (new : KernelState) (these : List Asked) → RemovesGroup old g r new
+      → IsAsked (Removed (root ++ (folder old.tree g ++ []))) r these → PartOf new.tree these
+  remove_part g (Ok value) new these h are =
+      let left : TreeState = without_group old.tree g in
+      let path : List ℕ = root ++ (folder old.tree g ++ []) in
+      let well : formed.IsWellFormed left =
+      subst (λ (t : TreeState). formed.IsWellFormed t) (ap tree_of h.1) ((each_case_keeps old new was.well).remove g (Ok value) h).well_formed.tree in
+      in_tree new.tree left these (ap tree_of h.1) (of_calls left these _ are (record {
+        stands = folders_stand.removed root memory old.tree g path before well was.stands;
+        plain = λ p q name is. was.plain p q name
+            (ap place_in (entry_left root memory old.tree g path before well was.stands p (there_left root memory old.tree g path before well was.stands p (ap is_some is))) ∙ is);
+      }))
+  remove_part g (Err Failed) new these h are = part_failed new.tree _ these (ap tree_of h) are
+  remove_part g (Err fault) new these h are = part_none new.tree these (ap tree_of h.1) are
+
+  -- a group that is made
+  module _ (parent : Group) (name : List ℕ) where
+    abbrev controls : Deed
+    controls = Written (root ++ (folder old.tree parent ++ controls_file)) controls_line
+
+    abbrev folder_made : Deed
+    folder_made = Made (root ++ (folder old.tree parent ++ below name))
+
+    abbrev folder_removed : Deed
+    folder_removed = Removed (root ++ (folder old.tree parent ++ below name))
+
+    -- another group has another folder
+    none_has : make_refusal old parent name ≡ None → list_any is_slash name ≡ false → (h : Group) → is_some (place_of old.tree h) ≡ true
+        → folder old.tree h ≡ folder old.tree parent ++ below name → ⊥
+    none_has free plain h here same =
+        let at = some_of (place_of old.tree h) here in
+        let entry = entry_placed old.tree h at.0.0 at.0.1 at.1 in
+        let parts = ((calls_are_free old).make parent name).0 free in
+        let above = one_folder_there old.tree was.well.tree was.own was.plain h parent at.0.0 name at.0.1 plain at.1 parts.0 same in
+        none_of_name old.tree parent name parts.1 h entry.entry entry.there (entry.above ∙ ap Some above.0) (entry.named ∙ above.1)
+
+    named_plain : (new : TreeState) (g : Group) → GroupAdded old.tree new parent name g → list_any is_slash name ≡ false → HavePlainNames new
+    named_plain new g added plain p q label is =
+        elim (same_group g p) as (λ b. same_group g p ≡ b → list_any is_slash label ≡ false) [
+          | true ↦ λ own.
+              let here : place_of new p ≡ Some (parent, name) = ap (place_of new) (sym (same_group-equal g p own)) ∙ ap place_in added.there in
+              subst (λ (text : List ℕ). list_any is_slash text ≡ false)
+              (ap (λ (x : Group × List ℕ). x.1) (same_Some (parent, name) (q, label) (sym here ∙ is))) plain
+          | false ↦ λ other. was.plain p q label (sym (ap place_in (added.others p other)) ∙ is)
+        ] refl
+
+    make_part : (r : Result Group (OrMemory KernelFault)) (new : KernelState) (these : List Asked) → MakesGroup old parent name r new
+        → AreAsked controls folder_made folder_removed r these → IsNamed name r → PartOf new.tree these
+    make_part (Ok g) new these h are named =
+        let adds : AddsGroup old.tree parent name g new.tree = h.1.does in
+        let plain = named_plain new.tree g (added_leaves old.tree new.tree parent name g adds) named.no_slash in
+        let well : formed.IsWellFormed new.tree = ((each_case_keeps old new was.well).make parent name (Ok g) h).well_formed.tree in
+        let own : HaveOwnNames new.tree.groups = MakesGroup-names old was.own parent name (Ok g) new h in
+        of_calls new.tree these _ are (record {
+          stands = folders_stand.made root memory old.tree new.tree parent g name before was.well.tree well (plain_names_apart new.tree well own plain) adds was.stands;
+          plain = plain;
+        })
+    make_part (Err Memory) new these h are named =
+        let stands : StandsFor root memory old.tree (done folder_made ∷ done controls ∷ before) =
+        unmade root memory old.tree parent name (done controls ∷ before) (none_has h.0 named.no_slash) (passed_on root memory old.tree parent before was.stands) in
+        in_tree new.tree old.tree these (ap tree_of h.1) (elim are [
+          | inl is ↦ of_calls old.tree these _ is (record {
+            stands = gone root memory old.tree (root ++ (folder old.tree parent ++ below name)) (done folder_made ∷ done controls ∷ before) stands;
+            plain = was.plain;
+          })
+          | inr is ↦ of_calls old.tree these _ is (record {
+            stands = writes_stand.refused root memory old.tree folder_removed (done folder_made ∷ done controls ∷ before) stands;
+            plain = was.plain;
+          })
+        ])
+    make_part (Err (Fault Failed)) new these h (inl is) named =
+        in_tree new.tree old.tree these (ap tree_of h) (of_calls old.tree these _ is (record {
+          stands = writes_stand.refused root memory old.tree folder_made (done controls ∷ before) (passed_on root memory old.tree parent before was.stands);
+          plain = was.plain;
+        }))
+    make_part (Err (Fault Failed)) new these h (inr rest) named = part_failed new.tree controls these (ap tree_of h) rest
+    make_part (Err (Fault fault)) new these h are named = part_none new.tree these (ap tree_of h.1) are
+
+  -- where the groups stay
+  groups_part : (t : TreeState) (these : List Asked) → t.groups ≡ old.tree.groups → these ≡ [] → PartOf t these
+  groups_part t these same none =
+      let entry : (g : Group) → entry_of t g ≡ entry_of old.tree g = λ g. ap (λ (gs : List GroupEntry). entry_among gs g) same in
+      let place : (g : Group) → place_of t g ≡ place_of old.tree g = λ g. ap place_in (entry g) in
+      let there : (g : Group) → folder t g ≡ folder old.tree g = λ g. folder_same old.tree t place (suc g.serial) g in
+      of_calls t these [] none (record {
+        stands = record {
+          cpus = λ g here. rw (ap (λ (f : List ℕ). text_in before (root ++ (f ++ cpus_file))) (there g), ap cpus_in (entry g))
+              (was.stands.cpus g (sym (ap is_some (place g)) ∙ here));
+          mems = λ g here. rw (ap (λ (f : List ℕ). text_in before (root ++ (f ++ mems_file))) (there g), ap mems_in (entry g))
+              (was.stands.mems g (sym (ap is_some (place g)) ∙ here));
+        };
+        plain = λ g p name is. was.plain g p name (sym (place g) ∙ is);
+      })
+
+  kept : (new : KernelState) (these : List Asked) → PartOf new.tree these → IsWellFormed new → HaveOwnNames new.tree.groups → Kept root memory new (these ++ before)
+  kept new these part well own = record { stands = part.stands; well = well; own = own; plain = part.plain }
+
+  own_tree : (new : KernelState) → new.tree ≡ old.tree → HaveOwnNames new.tree.groups
+  own_tree new same = subst (λ (t : TreeState). HaveOwnNames t.groups) (sym same) was.own
+
+  own_groups : (new : KernelState) → new.tree.groups ≡ old.tree.groups → HaveOwnNames new.tree.groups
+  own_groups new same = subst (λ (gs : List GroupEntry). HaveOwnNames gs) (sym same) was.own
+
+  step : (event : Event) (new : KernelState) (these : List Asked) → Happens old event new → AsksFor root memory old event these → Kept root memory new (these ++ before)
+  step (MadeGroup parent name r) new these h are =
+      kept new these (make_part parent name r new these h are.0 are.1) ((each_case_keeps old new was.well).make parent name r h).well_formed
+      (MakesGroup-names old was.own parent name r new h)
+  step (RemovedGroup g r) new these h are =
+      kept new these (remove_part g r new these h are) ((each_case_keeps old new was.well).remove g r h).well_formed (RemovesGroup-names old was.own g r new h)
+  step (WroteCpus g cpus r) new these h are =
+      kept new these (cpus_part g cpus r new these h are) ((each_case_keeps old new was.well).cpus g cpus r h).well_formed (WritesCpus-names old was.own g cpus r new h)
+  step (WroteMems g mems r) new these h are =
+      kept new these (mems_part g mems r new these h are) ((each_case_keeps old new was.well).mems g mems r h).well_formed (WritesMems-names old was.own g mems r new h)
+  step (EndedGroup g r) new these h are =
+      kept new these (end_part g r new these h are) ((each_case_keeps old new was.well).end g r h).well_formed (own_tree new (writes_keep_tree.end old new g r h))
+  step (Spawned g r) new these h are =
+      let same = writes_keep_tree.spawn old new g r h in
+      kept new these (part_none new.tree these same are) ((each_case_keeps old new was.well).spawn g r h).well_formed (own_tree new same)
+  step (Forked parent r) new these h are =
+      let same = (events_keep_groups.fork old new parent r h).0.groups in
+      kept new these (groups_part new.tree these same are) ((each_case_keeps old new was.well).fork parent r h).well_formed (own_groups new same)
+  step (Exited pid r) new these h are =
+      let same = (events_keep_groups.exit old new pid r h).0.groups in
+      kept new these (groups_part new.tree these same are) ((each_case_keeps old new was.well).exit pid r h).well_formed (own_groups new same)
+  step (WentOffline cpu r) new these h are =
+      let same = (events_keep_groups.offline old new cpu r h).0.groups in
+      kept new these (groups_part new.tree these same are) ((each_case_keeps old new was.well).offline cpu r h).well_formed (own_groups new same)
+  step (CameOnline cpu r) new these h are =
+      let same = (events_keep_groups.online old new cpu r h).0.groups in
+      kept new these (groups_part new.tree these same are) ((each_case_keeps old new was.well).online cpu r h).well_formed (own_groups new same)
+
+-- a kernel of the root group alone
+begun : (root : List ℕ) (memory : Ids) (k : KernelState) → IsNew root memory k → Kept root memory k []
+begun root memory k new =
+    let none : (g : Group) → place_of k.tree g ≡ None = λ g.
+    ap (λ (t : TreeState). place_of t g) new.alone.first.is ∙ no_place (new_entry new.alone.first.root None []) g refl in
+    record {
+      stands = record {
+        cpus = λ g here. absurd (both_ways (is_some (place_of k.tree g)) (ap is_some (none g)) here);
+        mems = λ g here. absurd (both_ways (is_some (place_of k.tree g)) (ap is_some (none g)) here);
+      };
+      well = new.well;
+      own = names_of_first new.alone.online new.alone.nodes k.tree new.alone.first;
+      plain = λ g p name is. absurd (none-some (p, name) (sym (none g) ∙ is));
+    }
+
+pub past_kept : (root : List ℕ) (memory : Ids) (past : List Event) (k : KernelState) (calls : List Asked) → Past root memory past k calls → Kept root memory k calls
+unfolding Past
+past_kept root memory [] k calls (new, none) = subst (λ (cs : List Asked). Kept root memory k cs) (sym none) (begun root memory k new)
+past_kept root memory (event ∷ past) k calls (old, before, these, was, happens, asks, are) =
+    subst (λ (cs : List Asked). Kept root memory k cs) (sym are) (step root memory old before (past_kept root memory past old before was) event k these happens asks)
+
+pub pasts_stand : PastsStand
+pasts_stand root memory past k calls was =
+    let it : Kept root memory k calls = past_kept root memory past k calls was in
+    (it.stands, plain_names_apart k.tree it.well.tree it.own it.plain)

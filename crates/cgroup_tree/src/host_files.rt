@@ -1,0 +1,141 @@
+//! The system's own folders and files.
+ghost use Rattle.std.specs.Prelude.{◌≡◌, ⊤};
+
+use crate::GroupFiles;
+use std::fs::OpenOptions;
+use std::io::{ErrorKind, Write};
+use std::rt::Files;
+use std::time::{Clock, Instant};
+use std::{fs, io};
+
+/// How many seconds a group's folder may be found busy, as it is until its last process is gone, before that is a refusal.
+const PATIENCE: u64 = 1;
+
+/// The file that a folder of links to groups elsewhere has not.
+const CONTROLS: &str = "/cgroup.subtree_control";
+
+/// The system's folders and files. Each call that it refuses is noted on standard error.
+#[derive(Clone, Copy)]
+pub struct HostFiles<'a, R> {
+    /// What gives access to them.
+    pub rt: &'a R,
+    /// Whether there may be folders already, which a run before this made, and links to groups elsewhere.
+    pub adopt: bool,
+}
+
+impl<'a, R> HostFiles<'a, R> {
+    /// The files that this gives access to.
+    pub fn new(rt: &'a R, adopt: bool) -> HostFiles<'a, R>
+        ensures rt { result.rt.now ≡ rt.now }
+        ensures adopt { result.adopt ≡ adopt }
+    {
+        HostFiles { rt, adopt }
+    }
+}
+
+impl<R: Files + Alloc + Clock + Eprint> HostFiles<'_, R> {
+    /// Says on standard error what the system said of a path.
+    fn note(&self, path: &str, error: &io::Error) {
+        let _ = eprintln!(self.rt; "error: {path}: {error}");
+    }
+
+    /// Says on standard error what a file has, and what it ought to have.
+    fn differs(&self, path: &str, text: &[u8], line: &[u8]) {
+        if let (Ok(text), Ok(line)) = (str::from_utf8(text), str::from_utf8(line)) {
+            let (text, line) = (text.trim_end(), line.trim_end());
+            let _ = eprintln!(self.rt; "error: {path}: {text} in place of {line}");
+        }
+    }
+
+    /// Writes the whole text at once: the kernel takes each write for a whole value.
+    fn write(&self, path: &str, text: &[u8]) -> io::Result<()> {
+        let mut file = OpenOptions::new().write(true).open(self.rt, path)?;
+        if file.write(text)? < text.len() {
+            return Err(io::Error::from(ErrorKind::WriteZero));
+        }
+        Ok(())
+    }
+
+    /// Whether the folder that a file is in is gone.
+    fn is_gone(&self, path: &str) -> bool {
+        let Some((folder, _)) = path.rsplit_once('/') else {
+            return false;
+        };
+        matches!(fs::exists(self.rt, folder), Ok(false))
+    }
+
+    /// Whether this is the file of a folder of links, which needs none.
+    fn is_of_links(&self, path: &str, error: &io::Error) -> bool {
+        self.adopt && error.kind() == ErrorKind::NotFound && path.ends_with(CONTROLS)
+    }
+
+    /// Removes a folder, again and again while it is busy.
+    fn remove(&self, path: &str) -> io::Result<()> {
+        let start = Instant::now(self.rt)?;
+        for _ in 0..u64::MAX {
+            match fs::remove_dir(self.rt, path) {
+                Err(error) if error.kind() == ErrorKind::ResourceBusy => {
+                    if start.elapsed(self.rt)?.as_secs() >= PATIENCE {
+                        return Err(error);
+                    }
+                }
+                done => return done,
+            }
+        }
+        Err(io::Error::from(ErrorKind::ResourceBusy))
+    }
+}
+
+impl<R: Files + Alloc + Clock + Eprint> GroupFiles for HostFiles<'_, R> {
+    ghost asked = { λ _ _. ⊤ };
+
+    /// A folder that is there counts as made where it may be there already.
+    fn make_folder(&mut self, path: &str) -> io::Result<()> {
+        match fs::create_dir(self.rt, path) {
+            Err(error) if self.adopt && error.kind() == ErrorKind::AlreadyExists => Ok(()),
+            Err(error) => {
+                self.note(path, &error);
+                Err(error)
+            }
+            Ok(()) => Ok(()),
+        }
+    }
+
+    /// A folder that is gone counts as removed.
+    fn remove_folder(&mut self, path: &str) -> io::Result<()> {
+        match self.remove(path) {
+            Ok(()) => Ok(()),
+            Err(error) => {
+                self.note(path, &error);
+                match error.kind() {
+                    ErrorKind::NotFound => Ok(()),
+                    _ => Err(error),
+                }
+            }
+        }
+    }
+
+    /// A file in a folder that is gone counts as written: a group that is not there has no process.
+    fn write_file(&mut self, path: &str, text: &[u8]) -> io::Result<()> {
+        match self.write(path, text) {
+            Ok(()) => Ok(()),
+            Err(error) if self.is_of_links(path, &error) => Ok(()),
+            Err(error) => {
+                self.note(path, &error);
+                if self.is_gone(path) {
+                    Ok(())
+                } else {
+                    Err(error)
+                }
+            }
+        }
+    }
+
+    fn compare_line(&mut self, path: &str, line: &[u8]) {
+        match fs::read(self.rt, path) {
+            Ok(text) if text.as_slice() == line => {}
+            Ok(text) => self.differs(path, text.as_slice(), line),
+            Err(error) => self.note(path, &error),
+        }
+    }
+}

@@ -1,0 +1,60 @@
+//! The system's own cgroup trees.
+ghost use Rattle.std.specs.Prelude.{◌≡◌};
+
+use crate::{GroupTrees, HostFiles};
+use std::alloc::Global;
+use std::io::ErrorKind;
+use std::rt::Files;
+use std::time::Clock;
+use std::{fs, io};
+
+/// The system's cgroup trees.
+#[derive(Clone, Copy)]
+pub struct HostTrees<'a, R> {
+    /// What gives access to them.
+    pub rt: &'a R,
+}
+
+impl<'a, R> HostTrees<'a, R> {
+    /// The trees that this gives access to.
+    pub fn new(rt: &'a R) -> HostTrees<'a, R>
+        ensures { result.rt.now ≡ rt.now }
+    {
+        HostTrees { rt }
+    }
+}
+
+impl<'a, R: Files + AllocGlobal + Clock + Eprint + Clone + Drop> GroupTrees for HostTrees<'a, R> {
+    type Files = HostFiles<'a, R>;
+
+    fn files(&self, adopt: bool) -> HostFiles<'a, R> {
+        HostFiles::new(self.rt, adopt)
+    }
+
+    fn is_folder(&self, path: &str) -> io::Result<bool> {
+        Ok(fs::metadata(self.rt, path)?.is_dir())
+    }
+
+    fn read(&self, _alloc: Global, path: &str) -> io::Result<Option<Vec<u8>>> {
+        match fs::read(self.rt, path) {
+            Ok(text) => Ok(Some(text)),
+            Err(error) if error.kind() == ErrorKind::NotFound => Ok(None),
+            Err(error) => Err(error),
+        }
+    }
+
+    fn name_folders(&self, _alloc: Global, path: &str) {
+        let Ok(entries) = fs::read_dir(self.rt, path) else {
+            return;
+        };
+        for entry in entries {
+            if let Ok(entry) = entry
+                && let Ok(kind) = fs::metadata(self.rt, entry.path())
+                && kind.is_dir()
+            {
+                let name = entry.file_name();
+                let _ = eprintln!(self.rt; "note: {path}/{name} is there and has to be adopted");
+            }
+        }
+    }
+}

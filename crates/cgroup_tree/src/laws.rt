@@ -1,0 +1,23 @@
+ghost use Rattle.cgroup_tree.specs.Standing.{FoldersStand, PlainNamesApart, WritesStand};
+ghost use Rattle.cgroup_tree.specs.Stands.{PastsStand};
+
+/// Where files do what they were asked for and nobody else writes, each group's files have what it requests, and a write
+/// keeps it so, whether it is done or refused; nothing runs.
+pub fn writes()
+    ensures { WritesStand }
+{}
+
+/// No two groups have one folder; nothing runs.
+pub fn folders()
+    ensures { PlainNamesApart }
+{}
+
+/// A folder that is made or removed keeps it so too; nothing runs.
+pub fn changes()
+    ensures { FoldersStand }
+{}
+
+/// So it is after any list of calls of a mirrored kernel, whatever each of them returned; nothing runs.
+pub fn pasts()
+    ensures { PastsStand }
+{}

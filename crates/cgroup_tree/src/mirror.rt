@@ -1,0 +1,282 @@
+ghost use Rattle.std.specs.Prelude.{◌≡◌, ◌+◌, ◌++◌, [], None, string_bytes};
+ghost use Rattle.cpuset_tree.specs.Effective.{granted};
+ghost use Rattle.cpuset_tree.specs.Places.{place_of};
+ghost use Rattle.kernel_model.specs.declared.KernelFault.TheVariants.{Failed};
+ghost use Rattle.kernel_model.specs.Cases.{MakesGroup, RemovesGroup, WritesCpus, WritesMems, Spawns, EndsGroup, Forks, Exits, GoesOffline, ComesOnline};
+ghost use Rattle.cgroup_tree.specs.Asked.{Asks, Made, Removed, Written};
+ghost use Rattle.cgroup_tree.specs.Mirrored.{mirrored, Mirrors, MirrorsBoth, IsNamed};
+ghost use Rattle.cgroup_tree.specs.Paths.{folder, below, list_line, cpus_file, mems_file, kill_file, controls_file, kill_line, controls_line};
+
+use crate::GroupFiles;
+use crate::asking::{compare_list, end_all, make_folder, remove_folder, with_memory, write_list};
+use crate::paths::is_name;
+use cpu_set::IdSet;
+use faults::OrMemory;
+use kernel_model::{Group, Kernel, KernelFault, ModelKernel, WriteCount};
+use std::alloc::Global;
+
+/// The files of a group (cgroup v2, "Core Interface Files" and "Cpuset Interface Files").
+const CPUS_FILE: &str = "/cpuset.cpus";
+
+const MEMS_FILE: &str = "/cpuset.mems";
+
+const CPUS_IN_EFFECT: &str = "/cpuset.cpus.effective";
+
+/// A modelled kernel and the files that its writes are asked of, with nothing known of how they came together.
+#[derive(Drop)]
+pub struct Mirror<F: GroupFiles> {
+    alloc: Global,
+    /// The path of the root group's folder.
+    pub root: String,
+    /// The nodes that have memory.
+    pub memory: IdSet,
+    /// What each call returns and changes.
+    pub inner: ModelKernel,
+    /// What the writes are asked of.
+    pub folders: F,
+    /// How many of them were refused.
+    pub failed: WriteCount,
+}
+
+impl<F: GroupFiles> Mirror<F> {
+    /// The kernel over these files, the root group's folder at this path.
+    pub fn new(
+        alloc: Global,
+        inner: ModelKernel,
+        root: String,
+        memory: IdSet,
+        folders: F,
+    ) -> Mirror<F>
+        ensures inner { result.inner ≡ inner }
+        ensures root { result.root ≡ root }
+        ensures memory { result.memory ≡ memory }
+        ensures folders { result.folders ≡ folders }
+        ensures failed { result.failed.writes ≡ 0 }
+    {
+        Mirror {
+            alloc,
+            root,
+            memory,
+            inner,
+            folders,
+            failed: WriteCount::none(),
+        }
+    }
+
+    /// Counts a write that failed.
+    fn fail(&mut self) -> KernelFault
+        ensures fault { result ≡ Failed }
+        ensures counted { self.new.failed.writes ≡ self.old.failed.writes + 1 }
+        ensures inner { self.new.inner ≡ self.old.inner }
+        ensures root { self.new.root ≡ self.old.root }
+        ensures memory { self.new.memory ≡ self.old.memory }
+        ensures folders { self.new.folders ≡ self.old.folders }
+    {
+        self.failed = self.failed.one_more();
+        KernelFault::Failed
+    }
+}
+
+impl<F: GroupFiles> Kernel for Mirror<F> {
+    ghost state = { λ k. mirrored k.failed.writes k.inner };
+
+    fn make_group(&mut self, parent: Group, name: &str) -> Result<Group, OrMemory<KernelFault>>
+        ensures case { MakesGroup (mirrored self.old.failed.writes self.old.inner) parent name.now result (mirrored self.new.failed.writes self.new.inner) }
+        ensures asks { MirrorsBoth F.asked self.old.folders
+            (Written (string_bytes self.old.root ++ (folder self.old.inner.tree parent ++ controls_file)) controls_line)
+            (Made (string_bytes self.old.root ++ (folder self.old.inner.tree parent ++ below name.now)))
+            (Removed (string_bytes self.old.root ++ (folder self.old.inner.tree parent ++ below name.now))) result self.new.folders }
+        ensures same { (self.new.root ≡ self.old.root) × (self.new.memory ≡ self.old.memory) }
+        ensures named { IsNamed name.now result }
+    {
+        if self.inner.makable(parent, name).is_err() {
+            let answer = self.inner.make_group(parent, name);
+            self.inner.never_fails();
+            return answer;
+        }
+        if !is_name(name.as_bytes()) {
+            return Err(OrMemory::Fault(self.fail()));
+        }
+        let (root, kernel) = (self.root.as_str(), &self.inner);
+        let Ok(path) = make_folder(self.alloc, &mut self.folders, root, kernel, parent, name) else {
+            return Err(OrMemory::Fault(self.fail()));
+        };
+        let answer = self.inner.make_group(parent, name);
+        self.inner.never_fails();
+        if let Err(OrMemory::Memory) = answer {
+            let _ = self.folders.remove_folder(path.as_str());
+        }
+        answer
+    }
+
+    fn remove_group(&mut self, group: Group) -> Result<(), KernelFault>
+        ensures case { RemovesGroup (mirrored self.old.failed.writes self.old.inner) group result (mirrored self.new.failed.writes self.new.inner) }
+        ensures asks { Mirrors F.asked self.old.folders
+            (Removed (string_bytes self.old.root ++ (folder self.old.inner.tree group ++ []))) result self.new.folders }
+        ensures same { (self.new.root ≡ self.old.root) × (self.new.memory ≡ self.old.memory) }
+    {
+        if self.inner.removable(group).is_ok() {
+            let (root, kernel) = (self.root.as_str(), &self.inner);
+            if remove_folder(self.alloc, &mut self.folders, root, kernel, group).is_err() {
+                return Err(self.fail());
+            }
+        }
+        let answer = self.inner.remove_group(group);
+        self.inner.never_fails();
+        answer
+    }
+
+    fn write_cpus(&mut self, group: Group, cpus: IdSet) -> Result<(), KernelFault>
+        ensures case { WritesCpus (mirrored self.old.failed.writes self.old.inner) group cpus result (mirrored self.new.failed.writes self.new.inner) }
+        ensures asks { Mirrors F.asked self.old.folders
+            (Written (string_bytes self.old.root ++ (folder self.old.inner.tree group ++ cpus_file)) (list_line cpus)) result self.new.folders }
+        ensures same { (self.new.root ≡ self.old.root) × (self.new.memory ≡ self.old.memory) }
+    {
+        let (root, kernel) = (self.root.as_str(), &self.inner);
+        let asked = write_list(
+            self.alloc,
+            &mut self.folders,
+            root,
+            kernel,
+            group,
+            CPUS_FILE,
+            &cpus,
+        );
+        if asked.is_err() {
+            return Err(self.fail());
+        }
+        let answer = self.inner.write_cpus(group, cpus);
+        self.inner.never_fails();
+        if let Ok(ids) = self.inner.effective_cpus(group) {
+            let (root, kernel) = (self.root.as_str(), &self.inner);
+            compare_list(
+                self.alloc,
+                &mut self.folders,
+                root,
+                kernel,
+                group,
+                CPUS_IN_EFFECT,
+                ids,
+            );
+        }
+        answer
+    }
+
+    fn write_mems(&mut self, group: Group, mems: IdSet) -> Result<(), KernelFault>
+        ensures case { WritesMems (mirrored self.old.failed.writes self.old.inner) group mems result (mirrored self.new.failed.writes self.new.inner) }
+        ensures asks { Mirrors F.asked self.old.folders
+            (Written (string_bytes self.old.root ++ (folder self.old.inner.tree group ++ mems_file)) (list_line (granted mems self.old.memory))) result self.new.folders }
+        ensures same { (self.new.root ≡ self.old.root) × (self.new.memory ≡ self.old.memory) }
+    {
+        let (root, kernel) = (self.root.as_str(), &self.inner);
+        let nodes = with_memory(&mems, &self.memory);
+        let asked = write_list(
+            self.alloc,
+            &mut self.folders,
+            root,
+            kernel,
+            group,
+            MEMS_FILE,
+            &nodes,
+        );
+        if asked.is_err() {
+            return Err(self.fail());
+        }
+        let answer = self.inner.write_mems(group, mems);
+        self.inner.never_fails();
+        answer
+    }
+
+    fn spawn(&mut self, group: Group) -> Result<u32, OrMemory<KernelFault>>
+        ensures case { Spawns (mirrored self.old.failed.writes self.old.inner) group result (mirrored self.new.failed.writes self.new.inner) }
+        ensures same { (self.new.root ≡ self.old.root) × (self.new.memory ≡ self.old.memory) × (self.new.folders ≡ self.old.folders) }
+    {
+        self.inner.spawn(group)
+    }
+
+    /// The root's processes are not ended: its folder has no file for that.
+    fn end_group(&mut self, group: Group) -> Result<(), KernelFault>
+        ensures case { EndsGroup (mirrored self.old.failed.writes self.old.inner) group result (mirrored self.new.failed.writes self.new.inner) }
+        ensures asks { Mirrors F.asked self.old.folders
+            (Written (string_bytes self.old.root ++ (folder self.old.inner.tree group ++ kill_file)) kill_line) result self.new.folders }
+        ensures same { (self.new.root ≡ self.old.root) × (self.new.memory ≡ self.old.memory) }
+        ensures root { place_of self.old.inner.tree group ≡ None → Asks F.asked self.old.folders [] self.new.folders }
+    {
+        if self.inner.requested_cpus(group).is_err() {
+            let answer = self.inner.end_group(group);
+            self.inner.never_fails();
+            return answer;
+        }
+        let (root, kernel) = (self.root.as_str(), &self.inner);
+        if end_all(self.alloc, &mut self.folders, root, kernel, group).is_err() {
+            return Err(self.fail());
+        }
+        let answer = self.inner.end_group(group);
+        self.inner.never_fails();
+        answer
+    }
+
+    fn root(&self) -> Group {
+        self.inner.root()
+    }
+
+    fn find_group(&self, parent: Group, name: &str) -> Result<Option<Group>, KernelFault> {
+        self.inner.find_group(parent, name)
+    }
+
+    fn requested_cpus(&self, group: Group) -> Result<&IdSet, KernelFault> {
+        self.inner.requested_cpus(group)
+    }
+
+    fn effective_cpus(&self, group: Group) -> Result<&IdSet, KernelFault> {
+        self.inner.effective_cpus(group)
+    }
+
+    fn requested_mems(&self, group: Group) -> Result<&IdSet, KernelFault> {
+        self.inner.requested_mems(group)
+    }
+
+    fn effective_mems(&self, group: Group) -> Result<&IdSet, KernelFault> {
+        self.inner.effective_mems(group)
+    }
+
+    fn online(&self) -> IdSet {
+        self.inner.online()
+    }
+
+    fn nodes(&self) -> IdSet {
+        self.inner.nodes()
+    }
+
+    fn first_alive(&self, pid: u32) -> bool {
+        self.inner.first_alive(pid)
+    }
+
+    fn fork(&mut self, parent: u32) -> Result<u32, OrMemory<KernelFault>>
+        ensures case { Forks (mirrored self.old.failed.writes self.old.inner) parent result (mirrored self.new.failed.writes self.new.inner) }
+        ensures same { (self.new.root ≡ self.old.root) × (self.new.memory ≡ self.old.memory) × (self.new.folders ≡ self.old.folders) }
+    {
+        self.inner.fork(parent)
+    }
+
+    fn exit(&mut self, pid: u32) -> Result<(), KernelFault>
+        ensures case { Exits (mirrored self.old.failed.writes self.old.inner) pid result (mirrored self.new.failed.writes self.new.inner) }
+        ensures same { (self.new.root ≡ self.old.root) × (self.new.memory ≡ self.old.memory) × (self.new.folders ≡ self.old.folders) }
+    {
+        self.inner.exit(pid)
+    }
+
+    fn offline(&mut self, cpu: u32) -> Result<(), KernelFault>
+        ensures case { GoesOffline (mirrored self.old.failed.writes self.old.inner) cpu result (mirrored self.new.failed.writes self.new.inner) }
+        ensures same { (self.new.root ≡ self.old.root) × (self.new.memory ≡ self.old.memory) × (self.new.folders ≡ self.old.folders) }
+    {
+        self.inner.offline(cpu)
+    }
+
+    fn online_cpu(&mut self, cpu: u32) -> Result<(), KernelFault>
+        ensures case { ComesOnline (mirrored self.old.failed.writes self.old.inner) cpu result (mirrored self.new.failed.writes self.new.inner) }
+        ensures same { (self.new.root ≡ self.old.root) × (self.new.memory ≡ self.old.memory) × (self.new.folders ≡ self.old.folders) }
+    {
+        self.inner.online_cpu(cpu)
+    }
+}

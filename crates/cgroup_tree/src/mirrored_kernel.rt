@@ -1,0 +1,193 @@
+ghost use Rattle.std.specs.Prelude.{◌≡◌, ◌++◌, [], string_bytes};
+ghost use Rattle.cpuset_tree.specs.Effective.{granted};
+ghost use Rattle.kernel_model.specs.Cases.{MakesGroup, RemovesGroup, WritesCpus, WritesMems, EndsGroup};
+ghost use Rattle.cgroup_tree.specs.Asked.{Made, Removed, Written};
+ghost use Rattle.cgroup_tree.specs.Events.{IsAlone, IsMirrored};
+ghost use Rattle.cgroup_tree.specs.Stands.{FilesStand};
+ghost use Rattle.cgroup_tree.specs.Mirrored.{mirrored, Mirrors, MirrorsBoth, IsNamed};
+ghost use Rattle.cgroup_tree.specs.Paths.{folder, below, list_line, cpus_file, mems_file, kill_file, controls_file, kill_line, controls_line};
+
+use crate::GroupFiles;
+use crate::mirror::Mirror;
+use cpu_set::IdSet;
+use faults::OrMemory;
+use kernel_model::{Group, Kernel, KernelFault, ModelKernel};
+use std::alloc::Global;
+use std::marker::Model;
+
+/// A modelled kernel whose writes are made in a cgroup v2 tree first.
+///
+/// A write that the model would refuse is asked of nobody. Each other is asked for once, and where that is refused, or
+/// memory is short before, the call is a write that failed: the model is as it was. A first process is made in the model
+/// alone.
+///
+/// At each time all that was asked of the files is what the calls of this kernel stand for, in their order; and where
+/// files do what they answer and nobody else writes, each group's files have what it requests.
+#[derive(Drop)]
+pub struct MirroredKernel<F: GroupFiles> {
+    mirror: Mirror<F>,
+}
+
+impl<F: GroupFiles> Model for MirroredKernel<F> {
+    ghost use Rattle.std.specs.Prelude.{string_bytes};
+    ghost use Rattle.cgroup_tree.specs.Shown.{Shown, shown_code};
+
+    ghost Value = { Shown F };
+
+    ghost coded = { shown_code F.code };
+
+    ghost use Rattle.cgroup_tree.specs.Mirrored.{mirrored};
+    ghost use Rattle.cgroup_tree.specs.Events.{IsMirrored};
+
+    ghost view = { λ k. record {
+      root = string_bytes k.mirror.root;
+      memory = k.mirror.memory;
+      inner = k.mirror.inner;
+      failed = k.mirror.failed.writes;
+      folders = k.mirror.folders;
+    } };
+
+    ghost invariant = { λ k. IsMirrored F.asked (string_bytes k.mirror.root) k.mirror.memory (mirrored k.mirror.failed.writes k.mirror.inner) k.mirror.folders };
+}
+
+impl<F: GroupFiles> MirroredKernel<F> {
+    /// The kernel over these files, of which nothing was asked yet, the root group's folder at this path.
+    pub fn new(
+        alloc: Global,
+        inner: ModelKernel,
+        root: String,
+        memory: IdSet,
+        folders: F,
+    ) -> MirroredKernel<F>
+        requires alone { IsAlone inner.tree }
+        requires unasked { F.asked folders [] }
+        ensures inner { result.inner ≡ inner }
+        ensures root { result.root ≡ string_bytes root }
+        ensures memory { result.memory ≡ memory }
+        ensures folders { result.folders ≡ folders }
+        ensures failed { result.failed ≡ 0 }
+    {
+        inner.root();
+        MirroredKernel {
+            mirror: Mirror::new(alloc, inner, root, memory, folders),
+        }
+    }
+
+    /// All that was asked of the files is what the calls of this kernel stand for, in their order; nothing runs.
+    pub fn is_mirrored(&self)
+        ensures { IsMirrored F.asked self.now.root self.now.memory (mirrored self.now.failed self.now.inner) self.now.folders }
+    {
+        let _ = &self.mirror;
+    }
+
+    /// Each group's files have what it requests, where files do what they answer and nobody else writes; nothing runs.
+    pub fn files_stand(&self)
+        ensures { FilesStand F.asked self.now.root self.now.memory (mirrored self.now.failed self.now.inner) self.now.folders }
+    {
+        self.is_mirrored();
+    }
+}
+
+impl<F: GroupFiles> Kernel for MirroredKernel<F> {
+    ghost state = { λ k. mirrored k.failed k.inner };
+
+    fn make_group(&mut self, parent: Group, name: &str) -> Result<Group, OrMemory<KernelFault>>
+        ensures case { MakesGroup (mirrored self.old.failed self.old.inner) parent name.now result (mirrored self.new.failed self.new.inner) }
+        ensures asks { MirrorsBoth F.asked self.old.folders
+            (Written (self.old.root ++ (folder self.old.inner.tree parent ++ controls_file)) controls_line)
+            (Made (self.old.root ++ (folder self.old.inner.tree parent ++ below name.now)))
+            (Removed (self.old.root ++ (folder self.old.inner.tree parent ++ below name.now))) result self.new.folders }
+        ensures named { IsNamed name.now result }
+    {
+        self.mirror.make_group(parent, name)
+    }
+
+    fn remove_group(&mut self, group: Group) -> Result<(), KernelFault>
+        ensures case { RemovesGroup (mirrored self.old.failed self.old.inner) group result (mirrored self.new.failed self.new.inner) }
+        ensures asks { Mirrors F.asked self.old.folders
+            (Removed (self.old.root ++ (folder self.old.inner.tree group ++ []))) result self.new.folders }
+    {
+        self.mirror.remove_group(group)
+    }
+
+    fn write_cpus(&mut self, group: Group, cpus: IdSet) -> Result<(), KernelFault>
+        ensures case { WritesCpus (mirrored self.old.failed self.old.inner) group cpus result (mirrored self.new.failed self.new.inner) }
+        ensures asks { Mirrors F.asked self.old.folders
+            (Written (self.old.root ++ (folder self.old.inner.tree group ++ cpus_file)) (list_line cpus)) result self.new.folders }
+    {
+        self.mirror.write_cpus(group, cpus)
+    }
+
+    fn write_mems(&mut self, group: Group, mems: IdSet) -> Result<(), KernelFault>
+        ensures case { WritesMems (mirrored self.old.failed self.old.inner) group mems result (mirrored self.new.failed self.new.inner) }
+        ensures asks { Mirrors F.asked self.old.folders
+            (Written (self.old.root ++ (folder self.old.inner.tree group ++ mems_file)) (list_line (granted mems self.old.memory))) result self.new.folders }
+    {
+        self.mirror.write_mems(group, mems)
+    }
+
+    fn spawn(&mut self, group: Group) -> Result<u32, OrMemory<KernelFault>> {
+        self.mirror.spawn(group)
+    }
+
+    /// The root's processes are not ended: its folder has no file for that.
+    fn end_group(&mut self, group: Group) -> Result<(), KernelFault>
+        ensures case { EndsGroup (mirrored self.old.failed self.old.inner) group result (mirrored self.new.failed self.new.inner) }
+        ensures asks { Mirrors F.asked self.old.folders
+            (Written (self.old.root ++ (folder self.old.inner.tree group ++ kill_file)) kill_line) result self.new.folders }
+    {
+        self.mirror.end_group(group)
+    }
+
+    fn root(&self) -> Group {
+        self.mirror.root()
+    }
+
+    fn find_group(&self, parent: Group, name: &str) -> Result<Option<Group>, KernelFault> {
+        self.mirror.find_group(parent, name)
+    }
+
+    fn requested_cpus(&self, group: Group) -> Result<&IdSet, KernelFault> {
+        self.mirror.requested_cpus(group)
+    }
+
+    fn effective_cpus(&self, group: Group) -> Result<&IdSet, KernelFault> {
+        self.mirror.effective_cpus(group)
+    }
+
+    fn requested_mems(&self, group: Group) -> Result<&IdSet, KernelFault> {
+        self.mirror.requested_mems(group)
+    }
+
+    fn effective_mems(&self, group: Group) -> Result<&IdSet, KernelFault> {
+        self.mirror.effective_mems(group)
+    }
+
+    fn online(&self) -> IdSet {
+        self.mirror.online()
+    }
+
+    fn nodes(&self) -> IdSet {
+        self.mirror.nodes()
+    }
+
+    fn first_alive(&self, pid: u32) -> bool {
+        self.mirror.first_alive(pid)
+    }
+
+    fn fork(&mut self, parent: u32) -> Result<u32, OrMemory<KernelFault>> {
+        self.mirror.fork(parent)
+    }
+
+    fn exit(&mut self, pid: u32) -> Result<(), KernelFault> {
+        self.mirror.exit(pid)
+    }
+
+    fn offline(&mut self, cpu: u32) -> Result<(), KernelFault> {
+        self.mirror.offline(cpu)
+    }
+
+    fn online_cpu(&mut self, cpu: u32) -> Result<(), KernelFault> {
+        self.mirror.online_cpu(cpu)
+    }
+}
