@@ -1,9 +1,11 @@
-//! A node and its modelled kernel, as a machine boots.
-ghost use Rattle.std.specs.Prelude.{IfOk};
+//! A node and its kernel, as a machine boots.
+ghost use Rattle.std.specs.Prelude.{IfOk, []};
 ghost use Rattle.runtime.specs.Boots.{Boots, IsKernelOf};
 
+use cgroup_tree::{GroupFiles, MirroredKernel};
+use cpu_set::IdSet;
 use faults::OrMemory;
-use kernel_model::ModelKernel;
+use kernel_model::{KernelFault, ModelKernel};
 use machine::Machine;
 use node::Node;
 use std::alloc::{AllocError, Global};
@@ -44,5 +46,28 @@ pub fn boot(alloc: Global, machine: Machine) -> Result<Node<ModelKernel>, AllocE
                 OrMemory::Fault(_) => unreachable!(),
             }
         }
+    }
+}
+
+/// A node with no container, over a modelled kernel that has the machine's CPUs and nodes and whose writes are made below this
+/// root too, where these nodes have memory.
+///
+/// # Errors
+/// Lack of memory, or `Failed` where the folder of the node's group can't be made.
+pub fn boot_mirrored<F: GroupFiles + Drop>(
+    alloc: Global,
+    machine: Machine,
+    root: String,
+    memory: IdSet,
+    files: F,
+) -> Result<Node<MirroredKernel<F>>, OrMemory<KernelFault>>
+    requires unasked { F.asked files [] }
+    ensures { IfOk result (Boots machine) }
+{
+    let inner = kernel_of(alloc, &machine)?;
+    let kernel = MirroredKernel::new(alloc, inner, root, memory, files);
+    match Node::new(alloc, kernel, machine) {
+        Ok(node) => Ok(node),
+        Err(not_opened) => Err(not_opened.error),
     }
 }

@@ -14,7 +14,7 @@ mod queries;
 mod refusal;
 mod runner;
 
-pub use booting::{FIRST_PID, boot};
+pub use booting::{FIRST_PID, boot, boot_mirrored};
 pub use bundle_list::BundleList;
 pub use bundles::Bundles;
 pub use refusal::Refusal;
