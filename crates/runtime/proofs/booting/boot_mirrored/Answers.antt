@@ -1,6 +1,4 @@
 -- A new kernel of which no write was refused is new.
-use Rattle.std.proofs.Common.{subst}
-use Rattle.kernel_model.specs.KernelState.{KernelState, IsFirstKernel}
 use Rattle.machine.specs.Present.{present}
 use Rattle.machine.specs.Nodes.{nodes_of}
 use Rattle.runtime.specs.declared.booting.TheConstants.{FIRST_PID}
