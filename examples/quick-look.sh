@@ -32,7 +32,7 @@ while read -r bundle; do
     config=$bundle/config.json
     [ -f "$config" ] || config=$top/$bundle/config.json
     [ ! -f "$config" ] || data+=(--data "$bundle/config.json=$(realpath "$config")")
-done < <(awk '$1 == "create" && NF == 3 { print $3 }' "$script" | sort -u)
+done < <(awk '($1 == "create" || $1 == "update") && NF == 3 || $1 == "adopt" && NF == 4 { print $3 }' "$script" | sort -u)
 
 say "built without its proofs, which takes one to three minutes each time; nothing is proved by this"
 script=$(realpath "$script")

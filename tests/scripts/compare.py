@@ -21,14 +21,15 @@ PLANNED = 250
 LEAST = {"plans": 200, "more": 300, "rows": 100, "bytes": 8193, "still": 20, "several": 100, "spared": 40, "tried": 300}
 IDS = ["a", "b", "c", "d", "e", "web-1", "db.2", "x" * 64]
 NO_IDS = [".", "..", "x" * 65, "a/b", "é", "a:b"]
+NO_SETS = ["x", "5-3", "4096", ",", "1,,2", "1-", "0,4095", "4095", "2-1,x"]
 SIGNALS = ["KILL", "SIGKILL", "9", "TERM", "SIGTERM", "15", "HUP", "kill", "0", "09"]
 NUMBERS = ["0", "007", "+5", "-1", "1.0", "4294967295", "4294967296", "99999999999999999999", "0x2", "", "1e1"]
 NO_LINES = [b"foo", b"LIST", b"list a", b"create a", b"create a ba bb", b"fork", b"fork 2 3", b"kill a", b"\xff", b"list \xff",
-            b"start \xc3", b"create a \xff", b"phase\0", b"rebalance now", b"x" * 8192, b"x" * 8193, b"list " + b"x" * 8200]
+            b"start \xc3", b"adopt a b0", b"adopt a b0 1 2", b"adopt a b0 \xff", b"update a", b"update a b0 b1", b"create a \xff", b"phase\0", b"rebalance now", b"x" * 8192, b"x" * 8193, b"list " + b"x" * 8200]
 BLANKS = [b"", b" ", b"\t", b"\r", b" \t \r"]
 NAMES = ["no", "../no", "./b0", "b0/", "b0/../b1", "/no/b0", ".", "..", "y" * 8000, "é", "-"]
 ANSWERS = ["pid", "ok", "{", "end", "cpus", "settled"] + ["refused E%d" % number for number in [
-    46, 51, 52, 55, 56, 57, 58, 59, 60, 62, 63, 64, 65, 66, 67, 91, 92, 93, 94, 95, 96, 97, 98, 99, 110, 111, 112]]
+    46, 51, 52, 55, 56, 57, 58, 59, 60, 62, 63, 64, 65, 66, 67, 91, 92, 93, 94, 95, 96, 97, 98, 99, 102, 103, 104, 110, 111, 112]]
 PLAN_ANSWERS = ["plan", "short", "underway", "more", "done", "numarun-certificate", "refused E90", "refused E100", "refused E101"]
 NO_CONFIGS = [b"", b"[]", b"7", b"{", b"{}x", b'{"ociVersion":"1.0.2"}', b'{"ociVersion":"1.0.2","root":{}}', b"\xff",
               b'{"ociVersion":7}', b'{"ociVersion":"v1.0.0","root":{"path":"r"}}', b'{"root":{"path":"r"}}',
@@ -102,6 +103,10 @@ def made_line(cpus, commands):
     words = [command]
     if command == "create":
         words += [name, random.choice(NAMES) if random.random() < 0.1 else f"b{random.randint(0, 7)}"]
+    elif command == "update":
+        words += [name, random.choice(NAMES) if random.random() < 0.1 else f"b{random.randint(0, 7)}"]
+    elif command == "adopt":
+        words += [name, f"b{random.randint(0, 7)}", random.choice(NO_SETS) if random.random() < 0.2 else print_list(some(cpus, least=1))]
     elif command == "kill":
         words += [name, random.choice(SIGNALS)]
     elif command in ("start", "delete", "state", "sets"):
@@ -115,7 +120,7 @@ def made_line(cpus, commands):
 
 
 def made_script(cpus):
-    often = ["create"] * 5 + ["start", "kill", "delete", "fork", "fork", "exit", "offline", "online"] * 2
+    often = ["create"] * 5 + ["adopt"] * 4 + ["update"] * 3 + ["start", "kill", "delete", "fork", "fork", "exit", "offline", "online"] * 2
     asked = ["state", "list", "sets", "sets", "phase"]
     planned = ["rebalance"] * 3 + ["begin"] * 3 + ["step"] * 8 + ["certificate"] * 2
     return [made_line(cpus, often + asked + planned) for _ in range(random.randint(1, 90))]
@@ -188,7 +193,9 @@ def planning_script(cpus, names):
                 script += [event(cpus, names), f"sets {random.choice(names)}".encode()]
         script += [b"certificate"] + [b"step"] * (2 * len(names)) + [f"sets {name}".encode() for name in names]
         gone = random.choice(names)
-        script += [f"kill {gone} 9".encode(), f"delete {gone}".encode(), f"create {gone} b{random.randint(0, 7)}".encode()]
+        again = random.choice([f"create {gone} b{random.randint(0, 7)}", f"adopt {gone} b{random.randint(0, 7)} {print_list(some(cpus, least=1))}"])
+        script += [f"kill {gone} 9".encode(), f"delete {gone}".encode(), again.encode()]
+        script += [f"update {random.choice(names)} b{random.randint(0, 7)}".encode() for _ in range(random.randint(0, 3))]
         script += [event(cpus, names) for _ in range(random.randint(0, 3))]
     return script + [b"list"]
 
@@ -257,4 +264,5 @@ def main(program):
     print(f"compare: {SCRIPTS} scripts, {seen.lines} lines,", ", ".join(f"{seen.numbers[name]} {name}" for name in LEAST))
 
 
-main(*sys.argv[1:])
+if __name__ == "__main__":
+    main(*sys.argv[1:])

@@ -1,7 +1,7 @@
 """Runs a worked transcript by the program with each of its allocations refused in turn: `growth.py PROGRAM REFUSE.SO
 TRANSCRIPT`. The answer is the whole one, or E1 alone, or E1 for one command, and of all others what they answer where that
 command is left out. Each command that takes memory has to be seen with E1. The status of E1 alone is 1 while the words are
-collected, 2 while they are parsed, and 1 from then on. Each container of the transcript is created twice, so that one which
+collected, 2 while they are parsed, and 1 from then on. Each container of the transcript is created or adopted twice, so that one which
 could not be for want of memory is made by the second line. Then the same lines come on as many CPUs and nodes as there may be."""
 
 import json
@@ -24,7 +24,7 @@ def answers(told, without):
 
 
 def with_second_tries(script):
-    return [line for command in script for line in [command] * (1 + command.startswith(b"create "))]
+    return [line for command in script for line in [command] * (1 + command.startswith((b"create ", b"adopt ")))]
 
 
 def refused(program, library, words, script, number, told):
@@ -71,7 +71,7 @@ def each_refused(program, library, told, name):
         os.chdir("/")
     if not re.fullmatch("1+2+1+", statuses):
         sys.exit(f"growth: {name}: the statuses of E1 are {statuses}")
-    if seen != {"create", "state", "fork", "rebalance", "begin"}:
+    if seen != {"create", "adopt", "update", "state", "fork", "rebalance", "begin"}:
         sys.exit(f"growth: {name}: E1 was seen of {sorted(seen)}")
     print(f"growth: {name}: {number - 1} allocations, each refused in turn, E1 of {', '.join(sorted(seen))}")
 

@@ -328,7 +328,7 @@ def text(word):
 
 class Runtime:
     COMMANDS = {
-        b"create": (text, text), b"start": (text,), b"kill": (text, text), b"delete": (text,), b"state": (text,),
+        b"create": (text, text), b"adopt": (text, text, text), b"update": (text, text), b"start": (text,), b"kill": (text, text), b"delete": (text,), b"state": (text,),
         b"list": (), b"sets": (text,), b"rebalance": (), b"begin": (), b"step": (), b"phase": (), b"certificate": (),
         b"fork": (digits,), b"exit": (digits,), b"offline": (digits,), b"online": (digits,),
     }
@@ -388,10 +388,14 @@ class Runtime:
         self.next_pid += 1
         return self.next_pid - 1
 
-    def create(self, name, bundle):
-        data = self.config_of(bundle)
+    def bundle(self, name):
+        data = self.config_of(name)
         if data is None:
             raise Refused("E111", "NoBundle")
+        return data
+
+    def make(self, name, bundle, data, cpus):
+        """A container that requests these CPUs at first."""
         self.settled()
         if not re.fullmatch(r"[A-Za-z0-9_\-.+]{1,64}", name) or name in (".", ".."):
             raise Refused("E91", "BadId")
@@ -401,9 +405,43 @@ class Runtime:
             raise Refused("E93", "TooManyContainers")
         config = Config(data)
         demand = Demand(config, self.machine)
+        taken = {cpu for cpu in cpus if not self.is_free(cpu, demand)}
+        if taken:
+            raise Refused("E104", "NotFree", min(taken))
         pid = self.spawn(None, name)
-        self.containers[name] = Container(bundle, config, demand, pid, self.machine.reserved)
+        self.containers[name] = Container(bundle, config, demand, pid, cpus)
         return [f"pid {pid}"]
+
+    def is_free(self, cpu, demand):
+        """Whether a new container that asks for this may request the CPU."""
+        one_is_pinned = lambda other: demand.count is not None or other.demand.count is not None
+        beside = [other for other in self.containers.values() if self.live(other) and one_is_pinned(other) and cpu in other.cpus]
+        return cpu in self.machine.reserved or (cpu in self.machine.present and not beside)
+
+    def create(self, name, bundle):
+        return self.make(name, bundle, self.bundle(bundle), self.machine.reserved)
+
+    def adopt(self, name, bundle, listed):
+        data = self.bundle(bundle)
+        try:
+            cpus = read_list(listed.encode(), CPUS)
+        except Refused as why:
+            raise Refused("E102", "BadSet", why.args[0], why.args[2]) from None
+        if not cpus:
+            raise Refused("E103", "NoCpus")
+        return self.make(name, bundle, data, cpus)
+
+    def update(self, name, bundle):
+        data = self.bundle(bundle)
+        self.settled()
+        container = self.of(name)
+        if not self.live(container):
+            raise Refused("E98", "NotLive")
+        demand = Demand(Config(data), self.machine)
+        if container.demand.count is None and demand.count is not None:
+            container.cpus = self.machine.reserved
+        container.bundle, container.demand = bundle, demand
+        return ["ok"]
 
     def start(self, name):
         container = self.of(name)

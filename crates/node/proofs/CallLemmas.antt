@@ -24,14 +24,16 @@ use Rattle.node.specs.NodeState.{ContainerState, NodeState, container_of, is_und
 use Rattle.node.specs.Status.{is_live}
 use Rattle.node.specs.IsNode.{IsNode}
 use Rattle.node.specs.Launch.{Launches}
-use Rattle.node.specs.Wanted.{Reads}
-use Rattle.node.specs.Refusals.{IsFree}
+use Rattle.node.specs.Owners.{is_pinned}
+use Rattle.node.specs.MayRequest.{MayRequest, IsLeastTaken}
+use Rattle.node.specs.Wanted.{Says, Reads}
+use Rattle.node.specs.Refusals.{IsFree, IsTakenFrom}
 use Rattle.node.specs.declared.container.Container.{Container}
 use Rattle.node.specs.Viewed.{entry_seen, all_seen}
 use Rattle.node.specs.Listed.{entry_listed, listed}
 use Rattle.node.specs.Shown.{state_of, Shows}
 use Rattle.node.specs.Sets.{sets_at, HasSets}
-use Rattle.node.specs.Calls.{new_container, Created, NotLaunched, late_answer, Creates, is_created, StartCause, Starts, is_ending, KillCause, Kills, DeleteCause, Deletes}
+use Rattle.node.specs.Calls.{new_container, Created, NotLaunched, late_answer, Places, is_created, StartCause, Starts, is_ending, KillCause, Kills, DeleteCause, Deletes}
 use Rattle.node.proofs.EventLemmas.{only_failed}
 use Rattle.node.proofs.DeleteLemmas.{there, delete_failed}
 use Rattle.node.proofs.NodeLemmas.{started_node, deleted_node, created_node, not_created_node}
@@ -116,47 +118,61 @@ module _ (n now : NodeState) (is : n ≡ now) (id : List ℕ) where
         delete_node h =
             subst (λ (xs : Containers). IsNode (record n { kernel = new; containers = xs })) (sym out) (deleted_node n h new settled id c found stopped tt r)
 
-  -- `create`
+  -- `create` and `adopt`
   free_then : IsFree now id → IsFree n id
   free_then = subst (λ (m : NodeState). IsFree m id) (sym is)
 
-  module _ (bundle config : List ℕ) (free : IsFree now id) (runnable : Bool) (asked : Asked) (reads : Reads n.machine config (Ok (runnable, asked))) (reserved : Ids)
-      (reserve : reserved ≡ n.machine.reserved) (new : KernelState) (cs : Containers) where
-    create_refused : (e : OrMemory KernelFault) → Launches n.kernel n.parent id reserved asked.homes (Err e) new → cs ≡ n.containers
-        → NotLaunched now id config e (record n { kernel = new; containers = cs })
+  pub place_taken : (config : List ℕ) → IsFree now id → (runnable : Bool) (asked : Asked) → Reads n.machine config (Ok (runnable, asked)) → (cpus : Ids) (pinned : Bool)
+      → pinned ≡ is_pinned asked.kind → (cpu : ℕ) → IsLeastTaken now pinned cpus cpu → IsTakenFrom cpus now id config cpu × (now ≡ now)
+  place_taken config free runnable asked reads cpus pinned same cpu taken = (
+    record {
+      said = reads.0;
+      asked = asked;
+      free = free;
+      says = subst (λ (m : NodeState). Says m.machine config reads.0 asked) is reads.2;
+      taken = subst (λ b. IsLeastTaken now b cpus cpu) same taken;
+    },
+    refl,
+  )
+
+  module _ (bundle config : List ℕ) (free : IsFree now id) (runnable : Bool) (asked : Asked) (reads : Reads n.machine config (Ok (runnable, asked))) (cpus : Ids)
+      (may : MayRequest now (is_pinned asked.kind) cpus) (new : KernelState) (cs : Containers) where
+    may_then : MayRequest n (is_pinned asked.kind) cpus
+    may_then = subst (λ (m : NodeState). MayRequest m (is_pinned asked.kind) cpus) (sym is) may
+
+    create_refused : (e : OrMemory KernelFault) → Launches n.kernel n.parent id cpus asked.homes (Err e) new → cs ≡ n.containers
+        → NotLaunched cpus now id config e (record n { kernel = new; containers = cs })
     create_refused e l same =
-        subst (λ (m : NodeState). NotLaunched m id config e (record n { kernel = new; containers = cs })) is
+        subst (λ (m : NodeState). NotLaunched cpus m id config e (record n { kernel = new; containers = cs })) is
         (record {
           said = reads.0;
           asked = asked;
           free = free_then free;
           says = reads.2;
-          refused = subst (λ (r : Ids). Launches n.kernel n.parent id r asked.homes (Err e) new) reserve l;
+          may = may_then;
+          refused = l;
           is = ap (λ (xs : Containers). record n { kernel = new; containers = xs }) same;
         })
 
-    late : (e : OrMemory KernelFault) → NotLaunched now id config e (record n { kernel = new; containers = cs })
-        → Creates now id bundle config (Err (late_answer e)) (record n { kernel = new; containers = cs })
+    late : (e : OrMemory KernelFault) → NotLaunched cpus now id config e (record n { kernel = new; containers = cs })
+        → Places cpus now id bundle config (Err (late_answer e)) (record n { kernel = new; containers = cs })
     late Memory x = inl x
     late (Fault fault) x = x
 
-    pub create_late : (e : OrMemory KernelFault) → Launches n.kernel n.parent id reserved asked.homes (Err e) new → cs ≡ n.containers
+    pub create_late : (e : OrMemory KernelFault) → Launches n.kernel n.parent id cpus asked.homes (Err e) new → cs ≡ n.containers
         → (answer : OrMemory NodeFault) → answer ≡ late_answer e
-        → Creates now id bundle config (Err answer) (record n { kernel = new; containers = cs })
+        → Places cpus now id bundle config (Err answer) (record n { kernel = new; containers = cs })
     create_late e l same answer a =
-        subst (λ (x : OrMemory NodeFault). Creates now id bundle config (Err x) (record n { kernel = new; containers = cs })) (sym a) (late e (create_refused e l same))
+        subst (λ (x : OrMemory NodeFault). Places cpus now id bundle config (Err x) (record n { kernel = new; containers = cs })) (sym a) (late e (create_refused e l same))
 
-    pub refused_node : IsNode n → (e : OrMemory KernelFault) → Launches n.kernel n.parent id reserved asked.homes (Err e) new → cs ≡ n.containers
+    pub refused_node : IsNode n → (e : OrMemory KernelFault) → Launches n.kernel n.parent id cpus asked.homes (Err e) new → cs ≡ n.containers
         → IsNode (record n { kernel = new; containers = cs })
     refused_node h e l same =
         subst (λ (xs : Containers). IsNode (record n { kernel = new; containers = xs })) (sym same)
-        (not_created_node n h new id asked e (free_then free) (subst (λ (r : Ids). Launches n.kernel n.parent id r asked.homes (Err e) new) reserve l))
+        (not_created_node n h new cpus id asked e (free_then free) l)
 
-    module _ (group : Group) (pid : ℕ) (l : Launches n.kernel n.parent id reserved asked.homes (Ok (group, pid)) new) (key text : List ℕ) (key_is : key ≡ id) (text_is : text ≡ bundle)
+    module _ (group : Group) (pid : ℕ) (l : Launches n.kernel n.parent id cpus asked.homes (Ok (group, pid)) new) (key text : List ℕ) (key_is : key ≡ id) (text_is : text ≡ bundle)
         (more : cs ≡ n.containers ++ (key, record { bundle = text; demand = asked; runnable = runnable; group = group; pid = pid; started = false }) ∷ []) where
-      launched : Launches n.kernel n.parent id n.machine.reserved asked.homes (Ok (group, pid)) new
-      launched = subst (λ (r : Ids). Launches n.kernel n.parent id r asked.homes (Ok (group, pid)) new) reserve l
-
       added : cs ≡ n.containers ++ (id, new_container bundle reads.0 asked group pid) ∷ []
       added =
           more
@@ -164,19 +180,20 @@ module _ (n now : NodeState) (is : n ≡ now) (id : List ℕ) where
           ∙ ap (λ (t : List ℕ). n.containers ++ (id, record { bundle = t; demand = asked; runnable = runnable; group = group; pid = pid; started = false }) ∷ []) text_is
           ∙ ap (λ (b : Bool). n.containers ++ (id, record { bundle = bundle; demand = asked; runnable = b; group = group; pid = pid; started = false }) ∷ []) reads.1
 
-      pub create_done : Creates now id bundle config (Ok pid) (record n { kernel = new; containers = cs })
+      pub create_done : Places cpus now id bundle config (Ok pid) (record n { kernel = new; containers = cs })
       create_done =
-          subst (λ (m : NodeState). Created m id bundle config pid (record n { kernel = new; containers = cs })) is
+          subst (λ (m : NodeState). Created cpus m id bundle config pid (record n { kernel = new; containers = cs })) is
           (record {
             said = reads.0;
             asked = asked;
             group = group;
             free = free_then free;
             says = reads.2;
-            launched = launched;
+            may = may_then;
+            launched = l;
             is = ap (λ (xs : Containers). record n { kernel = new; containers = xs }) added;
           })
 
       pub create_node : IsNode n → IsNode (record n { kernel = new; containers = cs })
       create_node h =
-          subst (λ (xs : Containers). IsNode (record n { kernel = new; containers = xs })) (sym added) (created_node n h new id bundle reads.0 asked group pid (free_then free) reads.2.fits launched)
+          subst (λ (xs : Containers). IsNode (record n { kernel = new; containers = xs })) (sym added) (created_node n h new cpus id bundle reads.0 asked group pid (free_then free) reads.2.fits may_then l)

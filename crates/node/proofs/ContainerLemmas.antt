@@ -66,7 +66,7 @@ same_id : (a b : List ℕ) → bytes_eq a b ≡ true → a ≡ b
 same_id a b = (bytes_eq-Decides a b).0
 
 module _ (id : List ℕ) where
-  split : {P : Type 0} (x : List ℕ × ContainerState) → (bytes_eq id x.0 ≡ true → P) → (bytes_eq id x.0 ≡ false → P) → P
+  pub split : {P : Type 0} (x : List ℕ × ContainerState) → (bytes_eq id x.0 ≡ true → P) → (bytes_eq id x.0 ≡ false → P) → P
   split {P} x passes fails = by (bytes_eq id x.0) refl where
     by : (b : Bool) → bytes_eq id x.0 ≡ b → P
     by true t = passes t
@@ -117,6 +117,16 @@ module _ (id : List ℕ) where
       (start x.0 (subst (λ (y : ContainerState). P (x.0, y)) (here x xs c t e) h.0), h.1))
       (λ t. subst (λ b. AllByRecursion P (cond b ((x.0, record c { started = true }) ∷ xs) (x ∷ set_value (bytes_eq id) xs (record c { started = true })))) (sym t)
       (h.0, all_started P xs c (sym (later x xs t) ∙ e) start h.1))
+
+  -- the same of one that is replaced
+  pub all_replaced : (P : List ℕ × ContainerState → Type 0) (xs : Entries) (c d : ContainerState) → lookup (bytes_eq id) xs ≡ Some c
+      → ((key : List ℕ) → id ≡ key → P (key, c) → P (key, d)) → AllByRecursion P xs → AllByRecursion P (set_value (bytes_eq id) xs d)
+  all_replaced P [] c d e change h = tt
+  all_replaced P (x ∷ xs) c d e change h = split x
+      (λ t. subst (λ b. AllByRecursion P (cond b ((x.0, d) ∷ xs) (x ∷ set_value (bytes_eq id) xs d))) (sym t)
+      (change x.0 (same_id id x.0 t) (subst (λ (y : ContainerState). P (x.0, y)) (here x xs c t e) h.0), h.1))
+      (λ t. subst (λ b. AllByRecursion P (cond b ((x.0, d) ∷ xs) (x ∷ set_value (bytes_eq id) xs d))) (sym t)
+      (h.0, all_replaced P xs c d (sym (later x xs t) ∙ e) change h.1))
 
   -- what holds of each, and of each two, holds of those that are left once one is removed
   pub each_left : (P : List ℕ × ContainerState → Type 0) (xs : Entries) → AllByRecursion P xs → AllByRecursion P (remove_entry (bytes_eq id) xs)

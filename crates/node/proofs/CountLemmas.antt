@@ -11,10 +11,10 @@ use Rattle.kernel_model.specs.KernelLemmas.{writes_count}
 use Rattle.faults.specs.declared.OrMemory.{OrMemory}
 use Rattle.faults.specs.declared.OrMemory.TheVariants.{Memory, Fault}
 use Rattle.node.specs.declared.fault.NodeFault.{NodeFault}
-use Rattle.node.specs.declared.fault.NodeFault.TheVariants.{Busy, BadId, IdInUse, TooManyContainers, NoContainer, NotCreated, NotRunnable, BadSignal, NotLive, NotStopped, NoHandover, NoAnswer, Config, Demand, Kernel}
+use Rattle.node.specs.declared.fault.NodeFault.TheVariants.{Busy, BadId, IdInUse, TooManyContainers, NoContainer, NotCreated, NotRunnable, BadSignal, NotLive, NotStopped, NoHandover, NoAnswer, NotFree, Config, Demand, Kernel}
 use Rattle.node.specs.NodeState.{NodeState}
 use Rattle.node.specs.Launch.{FindsOr, FindsOrMakes, AtOnce, WritesSets, StartsIn, Launches}
-use Rattle.node.specs.Calls.{Creates, Kills, Deletes}
+use Rattle.node.specs.Calls.{Places, Kills, Deletes}
 use Rattle.node.specs.Leaves.{rise_of, rise_or_memory}
 
 find_counts : (o : Option Group) (old : KernelState) (parent : Group) (name : List ℕ) (r : Result Group (OrMemory KernelFault)) (new : KernelState)
@@ -87,28 +87,29 @@ launch_done old parent name cpus mems made new l =
 kept_count : (old new : NodeState) → new ≡ old → new.kernel.failures ≡ old.kernel.failures + 0
 kept_count old new same = let e : new.kernel.failures ≡ old.kernel.failures = ap (λ (n : NodeState). n.kernel.failures) same in omega (arith, e)
 
--- `create`
-pub create_counts : (old : NodeState) (id bundle config : List ℕ) (r : Result ℕ (OrMemory NodeFault)) (new : NodeState) → Creates old id bundle config r new
+-- `create` and `adopt`
+pub place_counts : (cpus : Ids) (old : NodeState) (id bundle config : List ℕ) (r : Result ℕ (OrMemory NodeFault)) (new : NodeState) → Places cpus old id bundle config r new
     → new.kernel.failures ≡ old.kernel.failures + rise_or_memory r
-create_counts old id bundle config (Ok pid) new h = launch_done old.kernel old.parent id old.machine.reserved h.asked.homes (h.group, pid) new.kernel h.launched
-create_counts old id bundle config (Err Memory) new h =
-    elim h [ inl late ↦ launch_error old.kernel old.parent id old.machine.reserved late.asked.homes Memory new.kernel late.refused | inr early ↦ kept_count old new early.2 ]
-create_counts old id bundle config (Err (Fault (Kernel fault))) new h =
-    launch_error old.kernel old.parent id old.machine.reserved h.asked.homes (Fault fault) new.kernel h.refused
-create_counts old id bundle config (Err (Fault Busy)) new h = kept_count old new h.1
-create_counts old id bundle config (Err (Fault BadId)) new h = kept_count old new h.1
-create_counts old id bundle config (Err (Fault IdInUse)) new h = kept_count old new h.1
-create_counts old id bundle config (Err (Fault TooManyContainers)) new h = kept_count old new h.1
-create_counts old id bundle config (Err (Fault NoContainer)) new h = kept_count old new h.1
-create_counts old id bundle config (Err (Fault NotCreated)) new h = kept_count old new h.1
-create_counts old id bundle config (Err (Fault NotRunnable)) new h = kept_count old new h.1
-create_counts old id bundle config (Err (Fault BadSignal)) new h = kept_count old new h.1
-create_counts old id bundle config (Err (Fault NotLive)) new h = kept_count old new h.1
-create_counts old id bundle config (Err (Fault NotStopped)) new h = kept_count old new h.1
-create_counts old id bundle config (Err (Fault NoHandover)) new h = kept_count old new h.1
-create_counts old id bundle config (Err (Fault NoAnswer)) new h = kept_count old new h.1
-create_counts old id bundle config (Err (Fault (Config fault))) new h = kept_count old new h.1
-create_counts old id bundle config (Err (Fault (Demand fault))) new h = kept_count old new h.1
+place_counts cpus old id bundle config (Ok pid) new h = launch_done old.kernel old.parent id cpus h.asked.homes (h.group, pid) new.kernel h.launched
+place_counts cpus old id bundle config (Err Memory) new h =
+    elim h [ inl late ↦ launch_error old.kernel old.parent id cpus late.asked.homes Memory new.kernel late.refused | inr early ↦ kept_count old new early.2 ]
+place_counts cpus old id bundle config (Err (Fault (Kernel fault))) new h =
+    launch_error old.kernel old.parent id cpus h.asked.homes (Fault fault) new.kernel h.refused
+place_counts cpus old id bundle config (Err (Fault Busy)) new h = kept_count old new h.1
+place_counts cpus old id bundle config (Err (Fault BadId)) new h = kept_count old new h.1
+place_counts cpus old id bundle config (Err (Fault IdInUse)) new h = kept_count old new h.1
+place_counts cpus old id bundle config (Err (Fault TooManyContainers)) new h = kept_count old new h.1
+place_counts cpus old id bundle config (Err (Fault NoContainer)) new h = kept_count old new h.1
+place_counts cpus old id bundle config (Err (Fault NotCreated)) new h = kept_count old new h.1
+place_counts cpus old id bundle config (Err (Fault NotRunnable)) new h = kept_count old new h.1
+place_counts cpus old id bundle config (Err (Fault BadSignal)) new h = kept_count old new h.1
+place_counts cpus old id bundle config (Err (Fault NotLive)) new h = kept_count old new h.1
+place_counts cpus old id bundle config (Err (Fault NotStopped)) new h = kept_count old new h.1
+place_counts cpus old id bundle config (Err (Fault NoHandover)) new h = kept_count old new h.1
+place_counts cpus old id bundle config (Err (Fault NoAnswer)) new h = kept_count old new h.1
+place_counts cpus old id bundle config (Err (Fault (NotFree cpu))) new h = kept_count old new h.1
+place_counts cpus old id bundle config (Err (Fault (Config fault))) new h = kept_count old new h.1
+place_counts cpus old id bundle config (Err (Fault (Demand fault))) new h = kept_count old new h.1
 
 -- `kill`
 pub kill_counts : (old : NodeState) (id signal : List ℕ) (r : Result (Unit {0}) NodeFault) (new : NodeState) → Kills old id signal r new
@@ -127,6 +128,7 @@ kill_counts old id signal (Err NotLive) new h = kept_count old new h.1
 kill_counts old id signal (Err NotStopped) new h = kept_count old new h.1
 kill_counts old id signal (Err NoHandover) new h = kept_count old new h.1
 kill_counts old id signal (Err NoAnswer) new h = kept_count old new h.1
+kill_counts old id signal (Err (NotFree cpu)) new h = kept_count old new h.1
 kill_counts old id signal (Err (Config fault)) new h = kept_count old new h.1
 kill_counts old id signal (Err (Demand fault)) new h = kept_count old new h.1
 
@@ -147,5 +149,6 @@ delete_counts old id (Err NotLive) new h = kept_count old new h.1
 delete_counts old id (Err NotStopped) new h = kept_count old new h.1
 delete_counts old id (Err NoHandover) new h = kept_count old new h.1
 delete_counts old id (Err NoAnswer) new h = kept_count old new h.1
+delete_counts old id (Err (NotFree cpu)) new h = kept_count old new h.1
 delete_counts old id (Err (Config fault)) new h = kept_count old new h.1
 delete_counts old id (Err (Demand fault)) new h = kept_count old new h.1

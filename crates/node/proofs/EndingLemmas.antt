@@ -5,6 +5,7 @@ use Rattle.std.specs.Prelude.{Option, is_some, Result, Ok, Err}
 use Rattle.std.specs.List.{AllByRecursion}
 use Rattle.faults.specs.declared.OrMemory.{OrMemory}
 use Rattle.faults.specs.declared.OrMemory.TheVariants.{Memory, Fault}
+use Rattle.cpu_set.specs.Ids.{Ids}
 use Rattle.kernel_model.specs.declared.KernelFault.{KernelFault}
 use Rattle.kernel_model.specs.declared.Call.{Call}
 use Rattle.kernel_model.specs.declared.Call.TheVariants as call
@@ -28,10 +29,11 @@ use Rattle.node.specs.NodeState.{Ongoing, NodeState, is_underway}
 use Rattle.node.specs.Owners.{owners_of}
 use Rattle.node.specs.Ongoing.{Stands}
 use Rattle.node.specs.IsNode.{IsNode}
-use Rattle.node.specs.Calls.{Ended, Creates, Starts, Kills, Deletes}
+use Rattle.node.specs.Updates.{Updates}
+use Rattle.node.specs.Calls.{Ended, Places, Starts, Kills, Deletes}
 use Rattle.node.specs.Rebalance.{Begins, StepsOn, Rebalances}
 use Rattle.node.specs.Machine.{Event, Step, Run}
-use Rattle.node.specs.Machine.Event.{Create, Start, Kill, Delete, Rebalance, Begin, StepOn, State, ListAll, SetsOf, Pool, PhaseIs, ShowCertificate, Fork, Exit, Offline, Online}
+use Rattle.node.specs.Machine.Event.{Create, Adopt, Update, Start, Kill, Delete, Rebalance, Begin, StepOn, State, ListAll, SetsOf, Pool, PhaseIs, ShowCertificate, Fork, Exit, Offline, Online}
 use Rattle.node.specs.Ending.{step_in, steps_in, IsMore, HandoversEnd}
 use Rattle.node.proofs.StepLemmas.{its_steps, open_now, leaves}
 use Rattle.node.proofs.MachineLemmas.{runs_keep}
@@ -85,12 +87,18 @@ module _ (law : StepsLeave) (ends : EndsWithin) (o : Ongoing) (old : NodeState) 
         (leaves law old h o was new.kernel (Ok More) (its_steps old o was new (Ok More) old.phase old.ongoing s)).falls refl in
         record { still = ap (λ (n : NodeState). n.ongoing) s.is ∙ was; falls = omega (arith, e) }
 
-    create_goes : (id bundle config : List ℕ) (r : Result ℕ (OrMemory NodeFault)) → Creates old id bundle config r new → Lasts o old 0 new
-    create_goes id bundle config (Ok pid) c = open_already c.free.settled
-    create_goes id bundle config (Err Memory) (inl n) = open_already n.free.settled
-    create_goes id bundle config (Err Memory) (inr same) = unchanged same.2
-    create_goes id bundle config (Err (Fault (Kernel fault))) n = open_already n.free.settled
-    create_goes id bundle config (Err (Fault fault)) same = unchanged same.1
+    place_goes : (cpus : Ids) (id bundle config : List ℕ) (r : Result ℕ (OrMemory NodeFault)) → Places cpus old id bundle config r new → Lasts o old 0 new
+    place_goes cpus id bundle config (Ok pid) c = open_already c.free.settled
+    place_goes cpus id bundle config (Err Memory) (inl n) = open_already n.free.settled
+    place_goes cpus id bundle config (Err Memory) (inr same) = unchanged same.2
+    place_goes cpus id bundle config (Err (Fault (Kernel fault))) n = open_already n.free.settled
+    place_goes cpus id bundle config (Err (Fault fault)) same = unchanged same.1
+
+    update_goes : (id bundle config : List ℕ) (r : Result (Unit {0}) (OrMemory NodeFault)) → Updates old id bundle config r new → Lasts o old 0 new
+    update_goes id bundle config (Ok done) u = open_already u.may.settled
+    update_goes id bundle config (Err Memory) u = unchanged u.3
+    update_goes id bundle config (Err (Fault (Kernel fault))) u = open_already u.1.may.settled
+    update_goes id bundle config (Err (Fault fault)) u = unchanged u.1
 
     start_goes : (id : List ℕ) (r : Result (Unit {0}) NodeFault) → Starts old id r new → Lasts o old 0 new
     start_goes id (Ok done) s = same_kernel (ap (λ (n : NodeState). n.ongoing) s.4) (ap (λ (n : NodeState). n.kernel) s.4)
@@ -126,7 +134,9 @@ module _ (law : StepsLeave) (ends : EndsWithin) (o : Ongoing) (old : NodeState) 
     rebalance_goes (Err (Fault fault)) b = absurd b
 
     goes : (event : Event) → Step old event new → IsMore event → Lasts o old (step_in event) new
-    goes (Create id bundle config answer) s more = create_goes id bundle config answer s
+    goes (Create id bundle config answer) s more = place_goes old.machine.reserved id bundle config answer s
+    goes (Adopt id bundle config cpus answer) s more = place_goes cpus id bundle config answer s
+    goes (Update id bundle config answer) s more = update_goes id bundle config answer s
     goes (Start id answer) s more = start_goes id answer s
     goes (Kill id signal answer) s more = kill_goes id signal answer s
     goes (Delete id answer) s more = delete_goes id answer s

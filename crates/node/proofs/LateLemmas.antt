@@ -27,11 +27,11 @@ use Rattle.node.specs.IsNode.{Holds, IsNode}
 use Rattle.node.specs.Launch.{FindsOr, AtOnce, WritesSets, Launches}
 use Rattle.node.specs.Calls.{OpensNot, NotLaunched}
 use Rattle.node.specs.OpenCause.{OpenCause}
-use Rattle.node.specs.Making.{CreatesFailLate}
+use Rattle.node.specs.Making.{PlacesFailLate}
 use Rattle.node.proofs.ContainerLemmas.{other_ids}
 use Rattle.node.proofs.FirstLemmas.{root_there}
 use Rattle.node.proofs.LaunchLemmas.{IsReady, is_there, find_stays, find_ready, cpus_written, sets_written}
-use Rattle.node.proofs.CountLemmas.{create_counts}
+use Rattle.node.proofs.CountLemmas.{place_counts}
 use Rattle.node.proofs.MakingLemmas.{found_table, set_table}
 
 -- what of it the kernel before tells, and of want of serials the kernel after it
@@ -51,11 +51,11 @@ module _ (parent : Group) (name : List ℕ) (g : Group) (k : KernelState) (c : I
   free IsRoot e = false≢true (sym below ∙ (refusals_have_causes k).write g IsRoot e)
   free fault e = absurd ((refusals_have_causes k).write g fault e)
 
-  cpus_fail : (cpus : Ids) (fault : KernelFault) (new : KernelState) → WritesCpus k g cpus (Err fault) new → fault ≡ Failed
+  pub cpus_fail : (cpus : Ids) (fault : KernelFault) (new : KernelState) → WritesCpus k g cpus (Err fault) new → fault ≡ Failed
   cpus_fail cpus Failed new w = refl
   cpus_fail cpus fault new w = absurd (free fault w.0)
 
-  mems_fail : (mems : Ids) (fault : KernelFault) (new : KernelState) → WritesMems k g mems (Err fault) new → fault ≡ Failed
+  pub mems_fail : (mems : Ids) (fault : KernelFault) (new : KernelState) → WritesMems k g mems (Err fault) new → fault ≡ Failed
   mems_fail mems Failed new w = refl
   mems_fail mems fault new w = absurd (free fault w.0)
 
@@ -109,20 +109,20 @@ module _ (parent : Group) (name : List ℕ) (owners : List Owner) (new_id : AllB
       spawn_late g written new there.ready fault spawns old
       (set_table g cpus mems mid written (Ok done) writes ∙ found_table (child_of old.tree parent name) old parent name (Ok g) mid found)
 
--- of a `create`, with what is counted
-module _ (old new : NodeState) (id config : List ℕ) (h : IsNode old) where
-  stood : (fault : KernelFault) → NotLaunched old id config (Fault fault) new → Stood old.kernel old.parent id new.kernel fault
+-- of a `create` or an `adopt`, with what is counted
+module _ (cpus : Ids) (old new : NodeState) (id config : List ℕ) (h : IsNode old) where
+  stood : (fault : KernelFault) → NotLaunched cpus old id config (Fault fault) new → Stood old.kernel old.parent id new.kernel fault
   stood fault n =
-      launch_late old.parent id (owners_of old.containers) (other_ids id old.containers n.free.new) old.machine.reserved n.asked.homes old.kernel new.kernel
+      launch_late old.parent id (owners_of old.containers) (other_ids id old.containers n.free.new) cpus n.asked.homes old.kernel new.kernel
       h.holds fault n.refused
 
-pub creates_fail_late : CreatesFailLate
-creates_fail_late old id bundle config Failed new h n = create_counts old id bundle config (Err (Fault (Kernel Failed))) new n
-creates_fail_late old id bundle config NoSerials new h n =
-    let s = stood old new id config h NoSerials n in
+pub places_fail_late : PlacesFailLate
+places_fail_late cpus old id bundle config Failed new h n = place_counts cpus old id bundle config (Err (Fault (Kernel Failed))) new n
+places_fail_late cpus old id bundle config NoSerials new h n =
+    let s = stood cpus old new id config h NoSerials n in
     (s.0, s.1, n.is ∙ ap (λ (k : KernelState). record old { kernel = k }) s.2)
-creates_fail_late old id bundle config NoPids new h n = stood old new id config h NoPids n
-creates_fail_late old id bundle config fault new h n = absurd (stood old new id config h fault n)
+places_fail_late cpus old id bundle config NoPids new h n = stood cpus old new id config h NoPids n
+places_fail_late cpus old id bundle config fault new h n = absurd (stood cpus old new id config h fault n)
 
 -- of a new node
 module _ (old new : KernelState) (well : IsWellFormed old) (root : Group) (top : root_of old.tree ≡ Some root) where

@@ -2,7 +2,7 @@
 use Rattle.std.proofs.Common.{◌≡◌, ◌⊎◌, inl, inr, ℕ, ◌<◌, ◌+◌, Bool, true, false, List, [], ◌∷◌, ◌++◌, Option, Some, None, refl, sym, ap, ◌∙◌, subst, arith}
 use Rattle.std.proofs.lemmas.Bool.{false≢true, ne_eqb}
 use Rattle.std.proofs.lemmas.Slice.Eq.{bytes_eq-Decides}
-use Rattle.std.specs.Prelude.{is_some, Result, Ok, Err}
+use Rattle.std.specs.Prelude.{is_some, ◌||◌, Result, Ok, Err}
 use Rattle.std.specs.List.{AllByRecursion}
 use Rattle.std.specs.Str.{bytes_eq}
 use Rattle.std.specs.FinSet as set
@@ -19,7 +19,7 @@ use Rattle.cpuset_tree.specs.GroupLemmas.{same_group-equal, same_group_sym, othe
 use Rattle.cpuset_tree.specs.TreeLemmas.{parent_is_there, found_is_child}
 use Rattle.proctable.specs.declared.Process.{Process}
 use Rattle.proctable.specs.TableState.{TableState}
-use Rattle.proctable.specs.Processes.{process_of}
+use Rattle.proctable.specs.Processes.{process_of, is_alive}
 use Rattle.proctable.specs.TableLaws.{ProcessAdded}
 use Rattle.kernel_model.specs.declared.KernelFault.{KernelFault}
 use Rattle.kernel_model.specs.KernelState.{KernelState}
@@ -31,7 +31,7 @@ use Rattle.node.specs.Owners.{Owner}
 use Rattle.node.specs.IsNode.{HaveOtherIds, IsPlaced, IsFirst, IsOwned, AreOwned, Holds}
 use Rattle.node.specs.Launch.{AtOnce, FindsOr, FindsOrMakes, WritesSets, StartsIn, Launches}
 use Rattle.node.proofs.ListLemmas.{all_map, all_map2, all_push, pairs_push}
-use Rattle.node.proofs.HoldsLemmas.{KeepsPlaces, IsLeft, AreSafeOwners, with_owned, same_places, left, kept, same_owned, added_owned}
+use Rattle.node.proofs.HoldsLemmas.{KeepsPlaces, IsLeft, EachKept, AreSafeOwners, with_owned, same_places, each_kept, left, kept, same_owned, added_owned}
 
 -- what stays of the containers and of the machine
 pub record Stays (old new : KernelState) (parent : Group) (owners : List Owner) : Type 0 where
@@ -77,6 +77,37 @@ owned_apart g p (o ∷ owners) a h =
       | inl own ↦ ap (λ x. same_group x g) own.0 ∙ same_group_sym o.holder.group g ∙ a.0
       | inr on ↦ owned_apart g p owners a.1 on
     ]
+
+-- the CPUs may be requested for one more: some, and none of them is requested for another live one where one of both is
+-- pinned, but reserved ones
+abbrev pub IsClear : KernelState → Bool → Ids → Owner → Type 0
+IsClear k pinned cpus o =
+    is_alive k.table o.holder.pid ≡ true → (o.holder.pinned || pinned) ≡ true → (cpu : ℕ)
+    → set.contains (requested_cpus k.tree o.holder.group) cpu ≡ true → set.contains cpus cpu ≡ true → set.contains k.reserved cpu ≡ true
+
+pub record MayHold (k : KernelState) (owners : List Owner) (pinned : Bool) (cpus : Ids) : Type 0 where
+  pub some : is_empty cpus ≡ false
+  pub clear : AllByRecursion (IsClear k pinned cpus) owners
+
+-- also after calls that leave what the others request
+pub still_may : (old new : KernelState) (owners : List Owner) (pinned : Bool) (cpus : Ids) → KeepsMachine old new → AllByRecursion (EachKept old new) owners
+    → MayHold old owners pinned cpus → MayHold new owners pinned cpus
+still_may old new owners pinned cpus machine each may = record {
+  some = may.some;
+  clear = all_map2 (EachKept old new) (IsClear old pinned cpus) (IsClear new pinned cpus)
+      (λ o kept clear live one cpu ha hb. ap (λ r. set.contains r cpu) machine.reserved
+      ∙ clear (kept.dies live) one cpu (ap (λ s. set.contains s cpu) (sym kept.requested) ∙ ha) hb) owners each may.clear;
+}
+
+each_then : (old mid new : KernelState) (owners : List Owner) → AllByRecursion (EachKept old mid) owners → AllByRecursion (EachKept mid new) owners
+    → AllByRecursion (EachKept old new) owners
+each_then old mid new owners a b =
+    all_map2 (EachKept old mid) (EachKept mid new) (EachKept old new)
+    (λ o x y. record { first = y.first; requested = y.requested ∙ x.requested; dies = λ live. x.dies (y.dies live) }) owners a b
+
+each_same : (k : KernelState) (parent : Group) (owners : List Owner) → Holds k parent owners → AllByRecursion (EachKept k k) owners
+each_same k parent owners h =
+    all_map (λ o. IsFirst k.table o.holder) (EachKept k k) (λ o first. record { first = first; requested = refl; dies = λ live. live }) owners h.first
 
 -- a group of this name that is no container's
 pub record IsReady (k : KernelState) (parent : Group) (name : List ℕ) (owners : List Owner) (g : Group) : Type 0 where
@@ -140,6 +171,13 @@ module _ (parent : Group) (name : List ℕ) (owners : List Owner) (new_id : AllB
       machine = (make_keeps (Err e) m).machine;
     }
 
+    make_each : (r : Result Group (OrMemory KernelFault)) → MakesGroup old parent name r new → AllByRecursion (EachKept old new) owners
+    make_each (Ok g) m =
+        each_kept old new (make_keeps (Ok g) m) parent owners h (added_places g m (writes_leave_groups.make old new parent name (Ok g) m).made)
+    make_each (Err e) m =
+        each_kept old new (make_keeps (Err e) m) parent owners h
+        (same_places old.tree new.tree (ap (λ (s : TreeState). s.groups) (writes_leave_groups.make old new parent name (Err e) m).refused) parent owners h.home h.shallow h.placed)
+
     made_ready : (g : Group) → MakesGroup old parent name (Ok g) new → IsReady new parent name owners g
     made_ready g m = ready new (make_stays (Ok g) m).holds g
         (record { entry = new_entry g (Some parent) name; there = (writes_leave_groups.make old new parent name (Ok g) m).made.there; below = refl; named = refl })
@@ -150,6 +188,10 @@ module _ (parent : Group) (name : List ℕ) (owners : List Owner) (new_id : AllB
     find_by (Some g) was r f = subst (λ k. Stays old k parent owners) (sym f.1) (record { holds = h; machine = record { nodes = refl; present = refl; reserved = refl } })
     find_by None was r f = make_stays r f
 
+    each_by : (o : Option Group) → (r : Result Group (OrMemory KernelFault)) → FindsOr o old parent name r new → AllByRecursion (EachKept old new) owners
+    each_by (Some g) r f = subst (λ k. AllByRecursion (EachKept old k) owners) (sym f.1) (each_same old parent owners h)
+    each_by None r f = make_each r f
+
     ready_by : (o : Option Group) → child_of old.tree parent name ≡ o → (g : Group) → FindsOr o old parent name (Ok g) new → IsReady new parent name owners g
     ready_by (Some found) was g f =
         let same : found ≡ g = cc f.0 in
@@ -159,6 +201,9 @@ module _ (parent : Group) (name : List ℕ) (owners : List Owner) (new_id : AllB
     pub find_stays : (r : Result Group (OrMemory KernelFault)) → FindsOrMakes old parent name r new → Stays old new parent owners
     find_stays r f = find_by (child_of old.tree parent name) refl r f
 
+    find_each : (r : Result Group (OrMemory KernelFault)) → FindsOrMakes old parent name r new → AllByRecursion (EachKept old new) owners
+    find_each r f = each_by (child_of old.tree parent name) r f
+
     pub find_ready : (g : Group) → FindsOrMakes old parent name (Ok g) new → IsReady new parent name owners g
     find_ready g f = ready_by (child_of old.tree parent name) refl g f
 
@@ -167,6 +212,7 @@ module _ (parent : Group) (name : List ℕ) (owners : List Owner) (new_id : AllB
     pub record Written (old new : KernelState) : Type 0 where
       pub holds : Holds new parent owners
       pub machine : KeepsMachine old new
+      pub each : AllByRecursion (EachKept old new) owners
       pub ready : IsReady new parent name owners g
 
     alike : (old new : KernelState) → Holds old parent owners → IsReady old parent name owners g → StepKeeps old new → StandAlike old.tree new.tree
@@ -197,6 +243,7 @@ module _ (parent : Group) (name : List ℕ) (owners : List Owner) (new_id : AllB
         record {
           holds = holds;
           machine = keeps.machine;
+          each = each_kept old new keeps parent owners h places;
           ready = ready new holds g (record { entry = moved.entry; there = moved.there; below = sym moved.place.parent ∙ w.child.below; named = sym moved.place.name ∙ w.child.named });
         }
 
@@ -213,7 +260,12 @@ module _ (parent : Group) (name : List ℕ) (owners : List Owner) (new_id : AllB
         alike old new h w ((each_case_keeps old new h.kernel).mems g mems r s) leaves.places leaves.apart (writes_keep_processes.mems old new g mems r s).0
 
     written_then : (old mid new : KernelState) → Written old mid → Written mid new → Written old new
-    written_then old mid new a b = record { holds = b.holds; machine = machine_then old mid new a.machine b.machine; ready = b.ready }
+    written_then old mid new a b = record {
+      holds = b.holds;
+      machine = machine_then old mid new a.machine b.machine;
+      each = each_then old mid new owners a.each b.each;
+      ready = b.ready;
+    }
 
     pub sets_written : (old new : KernelState) → Holds old parent owners → IsReady old parent name owners g → (cpus mems : Ids) (r : Result (Unit {0}) KernelFault)
         → WritesSets old g cpus mems r new → Written old new
@@ -232,7 +284,7 @@ module _ (parent : Group) (name : List ℕ) (owners : List Owner) (new_id : AllB
           | inr done ↦ (writes_leave_groups.mems done.1 new g mems (Ok value) done.3).cpus g ∙ (writes_leave_groups.cpus old done.1 g cpus (Ok done.0) done.2).own
         ]
 
-  -- a first process in a group that has none, which requests the reserved CPUs
+  -- a first process in a group that has none, which requests CPUs that may be requested for it
   module _ (g : Group) (pinned : Bool) (old new : KernelState) (h : Holds old parent owners) (w : IsReady old parent name owners g) where
     spawn_keeps : (r : Result ℕ (OrMemory KernelFault)) → Spawns old g r new → StepKeeps old new
     spawn_keeps r s = (each_case_keeps old new h.kernel).spawn g r s
@@ -248,7 +300,7 @@ module _ (parent : Group) (name : List ℕ) (owners : List Owner) (new_id : AllB
       machine = (spawn_keeps (Err e) s).machine;
     }
 
-    module _ (pid : ℕ) (s : Spawns old g (Ok pid) new) (reserve : requested_cpus old.tree g ≡ old.reserved) where
+    module _ (pid : ℕ) (s : Spawns old g (Ok pid) new) (cpus : Ids) (asked : requested_cpus old.tree g ≡ cpus) (may : MayHold old owners pinned cpus) where
       abbrev own : Owner
       own = record { id = name; holder = record { group = g; pid = pid; pinned = pinned } }
 
@@ -264,16 +316,20 @@ module _ (parent : Group) (name : List ℕ) (owners : List Owner) (new_id : AllB
       same_tree : new.tree ≡ old.tree
       same_tree = writes_keep_tree.spawn old new g (Ok pid) s
 
-      -- its group requests the reserved CPUs, of which there are some
-      requests : requested_cpus new.tree g ≡ new.reserved
-      requests = ap (λ t. requested_cpus t g) same_tree ∙ reserve ∙ sym keeps.machine.reserved
+      -- its group requests these CPUs
+      requests : requested_cpus new.tree g ≡ cpus
+      requests = ap (λ t. requested_cpus t g) same_tree ∙ asked
+
+      may_now : MayHold new owners pinned cpus
+      may_now = still_may old new owners pinned cpus keeps.machine (each_kept old new keeps parent owners h (spawn_places (Ok pid) s)) may
 
       some_requested : is_empty (requested_cpus new.tree g) ≡ false
-      some_requested =
-          ap is_empty requests ∙ ne_eqb (set.len new.reserved) 0 (λ e. keeps.well_formed.some_reserved (set.empty_of_len new.reserved e))
+      some_requested = ap is_empty requests ∙ may_now.some
 
-      apart : (o : Owner) → AreApart new new.reserved (requested_cpus new.tree) o.holder own.holder
-      apart o = λ la lb pinned cpu ha hb. ap (λ t. set.contains t cpu) (sym requests) ∙ hb
+      apart : AllByRecursion (λ o. AreApart new new.reserved (requested_cpus new.tree) o.holder own.holder) owners
+      apart =
+          all_map (IsClear new pinned cpus) (λ o. AreApart new new.reserved (requested_cpus new.tree) o.holder own.holder)
+          (λ o clear la lb one cpu ha hb. clear la one cpu ha (ap (λ t. set.contains t cpu) (sym requests) ∙ hb)) owners may_now.clear
 
       its_pid : pid < new.table.next_pid
       its_pid =
@@ -304,8 +360,7 @@ module _ (parent : Group) (name : List ℕ) (owners : List Owner) (new_id : AllB
 
       safe : AreSafeOwners new new.reserved (owners ++ own ∷ [])
       safe = record {
-        apart = pairs_push (λ a b. AreApart new new.reserved (requested_cpus new.tree) a.holder b.holder) owners own rest.safe.apart
-            (all_map (λ o. bytes_eq name o.id ≡ false) (λ o. AreApart new new.reserved (requested_cpus new.tree) o.holder own.holder) (λ o _. apart o) owners new_id);
+        apart = pairs_push (λ a b. AreApart new new.reserved (requested_cpus new.tree) a.holder b.holder) owners own rest.safe.apart apart;
         some = all_push (λ o. HasSome new (requested_cpus new.tree) o.holder) owners own rest.safe.some (λ _. some_requested);
       }
 
@@ -345,24 +400,25 @@ module _ (parent : Group) (name : List ℕ) (owners : List Owner) (new_id : AllB
               stays_then old done.1 new parent owners there.machine (not_spawned g pinned done.1 new there.holds there.ready e done.3)
         ]
 
-    started_in : (g : Group) (pid : ℕ) (old new : KernelState) → Holds old parent owners → IsReady old parent name owners g → cpus ≡ old.reserved
+    started_in : (g : Group) (pid : ℕ) (old new : KernelState) → Holds old parent owners → IsReady old parent name owners g → MayHold old owners pinned cpus
         → StartsIn old g cpus mems (Ok pid) new → Stays old new parent (owners ++ record { id = name; holder = record { group = g; pid = pid; pinned = pinned } } ∷ [])
-    started_in g pid old new h w reserve s =
+    started_in g pid old new h w may s =
         elim s [
           | inl refused ↦ absurd (let e : Ok pid ≡ Err refused.0 = refused.2 in let no : ⊥ = cc e in no)
           | inr done ↦
               let there = sets_at_once g old done.1 h w (Ok done.0) done.2 in
               let asked = sets_requested g old done.1 cpus mems done.0 done.2 in
               stays_then old done.1 new parent (owners ++ record { id = name; holder = record { group = g; pid = pid; pinned = pinned } } ∷ []) there.machine
-              (spawned g pinned done.1 new there.holds there.ready pid done.3 (asked ∙ reserve ∙ sym there.machine.reserved))
+              (spawned g pinned done.1 new there.holds there.ready pid done.3 cpus asked (still_may old done.1 owners pinned cpus there.machine there.each may))
         ]
 
-    pub launched : (g : Group) (pid : ℕ) (old new : KernelState) → Holds old parent owners → cpus ≡ old.reserved → Launches old parent name cpus mems (Ok (g, pid)) new
+    pub launched : (g : Group) (pid : ℕ) (old new : KernelState) → Holds old parent owners → MayHold old owners pinned cpus → Launches old parent name cpus mems (Ok (g, pid)) new
         → Stays old new parent (owners ++ record { id = name; holder = record { group = g; pid = pid; pinned = pinned } } ∷ [])
-    launched g pid old new h reserve s =
+    launched g pid old new h may s =
         let found = find_stays old s.0 h (Ok g) s.1 in
         stays_then old s.0 new parent (owners ++ record { id = name; holder = record { group = g; pid = pid; pinned = pinned } } ∷ []) found.machine
-        (started_in g pid s.0 new found.holds (find_ready old s.0 h g s.1) (reserve ∙ sym found.machine.reserved) s.2)
+        (started_in g pid s.0 new found.holds (find_ready old s.0 h g s.1)
+        (still_may old s.0 owners pinned cpus found.machine (find_each old s.0 h (Ok g) s.1) may) s.2)
 
     pub not_launched : (e : OrMemory KernelFault) (old new : KernelState) → Holds old parent owners → Launches old parent name cpus mems (Err e) new
         → Stays old new parent owners

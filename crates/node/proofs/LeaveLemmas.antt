@@ -18,13 +18,13 @@ use Rattle.kernel_model.specs.KernelLemmas.{writes_leave_groups, writes_keep_pro
 use Rattle.faults.specs.declared.OrMemory.{OrMemory}
 use Rattle.faults.specs.declared.OrMemory.TheVariants.{Memory, Fault}
 use Rattle.node.specs.declared.fault.NodeFault.{NodeFault}
-use Rattle.node.specs.declared.fault.NodeFault.TheVariants.{Busy, BadId, IdInUse, TooManyContainers, NoContainer, NotCreated, NotRunnable, BadSignal, NotLive, NotStopped, NoHandover, NoAnswer, Config, Demand, Kernel}
+use Rattle.node.specs.declared.fault.NodeFault.TheVariants.{Busy, BadId, IdInUse, TooManyContainers, NoContainer, NotCreated, NotRunnable, BadSignal, NotLive, NotStopped, NoHandover, NoAnswer, NotFree, Config, Demand, Kernel}
 use Rattle.node.specs.NodeState.{NodeState}
 use Rattle.node.specs.Owners.{Owner, owners_of}
 use Rattle.node.specs.IsNode.{Holds, IsNode}
 use Rattle.node.specs.Refusals.{IsFree}
 use Rattle.node.specs.Launch.{FindsOr, AtOnce, WritesSets, StartsIn, Launches}
-use Rattle.node.specs.Calls.{NotLaunched, Creates}
+use Rattle.node.specs.Calls.{NotLaunched, Places}
 use Rattle.node.specs.Leaves.{LeavesAtMostAGroup, CreateLeaves}
 use Rattle.node.proofs.ContainerLemmas.{other_ids}
 use Rattle.node.proofs.LaunchLemmas.{ready, not_launched}
@@ -132,13 +132,13 @@ module _ (parent : Group) (name : List ℕ) where
       let w = ready parent name owners new_id k h g (found_is_child k.tree parent name g h.kernel.tree child) in
       none_counted_where_none k.table g h.kernel.table w.empty
 
-module _ (old : NodeState) (h : IsNode old) (id config : List ℕ) where
-  late : (e : OrMemory KernelFault) (new : NodeState) → NotLaunched old id config e new
+module _ (cpus : Ids) (old : NodeState) (h : IsNode old) (id config : List ℕ) where
+  late : (e : OrMemory KernelFault) (new : NodeState) → NotLaunched cpus old id config e new
       → LeavesAtMostAGroup old.kernel old.parent id new.kernel × (new ≡ record old { kernel = new.kernel })
   late e new n =
       let new_id = other_ids id old.containers n.free.new in
-      let left = launch_leaves old.parent id old.kernel old.machine.reserved n.asked.homes e new.kernel n.refused in
-      let stays = not_launched old.parent id (owners_of old.containers) new_id false old.machine.reserved n.asked.homes e old.kernel new.kernel h.holds n.refused in
+      let left = launch_leaves old.parent id old.kernel cpus n.asked.homes e new.kernel n.refused in
+      let stays = not_launched old.parent id (owners_of old.containers) new_id false cpus n.asked.homes e old.kernel new.kernel h.holds n.refused in
       (record { processes = left.table; groups = left.groups; empty = no_process old.parent id (owners_of old.containers) new_id new.kernel stays.holds }, n.is)
 
   early : (new : NodeState) → IsFree old id → new ≡ old → LeavesAtMostAGroup old.kernel old.parent id new.kernel × (new ≡ record old { kernel = new.kernel })
@@ -152,21 +152,22 @@ module _ (old : NodeState) (h : IsNode old) (id config : List ℕ) where
         refl,
       )
 
-  pub create_leaves : (bundle : List ℕ) (r : Result ℕ (OrMemory NodeFault)) (new : NodeState) → Creates old id bundle config r new → CreateLeaves old id r new
-  create_leaves bundle (Ok pid) new c = tt
-  create_leaves bundle (Err Memory) new c = elim c [ inl n ↦ late Memory new n | inr e ↦ early new e.0 e.2 ]
-  create_leaves bundle (Err (Fault (Kernel fault))) new c = late (Fault fault) new c
-  create_leaves bundle (Err (Fault Busy)) new c = c.1
-  create_leaves bundle (Err (Fault BadId)) new c = c.1
-  create_leaves bundle (Err (Fault IdInUse)) new c = c.1
-  create_leaves bundle (Err (Fault TooManyContainers)) new c = c.1
-  create_leaves bundle (Err (Fault NoContainer)) new c = c.1
-  create_leaves bundle (Err (Fault NotCreated)) new c = c.1
-  create_leaves bundle (Err (Fault NotRunnable)) new c = c.1
-  create_leaves bundle (Err (Fault BadSignal)) new c = c.1
-  create_leaves bundle (Err (Fault NotLive)) new c = c.1
-  create_leaves bundle (Err (Fault NotStopped)) new c = c.1
-  create_leaves bundle (Err (Fault NoHandover)) new c = c.1
-  create_leaves bundle (Err (Fault NoAnswer)) new c = c.1
-  create_leaves bundle (Err (Fault (Config fault))) new c = c.1
-  create_leaves bundle (Err (Fault (Demand fault))) new c = c.1
+  pub place_leaves : (bundle : List ℕ) (r : Result ℕ (OrMemory NodeFault)) (new : NodeState) → Places cpus old id bundle config r new → CreateLeaves old id r new
+  place_leaves bundle (Ok pid) new c = tt
+  place_leaves bundle (Err Memory) new c = elim c [ inl n ↦ late Memory new n | inr e ↦ early new e.0 e.2 ]
+  place_leaves bundle (Err (Fault (Kernel fault))) new c = late (Fault fault) new c
+  place_leaves bundle (Err (Fault Busy)) new c = c.1
+  place_leaves bundle (Err (Fault BadId)) new c = c.1
+  place_leaves bundle (Err (Fault IdInUse)) new c = c.1
+  place_leaves bundle (Err (Fault TooManyContainers)) new c = c.1
+  place_leaves bundle (Err (Fault NoContainer)) new c = c.1
+  place_leaves bundle (Err (Fault NotCreated)) new c = c.1
+  place_leaves bundle (Err (Fault NotRunnable)) new c = c.1
+  place_leaves bundle (Err (Fault BadSignal)) new c = c.1
+  place_leaves bundle (Err (Fault NotLive)) new c = c.1
+  place_leaves bundle (Err (Fault NotStopped)) new c = c.1
+  place_leaves bundle (Err (Fault NoHandover)) new c = c.1
+  place_leaves bundle (Err (Fault NoAnswer)) new c = c.1
+  place_leaves bundle (Err (Fault (NotFree cpu))) new c = c.1
+  place_leaves bundle (Err (Fault (Config fault))) new c = c.1
+  place_leaves bundle (Err (Fault (Demand fault))) new c = c.1

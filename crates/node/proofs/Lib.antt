@@ -3,6 +3,8 @@ pub mod ContainerLemmas
 pub mod HoldsLemmas
 pub mod OngoingLemmas
 pub mod LaunchLemmas
+pub mod FreeLemmas
+pub mod UpdateLemmas
 pub mod EventLemmas
 pub mod DeleteLemmas
 pub mod FirstLemmas
@@ -29,3 +31,4 @@ pub mod EndingLemmas
 pub mod MakingLemmas
 pub mod LateLemmas
 pub mod AgainLemmas
+pub mod RewriteLemmas

@@ -2,6 +2,7 @@
 use Rattle.std.proofs.Common.{◌≡◌, inl, inr, ℕ, zero, suc, List, [], ◌∷◌, refl, sym, subst}
 use Rattle.std.specs.List.{AllByRecursion}
 use Rattle.std.specs.Prelude.{map, Result, Ok, Err}
+use Rattle.cpu_set.specs.Ids.{Ids}
 use Rattle.kernel_model.specs.declared.KernelFault.{KernelFault}
 use Rattle.faults.specs.declared.OrMemory.{OrMemory}
 use Rattle.faults.specs.declared.OrMemory.TheVariants.{Memory, Fault}
@@ -12,16 +13,17 @@ use Rattle.apply_plan.specs.declared.Progress.TheVariants.{More, Done}
 use Rattle.apply_plan.specs.OneStep.{StepsLeave}
 use Rattle.apply_plan.specs.Effects.{HasFreeParent, TargetsTakeEffect, SafeInEffect}
 use Rattle.node.specs.declared.fault.NodeFault.{NodeFault}
-use Rattle.node.specs.declared.fault.NodeFault.TheVariants.{Busy, BadId, IdInUse, TooManyContainers, NoContainer, NotCreated, NotRunnable, BadSignal, NotLive, NotStopped, NoHandover, NoAnswer, Config, Demand, Kernel}
+use Rattle.node.specs.declared.fault.NodeFault.TheVariants.{Busy, BadId, IdInUse, TooManyContainers, NoContainer, NotCreated, NotRunnable, BadSignal, NotLive, NotStopped, NoHandover, NoAnswer, NotFree, Config, Demand, Kernel}
 use Rattle.node.specs.declared.phase.Phase.TheVariants.{Settled, Unsettled}
 use Rattle.node.specs.NodeState.{NodeState}
 use Rattle.node.specs.Owners.{owners_of}
 use Rattle.node.specs.IsNode.{IsNode}
-use Rattle.node.specs.Calls.{NotLaunched, Ended, Creates, Starts, Kills, Deletes}
+use Rattle.node.specs.Updates.{Updates}
+use Rattle.node.specs.Calls.{NotLaunched, Ended, Places, Starts, Kills, Deletes}
 use Rattle.node.specs.Rebalance.{StepsOn, StepsMore, Ends}
 use Rattle.node.specs.Machine.{Event, Step, IsOneStep, Run, RunsKeep, RunsStaySafe, RunsStayApart, RebalancesAreSteps, RunsRebalance}
-use Rattle.node.specs.Machine.Event.{Create, Start, Kill, Delete, Rebalance, Begin, StepOn, State, ListAll, SetsOf, Pool, PhaseIs, ShowCertificate, Fork, Exit, Offline, Online}
-use Rattle.node.proofs.NodeLemmas.{fork_node, exit_node, offline_node, online_node, end_node, remove_refused_node, created_node, not_created_node, deleted_node, started_node}
+use Rattle.node.specs.Machine.Event.{Create, Adopt, Update, Start, Kill, Delete, Rebalance, Begin, StepOn, State, ListAll, SetsOf, Pool, PhaseIs, ShowCertificate, Fork, Exit, Offline, Online}
+use Rattle.node.proofs.NodeLemmas.{fork_node, exit_node, offline_node, online_node, end_node, remove_refused_node, created_node, not_created_node, updated_node, not_updated_node, deleted_node, started_node}
 use Rattle.node.proofs.StepLemmas.{more_node, ended_node}
 use Rattle.node.proofs.HeadlineLemmas.{free_parents, begins_node, rebalances_node, headline}
 use Rattle.node.proofs.ListLemmas.{all_of_map}
@@ -33,27 +35,35 @@ module _ (old : NodeState) (h : IsNode old) (new : NodeState) where
   unchanged : new ≡ old → IsNode new
   unchanged same = moved old same h
 
-  not_launched : (id config : List ℕ) (e : OrMemory KernelFault) → NotLaunched old id config e new → IsNode new
-  not_launched id config e n = moved (record old { kernel = new.kernel }) n.is (not_created_node old h new.kernel id n.asked e n.free n.refused)
+  not_launched : (cpus : Ids) (id config : List ℕ) (e : OrMemory KernelFault) → NotLaunched cpus old id config e new → IsNode new
+  not_launched cpus id config e n = moved (record old { kernel = new.kernel }) n.is (not_created_node old h new.kernel cpus id n.asked e n.free n.refused)
 
-  create_keeps : (id bundle config : List ℕ) (r : Result ℕ (OrMemory NodeFault)) → Creates old id bundle config r new → IsNode new
-  create_keeps id bundle config (Ok pid) c = moved _ c.is (created_node old h new.kernel id bundle c.said c.asked c.group pid c.free c.says.fits c.launched)
-  create_keeps id bundle config (Err Memory) c = elim c [ inl n ↦ not_launched id config Memory n | inr e ↦ unchanged e.2 ]
-  create_keeps id bundle config (Err (Fault (Kernel fault))) c = not_launched id config (Fault fault) c
-  create_keeps id bundle config (Err (Fault Busy)) c = unchanged c.1
-  create_keeps id bundle config (Err (Fault BadId)) c = unchanged c.1
-  create_keeps id bundle config (Err (Fault IdInUse)) c = unchanged c.1
-  create_keeps id bundle config (Err (Fault TooManyContainers)) c = unchanged c.1
-  create_keeps id bundle config (Err (Fault NoContainer)) c = unchanged c.1
-  create_keeps id bundle config (Err (Fault NotCreated)) c = unchanged c.1
-  create_keeps id bundle config (Err (Fault NotRunnable)) c = unchanged c.1
-  create_keeps id bundle config (Err (Fault BadSignal)) c = unchanged c.1
-  create_keeps id bundle config (Err (Fault NotLive)) c = unchanged c.1
-  create_keeps id bundle config (Err (Fault NotStopped)) c = unchanged c.1
-  create_keeps id bundle config (Err (Fault NoHandover)) c = unchanged c.1
-  create_keeps id bundle config (Err (Fault NoAnswer)) c = unchanged c.1
-  create_keeps id bundle config (Err (Fault (Config fault))) c = unchanged c.1
-  create_keeps id bundle config (Err (Fault (Demand fault))) c = unchanged c.1
+  place_keeps : (cpus : Ids) (id bundle config : List ℕ) (r : Result ℕ (OrMemory NodeFault)) → Places cpus old id bundle config r new → IsNode new
+  place_keeps cpus id bundle config (Ok pid) c = moved _ c.is (created_node old h new.kernel cpus id bundle c.said c.asked c.group pid c.free c.says.fits c.may c.launched)
+  place_keeps cpus id bundle config (Err Memory) c = elim c [ inl n ↦ not_launched cpus id config Memory n | inr e ↦ unchanged e.2 ]
+  place_keeps cpus id bundle config (Err (Fault (Kernel fault))) c = not_launched cpus id config (Fault fault) c
+  place_keeps cpus id bundle config (Err (Fault Busy)) c = unchanged c.1
+  place_keeps cpus id bundle config (Err (Fault BadId)) c = unchanged c.1
+  place_keeps cpus id bundle config (Err (Fault IdInUse)) c = unchanged c.1
+  place_keeps cpus id bundle config (Err (Fault TooManyContainers)) c = unchanged c.1
+  place_keeps cpus id bundle config (Err (Fault NoContainer)) c = unchanged c.1
+  place_keeps cpus id bundle config (Err (Fault NotCreated)) c = unchanged c.1
+  place_keeps cpus id bundle config (Err (Fault NotRunnable)) c = unchanged c.1
+  place_keeps cpus id bundle config (Err (Fault BadSignal)) c = unchanged c.1
+  place_keeps cpus id bundle config (Err (Fault NotLive)) c = unchanged c.1
+  place_keeps cpus id bundle config (Err (Fault NotStopped)) c = unchanged c.1
+  place_keeps cpus id bundle config (Err (Fault NoHandover)) c = unchanged c.1
+  place_keeps cpus id bundle config (Err (Fault NoAnswer)) c = unchanged c.1
+  place_keeps cpus id bundle config (Err (Fault (NotFree cpu))) c = unchanged c.1
+  place_keeps cpus id bundle config (Err (Fault (Config fault))) c = unchanged c.1
+  place_keeps cpus id bundle config (Err (Fault (Demand fault))) c = unchanged c.1
+
+  update_keeps : (id bundle config : List ℕ) (r : Result (Unit {0}) (OrMemory NodeFault)) → Updates old id bundle config r new → IsNode new
+  update_keeps id bundle config (Ok done) u = moved _ u.is (updated_node old h new.kernel id u.container u.may u.asked bundle u.says.fits u.rewrites)
+  update_keeps id bundle config (Err Memory) u = unchanged u.3
+  update_keeps id bundle config (Err (Fault (Kernel fault))) u =
+      moved (record old { kernel = new.kernel }) u.1.is (not_updated_node old h new.kernel id u.1.container u.1.may u.1.asked fault u.1.rewrites)
+  update_keeps id bundle config (Err (Fault fault)) u = unchanged u.1
 
   start_keeps : (id : List ℕ) (r : Result (Unit {0}) NodeFault) → Starts old id r new → IsNode new
   start_keeps id (Ok v) s = moved _ s.4 (started_node old h id s.0 s.1)
@@ -77,6 +87,7 @@ module _ (old : NodeState) (h : IsNode old) (new : NodeState) where
   kill_keeps id signal (Err NotStopped) k = unchanged k.1
   kill_keeps id signal (Err NoHandover) k = unchanged k.1
   kill_keeps id signal (Err NoAnswer) k = unchanged k.1
+  kill_keeps id signal (Err (NotFree cpu)) k = unchanged k.1
   kill_keeps id signal (Err (Config fault)) k = unchanged k.1
   kill_keeps id signal (Err (Demand fault)) k = unchanged k.1
 
@@ -95,6 +106,7 @@ module _ (old : NodeState) (h : IsNode old) (new : NodeState) where
   delete_keeps id (Err NotStopped) d = unchanged d.1
   delete_keeps id (Err NoHandover) d = unchanged d.1
   delete_keeps id (Err NoAnswer) d = unchanged d.1
+  delete_keeps id (Err (NotFree cpu)) d = unchanged d.1
   delete_keeps id (Err (Config fault)) d = unchanged d.1
   delete_keeps id (Err (Demand fault)) d = unchanged d.1
 
@@ -106,7 +118,9 @@ module _ (old : NodeState) (h : IsNode old) (new : NodeState) where
   stepped law (Err fault) s = absurd s
 
   step_keeps : RowsWeigh → StepsLeave → (event : Event) → Step old event new → IsNode new
-  step_keeps weigh law (Create id bundle config answer) s = create_keeps id bundle config answer s
+  step_keeps weigh law (Create id bundle config answer) s = place_keeps old.machine.reserved id bundle config answer s
+  step_keeps weigh law (Adopt id bundle config cpus answer) s = place_keeps cpus id bundle config answer s
+  step_keeps weigh law (Update id bundle config answer) s = update_keeps id bundle config answer s
   step_keeps weigh law (Start id answer) s = start_keeps id answer s
   step_keeps weigh law (Kill id signal answer) s = kill_keeps id signal answer s
   step_keeps weigh law (Delete id answer) s = delete_keeps id answer s

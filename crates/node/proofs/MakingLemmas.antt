@@ -1,4 +1,4 @@
--- The states of the kernel in the midst of `create`.
+-- The states of the kernel in the midst of `create` and `adopt`.
 use Rattle.std.proofs.Common.{◌≡◌, inl, inr, ℕ, Bool, List, [], ◌∷◌, ◌++◌, false, refl, sym, ap, ◌∙◌, subst}
 use Rattle.std.proofs.lemmas.Bool.{false≢true}
 use Rattle.std.proofs.lemmas.List.{map-append}
@@ -22,15 +22,16 @@ use Rattle.node.specs.Owners.{Owner, is_pinned, owner_of, owners_of}
 use Rattle.node.specs.IsNode.{Holds, IsNode}
 use Rattle.node.specs.Launch.{AtOnce, FindsOr, WritesSets, StartsIn, Launches}
 use Rattle.node.specs.Calls.{new_container, Created, NotLaunched}
-use Rattle.node.specs.Making.{found_states, set_states, set_states_at_once, start_states, launch_states, AreCalls, CreatesAreCalls, CreatesStaySafe}
+use Rattle.node.specs.Making.{found_states, set_states, set_states_at_once, start_states, launch_states, AreCalls, PlacesAreCalls, PlacesStaySafe}
 use Rattle.node.specs.Making.IsOneCall.{Makes, Cpus, Mems, Process}
 use Rattle.node.proofs.ListLemmas.{all_map, all_map2, all_of, all_append, all_push, pairs_push}
 use Rattle.node.proofs.ContainerLemmas.{other_ids}
 use Rattle.node.proofs.HoldsLemmas.{of_safe, to_safe}
-use Rattle.node.proofs.LaunchLemmas.{IsReady, make_stays, find_stays, find_ready, cpus_written, sets_written, not_spawned, launched}
+use Rattle.node.proofs.FreeLemmas.{may_hold}
+use Rattle.node.proofs.LaunchLemmas.{IsReady, MayHold, make_stays, find_stays, find_ready, cpus_written, sets_written, not_spawned, launched}
 
 -- calls after calls
-calls_then : (old : KernelState) (xs : List KernelState) (mid : KernelState) (ys : List KernelState) (new : KernelState)
+pub calls_then : (old : KernelState) (xs : List KernelState) (mid : KernelState) (ys : List KernelState) (new : KernelState)
     → AreCalls old xs mid → AreCalls mid ys new → AreCalls old (xs ++ ys) new
 calls_then old [] mid ys new a b = subst (λ (k : KernelState). AreCalls k ys new) a b
 calls_then old (x ∷ xs) mid ys new a b = (a.0, calls_then x xs mid ys new a.1 b)
@@ -71,15 +72,15 @@ launch_calls old parent name cpus mems (Err error) new (inr (g, mid, found, star
     (start_states mid g cpus mems (Err error) new starts) new
     (found_calls (child_of old.tree parent name) old parent name (Ok g) mid found) (start_calls g cpus mems mid (Err error) new starts)
 
-pub creates_are_calls : CreatesAreCalls
-creates_are_calls old id bundle config (Ok pid) new c =
-    launch_calls old.kernel old.parent id old.machine.reserved c.asked.homes (Ok (c.group, pid)) new.kernel c.launched
-creates_are_calls old id bundle config (Err Memory) new (inl n) =
-    launch_calls old.kernel old.parent id old.machine.reserved n.asked.homes (Err Memory) new.kernel n.refused
-creates_are_calls old id bundle config (Err Memory) new (inr same) = ap (λ (n : NodeState). n.kernel) same.2
-creates_are_calls old id bundle config (Err (Fault (Kernel fault))) new n =
-    launch_calls old.kernel old.parent id old.machine.reserved n.asked.homes (Err (Fault fault)) new.kernel n.refused
-creates_are_calls old id bundle config (Err (Fault fault)) new same = ap (λ (n : NodeState). n.kernel) same.1
+pub places_are_calls : PlacesAreCalls
+places_are_calls cpus old id bundle config (Ok pid) new c =
+    launch_calls old.kernel old.parent id cpus c.asked.homes (Ok (c.group, pid)) new.kernel c.launched
+places_are_calls cpus old id bundle config (Err Memory) new (inl n) =
+    launch_calls old.kernel old.parent id cpus n.asked.homes (Err Memory) new.kernel n.refused
+places_are_calls cpus old id bundle config (Err Memory) new (inr same) = ap (λ (n : NodeState). n.kernel) same.2
+places_are_calls cpus old id bundle config (Err (Fault (Kernel fault))) new n =
+    launch_calls old.kernel old.parent id cpus n.asked.homes (Err (Fault fault)) new.kernel n.refused
+places_are_calls cpus old id bundle config (Err (Fault fault)) new same = ap (λ (n : NodeState). n.kernel) same.1
 
 -- a group that is found or made, and its sets that are written, leave the processes
 pub found_table : (found : Option Group) (old : KernelState) (parent : Group) (name : List ℕ) (r : Result Group (OrMemory KernelFault)) (new : KernelState)
@@ -163,7 +164,7 @@ module _ (parent : Group) (name : List ℕ) (owners : List Owner) (new_id : AllB
         (start_safe g cpus mems mid holds (find_ready parent name owners new_id old mid h g found) e new starts)
 
     -- and where one is made, with its container
-    module _ (pinned : Bool) (g : Group) (pid : ℕ) (reserve : cpus ≡ old.reserved) where
+    module _ (pinned : Bool) (g : Group) (pid : ℕ) (may : MayHold old owners pinned cpus) where
       abbrev own : Owner
       own = record { id = name; holder = record { group = g; pid = pid; pinned = pinned } }
 
@@ -193,37 +194,37 @@ module _ (parent : Group) (name : List ℕ) (owners : List Owner) (new_id : AllB
           (set_tables g cpus mems mid written (Ok done) writes)))
           (made_last (mid, found, inr (done, written, writes, spawns)), tt)) where
             made_last : Launches old parent name cpus mems (Ok (g, pid)) new → Safe (owners ++ own ∷ []) new
-            made_last l = (launched parent name owners new_id pinned cpus mems g pid old new h reserve l).holds.safe
+            made_last l = (launched parent name owners new_id pinned cpus mems g pid old new h may l).holds.safe
 
-module _ (old new : NodeState) (id : List ℕ) (h : IsNode old) where
+module _ (cpus : Ids) (old new : NodeState) (id : List ℕ) (h : IsNode old) where
   new_id : container_of old id ≡ None → AllByRecursion (λ o. bytes_eq id o.id ≡ false) (owners_of old.containers)
   new_id = other_ids id old.containers
 
   -- of a refused one the containers are those before it
-  not_launched_safe : (config : List ℕ) (e : OrMemory KernelFault) (n : NotLaunched old id config e new)
+  not_launched_safe : (config : List ℕ) (e : OrMemory KernelFault) (n : NotLaunched cpus old id config e new)
       → AllSafe (owners_of new.containers)
-      (launch_states old.kernel old.parent id old.machine.reserved n.asked.homes (Err e) new.kernel n.refused)
+      (launch_states old.kernel old.parent id cpus n.asked.homes (Err e) new.kernel n.refused)
   not_launched_safe config e n =
       let same : owners_of new.containers ≡ owners_of old.containers = ap (λ (m : NodeState). owners_of m.containers) n.is in
-      subst (λ (os : List Owner). AllSafe os (launch_states old.kernel old.parent id old.machine.reserved n.asked.homes (Err e) new.kernel n.refused))
+      subst (λ (os : List Owner). AllSafe os (launch_states old.kernel old.parent id cpus n.asked.homes (Err e) new.kernel n.refused))
       (sym same)
-      (refused_safe old.parent id (owners_of old.containers) (new_id n.free.new) old.machine.reserved n.asked.homes old.kernel new.kernel h.holds e n.refused)
+      (refused_safe old.parent id (owners_of old.containers) (new_id n.free.new) cpus n.asked.homes old.kernel new.kernel h.holds e n.refused)
 
-  created_safe : (bundle config : List ℕ) (pid : ℕ) (c : Created old id bundle config pid new)
+  created_safe : (bundle config : List ℕ) (pid : ℕ) (c : Created cpus old id bundle config pid new)
       → AllSafe (owners_of new.containers)
-      (launch_states old.kernel old.parent id old.machine.reserved c.asked.homes (Ok (c.group, pid)) new.kernel c.launched)
+      (launch_states old.kernel old.parent id cpus c.asked.homes (Ok (c.group, pid)) new.kernel c.launched)
   created_safe bundle config pid c =
       let its : List ℕ × ContainerState = (id, new_container bundle c.said c.asked c.group pid) in
       let more : owners_of new.containers ≡ owners_of old.containers ++ owner_of its ∷ [] =
       ap (λ (m : NodeState). owners_of m.containers) c.is ∙ map-append owner_of old.containers (its ∷ []) in
       subst (λ (os : List Owner).
-      AllSafe os (launch_states old.kernel old.parent id old.machine.reserved c.asked.homes (Ok (c.group, pid)) new.kernel c.launched)) (sym more)
-      (made_safe old.parent id (owners_of old.containers) (new_id c.free.new) old.machine.reserved c.asked.homes old.kernel new.kernel h.holds
-      (is_pinned c.asked.kind) c.group pid (sym h.machine.reserved) c.launched)
+      AllSafe os (launch_states old.kernel old.parent id cpus c.asked.homes (Ok (c.group, pid)) new.kernel c.launched)) (sym more)
+      (made_safe old.parent id (owners_of old.containers) (new_id c.free.new) cpus c.asked.homes old.kernel new.kernel h.holds
+      (is_pinned c.asked.kind) c.group pid (may_hold old h (is_pinned c.asked.kind) cpus c.may) c.launched)
 
-pub creates_stay_safe : CreatesStaySafe
-creates_stay_safe old id bundle config (Ok pid) new c h = created_safe old new id h bundle config pid c
-creates_stay_safe old id bundle config (Err Memory) new (inl n) h = not_launched_safe old new id h config Memory n
-creates_stay_safe old id bundle config (Err Memory) new (inr same) h = tt
-creates_stay_safe old id bundle config (Err (Fault (Kernel fault))) new n h = not_launched_safe old new id h config (Fault fault) n
-creates_stay_safe old id bundle config (Err (Fault fault)) new same h = tt
+pub places_stay_safe : PlacesStaySafe
+places_stay_safe cpus old id bundle config (Ok pid) new c h = created_safe cpus old new id h bundle config pid c
+places_stay_safe cpus old id bundle config (Err Memory) new (inl n) h = not_launched_safe cpus old new id h config Memory n
+places_stay_safe cpus old id bundle config (Err Memory) new (inr same) h = tt
+places_stay_safe cpus old id bundle config (Err (Fault (Kernel fault))) new n h = not_launched_safe cpus old new id h config (Fault fault) n
+places_stay_safe cpus old id bundle config (Err (Fault fault)) new same h = tt

@@ -6,6 +6,7 @@ use Rattle.std.specs.Prelude.{cond, Result, Ok, Err}
 use Rattle.std.specs.Map.{set_value, remove_entry}
 use Rattle.std.specs.Str.{bytes_eq}
 use Rattle.faults.specs.declared.OrMemory.{OrMemory}
+use Rattle.cpu_set.specs.Ids.{Ids}
 use Rattle.cpuset_tree.specs.declared.Group.{Group}
 use Rattle.kernel_model.specs.declared.KernelFault.{KernelFault}
 use Rattle.kernel_model.specs.KernelState.{KernelState}
@@ -21,14 +22,18 @@ use Rattle.node.specs.NodeState.{ContainerState, NodeState, container_of, is_und
 use Rattle.node.specs.Owners.{owner_of, owners_of}
 use Rattle.node.specs.Ongoing.{Stands}
 use Rattle.node.specs.IsNode.{IsOfMachine, Holds, IsAsked, IsNode}
+use Rattle.node.specs.MayRequest.{MayRequest}
 use Rattle.node.specs.Refusals.{IsFree}
 use Rattle.node.specs.Launch.{Launches}
+use Rattle.node.specs.Updates.{MayUpdate, Rewrites}
 use Rattle.node.specs.Calls.{new_container}
 use Rattle.node.specs.Owners.{is_pinned}
 use Rattle.node.proofs.ListLemmas.{all_push}
-use Rattle.node.proofs.ContainerLemmas.{other_ids, owners_started, all_started, each_left}
+use Rattle.node.proofs.ContainerLemmas.{other_ids, owners_started, all_started, all_replaced, each_left}
 use Rattle.node.proofs.OngoingLemmas.{still_stands, none_stands}
 use Rattle.node.proofs.LaunchLemmas.{Stays, launched, not_launched}
+use Rattle.node.proofs.FreeLemmas.{may_hold}
+use Rattle.node.proofs.UpdateLemmas.{rewritten, either, as_written, kept_holds, changed_holds}
 use Rattle.node.proofs.EventLemmas.{Passes, fork_passes, exit_passes, offline_passes, online_passes, end_passes, remove_refused}
 use Rattle.node.proofs.DeleteLemmas.{deleted_stays}
 
@@ -69,13 +74,13 @@ module _ (n : NodeState) (h : IsNode n) (new : KernelState) where
   pub remove_refused_node : (g : Group) (e : KernelFault) → RemovesGroup n.kernel g (Err e) new → IsNode (record n { kernel = new })
   remove_refused_node g e r = passed (remove_refused n.parent (owners_of n.containers) n.kernel new h.holds g e r)
 
-  -- `create`, and one that the kernel refused
-  pub created_node : (id bundle : List ℕ) (said : Said) (asked : Asked) (g : Group) (pid : ℕ) → IsFree n id → FitsMachine n.machine asked
-      → Launches n.kernel n.parent id n.machine.reserved asked.homes (Ok (g, pid)) new
+  -- `create` and `adopt`, and one that the kernel refused
+  pub created_node : (cpus : Ids) (id bundle : List ℕ) (said : Said) (asked : Asked) (g : Group) (pid : ℕ) → IsFree n id → FitsMachine n.machine asked
+      → MayRequest n (is_pinned asked.kind) cpus → Launches n.kernel n.parent id cpus asked.homes (Ok (g, pid)) new
       → IsNode (record n { kernel = new; containers = n.containers ++ (id, new_container bundle said asked g pid) ∷ [] })
-  created_node id bundle said asked g pid free fits l =
-      let s = launched n.parent id (owners_of n.containers) (other_ids id n.containers free.new) (is_pinned asked.kind) n.machine.reserved asked.homes g pid n.kernel new h.holds
-      (sym h.machine.reserved) l in
+  created_node cpus id bundle said asked g pid free fits may l =
+      let s = launched n.parent id (owners_of n.containers) (other_ids id n.containers free.new) (is_pinned asked.kind) cpus asked.homes g pid n.kernel new h.holds
+      (may_hold n h (is_pinned asked.kind) cpus may) l in
       let same : owners_of (n.containers ++ (id, new_container bundle said asked g pid) ∷ []) ≡ owners_of n.containers ++ owner_of (id, new_container bundle said asked g pid) ∷ [] =
       map-append owner_of n.containers ((id, new_container bundle said asked g pid) ∷ []) in
       let room : length n.containers < CONTAINER_LIMIT = free.room in
@@ -90,10 +95,10 @@ module _ (n : NodeState) (h : IsNode n) (new : KernelState) where
         proved = h.proved;
       }
 
-  pub not_created_node : (id : List ℕ) (asked : Asked) (e : OrMemory KernelFault) → IsFree n id
-      → Launches n.kernel n.parent id n.machine.reserved asked.homes (Err e) new → IsNode (record n { kernel = new })
-  not_created_node id asked e free l =
-      kernel_node (not_launched n.parent id (owners_of n.containers) (other_ids id n.containers free.new) false n.machine.reserved asked.homes e n.kernel new h.holds l)
+  pub not_created_node : (cpus : Ids) (id : List ℕ) (asked : Asked) (e : OrMemory KernelFault) → IsFree n id
+      → Launches n.kernel n.parent id cpus asked.homes (Err e) new → IsNode (record n { kernel = new })
+  not_created_node cpus id asked e free l =
+      kernel_node (not_launched n.parent id (owners_of n.containers) (other_ids id n.containers free.new) false cpus asked.homes e n.kernel new h.holds l)
       (none_stands n.kernel (owners_of n.containers) (is_underway n.phase) free.settled n.ongoing h.stands new (owners_of n.containers))
 
   length_left : (id : List ℕ) (xs : List (List ℕ × ContainerState)) → length (remove_entry (bytes_eq id) xs) ≤ length xs
@@ -117,6 +122,35 @@ module _ (n : NodeState) (h : IsNode n) (new : KernelState) where
         stands = none_stands n.kernel (owners_of n.containers) (is_underway n.phase) settled n.ongoing h.stands new (owners_of (remove_entry (bytes_eq id) n.containers));
         proved = h.proved;
       }
+
+-- `update`, and one of which a write failed
+module _ (n : NodeState) (h : IsNode n) (new : KernelState) (id : List ℕ) (c : ContainerState) (may : MayUpdate n id c) (asked : Asked) where
+  reserve : n.machine.reserved ≡ n.kernel.reserved
+  reserve = sym h.machine.reserved
+
+  pub updated_node : (bundle : List ℕ) → FitsMachine n.machine asked → Rewrites n.kernel n.machine.reserved c asked (Ok tt) new
+      → IsNode (record n { kernel = new; containers = set_value (bytes_eq id) n.containers (record c { bundle = bundle; demand = asked }) })
+  updated_node bundle fits w =
+      let few : length n.containers ≤ CONTAINER_LIMIT = h.few in
+      let left = rewritten n.machine.reserved c n.parent id n.containers may.there n.kernel h.holds reserve bundle asked new (Ok tt) w in
+      record {
+        machine = still_of_machine n.kernel new n.machine h.machine left.machine;
+        holds = changed_holds n.machine.reserved c n.parent id n.containers may.there n.kernel h.holds reserve bundle asked new left
+            (as_written n.machine.reserved c n.parent id n.containers may.there n.kernel h.holds reserve bundle asked new w);
+        few = omega (arith, few, length-set_value (bytes_eq id) n.containers (record c { bundle = bundle; demand = asked }));
+        asked = all_replaced id (IsAsked n.machine) n.containers c (record c { bundle = bundle; demand = asked }) may.there
+            (λ key same a. record { id = a.id; fits = fits }) h.asked;
+        stands = none_stands n.kernel (owners_of n.containers) (is_underway n.phase) may.settled n.ongoing h.stands new
+            (owners_of (set_value (bytes_eq id) n.containers (record c { bundle = bundle; demand = asked })));
+        proved = h.proved;
+      }
+
+  pub not_updated_node : (fault : KernelFault) → Rewrites n.kernel n.machine.reserved c asked (Err fault) new → IsNode (record n { kernel = new })
+  not_updated_node fault w =
+      let left = rewritten n.machine.reserved c n.parent id n.containers may.there n.kernel h.holds reserve [] asked new (Err fault) w in
+      let is = either n.machine.reserved c n.parent id n.containers may.there n.kernel h.holds reserve [] asked new (Err fault) w in
+      kernel_node n h new (record { holds = kept_holds n.machine.reserved c n.parent id n.containers may.there n.kernel h.holds reserve new left is; machine = left.machine })
+      (none_stands n.kernel (owners_of n.containers) (is_underway n.phase) may.settled n.ongoing h.stands new (owners_of n.containers))
 
 -- `start`
 pub started_node : (n : NodeState) → IsNode n → (id : List ℕ) (c : ContainerState) → container_of n id ≡ Some c

@@ -1,24 +1,26 @@
 -- Each container is of the config that it was created with.
-use Rattle.std.proofs.Common.{◌≡◌, inl, inr, ℕ, zero, suc, List, [], ◌∷◌, refl, sym, subst}
+use Rattle.std.proofs.Common.{◌≡◌, ◌⊎◌, inl, inr, ℕ, zero, suc, List, [], ◌∷◌, refl, sym, subst}
 use Rattle.std.proofs.lemmas.List.Elements.{All-contains_itself, recursion_from_All}
 use Rattle.std.specs.List.{Contains, AllByRecursion}
 use Rattle.std.specs.Prelude.{Result, Ok, Err}
 use Rattle.faults.specs.declared.OrMemory.{OrMemory}
 use Rattle.faults.specs.declared.OrMemory.TheVariants.{Memory, Fault}
+use Rattle.cpu_set.specs.Ids.{Ids}
 use Rattle.kernel_model.specs.declared.KernelFault.{KernelFault}
 use Rattle.apply_plan.specs.declared.Progress.{Progress}
 use Rattle.apply_plan.specs.declared.Progress.TheVariants.{More, Done}
 use Rattle.node.specs.declared.fault.NodeFault.{NodeFault}
-use Rattle.node.specs.declared.fault.NodeFault.TheVariants.{Busy, BadId, IdInUse, TooManyContainers, NoContainer, NotCreated, NotRunnable, BadSignal, NotLive, NotStopped, NoHandover, NoAnswer, Config, Demand, Kernel}
+use Rattle.node.specs.declared.fault.NodeFault.TheVariants.{Busy, BadId, IdInUse, TooManyContainers, NoContainer, NotCreated, NotRunnable, BadSignal, NotLive, NotStopped, NoHandover, NoAnswer, NotFree, Config, Demand, Kernel}
 use Rattle.node.specs.declared.outcome.Outcome.{Outcome}
 use Rattle.node.specs.declared.outcome.Outcome.TheVariants.{Plan, Short}
 use Rattle.node.specs.NodeState.{ContainerState, NodeState}
-use Rattle.node.specs.Calls.{Creates, Starts, Kills, Deletes}
+use Rattle.node.specs.Updates.{Updates}
+use Rattle.node.specs.Calls.{Places, Starts, Kills, Deletes}
 use Rattle.node.specs.Rebalance.{Begins, StepsOn, StepsMore, Moves, Rebalances}
 use Rattle.node.specs.Machine.{Event, Step, Run}
-use Rattle.node.specs.Machine.Event.{Create, Start, Kill, Delete, Rebalance, Begin, StepOn, State, ListAll, SetsOf, Pool, PhaseIs, ShowCertificate, Fork, Exit, Offline, Online}
+use Rattle.node.specs.Machine.Event.{Create, Adopt, Update, Start, Kill, Delete, Rebalance, Begin, StepOn, State, ListAll, SetsOf, Pool, PhaseIs, ShowCertificate, Fork, Exit, Offline, Online}
 use Rattle.node.specs.Said.{IsSaid, ContainersAreSaid}
-use Rattle.node.proofs.ContainerLemmas.{all_started, each_left}
+use Rattle.node.proofs.ContainerLemmas.{all_started, all_replaced, each_left}
 use Rattle.node.proofs.ListLemmas.{all_push}
 
 -- each container of the node is of a config with which one of the events created it
@@ -29,32 +31,68 @@ module _ (events : List Event) where
   moved : (other new : NodeState) → new ≡ other → AreSaid events other → AreSaid events new
   moved other new same h = subst (AreSaid events) (sym same) h
 
-  create_said : (old new : NodeState) (id bundle config : List ℕ) (r : Result ℕ (OrMemory NodeFault)) → Contains events (Create id bundle config r)
-      → Creates old id bundle config r new → AreSaid events old → AreSaid events new
-  create_said old new id bundle config (Ok pid) is c h =
-      moved _ new c.is (all_push (IsSaid events old.machine) old.containers _ h (record { config = config; said = c.said; created = is; says = c.says; runnable = refl }))
-  create_said old new id bundle config (Err Memory) is c h = elim c [ inl n ↦ moved (record old { kernel = new.kernel }) new n.is h | inr e ↦ moved old new e.2 h ]
-  create_said old new id bundle config (Err (Fault (Kernel fault))) is c h = moved (record old { kernel = new.kernel }) new c.is h
-  create_said old new id bundle config (Err (Fault Busy)) is c h = moved old new c.1 h
-  create_said old new id bundle config (Err (Fault BadId)) is c h = moved old new c.1 h
-  create_said old new id bundle config (Err (Fault IdInUse)) is c h = moved old new c.1 h
-  create_said old new id bundle config (Err (Fault TooManyContainers)) is c h = moved old new c.1 h
-  create_said old new id bundle config (Err (Fault NoContainer)) is c h = moved old new c.1 h
-  create_said old new id bundle config (Err (Fault NotCreated)) is c h = moved old new c.1 h
-  create_said old new id bundle config (Err (Fault NotRunnable)) is c h = moved old new c.1 h
-  create_said old new id bundle config (Err (Fault BadSignal)) is c h = moved old new c.1 h
-  create_said old new id bundle config (Err (Fault NotLive)) is c h = moved old new c.1 h
-  create_said old new id bundle config (Err (Fault NotStopped)) is c h = moved old new c.1 h
-  create_said old new id bundle config (Err (Fault NoHandover)) is c h = moved old new c.1 h
-  create_said old new id bundle config (Err (Fault NoAnswer)) is c h = moved old new c.1 h
-  create_said old new id bundle config (Err (Fault (Config fault))) is c h = moved old new c.1 h
-  create_said old new id bundle config (Err (Fault (Demand fault))) is c h = moved old new c.1 h
+  -- the event is a `create` or an `adopt` that answers this
+  abbrev IsPlacing : List ℕ → List ℕ → List ℕ → Result ℕ (OrMemory NodeFault) → Type 0
+  IsPlacing id bundle config r = Contains events (Create id bundle config r) ⊎ ((cpus : Ids) × Contains events (Adopt id bundle config cpus r))
+
+  place_said : (cpus : Ids) (old new : NodeState) (id bundle config : List ℕ) (r : Result ℕ (OrMemory NodeFault)) → IsPlacing id bundle config r
+      → Places cpus old id bundle config r new → AreSaid events old → AreSaid events new
+  place_said cpus old new id bundle config (Ok pid) is c h =
+      moved _ new c.is (all_push (IsSaid events old.machine) old.containers _ h (record { config = config; said = c.said; asked = inl is; says = c.says; first_bundle = bundle; first_config = config; first_said = c.said; made = is; first_said_so = c.says.said_so; runnable = refl }))
+  place_said cpus old new id bundle config (Err Memory) is c h = elim c [ inl n ↦ moved (record old { kernel = new.kernel }) new n.is h | inr e ↦ moved old new e.2 h ]
+  place_said cpus old new id bundle config (Err (Fault (Kernel fault))) is c h = moved (record old { kernel = new.kernel }) new c.is h
+  place_said cpus old new id bundle config (Err (Fault Busy)) is c h = moved old new c.1 h
+  place_said cpus old new id bundle config (Err (Fault BadId)) is c h = moved old new c.1 h
+  place_said cpus old new id bundle config (Err (Fault IdInUse)) is c h = moved old new c.1 h
+  place_said cpus old new id bundle config (Err (Fault TooManyContainers)) is c h = moved old new c.1 h
+  place_said cpus old new id bundle config (Err (Fault NoContainer)) is c h = moved old new c.1 h
+  place_said cpus old new id bundle config (Err (Fault NotCreated)) is c h = moved old new c.1 h
+  place_said cpus old new id bundle config (Err (Fault NotRunnable)) is c h = moved old new c.1 h
+  place_said cpus old new id bundle config (Err (Fault BadSignal)) is c h = moved old new c.1 h
+  place_said cpus old new id bundle config (Err (Fault NotLive)) is c h = moved old new c.1 h
+  place_said cpus old new id bundle config (Err (Fault NotStopped)) is c h = moved old new c.1 h
+  place_said cpus old new id bundle config (Err (Fault NoHandover)) is c h = moved old new c.1 h
+  place_said cpus old new id bundle config (Err (Fault NoAnswer)) is c h = moved old new c.1 h
+  place_said cpus old new id bundle config (Err (Fault (NotFree cpu))) is c h = moved old new c.1 h
+  place_said cpus old new id bundle config (Err (Fault (Config fault))) is c h = moved old new c.1 h
+  place_said cpus old new id bundle config (Err (Fault (Demand fault))) is c h = moved old new c.1 h
 
   start_said : (old new : NodeState) (id : List ℕ) (r : Result (Unit {0}) NodeFault) → Starts old id r new → AreSaid events old → AreSaid events new
   start_said old new id (Ok v) s h =
       moved _ new s.4 (all_started id (IsSaid events old.machine) old.containers s.0 s.1
-      (λ key e. record { config = e.config; said = e.said; created = e.created; says = e.says; runnable = e.runnable }) h)
+      (λ key e. record {
+        config = e.config;
+        said = e.said;
+        asked = e.asked;
+        says = e.says;
+        first_bundle = e.first_bundle;
+        first_config = e.first_config;
+        first_said = e.first_said;
+        made = e.made;
+        first_said_so = e.first_said_so;
+        runnable = e.runnable;
+      }) h)
   start_said old new id (Err fault) s h = moved old new s.1 h
+
+  update_said : (old new : NodeState) (id bundle config : List ℕ) (r : Result (Unit {0}) (OrMemory NodeFault)) → Contains events (Update id bundle config r)
+      → Updates old id bundle config r new → AreSaid events old → AreSaid events new
+  update_said old new id bundle config (Ok done) is u h =
+      moved _ new u.is (all_replaced id (IsSaid events old.machine) old.containers u.container (record u.container { bundle = bundle; demand = u.asked }) u.may.there
+      (λ key same e. record {
+        config = config;
+        said = u.said;
+        asked = inr (subst (λ (x : List ℕ). Contains events (Update x bundle config (Ok tt))) same is);
+        says = u.says;
+        first_bundle = e.first_bundle;
+        first_config = e.first_config;
+        first_said = e.first_said;
+        made = e.made;
+        first_said_so = e.first_said_so;
+        runnable = e.runnable;
+      }) h)
+  update_said old new id bundle config (Err Memory) is u h = moved old new u.3 h
+  update_said old new id bundle config (Err (Fault (Kernel fault))) is u h = moved (record old { kernel = new.kernel }) new u.1.is h
+  update_said old new id bundle config (Err (Fault fault)) is u h = moved old new u.1 h
 
   kill_said : (old new : NodeState) (id signal : List ℕ) (r : Result (Unit {0}) NodeFault) → Kills old id signal r new → AreSaid events old → AreSaid events new
   kill_said old new id signal (Ok v) k h = moved (record old { kernel = new.kernel }) new k.is h
@@ -71,6 +109,7 @@ module _ (events : List Event) where
   kill_said old new id signal (Err NotStopped) k h = moved old new k.1 h
   kill_said old new id signal (Err NoHandover) k h = moved old new k.1 h
   kill_said old new id signal (Err NoAnswer) k h = moved old new k.1 h
+  kill_said old new id signal (Err (NotFree cpu)) k h = moved old new k.1 h
   kill_said old new id signal (Err (Config fault)) k h = moved old new k.1 h
   kill_said old new id signal (Err (Demand fault)) k h = moved old new k.1 h
 
@@ -89,6 +128,7 @@ module _ (events : List Event) where
   delete_said old new id (Err NotStopped) d h = moved old new d.1 h
   delete_said old new id (Err NoHandover) d h = moved old new d.1 h
   delete_said old new id (Err NoAnswer) d h = moved old new d.1 h
+  delete_said old new id (Err (NotFree cpu)) d h = moved old new d.1 h
   delete_said old new id (Err (Config fault)) d h = moved old new d.1 h
   delete_said old new id (Err (Demand fault)) d h = moved old new d.1 h
 
@@ -127,7 +167,9 @@ module _ (events : List Event) where
   rebalance_said old new (Err (Fault fault)) b h = absurd b
 
   event_said : (old new : NodeState) (event : Event) → Contains events event → Step old event new → AreSaid events old → AreSaid events new
-  event_said old new (Create id bundle config answer) is s h = create_said old new id bundle config answer is s h
+  event_said old new (Create id bundle config answer) is s h = place_said old.machine.reserved old new id bundle config answer (inl is) s h
+  event_said old new (Adopt id bundle config cpus answer) is s h = place_said cpus old new id bundle config answer (inr (cpus, is)) s h
+  event_said old new (Update id bundle config answer) is s h = update_said old new id bundle config answer is s h
   event_said old new (Start id answer) is s h = start_said old new id answer s h
   event_said old new (Kill id signal answer) is s h = kill_said old new id signal answer s h
   event_said old new (Delete id answer) is s h = delete_said old new id answer s h

@@ -61,7 +61,7 @@ has_asked : (events : List Event) (m : Layout) (k : KernelState) (pool : Ids) (e
 has_asked events m k pool e said served = record {
   config = said.config;
   said = said.said;
-  created = said.created;
+  asked = said.asked;
   said_so = said.says.said_so;
   has = λ live. are_asked m k pool said.said.cpu e.1.demand said.says.asked_so (effective k e) e.1.demand.kind refl (served live);
 }

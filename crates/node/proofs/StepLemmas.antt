@@ -21,7 +21,7 @@ use Rattle.apply_plan.specs.Leaves.{KeepsRest}
 use Rattle.apply_plan.specs.Runs.{IsOpen}
 use Rattle.apply_plan.specs.OneStep.{StepLeaves, StepsLeave}
 use Rattle.node.specs.declared.fault.NodeFault.{NodeFault}
-use Rattle.node.specs.declared.fault.NodeFault.TheVariants.{Busy, BadId, IdInUse, TooManyContainers, NoContainer, NotCreated, NotRunnable, BadSignal, NotLive, NotStopped, NoHandover, NoAnswer, Config, Demand, Kernel}
+use Rattle.node.specs.declared.fault.NodeFault.TheVariants.{Busy, BadId, IdInUse, TooManyContainers, NoContainer, NotCreated, NotRunnable, BadSignal, NotLive, NotStopped, NoHandover, NoAnswer, NotFree, Config, Demand, Kernel}
 use Rattle.node.specs.declared.phase.Phase.{Phase}
 use Rattle.node.specs.declared.phase.Phase.TheVariants.{Settled, Unsettled}
 use Rattle.node.specs.NodeState.{Ongoing, NodeState, is_underway}
@@ -237,6 +237,7 @@ module _ (old : NodeState) (P : Result Progress NodeFault → NodeState → Type
   by_answer (Err NotLive) new s = absurd s
   by_answer (Err NotStopped) new s = absurd s
   by_answer (Err NoAnswer) new s = absurd s
+  by_answer (Err (NotFree cpu)) new s = absurd s
   by_answer (Err (Config fault)) new s = absurd s
   by_answer (Err (Demand fault)) new s = absurd s
 

@@ -10,10 +10,10 @@ use Rattle.kernel_model.specs.KernelLemmas.{counts_each_write}
 use Rattle.faults.specs.declared.OrMemory.{OrMemory}
 use Rattle.faults.specs.declared.OrMemory.TheVariants.{Memory, Fault}
 use Rattle.node.specs.declared.fault.NodeFault.{NodeFault}
-use Rattle.node.specs.declared.fault.NodeFault.TheVariants.{Busy, BadId, IdInUse, TooManyContainers, NoContainer, NotCreated, NotRunnable, BadSignal, NotLive, NotStopped, NoHandover, NoAnswer, Config, Demand, Kernel}
+use Rattle.node.specs.declared.fault.NodeFault.TheVariants.{Busy, BadId, IdInUse, TooManyContainers, NoContainer, NotCreated, NotRunnable, BadSignal, NotLive, NotStopped, NoHandover, NoAnswer, NotFree, Config, Demand, Kernel}
 use Rattle.node.specs.NodeState.{NodeState}
 use Rattle.node.specs.Launch.{FindsOr, AtOnce, WritesSets, StartsIn, Launches}
-use Rattle.node.specs.Calls.{Creates, Kills, Deletes}
+use Rattle.node.specs.Calls.{Places, Kills, Deletes}
 use Rattle.node.specs.Written.{one_write, launch_writes, CreateWrites}
 
 -- a group that is not there is made by one write, whatever it answers
@@ -92,30 +92,31 @@ kept_writes old new same = let e : new.kernel.writes ≡ old.kernel.writes = ap 
 few_writes : (old new : NodeState) (n : ℕ) → new ≡ old → new.kernel.writes ≤ old.kernel.writes + n
 few_writes old new n same = let e : new.kernel.writes ≡ old.kernel.writes = ap (λ (m : NodeState). m.kernel.writes) same in omega (arith, e)
 
--- `create`
-pub create_makes : (old : NodeState) (id bundle config : List ℕ) (r : Result ℕ (OrMemory NodeFault)) (new : NodeState) → Creates old id bundle config r new → CreateWrites old id r new
-create_makes old id bundle config (Ok pid) new h = launch_made old.kernel old.parent id old.machine.reserved h.asked.homes (h.group, pid) new.kernel h.launched
-create_makes old id bundle config (Err Memory) new h =
+-- `create` and `adopt`
+pub place_makes : (cpus : Ids) (old : NodeState) (id bundle config : List ℕ) (r : Result ℕ (OrMemory NodeFault)) (new : NodeState) → Places cpus old id bundle config r new → CreateWrites old id r new
+place_makes cpus old id bundle config (Ok pid) new h = launch_made old.kernel old.parent id cpus h.asked.homes (h.group, pid) new.kernel h.launched
+place_makes cpus old id bundle config (Err Memory) new h =
     elim h [
-      | inl late ↦ launch_makes old.kernel old.parent id old.machine.reserved late.asked.homes Memory new.kernel late.refused
+      | inl late ↦ launch_makes old.kernel old.parent id cpus late.asked.homes Memory new.kernel late.refused
       | inr early ↦ few_writes old new (launch_writes old.kernel old.parent id) early.2
     ]
-create_makes old id bundle config (Err (Fault (Kernel fault))) new h =
-    launch_makes old.kernel old.parent id old.machine.reserved h.asked.homes (Fault fault) new.kernel h.refused
-create_makes old id bundle config (Err (Fault Busy)) new h = few_writes old new (launch_writes old.kernel old.parent id) h.1
-create_makes old id bundle config (Err (Fault BadId)) new h = few_writes old new (launch_writes old.kernel old.parent id) h.1
-create_makes old id bundle config (Err (Fault IdInUse)) new h = few_writes old new (launch_writes old.kernel old.parent id) h.1
-create_makes old id bundle config (Err (Fault TooManyContainers)) new h = few_writes old new (launch_writes old.kernel old.parent id) h.1
-create_makes old id bundle config (Err (Fault NoContainer)) new h = few_writes old new (launch_writes old.kernel old.parent id) h.1
-create_makes old id bundle config (Err (Fault NotCreated)) new h = few_writes old new (launch_writes old.kernel old.parent id) h.1
-create_makes old id bundle config (Err (Fault NotRunnable)) new h = few_writes old new (launch_writes old.kernel old.parent id) h.1
-create_makes old id bundle config (Err (Fault BadSignal)) new h = few_writes old new (launch_writes old.kernel old.parent id) h.1
-create_makes old id bundle config (Err (Fault NotLive)) new h = few_writes old new (launch_writes old.kernel old.parent id) h.1
-create_makes old id bundle config (Err (Fault NotStopped)) new h = few_writes old new (launch_writes old.kernel old.parent id) h.1
-create_makes old id bundle config (Err (Fault NoHandover)) new h = few_writes old new (launch_writes old.kernel old.parent id) h.1
-create_makes old id bundle config (Err (Fault NoAnswer)) new h = few_writes old new (launch_writes old.kernel old.parent id) h.1
-create_makes old id bundle config (Err (Fault (Config fault))) new h = few_writes old new (launch_writes old.kernel old.parent id) h.1
-create_makes old id bundle config (Err (Fault (Demand fault))) new h = few_writes old new (launch_writes old.kernel old.parent id) h.1
+place_makes cpus old id bundle config (Err (Fault (Kernel fault))) new h =
+    launch_makes old.kernel old.parent id cpus h.asked.homes (Fault fault) new.kernel h.refused
+place_makes cpus old id bundle config (Err (Fault Busy)) new h = few_writes old new (launch_writes old.kernel old.parent id) h.1
+place_makes cpus old id bundle config (Err (Fault BadId)) new h = few_writes old new (launch_writes old.kernel old.parent id) h.1
+place_makes cpus old id bundle config (Err (Fault IdInUse)) new h = few_writes old new (launch_writes old.kernel old.parent id) h.1
+place_makes cpus old id bundle config (Err (Fault TooManyContainers)) new h = few_writes old new (launch_writes old.kernel old.parent id) h.1
+place_makes cpus old id bundle config (Err (Fault NoContainer)) new h = few_writes old new (launch_writes old.kernel old.parent id) h.1
+place_makes cpus old id bundle config (Err (Fault NotCreated)) new h = few_writes old new (launch_writes old.kernel old.parent id) h.1
+place_makes cpus old id bundle config (Err (Fault NotRunnable)) new h = few_writes old new (launch_writes old.kernel old.parent id) h.1
+place_makes cpus old id bundle config (Err (Fault BadSignal)) new h = few_writes old new (launch_writes old.kernel old.parent id) h.1
+place_makes cpus old id bundle config (Err (Fault NotLive)) new h = few_writes old new (launch_writes old.kernel old.parent id) h.1
+place_makes cpus old id bundle config (Err (Fault NotStopped)) new h = few_writes old new (launch_writes old.kernel old.parent id) h.1
+place_makes cpus old id bundle config (Err (Fault NoHandover)) new h = few_writes old new (launch_writes old.kernel old.parent id) h.1
+place_makes cpus old id bundle config (Err (Fault NoAnswer)) new h = few_writes old new (launch_writes old.kernel old.parent id) h.1
+place_makes cpus old id bundle config (Err (Fault (NotFree cpu))) new h = few_writes old new (launch_writes old.kernel old.parent id) h.1
+place_makes cpus old id bundle config (Err (Fault (Config fault))) new h = few_writes old new (launch_writes old.kernel old.parent id) h.1
+place_makes cpus old id bundle config (Err (Fault (Demand fault))) new h = few_writes old new (launch_writes old.kernel old.parent id) h.1
 
 -- `kill`
 pub kill_makes : (old : NodeState) (id signal : List ℕ) (r : Result (Unit {0}) NodeFault) (new : NodeState) → Kills old id signal r new
@@ -134,6 +135,7 @@ kill_makes old id signal (Err NotLive) new h = kept_writes old new h.1
 kill_makes old id signal (Err NotStopped) new h = kept_writes old new h.1
 kill_makes old id signal (Err NoHandover) new h = kept_writes old new h.1
 kill_makes old id signal (Err NoAnswer) new h = kept_writes old new h.1
+kill_makes old id signal (Err (NotFree cpu)) new h = kept_writes old new h.1
 kill_makes old id signal (Err (Config fault)) new h = kept_writes old new h.1
 kill_makes old id signal (Err (Demand fault)) new h = kept_writes old new h.1
 
@@ -154,5 +156,6 @@ delete_makes old id (Err NotLive) new h = kept_writes old new h.1
 delete_makes old id (Err NotStopped) new h = kept_writes old new h.1
 delete_makes old id (Err NoHandover) new h = kept_writes old new h.1
 delete_makes old id (Err NoAnswer) new h = kept_writes old new h.1
+delete_makes old id (Err (NotFree cpu)) new h = kept_writes old new h.1
 delete_makes old id (Err (Config fault)) new h = kept_writes old new h.1
 delete_makes old id (Err (Demand fault)) new h = kept_writes old new h.1

@@ -2,6 +2,7 @@
 use Rattle.std.specs.Prelude.{◌≡◌, ◌⊎◌, ◌++◌, ◌||◌, ◌&&◌, ℕ, Bool, true, false, not, List, [], ◌∷◌, Some, None, Result, Ok, Err, codes}
 use Rattle.std.specs.Map.{set_value, remove_entry}
 use Rattle.std.specs.Str.{bytes_eq}
+use Rattle.cpu_set.specs.Ids.{Ids}
 use Rattle.cpuset_tree.specs.declared.Group.{Group}
 use Rattle.cpuset_tree.specs.Groups.{root_of}
 use Rattle.kernel_model.specs.declared.KernelFault.{KernelFault}
@@ -20,7 +21,9 @@ use Rattle.node.specs.declared.phase.Phase.TheVariants.{Settled}
 use Rattle.node.specs.NodeState.{ContainerState, NodeState, container_of, is_underway}
 use Rattle.node.specs.Status.{is_live}
 use Rattle.node.specs.Launch.{FindsOrMakes, Launches}
-use Rattle.node.specs.Refusals.{IsFree, CreateCause}
+use Rattle.node.specs.Owners.{is_pinned}
+use Rattle.node.specs.MayRequest.{MayRequest}
+use Rattle.node.specs.Refusals.{IsFree, PlaceCause}
 use Rattle.node.specs.Wanted.{Says}
 
 -- a node over a kernel, whose group below the root is found or made; it has no container, and no plan was made yet
@@ -37,36 +40,46 @@ abbrev pub new_container : List ℕ → Said → Asked → Group → ℕ → Con
 new_container bundle said asked group pid =
     record { bundle = bundle; demand = asked; runnable = said.runnable; group = group; pid = pid; started = false }
 
--- a group and a first process on the reserved CPUs and the homes, and the container after all others
-pub record Created (old : NodeState) (id bundle config : List ℕ) (pid : ℕ) (new : NodeState) : Type 0 where
+-- a group and a first process on these CPUs and the homes, and the container after all others
+pub record Created (cpus : Ids) (old : NodeState) (id bundle config : List ℕ) (pid : ℕ) (new : NodeState) : Type 0 where
   pub said : Said
   pub asked : Asked
   pub group : Group
   pub free : IsFree old id
   pub says : Says old.machine config said asked
-  pub launched : Launches old.kernel old.parent id old.machine.reserved asked.homes (Ok (group, pid)) new.kernel
+  pub may : MayRequest old (is_pinned asked.kind) cpus
+  pub launched : Launches old.kernel old.parent id cpus asked.homes (Ok (group, pid)) new.kernel
   pub is : new ≡ record old { kernel = new.kernel; containers = old.containers ++ (id, new_container bundle said asked group pid) ∷ [] }
 
 -- the kernel refused one of its calls, and the container is not there
-pub record NotLaunched (old : NodeState) (id config : List ℕ) (error : OrMemory KernelFault) (new : NodeState) : Type 0 where
+pub record NotLaunched (cpus : Ids) (old : NodeState) (id config : List ℕ) (error : OrMemory KernelFault) (new : NodeState) : Type 0 where
   pub said : Said
   pub asked : Asked
   pub free : IsFree old id
   pub says : Says old.machine config said asked
-  pub refused : Launches old.kernel old.parent id old.machine.reserved asked.homes (Err error) new.kernel
+  pub may : MayRequest old (is_pinned asked.kind) cpus
+  pub refused : Launches old.kernel old.parent id cpus asked.homes (Err error) new.kernel
   pub is : new ≡ record old { kernel = new.kernel }
 
--- what `create` answers where the kernel refuses
+-- what is answered where the kernel refuses
 abbrev pub late_answer : OrMemory KernelFault → OrMemory NodeFault
 late_answer Memory = Memory
 late_answer (Fault fault) = Fault (Kernel fault)
 
--- `create`
+-- a new container, whose group requests these CPUs at first
+abbrev pub Places : Ids → NodeState → List ℕ → List ℕ → List ℕ → Result ℕ (OrMemory NodeFault) → NodeState → Type 0
+Places cpus old id bundle config (Ok pid) new = Created cpus old id bundle config pid new
+Places cpus old id bundle config (Err Memory) new = NotLaunched cpus old id config Memory new ⊎ (IsFree old id × (bytes_fault config ≡ None) × (new ≡ old))
+Places cpus old id bundle config (Err (Fault (Kernel fault))) new = NotLaunched cpus old id config (Fault fault) new
+Places cpus old id bundle config (Err (Fault fault)) new = PlaceCause cpus old id config fault × (new ≡ old)
+
+-- `create`: on the reserved CPUs
 abbrev pub Creates : NodeState → List ℕ → List ℕ → List ℕ → Result ℕ (OrMemory NodeFault) → NodeState → Type 0
-Creates old id bundle config (Ok pid) new = Created old id bundle config pid new
-Creates old id bundle config (Err Memory) new = NotLaunched old id config Memory new ⊎ (IsFree old id × (bytes_fault config ≡ None) × (new ≡ old))
-Creates old id bundle config (Err (Fault (Kernel fault))) new = NotLaunched old id config (Fault fault) new
-Creates old id bundle config (Err (Fault fault)) new = CreateCause old id config fault × (new ≡ old)
+Creates old id bundle config r new = Places old.machine.reserved old id bundle config r new
+
+-- `adopt`: on the CPUs that the container has already
+abbrev pub Adopts : NodeState → List ℕ → List ℕ → List ℕ → Ids → Result ℕ (OrMemory NodeFault) → NodeState → Type 0
+Adopts old id bundle config cpus r new = Places cpus old id bundle config r new
 
 -- it is live, and was not started
 abbrev pub is_created : KernelState → ContainerState → Bool

@@ -1,7 +1,7 @@
 -- What is printed as the cause of a refusal of a call of the node: its number and its name.
 use Rattle.std.specs.Prelude.{ℕ, List, codes}
 use Rattle.node.specs.declared.fault.NodeFault.{NodeFault}
-use Rattle.node.specs.declared.fault.NodeFault.TheVariants.{Busy, BadId, IdInUse, TooManyContainers, NoContainer, NotCreated, NotRunnable, BadSignal, NotLive, NotStopped, NoHandover, NoAnswer, Config, Demand, Kernel}
+use Rattle.node.specs.declared.fault.NodeFault.TheVariants.{Busy, BadId, IdInUse, TooManyContainers, NoContainer, NotCreated, NotRunnable, BadSignal, NotLive, NotStopped, NoHandover, NoAnswer, NotFree, Config, Demand, Kernel}
 use Rattle.config_json.specs.FaultTitle.{config_title}
 use Rattle.demand.specs.FaultTitle.{demand_title}
 use Rattle.kernel_model.specs.FaultTitle.{kernel_title}
@@ -19,6 +19,7 @@ node_title NotLive = codes "E98 NotLive"
 node_title NotStopped = codes "E99 NotStopped"
 node_title NoHandover = codes "E100 NoHandover"
 node_title NoAnswer = codes "E101 NoAnswer"
+node_title (NotFree cpu) = codes "E104 NotFree"
 node_title (Config fault) = config_title fault
 node_title (Demand fault) = demand_title fault
 node_title (Kernel fault) = kernel_title fault

@@ -31,7 +31,7 @@ pub record LeavesAtMostAGroup (old : KernelState) (parent : Group) (name : List 
   pub groups : (g : Group) → (entry_of new.tree g ≡ entry_of old.tree g) ⊎ (child_of new.tree parent name ≡ Some g)
   pub empty : (g : Group) → child_of new.tree parent name ≡ Some g → count_in new.table g ≡ 0
 
--- what `create` leaves where it is refused: all as it was, or at most a group once it wanted memory or the kernel refused
+-- what `create` and `adopt` leave where they are refused: all as it was, or at most a group once it wanted memory or the kernel refused
 abbrev pub CreateLeaves : NodeState → List ℕ → Result ℕ (OrMemory NodeFault) → NodeState → Type 0
 CreateLeaves old id (Ok pid) new = Unit {0}
 CreateLeaves old id (Err Memory) new = LeavesAtMostAGroup old.kernel old.parent id new.kernel × (new ≡ record old { kernel = new.kernel })

@@ -7,12 +7,14 @@ pub mod IsNode
 pub mod Unused
 pub mod UnusedLemmas
 pub mod Wanted
+pub mod Rows
+pub mod MayRequest
 pub mod Refusals
 pub mod Launch
+pub mod Updates
 pub mod Calls
 pub mod OpenCause
 pub mod Leaves
-pub mod Rows
 pub mod Decides
 pub mod Best
 pub mod Entries

@@ -24,7 +24,8 @@ use Rattle.node.specs.NodeState.{NodeState}
 use Rattle.node.specs.Owners.{owners_of}
 use Rattle.node.specs.IsNode.{IsOfMachine, IsNode}
 use Rattle.node.specs.Unused.{IsUnused}
-use Rattle.node.specs.Calls.{Opens, Creates, Starts, Kills, Deletes}
+use Rattle.node.specs.Updates.{Updates}
+use Rattle.node.specs.Calls.{Opens, Creates, Adopts, Starts, Kills, Deletes}
 use Rattle.node.specs.Rebalance.{Begins, StepsOn, Rebalances, Moves, ShowsCertificate}
 use Rattle.node.specs.Shown.{Shows}
 use Rattle.node.specs.Listed.{listed}
@@ -35,6 +36,8 @@ use Rattle.node.specs.Headline.{Headline}
 -- only read
 pub data Event : Type 0 where
   Create : List ℕ → List ℕ → List ℕ → Result ℕ (OrMemory NodeFault) → Event
+  Adopt : List ℕ → List ℕ → List ℕ → Ids → Result ℕ (OrMemory NodeFault) → Event
+  Update : List ℕ → List ℕ → List ℕ → Result (Unit {0}) (OrMemory NodeFault) → Event
   Start : List ℕ → Result (Unit {0}) NodeFault → Event
   Kill : List ℕ → List ℕ → Result (Unit {0}) NodeFault → Event
   Delete : List ℕ → Result (Unit {0}) NodeFault → Event
@@ -59,6 +62,8 @@ InKernel old new = new ≡ record old { kernel = new.kernel }
 -- one step: the call's relation, or the event's case; a call that only reads leaves what it found
 abbrev pub Step : NodeState → Event → NodeState → Type 0
 Step old (Create id bundle config answer) new = Creates old id bundle config answer new
+Step old (Adopt id bundle config cpus answer) new = Adopts old id bundle config cpus answer new
+Step old (Update id bundle config answer) new = Updates old id bundle config answer new
 Step old (Start id answer) new = Starts old id answer new
 Step old (Kill id signal answer) new = Kills old id signal answer new
 Step old (Delete id answer) new = Deletes old id answer new

@@ -1,11 +1,11 @@
--- The kernel in the midst of `create`: its states, one after each single call that is made.
-use Rattle.std.specs.Prelude.{◌≡◌, ℕ, ◌+◌, ◌<◌, List, [], ◌∷◌, ◌++◌, map, Option, Some, None, Result, Ok, Err}
+-- The kernel in the midst of `create`, `adopt` and `update`: its states, one after each single call that is made.
+use Rattle.std.specs.Prelude.{◌≡◌, ◌⊎◌, ℕ, ◌+◌, ◌<◌, List, [], ◌∷◌, ◌++◌, map, Option, Some, None, Result, Ok, Err}
 use Rattle.std.proofs.Common.{inl, inr}
 use Rattle.std.specs.List.{AllByRecursion}
 use Rattle.cpu_set.specs.Ids.{Ids}
 use Rattle.cpuset_tree.specs.declared.TheConstants.{SERIAL_LIMIT}
 use Rattle.cpuset_tree.specs.declared.Group.{Group}
-use Rattle.cpuset_tree.specs.Groups.{child_of}
+use Rattle.cpuset_tree.specs.Groups.{child_of, requested_cpus}
 use Rattle.proctable.specs.declared.TheConstants.{LAST_PID}
 use Rattle.kernel_model.specs.declared.KernelFault.{KernelFault}
 use Rattle.kernel_model.specs.declared.KernelFault.TheVariants.{NoSerials, NoPids, Failed}
@@ -16,11 +16,12 @@ use Rattle.faults.specs.declared.OrMemory.TheVariants.{Memory, Fault}
 use Rattle.apply_plan.specs.Holders.{IsSafe}
 use Rattle.node.specs.declared.fault.NodeFault.{NodeFault}
 use Rattle.node.specs.declared.fault.NodeFault.TheVariants.{Kernel}
-use Rattle.node.specs.NodeState.{NodeState}
+use Rattle.node.specs.NodeState.{ContainerState, NodeState, container_of}
 use Rattle.node.specs.Owners.{owners_of}
 use Rattle.node.specs.IsNode.{IsNode}
 use Rattle.node.specs.Launch.{AtOnce, FindsOr, WritesSets, StartsIn, Launches}
-use Rattle.node.specs.Calls.{Creates}
+use Rattle.node.specs.Updates.{Updates, update_states}
+use Rattle.node.specs.Calls.{Places}
 
 -- the state after a group is made, and none where it is there already
 abbrev pub found_states : (found : Option Group) (old : KernelState) (parent : Group) (name : List ℕ) (r : Result Group (OrMemory KernelFault))
@@ -58,17 +59,17 @@ launch_states old parent name cpus mems (Err error) new (inl refused) = found_st
 launch_states old parent name cpus mems (Err error) new (inr (g, mid, found, starts)) =
     found_states (child_of old.tree parent name) old parent name (Ok g) mid found ++ start_states mid g cpus mems (Err error) new starts
 
--- the states of a `create`; none where it is refused before it calls the kernel
-abbrev pub create_states : (old : NodeState) (id bundle config : List ℕ) (r : Result ℕ (OrMemory NodeFault)) (new : NodeState)
-    → Creates old id bundle config r new → List KernelState
-create_states old id bundle config (Ok pid) new c =
-    launch_states old.kernel old.parent id old.machine.reserved c.asked.homes (Ok (c.group, pid)) new.kernel c.launched
-create_states old id bundle config (Err Memory) new (inl n) =
-    launch_states old.kernel old.parent id old.machine.reserved n.asked.homes (Err Memory) new.kernel n.refused
-create_states old id bundle config (Err Memory) new (inr same) = []
-create_states old id bundle config (Err (Fault (Kernel fault))) new n =
-    launch_states old.kernel old.parent id old.machine.reserved n.asked.homes (Err (Fault fault)) new.kernel n.refused
-create_states old id bundle config (Err (Fault fault)) new same = []
+-- the states in which a new container is made; none where it is refused before the kernel is called
+abbrev pub place_states : (cpus : Ids) (old : NodeState) (id bundle config : List ℕ) (r : Result ℕ (OrMemory NodeFault)) (new : NodeState)
+    → Places cpus old id bundle config r new → List KernelState
+place_states cpus old id bundle config (Ok pid) new c =
+    launch_states old.kernel old.parent id cpus c.asked.homes (Ok (c.group, pid)) new.kernel c.launched
+place_states cpus old id bundle config (Err Memory) new (inl n) =
+    launch_states old.kernel old.parent id cpus n.asked.homes (Err Memory) new.kernel n.refused
+place_states cpus old id bundle config (Err Memory) new (inr same) = []
+place_states cpus old id bundle config (Err (Fault (Kernel fault))) new n =
+    launch_states old.kernel old.parent id cpus n.asked.homes (Err (Fault fault)) new.kernel n.refused
+place_states cpus old id bundle config (Err (Fault fault)) new same = []
 
 -- one call of the kernel, whatever it answers
 pub data IsOneCall (old new : KernelState) : Type 0 where
@@ -82,21 +83,23 @@ abbrev pub AreCalls : KernelState → List KernelState → KernelState → Type 
 AreCalls old [] new = new ≡ old
 AreCalls old (k ∷ later) new = IsOneCall old k × AreCalls k later new
 
--- a `create` goes through its states call by call, so that none is left out
-abbrev pub CreatesAreCalls : Type 0
-CreatesAreCalls =
-    (old : NodeState) (id bundle config : List ℕ) (r : Result ℕ (OrMemory NodeFault)) (new : NodeState) (made : Creates old id bundle config r new)
-    → AreCalls old.kernel (create_states old id bundle config r new made) new.kernel
+-- a `create` or an `adopt` goes through its states call by call, so that none is left out
+abbrev pub PlacesAreCalls : Type 0
+PlacesAreCalls =
+    (cpus : Ids) (old : NodeState) (id bundle config : List ℕ) (r : Result ℕ (OrMemory NodeFault)) (new : NodeState)
+    (made : Places cpus old id bundle config r new)
+    → AreCalls old.kernel (place_states cpus old id bundle config r new made) new.kernel
 
 -- and in each of them what is requested is safe, of all containers that are there after it: also of the one that it makes
-abbrev pub CreatesStaySafe : Type 0
-CreatesStaySafe =
-    (old : NodeState) (id bundle config : List ℕ) (r : Result ℕ (OrMemory NodeFault)) (new : NodeState) (made : Creates old id bundle config r new) → IsNode old
-    → AllByRecursion (λ k. IsSafe k k.reserved (map (λ o. o.holder) (owners_of new.containers))) (create_states old id bundle config r new made)
+abbrev pub PlacesStaySafe : Type 0
+PlacesStaySafe =
+    (cpus : Ids) (old : NodeState) (id bundle config : List ℕ) (r : Result ℕ (OrMemory NodeFault)) (new : NodeState)
+    (made : Places cpus old id bundle config r new) → IsNode old
+    → AllByRecursion (λ k. IsSafe k k.reserved (map (λ o. o.holder) (owners_of new.containers))) (place_states cpus old id bundle config r new made)
 
--- what a refusal of the kernel can be, of a `create` against which nothing stood: a write failed, and is counted; or no
--- serial was left for a group of this id, and there was none, and then all is as before but the count of writes; or no pid
--- was left
+-- what a refusal of the kernel can be, of a `create` or an `adopt` against which nothing stood: a write failed, and is
+-- counted; or no serial was left for a group of this id, and there was none, and then all is as before but the count of
+-- writes; or no pid was left
 abbrev pub LateCause : NodeState → List ℕ → KernelFault → NodeState → Type 0
 LateCause old id Failed new = new.kernel.failures ≡ old.kernel.failures + 1
 LateCause old id NoSerials new =
@@ -104,8 +107,34 @@ LateCause old id NoSerials new =
 LateCause old id NoPids new = LAST_PID < old.kernel.table.next_pid
 LateCause old id fault new = ⊥
 
--- the kernel refuses nothing else of a `create`
-abbrev pub CreatesFailLate : Type 0
-CreatesFailLate =
+-- the kernel refuses nothing else of them
+abbrev pub PlacesFailLate : Type 0
+PlacesFailLate =
+    (cpus : Ids) (old : NodeState) (id bundle config : List ℕ) (fault : KernelFault) (new : NodeState) → IsNode old
+    → Places cpus old id bundle config (Err (Fault (Kernel fault))) new → LateCause old id fault new
+
+-- an `update` goes through its states call by call, and what is requested is safe in each of them
+abbrev pub UpdatesAreCalls : Type 0
+UpdatesAreCalls =
+    (old : NodeState) (id bundle config : List ℕ) (r : Result (Unit {0}) (OrMemory NodeFault)) (new : NodeState) (made : Updates old id bundle config r new)
+    → AreCalls old.kernel (update_states old id bundle config r new made) new.kernel
+
+abbrev pub UpdatesStaySafe : Type 0
+UpdatesStaySafe =
+    (old : NodeState) (id bundle config : List ℕ) (r : Result (Unit {0}) (OrMemory NodeFault)) (new : NodeState) (made : Updates old id bundle config r new)
+    → IsNode old
+    → AllByRecursion (λ k. IsSafe k k.reserved (map (λ o. o.holder) (owners_of new.containers))) (update_states old id bundle config r new made)
+
+-- where a write of it fails, the container asks for what it did, and its group requests what it did or the reserved CPUs
+pub record IsAsBefore (old : NodeState) (id : List ℕ) (new : NodeState) : Type 0 where
+  pub container : ContainerState
+  pub there : container_of old id ≡ Some container
+  pub containers : new.containers ≡ old.containers
+  pub requests : (requested_cpus new.kernel.tree container.group ≡ requested_cpus old.kernel.tree container.group)
+      ⊎ (requested_cpus new.kernel.tree container.group ≡ old.machine.reserved)
+  pub counted : new.kernel.failures ≡ old.kernel.failures + 1
+
+abbrev pub UpdatesFail : Type 0
+UpdatesFail =
     (old : NodeState) (id bundle config : List ℕ) (fault : KernelFault) (new : NodeState) → IsNode old
-    → Creates old id bundle config (Err (Fault (Kernel fault))) new → LateCause old id fault new
+    → Updates old id bundle config (Err (Fault (Kernel fault))) new → IsAsBefore old id new

@@ -1,6 +1,6 @@
 -- What the container of a config has once a plan is in effect.
 use Rattle.std.specs.Prelude.{◌≡◌, ℕ, Bool, true, false, List, [], Result, Ok}
-use Rattle.std.specs.List.{Contains, AllByRecursion}
+use Rattle.std.specs.List.{AllByRecursion}
 use Rattle.std.specs.FinSet as set
 use Rattle.cpu_set.specs.Ids.{Ids, is_empty}
 use Rattle.kernel_model.specs.KernelState.{KernelState}
@@ -20,7 +20,7 @@ use Rattle.node.specs.IsNode.{IsNode}
 use Rattle.node.specs.Rebalance.{Rebalances}
 use Rattle.node.specs.Headline.{effective}
 use Rattle.node.specs.Machine.{Event, Run}
-use Rattle.node.specs.Machine.Event.{Create}
+use Rattle.node.specs.Said.{IsAskedIn}
 
 -- these are as many CPUs as the CPU section of a config asks for, all of those that it allows and online; of one that asks for
 -- none of its own they are the pool, which is not empty
@@ -30,11 +30,11 @@ AreAsked m k pool s cpus true =
     × ((cpu : ℕ) → set.contains cpus cpu ≡ true → (set.contains (allowed_of m s) cpu ≡ true) × (set.contains k.tree.online cpu ≡ true))
 AreAsked m k pool s cpus false = (cpus ≡ pool) × (is_empty pool ≡ false)
 
--- one of the events created the container of a config, and while it lives it has in effect what that asks for
+-- one of the events made the container of a config or read it again, and while it lives it has in effect what that asks for
 pub record HasAsked (events : List Event) (m : Layout) (k : KernelState) (pool : Ids) (e : List ℕ × ContainerState) : Type 0 where
   pub config : List ℕ
   pub said : Said
-  pub created : Contains events (Create e.0 e.1.bundle config (Ok e.1.pid))
+  pub asked : IsAskedIn events e config
   pub said_so : config_of config ≡ Ok said
   pub has : is_live k e.1 ≡ true → AreAsked m k pool said.cpu (effective k e) (is_pinned said.cpu)
 

@@ -32,7 +32,7 @@ OpenWrites old new =
 abbrev pub launch_writes : KernelState → Group → List ℕ → ℕ
 launch_writes k parent name = cond (is_some (child_of k.tree parent name)) 0 1 + 3
 
--- `create` makes the writes of a launch, or some of them where one is not done, or none
+-- `create` and `adopt` make the writes of a launch, or some of them where one is not done, or none
 abbrev pub CreateWrites : NodeState → List ℕ → Result ℕ (OrMemory NodeFault) → NodeState → Type 0
 CreateWrites old id (Ok pid) new = new.kernel.writes ≡ old.kernel.writes + launch_writes old.kernel old.parent id
 CreateWrites old id (Err error) new = new.kernel.writes ≤ old.kernel.writes + launch_writes old.kernel old.parent id

@@ -7,6 +7,7 @@ ghost use Rattle.node.specs.NodeState.{ContainerState};
 ghost use Rattle.node.specs.Viewed.{seen, all_seen};
 
 use crate::container::Container;
+use demand::Demand;
 use indexmap::IndexMap;
 use std::alloc::{AllocError, Global};
 
@@ -54,6 +55,22 @@ pub fn mark_started(containers: &mut IndexMap<String, Container>, id: &str)
 {
     if let Some(container) = containers.get_mut(id) {
         container.started = true;
+    }
+}
+
+/// Gives a container another bundle and demand.
+pub fn replace(
+    containers: &mut IndexMap<String, Container>,
+    id: &str,
+    bundle: String,
+    demand: Demand,
+)
+    ensures { (c : ContainerState) → lookup (bytes_eq id.now) (all_seen containers.old.entries) ≡ Some c
+        → all_seen containers.new.entries ≡ set_value (bytes_eq id.now) (all_seen containers.old.entries) (record c { bundle = string_bytes bundle; demand = demand }) }
+{
+    if let Some(container) = containers.get_mut(id) {
+        container.bundle = bundle;
+        container.demand = demand;
     }
 }
 

@@ -1,20 +1,24 @@
-//! `create` (OCI Runtime Specification 1.0.2, runtime.md, "Create").
-ghost use Rattle.std.specs.Prelude.{◌≡◌, ◌+◌, Err};
+//! `create` (OCI Runtime Specification 1.0.2, runtime.md, "Create"), and `adopt`, which takes up a container that runs
+//! already.
+ghost use Rattle.std.specs.Prelude.{◌≡◌, ◌≢◌, ◌+◌, ℕ, Err};
+ghost use Rattle.std.specs.FinSet as set;
 ghost use Rattle.faults.specs.declared.OrMemory.TheVariants.{Fault};
-ghost use Rattle.node.specs.declared.fault.NodeFault.TheVariants.{Kernel};
+ghost use Rattle.node.specs.declared.fault.NodeFault.TheVariants.{NotFree, Kernel};
 ghost use Rattle.node.specs.Wanted.{Asks, Wants, Reads};
 ghost use Rattle.node.specs.Refusals.{Checks};
-ghost use Rattle.node.specs.Calls.{late_answer, Creates};
+ghost use Rattle.node.specs.Calls.{late_answer, Places, Creates, Adopts};
 ghost use Rattle.node.specs.Making.{LateCause};
 ghost use Rattle.node.specs.Leaves.{CreateLeaves, rise_or_memory};
 ghost use Rattle.node.specs.Written.{CreateWrites};
 
 use crate::container::Container;
 use crate::containers::{append, find, prepare};
+use crate::free_cpus::is_pinned;
 use crate::launch::launch;
 use crate::{CONTAINER_LIMIT, Node, NodeFault};
 use certificate_text::is_id;
 use config_json::{Config, ConfigFault};
+use cpu_set::IdSet;
 use demand::Demand;
 use faults::OrMemory;
 use kernel_model::{Kernel, KernelFault};
@@ -50,7 +54,7 @@ fn wanted(
 }
 
 /// What a config says on a machine: whether the container can be started, and what it asks for.
-fn read_config(
+pub fn read_config(
     alloc: Global,
     config: &[u8],
     machine: &Machine,
@@ -60,7 +64,7 @@ fn read_config(
     wanted(Config::read(alloc, config), machine)
 }
 
-/// What `create` returns where the kernel refuses.
+/// What is returned where the kernel refuses.
 fn late_answer(error: OrMemory<KernelFault>) -> OrMemory<NodeFault>
     ensures { result ≡ late_answer error }
 {
@@ -90,14 +94,16 @@ impl<K: Kernel + Drop> Node<K> {
         Ok(())
     }
 
-    /// Creates a container.
-    fn create_body(
+    /// Makes a container, whose group requests these CPUs at first.
+    fn place(
         &mut self,
         id: &str,
         bundle: &str,
         config: &[u8],
+        cpus: IdSet,
     ) -> Result<u32, OrMemory<NodeFault>>
-        ensures { Creates self.old id.now bundle.now config.now result self.new }
+        requires { cpus ≢ set.empty }
+        ensures { Places cpus self.old id.now bundle.now config.now result self.new }
     {
         if let Err(fault) = self.check_id(id) {
             return Err(OrMemory::Fault(fault));
@@ -106,12 +112,14 @@ impl<K: Kernel + Drop> Node<K> {
             Ok(wanted) => wanted,
             Err(error) => return Err(error),
         };
+        if let Some(cpu) = self.first_taken(&cpus, is_pinned(demand.kind)) {
+            return Err(OrMemory::Fault(NodeFault::NotFree(cpu)));
+        }
         let (key, bundle) = match prepare(self.alloc, &mut self.containers, id, bundle) {
             Ok(texts) => texts,
             Err(_) => return Err(OrMemory::Memory),
         };
-        let reserved = self.machine.reserved();
-        let (group, pid) = match launch(&mut self.kernel, self.parent, id, reserved, demand.homes) {
+        let (group, pid) = match launch(&mut self.kernel, self.parent, id, cpus, demand.homes) {
             Ok(made) => made,
             Err(error) => return Err(late_answer(error)),
         };
@@ -148,8 +156,36 @@ impl<K: Kernel + Drop> Node<K> {
         ensures made { CreateWrites self.old id.now result self.new }
         // A refusal of the kernel has one of these causes.
         ensures late { (fault : KernelFault) → result ≡ Err (Fault (Kernel fault)) → LateCause self.old id.now fault self.new }
+        // The reserved CPUs are never taken.
+        ensures never { (cpu : ℕ) → result ≢ Err (Fault (NotFree cpu)) }
     {
         self.holds();
-        self.create_body(id, bundle, config)
+        let reserved = self.machine.reserved();
+        self.place(id, bundle, config, reserved)
+    }
+
+    /// Takes up a container of a bundle with this config that has these CPUs already: as `create`, but what its group
+    /// requests first are these and not the reserved ones, so that nothing changes for it.
+    ///
+    /// # Errors
+    /// In this order: those of `create` up to `Demand`, `NotFree`, and then those of the kernel, as `create` has them.
+    pub fn adopt(
+        &mut self,
+        id: &str,
+        bundle: &str,
+        config: &[u8],
+        cpus: IdSet,
+    ) -> Result<u32, OrMemory<NodeFault>>
+        requires { cpus ≢ set.empty }
+        ensures adopts { Adopts self.old id.now bundle.now config.now cpus result self.new }
+        ensures leaves { CreateLeaves self.old id.now result self.new }
+        ensures counted { self.new.kernel.failures ≡ self.old.kernel.failures + rise_or_memory result }
+        // The writing calls that a launch makes, and no other.
+        ensures made { CreateWrites self.old id.now result self.new }
+        // A refusal of the kernel has one of these causes.
+        ensures late { (fault : KernelFault) → result ≡ Err (Fault (Kernel fault)) → LateCause self.old id.now fault self.new }
+    {
+        self.holds();
+        self.place(id, bundle, config, cpus)
     }
 }

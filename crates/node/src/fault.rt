@@ -33,6 +33,9 @@ pub enum NodeFault {
     NoHandover,
     /// E101: no plan and no shortage was worked out yet.
     NoAnswer,
+    /// E104: a container that is adopted has the CPU, and the CPU is not present, or not reserved and requested by a live
+    /// container where that one or the adopted one is pinned: the least such CPU.
+    NotFree(u16),
     /// The container's config can't be read.
     Config(ConfigFault),
     /// The machine can't give what the container asks for.
@@ -59,6 +62,7 @@ impl NodeFault {
             NodeFault::NotStopped => "E99 NotStopped",
             NodeFault::NoHandover => "E100 NoHandover",
             NodeFault::NoAnswer => "E101 NoAnswer",
+            NodeFault::NotFree(_) => "E104 NotFree",
             NodeFault::Config(fault) => fault.title(),
             NodeFault::Demand(fault) => fault.title(),
             NodeFault::Kernel(fault) => fault.title(),

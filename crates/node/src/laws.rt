@@ -3,7 +3,7 @@ ghost use Rattle.std.specs.Prelude.{◌≡◌, codes};
 ghost use Rattle.node.specs.Asking.{RowsAreAsking, ScaledRowsAreAsking, ShortStands};
 ghost use Rattle.node.specs.Ending.{HandoversEnd};
 ghost use Rattle.node.specs.Machine.{FirstIsNode, RunsKeep, RunsStaySafe, RunsStayApart, RebalancesAreSteps, RunsRebalance};
-ghost use Rattle.node.specs.Making.{CreatesAreCalls, CreatesFailLate, CreatesStaySafe};
+ghost use Rattle.node.specs.Making.{PlacesAreCalls, PlacesFailLate, PlacesStaySafe, UpdatesAreCalls, UpdatesFail, UpdatesStaySafe};
 ghost use Rattle.node.specs.Proved.{LastIsProved, TotalIsProved, ShortIsProved};
 ghost use Rattle.node.specs.Said.{ContainersAreSaid};
 ghost use Rattle.node.specs.Served.{RunsServeConfigs};
@@ -24,13 +24,14 @@ pub fn first_kernels()
 /// one. Nothing runs.
 ///
 /// A rebalance that hands over leaves what `begin` and single steps leave, each of which makes at most one write; this holds
-/// after each of them, and so of what is left wherever a write fails. After each write of `create` it holds by
-/// [`each_create`]; each other call makes at most one.
+/// after each of them, and so of what is left wherever a write fails. After each write of `create` and
+/// of `adopt` it holds by [`each_create`], and of `update` by [`each_update`]; each other call makes at most one.
 ///
 /// Where after such a list each live container requests a CPU that is online, the same holds of the CPUs that are in effect
 /// for them.
 ///
-/// And what a container asks for is what the config says with which one of the events created it.
+/// And what a container asks for is what the config says with which one of the events made it, a `create` or an `adopt`,
+/// or which an `update` among them read again.
 pub fn runs()
     ensures first { FirstIsNode }
     ensures keep { RunsKeep }
@@ -56,16 +57,29 @@ pub fn each_handover()
     apply_plan::laws::runs();
 }
 
-/// The kernel in the midst of `create`, whatever that returns: nothing runs.
+/// The kernel in the midst of `create` and of `adopt`, whatever these return: nothing runs. Both make a container on CPUs
+/// that it may request, `create` on the reserved ones.
 ///
 /// From the kernel before it to the one that it leaves there are single calls alone, and after each of them no CPU but
 /// reserved ones is requested for a live pinned container and for another live one, and each live one requests some.
 ///
 /// The kernel refuses it only where a write fails, which is counted, or where no serial for a new group or no pid is left.
 pub fn each_create()
-    ensures single { CreatesAreCalls }
-    ensures safe { CreatesStaySafe }
-    ensures late { CreatesFailLate }
+    ensures single { PlacesAreCalls }
+    ensures safe { PlacesStaySafe }
+    ensures late { PlacesFailLate }
+{}
+
+/// The kernel in the midst of `update`, whatever that returns: nothing runs.
+///
+/// From the kernel before it to the one that it leaves there are single calls alone, two at most, and after each of them no CPU
+/// but reserved ones is requested for a live pinned container and for another live one, and each live one requests some.
+///
+/// Where a write fails, the container asks for what it did, and requests what it did or the reserved CPUs.
+pub fn each_update()
+    ensures single { UpdatesAreCalls }
+    ensures safe { UpdatesStaySafe }
+    ensures fails { UpdatesFail }
 {}
 
 /// The headline: what a rebalance leaves, after any list of calls and events; nothing runs.

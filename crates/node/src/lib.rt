@@ -8,6 +8,7 @@ mod create;
 mod deciding;
 mod events;
 mod fault;
+mod free_cpus;
 mod launch;
 pub mod laws;
 mod lifecycle;
@@ -21,6 +22,7 @@ mod problem;
 mod sets;
 mod state;
 mod stepping;
+mod update;
 
 pub use apply_plan::Progress;
 pub use container::Status;

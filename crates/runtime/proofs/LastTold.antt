@@ -3,6 +3,7 @@ use Rattle.std.proofs.Common.{◌≡◌, ◌⊎◌, ℕ, ◌/◌, ◌%◌, zero,
 use Rattle.std.proofs.lemmas.Option.{none-some, same_Some}
 use Rattle.faults.specs.declared.or_memory.OrMemory.{OrMemory}
 use Rattle.faults.specs.declared.or_memory.OrMemory.TheVariants.{Memory, Fault}
+use Rattle.cpu_set.specs.Ids.{Ids}
 use Rattle.certificate.specs.declared.limits.TheConstants.{MOVE_SCALE}
 use Rattle.certificate.specs.Verdict.{AreParts, plan_verdict}
 use Rattle.certificate.specs.declared.certificates.Certificate.{Certificate}
@@ -19,9 +20,10 @@ use Rattle.node.specs.declared.outcome.Outcome.TheVariants.{Plan, Short}
 use Rattle.node.specs.IsNode.{IsNode}
 use Rattle.node.specs.NodeState.{NodeState}
 use Rattle.node.specs.Rows.{planned, lacking}
-use Rattle.node.specs.Calls.{Creates, Starts, Kills, Deletes}
+use Rattle.node.specs.Updates.{Updates}
+use Rattle.node.specs.Calls.{Places, Starts, Kills, Deletes}
 use Rattle.node.specs.Rebalance.{Begins, StepsOn, Rebalances, ShowsCertificate}
-use Rattle.node.specs.Machine.{Event, Create, Start, Kill, Delete, Rebalance, Begin, StepOn, State, ListAll, SetsOf, Pool, PhaseIs, ShowCertificate, Fork, Exit, Offline, Online, Step, Run, RunsKeep, RunsRebalance}
+use Rattle.node.specs.Machine.{Event, Create, Adopt, Update, Start, Kill, Delete, Rebalance, Begin, StepOn, State, ListAll, SetsOf, Pool, PhaseIs, ShowCertificate, Fork, Exit, Offline, Online, Step, Run, RunsKeep, RunsRebalance}
 use Rattle.node.specs.Proved.{LastIsProved, TotalIsProved, ShortIsProved}
 use Rattle.runtime.specs.AnswerTexts.{answer_text}
 use Rattle.runtime.specs.declared.refusal.Refusal.TheVariants.{Node}
@@ -47,12 +49,18 @@ of_parts whole total moves parts =
     let few : whole % MOVE_SCALE ≡ moves = omega (arith, parts.moves_fit, parts.whole) in
     ap₂ proves.Moves far few
 
-create_last : (old new : NodeState) (id bundle config : List ℕ) (r : Result ℕ (OrMemory NodeFault)) → Creates old id bundle config r new → new.last ≡ old.last
-create_last old new id bundle config (Ok pid) c = ap (λ (n : NodeState). n.last) c.is
-create_last old new id bundle config (Err Memory) (inl n) = ap (λ (m : NodeState). m.last) n.is
-create_last old new id bundle config (Err Memory) (inr same) = ap (λ (n : NodeState). n.last) same.2
-create_last old new id bundle config (Err (Fault (Kernel fault))) n = ap (λ (m : NodeState). m.last) n.is
-create_last old new id bundle config (Err (Fault fault)) same = ap (λ (n : NodeState). n.last) same.1
+place_last : (cpus : Ids) (old new : NodeState) (id bundle config : List ℕ) (r : Result ℕ (OrMemory NodeFault)) → Places cpus old id bundle config r new → new.last ≡ old.last
+place_last cpus old new id bundle config (Ok pid) c = ap (λ (n : NodeState). n.last) c.is
+place_last cpus old new id bundle config (Err Memory) (inl n) = ap (λ (m : NodeState). m.last) n.is
+place_last cpus old new id bundle config (Err Memory) (inr same) = ap (λ (n : NodeState). n.last) same.2
+place_last cpus old new id bundle config (Err (Fault (Kernel fault))) n = ap (λ (m : NodeState). m.last) n.is
+place_last cpus old new id bundle config (Err (Fault fault)) same = ap (λ (n : NodeState). n.last) same.1
+
+update_last : (old new : NodeState) (id bundle config : List ℕ) (r : Result (Unit {0}) (OrMemory NodeFault)) → Updates old id bundle config r new → new.last ≡ old.last
+update_last old new id bundle config (Ok done) u = ap (λ (n : NodeState). n.last) u.is
+update_last old new id bundle config (Err Memory) u = ap (λ (n : NodeState). n.last) u.3
+update_last old new id bundle config (Err (Fault (Kernel fault))) u = ap (λ (n : NodeState). n.last) u.1.is
+update_last old new id bundle config (Err (Fault fault)) u = ap (λ (n : NodeState). n.last) u.1
 
 start_last : (old new : NodeState) (id : List ℕ) (r : Result (Unit {0}) NodeFault) → Starts old id r new → new.last ≡ old.last
 start_last old new id (Ok done) s = ap (λ (n : NodeState). n.last) s.4
@@ -106,7 +114,9 @@ module _ (keep : RunsKeep) (leaves : RunsRebalance) (last_proved : LastIsProved)
 
   told_more : (told : Option Verdict) (old : NodeState) (event : Event) (new : NodeState) → IsNode old → IsNode new → (s : Step old event new) → IsLastTold told old
       → IsLastTold (told_with told old event new s) new
-  told_more told old (Create id bundle config answer) new node after s h = still_told told old new (create_last old new id bundle config answer s) h
+  told_more told old (Create id bundle config answer) new node after s h = still_told told old new (place_last old.machine.reserved old new id bundle config answer s) h
+  told_more told old (Adopt id bundle config cpus answer) new node after s h = still_told told old new (place_last cpus old new id bundle config answer s) h
+  told_more told old (Update id bundle config answer) new node after s h = still_told told old new (update_last old new id bundle config answer s) h
   told_more told old (Start id answer) new node after s h = still_told told old new (start_last old new id answer s) h
   told_more told old (Kill id signal answer) new node after s h = still_told told old new (kill_last old new id signal answer s) h
   told_more told old (Delete id answer) new node after s h = still_told told old new (delete_last old new id answer s) h

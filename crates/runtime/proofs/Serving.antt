@@ -1,14 +1,17 @@
 -- The calls that make containers, as lines of a script.
 use Rattle.std.proofs.Common.{◌≡◌, ◌⊎◌, ℕ, Bool, true, false, List, [], ◌∷◌, ◌++◌, length, Option, Some, None, Result, Ok, inl, inr, refl, sym, ap, subst, ◌∙◌, arith}
+use Rattle.std.proofs.lemmas.Bool.{false≢true}
 use Rattle.std.specs.Prelude.{nat_le, cond}
 use Rattle.std.specs.List.{Contains, AllByRecursion}
 use Rattle.std.proofs.lemmas.List.Elements.{Contains-append_cases, Contains-append_right, Contains-push_cases}
 use Rattle.faults.specs.declared.or_memory.OrMemory.{OrMemory}
+use Rattle.cpu_set.specs.Ids.{Ids}
 use Rattle.node.specs.declared.fault.NodeFault.{NodeFault}
 use Rattle.node.specs.declared.outcome.Outcome.TheVariants.{Plan}
 use Rattle.node.specs.NodeState.{ContainerState, NodeState}
 use Rattle.node.specs.Rebalance.{Rebalances}
-use Rattle.node.specs.Machine.{Event, Create, RunsRebalance}
+use Rattle.node.specs.Machine.{Event, Create, Adopt, Update, Start, Kill, Delete, Rebalance, Begin, StepOn, State, ListAll, SetsOf, Pool, PhaseIs, ShowCertificate, Fork, Exit, Offline, Online, RunsRebalance}
+use Rattle.node.specs.Said.{IsAskedIn}
 use Rattle.node.specs.Served.{HasAsked, RunsServeConfigs}
 use Rattle.script.specs.Commands.{Asked}
 use Rattle.script.specs.Commands as ask
@@ -20,15 +23,31 @@ use Rattle.runtime.specs.Answered.{Answered}
 use Rattle.runtime.specs.Found.{IsFound}
 use Rattle.runtime.specs.RuntimeState.{RuntimeState, Told}
 use Rattle.runtime.specs.ScriptLaws.{IsFor, CommandMakes, RequestMakes, LineMakes, LinesMake, lines_are_calls, runs_cut}
-use Rattle.runtime.specs.ConfigsServed.{HasItsConfig, ScriptsServeConfigs}
+use Rattle.runtime.specs.ConfigsServed.{MakesIt, HasItsConfig, ScriptsServeConfigs}
 
 -- a line that asks for the container of an id and a bundle, whose config is found
 pub record IsAskedBy (told : Told) (lines : List (List ℕ)) (id bundle config : List ℕ) : Type 0 where
   pub line : List ℕ
   pub there : Contains lines line
   pub whole : kept line ≡ Some line
-  pub asked : request_of (words_of line) ≡ asks (ask.create id bundle)
+  pub asked : MakesIt (request_of (words_of line)) id bundle
   pub found : IsFound told bundle (Some config)
+
+-- the event makes this container, or reads its config again
+abbrev IsPlacing : List ℕ → List ℕ → List ℕ → Result ℕ (OrMemory NodeFault) → Event → Type 0
+IsPlacing id bundle config r event =
+    (event ≡ Create id bundle config r) ⊎ ((cpus : Ids) × (event ≡ Adopt id bundle config cpus r)) ⊎ (event ≡ Update id bundle config (Ok tt))
+
+abbrev is_placing : Event → Bool
+is_placing (Create id bundle config r) = true
+is_placing (Adopt id bundle config cpus r) = true
+is_placing (Update id bundle config r) = true
+is_placing event = false
+
+other_event : (id bundle config : List ℕ) (r : Result ℕ (OrMemory NodeFault)) (event : Event) → IsPlacing id bundle config r event → is_placing event ≡ false → ⊥
+other_event id bundle config r event (inl e) other = false≢true (sym other ∙ ap is_placing e)
+other_event id bundle config r event (inr (inl (cpus, e))) other = false≢true (sym other ∙ ap is_placing e)
+other_event id bundle config r event (inr (inr e)) other = false≢true (sym other ∙ ap is_placing e)
 
 kept_line : (line read : List ℕ) → kept line ≡ Some read → read ≡ line
 kept_line line read h = at (nat_le (length line) MOST_LINE_BYTES) h where
@@ -46,62 +65,96 @@ only_there events its event one h = by (Contains-push_cases [] its event (subst 
   by (inr is) = is
 
 -- the command of the call that makes this container
-by_command : (told : Told) (command : Asked) (event : Event) (id bundle config : List ℕ) (r : Result ℕ (OrMemory NodeFault)) → IsFor told command event → event ≡ Create id bundle config r
-    → (command ≡ ask.create id bundle) × IsFound told bundle (Some config)
-by_command told (ask.create i b) event id bundle config r (c, answer, found, is) e =
+by_command : (told : Told) (command : Asked) (event : Event) (id bundle config : List ℕ) (r : Result ℕ (OrMemory NodeFault)) → IsFor told command event
+    → IsPlacing id bundle config r event → MakesIt (asks command) id bundle × IsFound told bundle (Some config)
+by_command told (ask.create i b) event id bundle config r (c, answer, found, is) (inl e) =
     let same : Create i b c answer ≡ Create id bundle config r = sym is ∙ e in
     let id_same : i ≡ id = cc in
     let bundle_same : b ≡ bundle = cc in
-    let config_same : c ≡ config = cc in
-    (ap (λ x. ask.create x b) id_same ∙ ap (ask.create id) bundle_same, subst (λ x. IsFound told x (Some config)) bundle_same (subst (λ x. IsFound told b (Some x)) config_same found))
-by_command told (ask.start i) event id bundle config r (answer, is) e = absurd (cc)
-by_command told (ask.kill i signal) event id bundle config r (answer, is) e = absurd (cc)
-by_command told (ask.delete i) event id bundle config r (answer, is) e = absurd (cc)
-by_command told (ask.state i) event id bundle config r (answer, is) e = absurd (cc)
-by_command told ask.list event id bundle config r (answer, is) e = absurd (cc)
-by_command told (ask.sets i) event id bundle config r (answer, is) e = absurd (cc)
-by_command told ask.rebalance event id bundle config r (answer, is) e = absurd (cc)
-by_command told ask.begin event id bundle config r (answer, is) e = absurd (cc)
-by_command told ask.step event id bundle config r (answer, is) e = absurd (cc)
-by_command told ask.phase event id bundle config r (answer, is) e = absurd (cc)
-by_command told ask.certificate event id bundle config r (answer, is) e = absurd (cc)
-by_command told (ask.fork pid) event id bundle config r (answer, is) e = absurd (cc)
-by_command told (ask.exit pid) event id bundle config r (answer, is) e = absurd (cc)
-by_command told (ask.offline cpu) event id bundle config r (answer, is) e = absurd (cc)
-by_command told (ask.online cpu) event id bundle config r (answer, is) e = absurd (cc)
+    let config_same : c ≡ config = cc in (
+      inl (ap (λ x. asks (ask.create x b)) id_same ∙ ap (λ x. asks (ask.create id x)) bundle_same),
+      subst (λ x. IsFound told x (Some config)) bundle_same (subst (λ x. IsFound told b (Some x)) config_same found),
+    )
+by_command told (ask.create i b) event id bundle config r (c, answer, found, is) (inr (inl (cpus, e))) = absurd (cc)
+by_command told (ask.create i b) event id bundle config r (c, answer, found, is) (inr (inr e)) = absurd (cc)
+by_command told (ask.adopt i b list) event id bundle config r (c, others, answer, found, names, is) (inl e) = absurd (cc)
+by_command told (ask.adopt i b list) event id bundle config r (c, others, answer, found, names, is) (inr (inr e)) = absurd (cc)
+by_command told (ask.adopt i b list) event id bundle config r (c, others, answer, found, names, is) (inr (inl (cpus, e))) =
+    let same : Adopt i b c others answer ≡ Adopt id bundle config cpus r = sym is ∙ e in
+    let id_same : i ≡ id = cc in
+    let bundle_same : b ≡ bundle = cc in
+    let config_same : c ≡ config = cc in (
+      inr (inl (list, ap (λ x. asks (ask.adopt x b list)) id_same ∙ ap (λ x. asks (ask.adopt id x list)) bundle_same)),
+      subst (λ x. IsFound told x (Some config)) bundle_same (subst (λ x. IsFound told b (Some x)) config_same found),
+    )
+by_command told (ask.update i b) event id bundle config r (c, answer, found, is) (inl e) = absurd (cc)
+by_command told (ask.update i b) event id bundle config r (c, answer, found, is) (inr (inl (cpus, e))) = absurd (cc)
+by_command told (ask.update i b) event id bundle config r (c, answer, found, is) (inr (inr e)) =
+    let same : Update i b c answer ≡ Update id bundle config (Ok tt) = sym is ∙ e in
+    let id_same : i ≡ id = cc in
+    let bundle_same : b ≡ bundle = cc in
+    let config_same : c ≡ config = cc in (
+      inr (inr (ap (λ x. asks (ask.update x b)) id_same ∙ ap (λ x. asks (ask.update id x)) bundle_same)),
+      subst (λ x. IsFound told x (Some config)) bundle_same (subst (λ x. IsFound told b (Some x)) config_same found),
+    )
+by_command told (ask.start i) event id bundle config r (answer, is) placing = absurd (other_event id bundle config r event placing (ap is_placing is))
+by_command told (ask.kill i signal) event id bundle config r (answer, is) placing = absurd (other_event id bundle config r event placing (ap is_placing is))
+by_command told (ask.delete i) event id bundle config r (answer, is) placing = absurd (other_event id bundle config r event placing (ap is_placing is))
+by_command told (ask.state i) event id bundle config r (answer, is) placing = absurd (other_event id bundle config r event placing (ap is_placing is))
+by_command told ask.list event id bundle config r (answer, is) placing = absurd (other_event id bundle config r event placing (ap is_placing is))
+by_command told (ask.sets i) event id bundle config r (answer, is) placing = absurd (other_event id bundle config r event placing (ap is_placing is))
+by_command told ask.rebalance event id bundle config r (answer, is) placing = absurd (other_event id bundle config r event placing (ap is_placing is))
+by_command told ask.begin event id bundle config r (answer, is) placing = absurd (other_event id bundle config r event placing (ap is_placing is))
+by_command told ask.step event id bundle config r (answer, is) placing = absurd (other_event id bundle config r event placing (ap is_placing is))
+by_command told ask.phase event id bundle config r (answer, is) placing = absurd (other_event id bundle config r event placing (ap is_placing is))
+by_command told ask.certificate event id bundle config r (answer, is) placing = absurd (other_event id bundle config r event placing (ap is_placing is))
+by_command told (ask.fork pid) event id bundle config r (answer, is) placing = absurd (other_event id bundle config r event placing (ap is_placing is))
+by_command told (ask.exit pid) event id bundle config r (answer, is) placing = absurd (other_event id bundle config r event placing (ap is_placing is))
+by_command told (ask.offline cpu) event id bundle config r (answer, is) placing = absurd (other_event id bundle config r event placing (ap is_placing is))
+by_command told (ask.online cpu) event id bundle config r (answer, is) placing = absurd (other_event id bundle config r event placing (ap is_placing is))
 
-module _ (told : Told) (id bundle config : List ℕ) (r : Result ℕ (OrMemory NodeFault)) where
+module _ (told : Told) (id bundle config : List ℕ) (r : Result ℕ (OrMemory NodeFault)) (made : Event) (placing : IsPlacing id bundle config r made) where
   by_request : (old : NodeState) (wanted : Wanted) (events : List Event) (text : List ℕ) (new : NodeState) → RequestMakes told old wanted events text new
-      → Contains events (Create id bundle config r) → (wanted ≡ asks (ask.create id bundle)) × IsFound told bundle (Some config)
-  by_request old nothing events text new m h = absurd (none_there events (Create id bundle config r) m.0 h)
-  by_request old bad events text new m h = absurd (none_there events (Create id bundle config r) m.0 h)
+      → Contains events made → MakesIt wanted id bundle × IsFound told bundle (Some config)
+  by_request old nothing events text new m h = absurd (none_there events made m.0 h)
+  by_request old bad events text new m h = absurd (none_there events made m.0 h)
   by_request old (asks command) events text new (inl (call, is)) h =
-      let c = by_command told command call.event id bundle config r call.its (only_there events call.event (Create id bundle config r) is h) in
-      (ap asks c.0, c.1)
-  by_request old (asks command) events text new (inr (other, none)) h = absurd (none_there events (Create id bundle config r) none h)
+      by_command told command call.event id bundle config r call.its (subst (IsPlacing id bundle config r) (sym (only_there events call.event made is h)) placing)
+  by_request old (asks command) events text new (inr (other, none)) h = absurd (none_there events made none h)
 
   by_line : (old : NodeState) (line : List ℕ) (read : Option (List ℕ)) (events : List Event) (text : List ℕ) (new : NodeState) → kept line ≡ read → LineMakes told old read events text new
-      → Contains events (Create id bundle config r) → (kept line ≡ Some line) × (request_of (words_of line) ≡ asks (ask.create id bundle)) × IsFound told bundle (Some config)
-  by_line old line None events text new is m h = absurd (none_there events (Create id bundle config r) m.0 h)
+      → Contains events made → (kept line ≡ Some line) × MakesIt (request_of (words_of line)) id bundle × IsFound told bundle (Some config)
+  by_line old line None events text new is m h = absurd (none_there events made m.0 h)
   by_line old line (Some l) events text new is m h =
       let same : l ≡ line = kept_line line l is in
       let c = by_request old (request_of (words_of l)) events text new m h in
-      (is ∙ ap Some same, ap (λ x. request_of (words_of x)) (sym same) ∙ c.0, c.1)
+      (is ∙ ap Some same, subst (λ x. MakesIt (request_of (words_of x)) id bundle) same c.0, c.1)
 
   by_lines : (old : NodeState) (lines : List (List ℕ)) (events : List Event) (text : List ℕ) (new : NodeState) → LinesMake told old lines events text new
-      → Contains events (Create id bundle config r) → IsAskedBy told lines id bundle config
-  by_lines old [] events text new m h = absurd (none_there events (Create id bundle config r) m.0 h)
+      → Contains events made → IsAskedBy told lines id bundle config
+  by_lines old [] events text new m h = absurd (none_there events made m.0 h)
   by_lines old (line ∷ lines) events text new (mid, here, later, first, more, m, ms, e, t) h =
-      by (by_lines mid lines later more new ms) (Contains-append_cases here later (Create id bundle config r) (subst (λ (es : List Event). Contains es (Create id bundle config r)) e h))
+      by (by_lines mid lines later more new ms) (Contains-append_cases here later made (subst (λ (es : List Event). Contains es made) e h))
     where
-      by : (Contains later (Create id bundle config r) → IsAskedBy told lines id bundle config)
-          → Contains here (Create id bundle config r) ⊎ Contains later (Create id bundle config r) → IsAskedBy told (line ∷ lines) id bundle config
+      by : (Contains later made → IsAskedBy told lines id bundle config)
+          → Contains here made ⊎ Contains later made → IsAskedBy told (line ∷ lines) id bundle config
       by behind (inl there) =
           let c = by_line old line (kept line) here first mid refl m there in
           record { line = line; there = (0, omega arith, refl); whole = c.0; asked = c.1; found = c.2 }
       by behind (inr there) =
           let c = behind there in
           record { line = c.line; there = Contains-append_right (line ∷ []) lines c.line c.there; whole = c.whole; asked = c.asked; found = c.found }
+
+-- the line by which a container was made, or its config read again
+module _ (told : Told) (events : List Event) (e : List ℕ × ContainerState) (config : List ℕ) (old : NodeState) (lines : List (List ℕ)) (text : List ℕ) (new : NodeState)
+    (m : LinesMake told old lines events text new) where
+  asked_by : (made : Event) → IsPlacing e.0 e.1.bundle config (Ok e.1.pid) made → Contains events made → IsAskedBy told lines e.0 e.1.bundle config
+  asked_by made placing h = by_lines told e.0 e.1.bundle config (Ok e.1.pid) made placing old lines events text new m h
+
+  asked_in : IsAskedIn events e config → IsAskedBy told lines e.0 e.1.bundle config
+  asked_in (inl (inl h)) = asked_by (Create e.0 e.1.bundle config (Ok e.1.pid)) (inl refl) h
+  asked_in (inl (inr (cpus, h))) = asked_by (Adopt e.0 e.1.bundle config cpus (Ok e.1.pid)) (inr (inl (cpus, refl))) h
+  asked_in (inr h) = asked_by (Update e.0 e.1.bundle config (Ok tt)) (inr (inr refl)) h
 
 all_more : {A : Type 0} (P Q : A → Type 0) → ((x : A) → P x → Q x) → (xs : List A) → AllByRecursion P xs → AllByRecursion Q xs
 all_more P Q follows [] h = h
@@ -127,7 +180,7 @@ scripts_serve_configs leaves serves first last before after line text node none 
       };
       serves = λ total is.
           all_more (HasAsked calls.events c.1.node.machine c.1.node.kernel c.1.node.pool) (HasItsConfig first.told before c.1.node.machine c.1.node.kernel c.1.node.pool)
-          (λ e a. let l = by_lines first.told e.0 e.1.bundle a.config (Ok e.1.pid) first.node before calls.events c.2 c.0.node calls.made a.created in
+          (λ e a. let l = asked_in first.told calls.events e a.config first.node before c.2 c.0.node calls.made a.asked in
           record { line = l.line; config = a.config; said = a.said; there = l.there; whole = l.whole; asked = l.asked; found = l.found; said_so = a.said_so; has = a.has })
           c.1.node.containers
           (serves first.node calls.events c.0.node total c.1.node node none calls.run (subst (λ r. Rebalances c.0.node r c.1.node) is answered.0.1));

@@ -1,6 +1,11 @@
 -- What a runtime may answer each command of a script, and what it is then.
-use Rattle.std.specs.Prelude.{◌≡◌, ◌⊎◌, ℕ, List, ◌++◌, Option, Some, None, Result, codes, String, string_bytes}
+use Rattle.std.specs.Prelude.{◌≡◌, ◌≢◌, ◌⊎◌, ℕ, List, ◌++◌, Option, Some, None, Result, Ok, Err, codes, String, string_bytes}
+use Rattle.std.specs.FinSet as set
 use Rattle.std.specs.declared.alloc.Global.{Global}
+use Rattle.cpu_set.specs.Ids.{Ids}
+use Rattle.cpu_set.specs.declared.TheConstants.{CPU_LIMIT}
+use Rattle.cpu_list.specs.FirstFault.{first_fault}
+use Rattle.cpu_list.specs.ListText.{IsSetOf}
 use Rattle.certificate.specs.declared.certificates.Certificate.{Certificate}
 use Rattle.certificate_text.specs.Written.{text_of}
 use Rattle.apply_plan.specs.declared.Progress.{Progress}
@@ -11,7 +16,8 @@ use Rattle.node.specs.declared.fault.NodeFault.{NodeFault}
 use Rattle.node.specs.declared.sets.Sets.{Sets}
 use Rattle.node.specs.declared.outcome.Outcome.{Outcome}
 use Rattle.node.specs.NodeState.{NodeState}
-use Rattle.node.specs.Calls.{Creates, Starts, Kills, Deletes}
+use Rattle.node.specs.Calls.{Creates, Adopts, Starts, Kills, Deletes}
+use Rattle.node.specs.Updates.{Updates}
 use Rattle.node.specs.Rebalance.{Begins, StepsOn, Rebalances, ShowsCertificate}
 use Rattle.node.specs.Written.{CreateWrites}
 use Rattle.node.specs.Machine.{InKernel}
@@ -25,7 +31,8 @@ use Rattle.runtime.specs.Found.{IsFound}
 use Rattle.runtime.specs.RefusalLine.{refusal_line}
 use Rattle.runtime.specs.OutcomeTexts.{outcome_text, progress_line}
 use Rattle.runtime.specs.AnswerTexts.{of_either, of_kernel, of_kernel_fault, answer_text, done_line, pid_line, sets_line, listing_text, phase_line}
-use Rattle.runtime.specs.declared.refusal.Refusal.TheVariants.{Memory, Node, NoBundle}
+use Rattle.runtime.specs.declared.refusal.Refusal.{Refusal}
+use Rattle.runtime.specs.declared.refusal.Refusal.TheVariants.{Memory, Node, BadSet, NoCpus, NoBundle}
 
 -- a container of the bundle whose config was found, with at most so many writes where the kernel refuses it; or there is no
 -- such bundle
@@ -41,6 +48,39 @@ WantsMemory old text new = (text ≡ refusal_line Memory) × (new ≡ old)
 abbrev pub AnswersCreate : Told → NodeState → List ℕ → List ℕ → List ℕ → NodeState → Type 0
 AnswersCreate told old id bundle text new =
     WantsMemory old text new ⊎ ((found : Option (List ℕ)) × IsFound told bundle found × AnswersFound old id bundle found text new)
+
+-- the CPUs that a list names; or why the command refuses it: it is no list, or it names none
+abbrev pub NamesCpus : List ℕ → Result Ids Refusal → Type 0
+NamesCpus list (Ok cpus) = (first_fault CPU_LIMIT list ≡ None) × IsSetOf list cpus × (cpus ≢ set.empty)
+NamesCpus list (Err (BadSet error)) = first_fault CPU_LIMIT list ≡ Some error
+NamesCpus list (Err NoCpus) = (first_fault CPU_LIMIT list ≡ None) × IsSetOf list set.empty
+NamesCpus list (Err why) = ⊥
+
+-- a container of the config that has these CPUs already, with at most so many writes where the kernel refuses it
+abbrev pub AnswersNamed : NodeState → List ℕ → List ℕ → List ℕ → Result Ids Refusal → List ℕ → NodeState → Type 0
+AnswersNamed old id bundle config (Ok cpus) text new =
+    (r : Result ℕ (OrMemory NodeFault)) × Adopts old id bundle config cpus r new × CreateWrites old id r new × (text ≡ answer_text pid_line of_either r)
+AnswersNamed old id bundle config (Err why) text new = (text ≡ refusal_line why) × (new ≡ old)
+
+-- of the bundle whose config was found; or there is no such bundle
+abbrev pub AnswersTaken : NodeState → List ℕ → List ℕ → List ℕ → Option (List ℕ) → List ℕ → NodeState → Type 0
+AnswersTaken old id bundle list None text new = (text ≡ refusal_line NoBundle) × (new ≡ old)
+AnswersTaken old id bundle list (Some config) text new =
+    (cpus : Result Ids Refusal) × NamesCpus list cpus × AnswersNamed old id bundle config cpus text new
+
+abbrev pub AnswersAdopt : Told → NodeState → List ℕ → List ℕ → List ℕ → List ℕ → NodeState → Type 0
+AnswersAdopt told old id bundle list text new =
+    WantsMemory old text new ⊎ ((found : Option (List ℕ)) × IsFound told bundle found × AnswersTaken old id bundle list found text new)
+
+-- the config of a container, read again from the bundle whose config was found; or there is no such bundle
+abbrev pub AnswersRead : NodeState → List ℕ → List ℕ → Option (List ℕ) → List ℕ → NodeState → Type 0
+AnswersRead old id bundle None text new = (text ≡ refusal_line NoBundle) × (new ≡ old)
+AnswersRead old id bundle (Some config) text new =
+    (r : Result (Unit {0}) (OrMemory NodeFault)) × Updates old id bundle config r new × (text ≡ answer_text done_line of_either r)
+
+abbrev pub AnswersUpdate : Told → NodeState → List ℕ → List ℕ → List ℕ → NodeState → Type 0
+AnswersUpdate told old id bundle text new =
+    WantsMemory old text new ⊎ ((found : Option (List ℕ)) × IsFound told bundle found × AnswersRead old id bundle found text new)
 
 abbrev pub AnswersStart : NodeState → List ℕ → List ℕ → NodeState → Type 0
 AnswersStart old id text new = (r : Result (Unit {0}) NodeFault) × Starts old id r new × (text ≡ answer_text done_line Node r)
@@ -100,6 +140,8 @@ AnswersCertificate old text new =
 -- the answer to a command: that of the node's own call, as its text
 abbrev pub AnswersBy : Told → NodeState → Asked → List ℕ → NodeState → Type 0
 AnswersBy told old (ask.create id bundle) text new = AnswersCreate told old id bundle text new
+AnswersBy told old (ask.adopt id bundle list) text new = AnswersAdopt told old id bundle list text new
+AnswersBy told old (ask.update id bundle) text new = AnswersUpdate told old id bundle text new
 AnswersBy told old (ask.start id) text new = AnswersStart old id text new
 AnswersBy told old (ask.kill id signal) text new = AnswersKill old id signal text new
 AnswersBy told old (ask.delete id) text new = AnswersDelete old id text new

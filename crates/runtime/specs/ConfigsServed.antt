@@ -1,5 +1,5 @@
 -- What the container of a bundle has once a script was answered a plan: the headline, by the script's lines and the bundles' bytes.
-use Rattle.std.specs.Prelude.{◌≡◌, ℕ, true, List, [], ◌∷◌, ◌++◌, Some, Ok}
+use Rattle.std.specs.Prelude.{◌≡◌, ◌⊎◌, ℕ, true, List, [], ◌∷◌, ◌++◌, Some, Ok}
 use Rattle.std.specs.List.{Contains, AllByRecursion}
 use Rattle.cpu_set.specs.Ids.{Ids}
 use Rattle.kernel_model.specs.KernelState.{KernelState}
@@ -15,14 +15,19 @@ use Rattle.node.specs.Headline.{effective}
 use Rattle.node.specs.Served.{AreAsked}
 use Rattle.script.specs.Commands as ask
 use Rattle.script.specs.Lines.{kept, words_of}
-use Rattle.script.specs.Requests.{asks, request_of}
+use Rattle.script.specs.Requests.{Wanted, asks, request_of}
 use Rattle.script.specs.Runs.{Runs}
 use Rattle.runtime.specs.Answered.{Answered}
 use Rattle.runtime.specs.Found.{IsFound}
 use Rattle.runtime.specs.RuntimeState.{RuntimeState, Told}
 use Rattle.runtime.specs.ScriptLaws.{IsRebalanceOf}
 
--- one of the lines asks for the container of this id and bundle, and while it lives it has in effect what the bytes of the
+-- what is wanted makes the container of this id and bundle, or reads its config again
+abbrev pub MakesIt : Wanted → List ℕ → List ℕ → Type 0
+MakesIt wanted id bundle =
+    (wanted ≡ asks (ask.create id bundle)) ⊎ ((list : List ℕ) × (wanted ≡ asks (ask.adopt id bundle list))) ⊎ (wanted ≡ asks (ask.update id bundle))
+
+-- one of the lines asks for the container of this id and bundle, or for its config to be read again, and while it lives it has in effect what the bytes of the
 -- bundle's config ask for
 pub record HasItsConfig (told : Told) (lines : List (List ℕ)) (m : Layout) (k : KernelState) (pool : Ids) (e : List ℕ × ContainerState) : Type 0 where
   pub line : List ℕ
@@ -30,7 +35,7 @@ pub record HasItsConfig (told : Told) (lines : List (List ℕ)) (m : Layout) (k 
   pub said : Said
   pub there : Contains lines line
   pub whole : kept line ≡ Some line
-  pub asked : request_of (words_of line) ≡ asks (ask.create e.0 e.1.bundle)
+  pub asked : MakesIt (request_of (words_of line)) e.0 e.1.bundle
   pub found : IsFound told e.1.bundle (Some config)
   pub said_so : config_of config ≡ Ok said
   pub has : is_live k e.1 ≡ true → AreAsked m k pool said.cpu (effective k e) (is_pinned said.cpu)

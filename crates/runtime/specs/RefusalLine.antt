@@ -41,17 +41,21 @@ demand_arguments demand.NothingAllowed = []
 abbrev pub node_arguments : NodeFault → List ℕ
 node_arguments (node.Config fault) = config_arguments fault
 node_arguments (node.Demand fault) = demand_arguments fault
+node_arguments (node.NotFree cpu) = number_text cpu
 node_arguments fault = []
 
 -- the number and the name of a refusal
 abbrev pub title_of : Refusal → List ℕ
 title_of refusal.Memory = memory_title
 title_of (refusal.Node fault) = node_title fault
+title_of (refusal.BadSet error) = codes "E102 BadSet"
+title_of refusal.NoCpus = codes "E103 NoCpus"
 title_of refusal.NoBundle = codes "E111 NoBundle"
 
 -- what stands behind the name
 abbrev pub arguments_of : Refusal → List ℕ
 arguments_of (refusal.Node fault) = node_arguments fault
+arguments_of (refusal.BadSet error) = list_argument error
 arguments_of why = []
 
 abbrev pub refusal_line : Refusal → List ℕ

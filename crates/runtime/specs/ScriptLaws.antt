@@ -20,23 +20,26 @@ use Rattle.node.specs.IsNode.{IsNode}
 use Rattle.node.specs.Listed.{listed}
 use Rattle.node.specs.NodeState.{NodeState}
 use Rattle.node.specs.Rebalance.{Begins, Begun}
-use Rattle.node.specs.Machine.{Event, Create, Start, Kill, Delete, Rebalance, Begin, StepOn, State, ListAll, SetsOf, Pool, PhaseIs, ShowCertificate, Fork, Exit, Offline, Online, Step, Run, RunsRebalance}
+use Rattle.node.specs.Machine.{Event, Create, Adopt, Update, Start, Kill, Delete, Rebalance, Begin, StepOn, State, ListAll, SetsOf, Pool, PhaseIs, ShowCertificate, Fork, Exit, Offline, Online, Step, Run, RunsRebalance}
 use Rattle.script.specs.Commands.{Asked}
 use Rattle.script.specs.Commands as ask
 use Rattle.script.specs.Lines.{kept, words_of}
 use Rattle.script.specs.Requests.{Wanted, nothing, bad, asks, request_of}
 use Rattle.script.specs.Runs.{AnswersLine, AnswersRequest, Runs}
 use Rattle.runtime.specs.AnswerTexts.{of_either, of_kernel, of_kernel_fault, answer_text, done_line, pid_line, set_text, sets_line, listing_text, phase_line}
-use Rattle.runtime.specs.Answered.{Answered, AnswersBy, state_line}
+use Rattle.runtime.specs.Answered.{Answered, AnswersBy, NamesCpus, state_line}
 use Rattle.runtime.specs.Found.{IsFound}
 use Rattle.runtime.specs.OutcomeTexts.{outcome_text, progress_line}
 use Rattle.runtime.specs.RefusalLine.{refusal_line}
 use Rattle.runtime.specs.RuntimeState.{RuntimeState, Told}
+use Rattle.runtime.specs.declared.refusal.Refusal.{Refusal}
 use Rattle.runtime.specs.declared.refusal.Refusal.TheVariants.{Memory, Node, NoBundle}
 
 -- the text of what a call or an event answered, in the node that it left
 abbrev pub event_text : NodeState → Event → List ℕ
 event_text new (Create id bundle config answer) = answer_text pid_line of_either answer
+event_text new (Adopt id bundle config cpus answer) = answer_text pid_line of_either answer
+event_text new (Update id bundle config answer) = answer_text done_line of_either answer
 event_text new (Start id answer) = answer_text done_line Node answer
 event_text new (Kill id signal answer) = answer_text done_line Node answer
 event_text new (Delete id answer) = answer_text done_line Node answer
@@ -54,10 +57,16 @@ event_text new (Exit pid answer) = answer_text done_line of_kernel_fault answer
 event_text new (Offline cpu answer) = answer_text done_line of_kernel_fault answer
 event_text new (Online cpu answer) = answer_text done_line of_kernel_fault answer
 
--- the call or event that a command asks for, a create's with the config that is found of the bundle
+-- the call or event that a command asks for: that of a `create`, an `adopt` or an `update` with the config that is found of the bundle, and
+-- of an `adopt` with the CPUs that the list names
 abbrev pub IsFor : Told → Asked → Event → Type 0
 IsFor told (ask.create id bundle) event =
     (config : List ℕ) × (answer : Result ℕ (OrMemory NodeFault)) × IsFound told bundle (Some config) × (event ≡ Create id bundle config answer)
+IsFor told (ask.adopt id bundle list) event =
+    (config : List ℕ) × (cpus : Ids) × (answer : Result ℕ (OrMemory NodeFault)) × IsFound told bundle (Some config) × NamesCpus list (Ok cpus)
+    × (event ≡ Adopt id bundle config cpus answer)
+IsFor told (ask.update id bundle) event =
+    (config : List ℕ) × (answer : Result (Unit {0}) (OrMemory NodeFault)) × IsFound told bundle (Some config) × (event ≡ Update id bundle config answer)
 IsFor told (ask.start id) event = (answer : Result (Unit {0}) NodeFault) × (event ≡ Start id answer)
 IsFor told (ask.kill id signal) event = (answer : Result (Unit {0}) NodeFault) × (event ≡ Kill id signal answer)
 IsFor told (ask.delete id) event = (answer : Result (Unit {0}) NodeFault) × (event ≡ Delete id answer)
@@ -81,13 +90,24 @@ pub record IsCall (told : Told) (command : Asked) (old : NodeState) (text : List
   pub step : Step old event new
   pub answer : text ≡ event_text new event
 
--- a create refused with no call: memory for the config was wanted, or no such bundle is found
-abbrev pub IsNoCall : Told → Asked → NodeState → List ℕ → NodeState → Type 0
-IsNoCall told command old text new = (id bundle : List ℕ) × (command ≡ ask.create id bundle) × (new ≡ old)
-    × ((text ≡ refusal_line Memory) ⊎ ((text ≡ refusal_line NoBundle) × IsFound told bundle None))
+-- memory for the bundle's config was wanted, or no such bundle is found
+abbrev pub FindsNone : Told → List ℕ → List ℕ → Type 0
+FindsNone told bundle text = (text ≡ refusal_line Memory) ⊎ ((text ≡ refusal_line NoBundle) × IsFound told bundle None)
 
--- what answers a command is the text of the call or event that it asks for, also of a call that only reads; but for a create
--- of which no config was found
+-- so that a `create` or an `update` makes no call; nor does an `adopt` then, and where its list names no CPUs
+abbrev pub MakesNone : Told → Asked → List ℕ → Type 0
+MakesNone told (ask.create id bundle) text = FindsNone told bundle text
+MakesNone told (ask.adopt id bundle list) text =
+    FindsNone told bundle text ⊎ ((why : Refusal) × NamesCpus list (Err why) × (text ≡ refusal_line why))
+MakesNone told (ask.update id bundle) text = FindsNone told bundle text
+MakesNone told command text = ⊥
+
+-- a command refused with no call
+abbrev pub IsNoCall : Told → Asked → NodeState → List ℕ → NodeState → Type 0
+IsNoCall told command old text new = MakesNone told command text × (new ≡ old)
+
+-- what answers a command is the text of the call or event that it asks for, also of a call that only reads; but for a `create`,
+-- an `adopt` or an `update` for which no config was found, and an `adopt` whose list names no CPUs
 abbrev pub CommandsAreCalls : Type 0
 CommandsAreCalls = (old new : RuntimeState) (command : Asked) (text : List ℕ) → Answered old command text new
     → IsCall old.told command old.node text new.node ⊎ IsNoCall old.told command old.node text new.node
@@ -181,9 +201,17 @@ Run-append old mid new (event ∷ first) later (next, step, rest) run = (next, s
 
 is_call : (told : Told) (old : NodeState) (command : Asked) (text : List ℕ) (new : NodeState) → AnswersBy told old command text new
     → IsCall told command old text new ⊎ IsNoCall told command old text new
-is_call told old (ask.create id bundle) text new (inl h) = inr (id, bundle, refl, h.1, inl h.0)
-is_call told old (ask.create id bundle) text new (inr (None, found, h)) = inr (id, bundle, refl, h.1, inr (h.0, found))
+is_call told old (ask.create id bundle) text new (inl h) = inr (inl h.0, h.1)
+is_call told old (ask.create id bundle) text new (inr (None, found, h)) = inr (inr (h.0, found), h.1)
 is_call told old (ask.create id bundle) text new (inr (Some config, found, (r, h, writes, e))) = inl (record { event = Create id bundle config r; its = (config, r, found, refl); step = h; answer = e })
+is_call told old (ask.adopt id bundle list) text new (inl h) = inr (inl (inl h.0), h.1)
+is_call told old (ask.adopt id bundle list) text new (inr (None, found, h)) = inr (inl (inr (h.0, found)), h.1)
+is_call told old (ask.adopt id bundle list) text new (inr (Some config, found, (Err why, names, h))) = inr (inr (why, names, h.0), h.1)
+is_call told old (ask.adopt id bundle list) text new (inr (Some config, found, (Ok cpus, names, (r, h, writes, e)))) =
+    inl (record { event = Adopt id bundle config cpus r; its = (config, cpus, r, found, names, refl); step = h; answer = e })
+is_call told old (ask.update id bundle) text new (inl h) = inr (inl h.0, h.1)
+is_call told old (ask.update id bundle) text new (inr (None, found, h)) = inr (inr (h.0, found), h.1)
+is_call told old (ask.update id bundle) text new (inr (Some config, found, (r, h, e))) = inl (record { event = Update id bundle config r; its = (config, r, found, refl); step = h; answer = e })
 is_call told old (ask.start id) text new (r, h, e) = inl (record { event = Start id r; its = (r, refl); step = h; answer = e })
 is_call told old (ask.kill id signal) text new (r, h, e) = inl (record { event = Kill id signal r; its = (r, refl); step = h; answer = e })
 is_call told old (ask.delete id) text new (r, h, e) = inl (record { event = Delete id r; its = (r, refl); step = h; answer = e })
@@ -212,7 +240,7 @@ by_command : (told : Told) (old : NodeState) (command : Asked) (text : List ℕ)
 by_command told old command text new h =
     elim (is_call told old command text new h) [
       | inl c ↦ (c.event ∷ [], inl (c, refl), omega arith, (new, c.step, refl))
-      | inr (id, bundle, its, e, why) ↦ ([], inr ((id, bundle, its, e, why), refl), omega arith, e)
+      | inr none ↦ ([], inr (none, refl), omega arith, none.1)
     ]
 
 by_request : (old new : RuntimeState) (request : Wanted) (text : List ℕ) → AnswersRequest Answered old request text new

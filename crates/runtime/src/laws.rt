@@ -8,7 +8,7 @@ ghost use Rattle.runtime.specs.ScriptLaws.{BegunAreTold, BegunShortAreTold, Comm
 use crate::FIRST_PID;
 
 /// Each command of a script is answered by the text of the call or event that it asks for, also where it only reads; but a
-/// `create` for which no config was found makes no call. So answered lines are at most one call or event each.
+/// `create`, an `adopt` or an `update` for which no config was found makes no call, nor an `adopt` whose list names no CPUs. So answered lines are at most one call or event each.
 pub fn lines_are_calls()
     ensures commands { CommandsAreCalls }
     ensures lines { LinesAreCalls }

@@ -1,6 +1,7 @@
 //! A container runtime that answers the commands of a script: containers on one machine, made of bundles.
 #![tactic(auto)]
 
+mod adopting;
 mod answers;
 mod booting;
 mod bundle_list;
@@ -13,6 +14,7 @@ mod plans;
 mod queries;
 mod refusal;
 mod runner;
+mod updating;
 
 pub use booting::{FIRST_PID, boot, boot_mirrored};
 pub use bundle_list::BundleList;

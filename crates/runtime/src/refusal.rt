@@ -19,8 +19,12 @@ use std::io::Write;
 pub enum Refusal {
     /// E1: there was no memory.
     Memory,
-    /// E40 to E67 and E90 to E101: the node or the kernel refuses the call, or a write of the kernel failed in it.
+    /// E40 to E67, E90 to E101 and E104: the node or the kernel refuses the call, or a write of the kernel failed in it.
     Node(NodeFault),
+    /// E102: the CPUs that a container has already are no list.
+    BadSet(ListError),
+    /// E103: the list of the CPUs that a container has already names none.
+    NoCpus,
     /// E111: there is no such bundle, or its config can't be read.
     NoBundle,
 }
@@ -33,6 +37,8 @@ impl Refusal {
         match self {
             Refusal::Memory => memory_title(),
             Refusal::Node(fault) => fault.title(),
+            Refusal::BadSet(_) => "E102 BadSet",
+            Refusal::NoCpus => "E103 NoCpus",
             Refusal::NoBundle => "E111 NoBundle",
         }
     }
@@ -43,7 +49,8 @@ impl Refusal {
     {
         match self {
             Refusal::Node(fault) => put_node_arguments(fault, w),
-            Refusal::Memory | Refusal::NoBundle => Ok(()),
+            Refusal::BadSet(error) => put_list_error(error, w),
+            Refusal::Memory | Refusal::NoCpus | Refusal::NoBundle => Ok(()),
         }
     }
 
@@ -103,6 +110,7 @@ fn put_node_arguments<W: Write>(fault: NodeFault, w: &mut W) -> io::Result<()>
     match fault {
         NodeFault::Config(fault) => put_config_arguments(fault, w),
         NodeFault::Demand(fault) => put_demand_arguments(fault, w),
+        NodeFault::NotFree(cpu) => put_argument(u64::from(cpu), w),
         _ => Ok(()),
     }
 }

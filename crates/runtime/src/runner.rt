@@ -3,11 +3,13 @@ ghost use Rattle.script.specs.Commands.{asked};
 ghost use Rattle.script.specs.Ends.{Replies};
 ghost use Rattle.runtime.specs.Answered.{Answered, AnswersBy};
 
+use crate::adopting::adopt;
 use crate::bundles::Bundles;
 use crate::commands::{create, delete, kill, start};
 use crate::events::{exit, fork, offline, online};
 use crate::plans::{begin, certificate, rebalance, step};
 use crate::queries::{list, phase, sets, state};
+use crate::updating::update;
 use kernel_model::Kernel;
 use node::Node;
 use script::{Command, Target};
@@ -61,6 +63,8 @@ fn dispatch<K: Kernel + Drop, B: Bundles, W: Write>(
 {
     match command {
         Command::Create { id, bundle } => create(node, bundles, id, bundle, w),
+        Command::Adopt { id, bundle, cpus } => adopt(node, bundles, id, bundle, cpus, w),
+        Command::Update { id, bundle } => update(node, bundles, id, bundle, w),
         Command::Start { id } => start(node, id, w),
         Command::Kill { id, signal } => kill(node, id, signal, w),
         Command::Delete { id } => delete(node, id, w),

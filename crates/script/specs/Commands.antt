@@ -6,6 +6,8 @@ use Rattle.script.specs.declared.command.Command.TheVariants as command
 -- a command, its texts as their bytes
 pub data Asked : Type 0 where
   create : (id bundle : List ℕ) → Asked
+  adopt : (id bundle cpus : List ℕ) → Asked
+  update : (id bundle : List ℕ) → Asked
   start : (id : List ℕ) → Asked
   kill : (id signal : List ℕ) → Asked
   delete : (id : List ℕ) → Asked
@@ -24,6 +26,8 @@ pub data Asked : Type 0 where
 
 abbrev pub asked : Command → Asked
 asked (command.Create id bundle) = create id.now bundle.now
+asked (command.Adopt id bundle cpus) = adopt id.now bundle.now cpus.now
+asked (command.Update id bundle) = update id.now bundle.now
 asked (command.Start id) = start id.now
 asked (command.Kill id signal) = kill id.now signal.now
 asked (command.Delete id) = delete id.now

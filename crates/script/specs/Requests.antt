@@ -61,6 +61,7 @@ short_command name word =
 abbrev pub pair_command : List ℕ → List ℕ × List ℕ → Option Asked
 pair_command name texts =
     if bytes_eq name (codes "create") then Some (command.create texts.0 texts.1)
+    else if bytes_eq name (codes "update") then Some (command.update texts.0 texts.1)
     else if bytes_eq name (codes "kill") then Some (command.kill texts.0 texts.1)
     else None
 
@@ -68,12 +69,21 @@ abbrev pub long_command : List ℕ → Option (List ℕ × List ℕ) → Option 
 long_command name None = None
 long_command name (Some texts) = pair_command name texts
 
+-- a name, and three texts behind it
+abbrev pub triple_command : List ℕ → List ℕ × (List ℕ × List ℕ) → Option Asked
+triple_command name texts = if bytes_eq name (codes "adopt") then Some (command.adopt texts.0 texts.1.0 texts.1.1) else None
+
+abbrev pub longest_command : List ℕ → Option (List ℕ × (List ℕ × List ℕ)) → Option Asked
+longest_command name None = None
+longest_command name (Some texts) = triple_command name texts
+
 -- the command of a name and the words behind it
 abbrev pub command_of : List ℕ → List (List ℕ) → Option Asked
 command_of name [] = bare_command name
 command_of name (word ∷ []) = short_command name word
 command_of name (first ∷ second ∷ []) = long_command name (option_zip (text_of first) (text_of second))
-command_of name (first ∷ second ∷ third ∷ more) = None
+command_of name (first ∷ second ∷ third ∷ []) = longest_command name (option_zip (text_of first) (option_zip (text_of second) (text_of third)))
+command_of name (first ∷ second ∷ third ∷ fourth ∷ more) = None
 
 abbrev pub command_by : Option (List ℕ) → List (List ℕ) → Option Asked
 command_by None words = None

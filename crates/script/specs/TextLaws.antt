@@ -105,11 +105,21 @@ no_text_is_bad line e = by_words (words_of line) (λ h. let t : true ≡ false =
     by_two name first second true false is it none t = rw (is, it) refl
     by_two name first second false c is it none t = rw is refl
 
+    by_three : (name first second third : List ℕ) (b c d : Bool) → is_utf8 first ≡ b → is_utf8 second ≡ c → is_utf8 third ≡ d
+        → (AllByRecursion IsUtf8 (name ∷ first ∷ second ∷ third ∷ []) → ⊥) → IsUtf8 name → asks_for (command_of name (first ∷ second ∷ third ∷ [])) ≡ bad
+    by_three name first second third true true true is it last none t =
+        absurd (none (t, (IsUtf8-from_is_utf8 first is, (IsUtf8-from_is_utf8 second it, (IsUtf8-from_is_utf8 third last, tt)))))
+    by_three name first second third true true false is it last none t = rw (is, it, last) refl
+    by_three name first second third true false d is it last none t = rw (is, it) refl
+    by_three name first second third false c d is it last none t = rw is refl
+
     by_rest : (name : List ℕ) (words : List (List ℕ)) → (AllByRecursion IsUtf8 (name ∷ words) → ⊥) → IsUtf8 name → asks_for (command_of name words) ≡ bad
     by_rest name [] none t = absurd (none (t, tt))
     by_rest name (word ∷ []) none t = by_one name word (is_utf8 word) refl none t
     by_rest name (first ∷ second ∷ []) none t = by_two name first second (is_utf8 first) (is_utf8 second) refl refl none t
-    by_rest name (first ∷ second ∷ third ∷ more) none t = refl
+    by_rest name (first ∷ second ∷ third ∷ []) none t =
+        by_three name first second third (is_utf8 first) (is_utf8 second) (is_utf8 third) refl refl refl none t
+    by_rest name (first ∷ second ∷ third ∷ fourth ∷ more) none t = refl
 
     by_name : (name : List ℕ) (words : List (List ℕ)) (b : Bool) → is_utf8 name ≡ b → (AllByRecursion IsUtf8 (name ∷ words) → ⊥) → request_of (name ∷ words) ≡ bad
     by_name name words true is none = rw is (by_rest name words none (IsUtf8-from_is_utf8 name is))

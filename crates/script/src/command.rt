@@ -2,19 +2,44 @@
 #[derive(Clone, Copy, Debug, PartialEq, Eq)]
 pub enum Command<'a> {
     /// Make a container from the bundle of this name.
-    Create { id: &'a str, bundle: &'a str },
+    Create {
+        id: &'a str,
+        bundle: &'a str,
+    },
+    /// Take up a container of the bundle of this name that has these CPUs already.
+    Adopt {
+        id: &'a str,
+        bundle: &'a str,
+        cpus: &'a str,
+    },
+    /// Read the config of the container again, from the bundle of this name.
+    Update {
+        id: &'a str,
+        bundle: &'a str,
+    },
     /// Start the container's program.
-    Start { id: &'a str },
+    Start {
+        id: &'a str,
+    },
     /// Send the container a signal.
-    Kill { id: &'a str, signal: &'a str },
+    Kill {
+        id: &'a str,
+        signal: &'a str,
+    },
     /// Remove a stopped container.
-    Delete { id: &'a str },
+    Delete {
+        id: &'a str,
+    },
     /// Tell the container's state.
-    State { id: &'a str },
+    State {
+        id: &'a str,
+    },
     /// Tell each container's status.
     List,
     /// Tell which CPUs and memory nodes the container has.
-    Sets { id: &'a str },
+    Sets {
+        id: &'a str,
+    },
     /// Work out a plan and move all containers onto it.
     Rebalance,
     /// Work out a plan and begin to move the containers onto it.
@@ -26,13 +51,21 @@ pub enum Command<'a> {
     /// Print the certificate of the last plan or shortage.
     Certificate,
     /// The process makes another one.
-    Fork { pid: u32 },
+    Fork {
+        pid: u32,
+    },
     /// The process ends.
-    Exit { pid: u32 },
+    Exit {
+        pid: u32,
+    },
     /// The CPU goes offline.
-    Offline { cpu: u32 },
+    Offline {
+        cpu: u32,
+    },
     /// The CPU comes online.
-    Online { cpu: u32 },
+    Online {
+        cpu: u32,
+    },
 }
 
 /// What a line asks for.

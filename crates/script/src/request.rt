@@ -3,7 +3,7 @@ ghost use Rattle.std.specs.Prelude.{◌≡◌, option_map};
 ghost use Rattle.std.specs.Option.{option_zip};
 ghost use Rattle.script.specs.Commands.{asked};
 ghost use Rattle.script.specs.Lines.{words_of};
-ghost use Rattle.script.specs.Requests.{bare_command, command_by, long_command, request_of, short_command, text_of, wanted};
+ghost use Rattle.script.specs.Requests.{bare_command, command_by, long_command, longest_command, request_of, short_command, text_of, wanted};
 
 use crate::command::{Command, Request};
 use crate::number::read_number;
@@ -33,8 +33,11 @@ fn read_command<'a>(name: &[u8], rest: &'a [u8]) -> Option<Command<'a>>
     let Some((second, rest)) = next_word(rest) else {
         return short_command(name, first);
     };
+    let Some((third, rest)) = next_word(rest) else {
+        return long_command(name, first, second);
+    };
     match next_word(rest) {
-        None => long_command(name, first, second),
+        None => longest_command(name, first, second, third),
         Some(_) => None,
     }
 }
@@ -87,7 +90,26 @@ fn long_command<'a>(name: &str, first: &'a [u8], second: &'a [u8]) -> Option<Com
     let second = text(second)?;
     match name {
         "create" => Some(Command::Create { id, bundle: second }),
+        "update" => Some(Command::Update { id, bundle: second }),
         "kill" => Some(Command::Kill { id, signal: second }),
+        _ => None,
+    }
+}
+
+/// A command with three arguments.
+fn longest_command<'a>(
+    name: &str,
+    first: &'a [u8],
+    second: &'a [u8],
+    third: &'a [u8],
+) -> Option<Command<'a>>
+    ensures { option_map asked result ≡ longest_command name.now (option_zip (text_of first.now) (option_zip (text_of second.now) (text_of third.now))) }
+{
+    let id = text(first)?;
+    let bundle = text(second)?;
+    let cpus = text(third)?;
+    match name {
+        "adopt" => Some(Command::Adopt { id, bundle, cpus }),
         _ => None,
     }
 }

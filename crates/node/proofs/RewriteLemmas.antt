@@ -1,0 +1,281 @@
+-- The writes of an `update`: how many fail, how many are made, and what they are one by one.
+use Rattle.std.proofs.Common.{◌≡◌, inl, inr, ℕ, ◌+◌, ◌≤◌, Bool, true, false, List, [], ◌∷◌, ◌++◌, refl, sym, ap, ◌∙◌, subst, arith, Option, Some}
+use Rattle.std.specs.Prelude.{map, Result, Ok, Err}
+use Rattle.std.specs.List.{AllByRecursion}
+use Rattle.std.specs.Map.{lookup, set_value}
+use Rattle.std.specs.Str.{bytes_eq}
+use Rattle.faults.specs.declared.OrMemory.{OrMemory}
+use Rattle.faults.specs.declared.OrMemory.TheVariants.{Memory, Fault}
+use Rattle.cpu_set.specs.Ids.{Ids}
+use Rattle.cpuset_tree.specs.declared.Group.{Group}
+use Rattle.cpuset_tree.specs.TreeLaws.{IsChild}
+use Rattle.kernel_model.specs.declared.KernelFault.{KernelFault}
+use Rattle.kernel_model.specs.declared.KernelFault.TheVariants.{Failed}
+use Rattle.kernel_model.specs.KernelState.{KernelState}
+use Rattle.kernel_model.specs.Cases.{rise, WritesCpus, WritesMems}
+use Rattle.kernel_model.specs.KernelLemmas.{writes_count, counts_each_write}
+use Rattle.demand.specs.declared.Demand.{Demand as Asked}
+use Rattle.node.specs.declared.fault.NodeFault.{NodeFault}
+use Rattle.node.specs.declared.fault.NodeFault.TheVariants.{Busy, BadId, IdInUse, TooManyContainers, NoContainer, NotCreated, NotRunnable, BadSignal, NotLive, NotStopped, NoHandover, NoAnswer, NotFree, Config, Demand, Kernel}
+use Rattle.apply_plan.specs.Holders.{IsSafe}
+use Rattle.node.specs.NodeState.{ContainerState, NodeState, container_of, is_underway}
+use Rattle.node.specs.Owners.{owners_of}
+use Rattle.node.specs.Status.{is_live}
+use Rattle.node.specs.IsNode.{IsPlaced, Holds, IsNode}
+use Rattle.node.specs.Wanted.{ConfigCause, Reads}
+use Rattle.node.specs.Leaves.{rise_or_memory}
+use Rattle.node.specs.Making.{AreCalls, UpdatesAreCalls, UpdatesStaySafe, UpdatesFail}
+use Rattle.node.specs.Making.IsOneCall.{Cpus, Mems}
+use Rattle.node.specs.Updates.{MayUpdate, UpdateCause, MadeIf, becomes_pinned, moves_home, Rewrites, made_states, rewrite_states, Updates}
+use Rattle.node.proofs.LateLemmas.{cpus_fail, mems_fail}
+use Rattle.node.proofs.MakingLemmas.{calls_then}
+use Rattle.node.proofs.ContainerLemmas.{found_owner}
+use Rattle.node.proofs.UpdateLemmas.{cpus_made, either, done_states_safe, refused_states_safe}
+use Rattle.node.proofs.NodeLemmas.{updated_node, not_updated_node}
+
+module _ (make : Bool) (old : KernelState) (g : Group) (r : Result (Unit {0}) KernelFault) (new : KernelState) where
+  none_fails : (r ≡ Ok tt) × (new ≡ old) → new.failures ≡ old.failures + rise r
+  none_fails m =
+      let same : new.failures ≡ old.failures = ap (λ (k : KernelState). k.failures) m.1 in
+      let none : rise r ≡ 0 = ap (λ (x : Result (Unit {0}) KernelFault). rise x) m.0 in
+      omega (arith, same, none)
+
+  none_made : new ≡ old → new.writes ≤ old.writes + 1
+  none_made m = let same : new.writes ≡ old.writes = ap (λ (k : KernelState). k.writes) m in omega (arith, same)
+
+cpus_count : (make : Bool) (old : KernelState) (g : Group) (cpus : Ids) (r : Result (Unit {0}) KernelFault) (new : KernelState) → MadeIf make old (WritesCpus old g cpus) r new
+    → new.failures ≡ old.failures + rise r
+cpus_count true old g cpus r new m = writes_count.cpus old new g cpus r m
+cpus_count false old g cpus r new m = none_fails false old g r new m
+
+mems_count : (make : Bool) (old : KernelState) (g : Group) (mems : Ids) (r : Result (Unit {0}) KernelFault) (new : KernelState) → MadeIf make old (WritesMems old g mems) r new
+    → new.failures ≡ old.failures + rise r
+mems_count true old g mems r new m = writes_count.mems old new g mems r m
+mems_count false old g mems r new m = none_fails false old g r new m
+
+cpus_few : (make : Bool) (old : KernelState) (g : Group) (cpus : Ids) (r : Result (Unit {0}) KernelFault) (new : KernelState) → MadeIf make old (WritesCpus old g cpus) r new
+    → new.writes ≤ old.writes + 1
+cpus_few true old g cpus r new m = let one : new.writes ≡ old.writes + 1 = counts_each_write.cpus old new g cpus r m in omega (arith, one)
+cpus_few false old g cpus r new m = none_made false old g r new m.1
+
+mems_few : (make : Bool) (old : KernelState) (g : Group) (mems : Ids) (r : Result (Unit {0}) KernelFault) (new : KernelState) → MadeIf make old (WritesMems old g mems) r new
+    → new.writes ≤ old.writes + 1
+mems_few true old g mems r new m = let one : new.writes ≡ old.writes + 1 = counts_each_write.mems old new g mems r m in omega (arith, one)
+mems_few false old g mems r new m = none_made false old g r new m.1
+
+module _ (old : KernelState) (reserved : Ids) (c : ContainerState) (asked : Asked) (new : KernelState) where
+  abbrev becomes : Bool
+  becomes = becomes_pinned c.demand asked
+
+  abbrev moves : Bool
+  moves = moves_home c.demand asked
+
+  pub rewrites_count : (r : Result (Unit {0}) KernelFault) → Rewrites old reserved c asked r new → new.failures ≡ old.failures + rise r
+  rewrites_count r (inl (fault, refused, is)) =
+      cpus_count becomes old c.group reserved (Err fault) new refused ∙ ap (λ (x : Result (Unit {0}) KernelFault). old.failures + rise x) (sym is)
+  rewrites_count r (inr (done, mid, first, second)) =
+      let one : mid.failures ≡ old.failures + 0 = cpus_count becomes old c.group reserved (Ok done) mid first in
+      let two : new.failures ≡ mid.failures + rise r = mems_count moves mid c.group asked.homes r new second in
+      omega (arith, one, two)
+
+  pub rewrites_few : (r : Result (Unit {0}) KernelFault) → Rewrites old reserved c asked r new → new.writes ≤ old.writes + 2
+  rewrites_few r (inl (fault, refused, is)) =
+      let one : new.writes ≤ old.writes + 1 = cpus_few becomes old c.group reserved (Err fault) new refused in omega (arith, one)
+  rewrites_few r (inr (done, mid, first, second)) =
+      let one : mid.writes ≤ old.writes + 1 = cpus_few becomes old c.group reserved (Ok done) mid first in
+      let two : new.writes ≤ mid.writes + 1 = mems_few moves mid c.group asked.homes r new second in
+      omega (arith, one, two)
+
+  -- each state between is what one call leaves
+  cpus_call : (make : Bool) (r : Result (Unit {0}) KernelFault) (k : KernelState) (m : MadeIf make old (WritesCpus old c.group reserved) r k)
+      → AreCalls old (made_states make old (WritesCpus old c.group reserved) r k m) k
+  cpus_call true r k m = (Cpus c.group reserved r m, refl)
+  cpus_call false r k m = m.1
+
+  mems_call : (make : Bool) (mid : KernelState) (r : Result (Unit {0}) KernelFault) (m : MadeIf make mid (WritesMems mid c.group asked.homes) r new)
+      → AreCalls mid (made_states make mid (WritesMems mid c.group asked.homes) r new m) new
+  mems_call true mid r m = (Mems c.group asked.homes r m, refl)
+  mems_call false mid r m = m.1
+
+  pub rewrite_calls : (r : Result (Unit {0}) KernelFault) (w : Rewrites old reserved c asked r new) → AreCalls old (rewrite_states old reserved c asked r new w) new
+  rewrite_calls r (inl (fault, refused, is)) = cpus_call becomes (Err fault) new refused
+  rewrite_calls r (inr (done, mid, first, second)) =
+      calls_then old (made_states becomes old (WritesCpus old c.group reserved) (Ok done) mid first) mid
+      (made_states moves mid (WritesMems mid c.group asked.homes) r new second) new
+      (cpus_call becomes (Ok done) mid first) (mems_call moves mid r second)
+
+-- the code's two calls
+module _ (old : KernelState) (reserved : Ids) (c : ContainerState) (asked : Asked) (new : KernelState) (make : Bool) (make_is : make ≡ becomes_pinned c.demand asked) where
+  pub rewrite_refused : (fault : KernelFault) → MadeIf make old (WritesCpus old c.group reserved) (Err fault) new → Rewrites old reserved c asked (Err fault) new
+  rewrite_refused fault m = inl (fault, subst (λ b. MadeIf b old (WritesCpus old c.group reserved) (Err fault) new) make_is m, refl)
+
+  pub rewrite_made : (mid : KernelState) (done : Unit {0}) → MadeIf make old (WritesCpus old c.group reserved) (Ok done) mid → (move : Bool) → move ≡ moves_home c.demand asked
+      → (r : Result (Unit {0}) KernelFault) → MadeIf move mid (WritesMems mid c.group asked.homes) r new → Rewrites old reserved c asked r new
+  rewrite_made mid done first move move_is r second = inr (
+    done,
+    mid,
+    subst (λ b. MadeIf b old (WritesCpus old c.group reserved) (Ok done) mid) make_is first,
+    subst (λ b. MadeIf b mid (WritesMems mid c.group asked.homes) r new) move_is second,
+  )
+
+-- a write of a container's group is refused only where it fails
+module _ (parent : Group) (id : List ℕ) (reserved : Ids) (c : ContainerState) (old : KernelState) (child : IsChild old.tree parent id c.group) where
+  made_fails : (make : Bool) (fault : KernelFault) (new : KernelState) → MadeIf make old (WritesCpus old c.group reserved) (Err fault) new → fault ≡ Failed
+  made_fails true fault new m = cpus_fail parent id c.group old child reserved fault new m
+  made_fails false fault new m = absurd (let no : ⊥ = cc m.0 in no)
+
+  mems_fails : (mems : Ids) (make : Bool) (fault : KernelFault) (new : KernelState) → MadeIf make old (WritesMems old c.group mems) (Err fault) new → fault ≡ Failed
+  mems_fails mems true fault new m = mems_fail parent id c.group old child mems fault new m
+  mems_fails mems false fault new m = absurd (let no : ⊥ = cc m.0 in no)
+
+-- so is any write of an `update`
+rewrites_fail : (parent : Group) (id : List ℕ) (reserved : Ids) (c : ContainerState) (xs : List (List ℕ × ContainerState)) → lookup (bytes_eq id) xs ≡ Some c
+    → (old : KernelState) → Holds old parent (owners_of xs) → (asked : Asked) (new : KernelState) (fault : KernelFault) → Rewrites old reserved c asked (Err fault) new
+    → fault ≡ Failed
+rewrites_fail parent id reserved c xs found old h asked new fault (inl (first, refused, is)) =
+    let child : IsChild old.tree parent id c.group = found_owner id (IsPlaced old.tree parent) xs c found h.placed in
+    let same : fault ≡ first = cc is in
+    same ∙ made_fails parent id reserved c old child (becomes_pinned c.demand asked) first new refused
+rewrites_fail parent id reserved c xs found old h asked new fault (inr (done, mid, first, second)) =
+    let child : IsChild old.tree parent id c.group = found_owner id (IsPlaced old.tree parent) xs c found h.placed in
+    let now = (cpus_made reserved c (becomes_pinned c.demand asked) old mid h.kernel (Ok done) first).after c.group child.entry child.there in
+    let still : IsChild mid.tree parent id c.group =
+    record { entry = now.entry; there = now.there; below = sym now.place.parent ∙ child.below; named = sym now.place.name ∙ child.named } in
+    mems_fails parent id reserved c mid still asked.homes (moves_home c.demand asked) fault new second
+
+-- `update`
+kept_count : (old new : NodeState) → new ≡ old → new.kernel.failures ≡ old.kernel.failures + 0
+kept_count old new same = let e : new.kernel.failures ≡ old.kernel.failures = ap (λ (n : NodeState). n.kernel.failures) same in omega (arith, e)
+
+kept_few : (old new : NodeState) → new ≡ old → new.kernel.writes ≤ old.kernel.writes + 2
+kept_few old new same = let e : new.kernel.writes ≡ old.kernel.writes = ap (λ (n : NodeState). n.kernel.writes) same in omega (arith, e)
+
+pub update_counts : (old : NodeState) (id bundle config : List ℕ) (r : Result (Unit {0}) (OrMemory NodeFault)) (new : NodeState) → Updates old id bundle config r new
+    → new.kernel.failures ≡ old.kernel.failures + rise_or_memory r
+update_counts old id bundle config (Ok done) new u = rewrites_count old.kernel old.machine.reserved u.container u.asked new.kernel (Ok tt) u.rewrites
+update_counts old id bundle config (Err Memory) new u = kept_count old new u.3
+update_counts old id bundle config (Err (Fault (Kernel fault))) new u =
+    rewrites_count old.kernel old.machine.reserved u.1.container u.1.asked new.kernel (Err fault) u.1.rewrites
+update_counts old id bundle config (Err (Fault Busy)) new u = kept_count old new u.1
+update_counts old id bundle config (Err (Fault BadId)) new u = kept_count old new u.1
+update_counts old id bundle config (Err (Fault IdInUse)) new u = kept_count old new u.1
+update_counts old id bundle config (Err (Fault TooManyContainers)) new u = kept_count old new u.1
+update_counts old id bundle config (Err (Fault NoContainer)) new u = kept_count old new u.1
+update_counts old id bundle config (Err (Fault NotCreated)) new u = kept_count old new u.1
+update_counts old id bundle config (Err (Fault NotRunnable)) new u = kept_count old new u.1
+update_counts old id bundle config (Err (Fault BadSignal)) new u = kept_count old new u.1
+update_counts old id bundle config (Err (Fault NotLive)) new u = kept_count old new u.1
+update_counts old id bundle config (Err (Fault NotStopped)) new u = kept_count old new u.1
+update_counts old id bundle config (Err (Fault NoHandover)) new u = kept_count old new u.1
+update_counts old id bundle config (Err (Fault NoAnswer)) new u = kept_count old new u.1
+update_counts old id bundle config (Err (Fault (NotFree cpu))) new u = kept_count old new u.1
+update_counts old id bundle config (Err (Fault (Config fault))) new u = kept_count old new u.1
+update_counts old id bundle config (Err (Fault (Demand fault))) new u = kept_count old new u.1
+
+pub update_few : (old : NodeState) (id bundle config : List ℕ) (r : Result (Unit {0}) (OrMemory NodeFault)) (new : NodeState) → Updates old id bundle config r new
+    → new.kernel.writes ≤ old.kernel.writes + 2
+update_few old id bundle config (Ok done) new u = rewrites_few old.kernel old.machine.reserved u.container u.asked new.kernel (Ok tt) u.rewrites
+update_few old id bundle config (Err Memory) new u = kept_few old new u.3
+update_few old id bundle config (Err (Fault (Kernel fault))) new u =
+    rewrites_few old.kernel old.machine.reserved u.1.container u.1.asked new.kernel (Err fault) u.1.rewrites
+update_few old id bundle config (Err (Fault fault)) new u = kept_few old new u.1
+
+pub updates_are_calls : UpdatesAreCalls
+updates_are_calls old id bundle config (Ok done) new u = rewrite_calls old.kernel old.machine.reserved u.container u.asked new.kernel (Ok tt) u.rewrites
+updates_are_calls old id bundle config (Err Memory) new u = ap (λ (n : NodeState). n.kernel) u.3
+updates_are_calls old id bundle config (Err (Fault (Kernel fault))) new u =
+    rewrite_calls old.kernel old.machine.reserved u.1.container u.1.asked new.kernel (Err fault) u.1.rewrites
+updates_are_calls old id bundle config (Err (Fault fault)) new u = ap (λ (n : NodeState). n.kernel) u.1
+
+pub updates_stay_safe : UpdatesStaySafe
+updates_stay_safe old id bundle config (Ok done) new u h =
+    subst (λ (cs : List (List ℕ × ContainerState)). AllByRecursion (λ k. IsSafe k k.reserved (map (λ o. o.holder) (owners_of cs)))
+    (rewrite_states old.kernel old.machine.reserved u.container u.asked (Ok tt) new.kernel u.rewrites))
+    (sym (ap (λ (n : NodeState). n.containers) u.is))
+    (done_states_safe old.machine.reserved u.container old.parent id old.containers u.may.there old.kernel h.holds (sym h.machine.reserved) bundle u.asked new.kernel u.rewrites)
+updates_stay_safe old id bundle config (Err Memory) new u h = tt
+updates_stay_safe old id bundle config (Err (Fault (Kernel fault))) new u h =
+    subst (λ (cs : List (List ℕ × ContainerState)). AllByRecursion (λ k. IsSafe k k.reserved (map (λ o. o.holder) (owners_of cs)))
+    (rewrite_states old.kernel old.machine.reserved u.1.container u.1.asked (Err fault) new.kernel u.1.rewrites))
+    (sym (ap (λ (n : NodeState). n.containers) u.1.is))
+    (refused_states_safe old.machine.reserved u.1.container old.parent id old.containers u.1.may.there old.kernel h.holds (sym h.machine.reserved) bundle u.1.asked new.kernel fault
+    u.1.rewrites)
+updates_stay_safe old id bundle config (Err (Fault fault)) new u h = tt
+
+pub updates_fail : UpdatesFail
+updates_fail old id bundle config fault new h u =
+    let one : new.kernel.failures ≡ old.kernel.failures + rise_or_memory {A = Unit {0}} (Err (Fault (Kernel fault))) = update_counts old id bundle config (Err (Fault (Kernel fault))) new u in
+    record {
+      container = u.1.container;
+      there = u.1.may.there;
+      containers = ap (λ (n : NodeState). n.containers) u.1.is;
+      requests = either old.machine.reserved u.1.container old.parent id old.containers u.1.may.there old.kernel h.holds (sym h.machine.reserved) bundle u.1.asked new.kernel
+          (Err fault) u.1.rewrites;
+      counted = subst (λ (f : KernelFault). new.kernel.failures ≡ old.kernel.failures + rise_or_memory {A = Unit {0}} (Err (Fault (Kernel f)))) u.0 one;
+    }
+
+-- what the code finds and does
+module _ (n now : NodeState) (is : n ≡ now) (id bundle config : List ℕ) where
+  may_now : (c : ContainerState) → is_underway n.phase ≡ false → container_of n id ≡ Some c → is_live n.kernel c ≡ true → MayUpdate now id c
+  may_now c settled found live = subst (λ (m : NodeState). MayUpdate m id c) is (record { settled = settled; there = found; live = live })
+
+  module _ (settled : is_underway n.phase ≡ false) (c : ContainerState) (found : container_of n id ≡ Some c) where
+    pub update_dead : is_live n.kernel c ≡ false → UpdateCause now id config NotLive × (now ≡ now)
+    update_dead dead = (subst (λ (m : NodeState). UpdateCause m id config NotLive) is (c, settled, found, dead), refl)
+
+    module _ (live : is_live n.kernel c ≡ true) where
+      pub update_wants : (e : OrMemory NodeFault) → Reads n.machine config (Err e) → Updates now id bundle config (Err e) now
+      update_wants Memory r = (c, may_now c settled found live, r, refl)
+      update_wants (Fault (Config fault)) r = ((c, may_now c settled found live, subst (λ (m : NodeState). ConfigCause m.machine config (Config fault)) is r), refl)
+      update_wants (Fault (Demand fault)) r = ((c, may_now c settled found live, subst (λ (m : NodeState). ConfigCause m.machine config (Demand fault)) is r), refl)
+      update_wants (Fault fault) r = absurd r
+
+      module _ (runnable : Bool) (asked : Asked) (reads : Reads n.machine config (Ok (runnable, asked))) where
+        pub update_short : Updates now id bundle config (Err Memory) now
+        update_short = (c, may_now c settled found live, reads.3, refl)
+
+        module _ (new : KernelState) (reserved : Ids) (reserve : reserved ≡ n.machine.reserved) where
+          on_reserved : (r : Result (Unit {0}) KernelFault) → Rewrites n.kernel reserved c asked r new → Rewrites n.kernel n.machine.reserved c asked r new
+          on_reserved r w = subst (λ (x : Ids). Rewrites n.kernel x c asked r new) reserve w
+
+          pub update_refused : IsNode n → (fault : KernelFault) → Rewrites n.kernel reserved c asked (Err fault) new
+              → Updates now id bundle config (Err (Fault (Kernel fault))) (record n { kernel = new })
+          update_refused h fault w =
+              subst (λ (m : NodeState). Updates m id bundle config (Err (Fault (Kernel fault))) (record n { kernel = new })) is (
+                rewrites_fail n.parent id n.machine.reserved c n.containers found n.kernel h.holds asked new fault (on_reserved (Err fault) w),
+                record {
+                  said = reads.0;
+                  asked = asked;
+                  container = c;
+                  may = record { settled = settled; there = found; live = live };
+                  says = reads.2;
+                  rewrites = on_reserved (Err fault) w;
+                  is = refl;
+                },
+              )
+
+          pub refused_update_node : IsNode n → (fault : KernelFault) → Rewrites n.kernel reserved c asked (Err fault) new → IsNode (record n { kernel = new })
+          refused_update_node h fault w = not_updated_node n h new id c (record { settled = settled; there = found; live = live }) asked fault (on_reserved (Err fault) w)
+
+          module _ (w : Rewrites n.kernel reserved c asked (Ok tt) new) (text : List ℕ) (text_is : text ≡ bundle) (cs : List (List ℕ × ContainerState))
+              (changed : cs ≡ set_value (bytes_eq id) n.containers (record c { bundle = text; demand = asked })) where
+            changed_is : cs ≡ set_value (bytes_eq id) n.containers (record c { bundle = bundle; demand = asked })
+            changed_is = changed ∙ ap (λ (t : List ℕ). set_value (bytes_eq id) n.containers (record c { bundle = t; demand = asked })) text_is
+
+            pub update_done : Updates now id bundle config (Ok tt) (record n { kernel = new; containers = cs })
+            update_done =
+                subst (λ (m : NodeState). Updates m id bundle config (Ok tt) (record n { kernel = new; containers = cs })) is
+                (record {
+                  said = reads.0;
+                  asked = asked;
+                  container = c;
+                  may = record { settled = settled; there = found; live = live };
+                  says = reads.2;
+                  rewrites = on_reserved (Ok tt) w;
+                  is = ap (λ (xs : List (List ℕ × ContainerState)). record n { kernel = new; containers = xs }) changed_is;
+                })
+
+            pub update_node : IsNode n → IsNode (record n { kernel = new; containers = cs })
+            update_node h =
+                subst (λ (xs : List (List ℕ × ContainerState)). IsNode (record n { kernel = new; containers = xs })) (sym changed_is)
+                (updated_node n h new id c (record { settled = settled; there = found; live = live }) asked bundle reads.2.fits (on_reserved (Ok tt) w))
