@@ -1,6 +1,6 @@
 -- What the tests of a hand-over's conditions find.
 use Rattle.std.proofs.Common.{◌≡◌, ◌↔◌, ◌⊎◌, ℕ, suc, Bool, true, false, not, ◌&&◌, ◌||◌, ◌-◌, ◌≤◌, List, [], ◌∷◌, length, take, drop, get_or, refl, sym, ap, ◌∙◌, inl, inr, arith}
-use Rattle.std.proofs.lemmas.Bool.{ne_eqb, false≢true}
+use Rattle.std.proofs.lemmas.Bool.{ne_eqb, false≢true, and_from, and_parts, or_left, or_right, or_cases}
 use Rattle.std.proofs.lemmas.List.{take_all}
 use Rattle.std.specs.Borrow.{Bor}
 use Rattle.faults.specs.Calls.{behind}
@@ -21,37 +21,16 @@ use Rattle.apply_plan.specs.Holders.{Pairwise}
 use Rattle.apply_plan.specs.Targets.{AreTargetsApart}
 use Rattle.apply_plan.specs.KeptLemmas.{is_empty-empty}
 use Rattle.apply_plan.specs.Free.{IsFree, with_pinned, AreFree}
-use Rattle.apply_plan.proofs.ListLemmas.{all_map, all_map2, all_of}
-
-both : (x y : Bool) → x ≡ true → y ≡ true → (x && y) ≡ true
-both true true e f = refl
-both true false e f = f
-both false y e f = e
-
-parts : (x y : Bool) → (x && y) ≡ true → (x ≡ true) × (y ≡ true)
-parts true y e = (refl, e)
-parts false y e = absurd (false≢true e)
+use Rattle.apply_plan.specs.ListLemmas.{all_map, all_map2, all_of}
 
 -- what is in two sets is in a set exactly where their meeting is within that
 pub meets_within : (s t within : Ids) → (set.is_subset (set.intersection s t) within ≡ true)
     ↔ ((cpu : ℕ) → set.contains s cpu ≡ true → set.contains t cpu ≡ true → set.contains within cpu ≡ true)
 meets_within s t within = (
-  λ sub cpu a b. is_subset-contains (set.intersection s t) within sub cpu (contains-intersection s t cpu ∙ both _ _ a b),
+  λ sub cpu a b. is_subset-contains (set.intersection s t) within sub cpu (contains-intersection s t cpu ∙ and_from _ _ a b),
   λ all. contains-is_subset (set.intersection s t) within (λ cpu member.
-      let two = parts (set.contains s cpu) (set.contains t cpu) (sym (contains-intersection s t cpu) ∙ member) in all cpu two.0 two.1),
+      let two = and_parts (set.contains s cpu) (set.contains t cpu) (sym (contains-intersection s t cpu) ∙ member) in all cpu two.0 two.1),
 )
-
-in_left : (x y : Bool) → x ≡ true → (x || y) ≡ true
-in_left true y e = refl
-in_left false y e = absurd (false≢true e)
-
-in_right : (x y : Bool) → y ≡ true → (x || y) ≡ true
-in_right true y e = refl
-in_right false y e = e
-
-in_one : (x y : Bool) → (x || y) ≡ true → (x ≡ true) ⊎ (y ≡ true)
-in_one true y e = inl refl
-in_one false y e = inr e
 
 -- a list by its first and the others
 pub cut_first : {X : Type 0} (xs : List X) (x : X) → 1 ≤ length xs → x ≡ get_or xs 0 x → xs ≡ x ∷ take (length xs - 1) (drop 1 xs)
@@ -66,8 +45,8 @@ module _ (reserved : Ids) where
 
   joined : (s any t : Ids) → IsWithin s (set.union any t) ↔ (IsWithin s any × IsWithin t s)
   joined s any t = (
-    λ h. (λ cpu a b. h cpu a (contains-union any t cpu ∙ in_left _ _ b), λ cpu b a. h cpu a (contains-union any t cpu ∙ in_right (set.contains any cpu) _ b)),
-    λ h cpu a b. elim (in_one (set.contains any cpu) (set.contains t cpu) (sym (contains-union any t cpu) ∙ b)) [
+    λ h. (λ cpu a b. h cpu a (contains-union any t cpu ∙ or_left _ _ b), λ cpu b a. h cpu a (contains-union any t cpu ∙ or_right (set.contains any cpu) _ b)),
+    λ h cpu a b. elim (or_cases (set.contains any cpu) (set.contains t cpu) (sym (contains-union any t cpu) ∙ b)) [
       | inl e ↦ h.0 cpu a e
       | inr e ↦ h.1 cpu e a
     ],
@@ -113,10 +92,6 @@ some_by_test s test means fails = ne_eqb _ _ (λ e. false≢true (sym fails ∙ 
 
 pub none_by_test : (s : Ids) (test : Bool) → (test ≡ true) ↔ (s ≡ set.empty) → test ≡ true → is_empty s ≡ true
 none_by_test s test means passes = is_empty-empty s (means.0 passes)
-
-pub flipped : (b : Bool) → not b ≡ false → b ≡ true
-flipped true e = refl
-flipped false e = sym e
 
 -- a read by reference is of a group that is there where its value is
 pub ok_behind : {A F : Type 0} (r : Result (Bor A) F) → is_ok r ≡ is_ok (behind r)

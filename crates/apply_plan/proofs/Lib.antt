@@ -1,12 +1,3 @@
-pub mod ListLemmas
-pub mod KernelFacts
-pub mod WriteLemmas
-pub mod StepLemmas
 pub mod ConditionLemmas
-pub mod DueLemmas
-pub mod HandoverLemmas
-pub mod EventLemmas
-pub mod RunLemmas
-pub mod EffectLemmas
 pub mod WalkLemmas
 pub mod FinishLemmas

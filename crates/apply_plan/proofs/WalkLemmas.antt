@@ -16,10 +16,10 @@ use Rattle.apply_plan.specs.Targets.{Targets, IsHandover, IsPlaced, ArePlaced}
 use Rattle.apply_plan.specs.DueWrite.{held, kept_of, must_release, must_move, release_of, move_of, first_write, due, written}
 use Rattle.apply_plan.specs.KeptLemmas.{kept_target, kept_again}
 use Rattle.apply_plan.specs.Walks.{its_release, its_move, IsMadeIfAny, Writes, HasWritten, Stops, NoneMust, HaveReleased, HaveMoved}
-use Rattle.apply_plan.proofs.ListLemmas.{all_map2, find_among}
-use Rattle.apply_plan.proofs.KernelFacts.{with_request, is_write, stands, placed_alike}
-use Rattle.apply_plan.proofs.WriteLemmas.{IsWrite, Left, all_left, by_test}
-use Rattle.apply_plan.proofs.StepLemmas.{is_same_itself}
+use Rattle.apply_plan.specs.ListLemmas.{all_map2, find_among}
+use Rattle.apply_plan.specs.KernelFacts.{with_request, is_write, stands, placed_alike}
+use Rattle.apply_plan.specs.WriteLemmas.{IsWrite, Left, all_left, by_test}
+use Rattle.apply_plan.specs.StepLemmas.{is_same_itself}
 
 module _ {X : Type 0} (P : X → Type 0) where
   pub all_front : (n : ℕ) (xs : List X) → AllByRecursion P xs → AllByRecursion P (take n xs)

@@ -11,3 +11,12 @@ pub mod OneStep
 pub mod Finishes
 pub mod Walks
 pub mod Effects
+pub mod ListLemmas
+pub mod KernelFacts
+pub mod WriteLemmas
+pub mod StepLemmas
+pub mod DueLemmas
+pub mod HandoverLemmas
+pub mod EventLemmas
+pub mod RunLemmas
+pub mod EffectLemmas

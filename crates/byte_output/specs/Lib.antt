@@ -2,3 +2,4 @@ pub mod Arguments
 pub mod Output
 pub mod Parts
 pub mod Sending
+pub mod Digits

@@ -6,7 +6,7 @@ use Rattle.std.specs.Option.{option_or}
 use Rattle.std.specs.FinSet as set
 use Rattle.std.proofs.Math.Numerals.{add-one}
 use Rattle.std.proofs.Math.Nat.{mul-le-mul}
-use Rattle.std.proofs.lemmas.Bool.{leb-true}
+use Rattle.std.proofs.lemmas.Bool.{leb-true, both_ways, and_from}
 use Rattle.std.proofs.lemmas.List.{take_more}
 use Rattle.std.proofs.lemmas.List.Folds.{find-append}
 use Rattle.std.proofs.lemmas.List.Sums.{sum_by-cons, AllPass-from_list_all}
@@ -19,7 +19,7 @@ use Rattle.certificate.specs.Weight.{weight_in}
 use Rattle.certificate.specs.Limits.{offers_fit, row_fits, values_fit}
 use Rattle.certificate.specs.declared.rows.Offer.{Offer}
 use Rattle.certificate.specs.declared.limits.TheConstants.{MAX_DEMAND, MAX_WEIGHT, MAX_AMOUNT}
-use Rattle.certificate.specs.Tests.{and_left, and_right, both, not_true}
+use Rattle.certificate.specs.Tests.{and_left, and_right}
 use Rattle.certificate.specs.Sums.{sum_by_none, sum_by_same, sum_by_plus, sum_by-filter, sum_by-constant}
 use Rattle.certificate.specs.Cpus.{sum_by-cpus-le, len-times, length-cpus}
 use Rattle.certificate.specs.ApartTest.{apart_at}
@@ -47,7 +47,7 @@ module _ {A B : Type 0} (f : A × B → ℕ) where
 pub list_all-take : {A : Type 0} (p : A → Bool) (k : ℕ) (xs : List A) → list_all p xs ≡ true → list_all p (take k xs) ≡ true
 list_all-take p zero xs all = refl
 list_all-take p (suc k) [] all = refl
-list_all-take p (suc k) (x ∷ xs) all = both _ _ (and_left _ _ all) (list_all-take p k xs (and_right _ _ all))
+list_all-take p (suc k) (x ∷ xs) all = and_from _ _ (and_left _ _ all) (list_all-take p k xs (and_right _ _ all))
 
 pub demand_small : (row : RowView) → row_fits row ≡ true → row.demand ≤ MAX_DEMAND
 unfolding row_fits
@@ -107,7 +107,7 @@ one_weighed :
     → unwrap_or (option_map (λ (p : Offer). p.weight) (option_or before (cond b (Some o) None))) 0
     ≡ unwrap_or (option_map (λ (p : Offer). p.weight) before) 0 + cond b o.weight 0
 one_weighed o true None apart = omega arith
-one_weighed o true (Some p) apart = absurd (not_true _ (apart refl) refl)
+one_weighed o true (Some p) apart = absurd (both_ways _ (apart refl) refl)
 one_weighed o false None apart = omega arith
 one_weighed o false (Some p) apart = omega arith
 

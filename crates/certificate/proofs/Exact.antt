@@ -4,7 +4,7 @@ use Rattle.std.specs.List.{AllZip, AllPairs}
 use Rattle.std.specs.Option.{option_or, option_map_or}
 use Rattle.std.specs.Result.{result_err}
 use Rattle.std.specs.FinSet as set
-use Rattle.std.proofs.lemmas.Bool.{true≢false, false≢true, eq-eqb, eqb-true, ltb-false, le-ltb, cases_lt}
+use Rattle.std.proofs.lemmas.Bool.{true≢false, false≢true, eq-eqb, eqb-true, ltb-false, le-ltb, cases_lt, both_ways, and_from}
 use Rattle.std.proofs.lemmas.Option.{get_or_from_slice_get}
 use Rattle.std.proofs.lemmas.List.{get_or_default, get_or-take, length-take}
 use Rattle.std.proofs.lemmas.List.Folds.{list_any_at, Any-from_list_any}
@@ -28,7 +28,7 @@ use Rattle.certificate.specs.PlanFault.{is_not_allowed, row_fault, at_both, rows
 use Rattle.certificate.specs.declared.price_lists.Price.{Price}
 use Rattle.certificate.specs.declared.check_faults.CheckFault.{CheckFault}
 use Rattle.certificate.specs.declared.check_faults.CheckFault.TheVariants.{BadProblem, WrongCount, NotAllowed, HeldTwice, ValueTooHigh, Gap}
-use Rattle.certificate.specs.Tests.{not_true, not_both, both}
+use Rattle.certificate.specs.Tests.{not_both}
 use Rattle.certificate.proofs.LimitFacts.{limit_facts}
 use Rattle.certificate.proofs.Duality.{no_plan_below_bound}
 
@@ -141,7 +141,7 @@ apart_below sets n few in_range none i j d lt below c one other =
     let has : set.contains (get_or sets j set.empty) c ≡ true = ap (λ s. set.contains s c) (get_or_default sets j set.empty d in_sets) ∙ other in
     let held : is_held (take j sets) c ≡ true =
     list_any_at (λ s. set.contains s c) (take j sets) i d (rw length-take (omega arith)) (ap (λ s. set.contains s c) (get_or-take j sets i d lt) ∙ one) in
-    not_true _ never (both _ _ has held)
+    both_ways _ never (and_from _ _ has held)
 
 pub apart_fault-says : (sets : List Ids) → All InRange sets → apart_fault sets ≡ None → AllPairs IsDisjoint sets
 unfolding apart_fault

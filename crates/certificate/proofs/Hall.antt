@@ -1,5 +1,6 @@
 -- Where rows are short of CPUs there is no plan.
 use Rattle.std.proofs.Common.{◌≡◌, ℕ, zero, suc, ◌<◌, ◌≤◌, Bool, true, false, cond, ◌||◌, Some, is_some, List, [], ◌∷◌, filter_map, length, get_or, slice_get, refl, sum_by, arith, All}
+use Rattle.std.proofs.lemmas.Slice.Zip.{AllZip-long}
 use Rattle.std.specs.List.{AllZip, AllPairs}
 use Rattle.std.specs.List.Sorted.{IsStrictlyIncreasing}
 use Rattle.std.specs.FinSet as set
@@ -66,12 +67,6 @@ places_zip R xs ys (k ∷ ks) all there =
     let at = beside R xs ys k all (there 0 k (omega arith)) in
     rw (at.2, at.3) (at.4, places_zip R xs ys ks all (λ i d lt. there (suc i) d (omega arith)))
 
-zip_long : {A B : Type 0} (R : A → B → Type 0) (xs : List A) (ys : List B) → AllZip R xs ys → length ys ≡ length xs
-zip_long R [] [] all = refl
-zip_long R [] (y ∷ ys) all = absurd all
-zip_long R (x ∷ xs) [] all = absurd all
-zip_long R (x ∷ xs) (y ∷ ys) all = omega (arith, zip_long R xs ys all.1)
-
 places_apart : (sets : List Ids) (ks : List ℕ) → AllPairs IsDisjoint sets → All (λ k. k < length sets) ks → IsStrictlyIncreasing ks
     → AllPairs IsDisjoint (at_places sets ks)
 places_apart sets ks apart there rising = λ i j d lt below.
@@ -84,7 +79,7 @@ plan_of_chosen : (rows : List RowView) (ks : List ℕ) (sets : List Ids) → IsP
     → IsPlan (chosen rows ks) (at_places sets ks)
 plan_of_chosen rows ks sets plan there rising = record {
   met = places_zip Meets rows sets ks plan.met there;
-  apart = places_apart sets ks plan.apart (λ i d lt. rw (zip_long Meets rows sets plan.met) (there i d lt)) rising;
+  apart = places_apart sets ks plan.apart (λ i d lt. rw (AllZip-long Meets rows sets plan.met) (there i d lt)) rising;
 }
 
 -- ---- what a plan holds

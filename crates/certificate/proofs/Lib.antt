@@ -16,6 +16,5 @@ pub mod OffersKept
 pub mod PricesKept
 pub mod Elements
 pub mod Noting
-pub mod TwoCosts
 pub mod Verdicts
 pub mod SameWeights

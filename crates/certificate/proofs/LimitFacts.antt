@@ -2,14 +2,14 @@
 use Rattle.std.proofs.Common.{◌≡◌, ℕ, ◌<◌, ◌≤◌, true, List, length, All, nat_lt, arith}
 use Rattle.std.specs.List.{list_all}
 use Rattle.std.specs.List.Sorted.{IsStrictlyIncreasing}
-use Rattle.std.proofs.lemmas.Bool.{leb-true, eqb-true, ltb-true, lt-ltb}
+use Rattle.std.proofs.lemmas.Bool.{leb-true, eqb-true, ltb-true, lt-ltb, and_from}
 use Rattle.std.proofs.lemmas.List.Sums.{AllPass-from_list_all, list_all-from_AllPass}
 use Rattle.cpu_set.specs.Ids.{Ids}
 use Rattle.certificate.specs.RowView.{RowView}
 use Rattle.certificate.specs.PricesView.{PricesView}
 use Rattle.certificate.specs.Limits.{row_fits, rows_fit, values_fit, prices_fit, is_within_limits, is_shortage_within_limits}
 use Rattle.certificate.specs.declared.limits.TheConstants.{MAX_ROWS}
-use Rattle.certificate.specs.Tests.{and_left, and_right, both}
+use Rattle.certificate.specs.Tests.{and_left, and_right}
 use Rattle.certificate.proofs.Rising.{is_rising-says, is_rising-true, few_numbers}
 
 pub record AreWithin (rows : List RowView) (sets : List Ids) (prices : PricesView) : Type 0 where
@@ -68,5 +68,5 @@ pub numbered : (rows : List RowView) (members : List ℕ) → rows_fit rows ≡ 
     → is_shortage_within_limits rows members ≡ true
 unfolding is_shortage_within_limits
 numbered rows members fit rising there =
-    both _ _ fit (both _ _ (is_rising-true members rising)
+    and_from _ _ fit (and_from _ _ (is_rising-true members rising)
     (list_all-from_AllPass (λ k. nat_lt k (length rows)) members (λ i d lt. lt-ltb _ _ (there i d lt))))

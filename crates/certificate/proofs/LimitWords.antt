@@ -1,7 +1,7 @@
 -- The limits' tests, and what they mean.
 use Rattle.std.proofs.Common.{◌≡◌, ℕ, suc, ◌≤◌, true, List, [], ◌∷◌, get_or, refl, arith, All, nat_le}
 use Rattle.std.specs.List.{AllPairs, list_all}
-use Rattle.std.proofs.lemmas.Bool.{leb-true, le-leb, eqb-true, eq-eqb}
+use Rattle.std.proofs.lemmas.Bool.{leb-true, le-leb, eqb-true, eq-eqb, and_from}
 use Rattle.std.proofs.lemmas.List.Kept.{AllPairs-cons}
 use Rattle.std.proofs.lemmas.List.Sums.{AllPass-from_list_all, list_all-from_AllPass}
 use Rattle.cpu_set.specs.Ids.{Ids, IsDisjoint}
@@ -12,7 +12,7 @@ use Rattle.certificate.specs.AreWithin.{IsRowWithin, AreRowsWithin, AreWithin, R
 use Rattle.certificate.specs.declared.rows.Offer.{Offer}
 use Rattle.certificate.specs.declared.price_lists.Price.{Price}
 use Rattle.certificate.specs.declared.limits.TheConstants.{MAX_WEIGHT, MAX_AMOUNT}
-use Rattle.certificate.specs.Tests.{and_left, and_right, both}
+use Rattle.certificate.specs.Tests.{and_left, and_right}
 use Rattle.certificate.specs.ApartTest.{is_disjoint-says, is_disjoint-true}
 
 module _ {A : Type 0} (set_of : A → Ids) where
@@ -29,7 +29,7 @@ module _ {A : Type 0} (set_of : A → Ids) where
   are_apart-true : (xs : List A) → AreApart xs → are_apart set_of xs ≡ true
   are_apart-true [] apart = refl
   are_apart-true (x ∷ xs) apart =
-      both _ _
+      and_from _ _
       (list_all-from_AllPass (λ y. is_disjoint (set_of x) (set_of y)) xs (λ i d lt. is_disjoint-true (set_of x) (set_of (get_or xs i d)) (apart 0 (suc i) d (omega arith) (omega arith))))
       (are_apart-true xs (λ i j d lt below. apart (suc i) (suc j) d (omega arith) (omega arith)))
 
@@ -55,8 +55,8 @@ row_fits-says row fit =
 row_fits-true : (row : RowView) → IsRowWithin row → row_fits row ≡ true
 unfolding row_fits offers_fit
 row_fits-true row is =
-    both _ _ (le-leb _ _ is.some) (both _ _ (le-leb _ _ is.demand)
-    (both _ _ (at_most-true (λ (o : Offer). o.weight) MAX_WEIGHT row.offers is.weights) (are_apart-true (λ (o : Offer). o.cpus) row.offers is.apart)))
+    and_from _ _ (le-leb _ _ is.some) (and_from _ _ (le-leb _ _ is.demand)
+    (and_from _ _ (at_most-true (λ (o : Offer). o.weight) MAX_WEIGHT row.offers is.weights) (are_apart-true (λ (o : Offer). o.cpus) row.offers is.apart)))
 
 rows_fit-says : (rows : List RowView) → rows_fit rows ≡ true → AreRowsWithin rows
 unfolding rows_fit
@@ -68,7 +68,7 @@ rows_fit-says rows fit = record {
 rows_fit-true : (rows : List RowView) → AreRowsWithin rows → rows_fit rows ≡ true
 unfolding rows_fit
 rows_fit-true rows are =
-    both _ _ (le-leb _ _ are.few) (list_all-from_AllPass row_fits rows (λ i d lt. row_fits-true _ (are.each i d lt)))
+    and_from _ _ (le-leb _ _ are.few) (list_all-from_AllPass row_fits rows (λ i d lt. row_fits-true _ (are.each i d lt)))
 
 pub rows_fit_means : RowsFitMeans
 rows_fit_means rows = (rows_fit-says rows, rows_fit-true rows)
@@ -92,9 +92,9 @@ limits-says rows sets prices within =
 limits-true : (rows : List RowView) (sets : List Ids) (prices : PricesView) → AreWithin rows sets prices → is_within_limits rows sets prices ≡ true
 unfolding is_within_limits prices_fit
 limits-true rows sets prices are =
-    both _ _ (rows_fit-true rows are.rows_are) (both _ _ (eq-eqb _ _ are.same_sets) (both _ _ (eq-eqb _ _ are.same_values)
-    (both _ _ (at_most-true (λ v. v) MAX_AMOUNT prices.values are.values)
-    (both _ _ (at_most-true (λ (p : Price). p.amount) MAX_AMOUNT prices.of_cpu are.amounts) (are_apart-true (λ (p : Price). p.cpus) prices.of_cpu are.apart)))))
+    and_from _ _ (rows_fit-true rows are.rows_are) (and_from _ _ (eq-eqb _ _ are.same_sets) (and_from _ _ (eq-eqb _ _ are.same_values)
+    (and_from _ _ (at_most-true (λ v. v) MAX_AMOUNT prices.values are.values)
+    (and_from _ _ (at_most-true (λ (p : Price). p.amount) MAX_AMOUNT prices.of_cpu are.amounts) (are_apart-true (λ (p : Price). p.cpus) prices.of_cpu are.apart)))))
 
 pub limits_mean : LimitsMean
 limits_mean rows sets prices = (limits-says rows sets prices, limits-true rows sets prices)

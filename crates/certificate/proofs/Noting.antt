@@ -4,11 +4,10 @@ use Rattle.certificate.specs.ApartTest.{apart_at, is_in_one}
 use Rattle.certificate.specs.AreAmounts.{AreAmounts}
 use Rattle.certificate.specs.Limits.{are_apart, prices_fit}
 use Rattle.certificate.specs.Price.{price}
-use Rattle.certificate.specs.Tests.{not_true}
 use Rattle.certificate.specs.declared.price_lists.Price.{Price}
 use Rattle.cpu_set.specs.declared.TheConstants.{CPU_LIMIT}
 use Rattle.std.proofs.Common.{Bool, List, Some, [], ap, arith, cond, false, get_or, inl, inr, length, nat_le, nat_lt, refl, replicate, sym, take, true, unwrap_or, ℕ, ◌&&◌, ◌*◌, ◌+◌, ◌<◌, ◌||◌, ◌∙◌, ◌∷◌, ◌≡◌, ◌≤◌}
-use Rattle.std.proofs.lemmas.Bool.{cases_lt}
+use Rattle.std.proofs.lemmas.Bool.{cases_lt, both_ways}
 use Rattle.std.proofs.lemmas.Bool.Decides.{nat_tests}
 use Rattle.std.proofs.lemmas.List.{get_or-replicate, length-replicate}
 use Rattle.std.specs.Prelude.{find, option_map}
@@ -22,7 +21,7 @@ price_none (p ∷ prices) q none = by_cases (set.contains p.cpus q) none (price_
     by_cases : (b : Bool) → (b || is_in_one (λ (p : Price). p.cpus) prices q) ≡ false
         → (is_in_one (λ (p : Price). p.cpus) prices q ≡ false → price prices q ≡ 0)
         → unwrap_or (option_map (λ (r : Price). r.amount) (cond b (Some p) (find (λ (r : Price). set.contains r.cpus q) prices))) 0 ≡ 0
-    by_cases true none rest = absurd (not_true _ none refl)
+    by_cases true none rest = absurd (both_ways _ none refl)
     by_cases false none rest = rest none
 
 -- a table whose amounts are those of some prices is that of one price more where the price's amount is noted at its CPUs

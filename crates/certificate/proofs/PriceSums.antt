@@ -4,7 +4,7 @@ use Rattle.std.specs.Prelude.{find}
 use Rattle.std.specs.List.{list_all}
 use Rattle.std.specs.Option.{option_or}
 use Rattle.std.specs.FinSet as set
-use Rattle.std.proofs.lemmas.Bool.{leb-true}
+use Rattle.std.proofs.lemmas.Bool.{leb-true, both_ways}
 use Rattle.std.proofs.lemmas.List.{take_more}
 use Rattle.std.proofs.lemmas.List.Folds.{find-append}
 use Rattle.cpu_set.specs.Members.{InRange, cpus}
@@ -13,7 +13,7 @@ use Rattle.certificate.specs.Price.{price, all_prices}
 use Rattle.certificate.specs.Limits.{are_apart, prices_fit}
 use Rattle.certificate.specs.declared.price_lists.Price.{Price}
 use Rattle.certificate.specs.declared.limits.TheConstants.{MAX_AMOUNT}
-use Rattle.certificate.specs.Tests.{and_left, and_right, not_true}
+use Rattle.certificate.specs.Tests.{and_left, and_right}
 use Rattle.certificate.specs.Sums.{sum_by_none, sum_by_same, sum_by_plus, sum_by-constant}
 use Rattle.certificate.specs.Cpus.{sum_by-cpus-le, len-times, length-cpus}
 use Rattle.certificate.specs.ApartTest.{apart_at}
@@ -30,7 +30,7 @@ one_added :
     → unwrap_or (option_map (λ (q : Price). q.amount) (option_or before (cond b (Some p) None))) 0
     ≡ unwrap_or (option_map (λ (q : Price). q.amount) before) 0 + cond {A = ℕ} b 1 0 * p.amount
 one_added p true None apart = omega arith
-one_added p true (Some q) apart = absurd (not_true _ (apart refl) refl)
+one_added p true (Some q) apart = absurd (both_ways _ (apart refl) refl)
 one_added p false None apart = omega arith
 one_added p false (Some q) apart = omega arith
 

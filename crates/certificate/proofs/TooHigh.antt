@@ -7,7 +7,7 @@ use Rattle.certificate.specs.OfferLaws.{offers_apart, row_offers_fit}
 use Rattle.certificate.specs.PlanFault.{is_too_high}
 use Rattle.certificate.specs.Price.{price}
 use Rattle.certificate.specs.RowView.{RowView}
-use Rattle.certificate.specs.Tests.{and_left, and_right, is_false, not_true, or_left, or_right}
+use Rattle.certificate.specs.Tests.{and_left, and_right}
 use Rattle.certificate.specs.declared.price_lists.Price.{Price}
 use Rattle.certificate.specs.declared.rows.Offer.{Offer}
 use Rattle.cpu_set.specs.Ids.{Ids}
@@ -15,7 +15,7 @@ use Rattle.cpu_set.specs.Least.{least_that}
 use Rattle.cpu_set.specs.LeastLaws.{least-none, least-none_says, least-some, least-some_says}
 use Rattle.cpu_set.specs.Members.{IsCpu}
 use Rattle.std.proofs.Common.{Bool, List, None, Some, [], ap, arith, cond, false, inl, inr, nat_le, nat_lt, refl, sym, true, ℕ, ◌&&◌, ◌+◌, ◌-◌, ◌<◌, ◌||◌, ◌∙◌, ◌∷◌, ◌≡◌, ◌≤◌}
-use Rattle.std.proofs.lemmas.Bool.{cases_lt, cond-false, cond-true, le-leb}
+use Rattle.std.proofs.lemmas.Bool.{cases_lt, cond-false, cond-true, le-leb, false_from_ne_true, both_ways, or_left, or_right, or_from}
 use Rattle.std.proofs.lemmas.Bool.Decides.{nat_tests}
 use Rattle.std.specs.List.{list_all, list_any}
 use Rattle.std.specs.Option.{option_map_or}
@@ -28,7 +28,7 @@ module _ {A : Type 0} (set_of : A → Ids) (passes : A → Bool) (c : ℕ) where
   not_in_others : (x : A) (xs : List A) → list_all (λ y. is_disjoint (set_of x) (set_of y)) xs ≡ true → set.contains (set_of x) c ≡ true → is_in_one set_of xs c ≡ false
   not_in_others x [] clear has = refl
   not_in_others x (y ∷ xs) clear has =
-      let here : set.contains (set_of y) c ≡ false = is_false _ (λ both. is_disjoint-says (set_of x) (set_of y) (and_left _ _ clear) c has both) in
+      let here : set.contains (set_of y) c ≡ false = false_from_ne_true _ (λ both. is_disjoint-says (set_of x) (set_of y) (and_left _ _ clear) c has both) in
       rw here (not_in_others x xs (and_right _ _ clear) has)
 
   -- one of them has the number and passes
@@ -40,7 +40,7 @@ module _ {A : Type 0} (set_of : A → Ids) (passes : A → Bool) (c : ℕ) where
   none_passes (x ∷ xs) none = by_cases (set.contains (set_of x) c) _ none (none_passes xs)
     where
       by_cases : (a b : Bool) → (a || is_in_one set_of xs c) ≡ false → (is_in_one set_of xs c ≡ false → one_passes xs ≡ false) → ((a && b) || one_passes xs) ≡ false
-      by_cases true b none rest = absurd (not_true _ none refl)
+      by_cases true b none rest = absurd (both_ways _ none refl)
       by_cases false b none rest = rest none
 
   last : (b : Bool) → (b || false) ≡ b
@@ -85,27 +85,24 @@ less_than_the_rest w p value b lt = grind (arith, nat_tests)
 pub least_same : (f g : ℕ → Bool) → ((q : ℕ) → f q ≡ g q) → least_that f ≡ least_that g
 least_same f g e = λ i. least_that (λ q. e q i)
 
-either : (a b : Bool) → a ≡ false → b ≡ false → (a || b) ≡ false
-either a b p q = rw (p, q) refl
-
 lower : (k n : ℕ) → k < n → IsCpu n → IsCpu k
 lower k n lt is_cpu = omega arith
 
 least_at : (f g : ℕ → Bool) (m n : Option ℕ) → least_that f ≡ m → least_that g ≡ n → least_that (λ q. f q || g q) ≡ lesser m n
-least_at f g None None e h = least-none _ (λ q is_cpu. either _ _ (least-none_says f e q is_cpu) (least-none_says g h q is_cpu))
+least_at f g None None e h = least-none _ (λ q is_cpu. or_from _ _ (least-none_says f e q is_cpu) (least-none_says g h q is_cpu))
 least_at f g None (Some n) e h =
     let is = least-some_says g n h in
     least-some _ n (record {
       is_cpu = is.is_cpu;
       passes = or_right _ _ is.passes;
-      least = λ k lt. either _ _ (least-none_says f e k (lower k n lt is.is_cpu)) (is.least k lt);
+      least = λ k lt. or_from _ _ (least-none_says f e k (lower k n lt is.is_cpu)) (is.least k lt);
     })
 least_at f g (Some m) None e h =
     let is = least-some_says f m e in
     least-some _ m (record {
       is_cpu = is.is_cpu;
       passes = or_left _ _ is.passes;
-      least = λ k lt. either _ _ (is.least k lt) (least-none_says g h k (lower k m lt is.is_cpu));
+      least = λ k lt. or_from _ _ (is.least k lt) (least-none_says g h k (lower k m lt is.is_cpu));
     })
 least_at f g (Some m) (Some n) e h =
     let one = least-some_says f m e in
@@ -115,14 +112,14 @@ least_at f g (Some m) (Some n) e h =
           least-some _ n (record {
             is_cpu = two.is_cpu;
             passes = or_right _ _ two.passes;
-            least = λ k low. either _ _ (one.least k (omega arith)) (two.least k low);
+            least = λ k low. or_from _ _ (one.least k (omega arith)) (two.least k low);
           })
           ∙ ap Some (sym (cond-false _ _ _ (nat_le_false m n lt)))
       | inr le ↦
           least-some _ m (record {
             is_cpu = one.is_cpu;
             passes = or_left _ _ one.passes;
-            least = λ k low. either _ _ (one.least k low) (two.least k (omega arith));
+            least = λ k low. or_from _ _ (one.least k low) (two.least k (omega arith));
           })
           ∙ ap Some (sym (cond-true _ _ _ (le-leb m n le)))
     ]

@@ -1,12 +1,12 @@
 -- Sets of which no number is in two.
 use Rattle.std.proofs.Common.{◌≡◌, ℕ, suc, ◌+◌, ◌<◌, Bool, true, false, cond, ◌||◌, List, [], ◌∷◌, length, refl, sym, sum_by, arith, get_or}
+use Rattle.std.proofs.lemmas.Bool.{false_from_ne_true}
 use Rattle.std.specs.List.{AllPairs}
 use Rattle.std.specs.FinSet as set
 use Rattle.std.proofs.lemmas.List.Sums.{sum_by-cons}
 use Rattle.cpu_set.specs.Ids.{Ids, IsDisjoint}
 use Rattle.cpu_set.specs.Members.{cpus, members}
 use Rattle.certificate.specs.PlanFault.{is_held}
-use Rattle.certificate.specs.Tests.{is_false}
 use Rattle.certificate.specs.Sums.{sum_by_none, sum_by_same, sum_by_plus, sum_by-filter}
 
 -- one set is apart from each of a list
@@ -23,7 +23,7 @@ AllPairs-head s more apart = λ k d within. apart 0 (suc k) d (omega arith) (ome
 pub not_held : (s : Ids) (more : List Ids) → IsApartFrom s more → (c : ℕ) → set.contains s c ≡ true → is_held more c ≡ false
 not_held s [] apart c member = refl
 not_held s (t ∷ more) apart c member =
-    let here : set.contains t c ≡ false = is_false _ (λ both. apart 0 t (omega arith) c member both) in
+    let here : set.contains t c ≡ false = false_from_ne_true _ (λ both. apart 0 t (omega arith) c member both) in
     rw here (not_held s more (λ k d within. apart (suc k) d (omega arith)) c member)
 
 apart_once : (p : ℕ) (a b : Bool) → (a ≡ true → b ≡ false) → cond a p 0 + cond b p 0 ≡ cond (a || b) p 0

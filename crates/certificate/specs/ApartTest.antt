@@ -3,14 +3,14 @@ use Rattle.std.proofs.Common.{◌≡◌, ℕ, ◌+◌, ◌<◌, Bool, true, fals
 use Rattle.std.specs.List.{list_any, list_all}
 use Rattle.std.specs.FinSet as set
 use Rattle.std.specs.Ordering.{nat_cmp}
-use Rattle.std.proofs.lemmas.Bool.{eqb-true}
+use Rattle.std.proofs.lemmas.Bool.{eqb-true, false_from_ne_true, true_from_ne_false, both_ways, and_from, or_left, or_right}
 use Rattle.std.proofs.lemmas.List.{take_more}
 use Rattle.std.proofs.lemmas.List.Folds.{list_all-append, list_any_more}
 use Rattle.cpu_set.specs.Ids.{Ids, IsDisjoint}
 use Rattle.cpu_set.specs.Pointwise.{contains-union}
 use Rattle.cpu_set.specs.SetLaws.{meet_empty-IsDisjoint, IsDisjoint-meet_empty}
 use Rattle.certificate.specs.Limits.{is_disjoint, are_apart}
-use Rattle.certificate.specs.Tests.{is_false, is_true, not_true, both, and_left, and_right, and_false, or_left, or_right}
+use Rattle.certificate.specs.Tests.{and_left, and_right, and_false}
 
 pub is_disjoint-true : (s t : Ids) → IsDisjoint s t → is_disjoint s t ≡ true
 is_disjoint-true s t apart = rw (IsDisjoint-meet_empty s t apart, set.len-empty nat_cmp) refl
@@ -29,7 +29,7 @@ module _ {A : Type 0} (set_of : A → Ids) where
 
   clear_says :
       (xs : List A) (s : Ids) → is_clear xs s ≡ true → (c : ℕ) → is_in_one xs c ≡ true → set.contains s c ≡ true → ⊥
-  clear_says [] s clear c one here = not_true false refl one
+  clear_says [] s clear c one here = both_ways false refl one
   clear_says (x ∷ xs) s clear c one here =
       by_cases (set.contains (set_of x) c) refl one (λ more. clear_says xs s (and_right _ _ clear) c more here)
     where
@@ -41,7 +41,7 @@ module _ {A : Type 0} (set_of : A → Ids) where
       (xs : List A) (s : Ids) → ((c : ℕ) → is_in_one xs c ≡ true → set.contains s c ≡ true → ⊥) → is_clear xs s ≡ true
   clear_true [] s never = refl
   clear_true (x ∷ xs) s never =
-      both _ _ (is_disjoint-true (set_of x) s (λ c p q. never c (or_left _ _ p) q))
+      and_from _ _ (is_disjoint-true (set_of x) s (λ c p q. never c (or_left _ _ p) q))
       (clear_true xs s (λ c p q. never c (or_right _ _ p) q))
 
   regroup : (a b c d : Bool) → ((a && (b && true)) && (c && d)) ≡ ((a && c) && (b && d))
@@ -62,7 +62,7 @@ module _ {A : Type 0} (set_of : A → Ids) where
   front_fails false b c d e f = refl
 
   are_apart_front : (xs ys : List A) → are_apart set_of xs ≡ false → are_apart set_of (xs ++ ys) ≡ false
-  are_apart_front [] ys e = absurd (not_true true e refl)
+  are_apart_front [] ys e = absurd (both_ways true e refl)
   are_apart_front (x ∷ xs) ys e =
       rw (list_all-append (λ z. is_disjoint (set_of x) (set_of z)) xs ys)
       (front_fails (list_all (λ z. is_disjoint (set_of x) (set_of z)) xs) (are_apart set_of xs) _ _ e (are_apart_front xs ys))
@@ -74,7 +74,7 @@ module _ {A : Type 0} (set_of : A → Ids) where
       → are_apart set_of (take (k + 1) xs) ≡ true
   are_apart_more xs k x seen lt is same apart clear =
       rw (take_more xs k x lt, ← is, are_apart_push (take k xs) x)
-      (both _ _ apart (clear_true (take k xs) (set_of x) (λ c p q. clear c (same c ∙ p) q)))
+      (and_from _ _ apart (clear_true (take k xs) (set_of x) (λ c p q. clear c (same c ∙ p) q)))
 
   -- one more, whose set has a number seen before: they are not apart, however many follow
   pub are_apart_stop :
@@ -83,7 +83,7 @@ module _ {A : Type 0} (set_of : A → Ids) where
       → are_apart set_of xs ≡ false
   are_apart_stop xs k x seen lt is same meets =
       let never : is_clear (take k xs) (set_of x) ≡ false =
-      is_false _ (λ clear. meets (λ c p q. clear_says (take k xs) (set_of x) clear c (sym (same c) ∙ p) q)) in
+      false_from_ne_true _ (λ clear. meets (λ c p q. clear_says (take k xs) (set_of x) clear c (sym (same c) ∙ p) q)) in
       let front : are_apart set_of (take (k + 1) xs) ≡ false =
       rw (take_more xs k x lt, ← is, are_apart_push (take k xs) x, never) (and_false _) in
       ap (are_apart set_of) (sym (take-append-drop (k + 1) xs)) ∙ are_apart_front (take (k + 1) xs) (drop (k + 1) xs) front
@@ -104,7 +104,7 @@ module _ {A : Type 0} (set_of : A → Ids) where
       → (c : ℕ) → set.contains (set_of x) c ≡ true → is_in_one (take k xs) c ≡ false
   apart_at xs k x lt is apart c here =
       let front : are_apart set_of (take (k + 1) xs) ≡ true =
-      is_true _ (λ fails. not_true _ (are_apart_front (take (k + 1) xs) (drop (k + 1) xs) fails) (ap (are_apart set_of) (take-append-drop (k + 1) xs) ∙ apart)) in
+      true_from_ne_false _ (λ fails. both_ways _ (are_apart_front (take (k + 1) xs) (drop (k + 1) xs) fails) (ap (are_apart set_of) (take-append-drop (k + 1) xs) ∙ apart)) in
       let parts : (are_apart set_of (take k xs) && is_clear (take k xs) (set_of x)) ≡ true =
       sym (are_apart_push (take k xs) x) ∙ ap (λ y. are_apart set_of (take k xs ++ y ∷ [])) is ∙ ap (are_apart set_of) (sym (take_more xs k x lt)) ∙ front in
-      is_false _ (λ one. clear_says (take k xs) (set_of x) (and_right _ _ parts) c one here)
+      false_from_ne_true _ (λ one. clear_says (take k xs) (set_of x) (and_right _ _ parts) c one here)

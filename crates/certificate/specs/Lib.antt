@@ -2,6 +2,7 @@ pub mod FaultTitle
 pub mod RowView
 pub mod SetsCode
 pub mod MembersCode
+pub mod WeightsCode
 pub mod PricesView
 pub mod Weight
 pub mod RisingOffers
@@ -24,6 +25,7 @@ pub mod IsShown
 pub mod PlanFault
 pub mod ShortageFault
 pub mod IsCause
+pub mod Packed
 pub mod Scaled
 pub mod Verdict
 pub mod WeighSame
@@ -36,3 +38,4 @@ pub mod ApartTest
 pub mod Offers
 pub mod OfferLaws
 pub mod ScaledLaws
+pub mod TwoCosts

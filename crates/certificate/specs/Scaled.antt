@@ -1,5 +1,5 @@
--- Weights of two parts: the distance as a multiple of the scale, and what is left as moves.
-use Rattle.std.specs.Prelude.{◌≡◌, ◌↔◌, ℕ, ◌+◌, ◌*◌, ◌/◌, ◌%◌, ◌≤◌, Bool, true, nat_le, List, map}
+-- Weights of two parts: the distance, and the moves.
+use Rattle.std.specs.Prelude.{◌≡◌, ◌↔◌, ℕ, ◌≤◌, Bool, true, nat_le, List, map}
 use Rattle.std.specs.List.{list_all}
 use Rattle.cpu_set.specs.Ids.{Ids}
 use Rattle.cpu_set.specs.declared.TheConstants.{CPU_LIMIT}
@@ -8,7 +8,7 @@ use Rattle.certificate.specs.IsPlan.{IsPlan}
 use Rattle.certificate.specs.Cost.{cost}
 use Rattle.certificate.specs.IsLeast.{IsLeast}
 use Rattle.certificate.specs.declared.rows.Offer.{Offer}
-use Rattle.certificate.specs.declared.limits.TheConstants.{MOVE_SCALE}
+use Rattle.certificate.specs.Packed.{packed, distance_of, moves_of}
 
 -- the same CPUs at another weight
 abbrev pub with_weight : (ℕ → ℕ) → Offer → Offer
@@ -20,25 +20,25 @@ with_weights f row = record { id = row.id; demand = row.demand; offers = map (wi
 
 -- the rows whose weights are the distances alone
 abbrev pub by_distance : List RowView → List RowView
-by_distance rows = map (with_weights (λ w. w / MOVE_SCALE)) rows
+by_distance rows = map (with_weights distance_of) rows
 
 -- the rows whose weights are the moves alone
 abbrev pub by_moves : List RowView → List RowView
-by_moves rows = map (with_weights (λ w. w % MOVE_SCALE)) rows
+by_moves rows = map (with_weights moves_of) rows
 
 -- a CPU of the offer is a move or none
 abbrev pub is_scaled : Offer → Bool
-is_scaled o = nat_le (o.weight % MOVE_SCALE) 1
+is_scaled o = nat_le (moves_of o.weight) 1
 
 -- no CPU of any row is more than one move
 abbrev pub are_scaled : List RowView → Bool
 are_scaled rows = list_all (λ row. list_all is_scaled row.offers) rows
 
--- what sets cost is the distance, scaled, and the moves
+-- what sets cost is the distance and the moves, packed
 abbrev pub CostSplits : Type 0
 CostSplits =
     (rows : List RowView) (sets : List Ids)
-    → cost rows sets ≡ MOVE_SCALE * cost (by_distance rows) sets + cost (by_moves rows) sets
+    → cost rows sets ≡ packed (cost (by_distance rows) sets) (cost (by_moves rows) sets)
 
 -- the rows have the same plans by distance
 abbrev pub SamePlans : Type 0

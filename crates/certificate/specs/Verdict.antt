@@ -1,5 +1,5 @@
 -- What the check of a certificate answers.
-use Rattle.std.specs.Prelude.{◌≡◌, ◌≢◌, ◌⊎◌, ℕ, ◌+◌, ◌*◌, ◌/◌, ◌%◌, ◌<◌, ◌≤◌, Bool, true, false, not, ◌&&◌, ◌==◌, List, [], ◌∷◌, Option, Some}
+use Rattle.std.specs.Prelude.{◌≡◌, ◌≢◌, ◌⊎◌, ℕ, ◌<◌, ◌≤◌, true, false, not, ◌==◌, List, [], ◌∷◌, Option, Some, None}
 use Rattle.faults.specs.First.{when, first_of}
 use Rattle.cpu_set.specs.Ids.{Ids}
 use Rattle.certificate.specs.RowView.{RowView}
@@ -12,6 +12,7 @@ use Rattle.certificate.specs.IsProved.{IsProved}
 use Rattle.certificate.specs.IsShortage.{HasNoPlan}
 use Rattle.certificate.specs.IsShown.{IsShown}
 use Rattle.certificate.specs.PlanFault.{plan_fault}
+use Rattle.certificate.specs.Packed.{packed, distance_of, moves_of}
 use Rattle.certificate.specs.Scaled.{are_scaled, by_distance, by_moves}
 use Rattle.certificate.specs.ShortageFault.{shortage_fault}
 use Rattle.certificate.specs.declared.check_faults.CheckFault.{CheckFault}
@@ -19,28 +20,30 @@ use Rattle.certificate.specs.declared.check_faults.CheckFault.TheVariants.{BadPr
 use Rattle.certificate.specs.declared.limits.TheConstants.{MOVE_SCALE}
 use Rattle.certificate.specs.declared.certificates.Certificate.{Certificate}
 use Rattle.certificate.specs.declared.certificates.Certificate.TheVariants.{Plan as PlanCertificate, Short as ShortCertificate}
+use Rattle.certificate.specs.declared.weights.Weights.{Weights}
+use Rattle.certificate.specs.declared.weights.Weights.TheVariants.{Plain, WithMoves}
 use Rattle.certificate.specs.declared.checking.Verdict.{Verdict}
 use Rattle.certificate.specs.declared.checking.Verdict.TheVariants.{Plan, Moves, Short}
 
 -- the total in its two parts
 pub record AreParts (total distance moves : ℕ) : Type 0 where
   pub moves_fit : moves < MOVE_SCALE
-  pub whole : total ≡ distance * MOVE_SCALE + moves
+  pub whole : total ≡ packed distance moves
 
 -- values and prices prove the certificate's plan to cost its total, or its members are short by these counts; and where
--- weights are scaled, each CPU of a row is one move or none
+-- weights count moves, each CPU of a row is one move or none
 abbrev pub IsProvedCertificate : Certificate → Verdict → Type 0
-IsProvedCertificate (PlanCertificate rows sets prices total false) (Plan proved) = IsProved rows sets prices total × (proved ≡ total)
-IsProvedCertificate (PlanCertificate rows sets prices total true) (Moves distance moves) =
+IsProvedCertificate (PlanCertificate rows sets prices total Plain) (Plan proved) = IsProved rows sets prices total × (proved ≡ total)
+IsProvedCertificate (PlanCertificate rows sets prices total WithMoves) (Moves distance moves) =
     (are_scaled rows ≡ true) × IsProved rows sets prices total × AreParts total distance moves
-IsProvedCertificate (ShortCertificate rows members false) (Short asked allowed) = IsShown rows members asked allowed
-IsProvedCertificate (ShortCertificate rows members true) (Short asked allowed) = (are_scaled rows ≡ true) × IsShown rows members asked allowed
+IsProvedCertificate (ShortCertificate rows members Plain) (Short asked allowed) = IsShown rows members asked allowed
+IsProvedCertificate (ShortCertificate rows members WithMoves) (Short asked allowed) = (are_scaled rows ≡ true) × IsShown rows members asked allowed
 IsProvedCertificate _ _ = ⊥
 
 -- what a proved plan of this cost comes to
-abbrev pub plan_verdict : ℕ → Bool → Verdict
-plan_verdict cost false = Plan cost
-plan_verdict cost true = Moves (cost / MOVE_SCALE) (cost % MOVE_SCALE)
+abbrev pub plan_verdict : ℕ → Weights → Verdict
+plan_verdict cost Plain = Plan cost
+plan_verdict cost WithMoves = Moves (distance_of cost) (moves_of cost)
 
 -- the plan has this distance and these moves; no plan's distance is less, and none of that distance has fewer moves
 pub record IsBestByMoves (rows : List RowView) (sets : List Ids) (distance moves : ℕ) : Type 0 where
@@ -52,25 +55,26 @@ pub record IsBestByMoves (rows : List RowView) (sets : List Ids) (distance moves
 
 -- hence no plan of the rows costs less than the certificate's, which costs this, or the rows have no plan
 abbrev pub IsBest : Certificate → Verdict → Type 0
-IsBest (PlanCertificate rows sets prices total false) (Plan proved) = IsLeast rows sets × (cost rows sets ≡ proved)
-IsBest (PlanCertificate rows sets prices total true) (Moves distance moves) = IsBestByMoves rows sets distance moves
-IsBest (ShortCertificate rows members scaled) (Short asked allowed) = HasNoPlan rows
+IsBest (PlanCertificate rows sets prices total Plain) (Plan proved) = IsLeast rows sets × (cost rows sets ≡ proved)
+IsBest (PlanCertificate rows sets prices total WithMoves) (Moves distance moves) = IsBestByMoves rows sets distance moves
+IsBest (ShortCertificate rows members weights) (Short asked allowed) = HasNoPlan rows
 IsBest _ _ = ⊥
 
--- a CPU of scaled rows is more than one move
-abbrev pub scale_fault : Bool → List RowView → Option CheckFault
-scale_fault scaled rows = when (scaled && not (are_scaled rows)) BadProblem
+-- a CPU of rows that count moves is more than one
+abbrev pub scale_fault : Weights → List RowView → Option CheckFault
+scale_fault Plain rows = None
+scale_fault WithMoves rows = when (not (are_scaled rows)) BadProblem
 
--- the first fault of a certificate: a weight that is not scaled where it should be; then one of the plan and its prices, or
+-- the first fault of a certificate: a weight of more than one move, where weights count moves; then one of the plan and its prices, or
 -- another total than its cost; or one of the shortage
 abbrev pub certificate_fault : Certificate → Option CheckFault
-certificate_fault (PlanCertificate rows sets prices total scaled) = first_of (
-    scale_fault scaled rows
+certificate_fault (PlanCertificate rows sets prices total weights) = first_of (
+    scale_fault weights rows
     ∷ plan_fault rows sets prices
     ∷ when (not (cost rows sets == total)) Gap
     ∷ [])
-certificate_fault (ShortCertificate rows members scaled) = first_of (
-    scale_fault scaled rows
+certificate_fault (ShortCertificate rows members weights) = first_of (
+    scale_fault weights rows
     ∷ shortage_fault rows members
     ∷ [])
 
@@ -79,17 +83,17 @@ pub record IsOtherTotal (rows : List RowView) (sets : List Ids) (prices : Prices
   pub proved : IsProved rows sets prices (cost rows sets)
   pub other : cost rows sets ≢ total
 
--- weights should be scaled, and one isn't
-pub record IsNotScaled (rows : List RowView) (scaled : Bool) (fault : CheckFault) : Type 0 where
-  pub says_so : scaled ≡ true
+-- weights count moves, and one is more than one move
+pub record IsNotScaled (rows : List RowView) (weights : Weights) (fault : CheckFault) : Type 0 where
+  pub says_so : weights ≡ WithMoves
   pub not_so : are_scaled rows ≡ false
   pub is : fault ≡ BadProblem
 
 -- the cause of each refusal
 abbrev pub IsCertificateCause : Certificate → CheckFault → Type 0
-IsCertificateCause (PlanCertificate rows sets prices total scaled) fault =
-    IsNotScaled rows scaled fault ⊎ (IsCause rows sets prices fault ⊎ ((fault ≡ Gap) × IsOtherTotal rows sets prices total))
-IsCertificateCause (ShortCertificate rows members scaled) fault = IsNotScaled rows scaled fault ⊎ IsShortageCause rows members fault
+IsCertificateCause (PlanCertificate rows sets prices total weights) fault =
+    IsNotScaled rows weights fault ⊎ (IsCause rows sets prices fault ⊎ ((fault ≡ Gap) × IsOtherTotal rows sets prices total))
+IsCertificateCause (ShortCertificate rows members weights) fault = IsNotScaled rows weights fault ⊎ IsShortageCause rows members fault
 
 -- a certificate's first fault, and that its cause stands
 pub record IsFaultOf (fault : CheckFault) (c : Certificate) : Type 0 where

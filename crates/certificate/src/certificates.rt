@@ -1,4 +1,4 @@
-use crate::{Members, Plan, Prices, Problem};
+use crate::{Members, Plan, Prices, Problem, Weights};
 
 /// A problem together with what shows its answer.
 #[derive(Debug, Drop)]
@@ -9,15 +9,14 @@ pub enum Certificate {
         plan: Plan,
         prices: Prices,
         total: u64,
-        /// Whether weights, and so the total, count moves besides the distance, as
-        /// [`MOVE_SCALE`](crate::MOVE_SCALE) says.
-        scaled: bool,
+        /// What the weights count, and so the total.
+        weights: Weights,
     },
     /// Rows that together ask for more CPUs than they may have, so that there is no plan.
     Short {
         problem: Problem,
         members: Members,
-        /// Whether weights count moves besides the distance.
-        scaled: bool,
+        /// What the weights count.
+        weights: Weights,
     },
 }

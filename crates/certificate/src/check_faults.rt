@@ -8,8 +8,7 @@ pub enum CheckFault {
     /// [`MAX_DEMAND`](crate::MAX_DEMAND), a weight above [`MAX_WEIGHT`](crate::MAX_WEIGHT), a value or an
     /// amount above [`MAX_AMOUNT`](crate::MAX_AMOUNT), a CPU in two offers of a row or in two prices,
     /// not one set and one value for each row, or members that are not row numbers in rising order; where
-    /// weights count moves, also a weight that is neither a multiple of [`MOVE_SCALE`](crate::MOVE_SCALE)
-    /// nor one more.
+    /// weights count moves, also a weight that is a [`Cost`](crate::Cost) of more than one move.
     BadProblem,
     /// E71: the row's set has not as many CPUs as the row asks for.
     WrongCount { row: usize },

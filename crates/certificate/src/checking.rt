@@ -5,8 +5,8 @@ ghost use Rattle.certificate.specs.declared.checking.Verdict.{Verdict};
 ghost use Rattle.certificate.specs.Verdict.{IsProvedCertificate, IsBest, IsFaultOf, plan_verdict, scale_fault};
 
 use crate::{
-    Certificate, CheckFault, MOVE_SCALE, Members, Plan, Prices, Problem, are_scaled, check_plan,
-    check_shortage, laws,
+    Certificate, CheckFault, Cost, Members, Plan, Prices, Problem, Weights, are_scaled, check_plan,
+    check_shortage,
 };
 
 /// What a certificate proves.
@@ -25,13 +25,13 @@ pub enum Verdict {
 /// want any. It takes steps in the order of those of [`check_plan`] or [`check_shortage`].
 ///
 /// # Errors
-/// `BadProblem` where weights should be scaled and one isn't; then those of [`check_plan`], then `Gap` where the written
+/// `BadProblem` where weights count moves and one is more than one move; then those of [`check_plan`], then `Gap` where the written
 /// total isn't the plan's cost; for a shortage those of [`check_shortage`].
 pub fn check(certificate: &Certificate) -> Result<Verdict, CheckFault>
     // A yes: values and prices prove the plan to cost the total, or the members are short by these counts; where weights
-    // are scaled, they are distances times the scale, and one more at most.
+    // count moves, each is a distance, and one move at most.
     ensures proved { IfOk result (λ v. IsProvedCertificate certificate.now v) }
-    // Hence no plan of the rows costs less, where weights are scaled none is nearer, and none as near moves fewer CPUs; or
+    // Hence no plan of the rows costs less, where weights count moves none is nearer, and none as near moves fewer CPUs; or
     // the rows have no plan.
     ensures best { IfOk result (λ v. IsBest certificate.now v) }
     // A yes wherever that holds.
@@ -45,13 +45,13 @@ pub fn check(certificate: &Certificate) -> Result<Verdict, CheckFault>
             plan,
             prices,
             total,
-            scaled,
-        } => check_total(problem, plan, prices, *total, *scaled),
+            weights,
+        } => check_total(problem, plan, prices, *total, *weights),
         Certificate::Short {
             problem,
             members,
-            scaled,
-        } => check_members(problem, members, *scaled),
+            weights,
+        } => check_members(problem, members, *weights),
     }
 }
 
@@ -62,54 +62,58 @@ fn check_total(
     plan: &Plan,
     prices: &Prices,
     total: u64,
-    scaled: bool,
+    weights: Weights,
 ) -> Result<Verdict, CheckFault>
-    ensures proved { IfOk result (λ v. IsProvedCertificate (PlanCertificate problem.now plan.now prices.now total scaled) v) }
-    ensures best { IfOk result (λ v. IsBest (PlanCertificate problem.now plan.now prices.now total scaled) v) }
-    ensures complete { (v : Verdict) → IsProvedCertificate (PlanCertificate problem.now plan.now prices.now total scaled) v
+    ensures proved { IfOk result (λ v. IsProvedCertificate (PlanCertificate problem.now plan.now prices.now total weights) v) }
+    ensures best { IfOk result (λ v. IsBest (PlanCertificate problem.now plan.now prices.now total weights) v) }
+    ensures complete { (v : Verdict) → IsProvedCertificate (PlanCertificate problem.now plan.now prices.now total weights) v
         → result ≡ Ok v }
-    ensures fault { IfErr result (λ fault. IsFaultOf fault (PlanCertificate problem.now plan.now prices.now total scaled)) }
+    ensures fault { IfErr result (λ fault. IsFaultOf fault (PlanCertificate problem.now plan.now prices.now total weights)) }
 {
-    laws::scaled_rows_have_two_costs();
-    check_scale(problem, scaled)?;
+    check_scale(problem, weights)?;
     let cost = check_plan(problem, plan, prices)?;
     if cost != total {
         return Err(CheckFault::Gap);
     }
-    Ok(plan_verdict(cost, scaled))
+    Ok(plan_verdict(cost, weights))
 }
 
 /// What a proved plan of this cost comes to.
-fn plan_verdict(cost: u64, scaled: bool) -> Verdict
-    ensures { result ≡ plan_verdict cost scaled }
+fn plan_verdict(cost: u64, weights: Weights) -> Verdict
+    ensures { result ≡ plan_verdict cost weights }
 {
-    if scaled {
-        let scale = u64::from(MOVE_SCALE);
-        Verdict::Moves(cost / scale, cost % scale)
-    } else {
-        Verdict::Plan(cost)
+    match weights {
+        Weights::Plain => Verdict::Plan(cost),
+        Weights::WithMoves => {
+            let cost = Cost::unpack(cost);
+            Verdict::Moves(cost.distance, cost.moves)
+        }
     }
 }
 
-/// Refuses rows whose weights should be scaled and aren't.
-fn check_scale(problem: &Problem, scaled: bool) -> Result<(), CheckFault>
-    ensures ok { OnOk result (scale_fault scaled problem.now ≡ None) }
-    ensures err { IfErr result (λ fault. scale_fault scaled problem.now ≡ Some fault) }
+/// Refuses rows with a weight of more than one move, where weights count moves.
+fn check_scale(problem: &Problem, weights: Weights) -> Result<(), CheckFault>
+    ensures ok { OnOk result (scale_fault weights problem.now ≡ None) }
+    ensures err { IfErr result (λ fault. scale_fault weights problem.now ≡ Some fault) }
 {
-    if scaled && !are_scaled(problem.rows.as_slice()) {
-        return Err(CheckFault::BadProblem);
+    match weights {
+        Weights::WithMoves if !are_scaled(problem.rows.as_slice()) => Err(CheckFault::BadProblem),
+        _ => Ok(()),
     }
-    Ok(())
 }
 
 #[tactic(auto, using(crate::proofs::Verdicts::short_scale_first, crate::proofs::Verdicts::short_second, crate::proofs::Verdicts::short_proved))]
-fn check_members(problem: &Problem, members: &Members, scaled: bool) -> Result<Verdict, CheckFault>
-    ensures proved { IfOk result (λ v. IsProvedCertificate (ShortCertificate problem.now members.now scaled) v) }
-    ensures best { IfOk result (λ v. IsBest (ShortCertificate problem.now members.now scaled) v) }
-    ensures complete { (v : Verdict) → IsProvedCertificate (ShortCertificate problem.now members.now scaled) v → result ≡ Ok v }
-    ensures fault { IfErr result (λ fault. IsFaultOf fault (ShortCertificate problem.now members.now scaled)) }
+fn check_members(
+    problem: &Problem,
+    members: &Members,
+    weights: Weights,
+) -> Result<Verdict, CheckFault>
+    ensures proved { IfOk result (λ v. IsProvedCertificate (ShortCertificate problem.now members.now weights) v) }
+    ensures best { IfOk result (λ v. IsBest (ShortCertificate problem.now members.now weights) v) }
+    ensures complete { (v : Verdict) → IsProvedCertificate (ShortCertificate problem.now members.now weights) v → result ≡ Ok v }
+    ensures fault { IfErr result (λ fault. IsFaultOf fault (ShortCertificate problem.now members.now weights)) }
 {
-    check_scale(problem, scaled)?;
+    check_scale(problem, weights)?;
     let (asked, allowed) = check_shortage(problem, members.rows.as_slice())?;
     Ok(Verdict::Short(asked, allowed))
 }

@@ -12,5 +12,5 @@ pub const MAX_WEIGHT: u32 = 33_554_431;
 /// No row's value and no CPU's price is above this.
 pub const MAX_AMOUNT: u64 = 1_099_511_627_776;
 
-/// A weight that counts moves besides the distance has the distance times this, and one more where the CPU moves.
+/// More than the CPUs that can move: a [`Cost`](crate::Cost) has the distance so many times, and the moves.
 pub const MOVE_SCALE: u32 = 65_536;

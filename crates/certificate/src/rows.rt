@@ -16,8 +16,9 @@ pub struct Row {
 /// CPUs of one weight: what each of them costs a row that holds it.
 #[derive(Clone, Copy, Debug)]
 pub struct Offer {
-    /// At most [`MAX_WEIGHT`](crate::MAX_WEIGHT). For pinning it is the CPU's distance to the container's
-    /// nearest home node, as ACPI's SLIT counts distances: 10 is local.
+    /// At most [`MAX_WEIGHT`](crate::MAX_WEIGHT). For pinning it is a [`Cost`](crate::Cost) as one number: the CPU's
+    /// distance to the container's nearest home node, and one move where the container does not hold it. So of a local
+    /// CPU, at distance 10, it is 655,360 or 655,361.
     pub weight: u32,
     pub cpus: IdSet,
 }

@@ -3,9 +3,9 @@ ghost use Rattle.std.specs.Prelude.{◌≡◌};
 ghost use Rattle.std.specs.List.{list_all};
 ghost use Rattle.certificate.specs.Scaled.{is_scaled, are_scaled};
 
-use crate::{MOVE_SCALE, Offers, Row};
+use crate::{Cost, Offers, Row};
 
-/// Whether each weight is a multiple of [`MOVE_SCALE`], or one more: then no CPU is more than one move.
+/// Whether each weight is a [`Cost`] of one move at most.
 ///
 /// O(w) of w offers in all. Takes no memory.
 pub fn are_scaled(rows: &[Row]) -> bool
@@ -18,7 +18,7 @@ fn offers_are_scaled(offers: &Offers) -> bool
     ensures { result ≡ list_all is_scaled offers.now }
 {
     for at in 0..offers.len() {
-        if offers.weight(at) % MOVE_SCALE > 1 {
+        if Cost::unpack(u64::from(offers.weight(at))).moves > 1 {
             return false;
         }
     }

@@ -14,6 +14,8 @@ use Rattle.cpu_set.specs.declared.TheConstants.{CPU_LIMIT}
 use Rattle.cpu_list.specs.ListText.{IsList, names, item_of, number_of, range_of}
 use Rattle.certificate.specs.RowView.{RowView}
 use Rattle.certificate.specs.declared.certificates.Certificate.{Certificate}
+use Rattle.certificate.specs.declared.weights.Weights.{Weights}
+use Rattle.certificate.specs.declared.weights.Weights.TheVariants.{Plain, WithMoves}
 use Rattle.certificate_text.specs.declared.stage.Stage.{Stage}
 use Rattle.certificate_text.specs.declared.stage.Stage.TheVariants.{Start, Body, Totalled, Planned, Named, Shown}
 use Rattle.certificate_text.specs.IdWord.{is_id_letter, IsId}
@@ -87,14 +89,14 @@ zero_below : (limit : ℕ) → 0 < limit → IsNumber limit (codes "0") 0
 zero_below limit some = record { digits = zero_is_number.digits; fits = some }
 
 -- total 0, or total 0 moves 0
-total_zero : Bool → List ℕ
-total_zero false = codes "total 0"
-total_zero true = codes "total 0 moves 0"
+total_zero : Weights → List ℕ
+total_zero Plain = codes "total 0"
+total_zero WithMoves = codes "total 0 moves 0"
 
-spells_total : (scaled : Bool) → Spells (total_zero scaled) (TotalLine scaled 0)
+spells_total : (weights : Weights) → Spells (total_zero weights) (TotalLine weights 0)
 unfolding total_zero
-spells_total false = (codes "0" ∷ [], refl, record { number = codes "0"; words_are = refl; total_is = zero_is_number })
-spells_total true = (
+spells_total Plain = (codes "0" ∷ [], refl, record { number = codes "0"; words_are = refl; total_is = zero_is_number })
+spells_total WithMoves = (
   codes "0" ∷ codes "moves" ∷ codes "0" ∷ [],
   refl,
   record {
@@ -157,7 +159,7 @@ complete_totalled d h =
 complete_body : (k : ℕ) (d : DraftView) → d.stage ≡ Body → IsOrdered d.rows d.sets d.values d.prices → length d.rows ≡ length d.sets + k → Completes d
 complete_body zero d b o h =
     let all : length d.sets ≡ length d.rows = omega arith in
-    completes_before d (record d { stage = Totalled; total = 0 }) (total_zero d.scaled) (TotalLine d.scaled 0) (spells_total d.scaled) (take_total d 0 b all)
+    completes_before d (record d { stage = Totalled; total = 0 }) (total_zero d.weights) (TotalLine d.weights 0) (spells_total d.weights) (take_total d 0 b all)
     (complete_totalled (record d { stage = Totalled; total = 0 }) refl)
 complete_body (suc k) d b o h =
     let nth = next_row d.rows (length d.sets) (omega arith) in
@@ -177,12 +179,12 @@ complete_body (suc k) d b o h =
 
 complete_at : (stage : Stage) (d : DraftView) → d.stage ≡ stage → IsRightAt stage d → Completes d
 complete_at Start d h r =
-    let e : DraftView = record d { stage = Body; scaled = false } in
-    let taken : next_at Start d (HeaderLine false) ≡ Some e = refl in
-    let n : next d (HeaderLine false) ≡ Some e = subst (λ (s : Stage). next_at s d (HeaderLine false) ≡ Some e) (sym h) taken in
+    let e : DraftView = record d { stage = Body; weights = Plain } in
+    let taken : next_at Start d (HeaderLine Plain) ≡ Some e = refl in
+    let n : next d (HeaderLine Plain) ≡ Some e = subst (λ (s : Stage). next_at s d (HeaderLine Plain) ≡ Some e) (sym h) taken in
     let o = nothing_ordered d.rows d.sets d.values d.prices r.0 in
     let long : length d.rows ≡ length d.sets + 0 = rw (r.0.no_rows, r.0.no_sets) refl in
-    completes_before d e (codes "numarun-certificate 1") (HeaderLine false) refl n (complete_body 0 e refl o long)
+    completes_before d e (codes "numarun-certificate 1") (HeaderLine Plain) refl n (complete_body 0 e refl o long)
 complete_at Body d h r = let within : length d.sets ≤ length d.rows = r.0.within in complete_body (length d.rows - length d.sets) d h r.0 (omega arith)
 complete_at Totalled d h r = complete_totalled d h
 complete_at Planned d h r = complete_planned d h

@@ -2,9 +2,7 @@
 use Rattle.std.proofs.Common.{◌≡◌, ℕ, zero, suc, ◌+◌, ◌<◌, ◌≤◌, ◌⊎◌, inl, inr, Bool, true, false, not, ◌&&◌, ◌++◌, cond, List, [], ◌∷◌, map, length, drop, length-drop, Option, Some, None, refl, sym, ap, ◌∙◌, subst, arith, length-append}
 use Rattle.std.specs.Prelude.{◌==◌, slice_get}
 use Rattle.std.specs.List.{All, AllPairs}
-use Rattle.std.specs.Cmp.{booleans_Decides}
-use Rattle.std.proofs.Math.Bool.{beq}
-use Rattle.std.proofs.lemmas.Bool.{false≢true}
+use Rattle.std.proofs.lemmas.Bool.{false≢true, and_parts, not-true}
 use Rattle.std.proofs.lemmas.Bool.Decides.{nat_tests}
 use Rattle.std.proofs.lemmas.Slice.Eq.{bytes_eq-Decides}
 use Rattle.std.specs.Str.{bytes_eq}
@@ -15,25 +13,27 @@ use Rattle.std.proofs.lemmas.List.Elements.{All-push}
 use Rattle.cpu_set.specs.Ids.{Ids}
 use Rattle.certificate.specs.RowView.{RowView}
 use Rattle.certificate.specs.declared.price_lists.Price.{Price}
+use Rattle.certificate.specs.declared.weights.Weights.{Weights}
+use Rattle.certificate.specs.declared.weights.Weights.TheVariants.{Plain, WithMoves}
 use Rattle.certificate_text.specs.declared.stage.Stage.{Stage}
 use Rattle.certificate_text.specs.declared.stage.Stage.TheVariants.{Start, Body, Totalled, Planned, Named, Shown}
 use Rattle.certificate_text.specs.IdWord.{IsId}
 use Rattle.certificate_text.specs.Line.{LineView, HeaderLine, RowLine, HoldLine, PriceLine, TotalLine, ShortLine, EndLine, Spells}
 use Rattle.certificate_text.specs.CertificateText.{hold_lines, id_at, short_lines}
-use Rattle.certificate_text.specs.DraftView.{DraftView, has_id, is_id_of, has_no_plan, is_held, number_in, number_of, with_member, next_in_body, next_at, next}
+use Rattle.certificate_text.specs.DraftView.{DraftView, are_same, has_id, is_id_of, has_no_plan, is_held, number_in, number_of, with_member, next_in_body, next_at, next}
 use Rattle.certificate_text.proofs.RowIds.{IsNew, Differ, new_from_has_id, differ_more}
 
 -- the header, and the lines of the body, as far as they have been read
-abbrev pub body_lines : Bool → List RowView → List Ids → List ℕ → List Price → List LineView
-body_lines scaled rows sets values prices = HeaderLine scaled ∷ (map RowLine rows ++ (hold_lines rows sets values ++ map PriceLine prices))
+abbrev pub body_lines : Weights → List RowView → List Ids → List ℕ → List Price → List LineView
+body_lines weights rows sets values prices = HeaderLine weights ∷ (map RowLine rows ++ (hold_lines rows sets values ++ map PriceLine prices))
 
 abbrev pub lines_at : Stage → DraftView → List LineView
 lines_at Start d = []
-lines_at Body d = body_lines d.scaled d.rows d.sets d.values d.prices
-lines_at Totalled d = body_lines d.scaled d.rows d.sets d.values d.prices ++ TotalLine d.scaled d.total ∷ []
-lines_at Planned d = body_lines d.scaled d.rows d.sets d.values d.prices ++ (TotalLine d.scaled d.total ∷ EndLine ∷ [])
-lines_at Named d = HeaderLine d.scaled ∷ (map RowLine d.rows ++ short_lines d.rows d.members)
-lines_at Shown d = HeaderLine d.scaled ∷ (map RowLine d.rows ++ (short_lines d.rows d.members ++ EndLine ∷ []))
+lines_at Body d = body_lines d.weights d.rows d.sets d.values d.prices
+lines_at Totalled d = body_lines d.weights d.rows d.sets d.values d.prices ++ TotalLine d.weights d.total ∷ []
+lines_at Planned d = body_lines d.weights d.rows d.sets d.values d.prices ++ (TotalLine d.weights d.total ∷ EndLine ∷ [])
+lines_at Named d = HeaderLine d.weights ∷ (map RowLine d.rows ++ short_lines d.rows d.members)
+lines_at Shown d = HeaderLine d.weights ∷ (map RowLine d.rows ++ (short_lines d.rows d.members ++ EndLine ∷ []))
 
 -- sets and values go together, for the first rows; prices come after all of them
 pub record IsOrdered (rows : List RowView) (sets : List Ids) (values : List ℕ) (prices : List Price) : Type 0 where
@@ -96,41 +96,32 @@ holds_apart a h x = ap (λ l. a ++ l) (append-nil (h ++ x)) ∙ sym (append_asso
 prices_apart : (a h p x : List LineView) → a ++ (h ++ (p ++ x)) ≡ (a ++ (h ++ p)) ++ x
 prices_apart a h p x = ap (λ l. a ++ l) (sym (append_assoc h p x)) ∙ sym (append_assoc a (h ++ p) x)
 
-pub rows_line : (scaled : Bool) (rows : List RowView) (sets : List Ids) (values : List ℕ) (prices : List Price) (row : RowView) → sets ≡ [] → prices ≡ []
-    → body_lines scaled (rows ++ row ∷ []) sets values prices ≡ body_lines scaled rows sets values prices ++ RowLine row ∷ []
-rows_line scaled rows sets values prices row e f =
+pub rows_line : (weights : Weights) (rows : List RowView) (sets : List Ids) (values : List ℕ) (prices : List Price) (row : RowView) → sets ≡ [] → prices ≡ []
+    → body_lines weights (rows ++ row ∷ []) sets values prices ≡ body_lines weights rows sets values prices ++ RowLine row ∷ []
+rows_line weights rows sets values prices row e f =
     let none : hold_lines rows [] values ≡ [] = no_holds rows values in
     let none' : hold_lines (rows ++ row ∷ []) [] values ≡ [] = no_holds (rows ++ row ∷ []) values in
     let whole : map RowLine (rows ++ row ∷ []) ++ (hold_lines (rows ++ row ∷ []) sets values ++ map PriceLine prices)
     ≡ (map RowLine rows ++ (hold_lines rows sets values ++ map PriceLine prices)) ++ RowLine row ∷ [] =
     rw (e, f, none, none', map-append RowLine rows (row ∷ [])) (rows_apart (map RowLine rows) (RowLine row ∷ [])) in
-    ap (λ ls. HeaderLine scaled ∷ ls) whole
+    ap (λ ls. HeaderLine weights ∷ ls) whole
 
-pub holds_line : (scaled : Bool) (rows : List RowView) (sets : List Ids) (values : List ℕ) (prices : List Price) (row : RowView) (s : Ids) (v : ℕ)
+pub holds_line : (weights : Weights) (rows : List RowView) (sets : List Ids) (values : List ℕ) (prices : List Price) (row : RowView) (s : Ids) (v : ℕ)
     → slice_get rows (length sets) ≡ Some row → length values ≡ length sets → prices ≡ []
-    → body_lines scaled rows (sets ++ s ∷ []) (values ++ v ∷ []) prices ≡ body_lines scaled rows sets values prices ++ HoldLine row.id s v ∷ []
-holds_line scaled rows sets values prices row s v g e f =
+    → body_lines weights rows (sets ++ s ∷ []) (values ++ v ∷ []) prices ≡ body_lines weights rows sets values prices ++ HoldLine row.id s v ∷ []
+holds_line weights rows sets values prices row s v g e f =
     let whole : map RowLine rows ++ (hold_lines rows (sets ++ s ∷ []) (values ++ v ∷ []) ++ map PriceLine prices)
     ≡ (map RowLine rows ++ (hold_lines rows sets values ++ map PriceLine prices)) ++ HoldLine row.id s v ∷ [] =
     rw (f, holds_more rows sets values row s v g e) (holds_apart (map RowLine rows) (hold_lines rows sets values) (HoldLine row.id s v ∷ [])) in
-    ap (λ ls. HeaderLine scaled ∷ ls) whole
+    ap (λ ls. HeaderLine weights ∷ ls) whole
 
-pub prices_line : (scaled : Bool) (rows : List RowView) (sets : List Ids) (values : List ℕ) (prices : List Price) (p : Price)
-    → body_lines scaled rows sets values (prices ++ p ∷ []) ≡ body_lines scaled rows sets values prices ++ PriceLine p ∷ []
-prices_line scaled rows sets values prices p =
+pub prices_line : (weights : Weights) (rows : List RowView) (sets : List Ids) (values : List ℕ) (prices : List Price) (p : Price)
+    → body_lines weights rows sets values (prices ++ p ∷ []) ≡ body_lines weights rows sets values prices ++ PriceLine p ∷ []
+prices_line weights rows sets values prices p =
     let whole : map RowLine rows ++ (hold_lines rows sets values ++ map PriceLine (prices ++ p ∷ []))
     ≡ (map RowLine rows ++ (hold_lines rows sets values ++ map PriceLine prices)) ++ PriceLine p ∷ [] =
     rw (map-append PriceLine prices (p ∷ [])) (prices_apart (map RowLine rows) (hold_lines rows sets values) (map PriceLine prices) (PriceLine p ∷ [])) in
-    ap (λ ls. HeaderLine scaled ∷ ls) whole
-
-and_true : (a b : Bool) → (a && b) ≡ true → (a ≡ true) × (b ≡ true)
-and_true true true h = (refl, refl)
-and_true true false h = absurd (false≢true h)
-and_true false b h = absurd (false≢true h)
-
-not_is_true : (b : Bool) → not b ≡ true → b ≡ false
-not_is_true false h = refl
-not_is_true true h = absurd (false≢true h)
+    ap (λ ls. HeaderLine weights ∷ ls) whole
 
 no_length : {A : Type 0} (xs : List A) → (length xs == 0) ≡ true → xs ≡ []
 no_length [] h = refl
@@ -247,14 +238,14 @@ shorts_more : (rows : List RowView) (members : List ℕ) (k : ℕ) (id : List �
 shorts_more rows members k id e = map-append (λ j. ShortLine (id_at rows j)) members (k ∷ []) ∙ ap (λ x. short_lines rows members ++ ShortLine x ∷ []) (sym e)
 
 -- the first member
-first_line : (scaled : Bool) (rows : List RowView) (sets : List Ids) (values : List ℕ) (prices : List Price) (members : List ℕ) (k : ℕ) (id : List ℕ) → sets ≡ [] → prices ≡ [] → members ≡ []
+first_line : (weights : Weights) (rows : List RowView) (sets : List Ids) (values : List ℕ) (prices : List Price) (members : List ℕ) (k : ℕ) (id : List ℕ) → sets ≡ [] → prices ≡ [] → members ≡ []
     → id ≡ id_at rows k
-    → HeaderLine scaled ∷ (map RowLine rows ++ short_lines rows (members ++ k ∷ [])) ≡ body_lines scaled rows sets values prices ++ ShortLine id ∷ []
-first_line scaled rows sets values prices members k id e f g h =
+    → HeaderLine weights ∷ (map RowLine rows ++ short_lines rows (members ++ k ∷ [])) ≡ body_lines weights rows sets values prices ++ ShortLine id ∷ []
+first_line weights rows sets values prices members k id e f g h =
     let none : hold_lines rows [] values ≡ [] = no_holds rows values in
     let whole : map RowLine rows ++ short_lines rows (members ++ k ∷ []) ≡ (map RowLine rows ++ (hold_lines rows sets values ++ map PriceLine prices)) ++ ShortLine id ∷ [] =
     rw (e, f, g, none, h) (ap (λ l. l ++ ShortLine (id_at rows k) ∷ []) (sym (append-nil (map RowLine rows)))) in
-    ap (λ ls. HeaderLine scaled ∷ ls) whole
+    ap (λ ls. HeaderLine weights ∷ ls) whole
 
 cond_is : {A : Type 0} (b : Bool) (o : Option A) (e : A) → cond b o None ≡ Some e → (b ≡ true) × (o ≡ Some e)
 cond_is true o e h = (refl, h)
@@ -272,32 +263,38 @@ member_is d id e h = at (number_of id d) refl h where
   at None n g = absurd (none-some e g)
   at (Some k) n g = record { k = k; number_is = n; draft_is = same_Some (record d { stage = Named; members = d.members ++ k ∷ []; from = k + 1 }) e g }
 
+same_from : (a b : Weights) → are_same a b ≡ true → a ≡ b
+same_from Plain Plain same = refl
+same_from WithMoves WithMoves same = refl
+same_from Plain WithMoves same = absurd (false≢true same)
+same_from WithMoves Plain same = absurd (false≢true same)
+
 body_step : (d : DraftView) (l : LineView) (line : List ℕ) (e : DraftView) → IsOrdered d.rows d.sets d.values d.prices → IsUnnamed d.members d.from → d.stage ≡ Body → Spells line l
     → next_in_body d l ≡ Some e → Stepped Body d l e.stage e
-body_step d (HeaderLine scaled) line e o u b s h = absurd (grind arith)
+body_step d (HeaderLine weights) line e o u b s h = absurd (grind arith)
 body_step d EndLine line e o u b s h = absurd (grind arith)
 body_step d (ShortLine id) line e o u b s h =
     let p = cond_is (has_no_plan d) (with_member d (number_of id d)) e h in
-    let none = and_true (length d.sets == 0) (length d.prices == 0) p.0 in
+    let none = and_parts (length d.sets == 0) (length d.prices == 0) p.0 in
     let m = member_is d id e p.1 in
     let n = next_is d id m.k m.number_is in
     let f : DraftView = record d { stage = Named; members = d.members ++ m.k ∷ []; from = m.k + 1 } in
     let done : Stepped Body d (ShortLine id) Named f = record {
       right = named_more d.rows d.members d.from m.k id (rw u.no_members (λ i j x lt long. absurd (omega arith))) (rw u.no_members (λ j x lt. absurd (omega arith))) o.apart n;
-      lines = first_line d.scaled d.rows d.sets d.values d.prices d.members m.k id (no_length d.sets none.0) (no_length d.prices none.1) u.no_members n.id_is;
+      lines = first_line d.weights d.rows d.sets d.values d.prices d.members m.k id (no_length d.sets none.0) (no_length d.prices none.1) u.no_members n.id_is;
     } in
     subst (λ (g : DraftView). Stepped Body d (ShortLine id) g.stage g) m.draft_is done
 body_step d (RowLine row) line e o u b s h =
     let f : DraftView = record d { rows = d.rows ++ row ∷ [] } in
     let p = cond_some (has_no_plan d && not (has_id row.id d.rows)) f e h in
-    let tests = and_true (has_no_plan d) (not (has_id row.id d.rows)) p.0 in
-    let only = and_true (length d.sets == 0) (length d.prices == 0) tests.0 in
+    let tests = and_parts (has_no_plan d) (not (has_id row.id d.rows)) p.0 in
+    let only = and_parts (length d.sets == 0) (length d.prices == 0) tests.0 in
     let no_sets : d.sets ≡ [] = no_length d.sets only.0 in
     let no_prices : d.prices ≡ [] = no_length d.prices only.1 in
-    let new = new_from_has_id row.id d.rows (not_is_true (has_id row.id d.rows) tests.1) in
+    let new = new_from_has_id row.id d.rows (not-true (has_id row.id d.rows) tests.1) in
     let done : Stepped Body d (RowLine row) Body f = record {
       right = (ordered_row d.rows d.sets d.values d.prices row o no_prices new s.2.id_is, u);
-      lines = rows_line d.scaled d.rows d.sets d.values d.prices row no_sets no_prices;
+      lines = rows_line d.weights d.rows d.sets d.values d.prices row no_sets no_prices;
     } in
     let at : Stepped Body d (RowLine row) f.stage f = subst (λ (stage : Stage). Stepped Body d (RowLine row) stage f) (sym b) done in
     subst (λ (g : DraftView). Stepped Body d (RowLine row) g.stage g) p.1 at
@@ -309,7 +306,7 @@ body_step d (HoldLine id cpus value) line e o u b s h =
     let none = no_prices_yet d.rows d.sets d.values d.prices row o at_row.1 in
     let done : Stepped Body d (HoldLine id cpus value) Body f = record {
       right = (ordered_hold d.rows d.sets d.values d.prices row cpus value o at_row.1, u);
-      lines = rw at_row.2 (holds_line d.scaled d.rows d.sets d.values d.prices row cpus value at_row.1 o.values_len none);
+      lines = rw at_row.2 (holds_line d.weights d.rows d.sets d.values d.prices row cpus value at_row.1 o.values_len none);
     } in
     let at : Stepped Body d (HoldLine id cpus value) f.stage f = subst (λ (stage : Stage). Stepped Body d (HoldLine id cpus value) stage f) (sym b) done in
     subst (λ (g : DraftView). Stepped Body d (HoldLine id cpus value) g.stage g) p.1 at
@@ -319,21 +316,21 @@ body_step d (PriceLine price) line e o u b s h =
     let all = held d p.0 in
     let done : Stepped Body d (PriceLine price) Body f = record {
       right = (ordered_price d.rows d.sets d.values d.prices (d.prices ++ price ∷ []) o all, u);
-      lines = prices_line d.scaled d.rows d.sets d.values d.prices price;
+      lines = prices_line d.weights d.rows d.sets d.values d.prices price;
     } in
     let at : Stepped Body d (PriceLine price) f.stage f = subst (λ (stage : Stage). Stepped Body d (PriceLine price) stage f) (sym b) done in
     subst (λ (g : DraftView). Stepped Body d (PriceLine price) g.stage g) p.1 at
-body_step d (TotalLine scaled total) line e o u b s h =
+body_step d (TotalLine weights total) line e o u b s h =
     let f : DraftView = record d { stage = Totalled; total = total } in
-    let p = cond_some (is_held d && beq scaled d.scaled) f e h in
-    let tests = and_true (is_held d) (beq scaled d.scaled) p.0 in
+    let p = cond_some (is_held d && are_same weights d.weights) f e h in
+    let tests = and_parts (is_held d) (are_same weights d.weights) p.0 in
     let all = held d tests.0 in
-    let same : scaled ≡ d.scaled = (booleans_Decides scaled d.scaled).0 tests.1 in
-    let done : Stepped Body d (TotalLine scaled total) Totalled f = record {
+    let same : weights ≡ d.weights = same_from weights d.weights tests.1 in
+    let done : Stepped Body d (TotalLine weights total) Totalled f = record {
       right = (o, all);
-      lines = ap (λ k. body_lines d.scaled d.rows d.sets d.values d.prices ++ TotalLine k total ∷ []) (sym same);
+      lines = ap (λ k. body_lines d.weights d.rows d.sets d.values d.prices ++ TotalLine k total ∷ []) (sym same);
     } in
-    subst (λ (g : DraftView). Stepped Body d (TotalLine scaled total) g.stage g) p.1 done
+    subst (λ (g : DraftView). Stepped Body d (TotalLine weights total) g.stage g) p.1 done
 
 pub nothing_ordered : (rows : List RowView) (sets : List Ids) (values : List ℕ) (prices : List Price) → IsNothing rows sets values prices → IsOrdered rows sets values prices
 nothing_ordered rows sets values prices n = rw (n.no_rows, n.no_sets, n.no_values, n.no_prices) (record {
@@ -344,24 +341,24 @@ nothing_ordered rows sets values prices n = rw (n.no_rows, n.no_sets, n.no_value
   ids = λ k d lt. absurd (omega arith);
 })
 
-nothing_line : (scaled : Bool) (rows : List RowView) (sets : List Ids) (values : List ℕ) (prices : List Price) → IsNothing rows sets values prices
-    → body_lines scaled rows sets values prices ≡ [] ++ HeaderLine scaled ∷ []
-nothing_line scaled rows sets values prices n = rw (n.no_rows, n.no_prices) refl
+nothing_line : (weights : Weights) (rows : List RowView) (sets : List Ids) (values : List ℕ) (prices : List Price) → IsNothing rows sets values prices
+    → body_lines weights rows sets values prices ≡ [] ++ HeaderLine weights ∷ []
+nothing_line weights rows sets values prices n = rw (n.no_rows, n.no_prices) refl
 
 step_at : (stage : Stage) (d : DraftView) (l : LineView) (line : List ℕ) (e : DraftView) → d.stage ≡ stage → IsRightAt stage d → Spells line l
     → next_at stage d l ≡ Some e → Stepped stage d l e.stage e
-step_at Start d (HeaderLine scaled) line e b r s h =
-    let f : DraftView = record d { stage = Body; scaled = scaled } in
+step_at Start d (HeaderLine weights) line e b r s h =
+    let f : DraftView = record d { stage = Body; weights = weights } in
     let same : f ≡ e = same_Some f e h in
-    let done : Stepped Start d (HeaderLine scaled) Body f =
-    record { right = (nothing_ordered d.rows d.sets d.values d.prices r.0, r.1); lines = nothing_line scaled d.rows d.sets d.values d.prices r.0 } in
-    subst (λ (g : DraftView). Stepped Start d (HeaderLine scaled) g.stage g) same done
+    let done : Stepped Start d (HeaderLine weights) Body f =
+    record { right = (nothing_ordered d.rows d.sets d.values d.prices r.0, r.1); lines = nothing_line weights d.rows d.sets d.values d.prices r.0 } in
+    subst (λ (g : DraftView). Stepped Start d (HeaderLine weights) g.stage g) same done
 step_at Body d l line e b r s h = body_step d l line e r.0 r.1 b s h
 step_at Totalled d EndLine line e b r s h =
     let f : DraftView = record d { stage = Planned } in
     let same : f ≡ e = same_Some f e h in
-    let body = body_lines d.scaled d.rows d.sets d.values d.prices in
-    let done : Stepped Totalled d EndLine Planned f = record { right = r; lines = sym (append_assoc body (TotalLine d.scaled d.total ∷ []) (EndLine ∷ [])) } in
+    let body = body_lines d.weights d.rows d.sets d.values d.prices in
+    let done : Stepped Totalled d EndLine Planned f = record { right = r; lines = sym (append_assoc body (TotalLine d.weights d.total ∷ []) (EndLine ∷ [])) } in
     subst (λ (g : DraftView). Stepped Totalled d EndLine g.stage g) same done
 step_at Named d (ShortLine id) line e b r s h =
     let m = member_is d id e h in
@@ -370,14 +367,14 @@ step_at Named d (ShortLine id) line e b r s h =
     let more = ap (λ l. map RowLine d.rows ++ l) (shorts_more d.rows d.members m.k id n.id_is) ∙ sym (append_assoc (map RowLine d.rows) (short_lines d.rows d.members) (ShortLine id ∷ [])) in
     let done : Stepped Named d (ShortLine id) Named f = record {
       right = named_more d.rows d.members d.from m.k id r.rising r.below r.apart n;
-      lines = ap (λ ls. HeaderLine d.scaled ∷ ls) more;
+      lines = ap (λ ls. HeaderLine d.weights ∷ ls) more;
     } in
     subst (λ (g : DraftView). Stepped Named d (ShortLine id) g.stage g) m.draft_is done
 step_at Named d EndLine line e b r s h =
     let f : DraftView = record d { stage = Shown } in
     let same : f ≡ e = same_Some f e h in
     let more = sym (append_assoc (map RowLine d.rows) (short_lines d.rows d.members) (EndLine ∷ [])) in
-    let done : Stepped Named d EndLine Shown f = record { right = r; lines = ap (λ ls. HeaderLine d.scaled ∷ ls) more } in
+    let done : Stepped Named d EndLine Shown f = record { right = r; lines = ap (λ ls. HeaderLine d.weights ∷ ls) more } in
     subst (λ (g : DraftView). Stepped Named d EndLine g.stage g) same done
 step_at Start d l line e b r s h = absurd (grind arith)
 step_at Totalled d l line e b r s h = absurd (grind arith)

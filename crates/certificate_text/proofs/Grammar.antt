@@ -47,8 +47,8 @@ regroup a h p x = append_assoc a (h ++ p) x ∙ ap (λ l. a ++ l) (append_assoc 
 
 lines_of_plan : (d : DraftView) → lines_at Planned d ≡ lines_of (plan_of d)
 lines_of_plan d =
-    let whole = regroup (map RowLine d.rows) (hold_lines d.rows d.sets d.values) (map PriceLine d.prices) (TotalLine d.scaled d.total ∷ EndLine ∷ []) in
-    ap (λ ls. HeaderLine d.scaled ∷ ls) whole
+    let whole = regroup (map RowLine d.rows) (hold_lines d.rows d.sets d.values) (map PriceLine d.prices) (TotalLine d.weights d.total ∷ EndLine ∷ []) in
+    ap (λ ls. HeaderLine d.weights ∷ ls) whole
 
 -- the lines of an ended draft are those of its certificate
 ended_lines : (stage : Stage) (ls : List (List ℕ)) (d : DraftView) (said : List LineView) (c : Certificate) → IsRightAt stage d → lines_at stage d ≡ said
@@ -94,8 +94,8 @@ begun_once ls d e a b =
     same_Some d e (sym a.run_is ∙ ap (run empty_draft) same ∙ b.run_is)
 
 pub finished-ended : (c : Certificate) → finished (ended_of c) ≡ Some c
-finished-ended (Plan rows sets prices total scaled) = refl
-finished-ended (Short rows members scaled) = refl
+finished-ended (Plan rows sets prices total weights) = refl
+finished-ended (Short rows members weights) = refl
 
 pub lines_once : (ls : List (List ℕ)) (c d : Certificate) → AreLines ls c → AreLines ls d → c ≡ d
 lines_once ls c d a b =

@@ -19,7 +19,3 @@ hold_more {X} P xs i x within is before own k d lt = elim (cases_lt k i) [
 pub on_ok : {A E : Type 0} (P : Type 0) (r : Result A E) → P → OnOk r P
 on_ok P (Ok a) p = p
 on_ok P (Err e) p = tt
-
-pub ok_then : {A E P Q : Type 0} (r : Result A E) → (P → Q) → OnOk r P → OnOk r Q
-ok_then (Ok a) f p = f p
-ok_then (Err e) f p = tt

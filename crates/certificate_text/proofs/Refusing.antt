@@ -7,6 +7,8 @@ use Rattle.std.specs.Prelude.{codes}
 use Rattle.cpu_set.specs.Ids.{Ids}
 use Rattle.certificate.specs.RowView.{RowView}
 use Rattle.certificate.specs.declared.price_lists.Price.{Price}
+use Rattle.certificate.specs.declared.weights.Weights.{Weights}
+use Rattle.certificate.specs.declared.weights.Weights.TheVariants.{Plain, WithMoves}
 use Rattle.certificate_text.specs.Line.{LineView, HeaderLine, RowLine, HoldLine, PriceLine, TotalLine, ShortLine, EndLine, words, AreRowWords, AreHoldWords, ArePriceWords, SayTotal, Spells, header_text}
 use Rattle.certificate_text.proofs.SpelledOnce.{first_byte, kind, begins}
 
@@ -45,12 +47,12 @@ no_price line ws e none l s =
     let b = ap first_byte e in
     absurd (omega (arith, a, b))
 
-pub no_total : (line : List ℕ) (ws : List (List ℕ)) → words line ≡ codes "total" ∷ ws → ((scaled : Bool) (total : ℕ) → SayTotal scaled ws total → ⊥) → (l : LineView) → Spells line l → ⊥
+pub no_total : (line : List ℕ) (ws : List (List ℕ)) → words line ≡ codes "total" ∷ ws → ((weights : Weights) (total : ℕ) → SayTotal weights ws total → ⊥) → (l : LineView) → Spells line l → ⊥
 unfolding first_byte kind
-no_total line ws e none (TotalLine scaled total) s =
+no_total line ws e none (TotalLine weights total) s =
     let same : codes "total" ∷ ws ≡ codes "total" ∷ s.0 = sym e ∙ s.1 in
     let rest : s.0 ≡ ws = cc in
-    none scaled total (rw rest at s.2)
+    none weights total (rw rest at s.2)
 no_total line ws e none l s =
     let a = begins line l s in
     let b = ap first_byte e in
@@ -69,13 +71,13 @@ no_short line ws e none l s =
 
 -- the line is neither a header nor the last line
 pub record IsInside (line : List ℕ) : Type 0 where
-  pub no_header : (scaled : Bool) → line ≡ header_text scaled → ⊥
+  pub no_header : (weights : Weights) → line ≡ header_text weights → ⊥
   pub no_end : line ≡ codes "end" → ⊥
 
 pub no_headers : (line : List ℕ) → (line ≡ codes "numarun-certificate 1" → ⊥) → (line ≡ codes "numarun-certificate 2" → ⊥)
-    → (scaled : Bool) → line ≡ header_text scaled → ⊥
-no_headers line one two false = one
-no_headers line one two true = two
+    → (weights : Weights) → line ≡ header_text weights → ⊥
+no_headers line one two Plain = one
+no_headers line one two WithMoves = two
 
 -- no word behind which others stand
 pub record IsOther (first : List ℕ) : Type 0 where
@@ -90,12 +92,12 @@ first_is line first other ws vs e f = let same : first ∷ ws ≡ other ∷ vs =
 
 -- a line with another first word is spelled by none
 pub no_kind : (line first : List ℕ) (ws : List (List ℕ)) → IsInside line → words line ≡ first ∷ ws → IsOther first → (l : LineView) → Spells line l → ⊥
-no_kind line first ws i e o (HeaderLine scaled) s = i.no_header scaled s
+no_kind line first ws i e o (HeaderLine weights) s = i.no_header weights s
 no_kind line first ws i e o EndLine s = i.no_end s
 no_kind line first ws i e o (RowLine row) s = o.row (first_is line first (codes "row") ws s.0 e s.1)
 no_kind line first ws i e o (HoldLine id cpus value) s = o.hold (first_is line first (codes "hold") ws s.0 e s.1)
 no_kind line first ws i e o (PriceLine price) s = o.price (first_is line first (codes "price") ws s.0 e s.1)
-no_kind line first ws i e o (TotalLine scaled total) s = o.total (first_is line first (codes "total") ws s.0 e s.1)
+no_kind line first ws i e o (TotalLine weights total) s = o.total (first_is line first (codes "total") ws s.0 e s.1)
 no_kind line first ws i e o (ShortLine id) s = o.short (first_is line first (codes "short") ws s.0 e s.1)
 
 none_behind : (line other : List ℕ) (vs : List (List ℕ)) → words line ≡ line ∷ [] → words line ≡ other ∷ vs → vs ≡ []
@@ -103,7 +105,7 @@ none_behind line other vs e f = let same : line ∷ [] ≡ other ∷ vs = sym e 
 
 -- and so is one word alone
 pub no_word : (line : List ℕ) → IsInside line → words line ≡ line ∷ [] → (l : LineView) → Spells line l → ⊥
-no_word line i e (HeaderLine scaled) s = i.no_header scaled s
+no_word line i e (HeaderLine weights) s = i.no_header weights s
 no_word line i e EndLine s = i.no_end s
 no_word line i e (RowLine row) s =
     let none = none_behind line (codes "row") s.0 e s.1 in
@@ -114,10 +116,10 @@ no_word line i e (HoldLine id cpus value) s =
 no_word line i e (PriceLine price) s =
     let none = none_behind line (codes "price") s.0 e s.1 in
     absurd (let words_are = s.2.words_are in cc)
-no_word line i e (TotalLine false total) s =
+no_word line i e (TotalLine Plain total) s =
     let none = none_behind line (codes "total") s.0 e s.1 in
     absurd (let words_are = s.2.words_are in cc)
-no_word line i e (TotalLine true total) s =
+no_word line i e (TotalLine WithMoves total) s =
     let none = none_behind line (codes "total") s.0 e s.1 in
     absurd (let words_are = s.2.words_are in cc)
 no_word line i e (ShortLine id) s =

@@ -4,7 +4,7 @@ use Rattle.std.specs.Prelude.{codes, decimal, All, ◌==◌}
 use Rattle.std.specs.Char.{is_ascii_digit}
 use Rattle.std.specs.List.{AllZip, flat_map, list_all}
 use Rattle.std.specs.FinSet as set
-use Rattle.std.proofs.lemmas.Bool.{false≢true}
+use Rattle.std.proofs.lemmas.Bool.{false≢true, and_parts}
 use Rattle.std.proofs.lemmas.Bool.Decides.{nat_tests}
 use Rattle.std.proofs.lemmas.Fmt.{digits_decimal}
 use Rattle.std.proofs.lemmas.Nat.{div-add-mod'}
@@ -15,7 +15,9 @@ use Rattle.cpu_set.specs.declared.TheConstants.{CPU_LIMIT}
 use Rattle.cpu_list.specs.CanonicalList.{list_text}
 use Rattle.cpu_list.specs.CanonicalLaws.{TextIsCanonical, CanonicalReadsAgain, TextLacks}
 use Rattle.certificate.specs.RowView.{RowView}
-use Rattle.certificate.specs.declared.limits.TheConstants.{MOVE_SCALE}
+use Rattle.certificate.specs.Packed.{distance_of, moves_of, packed-parts}
+use Rattle.certificate.specs.declared.weights.Weights.{Weights}
+use Rattle.certificate.specs.declared.weights.Weights.TheVariants.{Plain, WithMoves}
 use Rattle.certificate.specs.declared.rows.Offer.{Offer}
 use Rattle.certificate.specs.declared.price_lists.Price.{Price}
 use Rattle.certificate.specs.declared.certificates.Certificate.{Certificate}
@@ -51,14 +53,9 @@ all_lacks other (b ∷ word) h = (h 0 b (omega arith), all_lacks other word (λ 
 passing_lacks : (p : ℕ → Bool) (other : ℕ) (word : List ℕ) → p other ≡ false → list_all p word ≡ true → Lacks other word
 passing_lacks p other [] miss h = tt
 passing_lacks p other (b ∷ word) miss h =
-    let both = split (p b) (list_all p word) h in
+    let both = and_parts (p b) (list_all p word) h in
     (differs (b == other) refl both.0, passing_lacks p other word miss both.1)
   where
-    split : (x y : Bool) → (x && y) ≡ true → (x ≡ true) × (y ≡ true)
-    split true true e = (refl, refl)
-    split true false e = absurd (false≢true e)
-    split false y e = absurd (false≢true e)
-
     same_number : (m n : ℕ) → (m == n) ≡ true → m ≡ n
     same_number m n e = grind (arith, nat_tests)
 
@@ -143,56 +140,56 @@ module _ (canonical : TextIsCanonical) (again : CanonicalReadsAgain) (lacks : Te
 
   -- a line without its line feed
   bare : LineView → List ℕ
-  bare (HeaderLine scaled) = header_text scaled
+  bare (HeaderLine weights) = header_text weights
   bare (RowLine row) = codes "row " ++ (row.id ++ 32 ∷ (decimal row.demand ++ flat_map offer_text row.offers))
   bare (HoldLine id cpus value) = codes "hold " ++ (id ++ 32 ∷ (list_text cpus ++ 32 ∷ decimal value))
   bare (PriceLine price) = codes "price " ++ (decimal price.amount ++ 32 ∷ list_text price.cpus)
-  bare (TotalLine scaled total) = codes "total " ++ total_text scaled total
+  bare (TotalLine weights total) = codes "total " ++ total_text weights total
   bare (ShortLine id) = codes "short " ++ id
   bare EndLine = codes "end"
 
   -- what a line has to be for that
   abbrev CanSay : LineView → Type 0
-  CanSay (HeaderLine scaled) = Unit {0}
+  CanSay (HeaderLine weights) = Unit {0}
   CanSay (RowLine row) = IsId row.id × (row.demand < 2 ^ 32) × CanSayOffers row.offers
   CanSay (HoldLine id cpus value) = IsId id × InRange cpus × (cpus ≢ set.empty) × (value < 2 ^ 64)
   CanSay (PriceLine price) = IsPriceHeld price × (price.cpus ≢ set.empty)
-  CanSay (TotalLine scaled total) = total < 2 ^ 64
+  CanSay (TotalLine weights total) = total < 2 ^ 64
   CanSay (ShortLine id) = IsId id
   CanSay EndLine = Unit {0}
 
   -- a total that fits 64 bits has parts that fit 48 and 16
-  parts_fit : (total : ℕ) → total < 2 ^ 64 → (total / MOVE_SCALE < 2 ^ 48) × (total % MOVE_SCALE < 2 ^ 16)
+  parts_fit : (total : ℕ) → total < 2 ^ 64 → (distance_of total < 2 ^ 48) × (moves_of total < 2 ^ 16)
   parts_fit total h = (omega (arith, h), omega arith)
 
-  total_lacks : (scaled : Bool) (total : ℕ) → total < 2 ^ 64 → Lacks 10 (total_text scaled total)
-  total_lacks false total h = number_lacks total 10 refl h
-  total_lacks true total h =
+  total_lacks : (weights : Weights) (total : ℕ) → total < 2 ^ 64 → Lacks 10 (total_text weights total)
+  total_lacks Plain total h = number_lacks total 10 refl h
+  total_lacks WithMoves total h =
       let two = parts_fit total h in
-      lacks_both 10 (decimal (total / MOVE_SCALE)) (codes " moves " ++ decimal (total % MOVE_SCALE)) (number_lacks (total / MOVE_SCALE) 10 refl (omega (arith, two.0)))
-      (lacks_both 10 (codes " moves ") (decimal (total % MOVE_SCALE)) (refl, (refl, (refl, (refl, (refl, (refl, (refl, tt))))))) (number_lacks (total % MOVE_SCALE) 10 refl (omega (arith, two.1))))
+      lacks_both 10 (decimal (distance_of total)) (codes " moves " ++ decimal (moves_of total)) (number_lacks (distance_of total) 10 refl (omega (arith, two.0)))
+      (lacks_both 10 (codes " moves ") (decimal (moves_of total)) (refl, (refl, (refl, (refl, (refl, (refl, (refl, tt))))))) (number_lacks (moves_of total) 10 refl (omega (arith, two.1))))
 
   spells_bare : (l : LineView) → CanSay l → Spells (bare l) l
   unfolding bare
-  spells_bare (HeaderLine scaled) h = refl
+  spells_bare (HeaderLine weights) h = refl
   spells_bare EndLine h = refl
-  spells_bare (TotalLine true total) h =
+  spells_bare (TotalLine WithMoves total) h =
       let two = parts_fit total h in (
-        decimal (total / MOVE_SCALE) ∷ codes "moves" ∷ decimal (total % MOVE_SCALE) ∷ [],
-        ap (λ ws. codes "total" ∷ ws) (cut_at 32 (decimal (total / MOVE_SCALE)) (codes "moves " ++ decimal (total % MOVE_SCALE)) (number_lacks (total / MOVE_SCALE) 32 refl (omega (arith, two.0)))
-            ∙ ap (λ ws. decimal (total / MOVE_SCALE) ∷ codes "moves" ∷ ws) (uncut 32 (decimal (total % MOVE_SCALE)) (number_lacks (total % MOVE_SCALE) 32 refl (omega (arith, two.1))))),
+        decimal (distance_of total) ∷ codes "moves" ∷ decimal (moves_of total) ∷ [],
+        ap (λ ws. codes "total" ∷ ws) (cut_at 32 (decimal (distance_of total)) (codes "moves " ++ decimal (moves_of total)) (number_lacks (distance_of total) 32 refl (omega (arith, two.0)))
+            ∙ ap (λ ws. decimal (distance_of total) ∷ codes "moves" ∷ ws) (uncut 32 (decimal (moves_of total)) (number_lacks (moves_of total) 32 refl (omega (arith, two.1))))),
         record {
-          first = decimal (total / MOVE_SCALE);
-          second = decimal (total % MOVE_SCALE);
-          distance = total / MOVE_SCALE;
-          moves = total % MOVE_SCALE;
+          first = decimal (distance_of total);
+          second = decimal (moves_of total);
+          distance = distance_of total;
+          moves = moves_of total;
           words_are = refl;
-          distance_is = number_word (2 ^ 48) (total / MOVE_SCALE) two.0;
-          moves_is = number_word (2 ^ 16) (total % MOVE_SCALE) two.1;
-          total_is = sym (div-add-mod' total MOVE_SCALE);
+          distance_is = number_word (2 ^ 48) (distance_of total) two.0;
+          moves_is = number_word (2 ^ 16) (moves_of total) two.1;
+          total_is = sym (packed-parts total);
         },
       )
-  spells_bare (TotalLine false total) h =
+  spells_bare (TotalLine Plain total) h =
       (decimal total ∷ [], ap (λ ws. codes "total" ∷ ws) (uncut 32 (decimal total) (number_lacks total 32 refl h)), record { number = decimal total; words_are = refl; total_is = number_word (2 ^ 64) total h })
   spells_bare (ShortLine id) h = (id ∷ [], ap (λ ws. codes "short" ∷ ws) (uncut 32 id (id_lacks id 32 refl h)), refl)
   spells_bare (PriceLine price) h = (
@@ -242,10 +239,10 @@ module _ (canonical : TextIsCanonical) (again : CanonicalReadsAgain) (lacks : Te
 
   bare_lacks : (l : LineView) → CanSay l → Lacks 10 (bare l)
   unfolding bare not_feed
-  bare_lacks (HeaderLine false) h = word_lacks (codes "numarun-certificate 1") refl
-  bare_lacks (HeaderLine true) h = word_lacks (codes "numarun-certificate 2") refl
+  bare_lacks (HeaderLine Plain) h = word_lacks (codes "numarun-certificate 1") refl
+  bare_lacks (HeaderLine WithMoves) h = word_lacks (codes "numarun-certificate 2") refl
   bare_lacks EndLine h = word_lacks (codes "end") refl
-  bare_lacks (TotalLine scaled total) h = lacks_both 10 (codes "total ") (total_text scaled total) (word_lacks (codes "total ") refl) (total_lacks scaled total h)
+  bare_lacks (TotalLine weights total) h = lacks_both 10 (codes "total ") (total_text weights total) (word_lacks (codes "total ") refl) (total_lacks weights total h)
   bare_lacks (ShortLine id) h = lacks_both 10 (codes "short ") id (word_lacks (codes "short ") refl) (id_lacks id 10 refl h)
   bare_lacks (PriceLine price) h =
       lacks_both 10 (codes "price ") (decimal price.amount ++ 32 ∷ list_text price.cpus) (word_lacks (codes "price ") refl)
@@ -262,9 +259,9 @@ module _ (canonical : TextIsCanonical) (again : CanonicalReadsAgain) (lacks : Te
   -- the line is that with the feed
   line_is : (l : LineView) (rest : List ℕ) → line_text l ++ rest ≡ bare l ++ 10 ∷ rest
   unfolding bare
-  line_is (HeaderLine scaled) rest = append_assoc (header_text scaled) (10 ∷ []) rest
+  line_is (HeaderLine weights) rest = append_assoc (header_text weights) (10 ∷ []) rest
   line_is EndLine rest = refl
-  line_is (TotalLine scaled total) rest = ap (λ x. codes "total " ++ x) (append_assoc (total_text scaled total) (10 ∷ []) rest)
+  line_is (TotalLine weights total) rest = ap (λ x. codes "total " ++ x) (append_assoc (total_text weights total) (10 ∷ []) rest)
   line_is (ShortLine id) rest = ap (λ x. codes "short " ++ x) (append_assoc id (10 ∷ []) rest)
   line_is (PriceLine price) rest =
       ap (λ x. codes "price " ++ x) (ends (decimal price.amount) (list_text price.cpus) rest)
@@ -336,19 +333,19 @@ module _ (canonical : TextIsCanonical) (again : CanonicalReadsAgain) (lacks : Te
   say_shorts rows (k ∷ ks) h b = (id_there rows k (b 0 k (omega arith)) h, say_shorts rows ks h (λ i d lt. b (suc i) d (omega arith)))
 
   say_lines : (c : Certificate) → CanWrite c → IsHeld c → CanSayAll (lines_of c)
-  say_lines (Plan rows sets prices total scaled) w h =
-      let end : CanSayAll (TotalLine scaled total ∷ EndLine ∷ []) = (h.4, (tt, tt)) in
-      let priced = say_both (map PriceLine prices.of_cpu) (TotalLine scaled total ∷ EndLine ∷ []) (say_prices prices.of_cpu w.3 h.3) end in
-      let held = say_both (hold_lines rows sets prices.values) (map PriceLine prices.of_cpu ++ (TotalLine scaled total ∷ EndLine ∷ [])) (say_holds rows sets prices.values w.1 h.1 w.2 h.2) priced in
-      (tt, say_both (map RowLine rows) (hold_lines rows sets prices.values ++ (map PriceLine prices.of_cpu ++ (TotalLine scaled total ∷ EndLine ∷ []))) (say_rows rows w.1 h.0) held)
-  say_lines (Short rows members scaled) w h =
+  say_lines (Plan rows sets prices total weights) w h =
+      let end : CanSayAll (TotalLine weights total ∷ EndLine ∷ []) = (h.4, (tt, tt)) in
+      let priced = say_both (map PriceLine prices.of_cpu) (TotalLine weights total ∷ EndLine ∷ []) (say_prices prices.of_cpu w.3 h.3) end in
+      let held = say_both (hold_lines rows sets prices.values) (map PriceLine prices.of_cpu ++ (TotalLine weights total ∷ EndLine ∷ [])) (say_holds rows sets prices.values w.1 h.1 w.2 h.2) priced in
+      (tt, say_both (map RowLine rows) (hold_lines rows sets prices.values ++ (map PriceLine prices.of_cpu ++ (TotalLine weights total ∷ EndLine ∷ []))) (say_rows rows w.1 h.0) held)
+  say_lines (Short rows members weights) w h =
       let end : CanSayAll (EndLine ∷ []) = (tt, tt) in
       let shorts = say_both (short_lines rows members) (EndLine ∷ []) (say_shorts rows members w.1 w.0.there) end in
       (tt, say_both (map RowLine rows) (short_lines rows members ++ EndLine ∷ []) (say_rows rows w.1 h) shorts)
 
   can_be : (c : Certificate) → CanWrite c → CanBeText c
-  can_be (Plan rows sets prices total scaled) w = w.0
-  can_be (Short rows members scaled) w = w.0
+  can_be (Plan rows sets prices total weights) w = w.0
+  can_be (Short rows members weights) w = w.0
 
   pub written_reads_again : WrittenReadsAgain
   written_reads_again c w h =

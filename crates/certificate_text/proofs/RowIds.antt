@@ -2,7 +2,7 @@
 use Rattle.std.proofs.Common.{◌≡◌, ◌≢◌, ℕ, zero, suc, ◌<◌, Bool, true, false, ◌||◌, ◌++◌, List, [], ◌∷◌, length, get_or, refl, sym, ◌∙◌, arith, length-append}
 use Rattle.std.specs.List.{AllPairs}
 use Rattle.std.specs.Str.{bytes_eq}
-use Rattle.std.proofs.lemmas.Bool.{false≢true}
+use Rattle.std.proofs.lemmas.Bool.{false≢true, false_from_ne_true, or_from}
 use Rattle.std.proofs.lemmas.Slice.Eq.{bytes_eq-Decides}
 use Rattle.std.proofs.lemmas.List.Quantifiers.{all_pairs_push}
 use Rattle.std.proofs.lemmas.List.{get_or_append_left}
@@ -33,20 +33,11 @@ new_from_has_id id (r ∷ rows) h zero d lt e =
     false≢true (sym no_row ∙ dec.1 (sym e))
 new_from_has_id id (r ∷ rows) h (suc k) d lt e = new_from_has_id id rows (or_false_right (bytes_eq id r.id) (has_id id rows) h) k d (omega arith) e
 
-not_true : (b : Bool) → (b ≡ true → ⊥) → b ≡ false
-not_true true h = absurd (h refl)
-not_true false h = refl
-
-or_of : (a b : Bool) → a ≡ false → b ≡ false → (a || b) ≡ false
-or_of false false p q = refl
-or_of true b p q = absurd (false≢true (sym p))
-or_of false true p q = absurd (false≢true (sym q))
-
 pub has_id_from_new : (id : List ℕ) (rows : List RowView) → IsNew id rows → has_id id rows ≡ false
 has_id_from_new id [] h = refl
 has_id_from_new id (r ∷ rows) h =
     let dec = bytes_eq-Decides id r.id in
-    or_of (bytes_eq id r.id) (has_id id rows) (not_true (bytes_eq id r.id) (λ e. h 0 r (omega arith) (sym (dec.0 e))))
+    or_from (bytes_eq id r.id) (has_id id rows) (false_from_ne_true (bytes_eq id r.id) (λ e. h 0 r (omega arith) (sym (dec.0 e))))
     (has_id_from_new id rows (λ k d lt. h (suc k) d (omega arith)))
 
 pub differ_more : (rows : List RowView) (row : RowView) → AllPairs Differ rows → IsNew row.id rows → AllPairs Differ (rows ++ row ∷ [])

@@ -10,6 +10,8 @@ use Rattle.cpu_set.specs.Ids.{Ids}
 use Rattle.certificate.specs.RowView.{RowView}
 use Rattle.certificate.specs.declared.rows.Offer.{Offer}
 use Rattle.certificate.specs.declared.price_lists.Price.{Price}
+use Rattle.certificate.specs.declared.weights.Weights.{Weights}
+use Rattle.certificate.specs.declared.weights.Weights.TheVariants.{Plain, WithMoves}
 use Rattle.certificate_text.specs.NumberWord.{IsNumber}
 use Rattle.certificate_text.specs.ListWord.{IsListWord}
 use Rattle.certificate_text.specs.Line.{LineView, HeaderLine, RowLine, HoldLine, PriceLine, TotalLine, ShortLine, EndLine, words, IsOfferWord, AreRowWords, AreHoldWords, ArePriceWords, AreTotalWords, AreMovesWords, SayTotal, Spells}
@@ -83,11 +85,11 @@ one_or_three ws m n a b =
     let same : a.number ∷ [] ≡ b.first ∷ codes "moves" ∷ b.second ∷ [] = sym a.words_are ∙ b.words_are in
     cc
 
-pub said_once : (ws : List (List ℕ)) (a b : Bool) (m n : ℕ) → SayTotal a ws m → SayTotal b ws n → TotalLine a m ≡ TotalLine b n
-said_once ws false false m n p q = ap (TotalLine false) (total_once ws m n p q)
-said_once ws true true m n p q = ap (TotalLine true) (moves_once ws m n p q)
-said_once ws false true m n p q = absurd (one_or_three ws m n p q)
-said_once ws true false m n p q = absurd (one_or_three ws n m q p)
+pub said_once : (ws : List (List ℕ)) (a b : Weights) (m n : ℕ) → SayTotal a ws m → SayTotal b ws n → TotalLine a m ≡ TotalLine b n
+said_once ws Plain Plain m n p q = ap (TotalLine Plain) (total_once ws m n p q)
+said_once ws WithMoves WithMoves m n p q = ap (TotalLine WithMoves) (moves_once ws m n p q)
+said_once ws Plain WithMoves m n p q = absurd (one_or_three ws m n p q)
+said_once ws WithMoves Plain m n p q = absurd (one_or_three ws n m q p)
 
 pub hold_once : (ws : List (List ℕ)) (id jd : List ℕ) (s t : Ids) (m n : ℕ) → AreHoldWords ws id s m → AreHoldWords ws jd t n
     → HoldLine id s m ≡ HoldLine jd t n
@@ -108,31 +110,31 @@ first_byte ((b ∷ bs) ∷ ws) = b
 
 -- the byte with which the lines of one kind begin
 unfoldable pub kind : LineView → ℕ
-kind (HeaderLine scaled) = 110
+kind (HeaderLine weights) = 110
 kind (RowLine row) = 114
 kind (HoldLine id cpus value) = 104
 kind (PriceLine price) = 112
-kind (TotalLine scaled total) = 116
+kind (TotalLine weights total) = 116
 kind (ShortLine id) = 115
 kind EndLine = 101
 
 pub begins : (line : List ℕ) (l : LineView) → Spells line l → first_byte (words line) ≡ kind l
 unfolding first_byte kind
-begins line (HeaderLine false) p = ap (λ x. first_byte (words x)) p
-begins line (HeaderLine true) p = ap (λ x. first_byte (words x)) p
+begins line (HeaderLine Plain) p = ap (λ x. first_byte (words x)) p
+begins line (HeaderLine WithMoves) p = ap (λ x. first_byte (words x)) p
 begins line (RowLine row) p = ap first_byte p.1
 begins line (HoldLine id cpus value) p = ap first_byte p.1
 begins line (PriceLine price) p = ap first_byte p.1
-begins line (TotalLine scaled total) p = ap first_byte p.1
+begins line (TotalLine weights total) p = ap first_byte p.1
 begins line (ShortLine id) p = ap first_byte p.1
 begins line EndLine p = ap (λ x. first_byte (words x)) p
 
 pub spelled_once : (line : List ℕ) (l m : LineView) → Spells line l → Spells line m → l ≡ m
 unfolding kind
-spelled_once line (HeaderLine false) (HeaderLine false) p q = refl
-spelled_once line (HeaderLine true) (HeaderLine true) p q = refl
-spelled_once line (HeaderLine false) (HeaderLine true) p q = absurd (omega (arith, ap (λ x. get_or x 20 0) (sym p ∙ q)))
-spelled_once line (HeaderLine true) (HeaderLine false) p q = absurd (omega (arith, ap (λ x. get_or x 20 0) (sym p ∙ q)))
+spelled_once line (HeaderLine Plain) (HeaderLine Plain) p q = refl
+spelled_once line (HeaderLine WithMoves) (HeaderLine WithMoves) p q = refl
+spelled_once line (HeaderLine Plain) (HeaderLine WithMoves) p q = absurd (omega (arith, ap (λ x. get_or x 20 0) (sym p ∙ q)))
+spelled_once line (HeaderLine WithMoves) (HeaderLine Plain) p q = absurd (omega (arith, ap (λ x. get_or x 20 0) (sym p ∙ q)))
 spelled_once line EndLine EndLine p q = refl
 spelled_once line (RowLine r) (RowLine s) p q =
     let same : codes "row" ∷ p.0 ≡ codes "row" ∷ q.0 = sym p.1 ∙ q.1 in

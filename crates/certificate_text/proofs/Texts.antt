@@ -7,6 +7,7 @@ use Rattle.cpu_set.specs.Ids.{Ids}
 use Rattle.certificate.specs.RowView.{RowView}
 use Rattle.certificate.specs.PricesView.{PricesView}
 use Rattle.certificate.specs.declared.certificates.Certificate.TheVariants.{Plan, Short}
+use Rattle.certificate.specs.declared.weights.Weights.{Weights}
 use Rattle.certificate_text.specs.CertificateText.{hold_lines, id_at, short_lines}
 use Rattle.certificate_text.specs.Line.{HeaderLine, RowLine, HoldLine, PriceLine, TotalLine, ShortLine, EndLine}
 use Rattle.certificate_text.specs.Written.{line_text, text_of}
@@ -25,33 +26,33 @@ hold_next rows sets values k row s v a b d e f h =
     rw (r, t, u) refl
 
 -- the text of a plan is its sections'
-pub text_of-plan : (rows : List RowView) (sets : List Ids) (prices : PricesView) (total : ℕ) (scaled : Bool)
-    → text_of (Plan rows sets prices total scaled)
-    ≡ (line_text (HeaderLine scaled) ++ flat_map (λ row. line_text (RowLine row)) rows)
-    ++ (flat_map line_text (hold_lines rows sets prices.values) ++ (flat_map (λ price. line_text (PriceLine price)) prices.of_cpu ++ (line_text (TotalLine scaled total) ++ line_text EndLine)))
-text_of-plan rows sets prices total scaled =
-    let end = TotalLine scaled total ∷ EndLine ∷ [] in
-    let last : flat_map line_text end ≡ line_text (TotalLine scaled total) ++ line_text EndLine = ap (λ x. line_text (TotalLine scaled total) ++ x) (append-nil (line_text EndLine)) in
-    let priced : flat_map line_text (map PriceLine prices.of_cpu ++ end) ≡ flat_map (λ price. line_text (PriceLine price)) prices.of_cpu ++ (line_text (TotalLine scaled total) ++ line_text EndLine) =
+pub text_of-plan : (rows : List RowView) (sets : List Ids) (prices : PricesView) (total : ℕ) (weights : Weights)
+    → text_of (Plan rows sets prices total weights)
+    ≡ (line_text (HeaderLine weights) ++ flat_map (λ row. line_text (RowLine row)) rows)
+    ++ (flat_map line_text (hold_lines rows sets prices.values) ++ (flat_map (λ price. line_text (PriceLine price)) prices.of_cpu ++ (line_text (TotalLine weights total) ++ line_text EndLine)))
+text_of-plan rows sets prices total weights =
+    let end = TotalLine weights total ∷ EndLine ∷ [] in
+    let last : flat_map line_text end ≡ line_text (TotalLine weights total) ++ line_text EndLine = ap (λ x. line_text (TotalLine weights total) ++ x) (append-nil (line_text EndLine)) in
+    let priced : flat_map line_text (map PriceLine prices.of_cpu ++ end) ≡ flat_map (λ price. line_text (PriceLine price)) prices.of_cpu ++ (line_text (TotalLine weights total) ++ line_text EndLine) =
     flat_map-append line_text (map PriceLine prices.of_cpu) end ∙ ap (λ x. x ++ flat_map line_text end) (flat_map-map line_text PriceLine prices.of_cpu)
     ∙ ap (λ x. flat_map (λ price. line_text (PriceLine price)) prices.of_cpu ++ x) last in
     let held = hold_lines rows sets prices.values ++ (map PriceLine prices.of_cpu ++ end) in
     let holds = flat_map-append line_text (hold_lines rows sets prices.values) (map PriceLine prices.of_cpu ++ end) ∙ ap (λ x. flat_map line_text (hold_lines rows sets prices.values) ++ x) priced in
     let body = flat_map-append line_text (map RowLine rows) held ∙ ap (λ x. x ++ flat_map line_text held) (flat_map-map line_text RowLine rows)
     ∙ ap (λ x. flat_map (λ row. line_text (RowLine row)) rows ++ x) holds in
-    ap (λ x. line_text (HeaderLine scaled) ++ x) body ∙ sym (append_assoc (line_text (HeaderLine scaled)) (flat_map (λ row. line_text (RowLine row)) rows) _)
+    ap (λ x. line_text (HeaderLine weights) ++ x) body ∙ sym (append_assoc (line_text (HeaderLine weights)) (flat_map (λ row. line_text (RowLine row)) rows) _)
 
 -- and so is that of a shortage
-pub text_of-shortage : (rows : List RowView) (members : List ℕ) (scaled : Bool)
-    → text_of (Short rows members scaled)
-    ≡ (line_text (HeaderLine scaled) ++ flat_map (λ row. line_text (RowLine row)) rows) ++ (flat_map (λ k. line_text (ShortLine (id_at rows k))) members ++ line_text EndLine)
-text_of-shortage rows members scaled =
+pub text_of-shortage : (rows : List RowView) (members : List ℕ) (weights : Weights)
+    → text_of (Short rows members weights)
+    ≡ (line_text (HeaderLine weights) ++ flat_map (λ row. line_text (RowLine row)) rows) ++ (flat_map (λ k. line_text (ShortLine (id_at rows k))) members ++ line_text EndLine)
+text_of-shortage rows members weights =
     let shorts = flat_map-append line_text (short_lines rows members) (EndLine ∷ []) ∙ ap (λ x. flat_map line_text (short_lines rows members) ++ x) (append-nil (line_text EndLine))
     ∙ ap (λ x. x ++ line_text EndLine) (flat_map-map line_text (λ k. ShortLine (id_at rows k)) members) in
     let body = flat_map-append line_text (map RowLine rows) (short_lines rows members ++ EndLine ∷ [])
     ∙ ap (λ x. x ++ flat_map line_text (short_lines rows members ++ EndLine ∷ [])) (flat_map-map line_text RowLine rows)
     ∙ ap (λ x. flat_map (λ row. line_text (RowLine row)) rows ++ x) shorts in
-    ap (λ x. line_text (HeaderLine scaled) ++ x) body ∙ sym (append_assoc (line_text (HeaderLine scaled)) (flat_map (λ row. line_text (RowLine row)) rows) _)
+    ap (λ x. line_text (HeaderLine weights) ++ x) body ∙ sym (append_assoc (line_text (HeaderLine weights)) (flat_map (λ row. line_text (RowLine row)) rows) _)
 
 -- an element that was read has the id of its place
 pub id_is : (rows : List RowView) (k : ℕ) (row : RowView) → k < length rows → row ≡ get_or rows k row → row.id ≡ id_at rows k

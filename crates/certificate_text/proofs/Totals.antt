@@ -1,7 +1,9 @@
 -- Which words say a total, and how one is written.
-use Rattle.std.proofs.Common.{◌≡◌, ℕ, ◌+◌, ◌*◌, ◌/◌, ◌%◌, ◌^◌, Bool, true, false, List, [], ◌∷◌, ◌++◌, sym, ap, ◌∙◌, append_assoc}
+use Rattle.std.proofs.Common.{◌≡◌, ℕ, ◌^◌, List, [], ◌∷◌, ◌++◌, sym, ap, ◌∙◌, append_assoc}
 use Rattle.std.specs.Prelude.{codes, decimal, ◌==◌}
-use Rattle.certificate.specs.declared.limits.TheConstants.{MOVE_SCALE}
+use Rattle.certificate.specs.Packed.{packed, distance_of, moves_of}
+use Rattle.certificate.specs.declared.weights.Weights.{Weights}
+use Rattle.certificate.specs.declared.weights.Weights.TheVariants.{Plain, WithMoves}
 use Rattle.certificate_text.specs.NumberWord.{IsNumber}
 use Rattle.certificate_text.specs.Line.{TotalLine, EndLine, words, AreMovesWords, SayTotal}
 use Rattle.certificate_text.specs.Written.{line_text}
@@ -9,18 +11,18 @@ use Rattle.certificate_text.proofs.Cuts.{never_empty}
 
 -- several words are no total in one number
 pub only_moves : (text first rest : List ℕ) → words text ≡ first ∷ words rest → ((total : ℕ) → AreMovesWords (words text) total → ⊥)
-    → (scaled : Bool) (total : ℕ) → SayTotal scaled (words text) total → ⊥
-only_moves text first rest e none true total h = none total h
-only_moves text first rest e none false total h = never_empty (λ x. x == 32) rest (let words_are = h.words_are in cc)
+    → (weights : Weights) (total : ℕ) → SayTotal weights (words text) total → ⊥
+only_moves text first rest e none WithMoves total h = none total h
+only_moves text first rest e none Plain total h = never_empty (λ x. x == 32) rest (let words_are = h.words_are in cc)
 
 -- and one word is none in two
 pub only_plain : (text : List ℕ) → words text ≡ text ∷ [] → ((n : ℕ) → IsNumber (2 ^ 64) text n → ⊥)
-    → (scaled : Bool) (total : ℕ) → SayTotal scaled (words text) total → ⊥
-only_plain text e none false total h =
+    → (weights : Weights) (total : ℕ) → SayTotal weights (words text) total → ⊥
+only_plain text e none Plain total h =
     let same : text ∷ [] ≡ h.number ∷ [] = sym e ∙ h.words_are in
     let number : h.number ≡ text = cc in
     none total (rw number at h.total_is)
-only_plain text e none true total h =
+only_plain text e none WithMoves total h =
     let same : text ∷ [] ≡ h.first ∷ codes "moves" ∷ h.second ∷ [] = sym e ∙ h.words_are in
     absurd cc
 
@@ -41,7 +43,7 @@ module _ (text a b d : List ℕ) (are : words text ≡ a ∷ b ∷ d ∷ []) whe
   pub no_moves : ((n : ℕ) → IsNumber (2 ^ 16) d n → ⊥) → (total : ℕ) → AreMovesWords (words text) total → ⊥
   no_moves none total h = none h.moves (behind total h)
 
-  pub are_moves : (total n m : ℕ) → b ≡ codes "moves" → IsNumber (2 ^ 48) a n → IsNumber (2 ^ 16) d m → total ≡ n * MOVE_SCALE + m → AreMovesWords (words text) total
+  pub are_moves : (total n m : ℕ) → b ≡ codes "moves" → IsNumber (2 ^ 48) a n → IsNumber (2 ^ 16) d m → total ≡ packed n m → AreMovesWords (words text) total
   are_moves total n m word distance moves e = record {
     first = a;
     second = d;
@@ -61,6 +63,6 @@ moves_line n m =
     ∙ sym (append_assoc n (codes " moves " ++ m) (codes "\nend\n")) ∙ sym (append_assoc (n ++ (codes " moves " ++ m)) (codes "\n") (codes "end\n")))
 
 pub total_line : (total : ℕ)
-    → line_text (TotalLine true total) ++ line_text EndLine
-    ≡ (codes "total " ++ (decimal (total / MOVE_SCALE) ++ codes " moves ")) ++ (decimal (total % MOVE_SCALE) ++ codes "\nend\n")
-total_line total = sym (moves_line (decimal (total / MOVE_SCALE)) (decimal (total % MOVE_SCALE)))
+    → line_text (TotalLine WithMoves total) ++ line_text EndLine
+    ≡ (codes "total " ++ (decimal (distance_of total) ++ codes " moves ")) ++ (decimal (moves_of total) ++ codes "\nend\n")
+total_line total = sym (moves_line (decimal (distance_of total)) (decimal (moves_of total)))

@@ -14,11 +14,11 @@ use Rattle.certificate_text.specs.Written.{CanWriteRow, ReadCanBeWritten}
 
 -- there is a word for each set of the line, and for its id where it is a row's
 abbrev HasWords : LineView → Type 0
-HasWords (HeaderLine scaled) = Unit {0}
+HasWords (HeaderLine weights) = Unit {0}
 HasWords (RowLine row) = CanWriteRow row
 HasWords (HoldLine id cpus value) = cpus ≢ set.empty
 HasWords (PriceLine price) = price.cpus ≢ set.empty
-HasWords (TotalLine scaled total) = Unit {0}
+HasWords (TotalLine weights total) = Unit {0}
 HasWords (ShortLine id) = Unit {0}
 HasWords EndLine = Unit {0}
 
@@ -30,11 +30,11 @@ offers_some (w ∷ ws) (o ∷ offers) h zero d lt = h.0.cpus_are.some
 offers_some (w ∷ ws) (o ∷ offers) h (suc k) d lt = offers_some ws offers h.1 k d (omega arith)
 
 has_words : (line : List ℕ) (l : LineView) → Spells line l → HasWords l
-has_words line (HeaderLine scaled) h = tt
+has_words line (HeaderLine weights) h = tt
 has_words line (RowLine row) h = record { id_is = h.2.id_is; offers_some = offers_some h.2.more row.offers h.2.offers_are }
 has_words line (HoldLine id cpus value) h = h.2.cpus_are.some
 has_words line (PriceLine price) h = h.2.cpus_are.some
-has_words line (TotalLine scaled total) h = tt
+has_words line (TotalLine weights total) h = tt
 has_words line (ShortLine id) h = tt
 has_words line EndLine h = tt
 
@@ -77,7 +77,7 @@ prices_have (p ∷ prices) h zero d lt = h.0
 prices_have (p ∷ prices) h (suc k) d lt = prices_have prices h.1 k d (omega arith)
 
 pub read_can_be_written : ReadCanBeWritten
-read_can_be_written text (Plan rows sets prices total scaled) h =
+read_can_be_written text (Plan rows sets prices total weights) h =
     let lines = (all_have h.0 _ h.2.spelled).1 in
     let holds = rest_has (map RowLine rows) _ lines in
     let priced = rest_has (hold_lines rows sets prices.values) _ holds in (
@@ -86,5 +86,5 @@ read_can_be_written text (Plan rows sets prices total scaled) h =
       sets_have rows sets prices.values h.2.can.sets_len h.2.can.values_len (front_has (hold_lines rows sets prices.values) _ holds),
       prices_have prices.of_cpu (front_has (map PriceLine prices.of_cpu) _ priced),
     )
-read_can_be_written text (Short rows members scaled) h =
+read_can_be_written text (Short rows members weights) h =
     (h.2.can, rows_have rows (front_has (map RowLine rows) _ (all_have h.0 _ h.2.spelled).1))

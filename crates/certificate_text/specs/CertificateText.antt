@@ -27,9 +27,9 @@ short_lines rows members = map (λ k. ShortLine (id_at rows k)) members
 
 -- the lines of a certificate, in their order
 abbrev pub lines_of : Certificate → List LineView
-lines_of (Plan rows sets prices total scaled) =
-    HeaderLine scaled ∷ (map RowLine rows ++ (hold_lines rows sets prices.values ++ (map PriceLine prices.of_cpu ++ (TotalLine scaled total ∷ EndLine ∷ []))))
-lines_of (Short rows members scaled) = HeaderLine scaled ∷ (map RowLine rows ++ (short_lines rows members ++ EndLine ∷ []))
+lines_of (Plan rows sets prices total weights) =
+    HeaderLine weights ∷ (map RowLine rows ++ (hold_lines rows sets prices.values ++ (map PriceLine prices.of_cpu ++ (TotalLine weights total ∷ EndLine ∷ []))))
+lines_of (Short rows members weights) = HeaderLine weights ∷ (map RowLine rows ++ (short_lines rows members ++ EndLine ∷ []))
 
 -- no two rows have one id
 abbrev pub HaveOwnIds : List RowView → Type 0
@@ -50,8 +50,8 @@ pub record HasShortText (rows : List RowView) (members : List ℕ) : Type 0 wher
 
 -- the same of a certificate
 abbrev pub CanBeText : Certificate → Type 0
-CanBeText (Plan rows sets prices total scaled) = HasPlanText rows sets prices.values
-CanBeText (Short rows members scaled) = HasShortText rows members
+CanBeText (Plan rows sets prices total weights) = HasPlanText rows sets prices.values
+CanBeText (Short rows members weights) = HasShortText rows members
 
 -- these lines, as text, are those of the certificate
 pub record AreLines (ls : List (List ℕ)) (c : Certificate) : Type 0 where

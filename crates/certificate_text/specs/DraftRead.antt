@@ -18,7 +18,7 @@ draft_view d = record {
   members = d.members.items;
   from = d.from;
   total = d.total;
-  scaled = d.scaled;
+  weights = d.weights;
 }
 
 -- whether these slices of the text are those of an id

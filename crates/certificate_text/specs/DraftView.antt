@@ -1,20 +1,22 @@
 -- What has been read of a certificate, and what a line adds to it.
 use Rattle.std.specs.Prelude.{◌≡◌, ℕ, zero, suc, ◌+◌, Bool, true, false, not, ◌&&◌, ◌==◌, if◌then◌else◌, List, [], ◌∷◌, ◌++◌, length, drop, slice_get, Option, Some, None, refl}
-use Rattle.std.proofs.Math.Bool.{beq}
-use Rattle.std.specs.Coded.{Coded, code_by, coded×, coded_list, coded_ℕ, coded_bool}
+use Rattle.std.specs.Coded.{Coded, code_by, coded×, coded_list, coded_ℕ}
 use Rattle.std.specs.List.{list_any}
 use Rattle.std.specs.Str.{bytes_eq}
 use Rattle.cpu_set.specs.Ids.{Ids}
 use Rattle.certificate.specs.RowView.{RowView, rows_code}
 use Rattle.certificate.specs.PricesView.{price_list_code}
 use Rattle.certificate.specs.SetsCode.{sets_code}
+use Rattle.certificate.specs.WeightsCode.{weights_code}
 use Rattle.certificate.specs.declared.price_lists.Price.{Price}
+use Rattle.certificate.specs.declared.weights.Weights.{Weights}
+use Rattle.certificate.specs.declared.weights.Weights.TheVariants.{Plain, WithMoves}
 use Rattle.certificate_text.specs.declared.stage.Stage.{Stage}
 use Rattle.certificate_text.specs.declared.stage.Stage.TheVariants.{Start, Body, Totalled, Planned, Named, Shown}
 use Rattle.certificate_text.specs.Line.{LineView, HeaderLine, RowLine, HoldLine, PriceLine, TotalLine, ShortLine, EndLine}
 
--- how far the text has been read, and what it said; the total counts once it has been read, and whether weights are scaled once
--- the first line has
+-- how far the text has been read, and what it said; the total counts once it has been read, and what weights count once the
+-- first line has
 pub record DraftView : Type 0 where
   pub stage : Stage
   pub rows : List RowView
@@ -25,7 +27,7 @@ pub record DraftView : Type 0 where
   pub members : List ℕ
   pub from : ℕ
   pub total : ℕ
-  pub scaled : Bool
+  pub weights : Weights
 
 -- a stage is stored as its place
 abbrev pub stage_place : Stage → ℕ
@@ -59,10 +61,10 @@ stage_code = code_by ℕ coded_ℕ stage_place stage_at stage_at-place
 abbrev pub draft_code : Coded DraftView
 draft_code =
     code_by
-    (Stage × (List RowView × (List Ids × (List ℕ × (List Price × (List ℕ × (ℕ × (ℕ × Bool))))))))
-    (coded× stage_code (coded× rows_code (coded× sets_code (coded× (coded_list coded_ℕ) (coded× price_list_code (coded× (coded_list coded_ℕ) (coded× coded_ℕ (coded× coded_ℕ coded_bool))))))))
-    (λ d. (d.stage, (d.rows, (d.sets, (d.values, (d.prices, (d.members, (d.from, (d.total, d.scaled)))))))))
-    (λ p. record { stage = p.0; rows = p.1.0; sets = p.1.1.0; values = p.1.1.1.0; prices = p.1.1.1.1.0; members = p.1.1.1.1.1.0; from = p.1.1.1.1.1.1.0; total = p.1.1.1.1.1.1.1.0; scaled = p.1.1.1.1.1.1.1.1 })
+    (Stage × (List RowView × (List Ids × (List ℕ × (List Price × (List ℕ × (ℕ × (ℕ × Weights))))))))
+    (coded× stage_code (coded× rows_code (coded× sets_code (coded× (coded_list coded_ℕ) (coded× price_list_code (coded× (coded_list coded_ℕ) (coded× coded_ℕ (coded× coded_ℕ weights_code))))))))
+    (λ d. (d.stage, (d.rows, (d.sets, (d.values, (d.prices, (d.members, (d.from, (d.total, d.weights)))))))))
+    (λ p. record { stage = p.0; rows = p.1.0; sets = p.1.1.0; values = p.1.1.1.0; prices = p.1.1.1.1.0; members = p.1.1.1.1.1.0; from = p.1.1.1.1.1.1.0; total = p.1.1.1.1.1.1.1.0; weights = p.1.1.1.1.1.1.1.1 })
     (λ _. refl)
 
 -- a row of this id is there
@@ -113,6 +115,12 @@ abbrev pub with_member : DraftView → Option ℕ → Option DraftView
 with_member d None = None
 with_member d (Some k) = Some (record d { stage = Named; members = d.members ++ k ∷ []; from = k + 1 })
 
+-- both count the same
+abbrev pub are_same : Weights → Weights → Bool
+are_same Plain Plain = true
+are_same WithMoves WithMoves = true
+are_same _ _ = false
+
 -- the draft with a line of its body
 abbrev pub next_in_body : DraftView → LineView → Option DraftView
 next_in_body d (RowLine row) =
@@ -120,14 +128,14 @@ next_in_body d (RowLine row) =
 next_in_body d (HoldLine id cpus value) =
     if is_id_of id (slice_get d.rows (length d.sets)) then Some (record d { sets = d.sets ++ cpus ∷ []; values = d.values ++ value ∷ [] }) else None
 next_in_body d (PriceLine price) = if is_held d then Some (record d { prices = d.prices ++ price ∷ [] }) else None
-next_in_body d (TotalLine scaled total) = if is_held d && beq scaled d.scaled then Some (record d { stage = Totalled; total = total }) else None
+next_in_body d (TotalLine weights total) = if is_held d && are_same weights d.weights then Some (record d { stage = Totalled; total = total }) else None
 next_in_body d (ShortLine id) = if has_no_plan d then with_member d (number_of id d) else None
-next_in_body d (HeaderLine scaled) = None
+next_in_body d (HeaderLine weights) = None
 next_in_body d EndLine = None
 
 -- the same, by how far the text has been read
 abbrev pub next_at : Stage → DraftView → LineView → Option DraftView
-next_at Start d (HeaderLine scaled) = Some (record d { stage = Body; scaled = scaled })
+next_at Start d (HeaderLine weights) = Some (record d { stage = Body; weights = weights })
 next_at Body d l = next_in_body d l
 next_at Totalled d EndLine = Some (record d { stage = Planned })
 next_at Named d (ShortLine id) = with_member d (number_of id d)
@@ -144,4 +152,4 @@ next d l = next_at d.stage d l
 
 -- nothing has been read
 abbrev pub empty_draft : DraftView
-empty_draft = record { stage = Start; rows = []; sets = []; values = []; prices = []; members = []; from = 0; total = 0; scaled = false }
+empty_draft = record { stage = Start; rows = []; sets = []; values = []; prices = []; members = []; from = 0; total = 0; weights = Plain }

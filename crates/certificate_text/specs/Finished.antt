@@ -8,10 +8,10 @@ use Rattle.certificate_text.specs.DraftView.{DraftView}
 
 -- what a draft of a plan says, and one of a shortage
 abbrev pub plan_of : DraftView → Certificate
-plan_of d = Plan d.rows d.sets (record { values = d.values; of_cpu = d.prices }) d.total d.scaled
+plan_of d = Plan d.rows d.sets (record { values = d.values; of_cpu = d.prices }) d.total d.weights
 
 abbrev pub shortage_of : DraftView → Certificate
-shortage_of d = Short d.rows d.members d.scaled
+shortage_of d = Short d.rows d.members d.weights
 
 -- the same, where the last line has been read
 abbrev pub finished_at : Stage → DraftView → Option Certificate

@@ -1,9 +1,11 @@
 -- The lines of a certificate's text, and how each is spelled.
-use Rattle.std.specs.Prelude.{◌≡◌, ℕ, ◌+◌, ◌*◌, ◌^◌, Bool, true, false, List, [], ◌∷◌, codes}
+use Rattle.std.specs.Prelude.{◌≡◌, ℕ, ◌^◌, List, [], ◌∷◌, codes}
 use Rattle.std.specs.List.{AllZip}
 use Rattle.cpu_set.specs.Ids.{Ids}
 use Rattle.certificate.specs.RowView.{RowView}
-use Rattle.certificate.specs.declared.limits.TheConstants.{MOVE_SCALE}
+use Rattle.certificate.specs.Packed.{packed}
+use Rattle.certificate.specs.declared.weights.Weights.{Weights}
+use Rattle.certificate.specs.declared.weights.Weights.TheVariants.{Plain, WithMoves}
 use Rattle.certificate.specs.declared.rows.Offer.{Offer}
 use Rattle.certificate.specs.declared.price_lists.Price.{Price}
 use Rattle.certificate_text.specs.IdWord.{IsId}
@@ -11,13 +13,13 @@ use Rattle.certificate_text.specs.ListWord.{IsListWord}
 use Rattle.certificate_text.specs.NumberWord.{IsNumber}
 use Rattle.certificate_text.specs.Parts.{parts}
 
--- what a line says; the first and the total tell whether weights are scaled, and so count moves too
+-- what a line says; the first and the total tell what weights count
 pub data LineView : Type 0 where
-  HeaderLine : (scaled : Bool) → LineView
+  HeaderLine : (weights : Weights) → LineView
   RowLine : (row : RowView) → LineView
   HoldLine : (id : List ℕ) (cpus : Ids) (value : ℕ) → LineView
   PriceLine : (price : Price) → LineView
-  TotalLine : (scaled : Bool) (total : ℕ) → LineView
+  TotalLine : (weights : Weights) (total : ℕ) → LineView
   ShortLine : (id : List ℕ) → LineView
   EndLine : LineView
 
@@ -73,17 +75,17 @@ pub record AreMovesWords (ws : List (List ℕ)) (total : ℕ) : Type 0 where
   pub words_are : ws ≡ first ∷ codes "moves" ∷ second ∷ []
   pub distance_is : IsNumber (2 ^ 48) first distance
   pub moves_is : IsNumber (2 ^ 16) second moves
-  pub total_is : total ≡ distance * MOVE_SCALE + moves
+  pub total_is : total ≡ packed distance moves
 
--- the first of them where weights are not scaled, the second where they are
-abbrev pub SayTotal : Bool → List (List ℕ) → ℕ → Type 0
-SayTotal false ws total = AreTotalWords ws total
-SayTotal true ws total = AreMovesWords ws total
+-- the first of them where weights are plain, the second where they count moves
+abbrev pub SayTotal : Weights → List (List ℕ) → ℕ → Type 0
+SayTotal Plain ws total = AreTotalWords ws total
+SayTotal WithMoves ws total = AreMovesWords ws total
 
--- the first line: the version is 2 where weights are scaled
-abbrev pub header_text : Bool → List ℕ
-header_text false = codes "numarun-certificate 1"
-header_text true = codes "numarun-certificate 2"
+-- the first line: the version is 2 where weights count moves
+abbrev pub header_text : Weights → List ℕ
+header_text Plain = codes "numarun-certificate 1"
+header_text WithMoves = codes "numarun-certificate 2"
 
 -- the words that follow a line's first
 abbrev pub AreWordsAfter : List ℕ → List ℕ → (List (List ℕ) → Type 0) → Type 0
@@ -91,10 +93,10 @@ AreWordsAfter line first Are = (ws : List (List ℕ)) × (words line ≡ first �
 
 -- the line is spelled so
 abbrev pub Spells : List ℕ → LineView → Type 0
-Spells line (HeaderLine scaled) = line ≡ header_text scaled
+Spells line (HeaderLine weights) = line ≡ header_text weights
 Spells line (RowLine row) = AreWordsAfter line (codes "row") (λ ws. AreRowWords ws row)
 Spells line (HoldLine id cpus value) = AreWordsAfter line (codes "hold") (λ ws. AreHoldWords ws id cpus value)
 Spells line (PriceLine price) = AreWordsAfter line (codes "price") (λ ws. ArePriceWords ws price)
-Spells line (TotalLine scaled total) = AreWordsAfter line (codes "total") (λ ws. SayTotal scaled ws total)
+Spells line (TotalLine weights total) = AreWordsAfter line (codes "total") (λ ws. SayTotal weights ws total)
 Spells line (ShortLine id) = AreWordsAfter line (codes "short") (λ ws. ws ≡ id ∷ [])
 Spells line EndLine = line ≡ codes "end"

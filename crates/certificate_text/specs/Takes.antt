@@ -8,8 +8,8 @@ use Rattle.certificate_text.specs.declared.bad_line.BadLine.{BadLine}
 
 -- what the line says is kept in a list
 abbrev pub TakesRoom : LineView → Type 0
-TakesRoom (HeaderLine scaled) = ⊥
-TakesRoom (TotalLine scaled total) = ⊥
+TakesRoom (HeaderLine weights) = ⊥
+TakesRoom (TotalLine weights total) = ⊥
 TakesRoom EndLine = ⊥
 TakesRoom _ = Unit {0}
 

@@ -1,11 +1,13 @@
 -- The text that a certificate is written as: the one of those that stand for it whose lists are canonical.
-use Rattle.std.specs.Prelude.{◌≢◌, ℕ, ◌/◌, ◌%◌, ◌<◌, ◌^◌, Bool, true, false, List, ◌++◌, All, codes, decimal}
+use Rattle.std.specs.Prelude.{◌≢◌, ℕ, ◌<◌, ◌^◌, List, ◌++◌, All, codes, decimal}
 use Rattle.std.specs.List.{flat_map}
 use Rattle.std.specs.FinSet as set
 use Rattle.cpu_set.specs.Members.{InRange}
 use Rattle.cpu_list.specs.CanonicalList.{list_text}
 use Rattle.certificate.specs.RowView.{RowView}
-use Rattle.certificate.specs.declared.limits.TheConstants.{MOVE_SCALE}
+use Rattle.certificate.specs.Packed.{distance_of, moves_of}
+use Rattle.certificate.specs.declared.weights.Weights.{Weights}
+use Rattle.certificate.specs.declared.weights.Weights.TheVariants.{Plain, WithMoves}
 use Rattle.certificate.specs.declared.rows.Offer.{Offer}
 use Rattle.certificate.specs.declared.price_lists.Price.{Price}
 use Rattle.certificate.specs.declared.certificates.Certificate.{Certificate}
@@ -18,18 +20,18 @@ use Rattle.certificate_text.specs.Line.{LineView, HeaderLine, RowLine, HoldLine,
 abbrev pub offer_text : Offer → List ℕ
 offer_text offer = (codes " " ++ (decimal offer.weight ++ codes ":")) ++ list_text offer.cpus
 
--- a total: in two numbers where weights are scaled
-abbrev pub total_text : Bool → ℕ → List ℕ
-total_text false total = decimal total
-total_text true total = decimal (total / MOVE_SCALE) ++ (codes " moves " ++ decimal (total % MOVE_SCALE))
+-- a total: in two numbers where weights count moves
+abbrev pub total_text : Weights → ℕ → List ℕ
+total_text Plain total = decimal total
+total_text WithMoves total = decimal (distance_of total) ++ (codes " moves " ++ decimal (moves_of total))
 
 -- a line with its line feed
 abbrev pub line_text : LineView → List ℕ
-line_text (HeaderLine scaled) = header_text scaled ++ codes "\n"
+line_text (HeaderLine weights) = header_text weights ++ codes "\n"
 line_text (RowLine row) = (codes "row " ++ (row.id ++ (codes " " ++ decimal row.demand))) ++ (flat_map offer_text row.offers ++ codes "\n")
 line_text (HoldLine id cpus value) = (codes "hold " ++ (id ++ codes " ")) ++ (list_text cpus ++ (codes " " ++ (decimal value ++ codes "\n")))
 line_text (PriceLine price) = (codes "price " ++ (decimal price.amount ++ codes " ")) ++ (list_text price.cpus ++ codes "\n")
-line_text (TotalLine scaled total) = codes "total " ++ (total_text scaled total ++ codes "\n")
+line_text (TotalLine weights total) = codes "total " ++ (total_text weights total ++ codes "\n")
 line_text (ShortLine id) = codes "short " ++ (id ++ codes "\n")
 line_text EndLine = codes "end\n"
 
@@ -44,9 +46,9 @@ pub record CanWriteRow (row : RowView) : Type 0 where
 
 -- what can be written: what a text can say, with words for all ids and sets
 abbrev pub CanWrite : Certificate → Type 0
-CanWrite (Plan rows sets prices total scaled) =
-    CanBeText (Plan rows sets prices total scaled) × All CanWriteRow rows × All (λ s. s ≢ set.empty) sets × All (λ p. p.cpus ≢ set.empty) prices.of_cpu
-CanWrite (Short rows members scaled) = CanBeText (Short rows members scaled) × All CanWriteRow rows
+CanWrite (Plan rows sets prices total weights) =
+    CanBeText (Plan rows sets prices total weights) × All CanWriteRow rows × All (λ s. s ≢ set.empty) sets × All (λ p. p.cpus ≢ set.empty) prices.of_cpu
+CanWrite (Short rows members weights) = CanBeText (Short rows members weights) × All CanWriteRow rows
 
 -- numbers and sets that the types hold
 pub record IsOfferHeld (offer : Offer) : Type 0 where
@@ -62,9 +64,9 @@ pub record IsPriceHeld (price : Price) : Type 0 where
   pub cpus : InRange price.cpus
 
 abbrev pub IsHeld : Certificate → Type 0
-IsHeld (Plan rows sets prices total scaled) =
+IsHeld (Plan rows sets prices total weights) =
     All IsRowHeld rows × All InRange sets × All (λ v. v < 2 ^ 64) prices.values × All IsPriceHeld prices.of_cpu × (total < 2 ^ 64)
-IsHeld (Short rows members scaled) = All IsRowHeld rows
+IsHeld (Short rows members weights) = All IsRowHeld rows
 
 -- what is written stands for the certificate
 abbrev pub WrittenReadsAgain : Type 0

@@ -12,7 +12,7 @@ use std::alloc::Global;
 pub enum VerdictFault {
     /// E77: the text is no certificate's.
     BadText(BadText),
-    /// The certificate is refused: `BadProblem` (E70) where weights should be scaled and one isn't, then the first cause as
+    /// The certificate is refused: `BadProblem` (E70) where weights count moves and one is more than one move, then the first cause as
     /// [`check_plan`](certificate::check_plan) or [`check_shortage`](certificate::check_shortage) words it, then `Gap` (E75)
     /// where the written total isn't the plan's cost.
     Check(CheckFault),

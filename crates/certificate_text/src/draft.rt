@@ -1,5 +1,6 @@
 ghost use Rattle.std.specs.Prelude.{◌≡◌, ◌+◌, ◌<◌, ◌^◌, length, slice_get, IfSome};
 ghost use Rattle.certificate_text.specs.Line.{HeaderLine, RowLine, HoldLine, PriceLine, TotalLine, ShortLine, EndLine, Spells};
+ghost use Rattle.certificate_text.specs.DraftView.{are_same};
 ghost use Rattle.certificate_text.specs.LineRead.{line_view};
 ghost use Rattle.certificate_text.specs.Takes.{Takes};
 
@@ -8,12 +9,22 @@ use crate::line::{Line, second_word};
 use crate::line_words::{Hold, Total};
 use crate::stage::Stage;
 use crate::{Certificate, Members};
-use certificate::{Plan, Price, PriceList, Prices, Problem, Row};
+use certificate::{Plan, Price, PriceList, Prices, Problem, Row, Weights};
 use cpu_set::IdSet;
 use faults::OrMemory;
 use std::alloc::Global;
 use std::collections::BTreeSet;
 use std::marker::Model;
+
+/// Whether both count the same.
+fn are_same(a: Weights, b: Weights) -> bool
+    ensures { result ≡ are_same a b }
+{
+    match a {
+        Weights::Plain => matches!(b, Weights::Plain),
+        Weights::WithMoves => matches!(b, Weights::WithMoves),
+    }
+}
 
 /// What has been read of a certificate's text.
 #[derive(Drop)]
@@ -29,7 +40,7 @@ pub struct Draft<'a> {
     /// The first row after the members.
     from: usize,
     total: u64,
-    scaled: bool,
+    weights: Weights,
 }
 
 impl<'a> Model for Draft<'a> {
@@ -64,7 +75,7 @@ impl<'a> Draft<'a> {
             members: Vec::new(alloc),
             from: 0,
             total: 0,
-            scaled: false,
+            weights: Weights::Plain,
         }
     }
 
@@ -74,7 +85,7 @@ impl<'a> Draft<'a> {
         ensures { Takes result self.old (line_view said.entry) self.new }
     {
         match said {
-            Line::Header(scaled) => self.begin(scaled),
+            Line::Header(weights) => self.begin(weights),
             Line::Row(row) => self.add_row(second_word(line), row),
             Line::Hold(hold) => self.add_hold(hold),
             Line::Price(price) => self.add_price(price),
@@ -84,13 +95,13 @@ impl<'a> Draft<'a> {
         }
     }
 
-    fn begin(&mut self, scaled: bool) -> Result<(), OrMemory<BadLine>>
-        ensures { Takes result self.old (HeaderLine scaled) self.new }
+    fn begin(&mut self, weights: Weights) -> Result<(), OrMemory<BadLine>>
+        ensures { Takes result self.old (HeaderLine weights) self.new }
     {
         match self.stage {
             Stage::Start => {
                 self.stage = Stage::Body;
-                self.scaled = scaled;
+                self.weights = weights;
                 Ok(())
             }
             _ => Err(OrMemory::Fault(BadLine)),
@@ -188,7 +199,7 @@ impl<'a> Draft<'a> {
 
     /// The total comes once each row has its set, and in two numbers where the first line says so.
     fn add_total(&mut self, total: Total) -> Result<(), OrMemory<BadLine>>
-        ensures { Takes result self.old (TotalLine total.scaled total.total) self.new }
+        ensures { Takes result self.old (TotalLine total.weights total.total) self.new }
     {
         let Stage::Body = self.stage else {
             return Err(OrMemory::Fault(BadLine));
@@ -196,7 +207,7 @@ impl<'a> Draft<'a> {
         if !self.is_held() {
             return Err(OrMemory::Fault(BadLine));
         }
-        if total.scaled != self.scaled {
+        if !are_same(total.weights, self.weights) {
             return Err(OrMemory::Fault(BadLine));
         }
         self.total = total.total;
@@ -277,12 +288,12 @@ impl<'a> Draft<'a> {
                     of_cpu: self.prices,
                 },
                 total: self.total,
-                scaled: self.scaled,
+                weights: self.weights,
             }),
             Stage::Shown => Some(Certificate::Short {
                 problem,
                 members: Members { rows: self.members },
-                scaled: self.scaled,
+                weights: self.weights,
             }),
             _ => None,
         }

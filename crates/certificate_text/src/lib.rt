@@ -19,7 +19,7 @@ mod stage;
 mod word_pairs;
 mod writing;
 
-pub use certificate::{Certificate, Members, Verdict, check};
+pub use certificate::{Certificate, Members, Verdict, Weights, check};
 pub use checking::{VerdictFault, check_text};
 pub use id::{ID_LIMIT, is_id};
 pub use reading::{BadText, read_text};

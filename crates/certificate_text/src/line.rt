@@ -8,15 +8,15 @@ ghost use Rattle.certificate_text.specs.OnBad.{OnBad};
 use crate::bad_line::BadLine;
 use crate::line_words::{Hold, Total, read_hold, read_price, read_row, read_short, read_total};
 use crate::split_once::split_once;
-use certificate::{Price, Row};
+use certificate::{Price, Row, Weights};
 use faults::OrMemory;
 use std::alloc::Global;
 
 /// What a line of a certificate says.
 #[derive(Drop)]
 pub enum Line<'a> {
-    /// The first line, and whether weights count moves besides the distance.
-    Header(bool),
+    /// The first line, by which the version says what weights count.
+    Header(Weights),
     Row(Row),
     Hold(Hold<'a>),
     Price(Price),
@@ -34,10 +34,10 @@ pub fn read_line(alloc: Global, line: &[u8]) -> Result<Line<'_>, OrMemory<BadLin
     ensures memory { IfErr result (λ fault. fault ≡ Memory → (row : RowView) × Spells line.now (RowLine row)) }
 {
     if line == b"numarun-certificate 1".as_slice() {
-        return Ok(Line::Header(false));
+        return Ok(Line::Header(Weights::Plain));
     }
     if line == b"numarun-certificate 2".as_slice() {
-        return Ok(Line::Header(true));
+        return Ok(Line::Header(Weights::WithMoves));
     }
     if line == b"end".as_slice() {
         return Ok(Line::End);

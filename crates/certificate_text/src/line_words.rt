@@ -1,7 +1,8 @@
-ghost use Rattle.std.specs.Prelude.{◌≡◌, ℕ, Bool, List, [], ◌∷◌, MatchOption, IfOk, IfErr};
+ghost use Rattle.std.specs.Prelude.{◌≡◌, ℕ, List, [], ◌∷◌, MatchOption, IfOk, IfErr};
 ghost use Rattle.cpu_set.specs.Ids.{Ids};
 ghost use Rattle.certificate.specs.RowView.{RowView};
 ghost use Rattle.certificate.specs.declared.price_lists.Price.{Price};
+ghost use Rattle.certificate.specs.declared.weights.Weights.{Weights};
 ghost use Rattle.faults.specs.declared.or_memory.OrMemory.TheVariants.{Memory};
 ghost use Rattle.certificate_text.specs.Line.{words, AreRowWords, AreHoldWords, ArePriceWords, AreMovesWords, SayTotal};
 ghost use Rattle.certificate_text.specs.OnBad.{OnBad};
@@ -13,7 +14,7 @@ use crate::list_word::read_cpus;
 use crate::offer::read_offers;
 use crate::split_once::split_once;
 use crate::word_pairs::{split_pair, split_triple};
-use certificate::{MOVE_SCALE, Offers, Price, Row};
+use certificate::{Cost, MOVE_SCALE, Offers, Price, Row, Weights};
 use cpu_set::IdSet;
 use faults::OrMemory;
 use std::alloc::Global;
@@ -77,30 +78,30 @@ pub fn read_price(text: &[u8]) -> Option<Price>
     Some(Price { amount, cpus })
 }
 
-/// A plan's total, and whether it counts moves besides the distance.
+/// A plan's total, and what it counts.
 #[derive(Clone, Copy)]
 pub struct Total {
-    pub scaled: bool,
+    pub weights: Weights,
     pub total: u64,
 }
 
 /// TOTAL, or DISTANCE moves MOVES.
 pub fn read_total(text: &[u8]) -> Option<Total>
-    ensures { MatchOption result ((scaled : Bool) (total : ℕ) → SayTotal scaled (words text.now) total → ⊥)
-        (λ t. SayTotal t.scaled (words text.now) t.total) }
+    ensures { MatchOption result ((weights : Weights) (total : ℕ) → SayTotal weights (words text.now) total → ⊥)
+        (λ t. SayTotal t.weights (words text.now) t.total) }
 {
     match split_once(text, b' ') {
         Some(_) => {
             let total = read_moves(text)?;
             Some(Total {
-                scaled: true,
+                weights: Weights::WithMoves,
                 total,
             })
         }
         None => {
             let total = read_u64(text)?;
             Some(Total {
-                scaled: false,
+                weights: Weights::Plain,
                 total,
             })
         }
@@ -115,14 +116,13 @@ fn read_moves(text: &[u8]) -> Option<u64>
     ensures { MatchOption result ((total : ℕ) → AreMovesWords (words text.now) total → ⊥)
         (λ total. AreMovesWords (words text.now) total) }
 {
-    let scale = u64::from(MOVE_SCALE);
     let (first, word, second) = split_triple(text, b' ')?;
     if word != b"moves".as_slice() {
         return None;
     }
     let distance = read_below(first, DISTANCE_LIMIT)?;
-    let moves = read_below(second, scale)?;
-    Some(distance * scale + moves)
+    let moves = read_below(second, u64::from(MOVE_SCALE))?;
+    Some(Cost { distance, moves }.pack())
 }
 
 /// ID.

@@ -10,7 +10,7 @@ ghost use Rattle.certificate_text.specs.Written.{offer_text, line_text, text_of,
 
 use crate::{Certificate, laws};
 use byte_output::{put, put_all, put_number};
-use certificate::{MOVE_SCALE, Offer, Offers, Price, PriceList, Prices, Row};
+use certificate::{Cost, Offer, Offers, Price, PriceList, Prices, Row, Weights};
 use cpu_list::write_list;
 use cpu_set::IdSet;
 use std::io;
@@ -123,35 +123,35 @@ fn put_members<W: Write>(rows: &[Row], members: &[usize], w: &mut W) -> io::Resu
 }
 
 /// The total and the last line.
-fn put_total<W: Write>(total: u64, scaled: bool, w: &mut W) -> io::Result<()>
-    ensures { Writes (W.contents w.old) (W.contents w.new) result (line_text (TotalLine scaled total) ++ line_text EndLine) }
+fn put_total<W: Write>(total: u64, weights: Weights, w: &mut W) -> io::Result<()>
+    ensures { Writes (W.contents w.old) (W.contents w.new) result (line_text (TotalLine weights total) ++ line_text EndLine) }
 {
-    if scaled {
-        let scale = u64::from(MOVE_SCALE);
-        put_number(b"total ", total / scale, b" moves ", w)?;
-        put_number(b"", total % scale, b"\nend\n", w)
-    } else {
-        put_number(b"total ", total, b"\nend\n", w)
+    match weights {
+        Weights::Plain => put_number(b"total ", total, b"\nend\n", w),
+        Weights::WithMoves => {
+            let cost = Cost::unpack(total);
+            put_number(b"total ", cost.distance, b" moves ", w)?;
+            put_number(b"", cost.moves, b"\nend\n", w)
+        }
     }
 }
 
-fn put_header<W: Write>(scaled: bool, w: &mut W) -> io::Result<()>
-    ensures { Writes (W.contents w.old) (W.contents w.new) result (line_text (HeaderLine scaled)) }
+fn put_header<W: Write>(weights: Weights, w: &mut W) -> io::Result<()>
+    ensures { Writes (W.contents w.old) (W.contents w.new) result (line_text (HeaderLine weights)) }
 {
-    if scaled {
-        put(b"numarun-certificate 2\n", w)
-    } else {
-        put(b"numarun-certificate 1\n", w)
+    match weights {
+        Weights::Plain => put(b"numarun-certificate 1\n", w),
+        Weights::WithMoves => put(b"numarun-certificate 2\n", w),
     }
 }
 
 /// The first line, and the rows.
-fn put_head<W: Write>(rows: &[Row], scaled: bool, w: &mut W) -> io::Result<()>
+fn put_head<W: Write>(rows: &[Row], weights: Weights, w: &mut W) -> io::Result<()>
     ensures written { Writes (W.contents w.old) (W.contents w.new) result
-        (line_text (HeaderLine scaled) ++ flat_map (λ row. line_text (RowLine row)) rows.now) }
+        (line_text (HeaderLine weights) ++ flat_map (λ row. line_text (RowLine row)) rows.now) }
     ensures held { OnOk result (All IsRowHeld rows.now) }
 {
-    put_header(scaled, w)?;
+    put_header(weights, w)?;
     put_rows(rows, w)
 }
 
@@ -160,31 +160,31 @@ fn write_plan<W: Write>(
     sets: &[IdSet],
     prices: &Prices,
     total: u64,
-    scaled: bool,
+    weights: Weights,
     w: &mut W,
 ) -> io::Result<()>
     requires sets { length sets.now ≡ length rows.now }
     requires values { length prices.now.values ≡ length rows.now }
-    ensures written { Writes (W.contents w.old) (W.contents w.new) result (text_of (Plan rows.now sets.now prices.now total scaled)) }
-    ensures held { OnOk result (IsHeld (Plan rows.now sets.now prices.now total scaled)) }
+    ensures written { Writes (W.contents w.old) (W.contents w.new) result (text_of (Plan rows.now sets.now prices.now total weights)) }
+    ensures held { OnOk result (IsHeld (Plan rows.now sets.now prices.now total weights)) }
 {
-    put_head(rows, scaled, w)?;
+    put_head(rows, weights, w)?;
     put_holds(rows, sets, prices.values.as_slice(), w)?;
     put_prices(&prices.of_cpu, w)?;
-    put_total(total, scaled, w)
+    put_total(total, weights, w)
 }
 
 fn write_shortage<W: Write>(
     rows: &[Row],
     members: &[usize],
-    scaled: bool,
+    weights: Weights,
     w: &mut W,
 ) -> io::Result<()>
     requires { All (λ k. k < length rows.now) members.now }
-    ensures written { Writes (W.contents w.old) (W.contents w.new) result (text_of (Short rows.now members.now scaled)) }
-    ensures held { OnOk result (IsHeld (Short rows.now members.now scaled)) }
+    ensures written { Writes (W.contents w.old) (W.contents w.new) result (text_of (Short rows.now members.now weights)) }
+    ensures held { OnOk result (IsHeld (Short rows.now members.now weights)) }
 {
-    put_head(rows, scaled, w)?;
+    put_head(rows, weights, w)?;
     put_members(rows, members, w)?;
     put(b"end\n", w)
 }
@@ -200,20 +200,25 @@ fn write_text_body<W: Write>(certificate: &Certificate, w: &mut W) -> io::Result
             plan,
             prices,
             total,
-            scaled,
+            weights,
         } => write_plan(
             problem.rows.as_slice(),
             plan.sets.as_slice(),
             prices,
             *total,
-            *scaled,
+            *weights,
             w,
         ),
         Certificate::Short {
             problem,
             members,
-            scaled,
-        } => write_shortage(problem.rows.as_slice(), members.rows.as_slice(), *scaled, w),
+            weights,
+        } => write_shortage(
+            problem.rows.as_slice(),
+            members.rows.as_slice(),
+            *weights,
+            w,
+        ),
     }
 }
 

@@ -1,6 +1,5 @@
 pub mod Below
 pub mod Canonical
-pub mod Digits
 pub mod Pieces
 pub mod PlainItems
 pub mod PlainText

@@ -1,4 +1,4 @@
-//! What holds of the definitions alone.
+//! Laws over the definitions alone: nothing here runs.
 ghost use Rattle.cpu_list.specs.CanonicalLaws.{TextIsCanonical, OneCanonicalText, CanonicalReadsAgain, TextIsPlain, TextLacks, TextIsEmpty};
 ghost use Rattle.cpu_list.specs.FirstFault.{NoneWhereList, FirstDecides};
 ghost use Rattle.cpu_list.specs.ListText.{ListIsBelow};

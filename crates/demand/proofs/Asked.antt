@@ -1,7 +1,7 @@
 -- The last check, and what it leaves: a pinned container, or a shared one.
 use Rattle.std.proofs.Common.{◌≡◌, ℕ, zero, suc, ◌≤◌, Bool, true, false, ◌||◌, Option, Some, None, refl, sym, ap, ◌∙◌, arith}
 use Rattle.std.specs.Prelude.{is_some, unwrap_or}
-use Rattle.std.proofs.lemmas.Bool.{false≢true}
+use Rattle.std.proofs.lemmas.Bool.{false≢true, both_ways}
 use Rattle.std.specs.FinSet as set
 use Rattle.cpu_set.specs.Ids.{Ids}
 use Rattle.cpu_set.specs.Pointwise.{contains-empty}
@@ -89,9 +89,6 @@ pinned_count limit period allowed None is few some = (has_one allowed (set.len a
 pinned_count None period allowed (Some n) is few some = absurd is
 pinned_count (Some limit) period allowed (Some n) is few some = (asks_for_one limit period n is.0, is.1, some)
 
-true_and_false : (b : Bool) → b ≡ false → b ≡ true → ⊥
-true_and_false b is_false is_true = false≢true (sym is_false ∙ is_true)
-
 -- a pinned container's demand fits the machine
 pub pinned_fits :
     (m : Layout) (limit : Option ℕ) (period : ℕ) (cpus allowed homes : Ids) (count : Option ℕ) (asked : ℕ)
@@ -104,13 +101,13 @@ pinned_fits m limit period cpus allowed homes count asked is are_allowed are_hom
     record {
       kind = rw asks (pinned_count limit period allowed count is few some);
       homes = are_homes;
-      unreserved = λ c has reserved. true_and_false _ (each c has).unreserved reserved;
+      unreserved = λ c has reserved. both_ways _ (each c has).unreserved reserved;
       present = λ c has. (each c has).present;
       in_reach = λ c has. (each c has).in_reach;
     }
 
 none_has : (s : Ids) (c : ℕ) → s ≡ set.empty → set.contains s c ≡ true → ⊥
-none_has s c none has = true_and_false _ (contains-empty c) (ap (λ t. set.contains t c) (sym none) ∙ has)
+none_has s c none has = both_ways _ (contains-empty c) (ap (λ t. set.contains t c) (sym none) ∙ has)
 
 -- and so does a shared one's
 pub shared_fits :

@@ -1,6 +1,6 @@
 -- The free CPUs and the allowed ones, number by number.
 use Rattle.std.proofs.Common.{◌≡◌, ℕ, ◌<◌, Bool, true, false, not, ◌&&◌, ◌||◌, nat_lt, refl, sym, ap, ◌∙◌, arith}
-use Rattle.std.proofs.lemmas.Bool.{false≢true}
+use Rattle.std.proofs.lemmas.Bool.{false≢true, and_parts, not-true}
 use Rattle.std.proofs.lemmas.Bool.Decides.{nat_tests}
 use Rattle.std.specs.FinSet as set
 use Rattle.cpu_set.specs.Ids.{Ids, is_empty}
@@ -45,21 +45,13 @@ free_of_named m cpus some c =
 
 pub ruleset free_cpus = (free_of_all, free_of_named)
 
-both_true : (a b : Bool) → (a && b) ≡ true → (a ≡ true) × (b ≡ true)
-both_true true b is = (refl, is)
-both_true false b is = absurd (false≢true is)
-
 -- a free CPU is present
 pub free_is_present : (m : Layout) (cpus : Ids) (c : ℕ) → is_free m cpus c ≡ true → IsPresent m c
-free_is_present m cpus c free = (both_true _ _ (both_true _ _ free).0).0
-
-false_of_not : (b : Bool) → not b ≡ true → b ≡ false
-false_of_not false is = refl
-false_of_not true is = absurd (false≢true is)
+free_is_present m cpus c free = (and_parts _ _ (and_parts _ _ free).0).0
 
 -- and not reserved
 pub free_is_unreserved : (m : Layout) (cpus : Ids) (c : ℕ) → is_free m cpus c ≡ true → set.contains m.reserved c ≡ false
-free_is_unreserved m cpus c free = false_of_not _ (both_true _ _ free).1
+free_is_unreserved m cpus c free = not-true _ (and_parts _ _ free).1
 
 lower : (a b : ℕ) → nat_lt a b ≡ true → a < b
 lower a b is = grind (arith, nat_tests)
@@ -97,7 +89,7 @@ pub record IsGiven (m : Layout) (homes : Ids) (c : ℕ) : Type 0 where
 
 given : (m : Layout) (cpus homes : Ids) (c : ℕ) → is_allowed m cpus homes c ≡ true → IsGiven m homes c
 given m cpus homes c is =
-    let parts : (is_free m cpus c ≡ true) × (nat_lt (weight m homes c) 255 ≡ true) = both_true _ _ is in
+    let parts : (is_free m cpus c ≡ true) × (nat_lt (weight m homes c) 255 ≡ true) = and_parts _ _ is in
     record {
       present = free_is_present m cpus c parts.0;
       unreserved = free_is_unreserved m cpus c parts.0;
@@ -107,4 +99,4 @@ given m cpus homes c is =
 pub allowed_is_given : (m : Layout) (cpus homes : Ids) (c : ℕ) → set.contains (allowed_by m cpus homes) c ≡ true → IsGiven m homes c
 unfolding allowed_by
 allowed_is_given m cpus homes c has =
-    given m cpus homes c (both_true _ _ (sym (contains-those (is_allowed m cpus homes) CPU_LIMIT c) ∙ has)).1
+    given m cpus homes c (and_parts _ _ (sym (contains-those (is_allowed m cpus homes) CPU_LIMIT c) ∙ has)).1

@@ -1,6 +1,6 @@
 -- Which sets are within which.
 use Rattle.std.proofs.Common.{◌≡◌, Bool, true, false, ◌&&◌, ◌↔◌, ◌≢◌, not, refl, sym, ap, ◌∙◌, eq-eqb}
-use Rattle.std.proofs.lemmas.Bool.{true≢false, false≢true, false_from_ne_true, ne_eqb}
+use Rattle.std.proofs.lemmas.Bool.{true≢false, false≢true, false_from_ne_true, ne_eqb, and_parts}
 use Rattle.std.specs.Ordering.{nat_cmp}
 use Rattle.std.specs.FinSet as set
 use Rattle.cpu_set.specs.Ids.{Ids, is_empty}
@@ -11,15 +11,10 @@ pub is_subset-trans : (r s t : Ids) → set.is_subset r s ≡ true → set.is_su
 is_subset-trans r s t inner outer =
     contains-is_subset r t (λ q member. is_subset-contains s t outer q (is_subset-contains r s inner q member))
 
-both : (a b : Bool) → (a && b) ≡ true → (a ≡ true) × (b ≡ true)
-both true true e = (refl, refl)
-both true false e = absurd (false≢true e)
-both false b e = absurd (false≢true e)
-
 -- what is left of a set is within it
 pub is_subset-difference : (s t : Ids) → set.is_subset (set.difference s t) s ≡ true
 is_subset-difference s t =
-    contains-is_subset (set.difference s t) s (λ q left. (both _ _ (sym (contains-difference s t q) ∙ left)).0)
+    contains-is_subset (set.difference s t) s (λ q left. (and_parts _ _ (sym (contains-difference s t q) ∙ left)).0)
 
 left_over : (a b : Bool) → a ≡ true → b ≡ false → (a && not b) ≡ true
 left_over a b e f = rw (e, f) refl
@@ -31,7 +26,7 @@ pub is_subset-left :
 is_subset-left r s t within taken =
     contains-is_subset r (set.difference s t) (λ q in_r. contains-difference s t q
     ∙ left_over _ _ (is_subset-contains r s within q in_r) (false_from_ne_true _ (λ in_t.
-    let outside = both _ _ (sym (contains-difference s r q) ∙ is_subset-contains t (set.difference s r) taken q in_t) in
+    let outside = and_parts _ _ (sym (contains-difference s r q) ∙ is_subset-contains t (set.difference s r) taken q in_t) in
     true≢false (sym outside.1 ∙ ap not in_r))))
 
 -- a set with a member is not empty

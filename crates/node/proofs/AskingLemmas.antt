@@ -1,6 +1,6 @@
 -- The rows of the live pinned containers: what holds of each, and whose it is.
 use Rattle.std.proofs.Common.{◌≡◌, ◌≢◌, ℕ, zero, suc, ◌+◌, ◌*◌, ◌<◌, ◌≤◌, Bool, true, false, cond, ◌&&◌, nat_lt, nat_le, List, [], ◌∷◌, ◌++◌, length, map, Option, Some, None, is_some, option_map, refl, sym, ap, ◌∙◌, subst, sum_by, arith}
-use Rattle.std.proofs.lemmas.Bool.{true≢false, false≢true}
+use Rattle.std.proofs.lemmas.Bool.{true≢false, false≢true, and_from}
 use Rattle.std.proofs.lemmas.Bool.Decides.{nat_tests}
 use Rattle.std.proofs.lemmas.List.{append-nil}
 use Rattle.std.proofs.lemmas.List.Concat.{flat_map-cons}
@@ -25,7 +25,8 @@ use Rattle.demand.specs.declared.Kind.TheVariants.{Pinned, Shared}
 use Rattle.demand.specs.declared.Demand.{Demand}
 use Rattle.demand.specs.FitsMachine.{FitsMachine}
 use Rattle.certificate.specs.declared.Offer.{Offer}
-use Rattle.certificate.specs.declared.limits.TheConstants.{MAX_ROWS, MOVE_SCALE}
+use Rattle.certificate.specs.declared.limits.TheConstants.{MAX_ROWS}
+use Rattle.certificate.specs.Packed.{packed}
 use Rattle.certificate.specs.RowView.{RowView}
 use Rattle.certificate.specs.Weight.{weight}
 use Rattle.certificate.specs.Limits.{row_fits, rows_fit}
@@ -231,13 +232,10 @@ module _ (k : KernelState) (m : Layout) where
     pub rows_few : length containers ≤ CONTAINER_LIMIT → length (scaled_rows_in k m containers) ≤ MAX_ROWS
     rows_few few = omega (arith, few, fewer_given (scaled_row_of_container k m) containers)
 
-both_pass : (a b : Bool) → a ≡ true → b ≡ true → (a && b) ≡ true
-both_pass a b e f = rw e f
-
 -- rows that fit one by one, and are not too many, fit
 pub all_fit : (rows : List RowView) → length rows ≤ MAX_ROWS → list_all row_fits rows ≡ true → rows_fit rows ≡ true
 unfolding rows_fit
-all_fit rows few each = both_pass (nat_le (length rows) MAX_ROWS) (list_all row_fits rows) (grind (arith, nat_tests)) each
+all_fit rows few each = and_from (nat_le (length rows) MAX_ROWS) (list_all row_fits rows) (grind (arith, nat_tests)) each
 
 -- the rows made so far, and those of the containers that are left
 pub record IsSoFar (k : KernelState) (m : Layout) (all left : List (String Global × TheContainer)) (rows : List RowView) : Type 0 where
@@ -333,8 +331,8 @@ module _ (k : KernelState) (m : Layout) where
           id = (made m k.tree.online e.0 e.1.demand row is).id_is;
           demand = w.demand;
           weights = λ cpu.
-              parts (requested_by k e) row cpu ∙ ap (option_map (λ w. w * MOVE_SCALE + unheld k e cpu)) (w.weights cpu)
-              ∙ map_where (λ w. w * MOVE_SCALE + unheld k e cpu) (is_allowed k cpu e) (home m e cpu);
+              parts (requested_by k e) row cpu ∙ ap (option_map (λ w. packed w (unheld k e cpu))) (w.weights cpu)
+              ∙ map_where (λ w. packed w (unheld k e cpu)) (is_allowed k cpu e) (home m e cpu);
         }
 
 module _ (n : NodeState) (h : IsNode n) (weigh : RowsWeigh) where

@@ -2,7 +2,6 @@
 use Rattle.std.proofs.Common.{◌≡◌, ℕ, ◌+◌, ◌*◌, ◌/◌, ◌%◌, ◌<◌, ◌≤◌, Bool, true, false, cond, not, ◌&&◌, List, [], ◌∷◌, length, filter, option_map, refl, sym, ap, ◌∙◌, subst, sum_by, arith}
 use Rattle.std.proofs.lemmas.Bool.{and_from, and_parts}
 use Rattle.std.proofs.lemmas.List.Sums.{sum_by-cons}
-use Rattle.std.proofs.lemmas.Nat.{div-mul-add}
 use Rattle.std.specs.Prelude.{zip, Result, Ok, Err, IfOk}
 use Rattle.std.specs.List.{AllByRecursion, AllZip, list_all}
 use Rattle.std.specs.FinSet as set
@@ -19,15 +18,19 @@ use Rattle.certificate.specs.IsProved.{IsProved}
 use Rattle.certificate.specs.IsShortage.{IsShortage}
 use Rattle.certificate.specs.Cost.{cost}
 use Rattle.certificate.specs.Limits.{rows_fit}
-use Rattle.certificate.specs.Scaled.{with_weights, by_distance, by_moves, is_scaled, are_scaled, CostSplits, MovesAreFew, LeastIsNearest}
+use Rattle.certificate.specs.Scaled.{with_weights, by_distance, by_moves, is_scaled, are_scaled}
+use Rattle.certificate.specs.TwoCosts.{cost_splits, moves_are_few, least_is_nearest}
 use Rattle.certificate.specs.declared.limits.TheConstants.{MOVE_SCALE}
+use Rattle.certificate.specs.Packed.{packed, distance_of, moves_of, distance_of-packed}
 use Rattle.certificate.specs.Verdict.{AreParts}
 use Rattle.certificate.specs.declared.certificates.Certificate.{Certificate}
 use Rattle.certificate.specs.declared.certificates.Certificate.TheVariants.{Plan, Short}
 use Rattle.certificate_text.specs.Written.{CanWrite}
 use Rattle.node.specs.Decides.{Decides, DecidesPlan, DecidesShort}
-use Rattle.rows.specs.Scaled.{DistancesStay, MovesAreUnheld, PartsAreScaled, ScaledRowsWeigh}
 use Rattle.rows.specs.Weighs.{RowsWeigh}
+use Rattle.rows.specs.LimitLemmas.{rows_weigh}
+use Rattle.rows.specs.PartLemmas.{scaled_rows_weigh, distances_stay, moves_are_unheld}
+use Rattle.rows.specs.PartRising.{parts_are_scaled}
 use Rattle.kernel_model.specs.KernelState.{KernelState}
 use Rattle.node.specs.NodeState.{NodeState}
 use Rattle.node.specs.IsNode.{ProvesItself, IsKept, IsNode}
@@ -78,8 +81,8 @@ all_true p (x ∷ xs) h = and_from (p x) (list_all p xs) h.0 (all_true p xs h.1)
 
 -- the CPUs of a set that a container's group does not request
 module _ (k : KernelState) where
-  moves_of : (e : Container) (s : Ids) → InRange s → sum_by (unheld k e) (members s) ≡ moved_by k e s
-  moves_of e s range =
+  unheld_are_moved : (e : Container) (s : Ids) → InRange s → sum_by (unheld k e) (members s) ≡ moved_by k e s
+  unheld_are_moved e s range =
       let held : Ids = requested_by k e in
       let in_range : InRange (set.difference s held) =
       λ c has. range c (and_parts (set.contains s c) (not (set.contains held c)) (sym (contains-difference s held c) ∙ has)).0 in
@@ -95,33 +98,33 @@ module _ (k : KernelState) where
         arith,
         sum_by-cons (λ p. sum_by (unheld k p.0) (members p.1)) (e, s) (zip es sets),
         sum_by-cons (λ p. moved_by k p.0 p.1) (e, s) (zip es sets),
-        moves_of e s range.0,
+        unheld_are_moved e s range.0,
         all_moves es sets range.1,
       )
 
-module _ (n : NodeState) (h : IsNode n) (weigh : RowsWeigh) (parts : ScaledRowsWeigh) (distances : DistancesStay) (unheld_move : MovesAreUnheld) (are : PartsAreScaled) where
+module _ (n : NodeState) (h : IsNode n) where
   abbrev rows : List RowView
   rows = scaled_rows_of n
 
   -- the scaled rows by distance, and by moves
   by_home : AllZip (IsWeighed n.kernel (home n.machine)) (by_distance rows) (asking n)
   by_home =
-      zip_of_map (IsWeighed n.kernel (home n.machine)) (with_weights (λ w. w / MOVE_SCALE)) rows (asking n)
-      (scaled_with_asking n.kernel n.machine (λ row e. IsWeighed n.kernel (home n.machine) (with_weights (λ w. w / MOVE_SCALE) row) e)
+      zip_of_map (IsWeighed n.kernel (home n.machine)) (with_weights distance_of) rows (asking n)
+      (scaled_with_asking n.kernel n.machine (λ row e. IsWeighed n.kernel (home n.machine) (with_weights distance_of row) e)
       (λ e row fits is.
-      let w : IsWeighed n.kernel (home n.machine) row e = weighed n.kernel n.machine weigh e row fits is in
-      record { demand = w.demand; weights = λ cpu. distances (requested_by n.kernel e) row cpu ∙ w.weights cpu }) n.containers h.asked)
+      let w : IsWeighed n.kernel (home n.machine) row e = weighed n.kernel n.machine rows_weigh e row fits is in
+      record { demand = w.demand; weights = λ cpu. distances_stay (requested_by n.kernel e) row cpu ∙ w.weights cpu }) n.containers h.asked)
 
   by_unheld : AllZip (IsWeighed n.kernel (unheld n.kernel)) (by_moves rows) (asking n)
   by_unheld =
-      zip_of_map (IsWeighed n.kernel (unheld n.kernel)) (with_weights (λ w. w % MOVE_SCALE)) rows (asking n)
-      (scaled_with_asking n.kernel n.machine (λ row e. IsWeighed n.kernel (unheld n.kernel) (with_weights (λ w. w % MOVE_SCALE) row) e)
+      zip_of_map (IsWeighed n.kernel (unheld n.kernel)) (with_weights moves_of) rows (asking n)
+      (scaled_with_asking n.kernel n.machine (λ row e. IsWeighed n.kernel (unheld n.kernel) (with_weights moves_of row) e)
       (λ e row fits is.
-      let w : IsWeighed n.kernel (home n.machine) row e = weighed n.kernel n.machine weigh e row fits is in
+      let w : IsWeighed n.kernel (home n.machine) row e = weighed n.kernel n.machine rows_weigh e row fits is in
       record {
         demand = w.demand;
         weights = λ cpu.
-            unheld_move (requested_by n.kernel e) row cpu ∙ ap (option_map (λ _. unheld n.kernel e cpu)) (w.weights cpu)
+            moves_are_unheld (requested_by n.kernel e) row cpu ∙ ap (option_map (λ _. unheld n.kernel e cpu)) (w.weights cpu)
             ∙ map_where (λ _. unheld n.kernel e cpu) (is_allowed n.kernel cpu e) (home n.machine e cpu);
       }) n.containers h.asked)
 
@@ -131,7 +134,7 @@ module _ (n : NodeState) (h : IsNode n) (weigh : RowsWeigh) (parts : ScaledRowsW
       (all_given (scaled_row_of_container n.kernel n.machine) (λ e. Unit {0}) (λ row. list_all is_scaled row.offers ≡ true)
       (λ e row _ is.
       let p = of_parts n.kernel n.machine e row is in
-      subst (λ (r : RowView). list_all is_scaled r.offers ≡ true) p.row_is (are (requested_by n.kernel e) p.plain.offers)) n.containers
+      subst (λ (r : RowView). list_all is_scaled r.offers ≡ true) p.row_is (parts_are_scaled (requested_by n.kernel e) p.plain.offers)) n.containers
       (all_of (λ e. Unit {0}) (λ e. tt) n.containers))
 
   far : (sets : List Ids) → CouldHave n sets → cost (by_distance rows) sets ≡ total_distance n sets
@@ -143,9 +146,9 @@ module _ (n : NodeState) (h : IsNode n) (weigh : RowsWeigh) (parts : ScaledRowsW
       cost_is_summed n (unheld n.kernel) (by_moves rows) by_unheld sets (could_plan n (unheld n.kernel) (by_moves rows) by_unheld sets could)
       ∙ all_moves n.kernel (asking n) sets could.numbers
 
-  module _ (splits : CostSplits) (few : MovesAreFew) (nearest : LeastIsNearest) (sets : List Ids) (least : IsLeast rows sets) where
+  module _ (sets : List Ids) (least : IsLeast rows sets) where
     near : IsLeast (by_distance rows) sets
-    near = (nearest rows sets rows_are_scaled least).0
+    near = (least_is_nearest rows sets rows_are_scaled least).0
 
     could : CouldHave n sets
     could = plan_could n (home n.machine) (by_distance rows) by_home sets near.plan
@@ -154,19 +157,19 @@ module _ (n : NodeState) (h : IsNode n) (weigh : RowsWeigh) (parts : ScaledRowsW
     small : moved n sets < MOVE_SCALE
     small =
         let moved_is : cost (by_moves rows) sets ≡ moved n sets = moves sets could in
-        let at_most : cost (by_moves rows) sets ≤ CPU_LIMIT = few rows sets rows_are_scaled least.plan in
+        let at_most : cost (by_moves rows) sets ≤ CPU_LIMIT = moves_are_few rows sets rows_are_scaled least.plan in
         omega (arith, moved_is, at_most)
 
-    whole_is : (whole : ℕ) → cost rows sets ≡ whole → whole ≡ total_distance n sets * MOVE_SCALE + moved n sets
-    whole_is whole costs = omega (arith, costs, splits rows sets, far sets could, moves sets could)
+    whole_is : (whole : ℕ) → cost rows sets ≡ whole → whole ≡ packed (total_distance n sets) (moved n sets)
+    whole_is whole costs = omega (arith, costs, cost_splits rows sets, far sets could, moves sets could)
 
-    distance_is : (whole : ℕ) → cost rows sets ≡ whole → whole / MOVE_SCALE ≡ total_distance n sets
-    distance_is whole costs = ap (λ w. w / MOVE_SCALE) (whole_is whole costs) ∙ div-mul-add (total_distance n sets) MOVE_SCALE (moved n sets) small
+    distance_is : (whole : ℕ) → cost rows sets ≡ whole → distance_of whole ≡ total_distance n sets
+    distance_is whole costs = ap distance_of (whole_is whole costs) ∙ distance_of-packed (total_distance n sets) (moved n sets) small
 
-    are_parts : (whole : ℕ) → cost rows sets ≡ whole → AreParts whole (whole / MOVE_SCALE) (moved n sets)
+    are_parts : (whole : ℕ) → cost rows sets ≡ whole → AreParts whole (distance_of whole) (moved n sets)
     are_parts whole costs = record {
       moves_fit = small;
-      whole = whole_is whole costs ∙ ap (λ (d : ℕ). d * MOVE_SCALE + moved n sets) (sym (distance_is whole costs));
+      whole = whole_is whole costs ∙ ap (λ (d : ℕ). packed d (moved n sets)) (sym (distance_is whole costs));
     }
 
     are_best : (total : ℕ) → total ≡ total_distance n sets → IsBest n total sets
@@ -176,41 +179,40 @@ module _ (n : NodeState) (h : IsNode n) (weigh : RowsWeigh) (parts : ScaledRowsW
       nearest = λ others other.
           omega (arith, is, far sets could, far others other, near.least others (could_plan n (home n.machine) (by_distance rows) by_home others other));
       fewest = λ others other same.
-          let plan : IsPlan rows others = could_plan n (moving_weight n.kernel n.machine) rows (scaled_are_weighed n h weigh parts) others other in
+          let plan : IsPlan rows others = could_plan n (moving_weight n.kernel n.machine) rows (scaled_are_weighed n h rows_weigh scaled_rows_weigh) others other in
           let as_near : cost (by_distance rows) others ≡ cost (by_distance rows) sets = far others other ∙ same ∙ is ∙ sym (far sets could) in
-          omega (arith, moves sets could, moves others other, (nearest rows sets rows_are_scaled least).1 others plan as_near);
+          omega (arith, moves sets could, moves others other, (least_is_nearest rows sets rows_are_scaled least).1 others plan as_near);
     }
 
-  module _ (splits : CostSplits) (few : MovesAreFew) (nearest : LeastIsNearest) where
-    is_answer : (sets : List Ids) (prices : PricesView) (whole : ℕ) → DecidesPlan rows sets prices whole → IsAnswer n rows sets prices whole
-    is_answer sets prices whole d =
-        let best : IsBest n (whole / MOVE_SCALE) sets =
-        are_best splits few nearest sets d.least (whole / MOVE_SCALE) (distance_is splits few nearest sets d.least whole d.proved.costs) in
-        record {
-          rows_are = refl;
-          decides = d;
-          least = best_least n h weigh (whole / MOVE_SCALE) sets best;
-          best = best;
-          parts = are_parts splits few nearest sets d.least whole d.proved.costs;
-        }
+  is_answer : (sets : List Ids) (prices : PricesView) (whole : ℕ) → DecidesPlan rows sets prices whole → IsAnswer n rows sets prices whole
+  is_answer sets prices whole d =
+      let best : IsBest n (distance_of whole) sets =
+      are_best sets d.least (distance_of whole) (distance_is sets d.least whole d.proved.costs) in
+      record {
+        rows_are = refl;
+        decides = d;
+        least = best_least n h rows_weigh (distance_of whole) sets best;
+        best = best;
+        parts = are_parts sets d.least whole d.proved.costs;
+      }
 
-    pub comes_to : (c : Certificate) → Decides rows c → ComesTo n c
-    comes_to (Plan own sets prices whole said) d =
-        (d.1, subst (λ (rs : List RowView). IsAnswer n rs sets prices whole) (sym d.0) (is_answer sets prices whole d.2))
-    comes_to (Short own named said) d = (d.1, d.0, subst (λ (rs : List RowView). DecidesShort rs named) (sym d.0) d.2)
+  pub comes_to : (c : Certificate) → Decides rows c → ComesTo n c
+  comes_to (Plan own sets prices whole said) d =
+      (d.1, subst (λ (rs : List RowView). IsAnswer n rs sets prices whole) (sym d.0) (is_answer sets prices whole d.2))
+  comes_to (Short own named said) d = (d.1, d.0, subst (λ (rs : List RowView). DecidesShort rs named) (sym d.0) d.2)
 
-    pub proves_itself : rows_fit rows ≡ true → (c : Certificate) → Decides rows c → ProvesItself c
-    proves_itself fit (Plan own sets prices whole said) d =
-        (d.1, ap are_scaled d.0 ∙ rows_are_scaled, subst (λ (rs : List RowView). IsProved rs sets prices whole) (sym d.0) d.2.proved)
-    proves_itself fit (Short own named said) d =
-        (d.1, ap are_scaled d.0 ∙ rows_are_scaled, ap rows_fit d.0 ∙ fit, subst (λ (rs : List RowView). IsShortage rs named) (sym d.0) d.2.shortage)
+  pub proves_itself : rows_fit rows ≡ true → (c : Certificate) → Decides rows c → ProvesItself c
+  proves_itself fit (Plan own sets prices whole said) d =
+      (d.1, ap are_scaled d.0 ∙ rows_are_scaled, subst (λ (rs : List RowView). IsProved rs sets prices whole) (sym d.0) d.2.proved)
+  proves_itself fit (Short own named said) d =
+      (d.1, ap are_scaled d.0 ∙ rows_are_scaled, ap rows_fit d.0 ∙ fit, subst (λ (rs : List RowView). IsShortage rs named) (sym d.0) d.2.shortage)
 
-    -- so does what the program makes of its problem, unless memory is wanting
-    module _ {E : Type 0} (problem : List RowView) (is : problem ≡ rows) where
-      pub all_come : (r : Result Certificate E) → IfOk r (Decides problem) → IfOk r (ComesTo n)
-      all_come (Ok c) d = comes_to c (subst (λ (rs : List RowView). Decides rs c) is d)
-      all_come (Err e) d = tt
+  -- so does what the program makes of its problem, unless memory is wanting
+  module _ {E : Type 0} (problem : List RowView) (is : problem ≡ rows) where
+    pub all_come : (r : Result Certificate E) → IfOk r (Decides problem) → IfOk r (ComesTo n)
+    all_come (Ok c) d = comes_to c (subst (λ (rs : List RowView). Decides rs c) is d)
+    all_come (Err e) d = tt
 
-      pub all_kept : rows_fit problem ≡ true → (r : Result Certificate E) → IfOk r (Decides problem) → IfOk r CanWrite → IfOk r IsKept
-      all_kept fit (Ok c) d can = (can, proves_itself (ap rows_fit (sym is) ∙ fit) c (subst (λ (rs : List RowView). Decides rs c) is d))
-      all_kept fit (Err e) d can = tt
+    pub all_kept : rows_fit problem ≡ true → (r : Result Certificate E) → IfOk r (Decides problem) → IfOk r CanWrite → IfOk r IsKept
+    all_kept fit (Ok c) d can = (can, proves_itself (ap rows_fit (sym is) ∙ fit) c (subst (λ (rs : List RowView). Decides rs c) is d))
+    all_kept fit (Err e) d can = tt

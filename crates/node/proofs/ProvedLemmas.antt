@@ -1,12 +1,11 @@
 -- What is kept proves its verdict.
-use Rattle.std.proofs.Common.{◌≡◌, ◌/◌, ◌%◌, ℕ, true, false, Option, refl, ap, subst, sym, ◌∙◌, arith}
-use Rattle.std.proofs.lemmas.Bool.{false≢true}
-use Rattle.std.proofs.lemmas.Nat.{div-add-mod'}
+use Rattle.std.proofs.Common.{◌≡◌, ℕ, Option, refl, ap, subst, sym, ◌∙◌, arith}
 use Rattle.std.proofs.Math.Nat.{mod-lt}
 use Rattle.std.specs.Prelude.{IfSome}
 use Rattle.std.specs.FinSet as set
 use Rattle.certificate.specs.IsShortage.{chosen}
-use Rattle.certificate.specs.declared.limits.TheConstants.{MOVE_SCALE}
+use Rattle.certificate.specs.Packed.{distance_of, moves_of, packed-parts}
+use Rattle.certificate.specs.declared.weights.Weights.TheVariants.{Plain, WithMoves}
 use Rattle.certificate.specs.Verdict.{AreParts, IsProvedCertificate}
 use Rattle.certificate.specs.declared.certificates.Certificate.{Certificate}
 use Rattle.certificate.specs.declared.certificates.Certificate.TheVariants as certificate
@@ -24,14 +23,17 @@ use Rattle.node.specs.Proved.{LastIsProved, TotalIsProved, ShortIsProved, verdic
 use Rattle.node.proofs.AskingLemmas.{offered_len}
 
 -- a total is its parts
-are_parts : (total : ℕ) → AreParts total (total / MOVE_SCALE) (total % MOVE_SCALE)
-are_parts total = record { moves_fit = mod-lt total (omega arith); whole = sym (div-add-mod' total MOVE_SCALE) }
+are_parts : (total : ℕ) → AreParts total (distance_of total) (moves_of total)
+are_parts total = record { moves_fit = mod-lt total (omega arith); whole = sym (packed-parts total) }
+
+plain_is_not : Plain ≡ WithMoves → ⊥
+plain_is_not same = cc
 
 proves : (c : Certificate) → ProvesItself c → IsProvedCertificate c (verdict_of c)
-proves (certificate.Plan rows sets prices total true) p = (p.1, p.2, are_parts total)
-proves (certificate.Plan rows sets prices total false) p = absurd (false≢true p.0)
-proves (certificate.Short rows members true) p = (p.1, record { limits = p.2; shortage = p.3; asks = refl; has = refl })
-proves (certificate.Short rows members false) p = absurd (false≢true p.0)
+proves (certificate.Plan rows sets prices total WithMoves) p = (p.1, p.2, are_parts total)
+proves (certificate.Plan rows sets prices total Plain) p = absurd (plain_is_not p.0)
+proves (certificate.Short rows members WithMoves) p = (p.1, record { limits = p.2; shortage = p.3; asks = refl; has = refl })
+proves (certificate.Short rows members Plain) p = absurd (plain_is_not p.0)
 
 pub last_is_proved : WrittenReadsAgain → LastIsProved
 last_is_proved again n h c is held =

@@ -1,5 +1,5 @@
 -- Whose the rows of a problem are.
-use Rattle.std.specs.Prelude.{◌≡◌, ℕ, ◌+◌, ◌*◌, cond, List, Some, None, is_some}
+use Rattle.std.specs.Prelude.{◌≡◌, ℕ, cond, List, Some, None, is_some}
 use Rattle.std.specs.List.{AllZip}
 use Rattle.std.specs.FinSet as set
 use Rattle.cpu_set.specs.Ids.{Ids}
@@ -8,7 +8,7 @@ use Rattle.machine.specs.Layout.{Layout}
 use Rattle.machine.specs.Weight.{weight as distance_home}
 use Rattle.certificate.specs.RowView.{RowView}
 use Rattle.certificate.specs.Weight.{weight}
-use Rattle.certificate.specs.declared.limits.TheConstants.{MOVE_SCALE}
+use Rattle.certificate.specs.Packed.{packed}
 use Rattle.rows.specs.RowOf.{row_of}
 use Rattle.node.specs.NodeState.{ContainerState, NodeState}
 use Rattle.node.specs.IsNode.{IsNode}
@@ -25,10 +25,10 @@ pub record IsRowOf (k : KernelState) (m : Layout) (row : RowView) (e : List ℕ 
   pub demand : row.demand ≡ wanted_by e.1.demand.kind
   pub offers : (cpu : ℕ) → is_some (weight row cpu) ≡ is_allowed k cpu e
 
--- what a CPU is to cost a container: its distance to the nearest home, scaled, and one more where the container's group does
--- not request it
+-- what a CPU is to cost a container: its distance to the nearest home, and a move where the container's group does not
+-- request it
 abbrev pub moving_weight : KernelState → Layout → List ℕ × ContainerState → ℕ → ℕ
-moving_weight k m e cpu = distance_home m e.1.demand.homes cpu * MOVE_SCALE + cond (set.contains (requested_by k e) cpu) 0 1
+moving_weight k m e cpu = packed (distance_home m e.1.demand.homes cpu) (cond (set.contains (requested_by k e) cpu) 0 1)
 
 -- a scaled row is a container's: it has its id and asks for what it asks for; each CPU that the container is allowed and that
 -- is online weighs so much in it, and no other CPU is offered

@@ -63,7 +63,7 @@ pub record IsBest (n : NodeState) (total : ℕ) (sets : List Ids) : Type 0 where
   pub nearest : (others : List Ids) → CouldHave n others → total ≤ total_distance n others
   pub fewest : (others : List Ids) → CouldHave n others → total_distance n others ≡ total → moved n sets ≤ moved n others
 
--- what was worked out last is this plan: its total is this distance, scaled, and how many CPUs move
+-- what was worked out last is this plan: its total is this distance and how many CPUs move, packed
 pub record IsTold (n : NodeState) (sets : List Ids) (total : ℕ) (last : Option Certificate) : Type 0 where
   pub prices : PricesView
   pub whole : ℕ

@@ -23,6 +23,7 @@ use Rattle.certificate.specs.IsProved.{IsProved}
 use Rattle.certificate.specs.IsShortage.{IsShortage}
 use Rattle.certificate.specs.Limits.{rows_fit}
 use Rattle.certificate.specs.Scaled.{are_scaled}
+use Rattle.certificate.specs.declared.weights.Weights.TheVariants.{WithMoves}
 use Rattle.certificate.specs.declared.certificates.Certificate.{Certificate}
 use Rattle.certificate.specs.declared.certificates.Certificate.TheVariants.{Plan, Short}
 use Rattle.certificate_text.specs.Written.{CanWrite}
@@ -93,8 +94,8 @@ pub record IsAsked (m : Layout) (e : List ℕ × ContainerState) : Type 0 where
 -- its weights count moves besides the distance, and its own check accepts it: values and prices prove its plan to cost its
 -- total, or its rows are within their limits and its members are short
 abbrev pub ProvesItself : Certificate → Type 0
-ProvesItself (Plan rows sets prices total scaled) = (scaled ≡ true) × (are_scaled rows ≡ true) × IsProved rows sets prices total
-ProvesItself (Short rows members scaled) = (scaled ≡ true) × (are_scaled rows ≡ true) × IsTrue (rows_fit rows) × IsShortage rows members
+ProvesItself (Plan rows sets prices total weights) = (weights ≡ WithMoves) × (are_scaled rows ≡ true) × IsProved rows sets prices total
+ProvesItself (Short rows members weights) = (weights ≡ WithMoves) × (are_scaled rows ≡ true) × IsTrue (rows_fit rows) × IsShortage rows members
 
 -- and it can be written
 abbrev pub IsKept : Certificate → Type 0

@@ -15,6 +15,8 @@ use Rattle.demand.specs.declared.Demand.{Demand}
 use Rattle.certificate.specs.RowView.{RowView, rows_code}
 use Rattle.certificate.specs.PricesView.{PricesView, prices_code}
 use Rattle.certificate.specs.SetsCode.{sets_code}
+use Rattle.certificate.specs.WeightsCode.{weights_code}
+use Rattle.certificate.specs.declared.weights.Weights.{Weights}
 use Rattle.certificate.specs.declared.certificates.Certificate.{Certificate}
 use Rattle.certificate.specs.declared.certificates.Certificate.TheVariants.{Plan, Short}
 use Rattle.apply_plan.specs.Targets.{Targets, targets_code}
@@ -119,23 +121,23 @@ ongoing_code =
 
 -- a certificate is stored as one of the two tuples of what it holds
 abbrev pub Held : Type 0
-Held = (List RowView × (List Ids × (PricesView × (ℕ × Bool)))) ⊎ (List RowView × (List ℕ × Bool))
+Held = (List RowView × (List Ids × (PricesView × (ℕ × Weights)))) ⊎ (List RowView × (List ℕ × Weights))
 
 abbrev pub of_certificate : Certificate → Held
-of_certificate (Plan rows sets prices total scaled) = inl (rows, (sets, (prices, (total, scaled))))
-of_certificate (Short rows members scaled) = inr (rows, (members, scaled))
+of_certificate (Plan rows sets prices total weights) = inl (rows, (sets, (prices, (total, weights))))
+of_certificate (Short rows members weights) = inr (rows, (members, weights))
 
 abbrev pub to_certificate : Held → Certificate
 to_certificate (inl p) = Plan p.0 p.1.0 p.1.1.0 p.1.1.1.0 p.1.1.1.1
 to_certificate (inr p) = Short p.0 p.1.0 p.1.1
 
 pub to_of_certificate : (c : Certificate) → to_certificate (of_certificate c) ≡ c
-to_of_certificate (Plan rows sets prices total scaled) = refl
-to_of_certificate (Short rows members scaled) = refl
+to_of_certificate (Plan rows sets prices total weights) = refl
+to_of_certificate (Short rows members weights) = refl
 
 abbrev pub certificate_code : Coded Certificate
 certificate_code =
-    code_by Held (coded⊎ (coded× rows_code (coded× sets_code (coded× prices_code (coded× coded_ℕ coded_bool)))) (coded× rows_code (coded× (coded_list coded_ℕ) coded_bool))) of_certificate to_certificate to_of_certificate
+    code_by Held (coded⊎ (coded× rows_code (coded× sets_code (coded× prices_code (coded× coded_ℕ weights_code)))) (coded× rows_code (coded× (coded_list coded_ℕ) weights_code))) of_certificate to_certificate to_of_certificate
 
 -- a node is stored as the tuple of its fields
 abbrev pub node_code : Coded NodeState

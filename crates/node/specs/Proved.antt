@@ -18,8 +18,8 @@ use Rattle.node.specs.Rebalance.{Lacks}
 
 -- the distance and the moves that a certificate claims, or how many CPUs its members ask for and how many are there
 abbrev pub verdict_of : Certificate → Verdict
-verdict_of (certificate.Plan rows sets prices total scaled) = plan_verdict total scaled
-verdict_of (certificate.Short rows members scaled) = Short (asked (chosen rows members)) (length (offered (chosen rows members)))
+verdict_of (certificate.Plan rows sets prices total weights) = plan_verdict total weights
+verdict_of (certificate.Short rows members weights) = Short (asked (chosen rows members)) (length (offered (chosen rows members)))
 
 -- the text of what a node worked out last proves just that, if its numbers are such as the types hold
 abbrev pub LastIsProved : Type 0

@@ -1,5 +1,5 @@
 -- Plans and the hand-overs to them, each call a relation by cases on what it answers.
-use Rattle.std.specs.Prelude.{◌≡◌, ℕ, ◌/◌, suc, zero, true, false, List, Option, Some, None, Result, Ok, Err}
+use Rattle.std.specs.Prelude.{◌≡◌, ℕ, suc, zero, true, false, List, Option, Some, None, Result, Ok, Err}
 use Rattle.std.specs.FinSet as set
 use Rattle.cpu_set.specs.Ids.{Ids}
 use Rattle.cpu_set.specs.Members.{InRange}
@@ -7,7 +7,8 @@ use Rattle.certificate.specs.RowView.{RowView}
 use Rattle.certificate.specs.PricesView.{PricesView}
 use Rattle.certificate.specs.IsLeast.{IsLeast}
 use Rattle.certificate.specs.IsShortage.{asked, chosen, is_offered}
-use Rattle.certificate.specs.declared.limits.TheConstants.{MOVE_SCALE}
+use Rattle.certificate.specs.Packed.{distance_of}
+use Rattle.certificate.specs.declared.weights.Weights.TheVariants.{WithMoves}
 use Rattle.certificate.specs.Verdict.{AreParts}
 use Rattle.certificate.specs.declared.certificates.Certificate.{Certificate}
 use Rattle.certificate.specs.declared.certificates.Certificate.TheVariants as certificate
@@ -36,12 +37,12 @@ pub record IsAnswer (n : NodeState) (rows : List RowView) (sets : List Ids) (pri
   pub rows_are : rows ≡ scaled_rows_of n
   pub decides : DecidesPlan rows sets prices whole
   pub least : IsLeast (rows_of n) sets
-  pub best : IsBest n (whole / MOVE_SCALE) sets
-  pub parts : AreParts whole (whole / MOVE_SCALE) (moved n sets)
+  pub best : IsBest n (distance_of whole) sets
+  pub parts : AreParts whole (distance_of whole) (moved n sets)
 
 abbrev pub ComesTo : NodeState → Certificate → Type 0
-ComesTo n (certificate.Plan rows sets prices whole scaled) = (scaled ≡ true) × IsAnswer n rows sets prices whole
-ComesTo n (certificate.Short rows members scaled) = (scaled ≡ true) × (rows ≡ scaled_rows_of n) × DecidesShort rows members
+ComesTo n (certificate.Plan rows sets prices whole weights) = (weights ≡ WithMoves) × IsAnswer n rows sets prices whole
+ComesTo n (certificate.Short rows members weights) = (weights ≡ WithMoves) × (rows ≡ scaled_rows_of n) × DecidesShort rows members
 
 -- the best sets that the containers could have, as a least plan of the rows and of the scaled rows, whose certificate can be
 -- written and proves itself; its hand-over is open, and nothing is written yet

@@ -1,11 +1,12 @@
 -- The containers that ask for CPUs of their own, as rows of a problem.
-use Rattle.std.specs.Prelude.{ℕ, true, cond, List, Option, None, filter_map, option_map}
+use Rattle.std.specs.Prelude.{ℕ, cond, List, Option, None, filter_map, option_map}
 use Rattle.cpu_set.specs.Ids.{Ids}
 use Rattle.cpuset_tree.specs.Groups.{requested_cpus}
 use Rattle.kernel_model.specs.KernelState.{KernelState}
 use Rattle.machine.specs.Layout.{Layout}
 use Rattle.certificate.specs.RowView.{RowView}
 use Rattle.certificate.specs.PricesView.{PricesView}
+use Rattle.certificate.specs.declared.weights.Weights.TheVariants.{WithMoves}
 use Rattle.certificate.specs.declared.certificates.Certificate.{Certificate}
 use Rattle.certificate.specs.declared.certificates.Certificate.TheVariants as certificate
 use Rattle.rows.specs.RowOf.{row_of}
@@ -40,7 +41,7 @@ scaled_rows_of n = scaled_rows_in n.kernel n.machine n.containers
 
 -- the certificates of a plan and of a shortage of these rows
 abbrev pub planned : NodeState → List Ids → PricesView → ℕ → Certificate
-planned n sets prices whole = certificate.Plan (scaled_rows_of n) sets prices whole true
+planned n sets prices whole = certificate.Plan (scaled_rows_of n) sets prices whole WithMoves
 
 abbrev pub lacking : NodeState → List ℕ → Certificate
-lacking n members = certificate.Short (scaled_rows_of n) members true
+lacking n members = certificate.Short (scaled_rows_of n) members WithMoves

@@ -114,7 +114,6 @@ impl<K: Kernel + Drop> Node<K> {
         ensures ongoing { IfOk result (λ p. seen_ongoing p.1 ≡ opened self.now sets.now) }
         ensures stands { IfOk result (λ p. IsOngoing self.now.kernel (owners_of self.now.containers) (seen_ongoing p.1)) }
     {
-        rows::laws::rows_weigh();
         let pool = pool_of(&self.kernel.online(), sets);
         let entries = entries_in(self.alloc, &self.kernel, &self.containers, sets, &pool)?;
         let requested_at_begin = requests_of(self.alloc, &self.kernel, &entries)?;

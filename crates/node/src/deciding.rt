@@ -5,13 +5,13 @@ ghost use Rattle.certificate_text.specs.CertificateText.{HaveOwnIds};
 ghost use Rattle.certificate_text.specs.Written.{CanWrite, CanWriteRow};
 ghost use Rattle.node.specs.Decides.{Decides, answered};
 
-use certificate::{Certificate, Members, Problem};
+use certificate::{Certificate, Members, Problem, Weights};
 use std::alloc::{AllocError, Global};
 use transport::{Answer, solve};
 
 /// The certificate of what the problem comes to; the problem is kept in it as it is.
 ///
-/// The certificate says that weights count moves besides the distance, as [`MOVE_SCALE`](certificate::MOVE_SCALE) has it.
+/// The certificate says that weights count moves besides the distance.
 ///
 /// # Errors
 /// Lack of memory; no problem is refused.
@@ -46,12 +46,12 @@ fn answered(problem: Problem, answer: Answer) -> Certificate
             plan,
             prices,
             total,
-            scaled: true,
+            weights: Weights::WithMoves,
         },
         Answer::Short { members, .. } => Certificate::Short {
             problem,
             members: Members { rows: members },
-            scaled: true,
+            weights: Weights::WithMoves,
         },
     }
 }

@@ -39,11 +39,7 @@ pub fn runs()
     ensures apart { RunsStayApart }
     ensures single { RebalancesAreSteps }
     ensures said { ContainersAreSaid }
-{
-    rows::laws::rows_weigh();
-    apply_plan::laws::steps();
-    apply_plan::laws::effects();
-}
+{}
 
 /// How long a hand-over lasts that is stepped, whatever calls and events fall between its steps: nothing runs.
 ///
@@ -51,11 +47,7 @@ pub fn runs()
 /// has none ends with its first step.
 pub fn each_handover()
     ensures { HandoversEnd }
-{
-    rows::laws::rows_weigh();
-    apply_plan::laws::steps();
-    apply_plan::laws::runs();
-}
+{}
 
 /// The kernel in the midst of `create` and of `adopt`, whatever these return: nothing runs. Both make a container on CPUs
 /// that it may request, `create` on the reserved ones.
@@ -90,12 +82,7 @@ pub fn each_update()
 /// together ask for more CPUs than they are allowed.
 pub fn each_rebalance()
     ensures { RunsRebalance }
-{
-    rows::laws::rows_weigh();
-    rows::laws::scaled_rows_weigh();
-    apply_plan::laws::steps();
-    apply_plan::laws::effects();
-}
+{}
 
 /// What a plan gives to the container of a config, after any list of calls and events from a node of no container on; nothing
 /// runs.
@@ -104,12 +91,7 @@ pub fn each_rebalance()
 /// and online; else it has the pool, which is not empty.
 pub fn what_configs_get()
     ensures { RunsServeConfigs }
-{
-    rows::laws::rows_weigh();
-    rows::laws::scaled_rows_weigh();
-    apply_plan::laws::steps();
-    apply_plan::laws::effects();
-}
+{}
 
 /// Whose the rows of a node's problem are: each is a live pinned container's, in their order, and says for each CPU how far it
 /// is and whether it moves, so that a shortage of the rows is one of these containers; nothing runs.
@@ -117,10 +99,7 @@ pub fn whose_rows()
     ensures rows { RowsAreAsking }
     ensures scaled { ScaledRowsAreAsking }
     ensures short { ShortStands }
-{
-    rows::laws::rows_weigh();
-    rows::laws::scaled_rows_weigh();
-}
+{}
 
 /// The text of what a node worked out last proves its verdict to whoever checks it; after a rebalance that is the total that
 /// was answered and how many CPUs moved, or how many CPUs are asked for and how many are allowed. Nothing runs.

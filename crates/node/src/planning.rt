@@ -18,8 +18,7 @@ ghost use Rattle.node.specs.Rebalance.{Begins, ComesTo, Finishes, Rebalances, Wo
 use crate::deciding::decide;
 use crate::ongoing::Ongoing;
 use crate::{Node, NodeFault, Outcome, Phase};
-use apply_plan::laws;
-use certificate::{Certificate, MOVE_SCALE, Problem, check_shortage, offered_to};
+use certificate::{Certificate, Cost, Problem, check_shortage, offered_to};
 use cpu_set::IdSet;
 use faults::OrMemory;
 use kernel_model::{Kernel, KernelFault};
@@ -64,10 +63,6 @@ impl<K: Kernel + Drop> Node<K> {
         ensures best { IfOk result (ComesTo self.now) }
         ensures kept { IfOk result IsKept }
     {
-        rows::laws::rows_weigh();
-        rows::laws::scaled_rows_weigh();
-        rows::laws::parts_rise();
-        certificate::laws::scaled_rows_have_two_costs();
         self.holds();
         decide(self.alloc, self.problem()?)
     }
@@ -82,7 +77,7 @@ impl<K: Kernel + Drop> Node<K> {
             Certificate::Plan { plan, total, .. } => {
                 let (pool, ongoing) = self.opening(plan.sets.as_slice())?;
                 self.open_to(pool, ongoing);
-                Outcome::Plan(*total / u64::from(MOVE_SCALE))
+                Outcome::Plan(Cost::unpack(*total).distance)
             }
             Certificate::Short {
                 problem,
@@ -109,10 +104,7 @@ impl<K: Kernel + Drop> Node<K> {
         if self.phase.is_underway() {
             return Err(OrMemory::Fault(NodeFault::Busy));
         }
-        match self.plan_and_open() {
-            Ok(outcome) => Ok(outcome),
-            Err(_) => Err(OrMemory::Memory),
-        }
+        Ok(self.plan_and_open()?)
     }
 
     /// Makes all writes of the open hand-over, up to the first that fails; either ends it.
@@ -120,7 +112,6 @@ impl<K: Kernel + Drop> Node<K> {
         requires { is_underway self.old.phase ≡ true }
         ensures { Finishes self.old result self.new }
     {
-        laws::steps();
         let Some(mut ongoing) = self.ongoing.take() else {
             unreachable!()
         };
@@ -140,10 +131,7 @@ impl<K: Kernel + Drop> Node<K> {
     fn rebalance_body(&mut self) -> Result<Outcome, OrMemory<NodeFault>>
         ensures { Rebalances self.old result self.new }
     {
-        let outcome = match self.begin() {
-            Ok(outcome) => outcome,
-            Err(error) => return Err(error),
-        };
+        let outcome = self.begin()?;
         if let Outcome::Plan(_) = outcome {
             if let Err(fault) = self.finish() {
                 return Err(OrMemory::Fault(NodeFault::Kernel(fault)));
@@ -169,11 +157,6 @@ impl<K: Kernel + Drop> Node<K> {
         // Exactly the writing calls that the hand-over to what is in effect after it had to come.
         ensures made { RebalanceWrites self.old result self.new }
     {
-        rows::laws::rows_weigh();
-        rows::laws::scaled_rows_weigh();
-        laws::steps();
-        laws::effects();
-        laws::runs();
         self.holds();
         self.rebalance_body()
     }

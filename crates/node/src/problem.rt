@@ -24,7 +24,7 @@ use rows::{CachedOffers, scaled_row_of};
 use std::alloc::{AllocError, Global};
 
 /// The row of a container over these CPUs, which are online, if it is live and asks for CPUs of its own; those that its group
-/// does not request weigh one more than their distance, scaled.
+/// does not request are a move besides their distance.
 fn row_in<K: Kernel>(
     alloc: Global,
     kernel: &K,

@@ -15,7 +15,6 @@ impl<K: Kernel + Drop> Node<K> {
         ensures steps { StepsOn self.old result self.new }
         ensures few { (o : Ongoing) → self.old.ongoing ≡ Some o → writes_to_come o.targets self.old.kernel ≤ 2 * length o.targets.entries }
     {
-        apply_plan::laws::steps();
         let Some(mut ongoing) = self.ongoing.take() else {
             return Err(NodeFault::NoHandover);
         };
@@ -55,7 +54,6 @@ impl<K: Kernel + Drop> Node<K> {
         ensures broken { OnErr result ((o : Ongoing) → self.old.ongoing ≡ Some o → IsBroken o self.old.kernel self.new.kernel) }
         ensures counted { self.new.kernel.failures ≡ self.old.kernel.failures + rise_of result }
     {
-        apply_plan::laws::steps();
         self.holds();
         self.step_body()
     }

@@ -1,5 +1,5 @@
 -- Offers with no CPU that is held.
-use Rattle.std.proofs.Common.{◌≡◌, ℕ, ◌+◌, ◌*◌, ◌<◌, ◌≤◌, Bool, true, false, cond, not, ◌&&◌, nat_lt, nat_le, Option, Some, None, unwrap_or, MatchOption, IfSome, List, [], ◌∷◌, filter, length, map, take, get_or, ◌++◌, inl, inr, refl, sym, ap, ◌∙◌, arith}
+use Rattle.std.proofs.Common.{◌≡◌, ℕ, ◌+◌, ◌<◌, ◌≤◌, Bool, true, false, cond, not, ◌&&◌, nat_lt, nat_le, Option, Some, None, unwrap_or, MatchOption, IfSome, List, [], ◌∷◌, filter, length, map, take, get_or, ◌++◌, inl, inr, refl, sym, ap, ◌∙◌, arith}
 use Rattle.std.specs.List.{flat_map, list_all, range_with_len}
 use Rattle.std.specs.FinSet as set
 use Rattle.std.proofs.lemmas.Bool.{cases_eq, cases_lt, false≢true}
@@ -11,7 +11,8 @@ use Rattle.cpu_set.specs.Pointwise.{same_members, contains-empty, contains-inter
 use Rattle.cpu_set.specs.declared.TheConstants.{CPU_LIMIT}
 use Rattle.machine.specs.Layout.{Layout}
 use Rattle.certificate.specs.declared.Offer.{Offer}
-use Rattle.certificate.specs.declared.limits.TheConstants.{MOVE_SCALE}
+use Rattle.certificate.specs.Packed.{packed}
+use Rattle.certificate.specs.declared.limits.TheConstants.{MAX_WEIGHT}
 use Rattle.rows.specs.Offers.{has_some, offer_at, offers_of}
 use Rattle.rows.specs.Scaled.{are_distances, kept, moved, parted}
 
@@ -54,10 +55,10 @@ one_of_two x y none some = rw (none, some) refl
 
 -- an offer with no CPU that is held is one part, with all its CPUs
 pub parted_none : (held : Ids) (o : Offer) → has_some o ≡ true → ((n : ℕ) → set.contains o.cpus n ≡ true → set.contains held n ≡ false)
-    → parted held o ≡ record { weight = o.weight * MOVE_SCALE + 1; cpus = o.cpus } ∷ []
+    → parted held o ≡ record { weight = packed o.weight 1; cpus = o.cpus } ∷ []
 parted_none held o some none =
     one_of_two (kept held o) (moved held o) (ap (λ s. nat_lt 0 (set.len s)) no_more ∙ ap (nat_lt 0) (set.len-empty _)) (ap (λ s. nat_lt 0 (set.len s)) no_less ∙ some)
-    ∙ ap (λ (s : Ids). record { weight = o.weight * MOVE_SCALE + 1; cpus = s } ∷ []) no_less
+    ∙ ap (λ (s : Ids). record { weight = packed o.weight 1; cpus = s } ∷ []) no_less
   where
     apart : (a b : Bool) → (a ≡ true → b ≡ false) → (a && b) ≡ false
     apart true b f = f refl

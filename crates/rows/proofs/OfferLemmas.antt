@@ -14,19 +14,14 @@ use Rattle.machine.specs.Weight.{weight, AreWeights}
 use Rattle.certificate.specs.declared.Offer.{Offer}
 use Rattle.rows.specs.Reach.{AreInReach}
 use Rattle.rows.specs.Offers.{of_weight, offer_at, has_some, offers_below, offers_of}
-
-tied : (p : ℕ → Bool) (q x : ℕ) → q ≡ x → p x ≡ p q
-tied p q x same = ap p (sym same)
+use Rattle.rows.specs.OfferSets.{contains-of_weight}
 
 module _ (m : Layout) (homes cpus : Ids) where
   abbrev w : ℕ → ℕ
   w c = weight m homes c
 
-  pub contains-of_weight : (n c : ℕ) → set.contains (of_weight m homes cpus n) c ≡ (set.contains cpus c && (w c == n))
-  contains-of_weight n c = set.contains-retain cpus (λ q. w q == n) c (λ x equal. tied (λ q. w q == n) c x (set.nat_cmp-IsAntisymmetric c x equal))
-
   none_of : (n : ℕ) → ((c : ℕ) → set.contains cpus c ≡ true → w c ≡ n → ⊥) → of_weight m homes cpus n ≡ set.empty
-  none_of n none = same_members _ _ (λ c. contains-of_weight n c ∙ one c (set.contains cpus c) (w c == n) refl refl ∙ sym (contains-empty c))
+  none_of n none = same_members _ _ (λ c. contains-of_weight m homes cpus n c ∙ one c (set.contains cpus c) (w c == n) refl refl ∙ sym (contains-empty c))
     where
       one : (c : ℕ) (a b : Bool) → set.contains cpus c ≡ a → (w c == n) ≡ b → (a && b) ≡ false
       one c false b e f = refl
@@ -35,16 +30,6 @@ module _ (m : Layout) (homes cpus : Ids) where
 
   pub offers_none : (n : ℕ) → ((c : ℕ) → set.contains cpus c ≡ true → w c ≡ n → ⊥) → has_some (offer_at m homes cpus n) ≡ false
   offers_none n none = ap (λ s. nat_lt 0 (set.len s)) (none_of n none) ∙ ap (nat_lt 0) (set.len-empty _)
-
-  pub offers_some : (n c : ℕ) → set.contains cpus c ≡ true → w c ≡ n → has_some (offer_at m homes cpus n) ≡ true
-  offers_some n c has is = by_len (set.len (of_weight m homes cpus n)) refl
-    where
-      there : set.contains (of_weight m homes cpus n) c ≡ true
-      there = contains-of_weight n c ∙ rw has (grind (arith, nat_tests))
-
-      by_len : (k : ℕ) → set.len (of_weight m homes cpus n) ≡ k → nat_lt 0 (set.len (of_weight m homes cpus n)) ≡ true
-      by_len zero e = absurd (true≢false (sym there ∙ ap (λ s. set.contains s c) (set.empty_of_len _ e) ∙ contains-empty c))
-      by_len (suc k) e = grind (arith, nat_tests)
 
   -- one weight more
   pub one_more : (n : ℕ) → offers_below m homes cpus (n + 1) ≡ offers_below m homes cpus n ++ cond (has_some (offer_at m homes cpus n)) (offer_at m homes cpus n ∷ []) []

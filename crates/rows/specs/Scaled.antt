@@ -1,6 +1,6 @@
 -- The row of a container that holds CPUs already: its weights count moves besides the distance.
 use Rattle.certificate.specs.Limits.{row_fits}
-use Rattle.std.specs.Prelude.{◌≡◌, ℕ, ◌+◌, ◌*◌, ◌/◌, ◌%◌, Bool, true, nat_le, cond, List, [], ◌∷◌, filter, option_map}
+use Rattle.std.specs.Prelude.{◌≡◌, ℕ, Bool, true, nat_le, cond, List, [], ◌∷◌, filter, option_map}
 use Rattle.std.specs.List.{flat_map, list_all}
 use Rattle.std.specs.FinSet as set
 use Rattle.cpu_set.specs.Ids.{Ids}
@@ -9,7 +9,7 @@ use Rattle.certificate.specs.RisingOffers.{AreRising}
 use Rattle.certificate.specs.Scaled.{is_scaled, with_weights}
 use Rattle.certificate.specs.Weight.{weight}
 use Rattle.certificate.specs.declared.Offer.{Offer}
-use Rattle.certificate.specs.declared.limits.TheConstants.{MOVE_SCALE}
+use Rattle.certificate.specs.Packed.{packed, distance_of, moves_of}
 use Rattle.rows.specs.Offers.{has_some}
 
 -- no weight is above the greatest distance at which a node can be reached
@@ -18,11 +18,11 @@ are_distances offers = list_all (λ o. nat_le o.weight 254) offers
 
 -- the offer's CPUs that are held
 abbrev pub kept : Ids → Offer → Offer
-kept held o = record { weight = o.weight * MOVE_SCALE; cpus = set.intersection o.cpus held }
+kept held o = record { weight = packed o.weight 0; cpus = set.intersection o.cpus held }
 
 -- those that are not: each is a move
 abbrev pub moved : Ids → Offer → Offer
-moved held o = record { weight = o.weight * MOVE_SCALE + 1; cpus = set.difference o.cpus held }
+moved held o = record { weight = packed o.weight 1; cpus = set.difference o.cpus held }
 
 -- those of the two that have a CPU
 abbrev pub parted : Ids → Offer → List Offer
@@ -32,21 +32,21 @@ parted held o = filter has_some (kept held o ∷ moved held o ∷ [])
 abbrev pub scaled : Ids → RowView → RowView
 scaled held row = record { id = row.id; demand = row.demand; offers = flat_map (parted held) row.offers }
 
--- a CPU weighs what it weighs in the row, scaled, and one more where it is not held
+-- a CPU weighs what it weighs in the row as the distance, and a move where it is not held
 abbrev pub ScaledRowsWeigh : Type 0
 ScaledRowsWeigh =
     (held : Ids) (row : RowView) (cpu : ℕ)
-    → weight (scaled held row) cpu ≡ option_map (λ w. w * MOVE_SCALE + cond (set.contains held cpu) 0 1) (weight row cpu)
+    → weight (scaled held row) cpu ≡ option_map (λ w. packed w (cond (set.contains held cpu) 0 1)) (weight row cpu)
 
--- divided by the scale it weighs what it weighs in the row
+-- its distance is what it weighs in the row
 abbrev pub DistancesStay : Type 0
-DistancesStay = (held : Ids) (row : RowView) (cpu : ℕ) → weight (with_weights (λ w. w / MOVE_SCALE) (scaled held row)) cpu ≡ weight row cpu
+DistancesStay = (held : Ids) (row : RowView) (cpu : ℕ) → weight (with_weights distance_of (scaled held row)) cpu ≡ weight row cpu
 
--- and the remainder is 1 where the CPU is not held
+-- and it is one move where it is not held, and none where it is
 abbrev pub MovesAreUnheld : Type 0
 MovesAreUnheld =
     (held : Ids) (row : RowView) (cpu : ℕ)
-    → weight (with_weights (λ w. w % MOVE_SCALE) (scaled held row)) cpu ≡ option_map (λ _. cond (set.contains held cpu) 0 1) (weight row cpu)
+    → weight (with_weights moves_of (scaled held row)) cpu ≡ option_map (λ _. cond (set.contains held cpu) 0 1) (weight row cpu)
 
 -- a scaled row of distances is within the limits where the row is
 abbrev pub ScaledRowsFit : Type 0

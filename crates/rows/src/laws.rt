@@ -8,8 +8,8 @@ pub fn rows_weigh()
     ensures { RowsWeigh }
 {}
 
-/// What a CPU weighs in the row of a container that holds CPUs: its distance, scaled, and one more where it is not held.
-/// So the row weighs by distance as it does unscaled, and by moves one for each CPU that is not held.
+/// What a CPU weighs in the row of a container that holds CPUs: its distance, and one move where it is not held. So the row
+/// weighs by distance as it does without moves, and by moves one for each CPU that is not held.
 pub fn scaled_rows_weigh()
     ensures weights { ScaledRowsWeigh }
     ensures distance { DistancesStay }

@@ -7,11 +7,11 @@ ghost use Rattle.certificate.specs.declared.Offer.{Offer};
 ghost use Rattle.rows.specs.Offers.{has_some};
 ghost use Rattle.rows.specs.Scaled.{are_distances, parted};
 
-use certificate::{MOVE_SCALE, Offer, Offers};
+use certificate::{Cost, Offer, Offers};
 use cpu_set::{CPU_LIMIT, IdSet};
 use std::alloc::{AllocError, Global};
 
-/// The offers, scaled, with the CPUs that are held apart from the others: these weigh one more. O(r) of the offers' r
+/// The offers by distance with the CPUs that are held apart from the others: each of these is a move. O(r) of the offers' r
 /// ranges, and a step for each number that there may be for an offer with a CPU that is held.
 pub(crate) fn parts_of(alloc: Global, offers: &Offers, held: &IdSet) -> Result<Offers, AllocError>
     requires distances { IsTrue (are_distances offers.now) }
@@ -57,13 +57,15 @@ fn push_parts(
     requires span { (n : ℕ) → set.contains held.now n ≡ true → (span.first ≤ n) × (n ≤ span.last) }
     ensures { (d : Offer) → OnOk result (parts.new ≡ parts.old ++ parted held.now (slice_index_or offers.now at d)) }
 {
-    let weight = offers.weight(at) * MOVE_SCALE;
+    let distance = u64::from(offers.weight(at));
+    let moved = Cost { distance, moves: 1 }.weight();
     if have_none(offers.ranges(at), held, span) {
-        return parts.push_from(weight + 1, offers, at);
+        return parts.push_from(moved, offers, at);
     }
+    let kept = Cost { distance, moves: 0 }.weight();
     let cpus = offers.offer(at).cpus;
-    push_some(parts, weight, cpus.meet(held))?;
-    push_some(parts, weight + 1, cpus.minus(held))
+    push_some(parts, kept, cpus.meet(held))?;
+    push_some(parts, moved, cpus.minus(held))
 }
 
 /// Whether no CPU of the ranges is held, where all that are held are in the span.

@@ -16,7 +16,7 @@ use std::alloc::{AllocError, Global};
 /// none.
 ///
 /// It offers the CPUs that the container may get and that are online. Each weighs as much as the distance from its node
-/// to the nearest home, scaled by [`MOVE_SCALE`](certificate::MOVE_SCALE), and one more where the container does not hold it.
+/// to the nearest home, and one move where the container does not hold it, as one [`Cost`](certificate::Cost).
 /// There is one offer for each weight, the least weight first. Offers that are cached are taken from there, and new ones
 /// are added. O(c + n * h) of c cached offers, n nodes and h homes.
 ///

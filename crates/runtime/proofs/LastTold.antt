@@ -1,10 +1,11 @@
 -- The outcome that was told last stays what the node keeps.
-use Rattle.std.proofs.Common.{◌≡◌, ◌⊎◌, ℕ, ◌/◌, ◌%◌, zero, suc, true, List, [], ◌∷◌, Option, Some, None, Result, Ok, Err, inl, inr, refl, sym, ap, ap₂, subst, ◌∙◌, arith}
+use Rattle.std.proofs.Common.{◌≡◌, ◌⊎◌, ℕ, zero, suc, true, List, [], ◌∷◌, Option, Some, None, Result, Ok, Err, inl, inr, refl, sym, ap, ap₂, subst, ◌∙◌, arith}
 use Rattle.std.proofs.lemmas.Option.{none-some, same_Some}
 use Rattle.faults.specs.declared.or_memory.OrMemory.{OrMemory}
 use Rattle.faults.specs.declared.or_memory.OrMemory.TheVariants.{Memory, Fault}
 use Rattle.cpu_set.specs.Ids.{Ids}
-use Rattle.certificate.specs.declared.limits.TheConstants.{MOVE_SCALE}
+use Rattle.certificate.specs.Packed.{distance_of, moves_of}
+use Rattle.certificate.specs.declared.weights.Weights.TheVariants.{WithMoves}
 use Rattle.certificate.specs.Verdict.{AreParts, plan_verdict}
 use Rattle.certificate.specs.declared.certificates.Certificate.{Certificate}
 use Rattle.certificate.specs.declared.checking.Verdict.{Verdict}
@@ -43,10 +44,10 @@ still_told : (told : Option Verdict) (old new : NodeState) → new.last ≡ old.
 still_told told old new same h verdict is = let k = h verdict is in (k.0, same ∙ k.1, k.2)
 
 -- the verdict on a total of these two parts
-of_parts : (whole total moves : ℕ) → AreParts whole total moves → plan_verdict whole true ≡ proves.Moves total moves
+of_parts : (whole total moves : ℕ) → AreParts whole total moves → plan_verdict whole WithMoves ≡ proves.Moves total moves
 of_parts whole total moves parts =
-    let far : whole / MOVE_SCALE ≡ total = omega (arith, parts.moves_fit, parts.whole) in
-    let few : whole % MOVE_SCALE ≡ moves = omega (arith, parts.moves_fit, parts.whole) in
+    let far : distance_of whole ≡ total = omega (arith, parts.moves_fit, parts.whole) in
+    let few : moves_of whole ≡ moves = omega (arith, parts.moves_fit, parts.whole) in
     ap₂ proves.Moves far few
 
 place_last : (cpus : Ids) (old new : NodeState) (id bundle config : List ℕ) (r : Result ℕ (OrMemory NodeFault)) → Places cpus old id bundle config r new → new.last ≡ old.last

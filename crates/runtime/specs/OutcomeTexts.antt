@@ -23,8 +23,8 @@ member_line rows k = codes "member " ++ (id_at rows k ++ codes "\n")
 
 -- a line for each container that a certificate names
 abbrev pub container_lines : Certificate → List ℕ
-container_lines (certificate.Plan rows sets prices total scaled) = flat_map hold_line (zip rows sets)
-container_lines (certificate.Short rows members scaled) = flat_map (member_line rows) members
+container_lines (certificate.Plan rows sets prices total weights) = flat_map hold_line (zip rows sets)
+container_lines (certificate.Short rows members weights) = flat_map (member_line rows) members
 
 abbrev pub last_lines : Option Certificate → List ℕ
 last_lines (Some c) = container_lines c

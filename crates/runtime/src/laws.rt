@@ -1,4 +1,4 @@
-//! What holds of the definitions alone.
+//! Laws over the definitions alone: nothing here runs.
 ghost use Rattle.std.specs.Prelude.{◌≡◌};
 ghost use Rattle.runtime.specs.Boots.{BootsNodes};
 ghost use Rattle.runtime.specs.CertificatesTold.{CertificatesAreTold};

@@ -1,21 +1,18 @@
 -- Where a piece of a script has its first line feed.
 use Rattle.std.proofs.Common.{◌≡◌, ℕ, ◌+◌, ◌<◌, Bool, true, false, List, ◌∷◌, ◌++◌, length, take, drop, get_or, suc, refl, sym, ap, ◌∙◌, arith, length-take, get_or-take, drop-cons, take-append-drop}
+use Rattle.std.proofs.lemmas.Bool.{false_from_ne_true}
 use Rattle.std.proofs.lemmas.Bool.Decides.{nat_tests}
 use Rattle.std.proofs.lemmas.List.{get_or_default}
 use Rattle.std.specs.List.{All}
 use Rattle.memchr.specs.Find.{Nowhere, NoneBefore, Passes}
 use Rattle.script.specs.Lines.{is_feed}
 
-pub not_true : (b : Bool) → (b ≡ true → ⊥) → b ≡ false
-not_true false h = refl
-not_true true h = absurd (h refl)
-
 -- no byte ends a line
 abbrev pub HasNoFeed : List ℕ → Type 0
 HasNoFeed piece = All (λ byte. is_feed byte ≡ false) piece
 
 pub no_feed : (piece : List ℕ) → Nowhere (Passes is_feed piece) 0 (length piece) → HasNoFeed piece
-no_feed piece none = λ k d h. not_true (is_feed (get_or piece k d)) (λ e. none k (omega arith) h (ap is_feed (get_or_default piece k 0 d h) ∙ e))
+no_feed piece none = λ k d h. false_from_ne_true (is_feed (get_or piece k d)) (λ e. none k (omega arith) h (ap is_feed (get_or_default piece k 0 d h) ∙ e))
 
 -- a piece up to its first line feed, and what follows
 pub record HasFeed (piece : List ℕ) (at : ℕ) : Type 0 where
@@ -38,5 +35,5 @@ has_feed piece at n e = record {
   first = λ k d h.
       let before : k < at = omega (arith, h, length-take at piece) in
       let there : k < length piece = omega (arith, before, n.high) in
-      ap is_feed (get_or-take at piece k d before ∙ get_or_default piece k d 0 there) ∙ not_true (is_feed (get_or piece k 0)) (λ e. n.before k (omega arith) before e);
+      ap is_feed (get_or-take at piece k d before ∙ get_or_default piece k d 0 there) ∙ false_from_ne_true (is_feed (get_or piece k 0)) (λ e. n.before k (omega arith) before e);
 }

@@ -1,4 +1,3 @@
-pub mod Digits
 pub mod Feeds
 pub mod Lines
 pub mod Replying

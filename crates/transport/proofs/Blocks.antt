@@ -4,7 +4,7 @@ use Rattle.std.specs.FinSet as set
 use Rattle.std.specs.Cmp.{nat_cmp_total}
 use Rattle.std.specs.Prelude.{slice_set as set_at}
 use Rattle.std.proofs.lemmas.List.{length_push, get_or_push, get_or_append_left, get_or_read, length-set, get_or-set_same, get_or-set_other}
-use Rattle.std.proofs.lemmas.Bool.{cases_eq, cases_lt, cases_Bool}
+use Rattle.std.proofs.lemmas.Bool.{cases_eq, cases_lt, cases_Bool, or_cases, or_left, or_right}
 use Rattle.std.proofs.lemmas.Bool.Decides.{nat_tests}
 use Rattle.cpu_set.specs.Ids.{Ids}
 use Rattle.cpu_set.specs.Pointwise.{contains-empty, contains-insert, contains-remove}
@@ -36,14 +36,6 @@ no_blocks firsts arcs = record {
 
 in_blocks_at : (blocks : List Block) (at : ℕ) (block : Block) (cpu w : ℕ) → at < length blocks → ((d : Block) → get_or blocks at d ≡ block) → set.contains block.firsts cpu ≡ true → block.weight ≡ w → InBlocks blocks cpu w
 in_blocks_at blocks at block cpu w lt its has weight = record { index = at; block = block; its = its; within = lt; has = has; weight = weight }
-
-pub either : (a b : Bool) → (a || b) ≡ true → (a ≡ true) ⊎ (b ≡ true)
-either true b on = inl refl
-either false b on = inr on
-
-or_left : (a b : Bool) → a ≡ true → (a || b) ≡ true
-or_left true b on = refl
-or_left false b on = absurd (not_both _ on refl)
 
 or_same : (a : Bool) (n : ℕ) → (a || (n == n)) ≡ true
 or_same a n = grind (arith, nat_tests)
@@ -78,7 +70,7 @@ module _ (blocks : List Block) (at : ℕ) (block changed : Block) (cpu weight : 
           let same : changed ≡ b.block = sym (get_or-set_same blocks at changed changed lt) ∙ ap (λ i. get_or extended i changed) (sym e) ∙ b.its changed in
           let on : set.contains changed.firsts c ≡ true = subst (λ (x : Block). set.contains x.firsts c ≡ true) (sym same) b.has in
           let its_weight : weight ≡ w = sym still ∙ ap (λ (x : Block). x.weight) same ∙ b.weight in
-          elim (either _ _ (sym (grows c) ∙ on)) [
+          elim (or_cases _ _ (sym (grows c) ∙ on)) [
             | inl was ↦ inl (in_blocks_at blocks at block c w lt its was (weighs ∙ its_weight))
             | inr is ↦ inr (equal c cpu is, sym its_weight)
           ]
@@ -419,10 +411,6 @@ noted_more firsts order old new at cpu grown is h i lt within =
       | inr after ↦ or_left _ _ (here i (omega (arith, lt, after)))
     ])
   where
-    or_right : (a b : Bool) → b ≡ true → (a || b) ≡ true
-    or_right true b on = refl
-    or_right false b on = on
-
     itself : (a b : ℕ) → a ≡ b → (a == b) ≡ true
     itself a b e = grind (arith, nat_tests)
 

@@ -3,7 +3,7 @@ use Rattle.std.proofs.Common.{◌≡◌, ℕ, ◌+◌, ◌<◌, Bool, true, fals
 use Rattle.std.specs.Prelude.{◌||◌, ◌==◌}
 use Rattle.std.specs.FinSet as finset
 use Rattle.std.proofs.lemmas.List.{length-set, get_or-set_same, get_or-set_other}
-use Rattle.std.proofs.lemmas.Bool.{cases_eq, eq-eqb, ne_eqb}
+use Rattle.std.proofs.lemmas.Bool.{cases_eq, eq-eqb, ne_eqb, or_right}
 use Rattle.cpu_set.specs.Ids.{Ids}
 use Rattle.cpu_set.specs.Members.{IsCpu}
 use Rattle.cpu_set.specs.Pointwise.{contains-empty, contains-insert}
@@ -20,10 +20,6 @@ index_none cpus s class_of long in_range empty = record {
   all = λ g lt. absurd (omega (arith, lt));
   class = λ g lt. absurd (omega (arith, lt));
 }
-
-or_right : (a b : Bool) → b ≡ true → (a || b) ≡ true
-or_right true b on = refl
-or_right false b on = on
 
 pub index_more : (cpus : List ℕ) (s : Ids) (class_of : List ℕ) (g cpu : ℕ) → IsIndex cpus s class_of g → IsEachOnce cpus → g < length cpus → cpu ≡ number cpus g
     → IsIndex cpus (finset.insert s cpu) (set class_of cpu g) (g + 1)

@@ -3,7 +3,7 @@ use Rattle.std.proofs.Common.{◌≡◌, ℕ, suc, ◌+◌, ◌*◌, ◌<◌, �
 use Rattle.std.specs.Prelude.{All, nat_le}
 use Rattle.std.specs.List.{list_all}
 use Rattle.std.specs.FinSet as set
-use Rattle.std.proofs.lemmas.Bool.{cases_lt, le-leb}
+use Rattle.std.proofs.lemmas.Bool.{cases_lt, le-leb, and_from}
 use Rattle.std.proofs.lemmas.List.{get_or-map, get_or_past, length-map, get_or_default}
 use Rattle.std.proofs.lemmas.Option.{slice_get-get_or}
 use Rattle.cpu_set.specs.Ids.{Ids}
@@ -13,7 +13,7 @@ use Rattle.certificate.specs.Limits.{row_fits, rows_fit, values_fit}
 use Rattle.certificate.specs.Cost.{cost}
 use Rattle.certificate.specs.IsProved.{IsProved}
 use Rattle.certificate.specs.Laws.{ProvedIsLeast}
-use Rattle.certificate.specs.Tests.{and_right, both}
+use Rattle.certificate.specs.Tests.{and_right}
 use Rattle.certificate.specs.declared.price_lists.Price.{Price}
 use Rattle.certificate.specs.declared.limits.TheConstants.{MAX_ROWS, MAX_AMOUNT}
 use Rattle.twins.specs.IsGrouping.{class_at, IsGrouping}
@@ -42,7 +42,7 @@ small_value n low = le-leb n MAX_AMOUNT (omega arith)
 pub small_values : (ns : List ℕ) → ((k : ℕ) → number ns k ≤ most) → IsTrue (values_fit ns)
 small_values [] low = refl
 small_values (n ∷ ns) low =
-    both (nat_le n MAX_AMOUNT) (values_fit ns) (small_value n (low 0)) (small_values ns (λ k. low (suc k)))
+    and_from (nat_le n MAX_AMOUNT) (values_fit ns) (small_value n (low 0)) (small_values ns (λ k. low (suc k)))
 
 module _
     (rows : List RowView) (classes : List Ids) (s : Assignment) (turns : ℕ) (grouping : IsGrouping rows classes)
@@ -137,13 +137,13 @@ module _
       → IsSolvedPlan rows sets (record { values = s.values.items; of_cpu = of_cpu }) spent turns
   solved_plan holdings sets of_cpu spent same fit deal long prices costs prove dealt least =
       let deal_here : IsDeal classes s.holdings.items sets = subst (λ xs. IsDeal classes xs sets) same deal in
-      let both = proved_plan sets fit deal_here long prove in
+      let and_from = proved_plan sets fit deal_here long prove in
       rw (prices, costs) (record {
-        proved = both.0;
-        least = least rows sets (record { values = s.values.items; of_cpu = class_prices classes s.prices.items }) (cost rows sets) both.0;
+        proved = and_from.0;
+        least = least rows sets (record { values = s.values.items; of_cpu = class_prices classes s.prices.items }) (cost rows sets) and_from.0;
         dealt = dealt rows classes s.holdings.items sets grouping deal_here;
         by_class = record { classes = classes; grouping = grouping; amounts = s.prices.items; as_many = done.prices_long ∙ sizes_long; its = refl };
-        some = both.1;
+        some = and_from.1;
         at_least = done.at_least;
         within = record {
           classes = classes;

@@ -5,7 +5,7 @@ use Rattle.std.specs.List.{list_all}
 use Rattle.std.proofs.Math.Numerals.{add-one}
 use Rattle.std.proofs.lemmas.List.Elements.{All-nil, All-cons, All-head, All-tail}
 use Rattle.std.specs.FinSet as set
-use Rattle.std.proofs.lemmas.Bool.{cases_eq, true≢false, eqb-true, eq-eqb}
+use Rattle.std.proofs.lemmas.Bool.{cases_eq, true≢false, eqb-true, eq-eqb, and_from, or_parts}
 use Rattle.cpu_set.specs.Ids.{Ids, IsDisjoint}
 use Rattle.cpu_set.specs.Pointwise.{contains-empty}
 use Rattle.certificate.specs.IsDealt.{Holds}
@@ -16,7 +16,7 @@ use Rattle.certificate.specs.Apart.{IsApartFrom, AllPairs-tail, AllPairs-head, n
 use Rattle.certificate.specs.Limits.{is_disjoint, are_apart, values_fit, prices_fit}
 use Rattle.certificate.specs.declared.limits.TheConstants.{MAX_AMOUNT}
 use Rattle.certificate.specs.ApartTest.{is_disjoint-true}
-use Rattle.certificate.specs.Tests.{and_left, and_right, both}
+use Rattle.certificate.specs.Tests.{and_left, and_right}
 use Rattle.twins.specs.IsPriced.{class_prices, with_price}
 
 -- the price of a CPU, where a set is priced before others
@@ -33,16 +33,12 @@ found p true more s c e here none = none ∙ sym (eqb-true p 0 e)
 found p false more s c e here none =
     ap (λ t. unwrap_or (option_map (λ (q : Price). q.amount) (cond t (Some (record { amount = p; cpus = s })) (find (λ (q : Price). set.contains q.cpus c) more))) 0) here
 
-or_none : (a b : Bool) → (a || b) ≡ false → (a ≡ false) × (b ≡ false)
-or_none true b e = (e, absurd (true≢false e))
-or_none false b e = (refl, e)
-
 -- a CPU of no class has the price 0
 pub price_none : (classes : List Ids) (prices : List ℕ) (c : ℕ) → is_held classes c ≡ false → price (class_prices classes prices) c ≡ 0
 price_none [] prices c none = refl
 price_none (s ∷ classes) [] c none = refl
 price_none (s ∷ classes) (p ∷ prices) c none =
-    let parts = or_none (set.contains s c) (is_held classes c) none in
+    let parts = or_parts (set.contains s c) (is_held classes c) none in
     passed_by p (p == 0) (class_prices classes prices) s c parts.0 ∙ price_none classes prices c parts.1
 
 held_there : (classes : List Ids) (g c : ℕ) → Holds classes g c → is_held classes c ≡ true
@@ -123,7 +119,7 @@ small_prices (s ∷ classes) (p ∷ prices) fit = by_cases (p == 0) (and_left _ 
     by_cases : (b : Bool) → nat_le p MAX_AMOUNT ≡ true → list_all (λ (q : Price). nat_le q.amount MAX_AMOUNT) (class_prices classes prices) ≡ true
         → list_all (λ (q : Price). nat_le q.amount MAX_AMOUNT) (cond b (class_prices classes prices) (record { amount = p; cpus = s } ∷ class_prices classes prices)) ≡ true
     by_cases true small rest = rest
-    by_cases false small rest = both _ _ small rest
+    by_cases false small rest = and_from _ _ small rest
 
 clear_of : (s : Ids) (classes : List Ids) (prices : List ℕ) → IsApartFrom s classes → list_all (λ (p : Price). is_disjoint s p.cpus) (class_prices classes prices) ≡ true
 clear_of s [] prices apart = refl
@@ -134,7 +130,7 @@ clear_of s (t ∷ classes) (p ∷ prices) apart =
     by_cases : (b : Bool) → is_disjoint s t ≡ true → list_all (λ (q : Price). is_disjoint s q.cpus) (class_prices classes prices) ≡ true
         → list_all (λ (q : Price). is_disjoint s q.cpus) (cond b (class_prices classes prices) (record { amount = p; cpus = t } ∷ class_prices classes prices)) ≡ true
     by_cases true clear rest = rest
-    by_cases false clear rest = both _ _ clear rest
+    by_cases false clear rest = and_from _ _ clear rest
 
 prices_apart : (classes : List Ids) (prices : List ℕ) → AllPairs IsDisjoint classes → are_apart (λ (p : Price). p.cpus) (class_prices classes prices) ≡ true
 prices_apart [] prices apart = refl
@@ -145,9 +141,9 @@ prices_apart (s ∷ classes) (p ∷ prices) apart =
     by_cases : (b : Bool) → list_all (λ (q : Price). is_disjoint s q.cpus) (class_prices classes prices) ≡ true → are_apart (λ (q : Price). q.cpus) (class_prices classes prices) ≡ true
         → are_apart (λ (q : Price). q.cpus) (cond b (class_prices classes prices) (record { amount = p; cpus = s } ∷ class_prices classes prices)) ≡ true
     by_cases true clear rest = rest
-    by_cases false clear rest = both _ _ clear rest
+    by_cases false clear rest = and_from _ _ clear rest
 
 -- the prices are within the limits of the check
 pub class_prices_fit : (classes : List Ids) (prices : List ℕ) → AllPairs IsDisjoint classes → values_fit prices ≡ true → prices_fit (class_prices classes prices) ≡ true
 unfolding prices_fit
-class_prices_fit classes prices apart fit = both _ _ (small_prices classes prices fit) (prices_apart classes prices apart)
+class_prices_fit classes prices apart fit = and_from _ _ (small_prices classes prices fit) (prices_apart classes prices apart)

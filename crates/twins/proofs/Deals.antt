@@ -4,7 +4,7 @@ use Rattle.std.specs.Prelude.{MatchOption}
 use Rattle.std.specs.Cmp.{nat_cmp_total}
 use Rattle.std.specs.Ordering.{nat_cmp}
 use Rattle.std.specs.FinSet as fin
-use Rattle.std.proofs.lemmas.Bool.{cases_eq, cases_lt, true≢false, false≢true, eqb-true, eq-eqb, ne_eqb}
+use Rattle.std.proofs.lemmas.Bool.{cases_eq, cases_lt, true≢false, false≢true, eqb-true, eq-eqb, ne_eqb, or_left, or_right, or_cases, false_from_ne_true, not-true}
 use Rattle.std.proofs.lemmas.List.{length-set, get_or-set_same, get_or-set_other, get_or_default, take_more}
 use Rattle.std.proofs.lemmas.List.Sums.{sum_by_push, sum_by-take-le}
 use Rattle.std.specs.List.Sorted.{IsPermutation, IsNonDecreasingBy}
@@ -14,7 +14,7 @@ use Rattle.cpu_set.specs.Ids.{Ids, IsFirstFrom, NoneFrom}
 use Rattle.cpu_set.specs.Pointwise.{contains-empty, contains-insert, contains-remove, contains-union, contains-intersection, contains-difference, same_members}
 use Rattle.cpu_set.specs.SetLaws.{empty_of_none}
 use Rattle.certificate.specs.IsDealt.{Holds}
-use Rattle.certificate.specs.Tests.{and_left, and_right, or_left, or_right}
+use Rattle.certificate.specs.Tests.{and_left, and_right}
 use Rattle.twins.specs.Holdings.{share_of, shared_out}
 use Rattle.twins.specs.IsDeal.{IsTaken, IsMoved, IsFirst, IsClassDeal}
 use Rattle.twins.specs.declared.holders.Share.{Share}
@@ -30,18 +30,6 @@ taken_start s taken e = rw e (record {
   left = omega arith;
 })
 
-or_cases : (a b : Bool) → (a || b) ≡ true → (a ≡ true) ⊎ (b ≡ true)
-or_cases true b e = inl refl
-or_cases false b e = inr e
-
-is_not : (b : Bool) → (b ≡ true → ⊥) → b ≡ false
-is_not true never = absurd (never refl)
-is_not false never = refl
-
-not_says : (b : Bool) → not b ≡ true → b ≡ false
-not_says true e = absurd (false≢true e)
-not_says false e = refl
-
 moved : (here taken new : Bool) → (here ≡ true → new ≡ true) → (taken || new) ≡ ((here || taken) || (not here && new))
 moved true true new has = refl
 moved true false new has = has refl
@@ -53,7 +41,7 @@ pub taken_more :
     (old new taken new_after taken_after : Ids) (count cpu : ℕ) → IsTaken old new taken count → IsFirstFrom new 0 cpu
     → new_after ≡ fin.remove new cpu → taken_after ≡ fin.insert taken cpu → IsTaken old new_after taken_after (count + 1)
 taken_more old new taken new_after taken_after count cpu so_far first new_is taken_is =
-    let fresh : fin.contains taken cpu ≡ false = is_not _ (λ here. true≢false (sym first.member ∙ so_far.once cpu here)) in
+    let fresh : fin.contains taken cpu ≡ false = false_from_ne_true _ (λ here. true≢false (sym first.member ∙ so_far.once cpu here)) in
     let some : 0 < fin.len new = some_of_member new cpu first.member in
     let few : fin.len (fin.remove new cpu) ≡ fin.len new - 1 = fin.len-remove nat_cmp_total new cpu ∙ ap (λ b. cond b (fin.len new - 1) (fin.len new)) first.member in
     let many : fin.len (fin.insert taken cpu) ≡ fin.len taken + 1 = fin.len-insert nat_cmp_total taken cpu ∙ ap (λ b. cond b (fin.len taken) (fin.len taken + 1)) fresh in
@@ -64,17 +52,17 @@ taken_more old new taken new_after taken_after count cpu so_far first new_is tak
           ∙ ap (λ b. fin.contains (fin.insert taken cpu) c || b) (sym (contains-remove new cpu c));
       once = λ c here.
           contains-remove new cpu c
-          ∙ is_not _ (λ left.
+          ∙ false_from_ne_true _ (λ left.
           by_cases c (or_cases _ _ (sym (contains-insert taken cpu c) ∙ here)) (and_left _ _ left) (and_right _ _ left));
       below = λ a b here left.
           let kept : (not (b == cpu) && fin.contains new b) ≡ true = sym (contains-remove new cpu b) ∙ left in
-          lower a b (or_cases _ _ (sym (contains-insert taken cpu a) ∙ here)) (not_says _ (and_left _ _ kept)) (and_right _ _ kept);
+          lower a b (or_cases _ _ (sym (contains-insert taken cpu a) ∙ here)) (not-true _ (and_left _ _ kept)) (and_right _ _ kept);
       as_many = many ∙ ap (λ n. n + 1) so_far.as_many;
       left = omega (arith, few, some, so_far.left);
     })
   where
     by_cases : (c : ℕ) → ((c == cpu) ≡ true) ⊎ (fin.contains taken c ≡ true) → not (c == cpu) ≡ true → fin.contains new c ≡ true → ⊥
-    by_cases c (inl same) other left = true≢false (sym same ∙ not_says _ other)
+    by_cases c (inl same) other left = true≢false (sym same ∙ not-true _ other)
     by_cases c (inr here) other left = true≢false (sym left ∙ so_far.once c here)
 
     lower : (a b : ℕ) → ((a == cpu) ≡ true) ⊎ (fin.contains taken a ≡ true) → (b == cpu) ≡ false → fin.contains new b ≡ true → a < b
@@ -189,7 +177,7 @@ pub record Dealing (class : Ids) (done : List Share) (old new : List Ids) (rest 
 pub none_held :
     (s class : Ids) → ((c : ℕ) → fin.contains class c ≡ true → fin.contains s c ≡ true → ⊥) → fin.len (fin.intersection s class) ≡ 0
 none_held s class never =
-    ap fin.len (empty_of_none (fin.intersection s class) (λ c _. contains-intersection s class c ∙ is_not _ (λ here. never c (and_right _ _ here) (and_left _ _ here))))
+    ap fin.len (empty_of_none (fin.intersection s class) (λ c _. contains-intersection s class c ∙ false_from_ne_true _ (λ here. never c (and_right _ _ here) (and_left _ _ here))))
     ∙ fin.len-empty nat_cmp
 
 -- none are dealt yet
@@ -353,7 +341,7 @@ module _
       ]
     where
       not_dealt : fin.contains dealt_now c ≡ false
-      not_dealt = is_not _ (λ here. true≢false (sym (so_far.within c (in_rest c here)) ∙ outside))
+      not_dealt = false_from_ne_true _ (λ here. true≢false (sym (so_far.within c (in_rest c here)) ∙ outside))
 
       or_false : (b : Bool) → (b || false) ≡ b
       or_false true = refl

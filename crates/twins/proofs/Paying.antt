@@ -4,7 +4,7 @@ use Rattle.std.specs.Prelude.{All, AllPairs}
 use Rattle.std.specs.List.{AllZip, zip, range_with_len}
 use Rattle.std.specs.Cmp.{nat_cmp_total}
 use Rattle.std.specs.FinSet as set
-use Rattle.std.proofs.lemmas.Bool.{cases_eq, true≢false, eqb-true, eq-eqb, ne_eqb}
+use Rattle.std.proofs.lemmas.Bool.{cases_eq, true≢false, eqb-true, eq-eqb, ne_eqb, and_from}
 use Rattle.std.proofs.lemmas.Option.{slice_get-get_or}
 use Rattle.std.proofs.lemmas.List.{get_or_default}
 use Rattle.std.proofs.lemmas.List.Folds.{list_any_at}
@@ -25,7 +25,7 @@ use Rattle.certificate.specs.PlanFault.{is_held}
 use Rattle.certificate.specs.declared.price_lists.Price.{Price}
 use Rattle.certificate.specs.Apart.{AllPairs-tail, AllPairs-head, not_held}
 use Rattle.certificate.specs.Limits.{rows_fit, values_fit, prices_fit, is_within_limits}
-use Rattle.certificate.specs.Tests.{both, and_right}
+use Rattle.certificate.specs.Tests.{and_right}
 use Rattle.certificate.specs.Cpus.{len-times}
 use Rattle.certificate.specs.Sums.{sum_by_none, sum_by_same, sum_by_plus, sum_by-filter}
 use Rattle.twins.specs.IsGrouping.{class_at, IsGrouping}
@@ -200,7 +200,7 @@ module _
       let class = held_at classes c (deal.only k c holds) in
       let some : 0 < cell holdings k class.0 =
       subst (λ n. 0 < n) (deal.counts k class.0 (omega (arith, lt, same)))
-      (some_of_member _ c (contains-intersection (at sets k) (class_at classes class.0) c ∙ both _ _ holds class.1)) in
+      (some_of_member _ c (contains-intersection (at sets k) (class_at classes class.0) c ∙ and_from _ _ holds class.1)) in
       let tight = priced.tight k class.0 some in
       record {
         amount = tight.0;
@@ -332,7 +332,7 @@ within_limits :
     → values_fit values ≡ true → prices_fit of_cpu ≡ true → is_within_limits rows sets (record { values = values; of_cpu = of_cpu }) ≡ true
 unfolding is_within_limits
 within_limits rows sets values of_cpu fit same_sets same_values values_are prices_are =
-    both _ _ fit (both _ _ (eq-eqb (length sets) (length rows) same_sets) (both _ _ (eq-eqb (length values) (length rows) same_values) (both _ _ values_are prices_are)))
+    and_from _ _ fit (and_from _ _ (eq-eqb (length sets) (length rows) same_sets) (and_from _ _ (eq-eqb (length values) (length rows) same_values) (and_from _ _ values_are prices_are)))
 
 pub classes_prove_plans : ClassesProvePlans
 classes_prove_plans rows classes holdings sets values prices fit values_are prices_are grouping deal same priced =

@@ -2,14 +2,14 @@
 use Rattle.std.proofs.Common.{◌≡◌, ℕ, zero, suc, ◌+◌, ◌-◌, ◌<◌, ◌≤◌, Bool, true, false, cond, not, ◌&&◌, List, [], ◌∷◌, ◌++◌, length, take, get_or, refl, sym, ap, subst, ◌∙◌, inl, inr, arith}
 use Rattle.std.specs.FinSet as set
 use Rattle.std.specs.List.{All}
-use Rattle.std.proofs.lemmas.Bool.{cases_lt, true≢false, false≢true}
+use Rattle.std.proofs.lemmas.Bool.{cases_lt, true≢false, false≢true, and_from, not-true}
 use Rattle.std.proofs.lemmas.List.{length-take, take-take, get_or-take}
 use Rattle.std.proofs.lemmas.List.Sums.{sum_by_push}
 use Rattle.std.proofs.lemmas.List.Elements.{All-more, All-take, All-push}
 use Rattle.cpu_set.specs.Ids.{Ids, NoneFrom}
 use Rattle.cpu_set.specs.Members.{IsCpu, InRange}
 use Rattle.cpu_set.specs.Pointwise.{contains-intersection, contains-difference}
-use Rattle.certificate.specs.Tests.{and_left, and_right, both}
+use Rattle.certificate.specs.Tests.{and_left, and_right}
 use Rattle.certificate.specs.RowView.{RowView}
 use Rattle.certificate.specs.Weight.{weight}
 use Rattle.certificate.specs.IsDealt.{AreTwins}
@@ -88,7 +88,7 @@ in_piece row cpu rest piece alike q has =
 to_piece : (row : RowView) (cpu : ℕ) (rest piece : Ids) → IsAlike row cpu rest piece → (q : ℕ) → set.contains rest q ≡ true → weight row cpu ≡ weight row q
     → set.contains piece q ≡ true
 to_piece row cpu rest piece alike q has same =
-    alike q ∙ both _ _ has (subst (λ w. is_same_weight (weight row cpu) w ≡ true) same (same_itself (weight row cpu)))
+    alike q ∙ and_from _ _ has (subst (λ w. is_same_weight (weight row cpu) w ≡ true) same (same_itself (weight row cpu)))
 
 -- the piece is a part that the row does not tell apart
 pub piece_is_part :
@@ -166,7 +166,7 @@ pub less_left :
     → set.contains rest cpu ≡ true → IsAlike row cpu rest piece → rest_new ≡ set.difference rest piece → set.len rest_new < set.len rest
 less_left rows k cpu row part rest piece rest_new parts_old alone_old parts_new alone_new is_part splitting has alike left =
     let some : 0 < set.len (set.intersection rest piece) =
-    some_of_member (set.intersection rest piece) cpu (contains-intersection rest piece cpu ∙ both _ _ has (to_piece row cpu rest piece alike cpu has refl)) in
+    some_of_member (set.intersection rest piece) cpu (contains-intersection rest piece cpu ∙ and_from _ _ has (to_piece row cpu rest piece alike cpu has refl)) in
     rw left (omega (arith, some, len_split rest piece (λ n here. is_part.in_range n (splitting.within n here))))
 
 -- one piece more is split off
@@ -184,8 +184,8 @@ splitting_more rows k cpu row edges part rest piece rest_new parts_old alone_old
       within = λ c here. splitting.within c (and_left _ _ (sym (minus c) ∙ here));
       whole = λ a b here twins offered.
           let in_rest : set.contains rest a ≡ true = and_left _ _ (sym (minus a) ∙ here) in
-          let not_in : set.contains piece a ≡ false = not_says _ (and_right _ _ (sym (minus a) ∙ here)) in
-          minus b ∙ both _ _ (splitting.whole a b in_rest twins offered)
+          let not_in : set.contains piece a ≡ false = not-true _ (and_right _ _ (sym (minus a) ∙ here)) in
+          minus b ∙ and_from _ _ (splitting.whole a b in_rest twins offered)
           (not_is _ (λ in_piece_b.
           true≢false (sym (to_piece row cpu rest piece alike a in_rest
           ((in_piece row cpu rest piece alike b in_piece_b).1 ∙ sym (twins_at rows k a b row lt is twins))) ∙ not_in)));
@@ -200,10 +200,6 @@ splitting_more rows k cpu row edges part rest piece rest_new parts_old alone_old
           );
     }
   where
-    not_says : (b : Bool) → not b ≡ true → b ≡ false
-    not_says true e = absurd (false≢true e)
-    not_says false e = refl
-
     not_is : (b : Bool) → (b ≡ true → ⊥) → not b ≡ true
     not_is true never = absurd (never refl)
     not_is false never = refl

@@ -3,9 +3,8 @@ use Rattle.std.proofs.Common.{◌≡◌, ℕ, zero, suc, ◌+◌, ◌<◌, ◌�
 use Rattle.std.specs.Option.{option_or}
 use Rattle.std.specs.FinSet as set
 use Rattle.std.proofs.Math.Numerals.{add-one}
-use Rattle.std.proofs.lemmas.Bool.{cases_eq, cases_lt, eqb-true, eq-eqb, ne_eqb, true≢false, false≢true}
+use Rattle.std.proofs.lemmas.Bool.{cases_eq, cases_lt, eqb-true, eq-eqb, ne_eqb, true≢false, false≢true, and_from, or_right}
 use Rattle.std.proofs.lemmas.List.{get_or_default, take_more, take-append-drop}
-use Rattle.certificate.specs.Tests.{both, or_right}
 use Rattle.std.proofs.lemmas.List.Folds.{find-append}
 use Rattle.certificate.specs.Weight.{weight_in}
 use Rattle.certificate.specs.Limits.{offers_fit}
@@ -143,7 +142,7 @@ pub in_offer :
     → weight_in offers c ≡ Some o.weight
 in_offer offers k o c lt is fit has =
     let first : weight_in (take (k + 1) offers) c ≡ Some o.weight =
-    sym (same_says (Some o.weight) _ (same_more o.weight offers k o c lt is fit ∙ or_right _ _ (both _ _ has (eqb_itself o.weight)))) in
+    sym (same_says (Some o.weight) _ (same_more o.weight offers k o c lt is fit ∙ or_right _ _ (and_from _ _ has (eqb_itself o.weight)))) in
     ap (λ l. weight_in l c) (sym (take-append-drop (k + 1) offers))
     ∙ ap (option_map (λ (p : Offer). p.weight)) (find-append (λ (p : Offer). set.contains p.cpus c) (take (k + 1) offers) (drop (k + 1) offers))
     ∙ extended _ _ o.weight first

@@ -1,10 +1,10 @@
 use Rattle.std.proofs.Common.{◌≡◌, not, sym, ap, ◌∙◌}
-use Rattle.std.proofs.lemmas.Bool.{false≢true}
+use Rattle.std.proofs.lemmas.Bool.{false≢true, not-false}
 use Rattle.std.specs.Prelude.{is_ok}
 use Rattle.cpuset_tree.specs.Groups.{same_group, has_group, requested_cpus}
 use Rattle.cpuset_tree.specs.GroupLemmas.{same_group_itself}
 use Rattle.kernel_model.specs.declared.KernelFault.TheVariants.{NoGroup}
-use Rattle.apply_plan.proofs.ConditionLemmas.{ok_behind, read_is_there, not_root, is_the_root, flipped}
+use Rattle.apply_plan.proofs.ConditionLemmas.{ok_behind, read_is_there, not_root, is_the_root}
 use Rattle.apply_plan.proofs.conditions.is_placed.Goals as goal
 
 pub returns-then-ne : goal.returns-then-ne
@@ -25,5 +25,5 @@ returns-else-ne g c =
     let tree = (g.K.Kernel.state c.args.kernel.now).tree in (
       λ yes. absurd (false≢true (sym c.if-ne.false ∙ yes)),
       λ placed. absurd (false≢true (sym placed.below
-          ∙ is_the_root tree c.root.result c.args.group c.root.ensures.well_formed.tree c.root.ensures.root (flipped _ (sym c.ne.ensures ∙ c.if-ne.false)))),
+          ∙ is_the_root tree c.root.result c.args.group c.root.ensures.well_formed.tree c.root.ensures.root (not-false _ (sym c.ne.ensures ∙ c.if-ne.false)))),
     )

@@ -1,5 +1,5 @@
-use Rattle.apply_plan.proofs.HandoverLemmas.{at_most_two}
-use Rattle.apply_plan.proofs.RunLemmas.{stays_safe, stays_between, ends_within}
+use Rattle.apply_plan.specs.HandoverLemmas.{at_most_two}
+use Rattle.apply_plan.specs.RunLemmas.{stays_safe, stays_between, ends_within}
 use Rattle.apply_plan.proofs.laws.runs.Goals as goal
 
 pub returns : goal.returns

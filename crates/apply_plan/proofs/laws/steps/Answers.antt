@@ -1,4 +1,4 @@
-use Rattle.apply_plan.proofs.RunLemmas.{steps_leave}
+use Rattle.apply_plan.specs.RunLemmas.{steps_leave}
 use Rattle.apply_plan.proofs.laws.steps.Goals as goal
 
 pub returns : goal.returns

@@ -1,6 +1,6 @@
 use Rattle.std.proofs.Common.{◌-◌, sym, ◌∙◌, arith}
 use Rattle.apply_plan.specs.DueWrite.{must_move}
-use Rattle.apply_plan.proofs.DueLemmas.{some_is_found}
+use Rattle.apply_plan.specs.DueLemmas.{some_is_found}
 use Rattle.apply_plan.proofs.scan.all_arrived.Goals as goal
 
 pub returns-then-must_move : goal.returns-then-must_move

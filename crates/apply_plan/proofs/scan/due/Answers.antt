@@ -1,6 +1,6 @@
 use Rattle.std.proofs.Common.{◌≡◌, false, sym, ap, ◌∙◌}
 use Rattle.apply_plan.specs.DueWrite.{must_release}
-use Rattle.apply_plan.proofs.DueLemmas.{release_none, passed_over, first_is_left, release_is_due}
+use Rattle.apply_plan.specs.DueLemmas.{release_none, passed_over, first_is_left, release_is_due}
 use Rattle.apply_plan.proofs.scan.due.Goals as goal
 
 pub returns-in-Some : goal.returns-in-Some

@@ -1,5 +1,5 @@
-use Rattle.apply_plan.proofs.KernelFacts.{made_is_placed}
-use Rattle.apply_plan.proofs.DueLemmas.{due_is_placed}
+use Rattle.apply_plan.specs.KernelFacts.{made_is_placed}
+use Rattle.apply_plan.specs.DueLemmas.{due_is_placed}
 use Rattle.apply_plan.proofs.scan.make_due.Goals as goal
 
 pub make_if_any-requires : goal.make_if_any-requires

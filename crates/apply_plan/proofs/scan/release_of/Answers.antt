@@ -1,6 +1,6 @@
 use Rattle.std.proofs.Common.{◌≡◌, sym, subst}
 use Rattle.apply_plan.specs.Kept.{kept}
-use Rattle.apply_plan.proofs.DueLemmas.{keeps_all_of_it}
+use Rattle.apply_plan.specs.DueLemmas.{keeps_all_of_it}
 use Rattle.apply_plan.proofs.scan.release_of.Goals as goal
 
 pub returns-then-keeps_all : goal.returns-then-keeps_all

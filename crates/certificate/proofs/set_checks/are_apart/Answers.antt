@@ -1,6 +1,6 @@
 use Rattle.certificate.proofs.Elements.{element_at}
+use Rattle.std.proofs.lemmas.Bool.{both_ways}
 use Rattle.certificate.specs.ApartTest.{are_apart_more, are_apart_stop, is_in_one_more}
-use Rattle.certificate.specs.Tests.{not_true}
 use Rattle.cpu_set.specs.Pointwise.{contains-empty}
 use Rattle.std.proofs.Common.{ap, arith, length, refl, sym, ◌<◌, ◌∙◌, ◌≡◌}
 use Rattle.certificate.proofs.set_checks.are_apart.Goals as goal
@@ -14,7 +14,7 @@ returns-then-not-is_disjoint g c =
     let e = element_at c.args.sets.now c.loop-at.at lt in
     let its : c.cpus-cpus.result ≡ e.0.1 = c.cpus-cpus.ensures e.0 ∙ ap (λ p. p.1) (sym e.1) in
     sym (are_apart_stop (λ p. p.1) c.args.sets.now c.loop-at.at e.0 c.loop-at.seen lt e.1 c.loop-at.invariant.same
-    (λ apart. not_true _ c.if-not-is_disjoint.true (c.is_disjoint.ensures.1 (rw its apart))))
+    (λ apart. both_ways _ c.if-not-is_disjoint.true (c.is_disjoint.ensures.1 (rw its apart))))
 
 pub loop-at-preserved : goal.loop-at-preserved
 loop-at-preserved g c =

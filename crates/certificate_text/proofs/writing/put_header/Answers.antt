@@ -1,7 +1,7 @@
 use Rattle.certificate_text.proofs.writing.put_header.Goals as goal
 
-pub returns-then-scaled : goal.returns-then-scaled
-returns-then-scaled g c = rw c.if-scaled.true c.put.ensures
+pub returns-in-Plain : goal.returns-in-Plain
+returns-in-Plain g c = rw c.in-Plain.is c.put.ensures
 
-pub returns-else-scaled : goal.returns-else-scaled
-returns-else-scaled g c = rw c.if-scaled.false c.put-else-scaled.ensures
+pub returns-in-WithMoves : goal.returns-in-WithMoves
+returns-in-WithMoves g c = rw c.in-WithMoves.is c.put-in-WithMoves.ensures

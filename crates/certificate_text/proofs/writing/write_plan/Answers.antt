@@ -8,24 +8,24 @@ use Rattle.certificate_text.proofs.writing.write_plan.Goals as goal
 pub returns-in_err-put_head-clause-written : goal.returns-in_err-put_head-clause-written
 returns-in_err-put_head-clause-written g c =
     let p = err_from_is_err_and c.from_residual.result c.from_residual.ensures.1 in
-    rw (p.1, text_of-plan c.args.rows.now c.args.sets.now c.args.prices.now c.args.total c.args.scaled) (SendsFront-more _ _ _ _ c.in_err-put_head.ensures.written)
+    rw (p.1, text_of-plan c.args.rows.now c.args.sets.now c.args.prices.now c.args.total c.args.weights) (SendsFront-more _ _ _ _ c.in_err-put_head.ensures.written)
 
 pub returns-in_err-put_holds-clause-written : goal.returns-in_err-put_holds-clause-written
 returns-in_err-put_holds-clause-written g c =
     let p = err_from_is_err_and c.from_residual-in_err-put_holds.result c.from_residual-in_err-put_holds.ensures.1 in
-    rw (p.1, text_of-plan c.args.rows.now c.args.sets.now c.args.prices.now c.args.total c.args.scaled, ← c.prices.view_is)
+    rw (p.1, text_of-plan c.args.rows.now c.args.sets.now c.args.prices.now c.args.total c.args.weights, ← c.prices.view_is)
     (SendsFront-then _ _ _ _ _ c.in_ok-put_head.ensures.written (SendsFront-more _ _ _ _ (rw c.as_slice.ensures.value at c.in_err-put_holds.ensures.written)))
 
 pub returns-in_err-put_prices-clause-written : goal.returns-in_err-put_prices-clause-written
 returns-in_err-put_prices-clause-written g c =
     let p = err_from_is_err_and c.from_residual-in_err-put_prices.result c.from_residual-in_err-put_prices.ensures.1 in
-    rw (p.1, text_of-plan c.args.rows.now c.args.sets.now c.args.prices.now c.args.total c.args.scaled, ← c.prices.view_is)
+    rw (p.1, text_of-plan c.args.rows.now c.args.sets.now c.args.prices.now c.args.total c.args.weights, ← c.prices.view_is)
     (SendsFront-then _ _ _ _ _ c.in_ok-put_head.ensures.written (SendsFront-then _ _ _ _ _ (rw c.as_slice.ensures.value at c.in_ok-put_holds.ensures.written)
     (SendsFront-more _ _ _ _ (c.in_err-put_prices.ensures.written))))
 
 pub returns-clause-written : goal.returns-clause-written
 returns-clause-written g c =
-    rw (text_of-plan c.args.rows.now c.args.sets.now c.args.prices.now c.args.total c.args.scaled, ← c.prices.view_is)
+    rw (text_of-plan c.args.rows.now c.args.sets.now c.args.prices.now c.args.total c.args.weights, ← c.prices.view_is)
     (Writes-then _ _ _ c.put_total.result _ _ c.in_ok-put_head.ensures.written (Writes-then _ _ _ c.put_total.result _ _ (rw c.as_slice.ensures.value at c.in_ok-put_holds.ensures.written)
     (Writes-then _ _ _ c.put_total.result _ _ (c.in_ok-put_prices.ensures.written) c.put_total.ensures)))
 

@@ -1,5 +1,8 @@
+use Rattle.rows.specs.LimitLemmas.{rows_weigh}
+use Rattle.apply_plan.specs.RunLemmas.{steps_leave, ends_within}
+use Rattle.apply_plan.specs.HandoverLemmas.{at_most_two}
 use Rattle.node.proofs.EndingLemmas.{handovers_end}
 use Rattle.node.proofs.laws.each_handover.Goals as goal
 
 pub returns : goal.returns
-returns c = handovers_end c.rows_weigh.ensures c.steps.ensures c.runs.ensures.ends c.runs.ensures.few
+returns c = handovers_end rows_weigh steps_leave ends_within at_most_two

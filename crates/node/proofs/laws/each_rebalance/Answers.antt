@@ -1,5 +1,9 @@
+use Rattle.rows.specs.LimitLemmas.{rows_weigh}
+use Rattle.rows.specs.PartLemmas.{scaled_rows_weigh}
+use Rattle.apply_plan.specs.RunLemmas.{steps_leave}
+use Rattle.apply_plan.specs.EffectLemmas.{targets_take_effect}
 use Rattle.node.proofs.MachineLemmas.{runs_rebalance}
 use Rattle.node.proofs.laws.each_rebalance.Goals as goal
 
 pub returns : goal.returns
-returns c = runs_rebalance c.rows_weigh.ensures c.steps.ensures c.effects.ensures.targets c.scaled_rows_weigh.ensures.weights
+returns c = runs_rebalance rows_weigh steps_leave targets_take_effect scaled_rows_weigh

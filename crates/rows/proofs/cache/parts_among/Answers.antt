@@ -5,7 +5,7 @@ use Rattle.rows.specs.CachedOffers.{IsCached}
 use Rattle.rows.specs.Scaled.{parted}
 use Rattle.rows.proofs.CacheLemmas.{offers_are}
 use Rattle.rows.proofs.HeldLemmas.{offers_of_some}
-use Rattle.rows.proofs.LimitLemmas.{offers_of_distances}
+use Rattle.rows.specs.LimitLemmas.{offers_of_distances}
 use Rattle.rows.proofs.cache.parts_among.Goals as goal
 
 pub parts_for-requires : goal.parts_for-requires

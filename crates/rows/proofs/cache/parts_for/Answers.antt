@@ -1,7 +1,7 @@
 use Rattle.std.proofs.Common.{◌≡◌, ◌∙◌, IfOk, sym, subst}
 use Rattle.rows.proofs.CacheLemmas.{kept_parts}
 use Rattle.rows.proofs.HeldLemmas.{offers_of_some}
-use Rattle.rows.proofs.LimitLemmas.{offers_of_distances}
+use Rattle.rows.specs.LimitLemmas.{offers_of_distances}
 use Rattle.rows.proofs.cache.parts_for.Goals as goal
 
 pub parts_of-requires : goal.parts_of-requires

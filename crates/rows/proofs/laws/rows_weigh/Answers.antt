@@ -1,4 +1,4 @@
-use Rattle.rows.proofs.LimitLemmas.{rows_weigh}
+use Rattle.rows.specs.LimitLemmas.{rows_weigh}
 use Rattle.rows.proofs.laws.rows_weigh.Goals as goal
 
 pub returns : goal.returns

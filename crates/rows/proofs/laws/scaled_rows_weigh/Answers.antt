@@ -1,4 +1,4 @@
-use Rattle.rows.proofs.PartLemmas.{scaled_rows_weigh, distances_stay, moves_are_unheld}
+use Rattle.rows.specs.PartLemmas.{scaled_rows_weigh, distances_stay, moves_are_unheld}
 use Rattle.rows.proofs.laws.scaled_rows_weigh.Goals as goal
 
 pub returns : goal.returns

@@ -1,20 +1,20 @@
-use Rattle.std.proofs.Common.{◌≡◌, ◌+◌, ◌*◌, ◌++◌, ◌≤◌, [], ◌∷◌, List, get_or, true, sym, ap, ◌∙◌, arith}
+use Rattle.std.proofs.Common.{◌≡◌, ◌++◌, ◌≤◌, [], ◌∷◌, List, get_or, true, sym, ap, ◌∙◌, arith}
 use Rattle.std.proofs.lemmas.List.Sums.{AllPass-from_list_all}
 use Rattle.std.proofs.lemmas.Result.{on_ok_weaker}
+use Rattle.certificate.specs.Packed.{packed}
 use Rattle.certificate.specs.declared.Offer.{Offer}
-use Rattle.certificate.specs.declared.limits.TheConstants.{MOVE_SCALE}
 use Rattle.rows.specs.Offers.{has_some}
 use Rattle.rows.proofs.HeldLemmas.{distance_at, parted_none}
 use Rattle.rows.proofs.parts.push_parts.Goals as goal
 
-pub overflow_mul-weight : goal.overflow_mul-weight
-overflow_mul-weight c =
-    let low : c.weight-weight.result ≤ 254 = distance_at _ _ _ c.requires.distances c.requires.place c.weight-weight.ensures in
+pub weight-moved-requires : goal.weight-moved-requires
+weight-moved-requires c =
+    let low : c.from-distance.result ≤ 254 = distance_at _ _ _ c.requires.distances c.requires.place (λ d. c.from-distance.ensures ∙ c.weight.ensures d) in
     omega arith
 
-pub overflow_add-weight : goal.overflow_add-weight
-overflow_add-weight c =
-    let low : c.weight-weight.result ≤ 254 = distance_at _ _ _ c.requires.distances c.requires.place c.weight-weight.ensures in
+pub weight-kept-requires : goal.weight-kept-requires
+weight-kept-requires c =
+    let low : c.from-distance.result ≤ 254 = distance_at _ _ _ c.requires.distances c.requires.place (λ d. c.from-distance.ensures ∙ c.weight.ensures d) in
     omega arith
 
 pub returns-then-have_none : goal.returns-then-have_none
@@ -23,6 +23,6 @@ returns-then-have_none c = λ d.
     let some : has_some o ≡ true = AllPass-from_list_all has_some c.args.offers.now c.requires.some c.args.at d c.requires.place in
     on_ok_weaker c.push_from.result
     (λ pushed. pushed ∙ ap (λ (l : List Offer). c.args.parts.now ++ l)
-    (ap (λ w. record { weight = w * MOVE_SCALE + 1; cpus = o.cpus } ∷ []) (c.weight-weight.ensures d)
+    (ap (λ w. record { weight = w; cpus = o.cpus } ∷ []) (c.weight-moved.ensures ∙ ap (λ w. packed w 1) (c.from-distance.ensures ∙ c.weight.ensures d))
     ∙ sym (parted_none c.args.held.now o some (λ n has. c.have_none.ensures c.if-have_none.true n (c.ranges-2.ensures.members d n ∙ has)))))
     (c.push_from.ensures.ok d)

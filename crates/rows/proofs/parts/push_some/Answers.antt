@@ -2,7 +2,7 @@ use Rattle.std.proofs.Common.{rules, ◌++◌, sym, ap, ◌∙◌}
 use Rattle.std.proofs.lemmas.Bool.{false≢true}
 use Rattle.std.proofs.lemmas.List.{append-nil}
 use Rattle.std.proofs.lemmas.Result.{on_ok_weaker}
-use Rattle.rows.proofs.PartLemmas.{none_pushed, some_pushed}
+use Rattle.rows.specs.PartLemmas.{none_pushed, some_pushed}
 use Rattle.rows.proofs.parts.push_some.Goals as goal
 
 pub returns-then-is_empty : goal.returns-then-is_empty

@@ -1,6 +1,6 @@
 use Rattle.std.proofs.Common.{refl}
-use Rattle.rows.proofs.LimitLemmas.{allowed_part, pinned_row_fits, offers_of_distances}
-use Rattle.rows.proofs.PartLimits.{scaled_row_fits}
+use Rattle.rows.specs.LimitLemmas.{allowed_part, pinned_row_fits, offers_of_distances}
+use Rattle.rows.specs.PartLimits.{scaled_row_fits}
 use Rattle.rows.proofs.row.scaled_row_of.Goals as goal
 
 pub parts_among-requires-clause-reach : goal.parts_among-requires-clause-reach

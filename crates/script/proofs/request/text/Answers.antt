@@ -1,11 +1,11 @@
 use Rattle.std.proofs.Common.{refl}
+use Rattle.std.proofs.lemmas.Bool.{false_from_ne_true}
 use Rattle.std.proofs.lemmas.Str.{IsUtf8-from_is_utf8, is_utf8-from_IsUtf8}
 use Rattle.std.specs.Str.{is_utf8}
-use Rattle.script.proofs.Feeds.{not_true}
 use Rattle.script.proofs.request.text.Goals as goal
 
 pub returns-in-Ok : goal.returns-in-Ok
 returns-in-Ok c = rw (c.in-Ok.ensures.cases.0, is_utf8-from_IsUtf8 c.args.word.now c.in-Ok.ensures.cases.1) refl
 
 pub returns-in-Err : goal.returns-in-Err
-returns-in-Err c = rw (not_true (is_utf8 c.args.word.now) (λ e. c.in-Err.ensures.cases.0 (IsUtf8-from_is_utf8 c.args.word.now e))) refl
+returns-in-Err c = rw (false_from_ne_true (is_utf8 c.args.word.now) (λ e. c.in-Err.ensures.cases.0 (IsUtf8-from_is_utf8 c.args.word.now e))) refl

@@ -1,12 +1,11 @@
 use Rattle.std.proofs.Common.{◌≡◌, ℕ, ◌<◌, ◌&&◌, true, Some, List, nat_le, length, get_or, sym, ap, subst, ◌∙◌}
 use Rattle.std.specs.FinSet as set
 use Rattle.std.specs.List.{All}
-use Rattle.std.proofs.lemmas.Bool.{le-leb}
+use Rattle.std.proofs.lemmas.Bool.{le-leb, and_from}
 use Rattle.std.proofs.lemmas.List.Elements.{All-push}
 use Rattle.std.proofs.lemmas.List.Folds.{list_any_at}
 use Rattle.cpu_set.specs.Ranges.{in_ranges}
 use Rattle.certificate.specs.Limits.{offers_fit}
-use Rattle.certificate.specs.Tests.{both}
 use Rattle.certificate.specs.declared.rows.Offer.{Offer}
 use Rattle.twins.specs.AreSpans.{IsSpan}
 use Rattle.twins.proofs.Weights.{at_place, in_offer}
@@ -22,7 +21,7 @@ range_weighs :
     → IsSpan offers (record { first = (get_or ranges i (0, 0)).0; last = (get_or ranges i (0, 0)).1; weight = w })
 range_weighs offers at w ranges i fit lt weighs members in_i cpu from to =
     in_offer offers at (get_or offers at none) cpu lt (at_place offers at none lt) fit
-    (sym (members none cpu) ∙ list_any_at (λ (p : ℕ × ℕ). nat_le p.0 cpu && nat_le cpu p.1) ranges i (0, 0) in_i (both _ _ (le-leb _ _ from) (le-leb _ _ to)))
+    (sym (members none cpu) ∙ list_any_at (λ (p : ℕ × ℕ). nat_le p.0 cpu && nat_le cpu p.1) ranges i (0, 0) in_i (and_from _ _ (le-leb _ _ from) (le-leb _ _ to)))
     ∙ ap Some (sym (weighs none))
 
 pub loop-range-preserved : goal.loop-range-preserved

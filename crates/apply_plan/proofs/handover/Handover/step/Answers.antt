@@ -1,5 +1,5 @@
 use Rattle.std.proofs.Common.{refl}
-use Rattle.apply_plan.proofs.HandoverLemmas.{at_most_two, step_safe, step_lowers, step_between, step_done, step_counts, step_makes, step_keeps}
+use Rattle.apply_plan.specs.HandoverLemmas.{at_most_two, step_safe, step_lowers, step_between, step_done, step_counts, step_makes, step_keeps}
 use Rattle.apply_plan.proofs.handover.Handover.step.Goals as goal
 
 pub returns : goal.returns

@@ -2,7 +2,7 @@ use Rattle.std.proofs.Common.{List, sym, ap, ◌∙◌}
 use Rattle.std.specs.Prelude.{find, is_none}
 use Rattle.apply_plan.specs.declared.entry.Entry.{Entry}
 use Rattle.apply_plan.specs.DueWrite.{must_move, due_write, written, progress_of}
-use Rattle.apply_plan.proofs.DueLemmas.{nothing_is_due}
+use Rattle.apply_plan.specs.DueLemmas.{nothing_is_due}
 use Rattle.apply_plan.proofs.handover.Handover.step_body.Goals as goal
 
 pub returns-then-all_arrived-clause-step : goal.returns-then-all_arrived-clause-step

@@ -1,5 +1,6 @@
 use Rattle.std.proofs.Common.{sym, ap}
 use Rattle.std.specs.Prelude.{Ok, Err, option_map}
+use Rattle.apply_plan.specs.RunLemmas.{steps_leave}
 use Rattle.node.specs.Viewed.{seen_ongoing}
 use Rattle.node.proofs.StepLemmas.{open_now}
 use Rattle.node.proofs.FinishLemmas.{finished, finished_node}
@@ -7,26 +8,26 @@ use Rattle.node.proofs.node.Node.finish.Goals as goal
 
 pub finish-requires : goal.finish-requires
 finish-requires g c =
-    (open_now c.steps.ensures _ c.self.invariant (seen_ongoing c.in-Some.ongoing) (sym (ap (option_map seen_ongoing) c.in-Some.ensures.value))).placed
+    (open_now steps_leave _ c.self.invariant (seen_ongoing c.in-Some.ongoing) (sym (ap (option_map seen_ongoing) c.in-Some.ensures.value))).placed
 
 pub invariant_of-self : goal.invariant_of-self
 invariant_of-self g c =
-    finished_node c.steps.ensures _ c.self.invariant (seen_ongoing c.in-Some.ongoing) (sym (ap (option_map seen_ongoing) c.in-Some.ensures.value))
+    finished_node steps_leave _ c.self.invariant (seen_ongoing c.in-Some.ongoing) (sym (ap (option_map seen_ongoing) c.in-Some.ensures.value))
     (g.K.Kernel.state c.finish.new.kernel) (Ok tt) c.in-Ok.ensures.finishes (option_map seen_ongoing c.take.new.self) (ap (option_map seen_ongoing) c.take.ensures.after)
 
 pub invariant_of-self-in-Err : goal.invariant_of-self-in-Err
 invariant_of-self-in-Err g c =
-    finished_node c.steps.ensures _ c.self.invariant (seen_ongoing c.in-Some.ongoing) (sym (ap (option_map seen_ongoing) c.in-Some.ensures.value))
+    finished_node steps_leave _ c.self.invariant (seen_ongoing c.in-Some.ongoing) (sym (ap (option_map seen_ongoing) c.in-Some.ensures.value))
     (g.K.Kernel.state c.finish.new.kernel) (Err c.in-Err.fault) c.in-Err.ensures.finishes (option_map seen_ongoing c.take.new.self) (ap (option_map seen_ongoing) c.take.ensures.after)
 
 pub returns-in-Ok : goal.returns-in-Ok
 returns-in-Ok g c =
-    finished c.steps.ensures _ c.self.invariant (seen_ongoing c.in-Some.ongoing) (sym (ap (option_map seen_ongoing) c.in-Some.ensures.value))
+    finished steps_leave _ c.self.invariant (seen_ongoing c.in-Some.ongoing) (sym (ap (option_map seen_ongoing) c.in-Some.ensures.value))
     (g.K.Kernel.state c.finish.new.kernel) (Ok tt) c.in-Ok.ensures.finishes (option_map seen_ongoing c.take.new.self) (ap (option_map seen_ongoing) c.take.ensures.after)
     _ c.self.view_is
 
 pub returns : goal.returns
 returns g c =
-    finished c.steps.ensures _ c.self.invariant (seen_ongoing c.in-Some.ongoing) (sym (ap (option_map seen_ongoing) c.in-Some.ensures.value))
+    finished steps_leave _ c.self.invariant (seen_ongoing c.in-Some.ongoing) (sym (ap (option_map seen_ongoing) c.in-Some.ensures.value))
     (g.K.Kernel.state c.finish.new.kernel) (Err c.in-Err.fault) c.in-Err.ensures.finishes (option_map seen_ongoing c.take.new.self) (ap (option_map seen_ongoing) c.take.ensures.after)
     _ c.self.view_is

@@ -1,3 +1,8 @@
+use Rattle.rows.specs.LimitLemmas.{rows_weigh}
+use Rattle.rows.specs.PartLemmas.{scaled_rows_weigh}
+use Rattle.apply_plan.specs.RunLemmas.{steps_leave}
+use Rattle.apply_plan.specs.EffectLemmas.{targets_take_effect}
+use Rattle.apply_plan.specs.HandoverLemmas.{at_most_two}
 use Rattle.node.proofs.HeadlineLemmas.{headline, rebalance_counts, rebalance_makes}
 use Rattle.node.proofs.node.Node.rebalance.Goals as goal
 
@@ -5,8 +10,8 @@ pub returns : goal.returns
 returns g c =
     let done = c.rebalance_body.ensures in
     record {
-      headline = headline c.args.self.now c.holds.ensures c.rows_weigh.ensures c.steps.ensures c.effects.ensures.targets c.scaled_rows_weigh.ensures.weights c.rebalance_body.result c.rebalance_body.new.self done;
+      headline = headline c.args.self.now c.holds.ensures rows_weigh steps_leave targets_take_effect scaled_rows_weigh c.rebalance_body.result c.rebalance_body.new.self done;
       rebalances = done;
-      counted = rebalance_counts c.args.self.now c.holds.ensures c.rows_weigh.ensures c.steps.ensures c.rebalance_body.result c.rebalance_body.new.self done;
-      made = rebalance_makes c.args.self.now c.holds.ensures c.rows_weigh.ensures c.steps.ensures c.effects.ensures.targets c.runs.ensures.few c.rebalance_body.result c.rebalance_body.new.self done;
+      counted = rebalance_counts c.args.self.now c.holds.ensures rows_weigh steps_leave c.rebalance_body.result c.rebalance_body.new.self done;
+      made = rebalance_makes c.args.self.now c.holds.ensures rows_weigh steps_leave targets_take_effect at_most_two c.rebalance_body.result c.rebalance_body.new.self done;
     }

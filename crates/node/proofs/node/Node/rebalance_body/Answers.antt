@@ -5,17 +5,17 @@ use Rattle.node.proofs.RebalanceLemmas.{moves, plan_moved, short_left}
 use Rattle.node.proofs.node.Node.rebalance_body.Goals as goal
 use Rattle.node.proofs.node.Node.rebalance_body.Goals.{in-Plan+in_default-finish, in_default}
 
-pub returns-in-Err-finish : goal.returns-in-Err-finish
-returns-in-Err-finish g c =
-    (c.in-Plan.field-0, moves c.args.self.now c.begin.new.self c.in-Ok.outcome c.in-Ok.ensures c.in-Plan.field-0 c.in-Plan.is (Err c.in-Err-finish.fault) c.finish.new.self c.in-Err-finish.ensures)
+pub returns-in-Err : goal.returns-in-Err
+returns-in-Err g c =
+    (c.in-Plan.field-0, moves c.args.self.now c.begin.new.self c.in_ok-outcome.outcome c.in_ok-outcome.ensures c.in-Plan.field-0 c.in-Plan.is (Err c.in-Err.fault) c.finish.new.self c.in-Err.ensures)
 
 pub returns : goal.returns
 returns g c =
     elim c.match-outcome.branch [
       | in-Plan+in_default-finish w ↦
-          subst (λ (n : NodeState). Rebalances c.args.self.now (Ok c.in-Ok.outcome) n) (sym w.self-is)
-          (plan_moved c.args.self.now c.begin.new.self c.in-Ok.outcome c.in-Ok.ensures w.in-Plan.field-0 w.in-Plan.is w.finish.new.self w.in_default-finish.ensures)
+          subst (λ (n : NodeState). Rebalances c.args.self.now (Ok c.in_ok-outcome.outcome) n) (sym w.self-is)
+          (plan_moved c.args.self.now c.begin.new.self c.in_ok-outcome.outcome c.in_ok-outcome.ensures w.in-Plan.field-0 w.in-Plan.is w.finish.new.self w.in_default-finish.ensures)
       | in_default w ↦
-          subst (λ (n : NodeState). Rebalances c.args.self.now (Ok c.in-Ok.outcome) n) (sym w.self-is)
-          (short_left c.args.self.now c.begin.new.self c.in-Ok.outcome w.in_default.not-Plan c.in-Ok.ensures)
+          subst (λ (n : NodeState). Rebalances c.args.self.now (Ok c.in_ok-outcome.outcome) n) (sym w.self-is)
+          (short_left c.args.self.now c.begin.new.self c.in_ok-outcome.outcome w.in_default.not-Plan c.in_ok-outcome.ensures)
     ]

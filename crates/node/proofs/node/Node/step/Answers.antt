@@ -1,9 +1,10 @@
+use Rattle.apply_plan.specs.RunLemmas.{steps_leave}
 use Rattle.node.proofs.StepLemmas.{says, broken_off, counts}
 use Rattle.node.proofs.node.Node.step.Goals as goal
 
 pub returns : goal.returns
 returns g c =
-    let law = c.steps.ensures in
+    let law = steps_leave in
     let old = c.args.self.now in
     let new = c.step_body.new.self in
     let r = c.step_body.result in

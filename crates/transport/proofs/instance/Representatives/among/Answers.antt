@@ -1,7 +1,8 @@
 use Rattle.std.proofs.Common.{◌≡◌, ℕ, true, ◌&&◌, sym, ap, ◌∙◌, subst}
+use Rattle.std.proofs.lemmas.Bool.{and_from}
 use Rattle.std.specs.FinSet as set
 use Rattle.cpu_set.specs.Pointwise.{contains-intersection}
-use Rattle.certificate.specs.Tests.{and_left, and_right, both}
+use Rattle.certificate.specs.Tests.{and_left, and_right}
 use Rattle.transport.specs.Numbers.{number, IsIn}
 use Rattle.transport.proofs.instance.Representatives.among.Goals as goal
 use Rattle.transport.proofs.instance.Representatives.among.Goals.{After-meet}
@@ -22,4 +23,4 @@ returns-clause-some c = λ cpu has.
 pub returns-clause-all : goal.returns-clause-all
 returns-clause-all c = λ g lt has.
     let e = in_both (goal.at.returns-clause-all c).After-meet (number c.args.self.now g) in
-    e ∙ both _ _ (subst (λ cpus. set.contains c.self.inside.set (number cpus g) ≡ true) c.self.view_is (c.self.invariant.all g (rw c.self.view_is lt))) has
+    e ∙ and_from _ _ (subst (λ cpus. set.contains c.self.inside.set (number cpus g) ≡ true) c.self.view_is (c.self.invariant.all g (rw c.self.view_is lt))) has

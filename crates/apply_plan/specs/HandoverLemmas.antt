@@ -22,11 +22,11 @@ use Rattle.apply_plan.specs.Kept.{kept}
 use Rattle.apply_plan.specs.Targets.{Targets, holders_of, IsHandover, IsPlaced, ArePlaced}
 use Rattle.apply_plan.specs.DueWrite.{held, kept_of, must_release, must_move, release_of, move_of, due, written, progress_of, Steps, writes_of, writes_to_come, HasTarget, HaveTargets, IsBetween, Between, Lowers, made_by_step, Spends}
 use Rattle.apply_plan.specs.Leaves.{KeepsRest}
-use Rattle.apply_plan.proofs.ListLemmas.{all_map, find_none, find_among, sum_bounded}
-use Rattle.apply_plan.proofs.KernelFacts.{with_request, is_write, stands}
-use Rattle.apply_plan.proofs.WriteLemmas.{holds_target}
-use Rattle.apply_plan.proofs.StepLemmas.{waits_at_most, released_safe, released_lowers, moved_safe, moved_lowers, stays_between, keeps_between}
-use Rattle.apply_plan.proofs.DueLemmas.{Due, Releases, Moves, Rests, due_is}
+use Rattle.apply_plan.specs.ListLemmas.{all_map, find_none, find_among, sum_bounded}
+use Rattle.apply_plan.specs.KernelFacts.{with_request, is_write, stands}
+use Rattle.apply_plan.specs.WriteLemmas.{holds_target}
+use Rattle.apply_plan.specs.StepLemmas.{waits_at_most, released_safe, released_lowers, moved_safe, moved_lowers, stays_between, keeps_between}
+use Rattle.apply_plan.specs.DueLemmas.{Due, Releases, Moves, Rests, due_is}
 
 module _ (h : Targets) (valid : IsHandover h) (old : KernelState) (placed : ArePlaced old h.entries) where
   -- the group of an entry that was found is in the tree

@@ -1,7 +1,7 @@
 -- The offers of a row fit the limits, and what a CPU weighs among them.
 use Rattle.std.proofs.Common.{◌≡◌, ℕ, zero, suc, ◌+◌, ◌<◌, ◌≤◌, Bool, true, false, cond, ◌&&◌, ◌==◌, nat_le, Some, None, List, ◌∷◌, map, filter, refl, sym, ap, ◌∙◌, inl, inr, arith}
 use Rattle.std.specs.List.{range_with_len, list_all}
-use Rattle.std.proofs.lemmas.Bool.{cases_eq, false≢true}
+use Rattle.std.proofs.lemmas.Bool.{cases_eq, false≢true, and_from}
 use Rattle.std.proofs.lemmas.Bool.Decides.{nat_tests}
 use Rattle.std.specs.FinSet as set
 use Rattle.cpu_set.specs.Ids.{Ids}
@@ -22,15 +22,12 @@ use Rattle.rows.specs.Offers.{of_weight, offer_at, has_some, offers_of}
 use Rattle.rows.specs.RowOf.{available, row_of_kind}
 use Rattle.rows.specs.Weighs.{RowsWeigh}
 use Rattle.rows.specs.Scaled.{are_distances}
-use Rattle.rows.proofs.OfferLemmas.{contains-of_weight, offers_some}
+use Rattle.rows.specs.OfferSets.{contains-of_weight, offers_some}
 
 -- a test that all of a list pass, those among them that pass another pass it too
 all_kept : {A : Type 0} (p : A → Bool) (b : Bool) (x : A) (rest : List A) → p x ≡ true → list_all p rest ≡ true → list_all p (cond b (x ∷ rest) rest) ≡ true
 all_kept p true x rest one all = rw one all
 all_kept p false x rest one all = all
-
-both_pass : (a b : Bool) → a ≡ true → b ≡ true → (a && b) ≡ true
-both_pass a b e f = rw e f
 
 apart_kept : (b : Bool) (x : Offer) (rest : List Offer) → list_all (λ (o : Offer). is_disjoint x.cpus o.cpus) rest ≡ true → are_apart (λ (o : Offer). o.cpus) rest ≡ true
     → are_apart (λ (o : Offer). o.cpus) (cond b (x ∷ rest) rest) ≡ true
@@ -78,7 +75,7 @@ module _ (m : Layout) (homes cpus : Ids) where
 
   fit_at : (n : ℕ) → n ≤ MAX_WEIGHT + 1 → offers_fit (from 0 n) ≡ true
   unfolding offers_fit
-  fit_at n few = both_pass _ _ (light MAX_WEIGHT 0 n (omega (arith, few))) (apart 0 n)
+  fit_at n few = and_from _ _ (light MAX_WEIGHT 0 n (omega (arith, few))) (apart 0 n)
 
   pub offers_of_fit : offers_fit (offers_of m homes cpus) ≡ true
   unfolding offers_of
@@ -143,7 +140,7 @@ pub row_of_fits : (m : Layout) (homes cpus : Ids) (id : List ℕ) (count : ℕ) 
     → row_fits (record { id = id; demand = count; offers = offers_of m homes cpus }) ≡ true
 unfolding row_fits
 row_of_fits m homes cpus id count some few =
-    both_pass _ _ (grind (arith, nat_tests)) (both_pass _ _ (below MAX_DEMAND refl) (offers_of_fit m homes cpus))
+    and_from _ _ (grind (arith, nat_tests)) (and_from _ _ (below MAX_DEMAND refl) (offers_of_fit m homes cpus))
   where
     below : (limit : ℕ) → limit ≡ CPU_LIMIT → nat_le count limit ≡ true
     below limit is = let low : count ≤ limit = omega (arith, few, is) in grind (arith, nat_tests)

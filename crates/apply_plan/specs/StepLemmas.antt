@@ -16,8 +16,8 @@ use Rattle.apply_plan.specs.Kept.{kept}
 use Rattle.apply_plan.specs.Targets.{Targets, holder_of, holders_of, HaveOtherGroups, AreTargetsApart, IsHandover}
 use Rattle.apply_plan.specs.DueWrite.{held, kept_of, must_release, must_move, writes_of, writes_to_come, IsBetween}
 use Rattle.apply_plan.specs.KeptLemmas.{kept_is_some, kept_within, kept_target, kept_again}
-use Rattle.apply_plan.proofs.ListLemmas.{all_map, all_map2, all_of, all_of_map, of_all_map, pairs_map, pairs_both, pairs_of_map, of_pairs_map, find_passes, find_among, find_none, sum_lowered}
-use Rattle.apply_plan.proofs.WriteLemmas.{IsWrite, Left, ApartAs, apart_swap, targets_swap, all_left, stays_apart, MeetsNothing, by_test, keeps_all}
+use Rattle.apply_plan.specs.ListLemmas.{all_map, all_map2, all_of, all_of_map, of_all_map, pairs_map, pairs_both, pairs_of_map, of_pairs_map, find_passes, find_among, find_none, sum_lowered}
+use Rattle.apply_plan.specs.WriteLemmas.{IsWrite, Left, ApartAs, apart_swap, targets_swap, all_left, stays_apart, MeetsNothing, by_test, keeps_all}
 
 module _ (old new : KernelState) (reserved : Ids) (entries : List Entry) (e : Entry) (cpus : Ids) (w : IsWrite old new e.group cpus)
     (test : Entry → Bool) (found : find test entries ≡ Some e) (groups : Pairwise HaveOtherGroups entries) where

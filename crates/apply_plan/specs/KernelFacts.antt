@@ -13,8 +13,8 @@ use Rattle.apply_plan.specs.declared.entry.Entry.{Entry}
 use Rattle.apply_plan.specs.declared.scan.Write.{Write}
 use Rattle.apply_plan.specs.Targets.{IsPlaced, ArePlaced}
 use Rattle.apply_plan.specs.Walks.{IsMadeIfAny}
-use Rattle.apply_plan.proofs.ListLemmas.{all_map}
-use Rattle.apply_plan.proofs.WriteLemmas.{IsWrite}
+use Rattle.apply_plan.specs.ListLemmas.{all_map}
+use Rattle.apply_plan.specs.WriteLemmas.{IsWrite}
 
 module _ (k : KernelState) (g : Group) (cpus : Ids) where
   -- the kernel where the group requests these

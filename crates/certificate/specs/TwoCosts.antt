@@ -1,9 +1,8 @@
 -- What scaled weights mean.
-use Rattle.std.proofs.Common.{◌≡◌, ℕ, zero, suc, ◌+◌, ◌*◌, ◌/◌, ◌%◌, ◌<◌, ◌≤◌, Bool, true, false, cond, Option, Some, None, option_map, unwrap_or, IsSome, List, [], ◌∷◌, map, zip, sum_by, refl, sym, ap, ◌∙◌, arith}
+use Rattle.std.proofs.Common.{◌≡◌, ℕ, ◌+◌, ◌*◌, ◌≤◌, Bool, true, false, cond, Option, Some, None, option_map, unwrap_or, IsSome, List, [], ◌∷◌, map, zip, sum_by, refl, sym, ap, ◌∙◌, arith}
 use Rattle.std.specs.Prelude.{find}
 use Rattle.std.specs.List.{AllZip, list_all}
 use Rattle.std.specs.FinSet as set
-use Rattle.std.proofs.lemmas.Nat.{div-add-mod'}
 use Rattle.std.proofs.lemmas.Bool.{leb-true}
 use Rattle.std.proofs.lemmas.List.Sums.{sum_by-cons, sum_by-le-sum_by}
 use Rattle.cpu_set.specs.Ids.{Ids}
@@ -16,6 +15,7 @@ use Rattle.certificate.specs.IsPlan.{Meets, IsPlan}
 use Rattle.certificate.specs.PlanFault.{is_held}
 use Rattle.certificate.specs.declared.rows.Offer.{Offer}
 use Rattle.certificate.specs.declared.limits.TheConstants.{MOVE_SCALE}
+use Rattle.certificate.specs.Packed.{packed, distance_of, moves_of, packed-parts, no_farther}
 use Rattle.certificate.specs.Scaled.{with_weight, with_weights, by_distance, by_moves, is_scaled, are_scaled, CostSplits, SamePlans, MovesAreFew, LeastIsNearest}
 use Rattle.certificate.specs.ScaledLaws.{weight_with}
 use Rattle.certificate.specs.Tests.{and_left, and_right}
@@ -66,7 +66,7 @@ plan_without : (f : ℕ → ℕ) (rows : List RowView) (sets : List Ids) → IsP
 plan_without f rows sets plan = record { met = all_meet_without f rows sets plan.met; apart = plan.apart }
 
 pub same_plans : SamePlans
-same_plans rows sets = (plan_with (λ w. w / MOVE_SCALE) rows sets, plan_without (λ w. w / MOVE_SCALE) rows sets)
+same_plans rows sets = (plan_with distance_of rows sets, plan_without distance_of rows sets)
 
 -- ---- costs
 
@@ -94,22 +94,19 @@ module _ (f g : ℕ → ℕ) (m : ℕ) (split : (w : ℕ) → f w * m + g w ≡ 
       )
       (omega arith)
 
-scaled_splits : (rows : List RowView) (sets : List Ids) → cost rows sets ≡ cost (by_distance rows) sets * MOVE_SCALE + cost (by_moves rows) sets
-scaled_splits = cost_splits_by (λ w. w / MOVE_SCALE) (λ w. w % MOVE_SCALE) MOVE_SCALE (λ w. div-add-mod' w MOVE_SCALE)
-
 pub cost_splits : CostSplits
-cost_splits rows sets = omega (arith, scaled_splits rows sets)
+cost_splits = cost_splits_by distance_of moves_of MOVE_SCALE packed-parts
 
 -- ---- moves
 
-move_or_none : (offers : List Offer) (c : ℕ) → list_all is_scaled offers ≡ true → unwrap_or (weight_in (map (with_weight (λ w. w % MOVE_SCALE)) offers) c) 0 ≤ 1
+move_or_none : (offers : List Offer) (c : ℕ) → list_all is_scaled offers ≡ true → unwrap_or (weight_in (map (with_weight moves_of) offers) c) 0 ≤ 1
 move_or_none [] c scaled = omega arith
 move_or_none (o ∷ offers) c scaled =
     by_cases (set.contains o.cpus c) (leb-true _ _ (and_left _ _ scaled)) (move_or_none offers c (and_right _ _ scaled))
   where
     by_cases :
-        (b : Bool) → o.weight % MOVE_SCALE ≤ 1 → unwrap_or (weight_in (map (with_weight (λ w. w % MOVE_SCALE)) offers) c) 0 ≤ 1
-        → unwrap_or (option_map (λ (p : Offer). p.weight) (cond b (Some (with_weight (λ w. w % MOVE_SCALE) o)) (find (λ (p : Offer). set.contains p.cpus c) (map (with_weight (λ w. w % MOVE_SCALE)) offers)))) 0 ≤ 1
+        (b : Bool) → moves_of o.weight ≤ 1 → unwrap_or (weight_in (map (with_weight moves_of) offers) c) 0 ≤ 1
+        → unwrap_or (option_map (λ (p : Offer). p.weight) (cond b (Some (with_weight moves_of o)) (find (λ (p : Offer). set.contains p.cpus c) (map (with_weight moves_of) offers)))) 0 ≤ 1
     by_cases true here rest = here
     by_cases false here rest = rest
 
@@ -120,9 +117,9 @@ moves_are_held (row ∷ rows) [] scaled = omega arith
 moves_are_held (row ∷ rows) (s ∷ sets) scaled =
     omega (
       arith,
-      sum_by-cons (λ (e : RowView × Ids). row_cost e.0 e.1) (with_weights (λ w. w % MOVE_SCALE) row, s) (zip (by_moves rows) sets),
+      sum_by-cons (λ (e : RowView × Ids). row_cost e.0 e.1) (with_weights moves_of row, s) (zip (by_moves rows) sets),
       sum_by-cons (λ (t : Ids). sum_by (λ _. 1) (members t)) s sets,
-      sum_by-le-sum_by (λ c. unwrap_or (weight (with_weights (λ w. w % MOVE_SCALE) row) c) 0) (λ _. 1) (members s) (λ c. move_or_none row.offers c (and_left _ _ scaled)),
+      sum_by-le-sum_by (λ c. unwrap_or (weight (with_weights moves_of row) c) 0) (λ _. 1) (members s) (λ c. move_or_none row.offers c (and_left _ _ scaled)),
       moves_are_held rows sets (and_right _ _ scaled),
     )
 
@@ -145,26 +142,16 @@ moves_are_few rows sets scaled plan =
 
 -- ---- least
 
--- of two numbers that are split by a scale, the lesser has no greater multiple of it
-nearer : (m d e a b : ℕ) → b < m → d * m + a ≤ e * m + b → d ≤ e
-nearer m d zero a b small le = over d refl
-  where
-    over : (k : ℕ) → d ≡ k → d ≤ 0
-    over zero is = omega (arith, is)
-    over (suc k) is = absurd (omega (arith, le, small, ap (λ n. n * m) is))
-nearer m zero (suc e) a b small le = omega arith
-nearer m (suc d) (suc e) a b small le = omega (arith, nearer m d e a b small (omega (arith, le)))
-
 pub least_is_nearest : LeastIsNearest
-least_is_nearest rows sets scaled least = (record { plan = plan_with (λ w. w / MOVE_SCALE) rows sets least.plan; least = near }, few)
+least_is_nearest rows sets scaled least = (record { plan = plan_with distance_of rows sets least.plan; least = near }, few)
   where
     near : (others : List Ids) → IsPlan (by_distance rows) others → cost (by_distance rows) sets ≤ cost (by_distance rows) others
     near others is_plan =
-        let plan : IsPlan rows others = plan_without (λ w. w / MOVE_SCALE) rows others is_plan in
-        nearer MOVE_SCALE (cost (by_distance rows) sets) (cost (by_distance rows) others) (cost (by_moves rows) sets) (cost (by_moves rows) others)
+        let plan : IsPlan rows others = plan_without distance_of rows others is_plan in
+        no_farther (cost (by_distance rows) sets) (cost (by_moves rows) sets) (cost (by_distance rows) others) (cost (by_moves rows) others)
         (omega (arith, moves_are_few rows others scaled plan))
-        (rw (← scaled_splits rows sets, ← scaled_splits rows others) (least.least others plan))
+        (rw (← cost_splits rows sets, ← cost_splits rows others) (least.least others plan))
 
     few : (others : List Ids) → IsPlan rows others → cost (by_distance rows) others ≡ cost (by_distance rows) sets → cost (by_moves rows) sets ≤ cost (by_moves rows) others
     few others plan same =
-        omega (arith, least.least others plan, scaled_splits rows sets, scaled_splits rows others, ap (λ n. n * MOVE_SCALE) same)
+        omega (arith, least.least others plan, cost_splits rows sets, cost_splits rows others, same)

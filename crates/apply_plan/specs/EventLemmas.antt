@@ -20,7 +20,7 @@ use Rattle.kernel_model.specs.KernelLemmas.{steps_keep, writes_leave_groups, wri
 use Rattle.apply_plan.specs.declared.entry.Entry.{Entry}
 use Rattle.apply_plan.specs.Targets.{Targets, IsPlaced, ArePlaced}
 use Rattle.apply_plan.specs.Runs.{IsNoEntrys, LeavesEntries, IsOpen}
-use Rattle.apply_plan.proofs.ListLemmas.{all_map, all_map2}
+use Rattle.apply_plan.specs.ListLemmas.{all_map, all_map2}
 
 -- an entry's group stays as it is
 abbrev pub GroupStays : KernelState → KernelState → Entry → Type 0

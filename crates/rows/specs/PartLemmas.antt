@@ -1,17 +1,15 @@
 -- What CPUs weigh in a scaled row.
-use Rattle.std.proofs.Common.{◌≡◌, ℕ, zero, suc, ◌+◌, ◌*◌, ◌/◌, ◌%◌, Bool, true, false, cond, not, ◌&&◌, nat_lt, Option, Some, None, option_map, List, [], ◌∷◌, ◌++◌, filter, refl, sym, ap, ◌∙◌, arith}
+use Rattle.std.proofs.Common.{◌≡◌, ℕ, zero, suc, Bool, true, false, cond, not, ◌&&◌, nat_lt, Option, Some, None, option_map, List, [], ◌∷◌, ◌++◌, filter, refl, sym, ap, ◌∙◌, arith}
 use Rattle.std.specs.Prelude.{find}
 use Rattle.std.specs.List.{flat_map}
 use Rattle.std.specs.FinSet as set
 use Rattle.std.proofs.lemmas.Bool.{true≢false}
 use Rattle.std.proofs.lemmas.Bool.Decides.{nat_tests}
-use Rattle.std.proofs.Math.Nat.{mul-add-mod_self_right}
-use Rattle.std.proofs.lemmas.Nat.{div-mul-add}
 use Rattle.std.proofs.lemmas.List.Concat.{flat_map-cons}
 use Rattle.cpu_set.specs.Ids.{Ids}
 use Rattle.cpu_set.specs.Pointwise.{contains-empty, contains-intersection, contains-difference}
 use Rattle.certificate.specs.declared.Offer.{Offer}
-use Rattle.certificate.specs.declared.limits.TheConstants.{MOVE_SCALE}
+use Rattle.certificate.specs.Packed.{packed, distance_of, moves_of, distance_of-packed, moves_of-packed}
 use Rattle.certificate.specs.Weight.{weight_in, weight}
 use Rattle.certificate.specs.ScaledLaws.{weight_with}
 use Rattle.rows.specs.Offers.{has_some}
@@ -43,7 +41,7 @@ first_of_two x y rest c false false false false e f g h s t = rw (e, f) refl
 
 module _ (held : Ids) (c : ℕ) where
   abbrev more : ℕ → ℕ
-  more w = w * MOVE_SCALE + cond (set.contains held c) 0 1
+  more w = packed w (cond (set.contains held c) 0 1)
 
   one_offer : (o : Offer) (rest : List Offer) → weight_in (parted held o ++ rest) c ≡ cond (set.contains o.cpus c) (Some (more o.weight)) (weight_in rest c)
   one_offer o rest =
@@ -51,10 +49,10 @@ module _ (held : Ids) (c : ℕ) where
       ∙ rw (contains-intersection o.cpus held c, contains-difference o.cpus held c) (by_cases (set.contains o.cpus c) (set.contains held c))
     where
       by_cases : (a b : Bool)
-          → cond (a && b) (Some (o.weight * MOVE_SCALE)) (cond (a && not b) (Some (o.weight * MOVE_SCALE + 1)) (weight_in rest c))
-          ≡ cond a (Some (o.weight * MOVE_SCALE + cond b 0 1)) (weight_in rest c)
+          → cond (a && b) (Some (packed o.weight 0)) (cond (a && not b) (Some (packed o.weight 1)) (weight_in rest c))
+          ≡ cond a (Some (packed o.weight (cond b 0 1))) (weight_in rest c)
       by_cases false b = refl
-      by_cases true true = ap Some (omega arith)
+      by_cases true true = refl
       by_cases true false = refl
 
   offers_weigh : (offers : List Offer) → weight_in (flat_map (parted held) offers) c ≡ option_map more (weight_in offers c)
@@ -75,25 +73,25 @@ scaled_rows_weigh held row c = offers_weigh held c row.offers
 
 pub distances_stay : DistancesStay
 distances_stay held row c =
-    weight_with (λ w. w / MOVE_SCALE) (flat_map (parted held) row.offers) c
-    ∙ ap (option_map (λ w. w / MOVE_SCALE)) (scaled_rows_weigh held row c)
+    weight_with distance_of (flat_map (parted held) row.offers) c
+    ∙ ap (option_map distance_of) (scaled_rows_weigh held row c)
     ∙ by_weight (weight row c) (set.contains held c)
   where
-    by_weight : (a : Option ℕ) (b : Bool) → option_map (λ w. w / MOVE_SCALE) (option_map (λ w. w * MOVE_SCALE + cond b 0 1) a) ≡ a
+    by_weight : (a : Option ℕ) (b : Bool) → option_map distance_of (option_map (λ w. packed w (cond b 0 1)) a) ≡ a
     by_weight None b = refl
-    by_weight (Some w) true = ap Some (div-mul-add w MOVE_SCALE 0 (omega arith))
-    by_weight (Some w) false = ap Some (div-mul-add w MOVE_SCALE 1 (omega arith))
+    by_weight (Some w) true = ap Some (distance_of-packed w 0 (omega arith))
+    by_weight (Some w) false = ap Some (distance_of-packed w 1 (omega arith))
 
 pub moves_are_unheld : MovesAreUnheld
 moves_are_unheld held row c =
-    weight_with (λ w. w % MOVE_SCALE) (flat_map (parted held) row.offers) c
-    ∙ ap (option_map (λ w. w % MOVE_SCALE)) (scaled_rows_weigh held row c)
+    weight_with moves_of (flat_map (parted held) row.offers) c
+    ∙ ap (option_map moves_of) (scaled_rows_weigh held row c)
     ∙ by_weight (weight row c) (set.contains held c)
   where
-    by_weight : (a : Option ℕ) (b : Bool) → option_map (λ w. w % MOVE_SCALE) (option_map (λ w. w * MOVE_SCALE + cond b 0 1) a) ≡ option_map (λ _. cond b 0 1) a
+    by_weight : (a : Option ℕ) (b : Bool) → option_map moves_of (option_map (λ w. packed w (cond b 0 1)) a) ≡ option_map (λ _. cond b 0 1) a
     by_weight None b = refl
-    by_weight (Some w) true = ap Some (mul-add-mod_self_right w MOVE_SCALE 0)
-    by_weight (Some w) false = ap Some (mul-add-mod_self_right w MOVE_SCALE 1)
+    by_weight (Some w) true = ap Some (moves_of-packed w 0 (omega arith))
+    by_weight (Some w) false = ap Some (moves_of-packed w 1 (omega arith))
 
 -- an offer without CPUs is left out
 pub none_pushed : (w : ℕ) (s : Ids) → s ≡ set.empty → filter has_some (record { weight = w; cpus = s } ∷ []) ≡ []

@@ -1,16 +1,15 @@
 -- The offers of a scaled row rise, and are scaled.
-use Rattle.std.proofs.Common.{◌≡◌, ℕ, zero, suc, ◌+◌, ◌*◌, ◌%◌, ◌<◌, ◌≤◌, Bool, true, false, cond, nat_le, List, [], ◌∷◌, ◌++◌, filter, length, get_or, refl, sym, ap, ◌∙◌, arith, subst}
+use Rattle.std.proofs.Common.{◌≡◌, ℕ, zero, suc, ◌+◌, ◌<◌, ◌≤◌, Bool, true, false, cond, nat_le, List, [], ◌∷◌, ◌++◌, filter, length, get_or, refl, sym, ap, ◌∙◌, arith, subst}
 use Rattle.std.specs.List.{flat_map, list_all}
-use Rattle.std.proofs.Math.Nat.{mul-add-mod_self_right}
 use Rattle.std.proofs.lemmas.List.Concat.{flat_map-cons}
 use Rattle.cpu_set.specs.Ids.{Ids}
 use Rattle.certificate.specs.declared.Offer.{Offer}
-use Rattle.certificate.specs.declared.limits.TheConstants.{MOVE_SCALE}
+use Rattle.certificate.specs.Packed.{packed, moves_of-packed}
 use Rattle.certificate.specs.RisingOffers.{AreRising}
 use Rattle.certificate.specs.Scaled.{is_scaled}
 use Rattle.rows.specs.Offers.{has_some}
 use Rattle.rows.specs.Scaled.{kept, moved, parted, PartsRise, PartsAreScaled}
-use Rattle.rows.proofs.PartLimits.{all_of_two}
+use Rattle.rows.specs.PartLimits.{all_of_two}
 
 -- each weight is above the one before it, the first not below this number
 abbrev Rise : ℕ → List Offer → Type 0
@@ -50,24 +49,21 @@ rise_of_two m x y rest first second rise = by_cases (has_some x) (has_some y)
     by_cases false false = rise_less m (y.weight + 1) rest (omega (arith, first, second)) rise
 
 module _ (held : Ids) where
-  parts_rise_from : (m n : ℕ) (offers : List Offer) → m ≤ n * MOVE_SCALE → Rise n offers → Rise m (flat_map (parted held) offers)
+  parts_rise_from : (m n : ℕ) (offers : List Offer) → m ≤ packed n 0 → Rise n offers → Rise m (flat_map (parted held) offers)
   parts_rise_from m n [] le rise = tt
   parts_rise_from m n (o ∷ offers) le rise =
       subst (Rise m) (sym (flat_map-cons (parted held) o offers))
       (rise_of_two m (kept held o) (moved held o) (flat_map (parted held) offers) (omega (arith, le, rise.0)) (omega arith)
-      (parts_rise_from (o.weight * MOVE_SCALE + 1 + 1) (o.weight + 1) offers (omega arith) rise.1))
+      (parts_rise_from (packed o.weight 1 + 1) (o.weight + 1) offers (omega arith) rise.1))
 
   parts_are_scaled_by : (offers : List Offer) → list_all is_scaled (flat_map (parted held) offers) ≡ true
   parts_are_scaled_by [] = refl
   parts_are_scaled_by (o ∷ offers) =
       ap (list_all is_scaled) (flat_map-cons (parted held) o offers)
       ∙ all_of_two is_scaled (kept held o) (moved held o) (flat_map (parted held) offers)
-      (ap (λ n. nat_le (n % MOVE_SCALE) 1) whole ∙ ap (λ n. nat_le n 1) (mul-add-mod_self_right o.weight MOVE_SCALE 0))
-      (ap (λ n. nat_le n 1) (mul-add-mod_self_right o.weight MOVE_SCALE 1))
+      (ap (λ n. nat_le n 1) (moves_of-packed o.weight 0 (omega arith)))
+      (ap (λ n. nat_le n 1) (moves_of-packed o.weight 1 (omega arith)))
       (parts_are_scaled_by offers)
-    where
-      whole : o.weight * MOVE_SCALE ≡ o.weight * MOVE_SCALE + 0
-      whole = omega arith
 
 pub parts_rise : PartsRise
 parts_rise held offers rising = rise_to 0 _ (parts_rise_from held 0 0 offers (omega arith) (rise_from 0 offers rising (λ d some. omega arith)))

@@ -1,6 +1,6 @@
 -- What one write of a hand-over leaves: of the sets that entries hold, of safety, and of the writes to come.
 use Rattle.std.proofs.Common.{◌≡◌, ℕ, Bool, true, false, not, ◌&&◌, ◌||◌, List, refl, sym, ap, ◌∙◌, inl, inr}
-use Rattle.std.proofs.lemmas.Bool.{false≢true}
+use Rattle.std.proofs.lemmas.Bool.{false≢true, not-false}
 use Rattle.std.specs.Prelude.{◌⊎◌, find, Some}
 use Rattle.std.specs.List.{AllByRecursion}
 use Rattle.std.specs.FinSet as set
@@ -15,7 +15,7 @@ use Rattle.apply_plan.specs.declared.entry.Entry.{Entry}
 use Rattle.apply_plan.specs.Holders.{Pairwise, AreApart}
 use Rattle.apply_plan.specs.Targets.{holder_of, HaveOtherGroups, AreTargetsApart}
 use Rattle.apply_plan.specs.DueWrite.{held, kept_of, must_release, must_move}
-use Rattle.apply_plan.proofs.ListLemmas.{all_map, found_alone}
+use Rattle.apply_plan.specs.ListLemmas.{all_map, found_alone}
 
 -- the kernel after a group was written: it requests these, every other group what it did, and the same processes live
 pub record IsWrite (old new : KernelState) (g : Group) (cpus : Ids) : Type 0 where
@@ -46,16 +46,10 @@ targets_swap reserved a b apart = λ pinned cpu inb ina. apart (or_swap b.pinned
 
 -- a live container that need not let go keeps all that it holds, and one that need not move holds its target
 pub keeps_all : (k : KernelState) (reserved : Ids) (a : Entry) → must_release k reserved a ≡ false → is_alive k.table a.pid ≡ true → kept_of k reserved a ≡ held k a
-keeps_all k reserved a no_release live = same_subsets _ _ (flip (is_same (kept_of k reserved a) (held k a)) (ap (λ l. l && not (is_same (kept_of k reserved a) (held k a))) (sym live) ∙ no_release)) where
-  flip : (b : Bool) → not b ≡ false → b ≡ true
-  flip true e = refl
-  flip false e = absurd (false≢true (sym e))
+keeps_all k reserved a no_release live = same_subsets _ _ (not-false (is_same (kept_of k reserved a) (held k a)) (ap (λ l. l && not (is_same (kept_of k reserved a) (held k a))) (sym live) ∙ no_release))
 
 pub holds_target : (k : KernelState) (a : Entry) → must_move k a ≡ false → is_alive k.table a.pid ≡ true → held k a ≡ a.target
-holds_target k a no_move live = same_subsets _ _ (flip (is_same (held k a) a.target) (ap (λ l. l && not (is_same (held k a) a.target)) (sym live) ∙ no_move)) where
-  flip : (b : Bool) → not b ≡ false → b ≡ true
-  flip true e = refl
-  flip false e = absurd (false≢true (sym e))
+holds_target k a no_move live = same_subsets _ _ (not-false (is_same (held k a) a.target) (ap (λ l. l && not (is_same (held k a) a.target)) (sym live) ∙ no_move))
 
 -- what a write leaves one entry: it is the one that was written, or it holds what it did
 abbrev pub Left : KernelState → KernelState → Entry → Ids → Entry → Type 0

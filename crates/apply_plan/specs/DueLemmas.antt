@@ -16,7 +16,7 @@ use Rattle.apply_plan.specs.Kept.{kept}
 use Rattle.apply_plan.specs.KeptLemmas.{kept_target}
 use Rattle.apply_plan.specs.DueWrite.{held, kept_of, must_release, must_move, release_of, move_of, first_write, due_write}
 use Rattle.apply_plan.specs.Walks.{moving, release_from, its_release}
-use Rattle.apply_plan.proofs.ListLemmas.{all_map2, all_at, find_among, find_none, none_found}
+use Rattle.apply_plan.specs.ListLemmas.{all_map2, all_at, find_among, find_none, none_found}
 
 -- an entry lets go, or none must and one takes its target, or nothing is due
 pub data Due (k : KernelState) (reserved : Ids) (entries : List Entry) : Option Write → Type 0 where

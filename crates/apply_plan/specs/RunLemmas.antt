@@ -19,18 +19,18 @@ use Rattle.apply_plan.specs.Targets.{Targets, holder_of, holders_of, IsPlaced}
 use Rattle.apply_plan.specs.DueWrite.{held, due, Steps, written, progress_of, writes_of, writes_to_come, IsBetween, Between, made_by_step, Spends}
 use Rattle.apply_plan.specs.OneStep.{StepLeaves, StepsLeave}
 use Rattle.apply_plan.specs.Runs.{Event, Stepped, Called, Happens, AllHappen, IsOpen, StaysSafe, StaysBetween, EndsWithin, writes_in, writes_of_event, last_of}
-use Rattle.apply_plan.proofs.ListLemmas.{all_map, all_map2, all_of, all_of_map, of_all_map, pairs_map, pairs_of_map, of_pairs_map, sum_le}
-use Rattle.apply_plan.proofs.WriteLemmas.{ApartAs}
-use Rattle.apply_plan.proofs.StepLemmas.{waits}
-use Rattle.apply_plan.proofs.EventLemmas.{IsCalm, calm, still_open}
-use Rattle.apply_plan.proofs.HandoverLemmas.{step_safe, step_lowers, step_between, step_done, step_counts, step_makes, step_spends, done_none, step_keeps}
-use Rattle.apply_plan.proofs.KernelFacts.{placed_alike}
+use Rattle.apply_plan.specs.ListLemmas.{all_map, all_map2, all_of, all_of_map, of_all_map, pairs_map, pairs_of_map, of_pairs_map, sum_le}
+use Rattle.apply_plan.specs.WriteLemmas.{ApartAs}
+use Rattle.apply_plan.specs.StepLemmas.{waits}
+use Rattle.apply_plan.specs.EventLemmas.{IsCalm, calm, still_open}
+use Rattle.apply_plan.specs.HandoverLemmas.{step_safe, step_lowers, step_between, step_done, step_counts, step_makes, step_spends, done_none, step_keeps}
+use Rattle.apply_plan.specs.KernelFacts.{placed_alike}
 use Rattle.apply_plan.specs.declared.scan.Write.{Write}
 use Rattle.cpuset_tree.specs.declared.Group.{Group}
 use Rattle.kernel_model.specs.declared.KernelFault.TheVariants.{Failed}
 use Rattle.kernel_model.specs.KernelLemmas.{each_case_keeps, runs_keep}
 use Rattle.kernel_model.specs.RefusalLemmas.{calls_are_free}
-use Rattle.apply_plan.proofs.DueLemmas.{due_is_placed}
+use Rattle.apply_plan.specs.DueLemmas.{due_is_placed}
 
 module _ (h : Targets) (old new : KernelState) (all : AllByRecursion (IsCalm old new) h.entries) where
   same_held : (e : Entry) → IsCalm old new e → held new e ≡ held old e
