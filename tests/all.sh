@@ -1,8 +1,9 @@
 #!/usr/bin/env bash
 # Everything: each name of docs/definitions.md; the proofs from nothing, the wrong bodies, the tests and the programs; then,
 # with the programs that this built, machine files made of recorded hosts, tables of inputs and of command lines, a second kernel,
-# a second checker, a second runtime, kernels and streams that fail, a solver that tries every plan, the first form of the
-# solver, the scripts for those who operate machines, and each of the program's growths refused in turn.
+# a second checker, a second reader of problems, a second runtime, kernels and streams that fail, a solver that tries every
+# plan, the first form of the solver, the scripts for those who operate machines, and each of the program's growths refused
+# in turn.
 set -euo pipefail
 cd "$(dirname "$0")/.."
 bash tests/definitions.sh
@@ -13,6 +14,7 @@ bash tests/inputs.sh
 bash tests/kernel.sh
 bash tests/command-line.sh
 bash tests/certificates.sh
+bash tests/solve.sh
 bash tests/scripts.sh
 bash tests/runs.sh
 bash tests/streams.sh

@@ -57,6 +57,12 @@ each_growth "check FILE" 0 "1+2+1+" /dev/null check "$example"
 each_growth "a refused certificate" 1 "1+2+1+" "$work/dear" check
 each_growth "a text that ends early" 1 "1+2+1+" "$work/short" check
 each_growth "no such file" 1 "1+2+" /dev/null check "$work/none"
+{ echo "numarun-problem 1"; grep '^row ' "$example"; echo "end"; } >"$work/problem"
+printf 'numarun-problem 1\nrow a 2 10:1-2\nrow b 1 10:1-2\nend\n' >"$work/lack"
+sed 's/^row b/row a/' "$work/problem" >"$work/twice"
+each_growth "solve" 0 "1+2+1+" "$work/problem" solve
+each_growth "solve FILE" 0 "1+2+1+" /dev/null solve "$work/lack"
+each_growth "an id of two rows" 1 "1+2+1+" "$work/twice" solve
 each_growth "list" 0 "1+2+" /dev/null list "3,1-2"
 each_growth "a text that is no list" 1 "1+2+" /dev/null list 5-3
 each_growth "slit" 0 "1+2+1+" /dev/null slit "$work/table"

@@ -93,6 +93,15 @@ def certificates(text):
     }
 
 
+def problems():
+    """Problems with one answer, and with a fault each."""
+    lack = b"numarun-problem 1\nrow a 2 10:1-2\nrow b 1 10:1-2\nrow c 1 10:4-5\nend\n"
+    return {
+        "nothing": b"numarun-problem 1\nend\n", "lack-rows": lack, "open-rows": lack.replace(b"end\n", b""),
+        "twice-rows": lack.replace(b"row b", b"row a"), "beyond-rows": lack.replace(b"row c 1", b"row c 4097"),
+    }
+
+
 def make_files(certificate):
     """What the table's words name."""
     text = open(certificate, "rb").read()
@@ -108,7 +117,7 @@ def make_files(certificate):
         "script": b"create a bundle\nstart a\ncreate b no\nstate a\nlist",
         "unreadable": b"create a hollow\ncreate b endless\ncreate c bundle/config.json\ncreate d bundle\nlist",
     }
-    for name, content in {**files, **tables(), **machines(), **certificates(text)}.items():
+    for name, content in {**files, **tables(), **machines(), **certificates(text), **problems()}.items():
         open(name, "wb").write(content)
     open("locked", "wb").write(text)
     os.chmod("locked", 0)

@@ -30,12 +30,12 @@ def squeezed(text):
 
 page = plain(open(PAGE).read())
 told = helped("--help")
-abouts = re.findall(r"^ +(?:check|list|slit|run) +(.+)$", told, re.M)
-check("the commands of the help", len(abouts), 4)
+abouts = re.findall(r"^ +(?:check|list|slit|run|solve) +(.+)$", told, re.M)
+check("the commands of the help", len(abouts), 5)
 abouts.append(told.splitlines()[0])
 for about in abouts:
     check(f"the page has {about!r}", squeezed(about) in page, True)
-for command in ("check", "list", "slit", "run"):
+for command in ("check", "list", "slit", "run", "solve"):
     text = helped("help", command)
     usage = re.search(r"numarun (.+)", text)[1]
     check(f"the page has the words of {command}", set(re.findall(r"[A-Za-z]+", usage)) <= set(re.findall(r"[A-Za-z]+", page)), True)

@@ -65,10 +65,12 @@ def short_commands(program):
     the answer is."""
     certificate = b"numarun-certificate 1\nrow a 1 10:1\nhold a 1 10\ntotal 10\nend\n"
     moves = b"numarun-certificate 2\nrow a 1 655360:1\nhold a 1 655360\ntotal 10 moves 0\nend\n"
+    problem = b"numarun-problem 1\nrow a 1\nend\n"
     table = b"SLIT\x30\0\0\0\x01\x53" + bytes(26) + b"\x02\0\0\0\0\0\0\0\x0a\x15\x15\x0a"
     commands = [
         (["check"], certificate, 0, b"plan total 10\n"), (["check", "-"], certificate[:-4], 1, b"refused E77 BadText 5\n"),
         (["check"], moves, 0, b"plan total 10 moves 0\n"), (["check", "-"], moves[:-13], 1, b"refused E77 BadText 4\n"),
+        (["solve"], problem, 0, b"numarun-certificate 1\nrow a 1\nshort a\nend\n"), (["solve", "-"], problem[:-4], 1, b"refused E77 BadText 3\n"),
         (["slit", "-"], table, 0, b"localities 2\n10 21\n21 10\n"), (["list", "0-2,7"], b"", 0, b"0-2,7\n"),
         (["list", "5-3"], b"", 1, b"refused E12 Descending 0\n"), (["--version"], b"", 0, b"numarun 0.1.0\n"),
     ]
@@ -98,8 +100,9 @@ def bounds_on_reads(program, words):
     program.expect("as many reads as may be", words, script, (0, answers, b""), PIECES="1")
     program.expect("a read more", words, script + b" ", (1, answers + READ_FAULT, MANY_READS), PIECES="1")
     text = b"x" * (READS - 1)
-    program.expect("as many reads as may be", ["check"], text, (1, b"refused E77 BadText 1\n", b""), PIECES="1")
-    program.expect("a read more", ["check"], text + b"x", (1, READ_FAULT, MANY_READS), PIECES="1")
+    for command in ("check", "solve"):
+        program.expect("as many reads as may be", [command], text, (1, b"refused E77 BadText 1\n", b""), PIECES="1")
+        program.expect("a read more", [command], text + b"x", (1, READ_FAULT, MANY_READS), PIECES="1")
 
 
 def main(program, library, transcript):

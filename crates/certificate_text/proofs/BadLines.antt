@@ -64,7 +64,7 @@ begun_cannot ls line d b refused can =
     absurd (let none = refused f.said f.spelled in let some = f.next_is in grind arith)
 
 -- a line that another follows is a line of the text
-front_of : (before : List (List ℕ)) (line : List ℕ) (after ls : List (List ℕ)) → before ++ line ∷ after ≡ ls ++ [] ∷ [] → (after ≡ [] → ⊥)
+pub front_of : (before : List (List ℕ)) (line : List ℕ) (after ls : List (List ℕ)) → before ++ line ∷ after ≡ ls ++ [] ∷ [] → (after ≡ [] → ⊥)
     → (more : List (List ℕ)) × (ls ≡ (before ++ line ∷ []) ++ more)
 front_of [] line after [] e some = absurd (some (cc))
 front_of [] line after (l ∷ ls) e some =
@@ -96,7 +96,7 @@ bad_line text before line rest d n whole b number refused = record {
       begun_cannot before line d b refused (p.0, c, subst (λ (k : List (List ℕ)). AreLines k c) p.1 t.2);
 }
 
-last_of : (before ls : List (List ℕ)) (last : List ℕ) → before ++ last ∷ [] ≡ ls ++ [] ∷ [] → (last ≡ []) × (before ≡ ls)
+pub last_of : (before ls : List (List ℕ)) (last : List ℕ) → before ++ last ∷ [] ≡ ls ++ [] ∷ [] → (last ≡ []) × (before ≡ ls)
 last_of [] [] last e = (cc, refl)
 last_of [] (l ∷ []) last e = absurd (cc)
 last_of [] (l ∷ m ∷ ls) last e = absurd (cc)
@@ -241,7 +241,7 @@ one_bad_line text m n p q = at (places p.before p.line p.after q.before q.line q
     refuted (inl none) = some none
     refuted (inr cannot) = cannot (passed (q.before ++ q.line ∷ []) more p.before e p.begun)
 
-some_of : {A : Type 0} (o : Option A) → IsSome o → (x : A) × (o ≡ Some x)
+pub some_of : {A : Type 0} (o : Option A) → IsSome o → (x : A) × (o ≡ Some x)
 some_of (Some x) h = (x, refl)
 some_of None h = absurd (false≢true h)
 

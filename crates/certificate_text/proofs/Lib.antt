@@ -20,3 +20,6 @@ pub mod Rereading
 pub mod Verdicts
 pub mod Writable
 pub mod Totals
+pub mod ProblemRows
+pub mod ProblemLines
+pub mod ProblemsWritten

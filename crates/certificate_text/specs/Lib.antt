@@ -16,3 +16,6 @@ pub mod Finished
 pub mod Verdict
 pub mod OnBad
 pub mod Written
+pub mod ProblemText
+pub mod ProblemError
+pub mod RowTaken

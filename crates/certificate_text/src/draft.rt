@@ -59,6 +59,8 @@ impl<'a> Model for Draft<'a> {
 
 impl<'a> Draft<'a> {
     ghost use Rattle.certificate_text.specs.DraftView.{empty_draft, has_id, has_no_plan, is_held, is_id_of, number_of, takes_members, takes_row};
+    ghost use Rattle.certificate_text.specs.RowTaken.{rows_draft};
+    ghost use Rattle.std.specs.Prelude.{[]};
     ghost use Rattle.certificate_text.specs.Finished.{finished};
 
     /// A draft of which nothing has been read.
@@ -77,6 +79,15 @@ impl<'a> Draft<'a> {
             total: 0,
             weights: Weights::Plain,
         }
+    }
+
+    /// A draft that is ready for rows.
+    pub fn of_rows(alloc: Global) -> Draft<'a>
+        ensures { result ≡ rows_draft [] }
+    {
+        let mut draft = Draft::new(alloc);
+        draft.stage = Stage::Body;
+        draft
     }
 
     /// Adds what the next line of the text says, if that line can follow the lines before it.
@@ -131,7 +142,7 @@ impl<'a> Draft<'a> {
     }
 
     /// Rows come before all sets, prices and members, and no two have one id.
-    fn add_row(&mut self, id: &'a [u8], row: Row) -> Result<(), OrMemory<BadLine>>
+    pub fn add_row(&mut self, id: &'a [u8], row: Row) -> Result<(), OrMemory<BadLine>>
         requires { id.now ≡ row.id }
         ensures { Takes result self.old (RowLine row) self.new }
     {
@@ -272,6 +283,13 @@ impl<'a> Draft<'a> {
             }
             _ => Err(OrMemory::Fault(BadLine)),
         }
+    }
+
+    /// The problem of the rows that have been read.
+    pub fn into_problem(self) -> Problem
+        ensures { result ≡ self.entry.rows }
+    {
+        Problem { rows: self.rows }
     }
 
     /// The certificate, if all of it has been read.

@@ -2,9 +2,19 @@
 ghost use Rattle.std.specs.Prelude.{◌≡◌};
 ghost use Rattle.certificate_text.specs.CertificateText.{OneCertificate};
 ghost use Rattle.certificate_text.specs.FirstBadLine.{OneBadLine};
+ghost use Rattle.certificate_text.specs.ProblemText.{OneProblem, ReadProblemsCanBeWritten};
 ghost use Rattle.certificate_text.specs.Written.{ReadCanBeWritten, WrittenReadsAgain};
 
 use crate::ID_LIMIT;
+
+/// No text stands for the rows of two problems. What [`read_problem`](crate::read_problem) reads can be written as the rows
+/// of a certificate.
+pub fn problem_texts()
+    ensures problem { OneProblem }
+    ensures written { ReadProblemsCanBeWritten }
+{
+    cpu_list::laws::lists_stay_below();
+}
 
 /// No text stands for two certificates, and none has two first bad lines.
 pub fn one_reading()

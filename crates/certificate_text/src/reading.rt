@@ -88,7 +88,7 @@ fn take_line<'a>(
 }
 
 /// What stands against a row's line for which there is no memory: that it can't follow, or else that.
-fn row_fault(draft: &Draft<'_>, line: &[u8]) -> OrMemory<BadLine>
+pub(crate) fn row_fault(draft: &Draft<'_>, line: &[u8]) -> OrMemory<BadLine>
     requires { (row : RowView) × Spells line.now (RowLine row) }
     ensures { TakesLine (Err result) draft.now line.now draft.now }
 {

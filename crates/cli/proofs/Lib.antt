@@ -3,3 +3,4 @@ pub mod Leaves
 pub mod Named
 pub mod PlainWords
 pub mod Rows
+pub mod Solutions

@@ -2,8 +2,8 @@
 use Rattle.std.proofs.Common.{◌≡◌, [], ◌∷◌, Some, None, codes, bytes_eq, false, refl, rules}
 use Rattle.clap.proofs.OnLiterals.{clap_on_literals}
 use Rattle.clap.specs.Words.{Text}
-use Rattle.cli.specs.Asked.{check, list, run, slit}
-use Rattle.cli.specs.Spellings.{CheckSpellings, IsPlain, ListSpellings, RunSpellings, SlitSpellings, Spells}
+use Rattle.cli.specs.Asked.{check, list, run, slit, solve}
+use Rattle.cli.specs.Spellings.{CheckSpellings, IsPlain, ListSpellings, RunSpellings, SlitSpellings, SolveSpellings, Spells}
 
 -- a word that begins with no hyphen isn't `--`
 pub no_dashes : (word : Text) → IsPlain word → bytes_eq word (45 ∷ 45 ∷ []) ≡ false
@@ -78,3 +78,18 @@ run_slit_before word table plain plain' =
 
 pub run_spelled : RunSpellings
 run_spelled = record { machine = run_machine; escaped = run_escaped; slit_behind = run_slit_behind; slit_before = run_slit_before }
+
+solve_file : (word : Text) → IsPlain word → Spells (codes "solve" ∷ word ∷ []) (solve (Some word))
+unfolding clap_on_literals
+solve_file word plain = let other = no_dashes word plain in record { asks = simp (other, plain); right = simp (other, plain) }
+
+solve_escaped : (word : Text) → Spells (codes "solve" ∷ codes "--" ∷ word ∷ []) (solve (Some word))
+unfolding clap_on_literals
+solve_escaped word = record { asks = refl; right = refl }
+
+solve_bare : Spells (codes "solve" ∷ []) (solve None)
+unfolding clap_on_literals
+solve_bare = record { asks = refl; right = refl }
+
+pub solve_spelled : SolveSpellings
+solve_spelled = record { bare = solve_bare; file = solve_file; escaped = solve_escaped }

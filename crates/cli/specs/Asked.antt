@@ -7,12 +7,13 @@ use Rattle.cli.specs.declared.words.Words.{Words}
 use Rattle.cli.specs.declared.words.Words.TheVariants as words
 
 -- the check of a file, or of standard input; a list; the distance table in a file; a script over the machine of a file,
--- perhaps with a distance table in another
+-- perhaps with a distance table in another; the solution of the problem in a file, or on standard input
 pub data Asked : Type 0 where
   check : Option Text → Asked
   list : Text → Asked
   slit : Text → Asked
   run : Text → Option Text → Asked
+  solve : Option Text → Asked
 
 -- the text of a word
 abbrev pub word_bytes : Bor Text → Text
@@ -24,6 +25,7 @@ asked (words.Check file) = check (option_map word_bytes file)
 asked (words.List text) = list text.now
 asked (words.Slit file) = slit file.now
 asked (words.Run machine table) = run machine.now (option_map word_bytes table)
+asked (words.Solve file) = solve (option_map word_bytes file)
 
 -- the value of an argument that has to be given
 abbrev pub value : Text → List Row → Text
@@ -35,6 +37,7 @@ asked_by given =
     if bytes_eq given.0 (codes "list") then list (value (codes "text") given.1)
     else if bytes_eq given.0 (codes "slit") then slit (value (codes "file") given.1)
     else if bytes_eq given.0 (codes "run") then run (value (codes "machine") given.1) (first_of (codes "slit") given.1)
+    else if bytes_eq given.0 (codes "solve") then solve (first_of (codes "file") given.1)
     else check (first_of (codes "file") given.1)
 
 -- what the subcommand that was given asks for

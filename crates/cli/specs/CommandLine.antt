@@ -36,11 +36,15 @@ option id = record (placed id) { long = Some id }
 abbrev pub run_command : Shape
 run_command = command (codes "run") (required (codes "machine") ∷ option (codes "slit") ∷ [])
 
+-- solve [FILE]
+abbrev pub solve_command : Shape
+solve_command = command (codes "solve") (placed (codes "file") ∷ [])
+
 -- numarun, which has a version, and its subcommands, of which one has to be given
 abbrev pub numarun : App
 numarun = record {
   top = record (new_app (codes "numarun")).top { no_binary_name = true; has_version = true; subcommand_required = true; is_leaf = false };
-  subs = check_command ∷ list_command ∷ slit_command ∷ run_command ∷ [];
+  subs = check_command ∷ list_command ∷ slit_command ∷ run_command ∷ solve_command ∷ [];
 }
 
 -- a command of this shape with no subcommands of its own

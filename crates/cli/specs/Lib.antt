@@ -12,6 +12,7 @@ pub mod Ready
 pub mod RunAnswer
 pub mod Says
 pub mod SlitAnswer
+pub mod SolveAnswer
 pub mod Spellings
 pub mod Start
 pub mod Tells

@@ -7,7 +7,7 @@ use Rattle.clap.specs.declared.error.kind.ErrorKind.TheVariants.{DisplayHelp, Di
 use Rattle.node.specs.NodeState.{NodeState}
 use Rattle.runtime.specs.RuntimeState.{Told}
 use Rattle.script.specs.declared.script_fault.ScriptFault.{ScriptFault}
-use Rattle.cli.specs.Asked.{Asked, asked_for, check, list, run, slit}
+use Rattle.cli.specs.Asked.{Asked, asked_for, check, list, run, slit, solve}
 use Rattle.cli.specs.Mistakes.{mistakes}
 use Rattle.cli.specs.Named.{name_of, reads_named}
 use Rattle.cli.specs.Notes.{note_of, shown, standard_input, unread_line, unwritten_line}
@@ -17,7 +17,7 @@ use Rattle.cli.specs.Ready.{SetsUp, refusal_of}
 use Rattle.inputs.specs.RefusalLine.{refusal_line}
 use Rattle.cli.specs.RunAnswer.{Plays, is_unread}
 use Rattle.cli.specs.Says.{Complains, Says}
-use Rattle.cli.specs.Tells.{Checks, Lists, Tabulates}
+use Rattle.cli.specs.Tells.{Checks, Lists, Solves, Tabulates}
 use Rattle.cli.specs.declared.console.Console.{Console}
 use Rattle.inputs.specs.declared.read_fault.ReadFault.{ReadFault}
 use Rattle.inputs.specs.declared.refusal.Refusal.TheVariants as refusal
@@ -68,6 +68,7 @@ module _ {W E : Type 0} (out : W → Option (List ℕ)) (err : E → Option (Lis
     Does input script (list text) = Lists out err old new status text
     Does input script (slit file) = Tabulates out err old new status (reads_named (Reads opens fails gives) input file) (shown file)
     Does input script (run machine table) = (script' : Option (List ℕ)) × Scripts None script script' machine table
+    Does input script (solve file) = Solves out err old new status (reads_named (Reads opens fails gives) input (name_of file)) (shown (name_of file))
 
   -- the help or the version goes to standard output with status 0, and what a mistake is to standard error with
   -- status 2; clap's contracts don't tell the text

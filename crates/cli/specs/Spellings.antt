@@ -2,7 +2,7 @@
 use Rattle.std.specs.Prelude.{◌≡◌, List, [], ◌∷◌, Some, None, codes}
 use Rattle.clap.specs.Lexer.{strip_byte}
 use Rattle.clap.specs.Words.{Text}
-use Rattle.cli.specs.Asked.{Asked, asked_for, check, list, run, slit}
+use Rattle.cli.specs.Asked.{Asked, asked_for, check, list, run, slit, solve}
 use Rattle.cli.specs.Mistakes.{mistakes}
 
 -- the word doesn't begin with a hyphen
@@ -38,3 +38,9 @@ pub record RunSpellings : Type 0 where
   pub escaped : (word : Text) → Spells (codes "run" ∷ codes "--" ∷ word ∷ []) (run word None)
   pub slit_behind : (word table : Text) → IsPlain word → IsPlain table → Spells (codes "run" ∷ word ∷ codes "--slit" ∷ table ∷ []) (run word (Some table))
   pub slit_before : (word table : Text) → IsPlain word → IsPlain table → Spells (codes "run" ∷ codes "--slit" ∷ table ∷ word ∷ []) (run word (Some table))
+
+-- numarun solve; numarun solve FILE; and behind `--` any word is a file
+pub record SolveSpellings : Type 0 where
+  pub bare : Spells (codes "solve" ∷ []) (solve None)
+  pub file : (word : Text) → IsPlain word → Spells (codes "solve" ∷ word ∷ []) (solve (Some word))
+  pub escaped : (word : Text) → Spells (codes "solve" ∷ codes "--" ∷ word ∷ []) (solve (Some word))

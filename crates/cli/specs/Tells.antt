@@ -9,6 +9,7 @@ use Rattle.cli.specs.Notes.{note_on}
 use Rattle.inputs.specs.Readings.{Reading}
 use Rattle.cli.specs.Says.{Says}
 use Rattle.cli.specs.SlitAnswer.{IsTableOrRefusal, table_text}
+use Rattle.cli.specs.SolveAnswer.{IsSolutionOf, solution_text}
 use Rattle.cli.specs.declared.console.Console.{Console}
 use Rattle.inputs.specs.declared.refusal.Refusal.{Refusal}
 
@@ -27,6 +28,9 @@ module _ {W E : Type 0} (out : W → Option (List ℕ)) (err : E → Option (Lis
 
   abbrev pub Tabulates : (Reading → Type 0) → Text → Type 0
   Tabulates reads name = Tells IsTableOrRefusal table_text reads name
+
+  abbrev pub Solves : (Reading → Type 0) → Text → Type 0
+  Solves reads name = Tells IsSolutionOf solution_text reads name
 
   abbrev pub Lists : Text → Type 0
   Lists text = (answer : Result Ids Refusal) × IsSetOrRefusal text answer × Answers set_line [] answer

@@ -2,7 +2,7 @@
 ghost use Rattle.std.specs.Prelude.{◌≡◌, ◌⊎◌, ⊤, IfOk, codes, false};
 ghost use Rattle.clap.specs.Words.{IsAmong, app_of, fault_of, rule_of};
 ghost use Rattle.clap.specs.declared.error.kind.ErrorKind.TheVariants.{OutOfMemory};
-ghost use Rattle.cli.specs.CommandLine.{IsLeaf, check_command, list_command, numarun, option, required, run_command, slit_command};
+ghost use Rattle.cli.specs.CommandLine.{IsLeaf, check_command, list_command, numarun, option, required, run_command, slit_command, solve_command};
 
 use crate::words::Grammar;
 use clap::{Arg, ArgMatches, Command, Error};
@@ -47,6 +47,15 @@ const RUN_HELP: &str =
     command line, or if memory is short while they are parsed.\n\n\
     Formats: docs/formats.md, \"Scripts\" and \"The machine file\".\n\n\
     Example: numarun run examples/machines/two-socket.json < examples/scripts/two-containers";
+
+const SOLVE_HELP: &str =
+    "Prints the certificate of a plan of least cost, or of a shortage if the rows have no plan, for numarun\n\
+    check.\n\n\
+    Exit status: 0 if the problem is solved; 1 if it is refused or can't be read, if memory is short, or\n\
+    if the answer can't be written; 2 if the words are no command line, or if memory is short while they\n\
+    are parsed.\n\n\
+    Format: docs/formats.md, \"Problems\".\n\n\
+    Example: numarun solve examples/caches.problem | numarun check";
 
 fn check<'a>(alloc: Global) -> Result<Command<'a>, AllocError>
     ensures { IfOk result (IsLeaf check_command) }
@@ -119,6 +128,19 @@ fn run<'a>(alloc: Global) -> Result<Command<'a>, AllocError>
         .arg(table(alloc))
 }
 
+fn solve<'a>(alloc: Global) -> Result<Command<'a>, AllocError>
+    ensures { IfOk result (IsLeaf solve_command) }
+{
+    let file = Arg::new(alloc, "file")
+        .value_name("FILE")
+        .help("The problem; none, or -, is standard input");
+    Command::new(alloc, "solve")
+        .about("Solve a problem: rows in, the certificate of a least plan out")
+        .override_usage("numarun solve [FILE]")
+        .after_help(SOLVE_HELP)
+        .arg(file)
+}
+
 fn command_line<'a>(alloc: Global) -> Result<Command<'a>, AllocError>
     ensures { IfOk result (λ c. app_of c ≡ numarun) }
 {
@@ -132,7 +154,8 @@ fn command_line<'a>(alloc: Global) -> Result<Command<'a>, AllocError>
         .subcommand(check(alloc)?)?
         .subcommand(list(alloc)?)?
         .subcommand(slit(alloc)?)?
-        .subcommand(run(alloc)?)
+        .subcommand(run(alloc)?)?
+        .subcommand(solve(alloc)?)
 }
 
 /// The command line of numarun, taken apart by clap.

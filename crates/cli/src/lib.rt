@@ -15,6 +15,7 @@ mod opens;
 mod printed;
 mod program;
 mod run;
+mod solve;
 mod spellings;
 mod unready;
 mod words;
@@ -29,5 +30,8 @@ pub use list::do_list;
 pub use opens::{Disk, NamedFile, Opens};
 pub use program::run_program;
 pub use run::do_run;
-pub use spellings::{check_spellings, list_spellings, run_spellings, slit_spellings};
+pub use solve::do_solve;
+pub use spellings::{
+    check_spellings, list_spellings, run_spellings, slit_spellings, solve_spellings,
+};
 pub use words::{Grammar, Words, parse};

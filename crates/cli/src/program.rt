@@ -11,6 +11,7 @@ use crate::folders::Folders;
 use crate::list::do_list;
 use crate::opens::Opens;
 use crate::run::do_run;
+use crate::solve::solve_named;
 use crate::words::{Grammar, Words, parse};
 use clap::Error;
 use faults::OrMemory;
@@ -59,6 +60,7 @@ fn dispatch<F: Opens, R: Read + Input, W: Write, E: Write>(
             let bundles = Folders::new(alloc, files);
             do_run(alloc, machine, slit, files, bundles, &mut script, console)
         }
+        Words::Solve { file } => solve_named(alloc, file.unwrap_or("-"), files, input, console),
     }
 }
 

@@ -1,5 +1,5 @@
 //! Laws of the command line in plain words.
-ghost use Rattle.cli.specs.Spellings.{CheckSpellings, ListSpellings, RunSpellings, SlitSpellings};
+ghost use Rattle.cli.specs.Spellings.{CheckSpellings, ListSpellings, RunSpellings, SlitSpellings, SolveSpellings};
 
 /// No words and `check` ask for a check of standard input; `check FILE` asks for that of the file, where its
 /// name doesn't begin with a hyphen or has `--` before it.
@@ -23,4 +23,10 @@ pub fn slit_spellings()
 /// one with the distances of that file, where neither name begins with a hyphen, or MACHINE has `--` before it.
 pub fn run_spellings()
     ensures { RunSpellings }
+{}
+
+/// `solve` asks for the solution of the problem on standard input, and `solve FILE` for that of the file's, where its name
+/// doesn't begin with a hyphen or has `--` before it.
+pub fn solve_spellings()
+    ensures { SolveSpellings }
 {}

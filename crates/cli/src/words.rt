@@ -54,6 +54,10 @@ pub enum Words<'a> {
         machine: &'a str,
         slit: Option<&'a str>,
     },
+    /// Solve the problem in the file, or where there is none the one on standard input.
+    Solve {
+        file: Option<&'a str>,
+    },
 }
 
 /// What the words after the program's name ask for; no words ask for a check of standard input.
@@ -109,6 +113,9 @@ fn asked_by<'a>(name: &str, given: &ArgMatches<'a>) -> Words<'a>
         "run" => Words::Run {
             machine: value(given, "machine"),
             slit: text(given, "slit"),
+        },
+        "solve" => Words::Solve {
+            file: text(given, "file"),
         },
         _ => Words::Check {
             file: text(given, "file"),

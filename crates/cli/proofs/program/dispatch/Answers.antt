@@ -5,7 +5,7 @@ use Rattle.cli.proofs.Named.{name_of-or_hyphen}
 use Rattle.cli.specs.Asked.{word_bytes}
 use Rattle.cli.specs.Named.{name_of, reads_named}
 use Rattle.cli.specs.Notes.{shown}
-use Rattle.cli.specs.Tells.{Checks}
+use Rattle.cli.specs.Tells.{Checks, Solves}
 use Rattle.cli.proofs.program.dispatch.Goals as goal
 
 pub returns-in-Check : goal.returns-in-Check
@@ -17,3 +17,10 @@ returns-in-Check g c =
 
 pub returns-in-Run : goal.returns-in-Run
 returns-in-Run g c = rw c.in-Run.is (g.R.Read.remaining c.do_run.new.script, c.do_run.ensures)
+
+pub returns-in-Solve : goal.returns-in-Solve
+returns-in-Solve g c =
+    let called : c.unwrap_or-in-Solve.result.now ≡ name_of (option_map word_bytes c.in-Solve.file) =
+    ap (λ (word : Bor (List ℕ)). word.now) c.unwrap_or-in-Solve.ensures ∙ name_of-or_hyphen c.in-Solve.file _ refl in
+    rw c.in-Solve.is (subst (λ (name : List ℕ). Solves g.W.Write.contents g.E.Write.contents c.args.console.now c.solve_named.new.console c.solve_named.result
+    (reads_named (Reads (g.F.Opens.opens c.args.files.now) (g.F.Opens.fails c.args.files.now) g.F.File.Input.gives) (g.R.Input.gives c.args.input) name) (shown name)) called c.solve_named.ensures)

@@ -1,0 +1,69 @@
+-- What a problem's text comes to.
+use Rattle.std.specs.Prelude.{◌≡◌, ◌⊎◌, ℕ, ◌<◌, ◌^◌, Bool, true, false, List}
+use Rattle.certificate.specs.IsDealt.{IsDealt}
+use Rattle.certificate.specs.Limits.{rows_fit}
+use Rattle.certificate.specs.RowView.{RowView}
+use Rattle.certificate.specs.Verdict.{IsBest, IsProvedCertificate}
+use Rattle.certificate.specs.declared.certificates.Certificate.{Certificate}
+use Rattle.certificate.specs.declared.certificates.Certificate.TheVariants.{Plan, Short}
+use Rattle.certificate.specs.declared.check_faults.CheckFault.TheVariants.{BadProblem}
+use Rattle.certificate.specs.declared.checking.Verdict.{Verdict}
+use Rattle.certificate_text.specs.CertificateText.{IsText}
+use Rattle.certificate_text.specs.ProblemError.{IsFirstBadProblemLine, ProblemAsksForMemory}
+use Rattle.certificate_text.specs.ProblemText.{IsProblemText}
+use Rattle.certificate_text.specs.declared.checking.VerdictFault.{VerdictFault}
+use Rattle.certificate_text.specs.declared.checking.VerdictFault.TheVariants.{BadText, Check}
+use Rattle.faults.specs.declared.or_memory.OrMemory.{OrMemory}
+use Rattle.faults.specs.declared.or_memory.OrMemory.TheVariants.{Memory, Fault}
+use Rattle.transport.specs.declared.solver.Answer.{Answer}
+use Rattle.transport.specs.declared.solver.Answer.TheVariants as answer
+
+-- the rows that a certificate is of
+abbrev pub rows_of : Certificate → List RowView
+rows_of (Plan rows sets prices total scaled) = rows
+rows_of (Short rows members scaled) = rows
+
+-- whether its version is 2
+abbrev pub is_scaled : Certificate → Bool
+is_scaled (Plan rows sets prices total scaled) = scaled
+is_scaled (Short rows members scaled) = scaled
+
+-- of CPUs that are alike to all rows the lower ones go to the earlier rows
+abbrev pub IsDealtPlan : Certificate → Type 0
+IsDealtPlan (Plan rows sets prices total scaled) = IsDealt rows sets
+IsDealtPlan (Short rows members scaled) = Unit {0}
+
+-- a certificate of version 1 of these very rows, which its own check accepts: no plan of the rows costs less than its plan, or
+-- they have no plan
+pub record IsSolution (rows : List RowView) (c : Certificate) : Type 0 where
+  pub rows_are : rows_of c ≡ rows
+  pub version : is_scaled c ≡ false
+  pub verdict : Verdict
+  pub proved : IsProvedCertificate c verdict
+  pub best : IsBest c verdict
+  pub dealt : IsDealtPlan c
+
+-- the text stands for rows, which are within their limits
+abbrev pub HasRows : List ℕ → Bool → Type 0
+HasRows text fit = (rows : List RowView) × IsProblemText text rows × (rows_fit rows ≡ fit)
+
+-- what is written stands, in the grammar, for a certificate that is a solution of the rows for which the text stands
+abbrev pub Solves : List ℕ → List ℕ → Type 0
+Solves text written = (rows : List RowView) × (c : Certificate) × IsProblemText text rows × IsText written c × IsSolution rows c
+
+-- the text stands for no rows, or for rows past the limits; memory ran out at a line that can follow those before it, or with
+-- rows that are within the limits
+abbrev pub IsUnsolved : List ℕ → OrMemory VerdictFault → Type 0
+IsUnsolved text Memory = ProblemAsksForMemory text ⊎ HasRows text true
+IsUnsolved text (Fault (BadText bad)) = IsFirstBadProblemLine text bad.line
+IsUnsolved text (Fault (Check fault)) = (fault ≡ BadProblem) × HasRows text false
+
+-- rows with what they come to, as a certificate of version 1
+abbrev pub answered : List RowView → Answer → Certificate
+answered rows (answer.Plan sets prices total turns) = Plan rows sets prices total false
+answered rows (answer.Short members turns) = Short rows members.items false
+
+-- a total that its type holds
+abbrev pub IsTotalHeld : Certificate → Type 0
+IsTotalHeld (Plan rows sets prices total scaled) = total < 2 ^ 64
+IsTotalHeld (Short rows members scaled) = Unit {0}
