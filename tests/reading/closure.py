@@ -236,7 +236,7 @@ def in_order(sources, definitions):
 
 
 def figures(found):
-    """The table of README.md and of docs/reading.md."""
+    """The table of docs/reading.md."""
     yield "| What is claimed | Clause | Definitions | Lines | Pages | Lines for its types |"
     yield "|---|---|---|---|---|---|"
     for title, says in SAYS.items():
@@ -246,6 +246,14 @@ def figures(found):
         pages = len({place[:2] for place in definitions})
         views = sources.size(found[title]["views"]) or ""
         yield f"| {says} | {name} of `{crate}` | {len(definitions)} | {sources.size(definitions):,} | {pages} | {views} |"
+
+
+def sentence(found):
+    """How little that is, as README.md says it."""
+    lines = {title: f"{one['sources'].size(one['definitions']):,}" for title, one in found.items()}
+    yield f"How little one must believe for that: a yes of the checker rests on {lines['check_plan']} lines of definitions. The headline of"
+    yield f"one rebalance rests on {lines['rebalance']}, and that over all runs on {lines['each_rebalance']}."
+    yield "[docs/reading.md](docs/reading.md) lists them."
 
 
 SAYS = {
@@ -339,9 +347,9 @@ def main():
         if "--list" in sys.argv:
             for place in sorted(definitions):
                 print(title, *place)
-    sections["figures"] = "\n".join(figures(found))
+    sections["figures"], sections["believe"] = "\n".join(figures(found)), "\n".join(sentence(found))
     wrong = []
-    for file, names in (("docs/reading.md", sections), ("README.md", ["figures"])):
+    for file, names in (("docs/reading.md", [name for name in sections if name != "believe"]), ("README.md", ["believe"])):
         path = TOP / file
         text = path.read_text(encoding="utf-8")
         for name in names:
