@@ -1,0 +1,125 @@
+"""What the pages name is there: links with their headings, paths, crates, the index of the decisions, transcripts, the version.
+
+look_up.py          fails where something is not there
+look_up.py --write  makes the index of docs/DECISIONS.md anew
+"""
+
+import pathlib
+import re
+import sys
+
+TOP = pathlib.Path(__file__).resolve().parents[2]
+# Folders at the top that a path in backticks may begin with.
+FOLDERS = ("crates", "docs", "tests", "examples", "benches", "bench", ".ci")
+PATH = re.compile(r"`((?:%s)/[\w./+-]*)`" % "|".join(map(re.escape, FOLDERS)))
+LINK = re.compile(r"\[[^\]]*\]\(([^)\s]+)\)")
+BLOCK = re.compile(r"^```(\w*)\n(.*?)^```$", re.DOTALL | re.MULTILINE)
+# What a built checkout has and a fresh one has not.
+MADE = re.compile(r"/out(/|$)")
+README_BYTES = 12_000
+
+
+def pages():
+    found = [*TOP.glob("*.md"), *(TOP / "docs").glob("*.md"), *(TOP / f / "README.md" for f in ("examples", "benches", "tests"))]
+    return {path: path.read_text(encoding="utf-8") for path in sorted(found)}
+
+
+def headings(text):
+    """The names of a page's headings, as links name them."""
+    found = re.findall(r"^#+ (.*)$", re.sub(BLOCK, "", text), re.MULTILINE)
+    return {re.sub(r"[^\w\- ]", "", heading.strip().lower()).replace(" ", "-") for heading in found}
+
+
+def links(path, text, texts):
+    """Links that lead nowhere."""
+    for link in LINK.findall(re.sub(BLOCK, "", text)):
+        if re.match(r"[a-z]+:", link):
+            continue
+        place, _, heading = link.partition("#")
+        target = (path.parent / place).resolve() if place else path
+        if not target.exists():
+            yield f"{link} is not there"
+        elif heading and heading not in headings(texts.get(target, "")):
+            yield f"{link}: no such heading"
+
+
+def paths(text):
+    """Paths in backticks, and words of shell blocks, that are not there."""
+    shell = "\n".join(body for kind, body in BLOCK.findall(text) if kind == "sh")
+    named = PATH.findall(re.sub(BLOCK, "", text)) + re.findall(r"(?<![\w./-])((?:%s)/[\w./+-]+)" % "|".join(FOLDERS[:-1]), shell)
+    for name in named:
+        if not MADE.search(name) and "NAME" not in name and "CRATE" not in name and not (TOP / name).exists():
+            yield f"{name} is not there"
+
+
+def crates(texts):
+    """Crates that the map lacks, or that it has and crates.txt has not."""
+    listed = re.findall(r"^(\w+):", (TOP / "crates.txt").read_text(encoding="utf-8"), re.MULTILINE)
+    mapped = re.findall(r"^\| `(\w+)` \|", texts[TOP / "docs/architecture.md"].split("\n## ")[0], re.MULTILINE)
+    yield from (f"{name} is not in the table" for name in listed if name not in mapped)
+    yield from (f"{name} is no crate" for name in mapped if name not in listed)
+
+
+def index(text):
+    """The index of the decisions: a row for each section, with what begins its paragraphs."""
+    rows = ["| Section | Decisions |", "|---|---|"]
+    for section in text.split("\n## ")[1:]:
+        title, _, body = section.partition("\n")
+        begins = re.findall(r"^\*\*([^*]+?)\*\*", body, re.MULTILINE)
+        link = next(iter(headings(f"## {title}")))
+        rows.append(f"| [{title}](#{link}) | {'; '.join(name.replace(chr(10), ' ').rstrip('.,') for name in begins)} |")
+    return "\n".join(rows)
+
+
+def with_index(text):
+    """The page with its index made anew."""
+    intro, _, behind = text.partition("\n## ")
+    kept = "\n".join(line for line in intro.rstrip().splitlines() if not line.startswith("|")).rstrip()
+    return f"{kept}\n\n{index(text)}\n\n## {behind}"
+
+
+def transcripts(texts):
+    """Answers that the pages show and that are not those of the scripts."""
+    scripts = TOP / "examples/scripts"
+    first = [body for kind, body in BLOCK.findall(texts[TOP / "README.md"]) if not kind]
+    answers = (scripts / "plans.answers").read_text(encoding="utf-8")
+    if len(first) != 1 or not answers.startswith(first[0]):
+        yield "README.md: the answers are not those that examples/scripts/plans begins with"
+    shown = [body for kind, body in BLOCK.findall(texts[TOP / "examples/README.md"]) if body.startswith("> ")]
+    lines = shown[0].splitlines() if len(shown) == 1 else []
+    for file, kept in (("a-cpu-goes", [line[2:] for line in lines if line.startswith("> ")]),
+                       ("a-cpu-goes.answers", [line for line in lines if not line.startswith("> ")])):
+        if (scripts / file).read_text(encoding="utf-8").splitlines() != kept:
+            yield f"examples/README.md: the transcript is not examples/scripts/{file}"
+
+
+def version(text):
+    """That the newest release of the changelog has the version that the program prints."""
+    release = re.search(r"^## \[([0-9.]+)\]", text, re.MULTILINE)
+    source = (TOP / "crates/cli/src/command_line.rt").read_text(encoding="utf-8")
+    printed = re.search(r'^const VERSION: &str = "([0-9.]+)";', source, re.MULTILINE)
+    if not release or not printed or release[1] != printed[1]:
+        yield "the newest release is not the version that the program prints"
+
+
+def main():
+    texts, wrong = pages(), []
+    for path, text in texts.items():
+        wrong += [f"{path.relative_to(TOP)}: {what}" for what in [*links(path, text, texts), *paths(text)]]
+    wrong += [f"docs/architecture.md: {what}" for what in crates(texts)]
+    decisions = TOP / "docs/DECISIONS.md"
+    if "--write" in sys.argv:
+        decisions.write_text(with_index(texts[decisions]), encoding="utf-8")
+    elif texts[decisions] != with_index(texts[decisions]):
+        wrong.append("docs/DECISIONS.md: its index is another; make it anew by: python3 -B tests/pages/look_up.py --write")
+    wrong += transcripts(texts)
+    wrong += [f"CHANGELOG.md: {what}" for what in version(texts[TOP / "CHANGELOG.md"])]
+    size = len(texts[TOP / "README.md"].encode())
+    if size > README_BYTES:
+        wrong.append(f"README.md has {size} bytes, and {README_BYTES} are the most")
+    if wrong:
+        sys.exit("\n".join(wrong))
+    print(f"{len(texts)} pages looked through")
+
+
+main()
