@@ -78,6 +78,18 @@ def with_index(text):
     return f"{kept}\n\n{index(text)}\n\n## {behind}"
 
 
+def scripts(text):
+    """Scripts of tests/ that tests/README.md or tests/all.sh lack."""
+    run = (TOP / "tests/all.sh").read_text(encoding="utf-8")
+    for path in sorted((TOP / "tests").glob("*.sh")):
+        if path.name == "all.sh" or path.name.startswith("build-"):
+            continue
+        if f"| `{path.name}` |" not in text:
+            yield f"{path.name} has no row"
+        if f"bash tests/{path.name}\n" not in run:
+            yield f"{path.name} is not run by tests/all.sh"
+
+
 def transcripts(texts):
     """Answers that the pages show and that are not those of the scripts."""
     scripts = TOP / "examples/scripts"
@@ -112,6 +124,7 @@ def main():
         decisions.write_text(with_index(texts[decisions]), encoding="utf-8")
     elif texts[decisions] != with_index(texts[decisions]):
         wrong.append("docs/DECISIONS.md: its index is another; make it anew by: python3 -B tests/pages/look_up.py --write")
+    wrong += [f"tests/README.md: {what}" for what in scripts(texts[TOP / "tests/README.md"])]
     wrong += transcripts(texts)
     wrong += [f"CHANGELOG.md: {what}" for what in version(texts[TOP / "CHANGELOG.md"])]
     size = len(texts[TOP / "README.md"].encode())
