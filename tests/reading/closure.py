@@ -250,10 +250,12 @@ def figures(found):
 
 def sentence(found):
     """How little that is, as README.md says it."""
-    lines = {title: f"{one['sources'].size(one['definitions']):,}" for title, one in found.items()}
-    yield f"How little one must believe for that: a yes of the checker rests on {lines['check_plan']} lines of definitions. The headline of"
-    yield f"one rebalance rests on {lines['rebalance']}, and that over all runs on {lines['each_rebalance']}."
-    yield "[docs/reading.md](docs/reading.md) lists them."
+    def lines(title, key="definitions"):
+        return f"{found[title]['sources'].size(found[title][key]):,}"
+
+    yield f"How little one must believe for that: a yes of the checker rests on {lines('check_plan')} lines of definitions, and"
+    yield f"{lines('check_plan', 'views')} more say what its types hold. The headline of one rebalance rests on {lines('rebalance')} and"
+    yield f"{lines('rebalance', 'views')}, and that over all runs on {lines('each_rebalance')}. [docs/reading.md](docs/reading.md) lists them."
 
 
 SAYS = {
