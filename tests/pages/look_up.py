@@ -1,4 +1,5 @@
-"""What the pages name is there: links with their headings, paths, crates, the index of the decisions, transcripts, the version.
+"""What the pages name is there: links with their headings, paths, names of code, clauses behind claims, crates, the index of the
+decisions, transcripts, the version.
 
 look_up.py          fails where something is not there
 look_up.py --write  makes the index of docs/DECISIONS.md anew
@@ -90,6 +91,38 @@ def scripts(text):
             yield f"{path.name} is not run by tests/all.sh"
 
 
+def words(*patterns):
+    """All words of the files of these patterns."""
+    found = set()
+    for path in (path for pattern in patterns for path in TOP.glob(pattern) if path.is_file()):
+        found.update(re.findall(r"[A-Za-z_][\w'-]*", path.read_text(encoding="utf-8", errors="replace")))
+    return found
+
+
+def names(texts):
+    """Names of code in the pages that stand nowhere in it."""
+    known = words("crates/*/src/**/*.rt", "crates/*/specs/*.antt", "crates/*/proofs/*.antt", "tests/**/*.py", "tests/*.sh", "crates.txt")
+    for page in ("docs/proved.md", "docs/architecture.md", "docs/reading.md", "docs/glossary.md", "CONTRIBUTING.md", "tests/README.md"):
+        for name in re.findall(r"`([^`\n]+)`", re.sub(BLOCK, "", texts[TOP / page])):
+            parts = name.split("::")
+            if all(re.fullmatch(r"[A-Za-z_]\w*", part) for part in parts) and not name.startswith("NAME"):
+                yield from (f"{page}: {name} is nowhere" for part in parts if part not in known)
+
+
+def clauses(text):
+    """Names behind a claim of docs/proved.md that are no clause, function or definition of its crate."""
+    for section in text.split("\n### ")[1:]:
+        title, _, body = section.partition("\n")
+        of = [crate.strip() for crate in title.split(",")]
+        there = "\n".join(path.read_text(encoding="utf-8") for crate in of for kind in ("src/**/*.rt", "specs/*.antt")
+                          for path in TOP.glob(f"crates/{crate}/{kind}"))
+        for brackets in re.findall(r"\(([^()]*`[^()]*)\)", body.split("\n## ")[0]):
+            for name in re.findall(r"`([a-z_]+)`", brackets):
+                if not re.search(rf"\b(ensures|fn|mod|pub|abbrev) {name}\b", there) and not (TOP / "crates" / name).is_dir():
+                    if not re.search(rf"specs\.\w+\.\{{[^}}]*\b{name}\b", there):
+                        yield f"docs/proved.md: {title}: {name} is no clause, function or definition there"
+
+
 def transcripts(texts):
     """Answers that the pages show and that are not those of the scripts."""
     scripts = TOP / "examples/scripts"
@@ -125,6 +158,8 @@ def main():
     elif texts[decisions] != with_index(texts[decisions]):
         wrong.append("docs/DECISIONS.md: its index is another; make it anew by: python3 -B tests/pages/look_up.py --write")
     wrong += [f"tests/README.md: {what}" for what in scripts(texts[TOP / "tests/README.md"])]
+    wrong += names(texts)
+    wrong += clauses(texts[TOP / "docs/proved.md"])
     wrong += transcripts(texts)
     wrong += [f"CHANGELOG.md: {what}" for what in version(texts[TOP / "CHANGELOG.md"])]
     size = len(texts[TOP / "README.md"].encode())
