@@ -127,9 +127,12 @@ def transcripts(texts):
     """Answers that the pages show and that are not those of the scripts."""
     scripts = TOP / "examples/scripts"
     first = [body for kind, body in BLOCK.findall(texts[TOP / "README.md"]) if not kind]
-    answers = (scripts / "plans.answers").read_text(encoding="utf-8")
-    if len(first) != 1 or not answers.startswith(first[0]):
-        yield "README.md: the answers are not those that examples/scripts/plans begins with"
+    lines = first[0].splitlines() if len(first) == 1 else []
+    for file, kept in (("plans", [line[2:] for line in lines if line.startswith("> ")]),
+                       ("plans.answers", [line for line in lines if not line.startswith("> ")])):
+        there = (scripts / file).read_text(encoding="utf-8").splitlines()
+        if not lines or there[: len(kept)] != kept:
+            yield f"README.md: the transcript is not what examples/scripts/{file} begins with"
     shown = [body for kind, body in BLOCK.findall(texts[TOP / "examples/README.md"]) if body.startswith("> ")]
     lines = shown[0].splitlines() if len(shown) == 1 else []
     for file, kept in (("a-cpu-goes", [line[2:] for line in lines if line.startswith("> ")]),
