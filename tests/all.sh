@@ -6,7 +6,9 @@
 # in turn.
 set -euo pipefail
 cd "$(dirname "$0")/.."
+bash tests/pages.sh
 bash tests/definitions.sh
+bash tests/reading.sh
 rt ci
 export PROGRAM=$PWD/crates/numarun/out/numarun TOOLS=$PWD/crates/tools/out/tools
 bash tests/describe-host.sh

@@ -1,9 +1,18 @@
 """Runs programs for tests: one that does not come to its end ends the test."""
 
+import pathlib
+import re
 import subprocess
 import sys
 
 SECONDS = 60
+CHANGES = pathlib.Path(__file__).resolve().parents[1] / "CHANGELOG.md"
+
+
+def version():
+    """The line that `--version` prints: the number of the newest release of CHANGELOG.md."""
+    found = re.search(r"^## \[([0-9]+\.[0-9]+\.[0-9]+)\]", CHANGES.read_text(encoding="utf-8"), re.MULTILINE)
+    return f"numarun {found[1]}\n".encode()
 
 
 def run(words, given=b"", **more):

@@ -9,9 +9,6 @@ for script in "$top"/examples/scripts/*.answers; do
     (cd "$top" && timeout 60 "$program" run examples/machines/two-socket.json <"${script%.answers}") | diff "$script" -
 done
 sed -n '/^numarun-certificate/,/^end$/p' "$top/examples/scripts/plans.answers" | timeout 60 "$program" check | grep -qx "plan total 60 moves 2"
-shown=$(awk '/^```/ { open = !open; plain = open && $0 == "```"; next } plain' "$top/README.md")
-diff <(sed -n 's/^> //p' <<<"$shown") "$top/examples/scripts/a-cpu-goes"
-diff <(grep -v '^> ' <<<"$shown") "$top/examples/scripts/a-cpu-goes.answers"
 python3 -B "$top/tests/scripts/worked.py" "$program"
 python3 -B "$top/tests/scripts/interleaved.py" "$program"
 python3 -B "$top/tests/scripts/compare.py" "$program"

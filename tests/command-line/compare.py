@@ -16,7 +16,7 @@ import sys
 import tempfile
 
 sys.path.insert(0, os.path.join(os.path.dirname(os.path.abspath(__file__)), ".."))
-from program import SECONDS
+from program import SECONDS, version
 
 SLIT = b"SLIT\x30\0\0\0\x01\x53" + bytes(26) + b"\x02\0\0\0\0\0\0\0\x0a\x15\x15\x0a"
 # A plan that moves nothing.
@@ -107,6 +107,7 @@ def make_files(certificate):
     text = open(certificate, "rb").read()
     files = {
         "certificate": text,
+        "version": version(),
         "dear": text.replace(b"price 1 1\n", b"price 0 1\n"),
         "short": text.replace(b"end\n", b""),
         "table": SLIT,

@@ -358,7 +358,7 @@ class Runtime:
             if kinds is None or len(kinds) != len(words) - 1:
                 raise Refused("E110", "BadLine")
             arguments = [kind(word) for kind, word in zip(kinds, words[1:])]
-            return getattr(self, words[0].decode())(*arguments)
+            return getattr(self, "do_" + words[0].decode())(*arguments)
         except Refused as why:
             return [str(why)]
 
@@ -452,7 +452,7 @@ class Runtime:
         container.started = True
         return ["ok"]
 
-    def kill(self, name, signal):
+    def do_kill(self, name, signal):
         if signal not in SIGNALS:
             raise Refused("E97", "BadSignal")
         if not self.live(self.of(name)):
@@ -460,14 +460,14 @@ class Runtime:
         self.processes = {pid: (first, group) for pid, (first, group) in self.processes.items() if group != name}
         return ["ok"]
 
-    def delete(self, name):
+    def do_delete(self, name):
         self.settled()
         if self.live(self.of(name)):
             raise Refused("E99", "NotStopped")
         del self.containers[name]
         return ["ok"]
 
-    def state(self, name):
+    def do_state(self, name):
         container = self.of(name)
         shown = {"bundle": container.bundle, "id": name, "ociVersion": "1.0.2"}
         if self.live(container):
@@ -475,10 +475,10 @@ class Runtime:
         shown["status"] = self.status(container)
         return [json.dumps(shown, ensure_ascii=False, separators=(",", ":"))]
 
-    def list(self):
+    def do_list(self):
         return [f"{name} {self.status(container)}" for name, container in self.containers.items()] + ["end"]
 
-    def sets(self, name):
+    def do_sets(self, name):
         container = self.of(name)
         nodes = set(range(len(self.machine.nodes)))
         cpus, mems = container.cpus, container.demand.homes
@@ -487,18 +487,18 @@ class Runtime:
 
     # Events.
 
-    def fork(self, pid):
+    def do_fork(self, pid):
         if pid not in self.processes:
             raise Refused("E46", "NoProcess")
         return [f"pid {self.spawn(*self.processes[pid])}"]
 
-    def exit(self, pid):
+    def do_exit(self, pid):
         if pid not in self.processes:
             raise Refused("E46", "NoProcess")
         self.processes = {p: of for p, of in self.processes.items() if pid not in (p, of[0])}
         return ["ok"]
 
-    def offline(self, cpu):
+    def do_offline(self, cpu):
         if cpu not in self.machine.present:
             raise Refused("E52", "NoCpu")
         if cpu in self.machine.reserved:
@@ -506,7 +506,7 @@ class Runtime:
         self.running_cpus = self.running_cpus - {cpu}
         return ["ok"]
 
-    def online(self, cpu):
+    def do_online(self, cpu):
         if cpu not in self.machine.present:
             raise Refused("E52", "NoCpu")
         self.running_cpus = self.running_cpus | {cpu}
@@ -564,7 +564,7 @@ class Runtime:
         self.seen["still"] += len(rows) > 1 and found[1] == 0
         self.seen["several"] += 1 < found[1] < sum(demand for demand, _ in rows)
 
-    def begin(self):
+    def do_begin(self):
         self.settled()
         names, rows, held = self.rows()
         plan, members = self.work_out(names, rows, held)
@@ -585,7 +585,7 @@ class Runtime:
         keeps = ((c, c.cpus & (target | self.machine.reserved) or self.machine.reserved) for c, target in live)
         return next(((c, cpus) for c, cpus in itertools.chain(keeps, live) if cpus != c.cpus), None)
 
-    def step(self):
+    def do_step(self):
         if self.underway is None:
             raise Refused("E100", "NoHandover")
         write = self.due()
@@ -596,16 +596,16 @@ class Runtime:
         self.underway = None
         return ["done"]
 
-    def rebalance(self):
-        answer = self.begin()
+    def do_rebalance(self):
+        answer = self.do_begin()
         while self.underway is not None:
-            self.step()
+            self.do_step()
         return answer
 
-    def phase(self):
+    def do_phase(self):
         return ["settled" if self.underway is None else "underway"]
 
-    def certificate(self):
+    def do_certificate(self):
         if self.outcome is None:
             raise Refused("E101", "NoAnswer")
         names, rows, held, plan, members = self.outcome

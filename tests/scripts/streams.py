@@ -7,6 +7,8 @@ import os
 import sys
 import tempfile
 
+sys.path.insert(0, os.path.join(os.path.dirname(os.path.abspath(__file__)), ".."))
+from program import version
 from second_runtime import Machine, Runtime, config_of
 from transcripts import Transcript, config, place, run
 
@@ -72,7 +74,7 @@ def short_commands(program):
         (["check"], moves, 0, b"plan total 10 moves 0\n"), (["check", "-"], moves[:-13], 1, b"refused E77 BadText 4\n"),
         (["solve"], problem, 0, b"numarun-certificate 1\nrow a 1\nshort a\nend\n"), (["solve", "-"], problem[:-4], 1, b"refused E77 BadText 3\n"),
         (["slit", "-"], table, 0, b"localities 2\n10 21\n21 10\n"), (["list", "0-2,7"], b"", 0, b"0-2,7\n"),
-        (["list", "5-3"], b"", 1, b"refused E12 Descending 0\n"), (["--version"], b"", 0, b"numarun 0.1.0\n"),
+        (["list", "5-3"], b"", 1, b"refused E12 Descending 0\n"), (["--version"], b"", 0, version()),
     ]
     for words, given, status, answer in commands:
         for settings in ({"PIECES": "1"}, {"SHORT": "1"}, {"WRITE": "2"}):

@@ -1,5 +1,5 @@
-//! The hand-over from one plan to the next, write by write, so that no CPU is ever requested for two containers that
-//! are to have it alone.
+//! The hand-over (transition) from one plan to the next, write by write, so that no CPU is ever requested for two
+//! containers that are to have it alone.
 //!
 //! A [`Handover`] keeps an [`Entry`] for each container with the CPUs that it is to have, and [`Handover::step`] makes
 //! the one write that is due: containers first let go of what is not theirs any more, then take what is.

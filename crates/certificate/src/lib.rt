@@ -1,10 +1,12 @@
-//! Plans of CPUs that prove themselves: a problem, a plan, the prices that show that no plan costs less,
-//! and the check of all three; and shortages, where no plan exists.
+//! Plans of CPUs that prove themselves: a problem, a plan, the dual variables (values and prices) that show that
+//! it is optimal, so that no plan costs less, and the check of all three; and shortages, certificates of
+//! infeasibility, where no plan exists.
 //!
 //! Nothing here knows how a plan was found. Whoever wrote a certificate, a yes of [`check_plan`] means
-//! that the plan is one of the least cost: the prices give a lower bound on the cost of every plan, and
-//! the plan's own cost is that bound. A yes of [`check_shortage`] means that no plan exists: the rows that it
-//! names ask together for more CPUs than the union of their offers has.
+//! that the plan is one of the least cost: the prices give a lower bound on the cost of every plan (weak
+//! duality), and the plan's own cost is that bound, with no duality gap. A yes of [`check_shortage`] means that no
+//! plan exists: the rows that it names, a Hall violator, ask together for more CPUs than the union of their offers
+//! has.
 //!
 //! A [`Certificate`] is a problem with one of both, and [`check`] checks it, with the total that its writer claims. So
 //! whoever trusts the check reads this crate alone.

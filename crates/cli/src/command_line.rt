@@ -8,7 +8,7 @@ use crate::words::Grammar;
 use clap::{Arg, ArgMatches, Command, Error};
 use std::alloc::{AllocError, Global};
 
-const VERSION: &str = "0.1.0";
+const VERSION: &str = "1.0.0";
 
 const HELP: &str =
     "Exit status: 0; 1 if an input is refused or can't be read, if memory is short, or if the answer\n\

@@ -1,4 +1,4 @@
-//! The few members of an OCI `config.json` that CPU pinning reads.
+//! The few members of an OCI `config.json` that CPU pinning reads (those of the cpuset and the CPU quota).
 //!
 //! The rules are those of the OCI Runtime Specification 1.0.2, config.md and config-linux.md: `ociVersion`,
 //! `root` and `root.path` are required, all of `linux.resources.cpu` is optional, and unknown properties

@@ -1,4 +1,4 @@
-//! A set of CPU or node numbers, and its algebra.
+//! A set of CPU or NUMA node numbers, as a cpuset has them, and its algebra.
 //!
 //! A contract sees an [`IdSet`] as a finite set of numbers, and each call as the set operation of its name.
 //! No call takes memory.

@@ -1,4 +1,5 @@
-//! What one container asks for: how many CPUs, which of them it may get, and where its home is.
+//! What one container asks for: how many exclusive CPUs, which of them it may get, and where its home is,
+//! the NUMA nodes of its memory.
 //!
 //! The numbers come from `linux.resources.cpu` of its config (OCI Runtime Specification 1.0.2,
 //! config-linux.md, "CPU") and from the machine. No call takes memory.

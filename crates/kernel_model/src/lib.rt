@@ -1,5 +1,5 @@
-//! The modelled kernel: groups, processes and CPUs in memory, and the trait [`Kernel`] that says what each call of a
-//! kernel returns and changes.
+//! The modelled kernel (cgroup v2 cpusets): groups, processes and CPUs in memory, and the trait [`Kernel`] that says
+//! what each call of a kernel returns and changes.
 #![tactic(auto)]
 
 mod call;

@@ -1,4 +1,4 @@
-//! One machine as its owner describes it: which CPUs each of its nodes has, how far the nodes are from
+//! One NUMA machine as its owner describes it: which CPUs each of its nodes has, how far the nodes are from
 //! one another, which CPUs are reserved, and which are online when it boots.
 //!
 //! Distances are the relative ones of ACPI's System Locality Information Table: 10 from a node to itself,

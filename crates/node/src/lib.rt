@@ -1,4 +1,5 @@
-//! Containers on one machine: their lifecycle (OCI Runtime Specification 1.0.2, runtime.md) over a kernel that pins them.
+//! Containers on one NUMA host: their lifecycle (OCI Runtime Specification 1.0.2, runtime.md), and optimal plans
+//! that give them exclusive CPUs, over a kernel that pins them.
 #![tactic(auto)]
 
 mod begin;

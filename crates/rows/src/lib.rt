@@ -1,4 +1,5 @@
-//! What containers ask for as rows of a problem: their demands, with the CPUs that they may get now, by distance.
+//! What containers ask for as rows of a transportation problem: their demands, with the CPUs that they may get
+//! now, by distance.
 //!
 //! Which CPUs a row offers, and what each of them weighs, is decided here and nowhere else.
 #![tactic(auto)]

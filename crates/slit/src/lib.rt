@@ -1,5 +1,5 @@
-//! The firmware's table of distances between the localities of a machine: ACPI's System Locality
-//! Information Table (SLIT).
+//! The firmware's table of distances between the localities (NUMA nodes) of a machine: ACPI's System
+//! Locality Information Table (SLIT).
 //!
 //! The table is a header of 36 bytes, the number N of localities in 8 bytes, and N * N distances of one
 //! byte each, by rows: entry (i, j) is the relative distance from locality i to locality j. A locality's

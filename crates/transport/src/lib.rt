@@ -1,5 +1,5 @@
-//! The solver: for the rows of a problem a plan of the least cost, with the values and prices that show it, or
-//! a shortage, where there is none.
+//! The solver: for the rows of a problem an optimal plan, of the least cost, with the values and prices that show
+//! it, or a shortage, a certificate of infeasibility, where there is none.
 //!
 //! This is Kuhn's Hungarian method for a transportation problem ("The Hungarian method for the assignment problem", 1955),
 //! with the dual variables as in the primal-dual form of Ford and Fulkerson (1957): a row's value and a class's price.

@@ -1,5 +1,5 @@
-//! CPUs that are alike to all rows of a problem, in classes; and the CPUs of the classes dealt to the rows.
-//! And rows that are alike, in kinds: those with the same offers.
+//! CPUs that are alike to all rows of a problem, in equivalence classes; and the CPUs of the classes dealt to the
+//! rows by a fixed tie-break. And rows that are alike, in kinds: those with identical offers.
 //!
 //! Two CPUs are twins where in each row both have the same weight, or both have none. Whoever seeks a
 //! plan needs to know only how many CPUs of each class of twins a row holds: [`group`] makes the classes,

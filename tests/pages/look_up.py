@@ -1,0 +1,176 @@
+"""What the pages name is there: links with their headings, paths, names of code, clauses behind claims, crates, the index of the
+decisions, transcripts, the version.
+
+look_up.py          fails where something is not there
+look_up.py --write  makes the index of docs/DECISIONS.md anew
+"""
+
+import pathlib
+import re
+import sys
+
+TOP = pathlib.Path(__file__).resolve().parents[2]
+# Folders at the top that a path in backticks may begin with.
+FOLDERS = ("crates", "docs", "tests", "examples", "benches", "bench", ".ci")
+PATH = re.compile(r"`((?:%s)/[\w./+-]*)`" % "|".join(map(re.escape, FOLDERS)))
+LINK = re.compile(r"\[[^\]]*\]\(([^)\s]+)\)")
+BLOCK = re.compile(r"^```(\w*)\n(.*?)^```$", re.DOTALL | re.MULTILINE)
+# What a built checkout has and a fresh one has not.
+MADE = re.compile(r"/out(/|$)")
+README_BYTES = 12_000
+
+
+def pages():
+    found = [*TOP.glob("*.md"), *(TOP / "docs").glob("*.md"), *(TOP / f / "README.md" for f in ("examples", "benches", "tests"))]
+    return {path: path.read_text(encoding="utf-8") for path in sorted(found)}
+
+
+def headings(text):
+    """The names of a page's headings, as links name them."""
+    found = re.findall(r"^#+ (.*)$", re.sub(BLOCK, "", text), re.MULTILINE)
+    return {re.sub(r"[^\w\- ]", "", heading.strip().lower()).replace(" ", "-") for heading in found}
+
+
+def links(path, text, texts):
+    """Links that lead nowhere."""
+    for link in LINK.findall(re.sub(BLOCK, "", text)):
+        if re.match(r"[a-z]+:", link):
+            continue
+        place, _, heading = link.partition("#")
+        target = (path.parent / place).resolve() if place else path
+        if not target.exists():
+            yield f"{link} is not there"
+        elif heading and heading not in headings(texts.get(target, "")):
+            yield f"{link}: no such heading"
+
+
+def paths(text):
+    """Paths in backticks, and words of shell blocks, that are not there."""
+    shell = "\n".join(body for kind, body in BLOCK.findall(text) if kind == "sh")
+    named = PATH.findall(re.sub(BLOCK, "", text)) + re.findall(r"(?<![\w./-])((?:%s)/[\w./+-]+)" % "|".join(FOLDERS[:-1]), shell)
+    for name in named:
+        if not MADE.search(name) and "NAME" not in name and "CRATE" not in name and not (TOP / name).exists():
+            yield f"{name} is not there"
+
+
+def crates(texts):
+    """Crates that the map lacks, or that it has and crates.txt has not."""
+    listed = re.findall(r"^(\w+):", (TOP / "crates.txt").read_text(encoding="utf-8"), re.MULTILINE)
+    mapped = re.findall(r"^\| `(\w+)` \|", texts[TOP / "docs/architecture.md"].split("\n## ")[0], re.MULTILINE)
+    yield from (f"{name} is not in the table" for name in listed if name not in mapped)
+    yield from (f"{name} is no crate" for name in mapped if name not in listed)
+
+
+def index(text):
+    """The index of the decisions: a row for each section, with what begins its paragraphs."""
+    rows = ["| Section | Decisions |", "|---|---|"]
+    for section in text.split("\n## ")[1:]:
+        title, _, body = section.partition("\n")
+        begins = re.findall(r"^\*\*([^*]+?)\*\*", body, re.MULTILINE)
+        link = next(iter(headings(f"## {title}")))
+        rows.append(f"| [{title}](#{link}) | {'; '.join(name.replace(chr(10), ' ').rstrip('.,') for name in begins)} |")
+    return "\n".join(rows)
+
+
+def with_index(text):
+    """The page with its index made anew."""
+    intro, _, behind = text.partition("\n## ")
+    kept = "\n".join(line for line in intro.rstrip().splitlines() if not line.startswith("|")).rstrip()
+    return f"{kept}\n\n{index(text)}\n\n## {behind}"
+
+
+def scripts(text):
+    """Scripts of tests/ that tests/README.md or tests/all.sh lack."""
+    run = (TOP / "tests/all.sh").read_text(encoding="utf-8")
+    for path in sorted((TOP / "tests").glob("*.sh")):
+        if path.name == "all.sh" or path.name.startswith("build-"):
+            continue
+        if f"| `{path.name}` |" not in text:
+            yield f"{path.name} has no row"
+        if f"bash tests/{path.name}\n" not in run:
+            yield f"{path.name} is not run by tests/all.sh"
+
+
+def words(*patterns):
+    """All words of the files of these patterns."""
+    found = set()
+    for path in (path for pattern in patterns for path in TOP.glob(pattern) if path.is_file()):
+        found.update(re.findall(r"[A-Za-z_][\w'-]*", path.read_text(encoding="utf-8", errors="replace")))
+    return found
+
+
+def names(texts):
+    """Names of code in the pages that stand nowhere in it."""
+    known = words("crates/*/src/**/*.rt", "crates/*/specs/*.antt", "crates/*/proofs/*.antt", "tests/**/*.py", "tests/*.sh", "crates.txt")
+    for page in ("docs/proved.md", "docs/architecture.md", "docs/reading.md", "docs/glossary.md", "CONTRIBUTING.md", "tests/README.md"):
+        for name in re.findall(r"`([^`\n]+)`", re.sub(BLOCK, "", texts[TOP / page])):
+            parts = name.split("::")
+            if all(re.fullmatch(r"[A-Za-z_]\w*", part) for part in parts) and not name.startswith("NAME"):
+                yield from (f"{page}: {name} is nowhere" for part in parts if part not in known)
+
+
+def clauses(text):
+    """Names behind a claim of docs/proved.md that are no clause, function or definition of its crate."""
+    for section in text.split("\n### ")[1:]:
+        title, _, body = section.partition("\n")
+        of = [crate.strip() for crate in title.split(",")]
+        there = "\n".join(path.read_text(encoding="utf-8") for crate in of for kind in ("src/**/*.rt", "specs/*.antt")
+                          for path in TOP.glob(f"crates/{crate}/{kind}"))
+        for brackets in re.findall(r"\(([^()]*`[^()]*)\)", body.split("\n## ")[0]):
+            for name in re.findall(r"`([a-z_]+)`", brackets):
+                if not re.search(rf"\b(ensures|fn|mod|pub|abbrev) {name}\b", there) and not (TOP / "crates" / name).is_dir():
+                    if not re.search(rf"specs\.\w+\.\{{[^}}]*\b{name}\b", there):
+                        yield f"docs/proved.md: {title}: {name} is no clause, function or definition there"
+
+
+def transcripts(texts):
+    """Answers that the pages show and that are not those of the scripts."""
+    scripts = TOP / "examples/scripts"
+    first = [body for kind, body in BLOCK.findall(texts[TOP / "README.md"]) if not kind]
+    lines = first[0].splitlines() if len(first) == 1 else []
+    for file, kept in (("plans", [line[2:] for line in lines if line.startswith("> ")]),
+                       ("plans.answers", [line for line in lines if not line.startswith("> ")])):
+        there = (scripts / file).read_text(encoding="utf-8").splitlines()
+        if not lines or there[: len(kept)] != kept:
+            yield f"README.md: the transcript is not what examples/scripts/{file} begins with"
+    shown = [body for kind, body in BLOCK.findall(texts[TOP / "examples/README.md"]) if body.startswith("> ")]
+    lines = shown[0].splitlines() if len(shown) == 1 else []
+    for file, kept in (("a-cpu-goes", [line[2:] for line in lines if line.startswith("> ")]),
+                       ("a-cpu-goes.answers", [line for line in lines if not line.startswith("> ")])):
+        if (scripts / file).read_text(encoding="utf-8").splitlines() != kept:
+            yield f"examples/README.md: the transcript is not examples/scripts/{file}"
+
+
+def version(text):
+    """That the newest release of the changelog has the version that the program prints."""
+    release = re.search(r"^## \[([0-9.]+)\]", text, re.MULTILINE)
+    source = (TOP / "crates/cli/src/command_line.rt").read_text(encoding="utf-8")
+    printed = re.search(r'^const VERSION: &str = "([0-9.]+)";', source, re.MULTILINE)
+    if not release or not printed or release[1] != printed[1]:
+        yield "the newest release is not the version that the program prints"
+
+
+def main():
+    texts, wrong = pages(), []
+    for path, text in texts.items():
+        wrong += [f"{path.relative_to(TOP)}: {what}" for what in [*links(path, text, texts), *paths(text)]]
+    wrong += [f"docs/architecture.md: {what}" for what in crates(texts)]
+    decisions = TOP / "docs/DECISIONS.md"
+    if "--write" in sys.argv:
+        decisions.write_text(with_index(texts[decisions]), encoding="utf-8")
+    elif texts[decisions] != with_index(texts[decisions]):
+        wrong.append("docs/DECISIONS.md: its index is another; make it anew by: python3 -B tests/pages/look_up.py --write")
+    wrong += [f"tests/README.md: {what}" for what in scripts(texts[TOP / "tests/README.md"])]
+    wrong += names(texts)
+    wrong += clauses(texts[TOP / "docs/proved.md"])
+    wrong += transcripts(texts)
+    wrong += [f"CHANGELOG.md: {what}" for what in version(texts[TOP / "CHANGELOG.md"])]
+    size = len(texts[TOP / "README.md"].encode())
+    if size > README_BYTES:
+        wrong.append(f"README.md has {size} bytes, and {README_BYTES} are the most")
+    if wrong:
+        sys.exit("\n".join(wrong))
+    print(f"{len(texts)} pages looked through")
+
+
+main()

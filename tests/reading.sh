@@ -1,0 +1,24 @@
+#!/usr/bin/env bash
+# Compares the lists of docs/reading.md and the figures of README.md with the definitions that each clause rests on, and what
+# is quoted there with the sources. Then plants a difference in a copy, each time another, which has to be found.
+set -euo pipefail
+top=$(cd "$(dirname "$0")/.." && pwd)
+python3 -B "$top/tests/reading/closure.py"
+
+copy=$(mktemp -d)
+trap 'rm -rf "$copy"' EXIT
+differs() {  # FILE SED-SCRIPT
+    (cd "$top" && tar c crates.txt README.md docs/reading.md tests/reading crates/*/src crates/*/specs) | tar x -C "$copy"
+    sed -i "$2" "$copy/$1"
+    if cmp -s "$top/$1" "$copy/$1"; then echo "reading.sh: '$2' changes nothing in $1" >&2; exit 1; fi
+    if python3 -B "$copy/tests/reading/closure.py" > /dev/null 2>&1; then
+        echo "reading.sh: '$2' in $1 was not found" >&2
+        exit 1
+    fi
+}
+# A definition that rests on one more, a list with a row less, a figure, and a clause that is quoted as it does not stand.
+differs crates/certificate/specs/IsLeast.antt 's/^  pub least : /  pub whole : cost [] [] ≡ cost [] []\n&/'
+differs docs/reading.md '0,/^| \[`certificate` `Weight`\]/{/^| \[`certificate` `Weight`\]/d}'
+differs README.md 's/^\(How little .* rests on \)[0-9]*/\17/'
+differs docs/reading.md 's/^\(| the headline, over all runs .* | \)[0-9]*\( | [0-9,]* | [0-9]* | *|\)$/\17\2/'
+differs docs/reading.md 's/^    ensures least .*/    ensures least { OnOk result (IsPlan problem.now plan.now) }/'

@@ -1,0 +1,373 @@
+"""Which definitions a clause rests on: followed by name from the clause, through the imports of src/ and specs/.
+
+closure.py          fails where docs/reading.md or README.md differ from what it finds
+closure.py --write  writes the lists and figures into both, between their markers
+closure.py --list   prints each definition of each clause with its place
+
+What is followed: the words of the clause, by the `ghost use` lines of its file; of each definition the words of its text,
+by the `use` lines of its page. What a name in a type's declaration stands for (src/) is listed and not followed.
+"""
+
+import pathlib
+import re
+import sys
+
+TOP = pathlib.Path(__file__).resolve().parents[2]
+WORD = re.compile(r"[A-Za-z_][\w'-]*")
+HEAD = re.compile(r"^(?:(?:abbrev|unfoldable|record|data|pub) )*([A-Za-z_][\w'-]*)")
+INNER = re.compile(r"^  (?:pub )?(?:abbrev|unfoldable|record|data) ")
+USE = re.compile(r"^ *(?:ghost )?use Rattle\.(\w+)\.specs\.([\w.]+?)(?:\.\{(.*)\}| as (\w+));?$")
+
+# A title, a crate, a file of src/, a function there, and its clause; a clause without a name is "".
+CLAUSES = [
+    ("check_plan", "certificate", "checks.rt", "check_plan", "least"),
+    ("check", "certificate", "checking.rt", "check", "best"),
+    ("solve", "transport", "solver.rt", "solve", "decided"),
+    ("rebalance", "node", "planning.rt", "rebalance", "headline"),
+    ("each_rebalance", "node", "laws.rt", "each_rebalance", ""),
+    ("scripts_serve_configs", "runtime", "laws.rt", "scripts_serve_configs", ""),
+]
+# Of these only the pages are listed.
+LONG = {"each_rebalance", "scripts_serve_configs"}
+
+
+def imports(lines):
+    """What each word stands for that `use` lines name: a crate, a page and the name there; a page's other name has no name."""
+    found = {}
+    for line in lines:
+        use = USE.match(line)
+        if not use:
+            continue
+        crate, page, names, other = use.groups()
+        if other:
+            found[other] = (crate, page, "")
+            continue
+        for name in names.split(","):
+            told, *renamed = name.strip().split(" as ")
+            found[(renamed or [told])[0].strip()] = (crate, page, told.strip())
+    return found
+
+
+class Page:
+    """A page of specs/: the lines of each definition, and what its words stand for."""
+
+    def __init__(self, path):
+        lines = path.read_text(encoding="utf-8").splitlines()
+        self.words, self.definitions, self.owners, name, module = imports(lines), {}, {}, None, ""
+        for line in lines:
+            if line.startswith("module "):
+                name, module = None, line
+                continue
+            if not line.strip() or line.lstrip().startswith("--") or line.startswith(("use ", "unfolding ")):
+                continue
+            top, inner = not line.startswith((" ", "}")), INNER.match(line)
+            if top or inner:
+                name = HEAD.match(line.strip()).group(1) if HEAD.match(line.strip()) else name
+                module = module if inner else ""
+            if name:
+                kept = self.definitions.setdefault(name, [module, []])
+                kept[1].append(line)
+                case = re.match(r"^  ([A-Za-z_][\w'-]*) *:", line)
+                if case and re.match(r"(pub )?data ", kept[1][0]):
+                    self.owners[case.group(1)] = name
+
+    def owner(self, name):
+        """The definition that has this name: its own, or the `data` of which it is a case."""
+        return name if name in self.definitions else self.owners.get(name)
+
+    def text(self, name):
+        module, lines = self.definitions[name]
+        return "\n".join([module, *lines])
+
+
+class Sources:
+    """All pages of specs/, read when they are asked for."""
+
+    def __init__(self):
+        self.pages = {}
+
+    def page(self, crate, page):
+        path = TOP / "crates" / crate / "specs" / (page.replace(".", "/") + ".antt")
+        if (crate, page) not in self.pages:
+            self.pages[crate, page] = Page(path) if path.is_file() else None
+        return self.pages[crate, page]
+
+    def closure(self, roots):
+        """Definitions that these rest on; types and constants of src/; words of the toolchain."""
+        definitions, declared, kit, waiting = set(), set(), set(), list(roots)
+        while waiting:
+            place = waiting.pop()
+            crate, page, name = place
+            if not (TOP / "crates" / crate).is_dir():
+                kit.add(name)
+            elif page.startswith("declared."):
+                declared.add((crate, name if page.endswith("TheConstants") else type_of(page)))
+            elif name:
+                place = self.whole(crate, page, name)
+                read = self.page(crate, page)
+                if read is None or place[2] not in read.definitions:
+                    sys.exit(f"{crate} {page}: no definition {name}")
+                if place not in definitions:
+                    definitions.add(place)
+                    waiting += self.named(*place)
+        return definitions, declared, kit - {""}
+
+    def named(self, crate, page, name):
+        """What the words of a definition stand for."""
+        read, text = self.page(crate, page), self.page(crate, page).text(name)
+        for word in set(WORD.findall(text)):
+            if word in read.words and not read.words[word][2]:
+                there, at, _ = read.words[word]
+                parts = [self.whole(there, at, part) for part in re.findall(rf"(?<![\w.]){word}\.({WORD.pattern})", text)]
+                yield from (p for p in parts if not self.page(there, at) or p[2] in self.page(there, at).definitions)
+            elif word in read.words:
+                yield self.whole(*read.words[word])
+            elif read.owner(word) not in (None, name):
+                yield crate, page, read.owner(word)
+
+    def whole(self, crate, page, name):
+        """The definition that a name belongs to: a case is of its `data`."""
+        read = self.page(crate, page)
+        return crate, page, read and read.owner(name) or name
+
+    def size(self, definitions):
+        return sum(len(self.page(crate, page).definitions[name][1]) for crate, page, name in definitions)
+
+
+def type_of(page):
+    """The type of src/ that a page of its declarations is of."""
+    parts = page.split(".")
+    return parts[-2] if parts[-1] == "TheVariants" else parts[-1]
+
+
+def roots(crate, file, function, clause):
+    """What the words of a clause in src/ stand for."""
+    path = TOP / "crates" / crate / "src" / file
+    text = path.read_text(encoding="utf-8")
+    at = re.search(rf"\bfn {function}\b", text)
+    start = text.find(" ".join(["ensures", *clause.split(), "{"]), at.start()) if at else -1
+    if start < 0 or "\nfn " in text[at.start():start] or "\npub fn " in text[at.start():start]:
+        sys.exit(f"{crate}/src/{file}: {function} has no clause {clause or 'without a name'}")
+    words = imports(text.splitlines())
+    named = WORD.findall(text[start:text.index("}\n", start)])
+    return [words[word] for word in named if word in words]
+
+
+class Models:
+    """What contracts see of the types of src/: the `view` of each `impl Model`, of a signature's types and their fields."""
+
+    def __init__(self):
+        self.texts = {}
+
+    def files(self, crate):
+        if crate not in self.texts:
+            found = (TOP / "crates" / crate / "src").rglob("*.rt")
+            self.texts[crate] = [path.read_text(encoding="utf-8") for path in sorted(found)]
+        return self.texts[crate]
+
+    def place(self, crate, name):
+        """The crate of a type and the text of its file, through what a crate hands on."""
+        for text in self.files(crate):
+            if re.search(rf"^(?:pub(?:\(crate\))? )?(?:struct|enum) {name}\b", text, re.MULTILINE):
+                return crate, text
+        for text in self.files(crate):
+            for other in re.findall(rf"^pub use (\w+)::[^;]*\b{name}\b", text, re.MULTILINE):
+                if (TOP / "crates" / other).is_dir():
+                    return self.place(other, name)
+        return None
+
+    def crate_of(self, crate, text, name):
+        """The crate from which a file has a type of this name: its own, where no `use` names it."""
+        use = re.search(rf"^(?:pub )?use (\w+)::[^;]*\b{name}\b", text, re.MULTILINE)
+        return crate if not use or use[1] in ("crate", "super", "self") else use[1]
+
+    def of(self, crate, file, function):
+        """The types that a function's signature leads to, and what the words of their views stand for."""
+        text = (TOP / "crates" / crate / "src" / file).read_text(encoding="utf-8")
+        signature = re.search(rf"\bfn {function}\b.*?(?=\n *(?:requires|ensures|\{{))", text, re.DOTALL)[0]
+        if "self" in signature:
+            signature += re.findall(r"^impl[^\n]*", text, re.MULTILINE)[-1]
+        found, named, waiting = set(), [], [(crate, text, name) for name in re.findall(r"\b[A-Z]\w+", signature)]
+        while waiting:
+            crate, text, name = waiting.pop()
+            owner = self.crate_of(crate, text, name)
+            there = (TOP / "crates" / owner).is_dir() and self.place(owner, name)
+            if not there or (there[0], name) in found:
+                continue
+            owner, text = there
+            found.add((owner, name))
+            body = re.search(rf"^(?:pub(?:\(crate\))? )?(?:struct|enum) {name}\b.*?(?:^\}}|;$)", text, re.DOTALL | re.MULTILINE)[0]
+            plain = re.sub(r"//.*", "", body)
+            waiting += [(owner, text, field) for field in re.findall(r"\b[A-Z]\w+", plain)]
+            model = re.search(rf"^impl[^\n]* Model for {name}\b.*?^\}}", text, re.DOTALL | re.MULTILINE)
+            if model:
+                words = imports(text.splitlines())
+                view = re.search(r"ghost view = .*?(?=\n\n|\n\}})", model[0], re.DOTALL)
+                named += [words[word] for word in WORD.findall(view[0] if view else "") if word in words]
+        return found, named
+
+
+def crates():
+    """The crates, the lowest first."""
+    lines = (TOP / "crates.txt").read_text(encoding="utf-8").splitlines()
+    return [line.split(":")[0] for line in lines if ":" in line and not line.startswith("#")]
+
+
+def in_order(sources, definitions):
+    """The pages of these definitions, each behind all that its definitions name."""
+    order, places, done = crates(), {}, []
+    for crate, page, name in definitions:
+        places.setdefault((crate, page), set()).add(name)
+
+    def visit(at):
+        if at in done or at in visiting:
+            return
+        visiting.add(at)
+        below = {found[:2] for name in places[at] for found in sources.named(*at, name) if found in definitions}
+        for other in sorted(below - {at}, key=lambda p: (order.index(p[0]), p[1])):
+            visit(other)
+        done.append(at)
+
+    visiting = set()
+    for at in sorted(places, key=lambda p: (order.index(p[0]), p[1])):
+        visit(at)
+    by_place = {at: [n for n in sources.page(*at).definitions if n in places[at]] for at in done}
+    return [(at, by_place[at]) for at in sorted(done, key=lambda p: (order.index(p[0]), done.index(p)))]
+
+
+def figures(found):
+    """The table of docs/reading.md."""
+    yield "| What is claimed | Clause | Definitions | Lines | Pages | Lines for its types |"
+    yield "|---|---|---|---|---|---|"
+    for title, says in SAYS.items():
+        definitions, sources = found[title]["definitions"], found[title]["sources"]
+        crate, function, clause = found[title]["clause"]
+        name = f"`{function}`, `{clause}`" if clause else f"`laws::{function}`"
+        pages = len({place[:2] for place in definitions})
+        views = sources.size(found[title]["views"]) or ""
+        yield f"| {says} | {name} of `{crate}` | {len(definitions)} | {sources.size(definitions):,} | {pages} | {views} |"
+
+
+def sentence(found):
+    """How little that is, as README.md says it."""
+    def lines(title, key="definitions"):
+        return f"{found[title]['sources'].size(found[title][key]):,}"
+
+    yield f"How little one must believe for that: a yes of the checker rests on {lines('check_plan')} lines of definitions, and"
+    yield f"{lines('check_plan', 'views')} more say what its types hold. The headline of one rebalance rests on {lines('rebalance')} and"
+    yield f"{lines('rebalance', 'views')}, and that over all runs on {lines('each_rebalance')}. [docs/reading.md](docs/reading.md) lists them."
+
+
+SAYS = {
+    "check_plan": "the checker's yes: no plan costs less",
+    "check": "a verdict of `numarun check`, moves and shortages too",
+    "solve": "the solver's answer: optimal, or no plan exists",
+    "rebalance": "the headline, of one rebalance",
+    "each_rebalance": "the headline, over all runs",
+    "scripts_serve_configs": "the same, from a script's text and the configs' bytes",
+}
+
+
+def listing(title, found, seen):
+    """The lists of one clause, without what the lists before it have (`seen`, which gains what these have)."""
+    sources, new = found["sources"], {key: found[key] - seen[key] for key in seen}
+    pages = []
+    for (crate, page), names in in_order(sources, found["definitions"]):
+        fresh = [name for name in names if (crate, page, name) in new["definitions"]]
+        if fresh:
+            pages.append((crate, page, fresh))
+    if title in LONG:
+        of_crate = {}
+        for crate, page, _ in pages:
+            of_crate.setdefault(crate, []).append(f"`{page}`")
+        yield "| Crate | Pages of its `specs/` |"
+        yield "|---|---|"
+        yield from (f"| `{crate}` | {', '.join(names)} |" for crate, names in of_crate.items())
+    else:
+        yield "| Page | Definitions | Lines |"
+        yield "|---|---|---|"
+        for crate, page, names in pages:
+            lines = sources.size([(crate, page, name) for name in names])
+            path = f"../crates/{crate}/specs/{page.replace('.', '/')}.antt"
+            yield f"| [`{crate}` `{page}`]({path}) | {', '.join(f'`{n}`' for n in names)} | {lines} |"
+    views = {(crate, name) for crate, _, name in new["views"]}
+    told = [
+        ("Types and constants of `src/` that they name", by_crate(new["declared"]), new["declared"]),
+        ("Types of the call, seen by `impl Model` where one has it", by_crate(new["types"]), new["types"]),
+        ("Definitions by which these are seen", by_crate(views), views),
+        ("Words of the kit", ", ".join(f"`{name}`" for name in sorted(new["kit"], key=lambda word: (word.lower(), word))), new["kit"]),
+    ]
+    yield ""
+    yield from (f"- {what}: {names}." for what, names, some in told if some)
+    for key in seen:
+        seen[key] |= new[key]
+
+
+def by_crate(places):
+    """Names with the crate of each, the lowest crate first."""
+    names, order = {}, crates()
+    for crate, name in sorted(places):
+        names.setdefault(crate, []).append(f"`{name}`")
+    kept = sorted(names.items(), key=lambda item: order.index(item[0]))
+    return "; ".join(f"{', '.join(n)} of `{c}`" for c, n in kept) or "none"
+
+
+def marked(name):
+    return f"<!-- {name}: by tests/reading/closure.py -->", f"<!-- end of {name} -->"
+
+
+def between(text, name, new):
+    """The text with what stands between these markers in place of what stood there, or with nothing where there are none."""
+    first, last = marked(name)
+    start, end = text.find(first), text.find(last)
+    if start < 0 or end < 0:
+        return None
+    return text[:start + len(first)] + "\n" + new + "\n" + text[end:]
+
+
+def misquoted(text):
+    """What docs/reading.md quotes of a file that does not stand there, line by line and in that order."""
+    for file, block in re.findall(r"<!-- from (\S+) -->\n```\w+\n(.*?)```", text, re.DOTALL):
+        there = iter(line.strip() for line in (TOP / file).read_text(encoding="utf-8").splitlines())
+        for line in filter(None, map(str.strip, block.splitlines())):
+            if line not in there:
+                yield f"docs/reading.md quotes a line that is not in {file}, or not there: {line}"
+                break
+
+
+def main():
+    found, sections = {}, {}
+    seen = {key: set() for key in ("definitions", "declared", "types", "views", "kit")}
+    sources, models = Sources(), Models()
+    for title, crate, file, function, clause in CLAUSES:
+        definitions, declared, kit = sources.closure(roots(crate, file, function, clause))
+        types, named = models.of(crate, file, function)
+        views = sources.closure(named)[0] - definitions
+        found[title] = {"definitions": definitions, "declared": declared, "kit": kit, "sources": sources, "types": types,
+                        "views": views, "clause": (crate, function, clause)}
+        sections[title] = "\n".join(listing(title, found[title], seen))
+        if "--list" in sys.argv:
+            for place in sorted(definitions):
+                print(title, *place)
+    sections["figures"], sections["believe"] = "\n".join(figures(found)), "\n".join(sentence(found))
+    wrong = []
+    for file, names in (("docs/reading.md", [name for name in sections if name != "believe"]), ("README.md", ["believe"])):
+        path = TOP / file
+        text = path.read_text(encoding="utf-8")
+        for name in names:
+            new = between(text, name, sections[name])
+            if new is None:
+                wrong.append(f"{file}: no place for {name}")
+                continue
+            if new != text:
+                wrong.append(f"{file}: {name} differs from what the sources say")
+            text = new
+        if "--write" in sys.argv:
+            path.write_text(text, encoding="utf-8")
+    quotes = list(misquoted((TOP / "docs/reading.md").read_text(encoding="utf-8")))
+    if quotes or (wrong and "--write" not in sys.argv):
+        sys.exit("\n".join([*wrong, *quotes, "write the lists anew by: python3 -B tests/reading/closure.py --write"]))
+    print(*(f"{t} {len(f['definitions'])} definitions {sources.size(f['definitions'])} lines;" for t, f in found.items()))
+
+
+main()
