@@ -75,13 +75,14 @@ cpus_of() {
 # The distances from a node to those that the file has; Linux tells those to online nodes, in their order.
 row_of() {
     local -A told=([$1]=10)
-    local entries node i=0 file=$sys/node/node$1/distance
+    local entries entry node i=0 file=$sys/node/node$1/distance
     if [ -e "$file" ]; then
         read -r -a entries < "$file" || true
         for node in $online_nodes; do
-            [[ ${entries[i]:-} =~ ^[0-9]{1,3}$ && 10#${entries[i]} -ge 10 && 10#${entries[i]} -le 255 ]] ||
-                fail "$file: ${entries[i]:-nothing}, where a distance from 10 to 255 to node $node must be"
-            told[$node]=$((10#${entries[i]}))
+            entry=${entries[i]:-nothing}
+            [[ $entry =~ ^[0-9]{1,3}$ ]] && { [ "$node" = "$1" ] || [[ $entry -ge 10 && $entry -le 255 ]]; } ||
+                fail "$file: $entry, where a distance from 10 to 255 to node $node must be"
+            told[$node]=$entry
             i=$((i + 1))
         done
         if [ "${told[$1]}" != 10 ]; then

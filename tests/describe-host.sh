@@ -112,7 +112,7 @@ says 'describe-host.sh: CPU 4096: a machine file has CPUs 0 to 4095' refused
 # Nodes that are not at 10 from themselves, as some firmware has it; and CPU 0 is in no node.
 tree odd 0-4 0-4
 node 0 "21 20" 1 2
-node 1 "20 17" 3 4
+node 1 "20 0" 3 4
 nodes 0-1
 says '{
   "nodes": ["1-2", "3-4"],
@@ -121,10 +121,10 @@ says '{
   "offline": ""
 }'
 says 'describe-host.sh: node 0 is at 21 from itself; written is 10, as a machine file has to have it
-describe-host.sh: node 1 is at 17 from itself; written is 10, as a machine file has to have it
+describe-host.sh: node 1 is at 0 from itself; written is 10, as a machine file has to have it
 describe-host.sh: left out, as no node has them: CPUs 0' notes
 says 'describe-host.sh: node 0 is at 21 from itself; written is 10, as a machine file has to have it
-describe-host.sh: node 1 is at 17 from itself; written is 10, as a machine file has to have it
+describe-host.sh: node 1 is at 0 from itself; written is 10, as a machine file has to have it
 describe-host.sh: left out, as no node has them: CPUs 0
 describe-host.sh: reserved CPUs that are not online: 0' refused --reserved 0-1
 
