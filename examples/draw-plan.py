@@ -11,8 +11,6 @@ container got a CPU, and lists what has moved."""
 
 import argparse
 import html
-import re
-import sys
 from typing import NamedTuple
 
 from answers import LOCAL, Answers, Plan, counted, cut, cut_name, listed, wrapped

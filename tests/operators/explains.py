@@ -11,7 +11,7 @@ import re
 import shutil
 import sys
 
-from trial import EXAMPLES, TOP, bad_files, bad_output, check, end, piped, refuses, told, words_and_help
+from trial import EXAMPLES, bad_files, bad_output, check, end, piped, refuses, told, words_and_help
 
 sys.path.insert(0, EXAMPLES)
 answers = importlib.import_module("answers")
