@@ -13,22 +13,26 @@ without --apply, which writes these files below a cgroup root, or --runtime, whi
 
 Where a write fails, it prints `failed` with the reason and, for each container, what `stands`, and makes no other write:
 all that stands is as after the write before, which is safe. The next event makes the failed write again, goes on with the
-steps behind it, and then works out a plan from there. A container that has ended takes its failed write with it."""
+steps behind it, and then works out a plan from there. A container that has ended takes its failed write with it.
+
+The status is 1 where an event was refused, the last outcome is no plan, or a write is left undone."""
 
 import argparse
 import itertools
 import os
-import shutil
 import subprocess
 import sys
 import time
 
-from common import Machine, Refused, Run, read_list, read_text, run
+from common import Machine, Refused, Run, check_program, find_program, read_list, read_text, run
 
 EXAMPLE = """example, from the top of the repository:
   echo "created database examples/bundles/database" | examples/agent.py examples/machines/two-socket.json"""
-TOP = os.path.dirname(os.path.dirname(os.path.abspath(__file__)))
-PROGRAM = os.path.join(TOP, "crates", "numarun", "out", "numarun")
+LINE = 8192  # bytes of an event, as of a line of a script
+
+
+class NoEvent(Exception):
+    """A line that is none; it is answered, and the next one is read."""
 
 
 class Printer:
@@ -83,6 +87,7 @@ class Agent:
         self.decided = {}      # what the program's containers request, by the id
         self.failed = None     # the write that is to be made again
         self.underway = False
+        self.refused = False   # whether an event was refused
         self.waiting = []      # events that an open hand-over keeps from being told
 
     def event(self, line):
@@ -91,7 +96,7 @@ class Agent:
         kind, arguments = words[0] if words else "", words[1:]
         numbers = {"created": 2, "started": 1, "ended": 1, "offline": 1, "online": 1, "rebalance": 0}
         if kind not in numbers or len(arguments) != numbers[kind]:
-            raise Refused(f"{line.strip()[:60]!r} is no event (see --help)")
+            raise NoEvent(f"{line.strip()[:60]!r} is no event (see --help)")
         if kind in ("offline", "online"):
             self.tell(f"{kind} {arguments[0]}")
         elif kind == "started":
@@ -107,11 +112,13 @@ class Agent:
         """Tells an event; a refusal is printed, and answers `False`."""
         answer = self.decider.ask(command)[0]
         if answer.startswith("refused"):
+            self.refused = True
             print(f"{answer}: {command[:100]}", flush=True)
         return not answer.startswith("refused")
 
     def end(self, name):
         if name not in self.decided:
+            self.refused = True
             print(f"unknown {name}", flush=True)
         self.decider.ask(f"kill {name} KILL")
         if self.failed and self.failed[0] == name:
@@ -137,7 +144,7 @@ class Agent:
         outcome = self.decider.ask("begin")
         print("\n".join(outcome), flush=True)
         self.underway = outcome[0].startswith("plan")
-        return self.settle() and not outcome[0].startswith("refused")
+        return self.settle() and outcome[0].startswith("plan")
 
     def settle(self):
         """The failed write once more, and the steps of an open hand-over; whether none is left."""
@@ -204,30 +211,38 @@ class Watcher:
 
 def watch(agent, watcher, pause, rounds):
     """Looks again and again; a write that has failed is made again with the next event, or else at the next look."""
-    right = True
+    right, said = True, None
     for turn in range(rounds) if rounds else itertools.count():
         if turn:
             time.sleep(pause)
-        events = watcher.events()
+        try:
+            events, said = watcher.events(), None
+        except Refused as why:
+            if not turn:
+                raise
+            if str(why) != said:
+                print(f"agent.py: {why}; looks again", file=sys.stderr, flush=True)
+            events, said = [], str(why)
         for event in events:
             print(f"event {event}", flush=True)
             right = agent.event(event)
         if agent.failed and not events:
             right = agent.rebalance()
-    return right
+    return right and not said
 
 
 def listen(agent):
     """The events of standard input, whose last outcome decides."""
     right = True
-    for at, line in enumerate(sys.stdin.buffer, 1):
+    for at, line in enumerate(iter(lambda: sys.stdin.buffer.readline(LINE + 2), b""), 1):
+        if len(line.rstrip(b"\n")) > LINE:
+            raise Refused(f"standard input: line {at}: more than {LINE} bytes")
         try:
             text = line.decode()
             right = agent.event(text) if text.strip() else right
-        except UnicodeDecodeError:
-            raise Refused(f"standard input: line {at}: not UTF-8") from None
-        except Refused as why:
-            raise Refused(f"standard input: line {at}: {why}") from None
+        except (NoEvent, UnicodeDecodeError) as why:
+            agent.refused = True
+            print(f"refused: line {at}: {why if isinstance(why, NoEvent) else 'not UTF-8'}", flush=True)
     return right
 
 
@@ -235,7 +250,7 @@ def words_of():
     parser = argparse.ArgumentParser(description=__doc__, epilog=EXAMPLE, formatter_class=argparse.RawDescriptionHelpFormatter)
     parser.add_argument("machine", metavar="MACHINE", help="the machine file")
     parser.add_argument("--slit", metavar="FILE", help="the distance table, where MACHINE has no distances")
-    parser.add_argument("--program", default=PROGRAM, metavar="PATH", help="numarun, if it is not the one that is built here")
+    parser.add_argument("--program", default=find_program(), metavar="PATH", help="numarun, if it is not the one that is built here")
     parser.add_argument("--group", default="numarun", metavar="NAME", help="the group that has the containers' groups")
     ways = parser.add_mutually_exclusive_group()
     ways.add_argument("--apply", metavar="ROOT", help="write below this cgroup root, as /sys/fs/cgroup")
@@ -253,8 +268,7 @@ def words_of():
 def main():
     words = words_of()
     machine = Machine(words.machine)
-    if not shutil.which(words.program):
-        raise Refused(f"{words.program}: no program (see --program)")
+    check_program(words.program)
     writer = Files(words.apply) if words.apply else Updates(words.runtime) if words.runtime else Printer()
     decider = Run(words.program, words.machine, words.slit)
     agent = Agent(decider, writer, words.group)
@@ -265,7 +279,7 @@ def main():
             right = listen(agent)
     finally:
         decider.close()
-    return 0 if right else 1
+    return 0 if right and not agent.refused else 1
 
 
 if __name__ == "__main__":

@@ -3,37 +3,70 @@
 import json
 import os
 import re
+import shutil
 import subprocess
 import sys
 
-CPUS, NODES = 4096, 128  # as many as numarun takes
+# As much as numarun takes: CPUs and nodes, and bytes of an input and of a machine file.
+CPUS, NODES = 4096, 128
+BYTES, MACHINE_BYTES = 64 << 20, 1 << 20
 
 
 class Refused(Exception):
     """What can't be read, as one line that names the file and the place."""
 
 
-def read_text(path):
-    """The text of a file; `-` is standard input."""
+def find_program():
+    """numarun: the one that was built in this checkout, or installed with these scripts, or else that of PATH."""
+    here = os.path.dirname(os.path.realpath(__file__))
+    built = os.path.join(os.path.dirname(here), "crates", "numarun", "out", "numarun")
+    installed = os.path.normpath(os.path.join(here, "..", "..", "bin", "numarun"))
+    found = [path for path in (built, installed) if os.path.isfile(path) and os.access(path, os.X_OK)]
+    return found[0] if found else shutil.which("numarun") or built
+
+
+def check_program(path):
+    if not shutil.which(path):
+        raise Refused(f"{path}: no program (see --program)")
+
+
+def read_bytes(path, most=BYTES):
+    """The bytes of a file; `-` is standard input."""
     try:
         if path == "-":
-            return sys.stdin.buffer.read().decode()
-        with open(path, "rb") as file:
-            return file.read().decode()
+            told = sys.stdin.buffer.read(most + 1)
+        else:
+            with open(path, "rb") as file:
+                told = file.read(most + 1)
     except OSError as why:
         raise Refused(f"{path}: {why.strerror}") from None
+    if len(told) > most:
+        raise Refused(f"{path}: more than {most} bytes")
+    return told
+
+
+def read_text(path, most=BYTES):
+    """The text of a file; `-` is standard input."""
+    try:
+        return read_bytes(path, most).decode()
     except UnicodeDecodeError as why:
         raise Refused(f"{path}: byte {why.start}: not UTF-8") from None
 
 
-def read_list(text, place):
-    """The set of a list of CPUs as cpuset(7) has it; `-` is the empty set, as in numarun's answers."""
-    cpus = set()
+def read_ranges(text, place):
+    """The ranges of a list of CPUs as cpuset(7) has it; `-` has none, as in numarun's answers."""
     for item in [] if text.strip() == "-" else text.split(","):
         found = re.fullmatch(r"\s*(?:([0-9]{1,9})(?:-([0-9]{1,9}))?)?\s*", item)
         first, last = (int(found[1]), int(found[2] or found[1])) if found and found[1] else (0, -1)
         if not found or (found[1] and not first <= last < CPUS):
-            raise Refused(f"{place}: {item.strip()!r} is no CPU or range of CPUs below {CPUS}")
+            raise Refused(f"{place}: {item.strip()[:40]!r} is no CPU or range of CPUs below {CPUS}")
+        yield first, last
+
+
+def read_list(text, place):
+    """The set of a list of CPUs."""
+    cpus = set()
+    for first, last in read_ranges(text, place):
         cpus.update(range(first, last + 1))
     return cpus
 
@@ -76,7 +109,7 @@ class Machine:
     @staticmethod
     def parse(path):
         try:
-            told = json.loads(read_text(path))
+            told = json.loads(read_text(path, MACHINE_BYTES))
         except ValueError as why:
             at = f"line {why.lineno}" if isinstance(why, json.JSONDecodeError) else "a number of too many digits"
             raise Refused(f"{path}: {at}: not JSON") from None
@@ -132,8 +165,8 @@ class Run:
         return [line for asked in lines for line in self.answer(asked)]
 
     def answer(self, asked):
-        lines = [self.line(asked)]
-        if lines[0].split(" ")[0] in ("plan", "short"):
+        lines, command = [self.line(asked)], asked.split()[0]
+        if command in ("begin", "rebalance", "certificate", "list") and not lines[0].startswith("refused E"):
             while lines[-1] != "end":
                 lines.append(self.line(asked))
         return lines
@@ -148,6 +181,7 @@ class Run:
     def why(self):
         """The last of what it says on standard error, once it has ended."""
         self.end_input()
+        self.process.stdout.close()
         said = self.process.stderr.read().decode(errors="replace").strip().splitlines()
         return f" ({said[-1]})" if said else ""
 
@@ -178,6 +212,8 @@ def run(main):
         status = 1
     except KeyboardInterrupt:
         status = 130
+    except MemoryError:
+        status = f"{name}: memory is short"
     except OSError as why:
         status = f"{name}: {why.filename or 'standard output'}: {why.strerror}"
     sys.exit(status)

@@ -4,12 +4,14 @@
 #
 # Where no reserved CPUs are named, the lowest online one is. Nodes keep their numbers: a number that no node has becomes
 # a node without CPUs, at distance 255 (unreachable) from all others; --renumber leaves these out and numbers the nodes
-# anew from 0. A machine without node folders is one node.
+# anew from 0. A machine without node folders is one node. A node that is not at 10 from itself is written as 10, since a
+# machine file has to have it, and a CPU of no node is left out; both are said. What is no machine file is not written.
 #
 # Example: examples/describe-host.sh --reserved 0-1 > host.json
 set -euo pipefail
 
-fail() { echo "describe-host.sh: $1" >&2; exit 1; }
+say() { echo "describe-host.sh: $1" >&2; }
+fail() { say "$1"; exit 1; }
 misused() { echo "describe-host.sh: $1 (see --help)" >&2; exit 2; }
 
 sys=/sys/devices/system
@@ -27,7 +29,16 @@ while [ $# -gt 0 ]; do
 done
 range='[0-9]{1,4}(-[0-9]{1,4})?'
 [[ -z $reserved || $reserved =~ ^$range(,$range)*$ ]] || fail "--reserved: $reserved is no list of CPUs"
-[ -r "$sys/cpu/online" ] || fail "$sys/cpu/online: no such file, or it can't be read"
+
+# The list in a file of the kernel's.
+list_in() {
+    local text
+    [ -r "$sys/$1" ] || fail "$sys/$1: no such file, or it can't be read"
+    read -r text < "$sys/$1" || true
+    [[ $text =~ ^$range(,$range)*$ ]] || fail "$sys/$1: ${text:0:40} is no list"
+    echo "$text"
+}
+online=$(list_in cpu/online)
 
 # The numbers of a list as the kernel prints it, one a line.
 members() {
@@ -51,7 +62,7 @@ as_list() {
 cpus_of() {
     local entry
     if [ -z "$has_nodes" ]; then
-        members "$(cat "$sys/cpu/present")"
+        members "$here"
         return
     fi
     for entry in "$sys/node/node$1"/cpu[0-9]*; do
@@ -64,13 +75,20 @@ cpus_of() {
 # The distances from a node to those that the file has; Linux tells those to online nodes, in their order.
 row_of() {
     local -A told=([$1]=10)
-    local entries node i=0
-    if [ -e "$sys/node/node$1/distance" ]; then
-        read -r -a entries < "$sys/node/node$1/distance"
+    local entries entry node i=0 file=$sys/node/node$1/distance
+    if [ -e "$file" ]; then
+        read -r -a entries < "$file" || true
         for node in $online_nodes; do
-            told[$node]=${entries[i]}
+            entry=${entries[i]:-nothing}
+            [[ $entry =~ ^[0-9]{1,3}$ ]] && { [ "$node" = "$1" ] || [[ $entry -ge 10 && $entry -le 255 ]]; } ||
+                fail "$file: $entry, where a distance from 10 to 255 to node $node must be"
+            told[$node]=$entry
             i=$((i + 1))
         done
+        if [ "${told[$1]}" != 10 ]; then
+            say "node $1 is at ${told[$1]} from itself; written is 10, as a machine file has to have it"
+            told[$1]=10
+        fi
     fi
     for node in $nodes; do
         echo "${told[$node]:-255}"
@@ -80,35 +98,47 @@ row_of() {
 # Lines as one, with a comma and a space between.
 joined() { paste -s -d , | sed 's/,/, /g'; }
 
-# The numbers of the first list that the second has not, as a list.
-without() { comm -23 <(members "$1" | sort) <(members "$2" | sort) | as_list; }
+# The numbers of the first list that the second has not, and those of both, as lists.
+without() { comm -23 <(members "$1" | sort -u) <(members "$2" | sort -u) | as_list; }
+both() { comm -12 <(members "$1" | sort -u) <(members "$2" | sort -u) | as_list; }
 
 has_nodes=
 online_nodes=0
+here=$online
+[ ! -e "$sys/cpu/present" ] || here=$(list_in cpu/present)
 if [ -e "$sys/node/online" ]; then
     has_nodes=yes
-    online_nodes=$(members "$(cat "$sys/node/online")")
+    online_nodes=$(list_in node/online)
+    online_nodes=$(members "$online_nodes")
 fi
 nodes=$online_nodes
-[ -n "$renumber" ] || nodes=$(seq 0 "${online_nodes##*$'\n'}")
-[ "$(wc -l <<<"$nodes")" -le 128 ] || fail "node ${nodes##*$'\n'}: a machine file has nodes 0 to 127 (see --renumber)"
+highest=${online_nodes##*$'\n'}
+[ -n "$renumber" ] || [ "$highest" -gt 127 ] || nodes=$(seq 0 "$highest")
+[ "$(wc -l <<<"$nodes")" -le 128 ] && { [ -n "$renumber" ] || [ "$highest" -le 127 ]; } ||
+    fail "node $highest: a machine file has nodes 0 to 127 (see --renumber)"
 
 lists= rows= comma= present=
 for node in $nodes; do
     cpus=$(cpus_of "$node" | as_list)
     lists+="$comma\"$cpus\""
-    rows+="${comma}[$(row_of "$node" | joined)]"
+    row=$(row_of "$node" | joined)
+    rows+="${comma}[$row]"
     present+="${present:+,}$cpus"
     comma=", "
 done
 
-online=$(cat "$sys/cpu/online")
-reserved=${reserved:-${online%%[-,]*}}
 last=$(members "$present" | sort -n | tail -n 1)
 [ -n "$last" ] || fail "no node has CPUs"
 [ "$last" -lt 4096 ] || fail "CPU $last: a machine file has CPUs 0 to 4095"
+twice=$(members "$present" | sort -n | uniq -d | head -n 1)
+[ -z "$twice" ] || fail "CPU $twice is in two nodes"
+left=$(without "$here,$online" "$present")
+[ -z "$left" ] || say "left out, as no node has them: CPUs $left"
+usable=$(both "$online" "$present")
+[ -n "$usable" ] || fail "no CPU of a node is online"
+reserved=${reserved:-${usable%%[-,]*}}
 [ -n "$(members "$reserved")" ] || fail "--reserved: no CPU is named"
-stray=$(without "$reserved" "$online")
+stray=$(without "$reserved" "$usable")
 [ -z "$stray" ] || fail "reserved CPUs that are not online: $stray"
 
 printf '{\n  "nodes": [%s],\n  "distances": [%s],\n  "reserved": "%s",\n  "offline": "%s"\n}\n' \

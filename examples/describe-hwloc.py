@@ -1,5 +1,7 @@
 #!/usr/bin/env python3
-"""Writes the machine file of what hwloc's `lstopo --of xml` tells of a machine, which need not be the one it runs on.
+"""Writes the machine file of what hwloc's `lstopo --disallowed --of xml` tells of a machine, which need not be the one it
+runs on. Without --disallowed hwloc leaves out what the shell may not use (as in a container, or under systemd's
+AllowedCPUs), and such CPUs can't be told from those that are offline.
 
 CPUs and nodes keep the numbers of the system. As describe-host.sh does it: where no reserved CPUs are named, the lowest
 online one is; a number that no node has becomes a node without CPUs, at distance 255 (unreachable) from all others, and
@@ -12,11 +14,12 @@ import re
 import sys
 import xml.etree.ElementTree as xml
 
-from common import Refused, print_list, read_list, run
+from common import CPUS, NODES, Refused, print_list, read_bytes, read_list, run
 
-CPUS, NODES, UNREACHABLE = 4096, 128, 255
-EXAMPLE = "example: lstopo --of xml | describe-hwloc.py --reserved 0,16 > machine.json"
+UNREACHABLE = 255
+EXAMPLE = "example: lstopo --disallowed --of xml | describe-hwloc.py --reserved 0,16 > machine.json"
 MEANS_LATENCY = 4
+NO_MEMORY = 1  # of expat's errors
 
 
 def say(text):
@@ -45,6 +48,8 @@ class Topology:
         self.online = self.bitmap(machine, "online_cpuset", "cpuset")
         present = self.bitmap(machine, "complete_cpuset", "cpuset")
         self.allowed = self.bitmap(machine, "allowed_cpuset", "cpuset")
+        told_apart = machine.get("online_cpuset") or self.allowed != self.online
+        self.unsure = set() if told_apart else present - self.online
         self.nodes = self.read_nodes(machine, present)
         self.numbers = sorted(self.nodes)
         self.distances = self.read_distances(root)
@@ -54,13 +59,13 @@ class Topology:
 
     def parse(self):
         try:
-            return xml.parse(sys.stdin.buffer if self.path == "-" else self.path).getroot()
+            return xml.fromstring(read_bytes(self.path))
         except xml.ParseError as why:
+            if why.code == NO_MEMORY:
+                raise MemoryError from None
             raise Refused(f"{self.path}: line {why.position[0]}: not XML") from None
         except (LookupError, ValueError):
             raise Refused(f"{self.path}: line 1: an unknown encoding") from None
-        except OSError as why:
-            raise Refused(f"{self.path}: {why.strerror}") from None
 
     def place(self, entry):
         return f"{self.path}: {entry.get('type', entry.tag)} {entry.get('os_index', '')}".rstrip()
@@ -182,6 +187,8 @@ def describe(topology, reserved, renumber):
         raise Refused(f"reserved CPUs that are not online: {print_list(reserved - online)}")
     if topology.allowed & online != online:
         say(f"hwloc was not allowed the CPUs {print_list(online - topology.allowed)}; they are in the file")
+    if topology.unsure:
+        say(f"offline, or not allowed to the shell that ran lstopo, which `lstopo --disallowed` tells apart: CPUs {print_list(topology.unsure)}")
     told = [
         f'"nodes": {json.dumps([print_list(topology.nodes.get(node, set()), "") for node in nodes])}',
         f'"distances": {json.dumps(rows_of(topology, nodes))}',
@@ -196,7 +203,7 @@ def main():
     parser.add_argument("file", nargs="?", default="-", metavar="FILE", help="what lstopo wrote; none, or -, is standard input")
     parser.add_argument("--reserved", metavar="LIST", help="the reserved CPUs")
     parser.add_argument("--renumber", action="store_true", help="number the nodes anew from 0")
-    words = parser.parse_args()
+    words = parser.parse_intermixed_args()
     reserved = None if words.reserved is None else read_list(words.reserved, "--reserved")
     print(describe(Topology(words.file), reserved, words.renumber))
 

@@ -1,143 +1,33 @@
 #!/usr/bin/env python3
-"""Draws a plan of `numarun run`, read from the answers of a script on standard input, as an SVG or, with --text, as text
-of 80 columns.
+"""Draws a plan or a shortage of `numarun run`, read from the answers of a script on standard input, as an SVG or, with
+--text, as text of 80 columns.
 
 Drawn are the nodes with their CPUs: each container in a colour and with letters of its own, the pool, reserved and offline
-CPUs. The legend has each container's CPUs and total distance, and which of them are far from home. Distances are told
-by the certificate: put the command `certificate` behind `rebalance` in the script. Of several plans the last one is drawn;
---before draws it beside the one before, with a thick edge where a container got a CPU, and lists what has moved."""
+CPUs. The legend has each container's CPUs and total distance, and which of them are far from home. Of a shortage it is the
+CPUs that those who are short may have: in a container's colour where no other of them may have it, and `*` where several
+may. Distances, and who may have what, are told by the certificate: put the command `certificate` behind `rebalance` in the
+script. Of several outcomes the last one is drawn; --before draws it beside the plan before, with a thick edge where a
+container got a CPU, and lists what has moved."""
 
 import argparse
 import html
-import re
-import sys
 from typing import NamedTuple
 
-from common import Machine, Refused, print_list, read_list, read_text, run
+from answers import LOCAL, Answers, Plan, counted, cut, cut_name, listed, wrapped
+from common import Machine, print_list, run
 
 EXAMPLE = """example, from the top of the repository:
   crates/numarun/out/numarun run examples/machines/two-socket.json < examples/scripts/plans > answers
   examples/draw-plan.py examples/machines/two-socket.json < answers > plan.svg"""
-LOCAL = 10
 # Of the palette of Okabe and Ito, which people without red or green tell apart; further containers take lighter and darker
 # shades of these with stripes across.
 PALETTE = ["#e69f00", "#56b4e9", "#009e73", "#f0e442", "#0072b2", "#d55e00", "#cc79a7"]
-
-
-class Plan:
-    def __init__(self, line):
-        self.line, self.total, self.holds, self.pool, self.weights = line, None, {}, None, {}
-
-    def holder_of(self):
-        return {cpu: name for name, cpus in self.holds.items() for cpu in cpus}
-
-    def weight(self, name, cpu):
-        return self.weights.get(name, {}).get(cpu)
-
-    def distance(self, name):
-        """The container's distance, or nothing where no certificate tells it."""
-        told = [self.weight(name, cpu) for cpu in self.holds[name]]
-        return None if None in told else sum(told)
-
-    def far(self, name):
-        """The CPUs of a container that are beyond local, by their distance."""
-        by_weight = {}
-        for cpu in self.holds[name]:
-            if (self.weight(name, cpu) or 0) > LOCAL:
-                by_weight.setdefault(self.weight(name, cpu), set()).add(cpu)
-        return by_weight
-
-
-class Answers:
-    """The plans among the answers of a script, each with the weights of the certificate behind it."""
-
-    def __init__(self, path, machine):
-        self.path, self.machine, self.plans, self.shortage = path, machine, [], None
-        self.lines = read_text(path).splitlines()
-        self.at = 0
-        while self.at < len(self.lines):
-            line = self.lines[self.at]
-            self.at += 1
-            if re.fullmatch(r"plan total [0-9]{1,20}", line):
-                self.read_plan()
-            elif line.startswith("short demand "):
-                self.shortage = self.at
-            elif re.fullmatch(r"numarun-certificate [12]", line):
-                self.read_certificate(line.endswith("2"))
-
-    def refuse(self, what):
-        raise Refused(f"{'standard input' if self.path == '-' else self.path}: line {self.at}: {what}")
-
-    def block(self, what):
-        """The words of the lines up to `end`."""
-        while self.at < len(self.lines):
-            self.at += 1
-            if self.lines[self.at - 1] == "end":
-                return
-            yield self.lines[self.at - 1].split(" ")
-        self.at += 1
-        self.refuse(f"the {what} has no end")
-
-    def cpus(self, text):
-        place = f"{'standard input' if self.path == '-' else self.path}: line {self.at}"
-        cpus = read_list(text, place)
-        if not cpus <= self.machine.present:
-            self.refuse(f"the machine has no CPU {min(cpus - self.machine.present)}")
-        return cpus
-
-    def read_plan(self):
-        plan = Plan(self.at)
-        plan.total = int(self.lines[self.at - 1].split(" ")[2])
-        taken = set()
-        for words in self.block("plan"):
-            if words[0] == "hold" and len(words) == 3 and words[1].isprintable() and words[1] not in plan.holds:
-                cpus = plan.holds[words[1]] = self.cpus(words[2])
-            elif words[0] == "pool" and len(words) == 2 and plan.pool is None:
-                cpus = plan.pool = self.cpus(words[1])
-            else:
-                self.refuse(f"{' '.join(words)[:40]!r} is no line of a plan")
-            if cpus & taken:
-                self.refuse(f"CPU {min(cpus & taken)} stands twice in the plan")
-            taken |= cpus
-        if plan.pool is None:
-            self.refuse("the plan has no pool")
-        self.plans.append(plan)
-        self.shortage = None
-
-    def read_certificate(self, scaled):
-        weights, short = {}, False
-        for words in self.block("certificate"):
-            if words[0] == "row" and len(words) >= 3:
-                row = weights[words[1]] = {}
-                for offer in words[3:]:
-                    weight, colon, cpus = offer.partition(":")
-                    if not re.fullmatch(r"[0-9]{1,20}", weight) or not colon:
-                        self.refuse(f"{offer[:40]!r} is no offer")
-                    row.update(dict.fromkeys(self.cpus(cpus), int(weight) // (65536 if scaled else 1)))
-            short = short or words[0] == "short"
-        if self.plans and not short and list(weights) == list(self.plans[-1].holds):
-            self.plans[-1].weights = weights
 
 
 def letters(count):
     """As many distinct tags: one letter each, or two where there are more containers than letters; x is an offline CPU."""
     signs = "abcdefghijklmnopqrstuvwyzABCDEFGHIJKLMNOPQRSTUVWYZ"
     return list(signs[:count]) if count <= len(signs) else [a + b for a in signs for b in signs][:count]
-
-
-def cut(text, width):
-    """As much of a text as has room; a list of CPUs ends behind a comma."""
-    if len(text) <= width:
-        return text
-    front = text[: width - 1]
-    comma = front.rfind(",") + 1
-    return (front[:comma] if comma > width // 2 else front) + "…"
-
-
-def cut_name(name, width):
-    """The front and the end of a name, by which those of one service are told apart."""
-    tail = width // 3
-    return name if len(name) <= width else f"{name[: width - 1 - tail]}…{name[-tail:]}"
 
 
 def mixed(colour, other, part):
@@ -161,13 +51,16 @@ class Look(NamedTuple):
 RESERVED = Look("#404040", "#ffffff", "#", "reserved")
 POOL = Look("#ffffff", "#606060", "", "pool")
 OFFLINE = Look("#ffffff", "#303030", "", "offline", offline=True)
+SEVERAL = Look("#c8c8c8", "#000000", "*", "for several")
+NOBODY = Look("#ffffff", "#606060", "", "for none")
 
 
 class Style:
-    """The tag, the colour and the stripes of each container that has CPUs in one of the plans."""
+    """The tag, the colour and the stripes of each container that has CPUs in one of the plans, or is short."""
 
-    def __init__(self, plans):
-        self.names = list(dict.fromkeys(name for plan in plans for name in plan.holds))
+    def __init__(self, outcomes):
+        named = (outcome.holds if isinstance(outcome, Plan) else outcome.members for outcome in outcomes)
+        self.names = list(dict.fromkeys(name for names in named for name in names))
         self.tag = dict(zip(self.names, letters(len(self.names))))
         self.place = {name: k for k, name in enumerate(self.names)}
 
@@ -185,103 +78,157 @@ class Style:
         return Look(self.colour(name), self.ink(name), self.tag[name], name, striped=self.place[name] >= len(PALETTE))
 
 
+class PlanView:
+    """How a plan is drawn; `before` is the plan beside it, where that is drawn too."""
+
+    def __init__(self, machine, plan, style, before=None):
+        self.machine, self.plan, self.style, self.holder = machine, plan, style, plan.holder_of()
+        self.before = before.holder_of() if before else None
+        known = plan.certificate or not plan.holds
+        self.title = f"total distance {plan.total}" + ("" if known else " (each: no certificate)")
+        self.signs = "# reserved   x offline   . pool"
+
+    def sign(self, cpu):
+        if cpu in self.holder:
+            return self.style.tag[self.holder[cpu]]
+        if cpu in self.machine.reserved:
+            return "#"
+        return "." if cpu in self.plan.pool else "x"
+
+    def look(self, cpu):
+        name = self.holder.get(cpu)
+        if name is None:
+            return RESERVED if cpu in self.machine.reserved else POOL if cpu in self.plan.pool else OFFLINE
+        weight = self.plan.weight(name, cpu)
+        return self.style.look(name)._replace(
+            tip=name if weight is None else f"{name}, distance {weight}",
+            far=(weight or 0) > LOCAL,
+            moved=self.before is not None and self.before.get(cpu) != name,
+        )
+
+    def grounds(self):
+        """The legend's entries for CPUs that are nobody's own."""
+        return [(RESERVED, "", ""), (POOL, print_list(self.plan.pool), ""), (OFFLINE, "", "")]
+
+    def facts(self, name):
+        """What the legend says of a container behind its name, which of its CPUs, and which are far."""
+        if name not in self.plan.holds:
+            return "gone", "", ""
+        cpus, distance = self.plan.holds[name], self.plan.distance(name)
+        text = counted(len(cpus)) + (f", distance {distance}" if distance is not None else "")
+        far = "; ".join(f"{len(cpus)} at {weight}: {print_list(cpus)}" for weight, cpus in sorted(self.plan.far(name).items()))
+        return text, print_list(cpus), far
+
+
+class ShortView:
+    """How a shortage is drawn: the CPUs that those who are short may have."""
+
+    def __init__(self, machine, shortage, style):
+        self.machine, self.shortage, self.style, self.told = machine, shortage, style, shortage.certificate
+        missing = shortage.demand - len(shortage.allowed)
+        self.title = f"short: {counted(shortage.demand)} asked for, {len(shortage.allowed)} there, {missing} missing"
+        self.signs = "# reserved   . for none who is short   * for several"
+        self.takers = {}
+        for name in shortage.members if self.told else []:
+            allowed = self.told.allowed(name)
+            for cpu in shortage.allowed:
+                if allowed >> cpu & 1:
+                    self.takers.setdefault(cpu, []).append(name)
+
+    def sign(self, cpu):
+        if cpu in self.machine.reserved:
+            return "#"
+        takers = self.takers.get(cpu, [])
+        return self.style.tag[takers[0]] if len(takers) == 1 else "*" if cpu in self.shortage.allowed else "."
+
+    def look(self, cpu):
+        if cpu in self.machine.reserved:
+            return RESERVED
+        takers = self.takers.get(cpu, [])
+        if len(takers) == 1:
+            return self.style.look(takers[0])
+        return SEVERAL if cpu in self.shortage.allowed else NOBODY
+
+    def grounds(self):
+        who = "of those who are short"
+        return [(RESERVED, "", ""), (NOBODY, who, ""), (SEVERAL, who, "")]
+
+    def facts(self, name):
+        if name not in self.shortage.members:
+            return "not short", "", ""
+        if not self.told:
+            return "short", "", ""
+        allowed = self.told.allowed(name)
+        return f"asks for {self.told.demand[name]}, may have {bin(allowed).count('1')}", listed(allowed), ""
+
+
 def moves(before, after):
-    """For each container of both plans what it gives back and what it gets, where either is some."""
+    """What each container gives back and gets from one plan to the next: none, where it is new or gone."""
     found = {}
     for name in before.holds:
-        old, new = before.holds[name], after.holds.get(name, set())
+        old, new = before.holds[name], after.holds.get(name)
         if old != new:
-            found[name] = (old - new, new - old)
+            found[name] = (old, None) if new is None else (old - new, new - old)
     for name in after.holds:
         if name not in before.holds:
-            found[name] = (set(), after.holds[name])
+            found[name] = (None, after.holds[name])
     return found
 
 
-def facts(plan, name):
-    """What the legend says of a container behind its name."""
-    cpus = plan.holds[name]
-    distance = plan.distance(name)
-    text = f"{len(cpus)} CPU{'s' if len(cpus) != 1 else ''}"
-    if distance is not None:
-        text += f", distance {distance}"
-    far = "; ".join(f"{len(cpus)} at {weight}: {print_list(cpus)}" for weight, cpus in sorted(plan.far(name).items()))
-    return text, far
+def move_text(gives, gets):
+    if gets is None:
+        return f"gone, had {print_list(gives)}"
+    return f"new, gets {print_list(gets)}" if gives is None else f"gives {print_list(gives)}, gets {print_list(gets)}"
 
 
-def headline(plan):
-    return f"total distance {plan.total}" if plan.weights or not plan.holds else f"total distance {plan.total} (each: no certificate)"
+def move_lines(before, after, style):
+    rows = [f"  {style.tag[name]} {cut_name(name, 20)}: {move_text(*change)}" for name, change in moves(before, after).items()]
+    return ["moves:"] + rows if rows else ["moves: none"]
+
+
+def views_of(machine, outcomes, style):
+    """The views of one outcome, or of a plan and what came of it."""
+    views = []
+    for k, outcome in enumerate(outcomes):
+        view = PlanView(machine, outcome, style, outcomes[0] if k else None) if isinstance(outcome, Plan) else ShortView(machine, outcome, style)
+        view.name = ("before: ", "after: ")[k] if len(outcomes) == 2 else ""
+        views.append(view)
+    return views
 
 
 # Text.
 
 
-def text_rows(machine, plan, style, node, width, size):
-    holder = plan.holder_of()
-    cpus = sorted(machine.nodes[node])
-    rows = []
-    for k in range(0, len(cpus), width):
-        rows.append("".join(text_sign(machine, plan, holder, style, cpu).ljust(size) for cpu in cpus[k : k + width]))
-    return rows
+def text_rows(view, cpus, width, size):
+    return ["".join(view.sign(cpu).ljust(size) for cpu in cpus[k : k + width]) for k in range(0, len(cpus), width)]
 
 
-def text_sign(machine, plan, holder, style, cpu):
-    if cpu in holder:
-        return style.tag[holder[cpu]]
-    if cpu in machine.reserved:
-        return "#"
-    return "." if cpu in plan.pool else "x"
-
-
-def draw_text(machine, plans):
-    style, out = Style(plans), []
+def draw_text(machine, outcomes):
+    style = Style(outcomes)
+    views = views_of(machine, outcomes, style)
     size = max([1] + [len(tag) for tag in style.tag.values()])
-    width = (64 if len(plans) == 1 else 32) // size
-    titles = [headline(plan) for plan in plans]
-    if len(plans) == 2:
-        titles = [f"before: {titles[0]}", f"after: {titles[1]}"]
-    for title in titles:
-        out.append(title)
+    width = (64 if len(views) == 1 else 32) // size
+    out = [view.name + view.title for view in views]
     for node, cpus in enumerate(machine.nodes):
         out += ["", cut(f"node {node}: " + (f"CPUs {print_list(cpus)}" if cpus else "memory alone"), 80)]
-        sides = [text_rows(machine, plan, style, node, width, size) for plan in plans]
+        sides = [text_rows(view, sorted(cpus), width, size) for view in views]
         for k, row in enumerate(zip(*sides)):
             first = sorted(cpus)[k * width]
             out.append(f"{first:>6}  " + "   ".join(part.ljust(width * size) for part in row).rstrip())
-    out += ["", "legend: # reserved   x offline   . pool"]
+    out += ["", *dict.fromkeys(f"legend: {view.signs}" for view in views)]
     for name in style.names:
-        out += legend_lines(plans[-1], style, name, size)
-    if len(plans) == 2:
+        out += legend_lines(views[-1], style, name, size)
+    if len(views) == 2 and isinstance(outcomes[1], Plan):
         out += [""]
-        for line in move_lines(*plans, style):
+        for line in move_lines(*outcomes, style):
             out += wrapped(line)
     return "\n".join(out)
 
 
-def legend_lines(plan, style, name, size):
-    start = f"{style.tag[name]:{size}} {cut_name(name, 24)}: "
-    if name not in plan.holds:
-        return [start + "gone"]
-    text, far = facts(plan, name)
-    lines = wrapped(f"{start}{text}: {print_list(plan.holds[name])}")
+def legend_lines(view, style, name, size):
+    text, cpus, far = view.facts(name)
+    lines = wrapped(f"{style.tag[name]:{size}} {cut_name(name, 24)}: {text}" + (f": {cpus}" if cpus else ""))
     return lines + (wrapped(f"{' ' * size} far from home: {far}") if far else [])
-
-
-def move_lines(before, after, style):
-    rows = [f"  {style.tag[name]} {cut_name(name, 20)}: gives {print_list(gives)}, gets {print_list(gets)}"
-            for name, (gives, gets) in moves(before, after).items()]
-    return ["moves:"] + rows if rows else ["moves: none"]
-
-
-def wrapped(text):
-    """Lines of at most 80 columns, cut behind blanks and commas."""
-    lines, line = [], ""
-    for part in re.findall(r"[^ ,]*[ ,]|[^ ,]+", text):
-        if len(line) + len(part.rstrip()) > 80 and line.strip():
-            lines.append(line.rstrip())
-            line = "    "
-        line += part
-    return lines + [line.rstrip()]
 
 
 # Pictures.
@@ -351,27 +298,14 @@ def draw_cell(picture, x, y, side, cpu, look):
     picture.add("</g>")
 
 
-def look_of(machine, plan, style, cpu, holder, before):
-    """How a CPU is drawn; `holder` has the containers of this plan by their CPUs, and `before` those of the plan before."""
-    name = holder.get(cpu)
-    if name is None:
-        return RESERVED if cpu in machine.reserved else POOL if cpu in plan.pool else OFFLINE
-    weight = plan.weight(name, cpu)
-    return style.look(name)._replace(
-        tip=name if weight is None else f"{name}, distance {weight}",
-        far=(weight or 0) > LOCAL,
-        moved=before is not None and before.get(cpu) != name,
-    )
-
-
-def draw_nodes(picture, machine, plan, style, left, top, room, before=None):
+def draw_nodes(picture, machine, view, left, top, room):
     """The nodes of a machine from this corner on; answers how far down they reach."""
     most = max(len(cpus) for cpus in machine.nodes)
     side = 34 if len(machine.present) <= 64 else 28 if len(machine.present) <= 256 else 24
     columns = min(16 if most > 8 else 8, most)
     width = max(columns * side, 150) + 20
     across = max(1, min(len(machine.nodes), int(room // (width + 12))))
-    holder, y = plan.holder_of(), top
+    y = top
     for first in range(0, len(machine.nodes), across):
         nodes = range(first, min(first + across, len(machine.nodes)))
         lines = max(1, max(-(-len(machine.nodes[node]) // columns) for node in nodes))
@@ -381,21 +315,21 @@ def draw_nodes(picture, machine, plan, style, left, top, room, before=None):
             name = f"node {node}" + (f": {print_list(cpus)}" if cpus else ": memory alone")
             picture.text(x + 10, y + 18, 12, cut(name, int((width - 20) / 7.5)), ' fill="#000000"')
             for k, cpu in enumerate(cpus):
-                look = look_of(machine, plan, style, cpu, holder, before)
-                draw_cell(picture, x + 10 + k % columns * side, y + 27 + k // columns * side, side, cpu, look)
+                draw_cell(picture, x + 10 + k % columns * side, y + 27 + k // columns * side, side, cpu, view.look(cpu))
         y += lines * side + 46
     return y
 
 
-def draw_legend(picture, plan, style, top, room, compared):
+def draw_legend(picture, views, style, top, room):
     """The legend, in as many columns as there is room for."""
-    wide = 470
+    wide, view = 470, views[-1]
     across = max(1, int(room // wide))
-    entries = [(RESERVED, "", ""), (POOL, print_list(plan.pool), ""), (OFFLINE, "", "")]
-    if compared:
+    entries = list({entry[0].tip: entry for side in views for entry in side.grounds()}.values())
+    if isinstance(view, PlanView) and view.before is not None:
         entries.append((POOL._replace(tip="got (see moves)", moved=True), "", ""))
     for name in style.names:
-        entries.append((style.look(name), *(facts(plan, name) if name in plan.holds else ("gone", ""))))
+        text, _, far = view.facts(name)
+        entries.append((style.look(name), text, far))
     y = top
     for first in range(0, len(entries), across):
         tall = 22
@@ -424,26 +358,25 @@ def draw_moves(picture, plans, style, top):
         picture.text(x, y, 12, cut(row.strip(), int(wide / 7.5) - 2), ' fill="#000000"')
 
 
-def draw_svg(machine, plans):
-    style, picture = Style(plans), Picture()
+def draw_svg(machine, outcomes):
+    style, picture = Style(outcomes), Picture()
+    views = views_of(machine, outcomes, style)
     room = 1000 if len(machine.present) <= 256 else 2100
-    if len(plans) == 2:
+    if len(views) == 2:
         room *= 0.64
     picture.text(16, 28, 16, cut(machine.about or f"{len(machine.present)} CPUs", 90), ' font-weight="bold" fill="#000000"')
     bottom, left = 0, 16
-    for k, plan in enumerate(plans):
-        name = ("before: ", "after: ")[k] if len(plans) == 2 else ""
+    for view in views:
         side = Picture()
-        side.text(left, 50, 13, name + headline(plan), ' fill="#000000"')
-        before = plans[0].holder_of() if k else None
-        bottom = max(bottom, draw_nodes(side, machine, plan, style, left, 64, room, before))
+        side.text(left, 50, 13, view.name + view.title, ' fill="#000000"')
+        bottom = max(bottom, draw_nodes(side, machine, view, left, 64, room))
         picture.lines += side.lines
         picture.reach(side.width, side.height)
         left = side.width + 28
-    y = draw_legend(picture, plans[-1], style, bottom + 6, max(picture.width - 16, 480), len(plans) == 2)
-    if len(plans) == 2:
-        draw_moves(picture, plans, style, y)
-    return picture.svg(f"numarun: {headline(plans[-1])}")
+    y = draw_legend(picture, views, style, bottom + 6, max(picture.width - 16, 480))
+    if len(views) == 2 and isinstance(outcomes[1], Plan):
+        draw_moves(picture, outcomes, style, y)
+    return picture.svg(f"numarun: {views[-1].title}")
 
 
 def main():
@@ -451,18 +384,19 @@ def main():
     parser.add_argument("machine", metavar="MACHINE", help="the machine file")
     parser.add_argument("answers", nargs="?", default="-", metavar="ANSWERS", help="the answers; none, or -, is standard input")
     parser.add_argument("--text", action="store_true", help="draw with letters, 80 columns wide")
-    parser.add_argument("--before", action="store_true", help="draw the last two plans side by side")
-    words = parser.parse_args()
+    parser.add_argument("--before", action="store_true", help="draw the last outcome beside the plan before it")
+    words = parser.parse_intermixed_args()
     machine = Machine(words.machine)
     answers = Answers(words.answers, machine)
-    wanted = 2 if words.before else 1
-    if len(answers.plans) < wanted:
-        answers.at = len(answers.lines) + 1
-        answers.refuse(f"the answers end with {len(answers.plans)} plan{'s' * (len(answers.plans) != 1)}, where {wanted} must be")
-    if answers.shortage:
-        print(f"draw-plan.py: a shortage comes last, at line {answers.shortage}; drawn is the plan before it", file=sys.stderr)
-    plans = answers.plans[-wanted:]
-    print(draw_text(machine, plans) if words.text else draw_svg(machine, plans))
+    outcomes = answers.outcomes[-1:]
+    if not outcomes:
+        answers.at_end("the answers end with no plan and no shortage, where one must be")
+    if words.before:
+        plans = [outcome for outcome in answers.outcomes[:-1] if isinstance(outcome, Plan)]
+        if not plans:
+            answers.at_end("the answers have no plan before the last outcome, where one must be")
+        outcomes = plans[-1:] + outcomes
+    print(draw_text(machine, outcomes) if words.text else draw_svg(machine, outcomes))
 
 
 run(main)

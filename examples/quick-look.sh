@@ -5,6 +5,8 @@
 # examples/scripts/plans where none are named. Wants the Rattle kit alone. For the proved program, which takes a quarter
 # to half an hour once: (cd crates/numarun && rt run -- --version), which leaves it as crates/numarun/out/numarun.
 #
+# Each command is printed, behind `>`, before its answer.
+#
 # Example: examples/quick-look.sh examples/machines/two-socket.json examples/scripts/a-cpu-goes
 set -euo pipefail
 top=$(cd "$(dirname "$0")/.." && pwd)
@@ -34,7 +36,27 @@ while read -r bundle; do
     [ ! -f "$config" ] || data+=(--data "$bundle/config.json=$(realpath "$config")")
 done < <(awk '($1 == "create" || $1 == "update") && NF == 3 || $1 == "adopt" && NF == 4 { print $3 }' "$script" | sort -u)
 
+# Prints each command of the script in $1 before its answer, which is a line, or lines up to `end`.
+with_commands() {
+    awk -v script="$1" '
+        function command(line) {
+            word = ""
+            while ((getline line < script) > 0)
+                if (split(line, words, /[ \t\r]+/) && line ~ /[^ \t\r]/) {
+                    word = words[words[1] == "" ? 2 : 1]
+                    print "> " line
+                    return
+                }
+        }
+        !inside { command() }
+        { print }
+        inside { inside = $0 != "end"; next }
+        word ~ /^(rebalance|begin|list|certificate)$/ && !/^refused E/ { inside = $0 != "end" }'
+}
+
 say "built without its proofs, which takes one to three minutes each time; nothing is proved by this"
 script=$(realpath "$script")
 cd "$top/crates/numarun"
-exec rt try "${data[@]}" -- run machine.json < "$script"
+answers=$(rt try "${data[@]}" -- run machine.json < "$script") || status=$?
+[ -z "$answers" ] || with_commands "$script" <<< "$answers"
+exit "${status:-0}"

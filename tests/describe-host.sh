@@ -24,17 +24,19 @@ node() {
 }
 nodes() { echo "$1" > "$scratch/$name/node/online"; }
 
-# says EXPECTED WORD.. compares standard output, or, with a word "refused" before, standard error of a status of 1.
+# says EXPECTED WORD.. compares standard output, or, with a word "refused" before, standard error of a status of 1, or, with
+# a word "notes", standard error of a status of 0.
 says() {
-    local expected=$1 stream=1 status=0 answer
+    local expected=$1 stream=1 wanted=0 status=0 answer
     shift
-    if [ "${1:-}" = refused ]; then stream=2; shift; fi
+    if [ "${1:-}" = refused ]; then stream=2 wanted=1; shift; fi
+    if [ "${1:-}" = notes ]; then stream=2; shift; fi
     if [ "$stream" = 1 ]; then
         answer=$(timeout 60 bash "$top/examples/describe-host.sh" --sys "$scratch/$name" "$@" 2>/dev/null) || status=$?
     else
         answer=$(timeout 60 bash "$top/examples/describe-host.sh" --sys "$scratch/$name" "$@" 2>&1 >/dev/null) || status=$?
     fi
-    if [ "$answer" != "$expected" ] || [ "$status" != $((stream - 1)) ]; then
+    if [ "$answer" != "$expected" ] || [ "$status" != "$wanted" ]; then
         printf '%s %s: status %s\n%s\nexpected:\n%s\n' "$name" "$*" "$status" "$answer" "$expected"
         failed=1
     fi
@@ -106,6 +108,59 @@ fi
 # More CPUs than a machine file may have.
 tree large 0-4096 0-4096
 says 'describe-host.sh: CPU 4096: a machine file has CPUs 0 to 4095' refused
+
+# Nodes that are not at 10 from themselves, as some firmware has it; and CPU 0 is in no node.
+tree odd 0-4 0-4
+node 0 "21 20" 1 2
+node 1 "20 0" 3 4
+nodes 0-1
+says '{
+  "nodes": ["1-2", "3-4"],
+  "distances": [[10, 20], [20, 10]],
+  "reserved": "1",
+  "offline": ""
+}'
+says 'describe-host.sh: node 0 is at 21 from itself; written is 10, as a machine file has to have it
+describe-host.sh: node 1 is at 0 from itself; written is 10, as a machine file has to have it
+describe-host.sh: left out, as no node has them: CPUs 0' notes
+says 'describe-host.sh: node 0 is at 21 from itself; written is 10, as a machine file has to have it
+describe-host.sh: node 1 is at 0 from itself; written is 10, as a machine file has to have it
+describe-host.sh: left out, as no node has them: CPUs 0
+describe-host.sh: reserved CPUs that are not online: 0' refused --reserved 0-1
+
+# What is no machine file is not written: the first refusal is the last line.
+bad() {
+    local line=$1
+    shift
+    if answer=$(timeout 60 bash "$top/examples/describe-host.sh" --sys "$scratch/$name" "$@" 2> "$scratch/err") || [ -n "$answer" ] ||
+        [ "$(tail -n 1 "$scratch/err")" != "describe-host.sh: $scratch/$name/$line" ]; then
+        printf '%s: found\n%s%s\nexpected\n%s\n' "$name" "$answer" "$(cat "$scratch/err")" "$line"
+        failed=1
+    fi
+}
+tree bad 0-3 0-3
+node 0 "10 9" 0 1
+node 1 "20 10" 2 3
+nodes 0-1
+bad 'node/node0/distance: 9, where a distance from 10 to 255 to node 1 must be'
+node 0 "10 256" 0 1
+bad 'node/node0/distance: 256, where a distance from 10 to 255 to node 1 must be'
+node 0 "10" 0 1
+bad 'node/node0/distance: nothing, where a distance from 10 to 255 to node 1 must be'
+node 0 "10 x" 0 1
+bad 'node/node0/distance: x, where a distance from 10 to 255 to node 1 must be'
+node 0 "10 20" 0 1
+nodes 0-x
+bad 'node/online: 0-x is no list'
+nodes 0-1
+echo > "$scratch/bad/cpu/online"
+bad 'cpu/online:  is no list'
+echo 4-5 > "$scratch/bad/cpu/online"
+says 'describe-host.sh: left out, as no node has them: CPUs 4-5
+describe-host.sh: no CPU of a node is online' refused
+echo 0-3 > "$scratch/bad/cpu/online"
+node 1 "20 10" 1
+says 'describe-host.sh: CPU 1 is in two nodes' refused
 
 # Nodes without CPUs alone.
 tree empty 0 0

@@ -9,7 +9,7 @@ import shutil
 import subprocess
 import sys
 
-from trial import EXAMPLES, TOP, bad_files, bad_output, check, end, refuses, told, words_and_help
+from trial import EXAMPLES, TOP, bad_files, bad_output, check, end, piped, refuses, told, words_and_help
 
 sys.path.insert(0, EXAMPLES)
 agent = importlib.import_module("agent")
@@ -36,9 +36,12 @@ def printed():
     expected = [f"write numarun/{name}/cpuset.cpus {cpus}" for name, cpus in (pair.split() for pair in WRITES.split(";"))]
     check("writes", (status, lines, err), (0, expected, ""))
     status, out, _ = told("agent.py", *words(), text=events + "offline 6\nended nobody\nonline 0\noffline 0\ncreated x no\n")
-    check("a shortage", (status, "short demand 4 allowed 4-5,7\nmember packets\nend\n" in out), (0, True))
+    check("a shortage", (status, "short demand 4 allowed 4-5,7\nmember packets\nend\n" in out), (1, True))
     check("refusals", [line for line in out.splitlines() if line.startswith(("refused", "unknown"))],
           ["unknown nobody", "refused E51 Reserved: offline 0", "refused E111 NoBundle: create x no"])
+    for more, expected in [("", 0), ("offline 6\n", 1), ("offline 6\nonline 6\n", 0), ("created x no\n", 1), ("created x no\nrebalance\n", 1),
+                           ("ended nobody\n", 1), ("offline 0\nrebalance\n", 1), ("ended packets\n", 0)]:
+        check(f"the status after {more!r}", told("agent.py", *words(), text=events + more)[0], expected)
 
 
 def tree(*names, parent="numarun"):
@@ -145,7 +148,7 @@ def watching():
     shutil.copytree(os.path.join(TOP, DATABASE), os.path.join(folder, "a b"))
     open(online, "w").write("0-31\n")
     command = [sys.executable, "-B", os.path.join(EXAMPLES, "agent.py"), *words("--watch", folder, "--online", online, "--pause", "0.1")]
-    run = subprocess.Popen(command + ["--rounds", "600"], stdout=subprocess.PIPE, stderr=subprocess.DEVNULL, text=True)
+    run = subprocess.Popen(command + ["--rounds", "600"], stdout=subprocess.PIPE, stderr=subprocess.PIPE, text=True)
 
     def next_event():
         line = run.stdout.readline()
@@ -160,6 +163,10 @@ def watching():
     open(online + ".new", "w").write("0-31\n")
     os.rename(online + ".new", online)
     check("a CPU on", next_event(), "event online 6")
+    os.rename(folder, folder + ".away")
+    while not run.stderr.readline().endswith("bundles: No such file or directory; looks again\n"):
+        pass
+    os.rename(folder + ".away", folder)
     shutil.rmtree(os.path.join(folder, "database"))
     check("a bundle that is gone", next_event(), "event ended database")
     run.kill()
@@ -219,6 +226,7 @@ def ends_early():
         file.write("#!/bin/sh\nread line; echo settled; read line\n")
     os.chmod(name, 0o755)
     refuses("agent.py", MACHINE, "--program", name, text="rebalance\n", says="ends: ended at 'begin' with no answer, status 0")
+    refuses("agent.py", MACHINE, "--program", shutil.which("yes"), says=f"{MACHINE}: run ")
 
 
 printed()
@@ -232,13 +240,18 @@ words_and_help("agent.py", "examples/agent.py examples/machines/two-socket.json"
 refuses("agent.py", MACHINE, "--program", "no-such-program", says="no-such-program: no program (see --program)")
 bad_files("agent.py", ["--program", PROGRAM])
 bad_output("agent.py", *words(), text="rebalance\n")
-refuses("agent.py", *words(), text="foo\n", says="standard input: line 1: 'foo' is no event")
+refuses("agent.py", *words(), text="x" * 9000, says="standard input: line 1: more than 8192 bytes")
+piped("agent.py", *words(), text="rebalance\n")
+answers = told("agent.py", *words(), text=f"foo\n\ncreated x\ncreated web {WEB}\n")
+expected = ["refused: line 1: 'foo' is no event (see --help)", "refused: line 3: 'created x' is no event (see --help)", "write numarun/web/cpuset.cpus 0,16"]
+check("lines that are no events", (answers[0], answers[1].splitlines()[:3], answers[2]), (1, expected, ""))
 refuses("agent.py", *words("--apply", "no-such-root"), says="no-such-root: no folder")
 refuses("agent.py", *words("--runtime", "no-such-runtime"), text=f"created a {WEB}\n", says="no-such-runtime: No such file")
 refuses("agent.py", *words("--slit", "no-such-table"), says="two-socket.json: refused E113 ReadFault (error: no-such-table")
 refuses("agent.py", *words("--watch", "a folder"), says="'a folder': a name with a blank")
 refuses("agent.py", *words("--watch", "no-such-folder"), says="no-such-folder: No such file")
 refuses("agent.py", *words("--watch", EXAMPLES, "--online", "no-such-list"), says="no-such-list: No such file")
+refuses("agent.py", *words("--watch", EXAMPLES, "--online", "README.md"), says="README.md: '# numarun")
 check("two ways to write", told("agent.py", *words("--apply", "x", "--runtime", "y"))[0], 2)
 check("no pause", told("agent.py", *words("--pause", "inf"))[0], 2)
 end("agent.py")

@@ -5,10 +5,13 @@ import os
 import shutil
 import subprocess
 
-from trial import TOP, bad_files, bad_output, check, end, refuses, told, words_and_help
+from trial import TOP, bad_files, bad_output, check, end, piped, refuses, told, words_and_help
 
 MACHINES = os.path.join(TOP, "tests", "operators", "machines")
 TWO_SOCKET = os.path.join(MACHINES, "two-socket.xml")
+ALLOWED = ('<topology version="2.0"><object type="Machine" os_index="0" cpuset="0x{here}" complete_cpuset="0xff" allowed_cpuset="0x0f">'
+           '<object type="NUMANode" os_index="0" cpuset="0x0f" complete_cpuset="0x0f"/>{node}</object></topology>')
+SECOND = '<object type="NUMANode" os_index="1" cpuset="0x30" complete_cpuset="0xf0"/>'
 NODE = ('<topology version="2.0"><object type="Machine" os_index="0" cpuset="0x{online}" complete_cpuset="0x{all}">'
         '<object type="NUMANode" os_index="{node}" cpuset="0x{online}" complete_cpuset="0x{all}"/></object></topology>')
 
@@ -36,7 +39,7 @@ def same_as_of_this_machine():
     if not shutil.which("lstopo"):
         print("hwloc: passed over, as there is no lstopo: what it tells of this machine")
         return
-    tells = subprocess.run(["lstopo", "--of", "xml"], capture_output=True, check=True).stdout.decode()
+    tells = subprocess.run(["lstopo", "--disallowed", "--of", "xml"], capture_output=True, check=True).stdout.decode()
     expected = told("describe-host.sh")
     found = told("describe-hwloc.py", text=tells)
     check("this machine", (found[0], json.loads(found[1] or "{}")), (expected[0], json.loads(expected[1] or "{}")))
@@ -46,7 +49,7 @@ FROM_ITSELF = ["node 2 is at 17 from itself", "node 16 is at 14 from itself", "l
 same_as_by_hand("two-socket", "0,16")
 same_as_by_hand("two-nodes-a-socket", "0-1,64-65")
 same_as_of_this_machine()
-recorded("offline", nodes=["0-15"], distances=[[10]], reserved="0", offline="2,5,7-11,13-14")
+recorded("offline", said=["which `lstopo --disallowed` tells apart: CPUs 2,5,7-11,13-14"], nodes=["0-15"], distances=[[10]], reserved="0", offline="2,5,7-11,13-14")
 recorded("memory-and-a-hole", "--renumber", said=FROM_ITSELF,
          nodes=["0-3", "16-19", ""], distances=[[10, 17, 17], [17, 10, 10], [14, 14, 10]], reserved="0", offline="")
 recorded("memory-and-a-hole", said=FROM_ITSELF + ["become nodes without CPUs: 1,3-15"], nodes=["0-3", "", "16-19"] + [""] * 14)
@@ -56,9 +59,19 @@ recorded("no-distances", "--reserved", "7", said=["it tells no distances"], node
 status, out, err = told("describe-hwloc.py", text=NODE.format(online=LAST, all=LAST, node=127))
 check("the last node and CPU", (status, json.loads(out or "{}").get("nodes")), (0, [""] * 127 + ["4095"]))
 
-words_and_help("describe-hwloc.py", "lstopo --of xml | describe-hwloc.py")
+status, out, err = told("describe-hwloc.py", text=ALLOWED.format(here="0f", node=""))
+check("a restricted shell", (status, json.loads(out)["nodes"], err.splitlines()), (0, ["0-3"], [
+    "describe-hwloc.py: left out, as no node has them: CPUs 4-7",
+    "describe-hwloc.py: offline, or not allowed to the shell that ran lstopo, which `lstopo --disallowed` tells apart: CPUs 4-7"]))
+status, out, err = told("describe-hwloc.py", text=ALLOWED.format(here="3f", node=SECOND))
+check("a restricted shell and --disallowed", (status, json.loads(out)["nodes"], json.loads(out)["offline"], "not allowed the CPUs 4-5;" in err),
+      (0, ["0-3", "4-7"], "6-7", True))
+
+words_and_help("describe-hwloc.py", "lstopo --disallowed --of xml | describe-hwloc.py")
 bad_files("describe-hwloc.py", [])
 bad_output("describe-hwloc.py", TWO_SOCKET)
+piped("describe-hwloc.py", TWO_SOCKET)
+piped("describe-host.sh")
 refuses("describe-hwloc.py", text='<?xml version="1.0" encoding="none"?><a/>', says="-: line 1: an unknown encoding")
 refuses("describe-hwloc.py", text=open(TWO_SOCKET).read()[:700], says="-: line ")
 refuses("describe-hwloc.py", text="<html/>", says="first object is no Machine")

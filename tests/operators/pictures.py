@@ -5,10 +5,43 @@ import os
 import re
 import xml.etree.ElementTree as xml
 
-from trial import TOP, bad_files, bad_output, check, end, refuses, told, words_and_help
+from trial import TOP, bad_files, bad_output, check, end, piped, refuses, told, words_and_help
 
 MACHINE = os.path.join(TOP, "examples", "machines", "two-socket.json")
 ANSWERS = os.path.join(TOP, "examples", "scripts", "before-and-after.answers")
+TINY = os.path.join(os.environ["SCRATCH"], "tiny.json")
+# Two are short of one CPU together: a may have 1-2 and b 2-3, and c, which is not short, 4-7.
+SHORT = "short demand 4 allowed 1-3\nmember a\nmember b\nend\n"
+SHORT_TOLD = "numarun-certificate 2\nrow a 2 655361:1-2\nrow b 2 655361:2-3\nrow c 1 1376257:4-7\nshort a\nshort b\nend\n"
+TINY_PLAN = "plan total 41\nhold a 1-2\nhold c 4\npool 0,3,5-7\nend\n"
+SHORT_DRAWN = """short: 4 CPUs asked for, 3 there, 1 missing
+
+node 0: CPUs 0-3
+     0  #a*b
+
+node 1: CPUs 4-7
+     4  ....
+
+legend: # reserved   . for none who is short   * for several
+a a: asks for 2, may have 2: 1-2
+b b: asks for 2, may have 2: 2-3
+"""
+BARE_DRAWN = SHORT_DRAWN.replace("#a*b", "#***").replace("asks for 2, may have 2: 1-2", "short").replace("asks for 2, may have 2: 2-3", "short")
+BEFORE_DRAWN = """before: total distance 41 (each: no certificate)
+after: short: 4 CPUs asked for, 3 there, 1 missing
+
+node 0: CPUs 0-3
+     0  #aa.                               #a*c
+
+node 1: CPUs 4-7
+     4  b...                               ....
+
+legend: # reserved   x offline   . pool
+legend: # reserved   . for none who is short   * for several
+a a: asks for 2, may have 2: 1-2
+b c: not short
+c b: asks for 2, may have 2: 2-3
+"""
 PLAN = "plan total 20\nhold a 1-2\npool 0,3-15,17-31\nend\n"
 
 
@@ -75,14 +108,40 @@ bad_files("draw-plan.py", [], [ANSWERS])
 bad_files("draw-plan.py", [MACHINE])
 bad_output("draw-plan.py", MACHINE, ANSWERS)
 refuses("draw-plan.py", ANSWERS, says="before-and-after.answers: line 1: not JSON")
-refuses("draw-plan.py", MACHINE, text="", says="standard input: line 1: the answers end with 0 plans")
-refuses("draw-plan.py", MACHINE, "--before", text=PLAN, says="standard input: line 5: the answers end with 1 plan,")
+refuses("draw-plan.py", MACHINE, text="", says="standard input: line 1: the answers end with no plan and no shortage")
+refuses("draw-plan.py", MACHINE, "--before", text=PLAN, says="standard input: line 5: the answers have no plan before the last outcome")
 refuses("draw-plan.py", MACHINE, text=PLAN[:-4], says="standard input: line 4: the plan has no end")
 refuses("draw-plan.py", MACHINE, text=PLAN.replace("31", "32"), says="standard input: line 3: the machine has no CPU 32")
 refuses("draw-plan.py", MACHINE, text=PLAN.replace("1-2", "1-x"), says="standard input: line 2: '1-x' is no CPU")
 refuses("draw-plan.py", MACHINE, text=PLAN.replace("hold", "held"), says="standard input: line 2: 'held a 1-2' is no line")
 refuses("draw-plan.py", MACHINE, text=PLAN.replace("1-2", "1-3"), says="standard input: line 3: CPU 3 stands twice")
 refuses("draw-plan.py", MACHINE, text=PLAN + "numarun-certificate 1\nrow a 2 x\n", says="standard input: line 6: 'x' is no offer")
-status, out, err = told("draw-plan.py", MACHINE, text=PLAN + "short demand 4 allowed 1\nmember a\nend\n")
-check("a shortage last", (status, bool(out), err), (0, True, "draw-plan.py: a shortage comes last, at line 5; drawn is the plan before it\n"))
+
+
+def shortages():
+    """Shortages in text, to the letter, and as a picture: which CPU says what, and that no two texts overlap."""
+    json.dump({"nodes": ["0-3", "4-7"], "distances": [[10, 21], [21, 10]], "reserved": "0"}, open(TINY, "w"))
+    check("a shortage", told("draw-plan.py", TINY, "--text", text=SHORT + SHORT_TOLD), (0, SHORT_DRAWN, ""))
+    check("a shortage last", told("draw-plan.py", TINY, "--text", text=TINY_PLAN + SHORT + SHORT_TOLD), (0, SHORT_DRAWN, ""))
+    check("a shortage without its certificate", told("draw-plan.py", TINY, "--text", text=SHORT), (0, BARE_DRAWN, ""))
+    check("before and a shortage", told("draw-plan.py", TINY, "--text", "--before", text=TINY_PLAN + SHORT + SHORT_TOLD), (0, BEFORE_DRAWN, ""))
+    check("a plan behind a shortage", told("draw-plan.py", TINY, "--text", text=SHORT + TINY_PLAN)[1].startswith("total distance 41"), True)
+    two = TINY_PLAN + SHORT + TINY_PLAN.replace("a 1-2", "a 1,3").replace("pool 0,3", "pool 0,2")
+    status, out, _ = told("draw-plan.py", TINY, "--text", "--before", text=two)
+    check("the plan before, over a shortage", (status, out.splitlines()[-2:]), (0, ["moves:", "  a a: gives 2, gets 3"]))
+    for more in ([], ["--before"]):
+        status, drawn, err = told("draw-plan.py", TINY, *more, text=TINY_PLAN + SHORT + SHORT_TOLD)
+        titles = re.findall("<title>(CPU .*)</title>", drawn)[-8:]
+        each = ["CPU 0: reserved", "CPU 1: a", "CPU 2: for several", "CPU 3: b"] + [f"CPU {cpu}: for none" for cpu in range(4, 8)]
+        check(f"a shortage drawn {more}", (status, titles, err), (0, each, ""))
+        apart(f"a shortage {more}", xml.fromstring(drawn))
+
+
+shortages()
+refuses("draw-plan.py", TINY, text=SHORT.replace("member b", "member a"), says="standard input: line 3: 'member a' is no line of a shortage")
+refuses("draw-plan.py", TINY, text=SHORT.replace("1-3", "1-8"), says="standard input: line 1: the machine has no CPU 8")
+refuses("draw-plan.py", TINY, text=SHORT.replace("demand 4", "demand x"), says="standard input: line 1: 'x' is no number")
+refuses("draw-plan.py", TINY, text=SHORT[:-4], says="standard input: line 4: the shortage has no end")
+refuses("draw-plan.py", TINY, "--before", text=SHORT, says="standard input: line 5: the answers have no plan before the last outcome")
+piped("draw-plan.py", MACHINE, ANSWERS)
 end("draw-plan.py")

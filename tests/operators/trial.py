@@ -26,10 +26,10 @@ def check(name, found, expected):
         print(f"{name}: found\n{found}\nexpected\n{expected}")
 
 
-def refuses(script, *words, says, status=1, **more):
+def refuses(script, *words, says, status=1, first=None, **more):
     """It ends with this status and one line that has these words in it, and writes nothing."""
     found, out, err = told(script, *words, **more)
-    right = found == status and not out and err.count("\n") == 1 and err.startswith(f"{script}: ") and says in err
+    right = found == status and not out and err.count("\n") == 1 and err.startswith(first or f"{script}: ") and says in err
     check(f"{script} {' '.join(words)}", "refused" if right else (found, out, err), "refused")
 
 
@@ -40,6 +40,7 @@ def bad_files(script, before, after=(), empty="line 1"):
         with open(path, "wb") as file:
             file.write(bytes)
         refuses(script, *before, path, *after, says=f"{path}: {says}")
+    bounded(script, *before, "/dev/zero", *after)
     refuses(script, *before, EXAMPLES, *after, says=f"{EXAMPLES}: Is a directory")
     refuses(script, *before, "no-such-file", *after, says="no-such-file: No such file or directory")
 
@@ -59,6 +60,22 @@ def bad_output(script, *words, text=""):
     ran = subprocess.run(closed, input=text.encode(), stderr=subprocess.PIPE, cwd=TOP, timeout=100)
     lines = f"{script}: standard input or standard output is closed\n"
     check(f"{script}: a closed output", (ran.returncode, ran.stderr.decode()), (1, lines))
+
+
+def piped(script, *words, text="", **more):
+    """Into a reader that takes a line and goes: nothing is said, as by other programs."""
+    line = ["bash", "-c", 'set -o pipefail; "$@" | head -n 1 | wc -l', "-", *command(script, *words)]
+    ran = subprocess.run(line, input=text.encode(), capture_output=True, cwd=TOP, timeout=100, **more)
+    said = [line for line in ran.stderr.decode().splitlines() if not line.startswith("quick-look.sh: built without")]
+    check(f"{script} | head", (ran.stdout.strip(), said), (b"1", []))
+
+
+def bounded(script, *words, limit=1_500_000, **more):
+    """An input without an end is refused by a line, in as much memory as this (KiB), and is not read to no end."""
+    line = ["bash", "-c", 'ulimit -v "$0"; exec "$@"', str(limit), *command(script, *words)]
+    ran = subprocess.run(line, capture_output=True, cwd=TOP, timeout=100, **more)
+    err = ran.stderr.decode()
+    check(f"{script} {' '.join(words)}: no end", (ran.returncode, ran.stdout, err.count("\n"), "more than" in err), (1, b"", 1, True))
 
 
 def words_and_help(script, example):

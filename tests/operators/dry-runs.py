@@ -1,0 +1,80 @@
+"""Tries dry-run.py: where a container would go, by hand; that another run comes to the same, and that nothing is written."""
+
+import json
+import os
+import shutil
+
+from trial import EXAMPLES, TOP, bad_files, bad_output, check, end, piped, refuses, told, words_and_help
+
+PROGRAM, SCRATCH = os.environ["PROGRAM"], os.environ["SCRATCH"]
+MACHINE = os.path.join(EXAMPLES, "machines", "two-socket.json")
+DATABASE, PACKETS, WEB, CONTROL = (f"examples/bundles/{name}" for name in ("database", "packet-processing", "web", "real-time"))
+AFTER = ["--after", os.path.join("examples", "scripts", "a-cpu-goes")]
+# By hand, over the plan that a-cpu-goes ends with: the database on 1-3,8-9,17-23 and packets on 4-7, 182 together.
+CASES = [
+    ((CONTROL, *AFTER), "new would have 24-25: 2 CPUs, distance 20\ntotal distance: 202; 0 CPUs of the others would move"),
+    ((WEB, *AFTER), "new asks for no CPUs of its own, and would run on the pool: 0,10-16,24-31\ntotal distance: 182; 0 CPUs of the others would move"),
+    (("--cpus", "2", "--cpuset-mems", "0", *AFTER), "new would have 10-11: 2 CPUs, distance 42\n  far: 10-11 at 21\ntotal distance: 224; 0 CPUs of the others would move"),
+    (("--cpus", "1.2", "--cpuset-cpus", "8-9", "--id", "x", *AFTER), "x would have 8-9: 2 CPUs, distance 20\n"
+     "database would give 8-9 and get 10-11\ntotal distance: 202; 2 CPUs of the others would move"),
+    (("--cpus", "0.5"), "new would have 1: 1 CPU, distance 10\ntotal distance: 10; 0 CPUs of the others would move"),
+    (("--cpuset-cpus", "5-6"), "new would have 5-6: 2 CPUs, distance 20\ntotal distance: 20; 0 CPUs of the others would move"),
+    ((DATABASE,), "new would have 1-7,17-21: 12 CPUs, distance 120\ntotal distance: 120; 0 CPUs of the others would move"),
+]
+NO_PLACE = """new has no place
+short: packets and new together ask for 5 CPUs and may have 4: 4-7
+missing: 1 CPU
+each of these makes room by itself:
+  end new
+  end packets, or shrink it from 4 to 3 CPUs
+  allow new 1 CPU more, as """
+
+
+def dry(*words, **more):
+    return told("dry-run.py", MACHINE, "--program", PROGRAM, *words, **more)
+
+
+for words, expected in CASES:
+    check(f"{' '.join(words)}", dry(*words), (0, expected + "\n", ""))
+status, out, err = dry("--cpus", "1", "--cpuset-cpus", "4-7", *AFTER)
+check("no place", (status, out.startswith(NO_PLACE), err), (1, True, ""))
+
+running = os.path.join(SCRATCH, "running")
+for name, bundle in [("database", DATABASE), ("packets", PACKETS), ("a b", WEB), ("not-yet", None)]:
+    os.makedirs(os.path.join(running, name))
+    if bundle:
+        shutil.copy(os.path.join(TOP, bundle, "config.json"), os.path.join(running, name))
+check("beside what runs", dry(CONTROL, "--running", running), dry(CONTROL, *AFTER))
+online = os.path.join(SCRATCH, "list")
+with open(online, "w") as file:
+    file.write("0-5,7-31\n")
+status, out, err = dry("--cpuset-cpus", "5-7", "--online", online)
+check("a CPU that is offline", (status, out.splitlines()[0]), (1, "new has no place"))
+with open(os.path.join(running, "not-yet", "config.json"), "w") as file:
+    file.write("{")
+status, out, err = dry(CONTROL, "--running", running)
+check("a config that is not whole", (status, out.splitlines()[0], err),
+      (0, "new would have 24-25: 2 CPUs, distance 20", f"dry-run.py: passed over: {running}/not-yet: refused E56 NotJson\n"))
+check("an open hand-over", dry(CONTROL, "--after", "-", text=f"create database {DATABASE}\nbegin\n")[1].splitlines()[0], "new would have 24-25: 2 CPUs, distance 20")
+check("an id that is taken", dry(CONTROL, "--after", "-", text=f"create new {WEB}\n")[1].splitlines()[0], "new-2 would have 24-25: 2 CPUs, distance 20")
+gone = f"create database {DATABASE}\nrebalance\nkill database KILL\n"
+check("one that has stopped", dry(CONTROL, "--after", "-", text=gone)[1].splitlines()[-1], "total distance: 20; 0 CPUs of the others would move")
+
+words_and_help("dry-run.py", "examples/dry-run.py examples/machines/two-socket.json examples/bundles/real-time")
+bad_files("dry-run.py", ["--program", PROGRAM], [WEB])
+bad_output("dry-run.py", MACHINE, WEB, "--program", PROGRAM)
+piped("dry-run.py", MACHINE, WEB, "--program", PROGRAM)
+refuses("dry-run.py", MACHINE, "--program", PROGRAM, says="no container: name its bundle, or what it asks for (see --help)")
+refuses("dry-run.py", MACHINE, WEB, "--cpus", "2", "--program", PROGRAM, says="a bundle tells what it asks for, so that no option can")
+refuses("dry-run.py", MACHINE, "no-bundle", "--program", PROGRAM, says="no-bundle: refused E111 NoBundle")
+refuses("dry-run.py", MACHINE, "--cpuset-cpus", "3-99", "--program", PROGRAM, says="what is asked for: refused E63 NoSuchCpu 32")
+refuses("dry-run.py", MACHINE, "--cpuset-mems", "x", "--program", PROGRAM, says="what is asked for: refused E64 BadMems E10 0")
+refuses("dry-run.py", MACHINE, WEB, "--id", "a/b", "--program", PROGRAM, says="refused E91 BadId")
+refuses("dry-run.py", MACHINE, WEB, "--after", "no-script", "--program", PROGRAM, says="no-script: No such file")
+refuses("dry-run.py", MACHINE, WEB, "--running", "no-folder", "--program", PROGRAM, says="no-folder: No such file")
+refuses("dry-run.py", MACHINE, WEB, "--online", "no-list", "--program", PROGRAM, says="no-list: No such file")
+refuses("dry-run.py", MACHINE, WEB, "--program", "no-such-program", says="no-such-program: no program (see --program)")
+refuses("dry-run.py", MACHINE, WEB, "--after", "-", "--program", PROGRAM, text="list\nfoo bar\n", says="standard input: line 2: refused E110 BadLine: 'foo bar'")
+for words in (["--cpus", "0"], ["--cpus", "nan"], ["--cpus", "x"], ["--after", "x", "--running", "y"]):
+    check(f"{words}", dry(WEB, *words)[0], 2)
+end("dry-run.py")

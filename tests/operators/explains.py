@@ -1,0 +1,301 @@
+"""Tries explain.py: texts by hand, and what it claims of random plans and shortages, tried out by the program: a CPU more that is
+like another brings the total down by no more than it says, a container that asks for one more adds no less, what is named as
+enough makes room, and one CPU less of it does not."""
+
+import copy
+import importlib
+import json
+import os
+import random
+import re
+import shutil
+import sys
+
+from trial import EXAMPLES, bad_files, bad_output, check, end, piped, refuses, told, words_and_help
+
+sys.path.insert(0, EXAMPLES)
+answers = importlib.import_module("answers")
+common = importlib.import_module("common")
+explain = importlib.import_module("explain")
+
+PROGRAM, SCRATCH = os.environ["PROGRAM"], os.environ["SCRATCH"]
+MACHINE = os.path.join(EXAMPLES, "machines", "two-socket.json")
+ANSWERS = os.path.join(EXAMPLES, "scripts", "before-and-after.answers")
+SMALL = os.path.join(SCRATCH, "small.json")
+TINY = {"nodes": ["0-3", "4-7"], "distances": [[10, 21], [21, 10]], "reserved": "0"}
+
+# By hand. The machine is TINY; a holds 1-2, both near, b one near and one far, and c, which may have no others, the last near one.
+# A price of 11 for node 0's CPUs: b would give as much for another one there.
+FAR = """numarun-certificate 1
+row a 1 10:1-3 21:4-7
+row b 2 10:1-3 21:4-5
+row c 1 10:2
+hold a 3 21
+hold b 1,4 21
+hold c 2 21
+price 11 1-3
+total 51
+end
+"""
+FAR_TOLD = """plan: total distance 51; far from home: CPUs of 1 container
+a: 1 CPU, distance 10: 3: all near; one more CPU for it would add 21 or more
+b: 2 CPUs, distance 31: 1,4
+  far: 4 at 21
+  at 10 it may have 1-3
+    1: its own
+    3: held by a, which may have 1-2 at 10 and 4-7 at 21
+    2: held by c, which may have no others
+  not for it: 0 (reserved)
+  another CPU like 1-3 would bring the total down by up to 11
+  one more CPU for it would add 21 or more
+c: 1 CPU, distance 10: 2: all near; one more CPU for it would add 21 or more
+"""
+# Of scaled weights: the distances alone are told, and what moves count is no distance.
+MOVED = """numarun-certificate 2
+row a 2 655360:1 655361:2 1376257:4
+hold a 1-2 655361
+price 1 1
+total 20 moves 1
+end
+"""
+MOVED_TOLD = """plan: total distance 20, 1 CPU moved; none is far from home
+a: 2 CPUs, distance 20: 1-2: all near; one more CPU for it would add 10 or more
+"""
+# No nearer ones may be had at all, and 5 is not for it.
+BOUND = "numarun-certificate 1\nrow a 2 21:4,6-7\nhold a 4,6 21\ntotal 42\nend\n"
+BOUND_TOLD = """plan: total distance 42; far from home: CPUs of 1 container
+a: 2 CPUs, distance 42: 4,6
+  far: 4,6 at 21
+  it may have none that are nearer
+  one more CPU for it would add 21 or more
+"""
+# The shortage of docs/formats.md. c has two CPUs to spare, and a or b would do with one less.
+SHORT = """numarun-certificate 1
+row a 2 10:1-2
+row b 1 10:1-2
+row c 1 10:4-5
+short a
+short b
+end
+"""
+SHORT_TOLD = """short: a and b together ask for 3 CPUs and may have 2: 1-2
+missing: 1 CPU
+each of these makes room by itself:
+  end b
+  end a, or shrink it from 2 to 1 CPU
+  allow b 1 CPU more, as 4
+  allow a 1 CPU more, as 4
+for nobody: 3,6-7: offline, or on nobody's list
+"""
+# A second shortage elsewhere, so that no container alone makes room.
+TWICE = SHORT.replace("row c 1 10:4-5", "row c 1 10:4\nrow d 1 10:4")
+TWICE_TOLD = """short: a and b together ask for 3 CPUs and may have 2: 1-2
+missing: 1 CPU for these, and 2 in all
+no single container makes room by itself
+all of these together make room, the oldest being served first: shrink b from 1
+    to 0 (end it) and d from 1 to 0 (end it)
+so do all of these: allow b 1 CPU more, as 3, if those of them that are for
+    nobody now are online and d 1 CPU more, as 5, if those of them that are for
+    nobody now are online
+for nobody: 3,5-7: offline, or on nobody's list
+"""
+NOT_SURE = "numarun-certificate 1\nrow a 4 10:1-2\nshort a\nend\n"
+NOT_SURE_TOLD = """short: a asks for 4 CPUs and may have 2: 1-2
+missing: 2 CPUs
+each of these makes room by itself:
+  end a, or shrink it from 4 to 2 CPUs
+  allow a 2 CPUs more, as 3-4, if those of them that are for nobody now are
+      online
+for nobody: 3-7: offline, or on nobody's list
+"""
+EMPTY, EMPTY_TOLD = "numarun-certificate 2\ntotal 0 moves 0\nend\n", "plan: total distance 0, 0 CPUs moved; none is far from home\n"
+NO_PLAN, OTHER = "what b holds is no plan", "its values and prices do not come to its total"
+WRONG = [
+    (NO_PLAN, FAR, "hold b 1,4", "hold b 1,3"), (NO_PLAN, FAR, "hold b 1,4", "hold b 1,6"), (NO_PLAN, FAR, "hold b 1,4", "hold b 4"),
+    (NO_PLAN, FAR, "hold b 1,4 21\n", ""), (NO_PLAN, FAR.replace("row b 2", "row b 0"), "hold b 1,4 21\n", ""),
+    ("the value of c is too high", FAR, "hold c 2 21", "hold c 2 22"), (OTHER, FAR, "total 51", "total 50"), (OTHER, FAR, "total 51\n", ""),
+    (OTHER, FAR, "hold a 3 21", "hold a 3 20"), ("those that are short are not", SHORT, "row b 1", "row b 0"),
+]
+
+
+def by_hand():
+    json.dump(TINY, open(SMALL, "w"))
+    for name, text, expected in [("far", FAR, FAR_TOLD), ("moved", MOVED, MOVED_TOLD), ("bound", BOUND, BOUND_TOLD), ("short", SHORT, SHORT_TOLD),
+                                 ("short twice", TWICE, TWICE_TOLD), ("not sure", NOT_SURE, NOT_SURE_TOLD)]:
+        check(name, told("explain.py", SMALL, text=text), (0, expected, ""))
+    check("one alone", told("explain.py", SMALL, "--only", "a", text=FAR), (0, "\n".join(FAR_TOLD.splitlines()[:2]) + "\n", ""))
+    check("the last of several", told("explain.py", SMALL, text=SHORT + FAR), (0, FAR_TOLD, ""))
+    check("an empty plan", told("explain.py", SMALL, text=EMPTY), (0, EMPTY_TOLD, ""))
+    for why, text, old, new in WRONG:
+        says = f"standard input: line 1: the certificate proves nothing, as {why} (see numarun check)"
+        refuses("explain.py", SMALL, text=text.replace(old, new), says=says)
+
+
+# What is claimed, tried out.
+
+
+def run_of(machine, containers):
+    """The answers where these containers are made and planned: pairs of a name and a CPU section."""
+    path, lines = os.path.join(SCRATCH, "m.json"), []
+    json.dump(machine, open(path, "w"))
+    for name, section in containers.items():
+        bundle = os.path.join(SCRATCH, "made", name)
+        os.makedirs(bundle, exist_ok=True)
+        config = {"ociVersion": "1.0.2", "root": {"path": "r"}, "linux": {"resources": {"cpu": section}}}
+        json.dump(config, open(os.path.join(bundle, "config.json"), "w"))
+        lines.append(f"create {name} {bundle}")
+    one = common.Run(PROGRAM, path)
+    try:
+        for line in lines:
+            if one.ask(line)[0].startswith("refused"):
+                return None, None
+        found = one.ask("rebalance") + one.ask("certificate")
+    finally:
+        one.close()
+    machine = common.Machine(path)
+    return machine, answers.Answers("-", machine, found)
+
+
+def random_case(random):
+    nodes, each = random.choice([(1, 6), (2, 5), (3, 4)])
+    rows = [[10 if a == b else random.choice([12, 16, 21, 32]) for b in range(nodes)] for a in range(nodes)]
+    machine = {"nodes": [f"{each * k}-{each * k + each - 1}" for k in range(nodes)], "distances": rows, "reserved": "0"}
+    containers, cpus = {}, nodes * each
+    for k in range(random.randint(2, 5)):
+        section = {"quota": 100000 * random.randint(1, max(1, cpus // 3)), "mems": str(random.randrange(nodes))}
+        if random.random() < 0.7:
+            section["cpus"] = common.print_list(random.sample(range(1, cpus), random.randint(1, cpus // 3)))
+        containers[f"c{k}"] = section
+    return machine, containers
+
+
+def plan_holds(machine, containers, found, random):
+    """What is said of a plan: one more for a container, and one more CPU like another."""
+    told = found.certificates[0]
+    plan = explain.Explained(told, common.Machine(os.path.join(SCRATCH, "m.json")))
+    for name in containers:
+        least = int(re.search(r"would add ([0-9]+) or more", plan.one_more(name))[1])
+        more = copy.deepcopy(containers)
+        more[name]["quota"] += 100000
+        after = run_of(machine, more)[1]
+        if after.outcomes and after.plans and after.plans[0].total < told.total + least:
+            return f"{name} asks for one more: {after.plans[0].total} < {told.total} + {least}"
+    text = "\n".join(line for name in told.demand for line in plan.lines(name))
+    for cpus, worth in re.findall(r"another CPU like (\S+) would bring the total down by up to ([0-9]+)", text):
+        like = random.choice(sorted(common.read_list(cpus, "")))
+        new, bigger, wider = len(common.read_list(",".join(machine["nodes"]), "")), copy.deepcopy(machine), copy.deepcopy(containers)
+        node = next(k for k, one in enumerate(machine["nodes"]) if like in common.read_list(one, ""))
+        bigger["nodes"][node] += f",{new}"
+        for section in wider.values():
+            if "cpus" in section and like in common.read_list(section["cpus"], ""):
+                section["cpus"] += f",{new}"
+        after = run_of(bigger, wider)[1].plans[0]
+        if after.total < told.total - int(worth):
+            return f"a CPU like {like}: {after.total} < {told.total} - {worth}"
+    return None
+
+
+def is_planned(machine, containers):
+    return bool(run_of(machine, containers)[1].plans)
+
+
+def smaller(containers, name, count):
+    """The containers with this count for one, which is gone where it is none."""
+    fewer = copy.deepcopy(containers)
+    if count:
+        fewer[name]["quota"] = 100000 * count
+    else:
+        del fewer[name]
+    return fewer
+
+
+def shortage_heals(machine, containers, text):
+    """What is said to make room makes room, and one CPU less of it does not."""
+    found = re.search(r"missing: ([0-9]+) CPUs?(?: for these, and ([0-9]+) in all)?", text)
+    missing = int(found[2] or found[1])
+    for name, before, after in re.findall(r"^  end (\S+), or shrink it from ([0-9]+) to ([0-9]+)", text, re.M):
+        if int(before) - int(after) != missing or not is_planned(machine, smaller(containers, name, int(after))):
+            return f"{name} from {before} to {after} of {missing}"
+        if is_planned(machine, smaller(containers, name, int(after) + 1)):
+            return f"{name} from {before} to {int(after) + 1} is enough"
+    for name in re.findall(r"^  end (\S+?)(?:,|$)", text, re.M):
+        if not is_planned(machine, smaller(containers, name, 0)):
+            return f"{name} ends"
+    more = re.search(r"so do all of these: allow (.*)", text)
+    wider = copy.deepcopy(containers)
+    for name, count, cpus in re.findall(r"(\S+) ([0-9]+) CPUs? more, as (\S+?),?(?= |$)", more[1]) if more else []:
+        wider[name]["cpus"] += f",{cpus}"
+    if more and not is_planned(machine, wider):
+        return more[1]
+    for name, count, cpus in re.findall(r"^  allow (\S+) ([0-9]+) CPUs? more, as (\S+?)(?:,$|, if.*)?$", text, re.M):
+        wider = copy.deepcopy(containers)
+        wider[name]["cpus"] += f",{cpus}"
+        if int(count) != missing or len(common.read_list(cpus, "")) != missing or not is_planned(machine, wider):
+            return f"{name} is allowed {count}: {cpus}"
+    together = re.search(r"being served first: shrink (.*)", text)
+    fewer, taken = copy.deepcopy(containers), 0
+    for name, before, after in re.findall(r"(\S+) from ([0-9]+) to ([0-9]+)", together[1]) if together else []:
+        fewer, taken = smaller(fewer, name, int(after)), taken + int(before) - int(after)
+    if together and (taken != missing or not is_planned(machine, fewer)):
+        return f"together {together[1]}"
+    return None if together or "makes room" in text else "nothing is said"
+
+
+def tried_out(count, seed):
+    """Random cases; how many were plans with far CPUs and shortages, so that enough are seen."""
+    chance, seen = random.Random(seed), {"far": 0, "short": 0, "alone": 0, "allow": 0, "together": 0, "more": 0}
+    for at in range(count):
+        machine, containers = random_case(chance)
+        shutil.rmtree(os.path.join(SCRATCH, "made"), ignore_errors=True)
+        of, found = run_of(machine, containers)
+        if found is None:
+            continue
+        text = "\n".join(explain.explain(found.certificates[0], of))
+        if found.plans:
+            seen["far"] += "another CPU like" in text
+            wrong = explain.check_plan(found.certificates[0]) or plan_holds(machine, containers, found, chance)
+        else:
+            for word, said in [("short", "missing"), ("alone", "  end "), ("allow", "  allow "), ("together", "together make room"),
+                               ("more", "so do all of these")]:
+                seen[word] += said in text
+            wrong = explain.check_shortage(found.certificates[0]) or shortage_heals(machine, containers, text)
+        if wrong:
+            check(f"case {at} of seed {seed}: {wrong}", (machine, containers, text), None)
+            return
+    check(f"enough was seen: {seen}", min(seen.values()) >= 3, True)
+
+
+def large():
+    """1,024 containers in a row, each with a CPU that the next one may have too, which are short of two CPUs. The first and the
+    last can be ended: of one between, the two that are missing are not near enough to both its sides."""
+    machine, rows = {"nodes": [f"{2048 * k}-{2048 * k + 2047}" for k in range(2)], "distances": [[10, 21], [21, 10]], "reserved": "0"}, []
+    path = os.path.join(SCRATCH, "large.json")
+    json.dump(machine, open(path, "w"))
+    rows = [f"row c{k} 4 10:{max(1, 4 * k)}-{4 * k + 3},{4 * (k + 1) % 4096 or 1}" for k in range(1023)] + ["row c1023 5 10:4092-4095,1"]
+    text = "\n".join(["numarun-certificate 1", *rows, *(f"short c{k}" for k in range(1024)), "end", ""])
+    status, out, err = told("explain.py", path, text=text)
+    said = ["missing: 2 CPUs", "  end c1023, or shrink it from 5 to 3 CPUs", "  end c0, or shrink it from 4 to 2 CPUs", "  (not tried of 976 others)"]
+    check("a large shortage", (status, [line for line in said if line in out.splitlines()], err), (0, said, ""))
+
+
+by_hand()
+tried_out(60, 1)
+large()
+words_and_help("explain.py", "examples/explain.py examples/machines/two-socket.json")
+bad_files("explain.py", [], [ANSWERS])
+bad_files("explain.py", [MACHINE])
+bad_output("explain.py", MACHINE, ANSWERS)
+piped("explain.py", MACHINE, ANSWERS)
+refuses("explain.py", MACHINE, text="", says="standard input: line 1: the answers have no certificate: put the command `certificate`")
+refuses("explain.py", MACHINE, text=FAR + "plan total 10\nhold a 1\npool 0\nend\n", says="line 11: no certificate stands behind this outcome")
+refuses("explain.py", MACHINE, text=FAR.replace("end\n", ""), says="line 10: the certificate has no end")
+refuses("explain.py", SMALL, text=FAR.replace("4-7", "4-8"), says="line 2: the machine has no CPU 8")
+refuses("explain.py", SMALL, text=FAR.replace("10:2", "10-2"), says="line 4: '10-2' is no offer")
+refuses("explain.py", SMALL, text=FAR.replace("row c", "row b"), says="line 4: 'row b 1 10:2' is no line of a certificate")
+for old, new, says in [("21:4-5", "21:3-5", "line 3: CPU 3 stands twice"), ("price 11 1-3", "price 11 1-3\nprice 0 3", "line 9: CPU 3 stands twice"),
+                       ("hold b", "hold a", "line 6: 'hold a 1,4 21' is no line"), ("total 51", "total 51 moves 0", "line 9: 'total 51 moves 0' is no line")]:
+    refuses("explain.py", SMALL, text=FAR.replace(old, new), says=says)
+refuses("explain.py", SMALL, text=SHORT.replace("short b", "short a"), says="line 6: 'short a' is no line of a certificate")
+refuses("explain.py", SMALL, text=FAR.replace("price 11", "price x"), says="line 8: 'x' is no number")
+refuses("explain.py", SMALL, "--only", "d", text=FAR, says="line 1: the certificate has no row 'd'")
+end("explain.py")

@@ -1,0 +1,103 @@
+"""Tries install.sh into a temporary folder: what is there, that each script finds the rest of it, that installing again changes
+nothing, and that what is taken away is all of it and nothing else."""
+
+import os
+import shutil
+import subprocess
+
+from trial import TOP, check, end, refuses, told
+
+PROGRAM = os.path.abspath(os.environ["PROGRAM"])
+PREFIX = os.path.join(os.environ["SCRATCH"], "installed here")
+MACHINE = os.path.join(TOP, "examples", "machines", "two-socket.json")
+ANSWERS = os.path.join(TOP, "examples", "scripts", "before-and-after.answers")
+DATABASE = os.path.join(TOP, "examples", "bundles", "database")
+NAMES = ["agent", "describe-host", "describe-hwloc", "draw-plan", "dry-run", "explain"]
+HERE = {**os.environ, "PROGRAM": PROGRAM}
+
+
+def standing():
+    """All files and folders below the prefix, with what the files have in them."""
+    found = {}
+    for folder, folders, files in os.walk(PREFIX):
+        for name in folders:
+            found[os.path.relpath(os.path.join(folder, name), PREFIX) + "/"] = None
+        for name in files:
+            path = os.path.join(folder, name)
+            found[os.path.relpath(path, PREFIX)] = (os.readlink(path) if os.path.islink(path) else open(path, "rb").read(), os.lstat(path).st_mode)
+    return found
+
+
+def installed(name, *words, text="", folder="/", **more):
+    """What an installed script says, from another folder, with nothing of the checkout in its environment."""
+    plain = {"PATH": os.environ["PATH"], "HOME": "/nowhere"}
+    words = [os.path.join(PREFIX, "bin", name), *words]
+    ran = subprocess.run(words, input=text.encode(), capture_output=True, cwd=folder, env=plain, timeout=100, **more)
+    return ran.returncode, ran.stdout.decode(), ran.stderr.decode()
+
+
+def taken_away(name, left):
+    check(name, told("install.sh", "--uninstall", PREFIX)[0], 0)
+    check(f"{name}: what is left", sorted(standing()), left)
+
+
+os.makedirs(os.path.join(PREFIX, "share", "man"))
+os.makedirs(os.path.join(PREFIX, "bin"))
+with open(os.path.join(PREFIX, "bin", "other"), "w") as file:
+    file.write("another program\n")
+BEFORE = sorted(standing())
+status, out, err = told("install.sh", PREFIX, env=HERE)
+check("installed", (status, out.startswith("numarun and its scripts are in "), err), (0, True, ""))
+first = standing()
+check("the commands", sorted(name for name in os.listdir(os.path.join(PREFIX, "bin"))), ["numarun"] + [f"numarun-{name}" for name in NAMES] + ["other"])
+pages = [name for name in first if name.startswith("share/") and not name.endswith("/")]
+check("the pages", sorted(pages), ["share/doc/numarun/formats.md", "share/man/man1/numarun.1"])
+listed = open(os.path.join(PREFIX, "lib", "numarun", "installed")).read().splitlines()
+check("the list is what is new", sorted(listed), sorted(set(first) - set(BEFORE)))
+check("nothing names the prefix", [name for name, told in first.items() if told and PREFIX in str(told[0])], [])
+check("installed again", (told("install.sh", PREFIX, env=HERE)[0], standing() == first), (0, True))
+
+for name in NAMES:
+    status, out, err = installed(f"numarun-{name}", "--help")
+    check(f"numarun-{name} --help", (status, bool(out), err), (0, True, ""))
+check("numarun", installed("numarun", "list", "3,1-2"), (0, "1-3\n", ""))
+check("numarun-agent", installed("numarun-agent", MACHINE, text=f"created database {DATABASE}\n")[1].splitlines()[-1], "write numarun/database/cpuset.cpus 1-7,17-21")
+check("numarun-draw-plan", installed("numarun-draw-plan", "--before", MACHINE, ANSWERS), (0, open(os.path.join(TOP, "docs", "two-socket.svg")).read(), ""))
+check("numarun-explain", installed("numarun-explain", MACHINE, ANSWERS)[1].splitlines()[0], "plan: total distance 140, 5 CPUs moved; none is far from home")
+check("numarun-dry-run", installed("numarun-dry-run", MACHINE, DATABASE)[1].splitlines()[0], "new would have 1-7,17-21: 12 CPUs, distance 120")
+check("numarun-describe-host", installed("numarun-describe-host")[:2], told("describe-host.sh")[:2])
+check("what a refusal is named by", installed("numarun-explain", "no-file")[2], "numarun-explain: no-file: No such file or directory\n")
+
+moved = PREFIX + " after all"
+os.rename(PREFIX, moved)
+os.rename(moved, PREFIX)
+with open(os.path.join(PREFIX, "lib", "numarun", "installed"), "a") as file:
+    file.write("lib/numarun/of-old.py\nshare/numarun/of-old\nshare/numarun/\n")
+open(os.path.join(PREFIX, "lib", "numarun", "of-old.py"), "w").close()
+os.makedirs(os.path.join(PREFIX, "share", "numarun"))
+open(os.path.join(PREFIX, "share", "numarun", "of-old"), "w").close()
+check("installed over an older one", told("install.sh", PREFIX, env=HERE)[0], 0)
+check("what the older one had more", sorted(name for name in standing() if "of-old" in name), [])
+taken_away("taken away", BEFORE)
+refuses("install.sh", "--uninstall", PREFIX, says="installed: no such file: nothing is installed there")
+
+told("install.sh", PREFIX, env=HERE)
+os.makedirs(os.path.join(PREFIX, "lib", "numarun", "__pycache__"), exist_ok=True)
+open(os.path.join(PREFIX, "lib", "numarun", "__pycache__", "common.cpython-311.pyc"), "w").close()
+open(os.path.join(PREFIX, "lib", "numarun", "mine"), "w").close()
+taken_away("what somebody else put there stays", sorted(BEFORE + ["lib/", "lib/numarun/", "lib/numarun/mine"]))
+for name in ("../x", "/etc/x", "a/../../x", "", "./a"):
+    with open(os.path.join(PREFIX, "lib", "numarun", "installed"), "w") as file:
+        file.write(f"{name}\n")
+    refuses("install.sh", "--uninstall", PREFIX, says="is no name of what is installed")
+shutil.rmtree(PREFIX)
+
+refuses("install.sh", says="usage", status=2)
+refuses("install.sh", "a", "b", says="usage", status=2)
+refuses("install.sh", "--no-such-word", says="no such option", status=2)
+refuses("install.sh", PREFIX, says="no-such-program: no program: build it", env={**HERE, "PROGRAM": "no-such-program"})
+check("nothing was made", os.path.exists(PREFIX), False)
+refuses("install.sh", "/dev/null", says="", env=HERE, first="mkdir: ")
+status, out, err = told("install.sh", "--help")
+check("install.sh --help", (status, "Example: examples/install.sh /usr/local" in out, err), (0, True, ""))
+end("install.sh")
