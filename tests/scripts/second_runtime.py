@@ -418,10 +418,10 @@ class Runtime:
         beside = [other for other in self.containers.values() if self.live(other) and one_is_pinned(other) and cpu in other.cpus]
         return cpu in self.machine.reserved or (cpu in self.machine.present and not beside)
 
-    def create(self, name, bundle):
+    def do_create(self, name, bundle):
         return self.make(name, bundle, self.bundle(bundle), self.machine.reserved)
 
-    def adopt(self, name, bundle, listed):
+    def do_adopt(self, name, bundle, listed):
         data = self.bundle(bundle)
         try:
             cpus = read_list(listed.encode(), CPUS)
@@ -431,7 +431,7 @@ class Runtime:
             raise Refused("E103", "NoCpus")
         return self.make(name, bundle, data, cpus)
 
-    def update(self, name, bundle):
+    def do_update(self, name, bundle):
         data = self.bundle(bundle)
         self.settled()
         container = self.of(name)
@@ -443,7 +443,7 @@ class Runtime:
         container.bundle, container.demand = bundle, demand
         return ["ok"]
 
-    def start(self, name):
+    def do_start(self, name):
         container = self.of(name)
         if self.status(container) != "created":
             raise Refused("E95", "NotCreated")

@@ -245,10 +245,10 @@ row_refused Memory d line row s t = (row, s, subst (λ (l : LineView). IsSome (n
 
 row_view : (said : Line) (row : RowView) → line_view said ≡ RowLine row → (own : RowView) × (said ≡ line.Row own)
 row_view (line.Row own) row e = (own, refl)
-row_view (line.Header scaled) row e = absurd (no_row_is (HeaderLine scaled) row refl e)
+row_view (line.Header weights) row e = absurd (no_row_is (HeaderLine weights) row refl e)
 row_view (line.Hold hold) row e = absurd (no_row_is (HoldLine hold.id.now hold.cpus hold.value) row refl e)
 row_view (line.Price price) row e = absurd (no_row_is (PriceLine price) row refl e)
-row_view (line.Total total) row e = absurd (no_row_is (TotalLine total.scaled total.total) row refl e)
+row_view (line.Total total) row e = absurd (no_row_is (TotalLine total.weights total.total) row refl e)
 row_view (line.Short id) row e = absurd (no_row_is (ShortLine id.now) row refl e)
 row_view line.End row e = absurd (no_row_is EndLine row refl e)
 

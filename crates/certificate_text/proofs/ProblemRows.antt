@@ -16,11 +16,11 @@ use Rattle.certificate_text.proofs.Zips.{zip_append, zip_once, zip_split}
 
 -- a row's line, or another
 abbrev is_row : LineView → Bool
-is_row (HeaderLine scaled) = false
+is_row (HeaderLine weights) = false
 is_row (RowLine row) = true
 is_row (HoldLine id cpus value) = false
 is_row (PriceLine price) = false
-is_row (TotalLine scaled total) = false
+is_row (TotalLine weights total) = false
 is_row (ShortLine id) = false
 is_row EndLine = false
 
@@ -33,10 +33,10 @@ no_end_is_row row e = no_row_is EndLine row refl e
 -- the row of a row's line
 abbrev row_or : RowView → LineView → RowView
 row_or other (RowLine row) = row
-row_or other (HeaderLine scaled) = other
+row_or other (HeaderLine weights) = other
 row_or other (HoldLine id cpus value) = other
 row_or other (PriceLine price) = other
-row_or other (TotalLine scaled total) = other
+row_or other (TotalLine weights total) = other
 row_or other (ShortLine id) = other
 row_or other EndLine = other
 

@@ -1,5 +1,7 @@
 -- What a problem's text comes to.
 use Rattle.std.specs.Prelude.{◌≡◌, ◌⊎◌, ℕ, ◌<◌, ◌^◌, Bool, true, false, List}
+use Rattle.certificate.specs.declared.weights.Weights.{Weights}
+use Rattle.certificate.specs.declared.weights.Weights.TheVariants.{Plain}
 use Rattle.certificate.specs.IsDealt.{IsDealt}
 use Rattle.certificate.specs.Limits.{rows_fit}
 use Rattle.certificate.specs.RowView.{RowView}
@@ -20,24 +22,24 @@ use Rattle.transport.specs.declared.solver.Answer.TheVariants as answer
 
 -- the rows that a certificate is of
 abbrev pub rows_of : Certificate → List RowView
-rows_of (Plan rows sets prices total scaled) = rows
-rows_of (Short rows members scaled) = rows
+rows_of (Plan rows sets prices total weights) = rows
+rows_of (Short rows members weights) = rows
 
--- whether its version is 2
-abbrev pub is_scaled : Certificate → Bool
-is_scaled (Plan rows sets prices total scaled) = scaled
-is_scaled (Short rows members scaled) = scaled
+-- what its weights count
+abbrev pub weights_of : Certificate → Weights
+weights_of (Plan rows sets prices total weights) = weights
+weights_of (Short rows members weights) = weights
 
 -- of CPUs that are alike to all rows the lower ones go to the earlier rows
 abbrev pub IsDealtPlan : Certificate → Type 0
-IsDealtPlan (Plan rows sets prices total scaled) = IsDealt rows sets
-IsDealtPlan (Short rows members scaled) = Unit {0}
+IsDealtPlan (Plan rows sets prices total weights) = IsDealt rows sets
+IsDealtPlan (Short rows members weights) = Unit {0}
 
 -- a certificate of version 1 of these very rows, which its own check accepts: no plan of the rows costs less than its plan, or
 -- they have no plan
 pub record IsSolution (rows : List RowView) (c : Certificate) : Type 0 where
   pub rows_are : rows_of c ≡ rows
-  pub version : is_scaled c ≡ false
+  pub version : weights_of c ≡ Plain
   pub verdict : Verdict
   pub proved : IsProvedCertificate c verdict
   pub best : IsBest c verdict
@@ -60,10 +62,10 @@ IsUnsolved text (Fault (Check fault)) = (fault ≡ BadProblem) × HasRows text f
 
 -- rows with what they come to, as a certificate of version 1
 abbrev pub answered : List RowView → Answer → Certificate
-answered rows (answer.Plan sets prices total turns) = Plan rows sets prices total false
-answered rows (answer.Short members turns) = Short rows members.items false
+answered rows (answer.Plan sets prices total turns) = Plan rows sets prices total Plain
+answered rows (answer.Short members turns) = Short rows members.items Plain
 
 -- a total that its type holds
 abbrev pub IsTotalHeld : Certificate → Type 0
-IsTotalHeld (Plan rows sets prices total scaled) = total < 2 ^ 64
-IsTotalHeld (Short rows members scaled) = Unit {0}
+IsTotalHeld (Plan rows sets prices total weights) = total < 2 ^ 64
+IsTotalHeld (Short rows members weights) = Unit {0}

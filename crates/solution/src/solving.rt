@@ -8,7 +8,7 @@ ghost use Rattle.faults.specs.declared.or_memory.OrMemory.TheVariants.{Memory};
 ghost use Rattle.solution.specs.Solves.{HasRows, IsSolution, IsTotalHeld, IsUnsolved, Solves, answered};
 
 use crate::Solution;
-use certificate::{Certificate, CheckFault, Members, Problem, rows_fit};
+use certificate::{Certificate, CheckFault, Members, Problem, Weights, rows_fit};
 use certificate_text::{VerdictFault, read_problem};
 use faults::OrMemory;
 use std::alloc::{AllocError, Global};
@@ -73,12 +73,12 @@ fn answered(problem: Problem, answer: Answer) -> Certificate
             plan,
             prices,
             total,
-            scaled: false,
+            weights: Weights::Plain,
         },
         Answer::Short { members, .. } => Certificate::Short {
             problem,
             members: Members { rows: members },
-            scaled: false,
+            weights: Weights::Plain,
         },
     }
 }
