@@ -40,7 +40,11 @@ run_command = command (codes "run") (required (codes "machine") ∷ option (code
 abbrev pub solve_command : Shape
 solve_command = command (codes "solve") (placed (codes "file") ∷ [])
 
--- numarun, which has a version, and its subcommands, of which one has to be given
+-- numarun, which has a version, before its subcommands
+abbrev pub bare : App
+bare = record { top = record (new_app (codes "numarun")).top { no_binary_name = true; has_version = true; subcommand_required = true }; subs = [] }
+
+-- numarun, and its subcommands, of which one has to be given
 abbrev pub numarun : App
 numarun = record {
   top = record (new_app (codes "numarun")).top { no_binary_name = true; has_version = true; subcommand_required = true; is_leaf = false };

@@ -2,7 +2,7 @@
 ghost use Rattle.std.specs.Prelude.{◌≡◌, ◌⊎◌, ⊤, IfOk, codes, false};
 ghost use Rattle.clap.specs.Words.{IsAmong, app_of, fault_of, rule_of};
 ghost use Rattle.clap.specs.declared.error.kind.ErrorKind.TheVariants.{OutOfMemory};
-ghost use Rattle.cli.specs.CommandLine.{IsLeaf, check_command, list_command, numarun, option, required, run_command, slit_command, solve_command};
+ghost use Rattle.cli.specs.CommandLine.{IsLeaf, bare, check_command, list_command, numarun, option, required, run_command, slit_command, solve_command};
 
 use crate::words::Grammar;
 use clap::{Arg, ArgMatches, Command, Error};
@@ -141,8 +141,9 @@ fn solve<'a>(alloc: Global) -> Result<Command<'a>, AllocError>
         .arg(file)
 }
 
-fn command_line<'a>(alloc: Global) -> Result<Command<'a>, AllocError>
-    ensures { IfOk result (λ c. app_of c ≡ numarun) }
+/// The program before its commands.
+fn bare<'a>(alloc: Global) -> Command<'a>
+    ensures { app_of result ≡ bare }
 {
     Command::new(alloc, "numarun")
         .about("CPU pinning for containers, with plans that anyone can check")
@@ -151,6 +152,12 @@ fn command_line<'a>(alloc: Global) -> Result<Command<'a>, AllocError>
         .after_help(HELP)
         .no_binary_name(true)
         .subcommand_required(true)
+}
+
+fn command_line<'a>(alloc: Global) -> Result<Command<'a>, AllocError>
+    ensures { IfOk result (λ c. app_of c ≡ numarun) }
+{
+    bare(alloc)
         .subcommand(check(alloc)?)?
         .subcommand(list(alloc)?)?
         .subcommand(slit(alloc)?)?
