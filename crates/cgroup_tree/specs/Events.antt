@@ -91,7 +91,7 @@ module _ (root : List ℕ) (memory : Ids) where
       (old : KernelState) × (before : List Asked) × (these : List Asked)
       × Past past old before × Happens old event k × AsksFor old event these × (asked ≡ these ++ before)
 
--- «Mirrored»: all that was asked of the files is what the calls of the kernel stand for, in their order
+-- Mirrored: all that was asked of the files is what the calls of the kernel stand for, in their order
 pub record IsMirrored {F : Type 0} (asked : F → List Asked → Type 0) (root : List ℕ) (memory : Ids) (k : KernelState) (files : F) : Type 0 where
   pub past : List Event
   pub calls : List Asked

@@ -1,4 +1,4 @@
--- «Files stand for the tree».
+-- Files stand for the tree.
 use Rattle.std.specs.Prelude.{ℕ, List}
 use Rattle.cpu_set.specs.Ids.{Ids}
 use Rattle.kernel_model.specs.KernelState.{KernelState}
