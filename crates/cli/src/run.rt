@@ -14,7 +14,7 @@ use kernel_model::Kernel;
 use machine::Machine;
 use node::Node;
 use runtime::{Bundles, Runner, boot};
-use script::{MOST_READS, ScriptFault, run_script};
+use script::{MOST_READS, ScriptFault, run_script_within};
 use slit::Slit;
 use std::alloc::{AllocError, Global};
 use std::io::{Read, Write};
@@ -142,7 +142,7 @@ pub fn play<K: Kernel + Drop, B: Bundles + Drop, R: Read, W: Write>(
     ensures { Plays most_reads node (B.told bundles) (R.remaining script.old) (R.remaining script.new) (W.contents w.old) (W.contents w.new) result }
 {
     let mut runner = Runner::new(node, bundles);
-    run_script(&mut runner, script, w, most_reads)
+    run_script_within(&mut runner, script, w, most_reads)
 }
 
 /// Ends a script: says why it could not be read to its end, or why its answers could not be written.

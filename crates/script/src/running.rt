@@ -15,10 +15,25 @@ use std::io;
 use std::io::{Read, Write};
 
 /// The most reads that a script is given to come to its end, where nothing else is asked for.
-pub const MOST_READS: u64 = 1_000_000;
+pub const MOST_READS: u32 = 1_000_000;
 
 /// The most bytes that are asked for at once.
 pub(crate) const PIECE: usize = 8192;
+
+/// Runs a script over the target, by [`MOST_READS`] reads at most, as [`run_script_within`] does.
+///
+/// # Errors
+/// As there.
+pub fn run_script<T: Target, R: Read, W: Write>(
+    target: &mut T,
+    reader: &mut R,
+    writer: &mut W,
+) -> Result<(), ScriptFault>
+    ensures { EndsBy MOST_READS T.answers (R.remaining reader.old) (R.remaining reader.new) (W.contents writer.old) (W.contents writer.new)
+        target.old result target.new }
+{
+    run_script_within(target, reader, writer, u64::from(MOST_READS))
+}
 
 /// Runs a script over the target: the reader's lines are carried out one after another, and answered to the writer.
 /// Bytes are read as they come, by so many reads at most, and the writer is flushed behind each answer. It takes no memory of
@@ -30,7 +45,7 @@ pub(crate) const PIECE: usize = 8192;
 /// `Read` where a read fails and `TooManyReads` where the most reads haven't come to the end: each line that ended
 /// was answered. `Write` where a write fails or takes no byte: a prefix of the answers went out, and the target is as
 /// after the command whose answer was being written.
-pub fn run_script<T: Target, R: Read, W: Write>(
+pub fn run_script_within<T: Target, R: Read, W: Write>(
     target: &mut T,
     reader: &mut R,
     writer: &mut W,

@@ -8,7 +8,7 @@ use kernel_model::{FusedKernel, Kernel, ModelKernel};
 use machine::Machine;
 use node::Node;
 use runtime::{BundleList, FIRST_PID, Runner};
-use script::{MOST_READS, ScriptFault, run_script};
+use script::{ScriptFault, run_script};
 use std::fs;
 use std::io::ErrorKind;
 use std::rt::Files;
@@ -147,5 +147,5 @@ fn played<K: Kernel + Drop>(
         most: streams.most,
         fault: streams.read,
     };
-    run_script(&mut runner, &mut tape, paper, MOST_READS)
+    run_script(&mut runner, &mut tape, paper)
 }

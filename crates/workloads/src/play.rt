@@ -10,7 +10,7 @@ use anyhow::Result;
 use certificate_text::check_text;
 use machine::Machine;
 use runtime::{BundleList, Runner, boot};
-use script::{MOST_READS, run_script};
+use script::run_script;
 use std::alloc::Global;
 use std::io::Write;
 
@@ -34,7 +34,7 @@ fn played<W: Write>(
     let mut tape = Tape {
         rest: script.as_bytes(),
     };
-    Ok(run_script(&mut runner, &mut tape, w, MOST_READS).ok())
+    Ok(run_script(&mut runner, &mut tape, w).ok())
 }
 
 /// The digest of a script's answers.

@@ -2,7 +2,7 @@
 use Rattle.std.proofs.Common.{◌≡◌, ℕ, arith, rules, subst}
 use Rattle.script.proofs.Lines.{IsRunning-end_unwritten, IsRunning-ends, IsRunning-more, IsRunning-start, IsRunning-unread, IsRunning-unwritten, Keeps-self, at_the_end, given-more}
 use Rattle.script.specs.Ends.{EndsUnread}
-use Rattle.script.proofs.running.run_script.Goals as goal
+use Rattle.script.proofs.running.run_script_within.Goals as goal
 
 pub loop-reads-init : goal.loop-reads-init
 loop-reads-init g c = IsRunning-start g.T.Target.answers _ _ _ _ c.new-line.ensures
