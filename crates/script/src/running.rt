@@ -1,5 +1,6 @@
 //! The run of a script.
 ghost use Rattle.script.specs.Ends.{EndsBy, Replies, WritesPart};
+ghost use Rattle.script.specs.declared.running.TheConstants.{MOST_READS};
 ghost use Rattle.script.specs.Runs.{AnswersLine, AnswersRequest};
 ghost use Rattle.script.specs.Requests.{wanted};
 ghost use Rattle.script.specs.Underway.{FeedsBy};
