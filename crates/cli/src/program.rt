@@ -63,6 +63,7 @@ fn dispatch<F: Opens + GroupTrees, R: Read + Input, W: Write, E: Write>(
             cgroup,
             adopt,
         } => run_in(alloc, machine, slit, cgroup, adopt, files, input, console),
+        Words::Solve { file } => solve_named(alloc, file.unwrap_or("-"), files, input, console),
     }
 }
 
@@ -98,7 +99,6 @@ fn run_in<F: Opens + GroupTrees, R: Read + Input, W: Write, E: Write>(
                 console,
             )
         }
-        Words::Solve { file } => solve_named(alloc, file.unwrap_or("-"), files, input, console),
     }
 }
 
