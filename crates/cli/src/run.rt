@@ -39,7 +39,7 @@ pub fn do_run<F: Opens, B: Bundles + Drop, R: Read, W: Write, E: Write>(
     match set_up(alloc, machine, table, files) {
         Ok(found) => match boot(alloc, found) {
             Ok(node) => {
-                let end = play(node, bundles, script, &mut console.out, u64::from(MOST_READS));
+                let end = play(node, bundles, script, &mut console.out, MOST_READS as u64);
                 finish(end, console)
             }
             Err(AllocError) => print_then_note(&Refusal::Memory, REFUSED, &None, console),
