@@ -123,6 +123,8 @@ fn machine_arguments(fault: MachineFault) -> Arguments
         MachineFault::BadField(field) => Arguments::Word(field.name()),
         MachineFault::CpuTwice(cpu) => Arguments::One(u64::from(cpu)),
         MachineFault::BadDistance(row, column) => Arguments::Two(row as u64, column as u64),
+        MachineFault::BadCore(index) => Arguments::One(index as u64),
+        MachineFault::NoCore(cpu) => Arguments::One(u64::from(cpu)),
         MachineFault::NotJson
         | MachineFault::NodeCount
         | MachineFault::BothDistances
