@@ -59,12 +59,12 @@ two_roundings :
     → IsRounded quota period threads (cores * threads)
 two_roundings quota period threads cpus cores some long wide first second =
     let enough : quota ≤ cores * threads * period =
-        let a : cpus * period ≤ cores * threads * period = mul-le cpus period (cores * threads) period second.enough (omega arith) in
-        let b = first.enough in omega (arith, a, b) in
+    let a : cpus * period ≤ cores * threads * period = mul-le cpus period (cores * threads) period second.enough (omega arith) in
+    let b = first.enough in omega (arith, a, b) in
     let below : (cores - 1) * threads * period < quota =
-        let a : (cores - 1) * threads ≤ cpus - 1 = let b = second.no_more in omega (arith, b) in
-        let b : (cores - 1) * threads * period ≤ (cpus - 1) * period = mul-le ((cores - 1) * threads) period (cpus - 1) period a (omega arith) in
-        let e = first.no_more in omega (arith, b, e) in
+    let a : (cores - 1) * threads ≤ cpus - 1 = let b = second.no_more in omega (arith, b) in
+    let b : (cores - 1) * threads * period ≤ (cpus - 1) * period = mul-le ((cores - 1) * threads) period (cpus - 1) period a (omega arith) in
+    let e = first.no_more in omega (arith, b, e) in
     record {
       asks = record { whole = (cores, refl); enough = enough; no_more = rw (less_one cores threads) below };
       fits = λ few.

@@ -46,7 +46,7 @@ fn cpus_asked(quota: u64, period: u64, threads: u32) -> Option<u32>
     ensures fits { IfSome result (λ n. quota ≤ most_cpus threads * period) }
     ensures none { IfNone result (most_cpus threads * period < quota) }
 {
-    let threads = u64::from(threads);
+    let threads = threads as u64;
     let count = quota.div_ceil(period).div_ceil(threads) * threads;
     if count > CPU_LIMIT as u64 {
         None

@@ -24,7 +24,7 @@ pub enum Refusal {
     List(ListError),
     /// E15 to E21: the bytes are no distance table.
     Slit(SlitFault),
-    /// E25 to E34: the text describes no machine.
+    /// E25 to E36: the text describes no machine.
     Machine(MachineFault),
     /// E70 to E76: the certificate doesn't pass its check.
     Check(CheckFault),

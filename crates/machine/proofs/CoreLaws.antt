@@ -237,9 +237,9 @@ core_is m cores shared is c k at =
   where
     kept : (q : ℕ) → (set.contains (present m) q && (core_of m q == core_of m c)) ≡ true → set.contains (get_or cores k set.empty) q ≡ true
     kept q is_kept =
-        let p = both_true _ _ is_kept in
+        let p = both_true (set.contains (present m) q) (core_of m q == core_of m c) is_kept in
         let found = find_core m cores shared is q p.0 in
-        let same : core_of m q ≡ core_of m c = same_number _ _ p.1 in
+        let same : core_of m q ≡ core_of m c = same_number (core_of m q) (core_of m c) p.1 in
         let here : found.0 ≡ k = one_core cores (core_of m c) found.0 k shared.apart found.1.lt at.lt
         (ap (set.contains (get_or cores found.0 set.empty)) (sym same) ∙ found.1.least) at.least in
         ap (λ j. set.contains (get_or cores j set.empty) q) (sym here) ∙ found.1.has

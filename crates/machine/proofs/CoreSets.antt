@@ -86,30 +86,30 @@ cores_in-without m s lacking all broken result are in_range is_lacking of_all of
     lacks q = ap (λ t. set.contains t q) is_lacking ∙ contains-difference (present m) s q
     there : (c : ℕ) → (set.contains all c && not (set.contains broken c)) ≡ true → (set.contains (present m) c && is_core_in m s c) ≡ true
     there c has =
-        let p = both_true _ _ has in
+        let p = both_true (set.contains all c) (not (set.contains broken c)) has in
         let f = of_all.from c p.0 in
         let present_c : IsPresent m c = ap (set.contains (present m)) (sym f.3) ∙ are.is_present f.0 f.2 in
         let own : core_of m c ≡ c = ap (core_of m) (sym f.3) ∙ are.same f.0 f.2 ∙ f.3 in
         and_true _ _ present_c
         (and_true _ _ (number_test _ _ own)
         (contains-is_subset (cpus_of_core m c) s (λ q in_core.
-        let r = both_true _ _ (sym (contains-cpus_of_core m c q) ∙ in_core) in
-        true_of _ (λ not_in.
+        let r = both_true (set.contains (present m) q) (core_of m q == c) (sym (contains-cpus_of_core m c q) ∙ in_core) in
+        true_of (set.contains s q) (λ not_in.
         let broken_c : set.contains broken c ≡ true =
-        ap (set.contains broken) (sym (same_number _ _ r.1)) ∙ of_lacking.has q (in_range q r.0) (lacks q ∙ and_true _ _ r.0 not_in) in
-        true≢false (sym broken_c ∙ not_true _ p.1)))))
+        ap (set.contains broken) (sym (same_number (core_of m q) c r.1)) ∙ of_lacking.has q (in_range q r.0) (lacks q ∙ and_true _ _ r.0 not_in) in
+        true≢false (sym broken_c ∙ not_true (set.contains broken c) p.1)))))
     back : (c : ℕ) → (set.contains (present m) c && is_core_in m s c) ≡ true → (set.contains all c && not (set.contains broken c)) ≡ true
     back c has =
-        let p = both_true _ _ has in
-        let q = both_true _ _ p.1 in
-        let own : core_of m c ≡ c = same_number _ _ q.0 in
+        let p = both_true (set.contains (present m) c) (is_core_in m s c) has in
+        let q = both_true (core_of m c == c) (set.is_subset (cpus_of_core m c) s) p.1 in
+        let own : core_of m c ≡ c = same_number (core_of m c) c q.0 in
         and_true _ _ (ap (set.contains all) (sym own) ∙ of_all.has c (in_range c p.0) p.0)
-        (not_false _ (λ is_broken.
+        (not_false (set.contains broken c) (λ is_broken.
         let f = of_lacking.from c is_broken in
-        let r = both_true _ _ (sym (lacks f.0) ∙ f.2) in
+        let r = both_true (set.contains (present m) f.0) (not (set.contains s f.0)) (sym (lacks f.0) ∙ f.2) in
         let in_core : set.contains (cpus_of_core m c) f.0 ≡ true =
         contains-cpus_of_core m c f.0 ∙ and_true _ _ r.0 (number_test _ _ f.3) in
-        true≢false (sym (is_subset-contains (cpus_of_core m c) s q.1 f.0 in_core) ∙ not_true _ r.1)))
+        true≢false (sym (is_subset-contains (cpus_of_core m c) s q.1 f.0 in_core) ∙ not_true (set.contains s f.0) r.1)))
 
 -- ---- the CPUs of some cores
 

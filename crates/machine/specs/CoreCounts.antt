@@ -118,6 +118,9 @@ and_no false = refl
 plus_one : (k l t : ℕ) → l ≡ k + 1 → k * t + t ≡ l * t
 plus_one k l t is = let e : l ≡ suc k = omega arith in rw e (omega (arith, suc-mul k t))
 
+nothing : (n t : ℕ) → n ≡ 0 → 0 ≡ n * t
+nothing n t is = rw is (omega arith)
+
 no_cores : (m : Layout) (none : Ids) → set.len none ≡ 0 → set.len (cpus_of_cores m none) ≡ set.len none * m.threads
 no_cores m none zero_ =
     let empty : none ≡ set.empty = set.empty_of_len none zero_ in
@@ -128,7 +131,7 @@ no_cores m none zero_ =
     ∙ ap (λ b. set.contains (present m) c && b) (contains-empty (core_of m c))
     ∙ and_no (set.contains (present m) c)
     ∙ sym (contains-empty c) ∙ ap (λ s. set.contains s c) (sym empty)) in
-    ap set.len same ∙ zero_ ∙ ap (λ k. k * m.threads) (sym zero_)
+    ap set.len same ∙ zero_ ∙ nothing (set.len none) m.threads zero_
 
 counted_more :
     (m : Layout) (old new : Ids) (n : ℕ) (v : Bool) → AreCores m → InRange (present m) → (v ≡ true → IsPresent m n × (core_of m n ≡ n))

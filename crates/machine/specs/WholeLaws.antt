@@ -108,29 +108,31 @@ whole_in-whole m s whole within =
 
 -- ---- cores and their CPUs
 
+in_cores :
+    (m : Layout) (s : Ids) (c : ℕ) → (set.contains (present m) c && set.contains (cores_in m s) (core_of m c)) ≡ true
+    → (set.contains (present m) c && set.is_subset (cpus_of_core m (core_of m c)) s) ≡ true
+in_cores m s c has =
+    let p = both_true (set.contains (present m) c) (set.contains (cores_in m s) (core_of m c)) has in
+    let q = both_true (set.contains (present m) (core_of m c)) (is_core_in m s (core_of m c)) (sym (contains-cores_in m s (core_of m c)) ∙ p.1) in
+    let r = both_true (core_of m (core_of m c) == core_of m c) (set.is_subset (cpus_of_core m (core_of m c)) s) q.1 in
+    and_true _ _ p.0 r.1
+
+of_cores :
+    (m : Layout) (s : Ids) (c : ℕ) → AreCores m → (set.contains (present m) c && set.is_subset (cpus_of_core m (core_of m c)) s) ≡ true
+    → (set.contains (present m) c && set.contains (cores_in m s) (core_of m c)) ≡ true
+of_cores m s c are has =
+    let p = both_true (set.contains (present m) c) (set.is_subset (cpus_of_core m (core_of m c)) s) has in
+    and_true _ _ p.0
+    (contains-cores_in m s (core_of m c)
+    ∙ and_true _ _ (are.is_present c p.0) (and_true _ _ (number_test _ _ (are.same c p.0)) p.1))
+
 -- the CPUs of the cores that a set has all CPUs of are what is whole in it
 pub cpus_of_cores-cores_in : WholeIsOfCores
 cpus_of_cores-cores_in m s are =
-    same_members _ _ (λ c.
+    same_members (cpus_of_cores m (cores_in m s)) (whole_in m s) (λ c.
     contains-cpus_of_cores m (cores_in m s) c
-    ∙ one_way _ _ (there c) (back c)
+    ∙ one_way _ _ (in_cores m s c) (of_cores m s c are)
     ∙ sym (contains-whole_in m s c))
-  where
-    there :
-        (c : ℕ) → (set.contains (present m) c && set.contains (cores_in m s) (core_of m c)) ≡ true
-        → (set.contains (present m) c && set.is_subset (cpus_of_core m (core_of m c)) s) ≡ true
-    there c has =
-        let p = both_true _ _ has in
-        let q = both_true _ _ (sym (contains-cores_in m s (core_of m c)) ∙ p.1) in
-        and_true _ _ p.0 (both_true _ _ q.1).1
-    back :
-        (c : ℕ) → (set.contains (present m) c && set.is_subset (cpus_of_core m (core_of m c)) s) ≡ true
-        → (set.contains (present m) c && set.contains (cores_in m s) (core_of m c)) ≡ true
-    back c has =
-        let p = both_true _ _ has in
-        and_true _ _ p.0
-        (contains-cores_in m s (core_of m c)
-        ∙ and_true _ _ (are.is_present c p.0) (and_true _ _ (number_test _ _ (are.same c p.0)) p.1))
 
 -- the CPUs of cores are whole
 pub cpus_of_cores-IsWhole : CoresAreWhole

@@ -20,4 +20,4 @@ loop-i-preserved c =
     c.mark.ensures.room c.mark.ensures.each
 
 pub returns : goal.returns
-returns c = ArePlaced-all _ _ _ c.loop-i.invariant (listed_last _ _ (item_last _ _ c.loop-i-test.false (omega arith)))
+returns c = ArePlaced-all _ _ _ c.loop-i.invariant (listed_last _ _ (item_last _ _ (omega arith) (omega arith)))

@@ -20,13 +20,13 @@ invariant_of-result c =
           (rw (count, copied) c.in_ok-distances.ensures.are)
           all
           c.in_ok-reserved.ensures.some c.in_ok-reserved.ensures.present c.in_ok-offline.ensures.within c.minus.ensures
-          (AreCores-read _ _ (rw all c.stays_below_the_limit.ensures) (rw same c.in_ok-present.ensures.apart)
+          (AreCores-read _ _ (rw all at c.stays_below_the_limit.ensures) (rw same c.in_ok-present.ensures.apart)
           (rw same c.in_ok-cores.ensures.fault)
-          (c.in_ok-from_slice-3.ensures.items ∙ c.deref-2.ensures.value ∙ c.in_ok-cores.ensures.lowest)
+          (c.in_ok-from_slice-3.ensures.items ∙ c.in_ok-cores.ensures.lowest)
           c.in_ok-cores.ensures.threads);
       all = all;
       in_range = c.stays_below_the_limit.ensures;
-      places = rw c.in_ok-from_slice-2.ensures.items (rw c.deref.ensures.value at c.places_of-places.ensures);
+      places = rw (same, c.in_ok-from_slice-2.ensures.items) c.places_of-places.ensures;
     }
 
 pub returns-clause-sound : goal.returns-clause-sound
