@@ -1,267 +1,508 @@
 #!/usr/bin/env python3
-"""An agent that lets `numarun run` decide, and writes what it decides: one write for each step of a hand-over.
+"""An agent that keeps one `numarun run MACHINE --cgroup` open, tells it what happens on a machine, and says what came of it.
+All kernel writes are numarun's; without --cgroup there are none, and the plans alone are told. Events come from standard
+input, a line each:
+  created ID BUNDLE [GROUP]  a container runs, of the bundle in this folder, in this group below the tree's root
+  ended ID                   it is gone
+  offline CPU, online CPU    a CPU went or came
+  rebalance                  work the plan out anew
+or, with --watch, from a folder of bundles, each by its id, or the state folder of a runtime as /run/crun; and from the
+kernel's list of online CPUs. Where a container's group is, the runtime's state says, or its config by `linux.cgroupsPath`,
+or else it is ROOT/numarun/ID.
 
-It keeps one run of the program open. Events come from standard input, a line each:
-  created ID BUNDLE    a container was made from a bundle (a folder with its config.json)
-  started ID           its program was started
-  ended ID             it is gone
-  offline CPU, online CPU
-  rebalance            work the plan out anew
-or, with --watch FOLDER, from the bundles in a folder (a container's id is the name of its bundle) and the kernel's list
-of online CPUs. Each step prints the write that it stands for, as `write numarun/ID/cpuset.cpus LIST`. Nothing is written
-without --apply, which writes these files below a cgroup root, or --runtime, which runs `NAME update --cpuset-cpus LIST -- ID`.
+All events that are there are told before one plan is worked out. What runs already is adopted with the CPUs that its group
+requests. A container whose group is not there is told once it is; what was refused is told again when its config changes;
+a write that failed is made again at the next look. A newcomer that has no place runs on the pool until there is room.
+SIGTERM ends it between two commands, and what is left is taken up by the next one.
 
-Where a write fails, it prints `failed` with the reason and, for each container, what `stands`, and makes no other write:
-all that stands is as after the write before, which is safe. The next event makes the failed write again, goes on with the
-steps behind it, and then works out a plan from there. A container that has ended takes its failed write with it.
-
-The status is 1 where an event was refused, the last outcome is no plan, or a write is left undone."""
+The status is 1 where something is left undone: a line that is no event, a refusal, a shortage, a failed write."""
 
 import argparse
-import itertools
+import collections
+import json
 import os
+import re
+import select
+import shlex
+import signal
 import subprocess
 import sys
+import tempfile
 import time
 
-from common import Machine, Refused, Run, check_program, find_program, read_list, read_text, run
+from common import Machine, Refused, Run, check_program, find_program, print_list, read_list, run
+from events import Folder, Input, Online
+from groups import Absent, NoTree, Tree, at, parse
 
-EXAMPLE = """example, from the top of the repository:
-  echo "created database examples/bundles/database" | examples/agent.py examples/machines/two-socket.json"""
-LINE = 8192  # bytes of an event, as of a line of a script
+EXAMPLE = """examples, from the top of the repository:
+  echo "created database examples/bundles/database" | examples/agent.py examples/machines/two-socket.json
+  examples/agent.py host.json --cgroup /sys/fs/cgroup --watch /run/crun"""
+CPU = ("linux", "resources", "cpu")
+PIN = "numarun.pin"  # the annotation that --pin annotated reads
+LEAST = "numarun.least"  # the annotation of one that takes fewer CPUs than it asks for, where there are no more
+HOOK = 30  # seconds that --pool's command has
+ID = re.compile(r"[A-Za-z0-9_.+-]{1,64}")
+TRIES = 5  # starts of numarun while CPUs go and come
+
+# What is there of a container: its stamp, by which it is told from another one under the id, its config and its age.
+Seen = collections.namedtuple("Seen", "stamp age told config path")
 
 
-class NoEvent(Exception):
-    """A line that is none; it is answered, and the next one is read."""
+class Held:
+    """A container that numarun was told of."""
+
+    def __init__(self, seen, own, count, waits):
+        self.seen, self.own = seen, own            # `own` is the bundle that asks for what it does ask for
+        self.pinned, self.waits = count is not None, waits  # whether it is to have CPUs of its own, and waits for room
+        self.count = self.given = count            # how many it asks for, and how many are asked for it
+        self.admitted = False                      # whether a plan gave it some
+        self.cpus = None                           # what it requests
 
 
-class Printer:
-    """Makes no write."""
-
-    def write(self, container, group, cpus):
+def asked(config, rule, threads):
+    """How many CPUs of its own a container asks for; nothing where it is shared."""
+    section = at(config, *CPU) or {}
+    quota, period, cpus = (section.get(name) for name in ("quota", "period", "cpus"))
+    period = period or 100000
+    count = None
+    if type(quota) is int and type(period) is int and quota > 0 and period > 0:
+        count = -(-quota // period)
+        if rule == "whole" and quota % period:
+            return None
+    elif isinstance(cpus, str) and cpus.strip(" ,\t\n"):
+        count = len(read_list(cpus, "cpus"))
+    if rule == "annotated" and at(config, "annotations", PIN) != "true":
         return None
+    return None if count is None else -(-count // threads) * threads
 
 
-class Files:
-    """Writes below a cgroup root. A group that is not there is the container's end, or the runtime's mistake."""
-
-    def __init__(self, root):
-        self.root = root
-        if not os.path.isdir(root):
-            raise Refused(f"{root}: no folder")
-
-    def write(self, container, group, cpus):
-        try:
-            file = os.open(os.path.join(self.root, group, "cpuset.cpus"), os.O_WRONLY | os.O_TRUNC)
-        except OSError as why:
-            return why.strerror
-        try:
-            os.write(file, f"{cpus}\n".encode())
-        except OSError as why:
-            return why.strerror
-        finally:
-            os.close(file)
-        return None
+def of_section(config, section):
+    """The same config with another CPU section."""
+    return dict(config, linux=dict(config["linux"], resources=dict(config["linux"]["resources"], cpu=section)))
 
 
-class Updates:
-    """Has a runtime's command write."""
-
-    def __init__(self, name):
-        self.name = name
-
-    def write(self, container, group, cpus):
-        try:
-            words = [self.name, "update", "--cpuset-cpus", cpus, "--", container]
-            done = subprocess.run(words, stdin=subprocess.DEVNULL, capture_output=True)
-        except OSError as why:
-            raise Refused(f"{self.name}: {why.strerror} (see --runtime)") from None
-        told = done.stderr.decode(errors="replace").strip().splitlines()
-        return None if done.returncode == 0 else (told[-1] if told else f"status {done.returncode}")
+def shared(config):
+    """The same config, asking for no CPUs of its own."""
+    return of_section(config, {name: value for name, value in at(config, *CPU).items() if name not in ("quota", "period", "cpus")})
 
 
 class Agent:
-    def __init__(self, decider, writer, parent):
-        self.decider, self.writer, self.parent = decider, writer, parent  # the decider is an open run of numarun
-        self.stands = {}       # what was written last, by the id
-        self.decided = {}      # what the program's containers request, by the id
-        self.failed = None     # the write that is to be made again
-        self.underway = False
-        self.refused = False   # whether an event was refused
-        self.waiting = []      # events that an open hand-over keeps from being told
+    def __init__(self, words, machine, tree, work):
+        self.words, self.machine, self.tree, self.work = words, machine, tree, work
+        self.threads, self.numarun = 1, None
+        self.held = {}          # by id, in the order in which numarun was told of them
+        self.refused = {}       # the stamp of what was refused, by the id
+        self.open = {}          # what was said of what is left undone, by what it is of
+        self.off = {}           # `offline` or `online`, by the CPU, as it was told last
+        self.due = False        # whether a plan is to be worked out though nothing happened
+        self.pool = None
+        self.tried = None       # what a plan that a write kept from its end was to change
+        self.wrong = False      # whether there was an event that was refused
+        self.ending = False
 
-    def event(self, line):
-        """Takes up an event; answers whether all that is due was written."""
-        words = line.split()
-        kind, arguments = words[0] if words else "", words[1:]
-        numbers = {"created": 2, "started": 1, "ended": 1, "offline": 1, "online": 1, "rebalance": 0}
-        if kind not in numbers or len(arguments) != numbers[kind]:
-            raise NoEvent(f"{line.strip()[:60]!r} is no event (see --help)")
-        if kind in ("offline", "online"):
-            self.tell(f"{kind} {arguments[0]}")
-        elif kind == "started":
-            self.tell(f"start {arguments[0]}")
-            return True
-        elif kind == "ended":
-            self.end(arguments[0])
-        elif kind == "created":
-            self.waiting.append((kind, *arguments))
-        return self.rebalance()
+    # What is said.
 
-    def tell(self, command):
-        """Tells an event; a refusal is printed, and answers `False`."""
-        answer = self.decider.ask(command)[0]
-        if answer.startswith("refused"):
-            self.refused = True
-            print(f"{answer}: {command[:100]}", flush=True)
-        return not answer.startswith("refused")
+    def say(self, line):
+        now = time.time()
+        stamp = time.strftime("%Y-%m-%dT%H:%M:%S", time.localtime(now))
+        print(f"{stamp}.{int(now * 1000) % 1000:03} {line}", flush=True)
+
+    def say_once(self, of, line):
+        """Says what is left undone, once as long as it is the same."""
+        if self.open.get(of) != line:
+            self.open[of] = line
+            self.say(line)
+
+    def ask(self, line, quiet=False):
+        """A command's answer. Notes of the program are said; the last of them is why a write was refused."""
+        answer = self.numarun.ask(line)
+        notes = [re.sub("^(error|note): ", "", note).replace(f"{self.tree.folder}/numarun/", "") for note in self.numarun.said()]
+        self.failed = notes[-1] if notes else answer[0]
+        for note in [] if quiet or answer[0].startswith("refused E50") else notes:
+            self.say(f"note {note}")
+        return answer
+
+    # The start.
+
+    def start(self, online):
+        """Opens the run over the machine as it is now."""
+        path, more = os.path.join(self.work, "machine.json"), ()
+        if self.tree.folder:
+            more = ("--cgroup", self.tree.folder, "--adopt")
+        told = Machine.parse(self.words.machine)
+        cores = told.get("cores")
+        if isinstance(cores, list) and cores and isinstance(cores[0], str):
+            self.threads = max(1, len(read_list(cores[0], "cores")))
+        for left in reversed(range(TRIES)):
+            if online:
+                online.cpus = online.read()
+                told["offline"] = print_list(self.machine.present - online.cpus, empty="")
+            with open(path, "w") as file:
+                json.dump(told, file)
+            try:
+                self.numarun = Run(self.words.program, path, self.words.slit, more, self.tree.locks)
+                break
+            except Refused as why:
+                if not left or not online or "E116" not in str(why):
+                    raise Refused(str(why).replace(path, self.words.machine)) from None
+                time.sleep(0.1)
+        self.numarun.said()
+        if online and online.strange:
+            self.say(f"note the machine file has no CPUs {print_list(online.strange)}: they are left out")
+
+    # A look: what is there is told, and then one plan is worked out.
+
+    def look(self, all_told, events):
+        for event in events:
+            self.event(event)
+        there = {name: self.see(name, told) for name, told in all_told.items()}
+        there = {name: seen for name, seen in there.items() if seen}
+        for name in [of[1] for of in self.open if of[0] == "container" and of[1] not in all_told]:
+            del self.open["container", name]
+            self.refused.pop(name, None)
+        gone = [name for name, one in self.held.items() if name not in there or there[name].stamp != one.seen.stamp]
+        for name in gone:
+            self.end(name)
+        come = [name for name, seen in there.items() if name not in self.held and self.refused.get(name) != seen.stamp]
+        may_plan = True
+        for name in sorted(come, key=lambda name: (there[name].age, name)):
+            if self.ending:
+                self.due = True
+                return
+            may_plan = self.take_up(name, there[name]) and may_plan
+        self.due = self.due or bool(gone or come or events)
+        if self.due and may_plan:
+            self.make_room()
+            self.plan()
+        self.compare()
+
+    def event(self, event):
+        kind, *words = event.split()
+        if words:
+            answer = self.ask(event)[0]
+            self.say(event if answer == "ok" else f"{answer}: {event}")
+            self.wrong = self.wrong or answer != "ok"
+            if answer == "ok":
+                self.off[words[0]] = kind
+
+    def see(self, name, told):
+        """What is there of a container, or nothing."""
+        one = self.held.get(name)
+        try:
+            file = os.path.join(told.bundle, "config.json")
+            try:
+                found = os.stat(file)
+            except (OSError, ValueError):
+                raise Absent(f"{file}: can't be read") from None
+            stamp = (told, found.st_dev, found.st_ino, found.st_mtime_ns, found.st_size)
+            if one and one.seen.stamp[0] == stamp:
+                config, path = one.seen.config, one.seen.path
+            else:
+                config = self.parsed(file, one)
+                if config is None:
+                    return one.seen
+                path = self.tree.group(name, told.folder, config, told.group)
+            seen = Seen((stamp, path, self.tree.inode(path)), found.st_mtime_ns, told, config, path)
+        except Absent as why:
+            self.say_once(("container", name), f"absent {name}: {why}")
+            return None
+        if str(self.open.get(("container", name))).startswith("absent"):
+            del self.open["container", name]
+        return seen
+
+    def parsed(self, file, one):
+        """A config; or nothing where it is that of a container that runs, and can't be read yet."""
+        try:
+            return parse(file)
+        except Absent:
+            if one is None:
+                raise
+            return None
 
     def end(self, name):
-        if name not in self.decided:
-            self.refused = True
-            print(f"unknown {name}", flush=True)
-        self.decider.ask(f"kill {name} KILL")
-        if self.failed and self.failed[0] == name:
-            self.failed = None
-        self.waiting = [event for event in self.waiting if event[:2] != ("created", name)]
-        if name in self.decided:
-            self.waiting.append(("ended", name))
+        """A container that is gone, or another one now: its link goes first, so that no command reaches its group."""
+        self.tree.unlink(name)
+        for command in (f"kill {name} KILL", f"delete {name}"):
+            answer = self.ask(command, quiet=True)[0]
+            if answer != "ok":
+                raise Refused(f"{self.numarun.program}: {answer!r} to {command!r}")
+        del self.held[name]
+        self.open.pop(("container", name), None)
+        self.open.pop(("drift", name), None)
+        self.say(f"ended {name}")
 
-    def rebalance(self):
-        """Ends the open hand-over, tells what has waited for that, and hands over to a new plan."""
-        if not self.settle():
-            return False
-        while self.waiting:
-            kind, name, *bundle = self.waiting.pop(0)
-            if kind == "ended":
-                self.tell(f"delete {name}")
-                self.decided.pop(name, None)
-                self.stands.pop(name, None)
-            elif self.tell(f"create {name} {bundle[0]}"):
-                self.decided[name] = self.requested([name])[name]
-                if not self.make(name):
-                    return False
-        outcome = self.decider.ask("begin")
-        print("\n".join(outcome), flush=True)
-        self.underway = outcome[0].startswith("plan")
-        return self.settle() and outcome[0].startswith("plan")
+    def copy(self, name, config, which="shared"):
+        """A bundle of the agent's own, with this config."""
+        folder = os.path.join(self.work, "bundles", which, name)
+        os.makedirs(folder, exist_ok=True)
+        with open(os.path.join(folder, "config.json"), "w") as file:
+            json.dump(config, file)
+        return folder
 
-    def settle(self):
-        """The failed write once more, and the steps of an open hand-over; whether none is left."""
-        if self.failed and not self.make(self.failed[0]):
-            return False
-        while self.underway:
-            answer = self.decider.ask("step")[0]
-            if answer not in ("more", "done"):
-                raise Refused(f"{self.decider.program}: {answer!r} to a step")
-            self.underway = answer == "more"
-            for name, cpus in self.requested(self.decided).items():
-                if cpus != self.decided[name]:
-                    self.decided[name] = cpus
-                    if not self.make(name):
-                        return False
+    def take_up(self, name, seen):
+        """Tells of a container that is there; whether a plan may be worked out beside it."""
+        if not ID.fullmatch(name) or name in (".", ".."):
+            return self.refuse(name, seen, "refused E91 BadId", set())
+        own, count = self.bundle(name, seen)
+        cpus = self.tree.listed(seen.path) & self.machine.present
+        # More than it asks for was given to it as to a shared one, which it was for want of room.
+        waits = count is not None and len(cpus - self.machine.reserved) > count
+        self.tree.link(name, seen.path)
+        ways = [(own, count, False, cpus), (own, count, False, set())]
+        if count is not None:
+            less = self.copy(name, shared(seen.config))
+            ways = [(less, count, True, cpus)] * waits + ways[waits:] + [(less, None, False, cpus), (less, None, False, set())]
+        fault = None
+        for bundle, count, waits, first in ways:
+            answer = self.tell(name, bundle, first)
+            if not re.match("refused E(104|6[2-7]) ?", answer):
+                break
+            fault = fault if answer.startswith("refused E104") else answer
+        if answer.startswith("refused"):
+            return self.refuse(name, seen, answer, cpus)
+        one = self.held[name] = Held(seen, own, count, waits)
+        one.cpus = self.requested(name)
+        one.admitted = one.pinned and not waits and len(cpus & one.cpus - self.machine.reserved) >= count > 0
+        self.refused.pop(name, None)
+        self.open.pop(("container", name), None)
+        if bundle != own and count is None:
+            self.say_once(("container", name), f"{fault}: {name} {own}: it runs on the pool")
         return True
 
-    def requested(self, names):
-        """What these containers request, as the program tells it."""
-        names = list(names)
-        answers = self.decider.ask(*(f"sets {name}" for name in names))
-        return {name: answer.split(" ")[1] for name, answer in zip(names, answers) if answer.startswith("cpus ")}
-
-    def make(self, name):
-        """Makes the write that is due for a container; whether it went through."""
-        cpus, group = self.decided[name], os.path.join(self.parent, name)
-        why = self.writer.write(name, group, cpus)
-        if why is None:
-            self.failed, self.stands[name] = None, cpus
-            print(f"write {group}/cpuset.cpus {cpus}", flush=True)
-            return True
-        self.failed = (name, cpus)
-        print(f"failed {group}/cpuset.cpus {cpus}: {why}")
-        for other, cpus in self.stands.items():
-            print(f"stands {other} {cpus}")
-        sys.stdout.flush()
-        return False
-
-
-class Watcher:
-    """Makes events of a folder of bundles and of the kernel's list of online CPUs, as they differ from what was seen before."""
-
-    def __init__(self, folder, online, machine):
-        if folder.split() != [folder]:
-            raise Refused(f"{folder!r}: a name with a blank, which no line of a script can have")
-        self.folder, self.online, self.machine = folder, online, machine
-        self.bundles, self.cpus = set(), machine.present - machine.offline
-
-    def events(self):
+    def bundle(self, name, seen):
+        """The bundle that is told, and how many CPUs it asks for, or nothing where it is shared."""
+        own, config = seen.told.bundle, seen.config
         try:
-            entries = sorted(os.listdir(self.folder))
-        except OSError as why:
-            raise Refused(f"{self.folder}: {why.strerror}") from None
-        entries = [name for name in entries if name.split() == [name]]
-        bundles = {name for name in entries if os.path.isfile(os.path.join(self.folder, name, "config.json"))}
-        cpus = read_list(read_text(self.online), self.online) & self.machine.present
-        changes = [f"ended {name}" for name in sorted(self.bundles - bundles)]
-        changes += [f"offline {cpu}" for cpu in sorted(self.cpus - cpus - self.machine.reserved)]
-        changes += [f"online {cpu}" for cpu in sorted(cpus - self.cpus)]
-        changes += [f"created {name} {os.path.join(self.folder, name)}" for name in sorted(bundles - self.bundles)]
-        self.bundles, self.cpus = bundles, cpus | self.machine.reserved
-        return changes
+            count = asked(config, self.words.pin, self.threads)
+            if count is None and asked(config, "all", 1) is not None:
+                return self.copy(name, shared(config)), None
+        except (Refused, AttributeError, TypeError):
+            count = None  # numarun refuses it
+        if own.split() != [own]:
+            own = self.copy(name, config, "own")
+        return own, count
 
+    def tell(self, name, bundle, cpus):
+        """Adopts a container on these CPUs, or makes it on the reserved ones."""
+        command = f"adopt {name} {bundle} {print_list(cpus)}" if cpus else f"create {name} {bundle}"
+        answer = self.ask(command)[0]
+        if not answer.startswith("refused"):
+            self.say(command)
+        return answer
 
-def watch(agent, watcher, pause, rounds):
-    """Looks again and again; a write that has failed is made again with the next event, or else at the next look."""
-    right, said = True, None
-    for turn in range(rounds) if rounds else itertools.count():
-        if turn:
-            time.sleep(pause)
+    def refuse(self, name, seen, answer, cpus):
+        """A container that is not told. One that runs on CPUs where nothing can be written lets no plan be safe."""
+        self.tree.unlink(name)
+        if answer.startswith("refused E50"):
+            self.say_once(("container", name), f"failed {self.failed}")
+            return not cpus
+        self.refused[name] = seen.stamp
+        self.say_once(("container", name), f"{answer}: {name} {seen.told.bundle}")
+        return True
+
+    def requested(self, name):
+        answer = self.ask(f"sets {name}")[0].split(" ")
+        return read_list(answer[1], name) if answer[0] == "cpus" else None
+
+    # Plans.
+
+    def make_room(self):
+        """Those that wait become pinned, the first that were told first, where a trial without a tree finds them a place."""
+        waiting = [name for name, one in self.held.items() if one.waits]
+        if not waiting:
+            return
+        trial = Run(self.words.program, os.path.join(self.work, "machine.json"), self.words.slit)
         try:
-            events, said = watcher.events(), None
+            trial.ask(*(f"{kind} {cpu}" for cpu, kind in self.off.items()))
+            trial.ask(*(f"create {name} {one.own}" for name, one in self.held.items() if one.pinned and not one.waits))
+            for name in waiting:
+                one = self.held[name]
+                trial.ask(f"create {name} {one.own}")
+                if trial.ask("rebalance")[0].startswith("plan"):
+                    answer = self.ask(f"update {name} {one.own}")[0]
+                    one.waits = answer != "ok"
+                    self.say(f"update {name} {one.own}" if answer == "ok" else f"{answer}: update {name} {one.own}")
+                if one.waits:
+                    self.wait(name, "no place")
+                    trial.ask(f"kill {name} KILL", f"delete {name}")
+                else:
+                    self.open.pop(("container", name), None)
+        finally:
+            trial.close()
+
+    def ease(self, outcome):
+        """Asks for less in a shortage: for the youngest newcomer, or where there is none for the youngest who takes fewer."""
+        words, *lines = (line.split(" ") for line in outcome[:-1])
+        members = [line[1] for line in lines]
+        missing = int(words[2]) - len(read_list(words[4], "allowed"))
+        for name in [name for name in members if not self.held[name].admitted][-1:]:
+            return self.shrink(name, missing) or self.make_wait(name, outcome[0])
+        return any(self.shrink(name, missing) for name in reversed(members))
+
+    def shrink(self, name, missing):
+        """Asks for fewer CPUs for a container, if its annotation allows it; whether it did."""
+        one = self.held[name]
+        least = at(one.seen.config, "annotations", LEAST)
+        least = int(least) if isinstance(least, str) and least.isdecimal() and len(least) < 6 else one.count
+        fewer = max(least, one.given - missing, 1)
+        if fewer >= one.given:
+            return False
+        section = dict(at(one.seen.config, *CPU), quota=fewer * 100000, period=100000)
+        bundle = self.copy(name, of_section(one.seen.config, section), "fewer")
+        if self.ask(f"update {name} {bundle}")[0] != "ok":
+            return False
+        one.given = fewer
+        return True
+
+    def grow(self):
+        """Asks for all of what those ask for who had to take fewer, which writes nothing."""
+        for name, one in self.held.items():
+            if one.pinned and one.given != one.count and self.ask(f"update {name} {one.own}")[0] == "ok":
+                one.given = one.count
+
+    def say_fewer(self):
+        for name, one in self.held.items():
+            if one.given != one.count:
+                self.say_once(("container", name), f"fewer {name}: {one.given} of {one.count} CPUs, as there are no more")
+            elif str(self.open.get(("container", name))).startswith("fewer"):
+                del self.open["container", name]
+
+    def make_wait(self, name, why):
+        """Lets a newcomer wait; whether it does."""
+        one = self.held[name]
+        one.waits = self.ask(f"update {name} {self.copy(name, shared(one.seen.config))}")[0] == "ok"
+        if one.waits:
+            one.given = one.count
+            self.wait(name, why)
+        return one.waits
+
+    def wait(self, name, why):
+        """Says once that a container waits."""
+        if ("container", name) not in self.open:
+            self.say_once(("container", name), f"waits {name}: {why}: it runs on the pool until there is room")
+
+    def plan(self):
+        """Works out a plan, and hands over to it."""
+        self.grow()
+        outcome = self.ask("begin")
+        while outcome[0].startswith("short") and self.ease(outcome):
+            outcome = self.ask("begin")
+        self.say_fewer()
+        if not outcome[0].startswith("plan"):
+            self.due = outcome[0].startswith("refused")
+            self.say_once("plan", " ".join(outcome[:-1] or outcome))
+            return
+        self.due = True
+        targets, pool = {}, set()
+        for kind, *words in (line.split(" ") for line in outcome[1:-1]):
+            if kind == "pool":
+                pool = read_list(words[0], kind)
+            else:
+                targets[words[0]] = read_list(words[1], kind)
+        changes = [f"hold {name} {print_list(cpus)}" for name, cpus in targets.items() if cpus != self.held[name].cpus]
+        changes += [f"pool {print_list(pool)}"] if pool != self.pool else []
+        for line in [outcome[0], *changes] if changes != self.tried else []:
+            self.say(line)
+        self.tried = changes
+        self.hand_over(targets, pool)
+
+    def hand_over(self, targets, pool):
+        answer = "more"
+        while answer == "more":
+            if self.ending:
+                return
+            answer = self.ask("step")[0]
+        if answer != "done":
+            self.say_once("plan", f"failed {self.failed}")
+            for name, one in self.held.items():
+                one.cpus = self.requested(name)
+            return
+        self.due, self.tried = False, None
+        self.open.pop("plan", None)
+        for name, one in self.held.items():
+            one.cpus = targets.get(name, pool)
+            one.admitted = one.admitted or name in targets
+        self.say("done")
+        if pool != self.pool:
+            self.pool = pool
+            self.tell_pool()
+
+    def tell_pool(self):
+        """Runs the command that moves the rest of the machine onto the pool."""
+        if not self.words.pool:
+            return
+        command = shlex.split(self.words.pool) + [print_list(self.pool)]
+        try:
+            done = subprocess.run(command, stdin=subprocess.DEVNULL, stdout=sys.stderr, timeout=HOOK)
+            why = f"status {done.returncode}" if done.returncode else None
+        except (OSError, subprocess.TimeoutExpired) as fault:
+            why = getattr(fault, "strerror", None) or str(fault)
+        self.open.pop("hook", None)
+        if why:
+            self.say_once("hook", f"failed {shlex.join(command)}: {why}")
+
+    def compare(self):
+        """Says where a group requests other CPUs than it was given: somebody else wrote."""
+        for name, one in self.held.items():
+            cpus = self.tree.listed(one.seen.path) if self.tree.folder else one.cpus
+            if one.cpus is None or cpus == one.cpus:
+                self.open.pop(("drift", name), None)
+            else:
+                self.say_once(("drift", name), f"drift {name} has {print_list(cpus)} in place of {print_list(one.cpus)}")
+
+
+def work(agent, source, online, words):
+    """Looks again and again, at the latest after a pause, until the input ends, or it is told to end."""
+    reader, writer = os.pipe()
+    os.set_blocking(writer, False)
+    signal.set_wakeup_fd(writer)
+    for number in (signal.SIGTERM, signal.SIGINT):
+        signal.signal(number, lambda *_: setattr(agent, "ending", True))
+    agent.start(online)
+    turn = 0
+    while not agent.ending:
+        turn += 1
+        events = []
+        try:
+            if isinstance(source, Input):
+                events = source.take(reader, words.pause)
+                for line in source.wrong:
+                    agent.say(f"refused: {line}")
+                    agent.wrong = True
+                source.wrong = []
+            elif turn > 1:
+                source.look()
+            events += online.events() if online else []
+            agent.open.pop("look", None)
         except Refused as why:
-            if not turn:
-                raise
-            if str(why) != said:
-                print(f"agent.py: {why}; looks again", file=sys.stderr, flush=True)
-            events, said = [], str(why)
-        for event in events:
-            print(f"event {event}", flush=True)
-            right = agent.event(event)
-        if agent.failed and not events:
-            right = agent.rebalance()
-    return right and not said
-
-
-def listen(agent):
-    """The events of standard input, whose last outcome decides."""
-    right = True
-    for at, line in enumerate(iter(lambda: sys.stdin.buffer.readline(LINE + 2), b""), 1):
-        if len(line.rstrip(b"\n")) > LINE:
-            raise Refused(f"standard input: line {at}: more than {LINE} bytes")
-        try:
-            text = line.decode()
-            right = agent.event(text) if text.strip() else right
-        except (NoEvent, UnicodeDecodeError) as why:
-            agent.refused = True
-            print(f"refused: line {at}: {why if isinstance(why, NoEvent) else 'not UTF-8'}", flush=True)
-    return right
+            agent.say_once("look", f"{why}; looks again")
+        agent.look(source.told, events)
+        if turn == words.rounds or getattr(source, "ended", False):
+            break
+        if isinstance(source, Folder):
+            select.select([reader], [], [], words.pause)
 
 
 def words_of():
     parser = argparse.ArgumentParser(description=__doc__, epilog=EXAMPLE, formatter_class=argparse.RawDescriptionHelpFormatter)
     parser.add_argument("machine", metavar="MACHINE", help="the machine file")
     parser.add_argument("--slit", metavar="FILE", help="the distance table, where MACHINE has no distances")
-    parser.add_argument("--program", default=find_program(), metavar="PATH", help="numarun, if it is not the one that is built here")
-    parser.add_argument("--group", default="numarun", metavar="NAME", help="the group that has the containers' groups")
-    ways = parser.add_mutually_exclusive_group()
-    ways.add_argument("--apply", metavar="ROOT", help="write below this cgroup root, as /sys/fs/cgroup")
-    ways.add_argument("--runtime", metavar="NAME", help="have this runtime write, as crun or runc")
-    parser.add_argument("--watch", metavar="FOLDER", help="make events of the bundles in this folder")
-    parser.add_argument("--online", default="/sys/devices/system/cpu/online", metavar="FILE", help="with --watch: the online CPUs")
-    parser.add_argument("--pause", type=float, default=1.0, metavar="SECONDS", help="with --watch: between two looks")
-    parser.add_argument("--rounds", type=int, default=0, metavar="N", help="with --watch: end after N looks")
+    parser.add_argument("--program", default=find_program(), metavar="PATH", help="numarun, if it is not the one that is built or installed here")
+    parser.add_argument("--cgroup", metavar="ROOT", help="write in this cgroup v2 tree, as /sys/fs/cgroup")
+    parser.add_argument("--group", default="numarun", metavar="NAME", help="the group that has the groups of which nothing else is said")
+    parser.add_argument("--work", default="/run/numarun", metavar="FOLDER", help="with --cgroup: the agent's own files, which it makes anew")
+    parser.add_argument("--watch", metavar="FOLDER", help="the containers are those of this folder")
+    parser.add_argument("--online", metavar="FILE", help="the kernel's list of online CPUs; with --watch it is looked at anyway")
+    parser.add_argument("--pause", type=float, default=1.0, metavar="SECONDS", help="between two looks, if nothing is told")
+    parser.add_argument("--rounds", type=int, default=0, metavar="N", help="end after N looks")
+    parser.add_argument("--pin", choices=("all", "whole", "annotated"), default="all",
+                        help=f"who gets CPUs of its own: all that ask for some, those whose quota is of whole CPUs, those annotated {PIN}=true")
+    parser.add_argument("--pool", metavar="COMMAND", help="run this with the pool's list behind it whenever that has changed")
     words = parser.parse_args()
     if not 0 <= words.pause <= 86400 or words.rounds < 0:
         parser.error("--pause is 0 to 86400, and --rounds is 0 or more")
+    if words.watch and not words.online:
+        words.online = "/sys/devices/system/cpu/online"
     return words
 
 
@@ -269,17 +510,17 @@ def main():
     words = words_of()
     machine = Machine(words.machine)
     check_program(words.program)
-    writer = Files(words.apply) if words.apply else Updates(words.runtime) if words.runtime else Printer()
-    decider = Run(words.program, words.machine, words.slit)
-    agent = Agent(decider, writer, words.group)
-    try:
-        if words.watch:
-            right = watch(agent, Watcher(words.watch, words.online, machine), words.pause, words.rounds)
-        else:
-            right = listen(agent)
-    finally:
-        decider.close()
-    return 0 if right and not agent.refused else 1
+    with tempfile.TemporaryDirectory(prefix="numarun-") as folder:
+        folder = words.work if words.cgroup else folder
+        tree = Tree(words.cgroup, folder, words.group) if words.cgroup else NoTree()
+        agent = Agent(words, machine, tree, folder)
+        source = Folder(words.watch) if words.watch else Input()
+        try:
+            work(agent, source, Online(words.online, machine) if words.online else None, words)
+        finally:
+            if agent.numarun:
+                agent.numarun.close()
+    return 1 if agent.wrong or agent.open or agent.refused or agent.due else 0
 
 
 if __name__ == "__main__":

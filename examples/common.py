@@ -1,11 +1,13 @@
 """What the Python scripts share: lists of CPUs, machine files, an open run of numarun, and how what can't be read is refused."""
 
+import fcntl
 import json
 import os
 import re
 import shutil
 import subprocess
 import sys
+import tempfile
 
 # As much as numarun takes: CPUs and nodes, and bytes of an input and of a machine file.
 CPUS, NODES = 4096, 128
@@ -141,14 +143,16 @@ class Machine:
 
 
 class Run:
-    """One open `numarun run`."""
+    """One open `numarun run`, with more words if there are some, and with these files open in it."""
 
-    def __init__(self, program, machine, slit=None):
+    def __init__(self, program, machine, slit=None, more=(), files=()):
         self.program = program
-        words = [program, "run", machine] + (["--slit", slit] if slit else [])
+        words = [program, "run", machine] + (["--slit", slit] if slit else []) + list(more)
         try:
-            pipe = subprocess.PIPE
-            self.process = subprocess.Popen(words, stdin=pipe, stdout=pipe, stderr=pipe, start_new_session=True)
+            self.notes = tempfile.TemporaryFile(buffering=0)
+            fcntl.fcntl(self.notes, fcntl.F_SETFL, fcntl.fcntl(self.notes, fcntl.F_GETFL) | os.O_APPEND)
+            self.process = subprocess.Popen(words, stdin=subprocess.PIPE, stdout=subprocess.PIPE, stderr=self.notes,
+                                            start_new_session=True, pass_fds=files)
         except OSError as why:
             raise Refused(f"{program}: {why.strerror}") from None
         first = self.ask("phase")
@@ -178,11 +182,19 @@ class Run:
             raise Refused(f"{self.program}: ended at {asked!r} with no answer, status {self.process.wait()}{why}")
         return line[:-1]
 
+    def said(self):
+        """The lines on standard error since the last time that this was asked."""
+        told = os.pread(self.notes.fileno(), BYTES, 0)
+        if told:
+            os.ftruncate(self.notes.fileno(), 0)
+        return told.decode(errors="replace").strip().splitlines()
+
     def why(self):
         """The last of what it says on standard error, once it has ended."""
         self.end_input()
         self.process.stdout.close()
-        said = self.process.stderr.read().decode(errors="replace").strip().splitlines()
+        self.process.wait()
+        said = self.said()
         return f" ({said[-1]})" if said else ""
 
     def end_input(self):

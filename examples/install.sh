@@ -67,7 +67,7 @@ put() {
 put_all() {
     local name script
     put 755 "$program" bin/numarun
-    for name in common.py answers.py; do
+    for name in common.py answers.py events.py groups.py; do
         put 644 "$top/examples/$name" "lib/numarun/$name"
     done
     for script in "${scripts[@]}"; do

@@ -1,257 +1,466 @@
-"""Tries agent.py: what it prints, what stands after each write and after each that is refused, and how it goes on."""
+"""Tries agent.py over the stand-in for the program: what it tells, what the groups request then, and how it goes on where a
+write, a group, a config or a line of input is not as it ought to be."""
 
-import contextlib
 import importlib
-import io
 import json
 import os
 import shutil
+import signal
 import subprocess
 import sys
+import tempfile
 
-from trial import EXAMPLES, TOP, bad_files, bad_output, check, end, piped, refuses, told, words_and_help
+from trial import EXAMPLES, TOP, bad_files, bad_output, check, command, end, piped, refuses, told, words_and_help
 
 sys.path.insert(0, EXAMPLES)
-agent = importlib.import_module("agent")
-common = importlib.import_module("common")
+common, groups = importlib.import_module("common"), importlib.import_module("groups")
 
-PROGRAM = os.environ["PROGRAM"]
-SCRATCH = os.environ["SCRATCH"]
+SCRATCH = os.environ.get("SCRATCH") or tempfile.mkdtemp()
+STAND_IN = os.path.join(os.path.dirname(os.path.abspath(__file__)), "stand_in.py")
 MACHINE = os.path.join(EXAMPLES, "machines", "two-socket.json")
 DATABASE, PACKETS, WEB, CONTROL = (f"examples/bundles/{name}" for name in ("database", "packet-processing", "web", "real-time"))
-EVENTS = [f"created database {DATABASE}", f"created web {WEB}", f"created packets {PACKETS}", "offline 20", "started packets",
-          "ended packets", f"created control {CONTROL}", "online 20"]
-# By hand: what a container gives back comes first, then each gets what the plan has for it, in the order of creation.
-WRITES = """database 0,16; database 1-7,17-21; packets 0,16; database 1-3,17-21; database 1-3,8-9,17-23; packets 4-7"""
+PLAIN = (MACHINE, "--program", STAND_IN)
+QUOTA = 100000
 
 
-def words(*more):
-    return (MACHINE, "--program", PROGRAM, *more)
+def untimed(text):
+    """The lines of the agent, without their times."""
+    return [line.split(" ", 1)[1] for line in text.splitlines()]
 
 
-def printed():
+class Site:
+    """A machine: bundles in `g`, groups in `root`, and a list of online CPUs."""
+
+    count = 0
+
+    def __init__(self, machine=None, root=True):
+        Site.count += 1
+        self.folder = os.path.join(SCRATCH, f"site-{Site.count}")
+        os.makedirs(os.path.join(self.folder, "g"))
+        if root:
+            os.makedirs(os.path.join(self.folder, "root", "numarun"))
+        machine = machine or {"nodes": ["0-7"], "distances": [[10]], "reserved": "0"}
+        json.dump(machine, open(self.at("machine.json"), "w"))
+        self.online(machine["nodes"][-1].replace("8-", "0-"))
+
+    def at(self, *names):
+        return os.path.join(self.folder, *names)
+
+    def online(self, cpus):
+        with open(self.at("online.new"), "w") as file:
+            file.write(cpus + "\n")
+        os.rename(self.at("online.new"), self.at("online"))
+
+    def make_group(self, name, cpus="", group=None):
+        path = self.at("root", group or f"numarun/{name}")
+        os.makedirs(path)
+        open(os.path.join(path, "cpuset.cpus"), "w").write(cpus)
+        open(os.path.join(path, "cpuset.mems"), "w").close()
+
+    def come(self, name, cpus=0, group=True, has="", **more):
+        if group:
+            self.make_group(name, has, more.get("linux", {}).get("cgroupsPath"))
+        section = {"cpus": cpus} if isinstance(cpus, str) else {"quota": int(cpus * QUOTA), "period": QUOTA} if cpus else {}
+        config = {"ociVersion": "1.0.2", "root": {"path": "r"}, "linux": {"resources": {"cpu": section}, **more.pop("linux", {})}, **more}
+        os.makedirs(self.at("new"))
+        json.dump(config, open(self.at("new", "config.json"), "w"))
+        os.rename(self.at("new"), self.at("g", name))
+
+    def write(self, name, cpus):
+        """Somebody else's write, of which nobody sees a part."""
+        with open(self.at("other"), "w") as file:
+            file.write(cpus + "\n")
+        os.rename(self.at("other"), self.at("root", "numarun", name, "cpuset.cpus"))
+
+    def go(self, name):
+        for path in (self.at("g", name), self.at("root", "numarun", name)):
+            os.rename(path, self.at("gone"))
+            shutil.rmtree(self.at("gone"))
+
+    def has(self, *names):
+        return [open(self.at("root", "numarun", name, "cpuset.cpus")).read().strip() for name in names]
+
+    def words(self, *more):
+        words = [self.at("machine.json"), "--program", STAND_IN, "--cgroup", self.at("root"), "--work", self.at("work"), "--pause", "0.1"]
+        watching = ["--watch", self.at("g"), "--online", self.at("online")] if "--listen" not in more else []
+        return words + watching + [word for word in more if word != "--listen"]
+
+    def run(self, *more, text="", rounds="1"):
+        status, out, err = told("agent.py", *self.words(*more, "--rounds", rounds), text=text, env={**os.environ, "STAND_IN_LOG": self.at("log")})
+        check("nothing on standard error", err, "")
+        return status, untimed(out)
+
+    def log(self):
+        """The writes of CPUs since the last time."""
+        lines = open(self.at("log")).read().splitlines() if os.path.exists(self.at("log")) else []
+        open(self.at("log"), "w").close()
+        return lines
+
+
+class Open:
+    """An agent that runs; what it says is read as it comes."""
+
+    def __init__(self, site, *more, stdin=subprocess.DEVNULL):
+        words = command("agent.py", *site.words(*more))
+        here = {**os.environ, "STAND_IN_LOG": site.at("log")}
+        self.process = subprocess.Popen(words, stdin=stdin, stdout=subprocess.PIPE, text=True, cwd=TOP, env=here)
+        self.lines = []
+
+    def until(self, beginning):
+        """The lines up to one that begins so."""
+        lines = []
+        for line in self.process.stdout:
+            lines.append(line.split(" ", 1)[1].rstrip("\n"))
+            if lines[-1].startswith(beginning):
+                return lines
+        check(f"a line {beginning!r}", lines, "one of them")
+        return lines
+
+    def end(self, number=signal.SIGTERM):
+        self.process.send_signal(number)
+        rest = untimed(self.process.stdout.read())
+        return self.process.wait(), rest
+
+
+def plain():
+    """Without a tree: the plans alone."""
     events = f"created database {DATABASE}\ncreated packets {PACKETS}\n"
-    status, out, err = told("agent.py", *words(), text=events)
-    lines = [line for line in out.splitlines() if line.startswith("write")]
-    expected = [f"write numarun/{name}/cpuset.cpus {cpus}" for name, cpus in (pair.split() for pair in WRITES.split(";"))]
-    check("writes", (status, lines, err), (0, expected, ""))
-    status, out, _ = told("agent.py", *words(), text=events + "offline 6\nended nobody\nonline 0\noffline 0\ncreated x no\n")
-    check("a shortage", (status, "short demand 4 allowed 4-5,7\nmember packets\nend\n" in out), (1, True))
-    check("refusals", [line for line in out.splitlines() if line.startswith(("refused", "unknown"))],
-          ["unknown nobody", "refused E51 Reserved: offline 0", "refused E111 NoBundle: create x no"])
-    for more, expected in [("", 0), ("offline 6\n", 1), ("offline 6\nonline 6\n", 0), ("created x no\n", 1), ("created x no\nrebalance\n", 1),
-                           ("ended nobody\n", 1), ("offline 0\nrebalance\n", 1), ("ended packets\n", 0)]:
-        check(f"the status after {more!r}", told("agent.py", *words(), text=events + more)[0], expected)
+    status, out, err = told("agent.py", *PLAIN, text=events)
+    expected = [f"create database {DATABASE}", f"create packets {PACKETS}", "plan total 182", "hold database 1-3,8-9,17-23", "hold packets 4-7",
+                "pool 0,10-16,24-31", "done"]
+    check("two containers at once", (status, untimed(out), err), (0, expected, ""))
+    for more, expected in [("", 0), ("offline 6\n", 1), ("offline 6\nonline 6\n", 0), ("created x no\n", 1), ("ended nobody\n", 1),
+                           ("offline 0\nrebalance\n", 1), ("ended packets\n", 0), ("\n", 0), ("foo\n", 1), ("created x\n", 1), ("\xff\n", 1),
+                           (f"created ../x {WEB}\n", 1), ("x" * 300000 + "\nrebalance\n", 1)]:
+        status, out, err = told("agent.py", *PLAIN, text=events + more)
+        check(f"after {more[:40]!r}", (status, "plan" in out or "short demand 4" in out, err), (expected, True, ""))
+    status, out, _ = told("agent.py", *PLAIN, text=f"foo\ncreated x\nended x\ncreated .. {WEB}\n" + events + "offline 0\nrebalance\n")
+    expected = ["refused: line 1: 'foo' is no event (see --help)", "refused: line 2: 'created x' is no event (see --help)",
+                "refused: line 3: unknown x", "refused E51 Reserved: offline 0", f"refused E91 BadId: .. {WEB}"]
+    lines = untimed(out)
+    check("what is refused", [line for line in lines if line.startswith("refused")], expected)
+    check("and what is behind it", lines[-2:], ["pool 0,10-16,24-31", "done"])
 
 
-def tree(*names, parent="numarun"):
-    root = os.path.join(SCRATCH, "tree")
-    shutil.rmtree(root, ignore_errors=True)
-    for name in names:
-        os.makedirs(os.path.join(root, parent, name))
-        open(os.path.join(root, parent, name, "cpuset.cpus"), "w").close()
-    return root
+def restart():
+    """A new run adopts what the groups request, and writes nothing else into them."""
+    site = Site()
+    for name, count in (("a", 2), ("b", 3), ("s", 0)):
+        site.come(name, count)
+    status, lines = site.run()
+    check("a first run", (status, site.has("a", "b", "s")), (0, ["1-2", "3-5", "0,6-7"]))
+    check("two writes each", len(site.log()), 6)
+    site.go("a")
+    site.come("c", 1)
+    status, lines = site.run()
+    check("a second one", (status, site.has("b", "c", "s")), (0, ["3-5", "1", "0,2,6-7"]))
+    check("it adopts", lines[:3], [f"adopt b {site.at('g/b')} 3-5", f"adopt s {site.at('g/s')} 0,6-7", f"create c {site.at('g/c')}"])
+    writes = site.log()
+    check("what runs is not squeezed", [line for line in writes if line in ("b 0", "s 0")], [])
+    status, lines = site.run()
+    found = (status, [line for line in lines if line.startswith("hold")], sorted(set(site.log())))
+    check("nothing new", found, (0, [], ["b 3-5", "c 1", "s 0,2,6-7"]))
+    check("the links are the agent's own", sorted(os.listdir(site.at("work/tree/numarun"))), ["b", "c", "s"])
 
 
-def standing(root, parent="numarun"):
-    found = {}
-    for name in sorted(entry.name for entry in os.scandir(os.path.join(root, parent)) if entry.is_dir()):
-        text = open(os.path.join(root, parent, name, "cpuset.cpus")).read()
-        found[name] = common.read_list(text, name) if text.strip() else set()
-    return found
+def under_its_id():
+    """A container that came back under its id, one whose group is not there, and one with a config in parts."""
+    site = Site()
+    site.come("a", 2)
+    site.come("ghost", 1, group=False)
+    agent = Open(site)
+    check("the others go on", agent.until("done"),
+          [f"absent ghost: {site.at('root/numarun/ghost')}: no such group", f"create a {site.at('g/a')}", "plan total 20", "hold a 1-2",
+           "pool 0,3-7", "done"])
+    site.make_group("ghost")
+    agent.until("done")
+    check("its group came", site.has("a", "ghost"), ["1-2", "3"])
+    site.go("a")
+    site.come("a", 1)
+    check("back under its id", "ended a" in agent.until("create a"), True)
+    agent.until("done")
+    check("and pinned again", (site.has("a", "ghost")[1], len(common.read_list(site.has("a")[0], "a"))), ("3", 1))
+    shutil.rmtree(site.at("root/numarun/a"))
+    agent.until("done")
+    site.make_group("half")
+    os.mkdir(site.at("g/half"))
+    text = json.dumps({"ociVersion": "1.0.2", "root": {"path": "r"}, "linux": {"resources": {"cpu": {"cpus": "6-7"}}}})
+    file = open(site.at("g/half/config.json"), "w")
+    file.write(text[:50])
+    file.flush()
+    check("a config in part", agent.until("absent half")[-1], f"absent half: {site.at('g/half/config.json')}: not JSON")
+    file.write(text[50:])
+    file.close()
+    agent.until("done")
+    check("and whole", site.has("half", "ghost"), ["6-7", "3"])
+    check("a bundle whose group went is left undone", agent.end()[0], 1)
 
 
-def is_safe(sets):
-    """No CPU outside the reserved ones is in two sets of which one is of a container with CPUs of its own."""
-    names = sorted(sets)
-    return all(a == b or sets[a] & sets[b] <= {0, 16} for a in names for b in names if not (a == "web" and b == "web"))
+def refused_writes():
+    """A tree that turns read-only and back, for an agent that runs and for one that starts."""
+    site = Site()
+    site.come("a", 2)
+    agent = Open(site)
+    agent.until("done")
+    open(site.at("work/tree/read-only"), "w").close()
+    site.come("b", 1)
+    check("read-only", agent.until("failed"), ["failed b/cpuset.cpus: Read-only file system (os error 30)"])
+    site.go("a")
+    os.remove(site.at("work/tree/read-only"))
+    lines = agent.until("create b") + agent.until("done")
+    check("writable again", (site.has("b"), agent.end()), (["1"], (0, [])))
+    check("said once", [line for line in lines if line.startswith("failed")], [])
+    site.come("c", 1)
+    site.come("s")
+    site.run()
+    agent = Open(site)
+    agent.until("done")
+    open(site.at("work/tree/read-only"), "w").close()
+    site.online("0-6")
+    check("a write of a hand-over", agent.until("failed"),
+          ["offline 7", "plan total 20", "pool 0,3-6", "failed s/cpuset.cpus: Read-only file system (os error 30)"])
+    site.online("0-7")
+    check("tried again", agent.until("plan"), ["online 7", "plan total 20"])
+    site.online("0-5")
+    lines = agent.until("failed") + ["and"]
+    os.remove(site.at("work/tree/read-only"))
+    check("said once", (agent.until("done"), site.has("b", "c", "s"), agent.end()), (["done"], ["1", "2", "0,3-5"], (0, [])))
+    open(site.at("work/tree/read-only"), "w").close()
+    status, lines = site.run(rounds="3")
+    found = (status, *(sum(line.startswith(word) for line in lines) for word in ("failed", "plan")))
+    check("a start in a read-only tree", found, (1, 3, 0))
+    os.remove(site.at("work/tree/read-only"))
+    check("and behind it", (site.run()[0], site.has("b", "c", "s")), (0, ["1", "2", "0,3-5"]))
 
 
-class Refusing(agent.Files):
-    """Writes to plain files; the nth write is refused. What stands is looked at after each."""
-
-    def __init__(self, root, nth):
-        super().__init__(root)
-        self.nth, self.count, self.safe, self.gone = nth, 0, True, set()
-
-    def write(self, container, group, cpus):
-        self.count += 1
-        why = "Input/output error" if self.count == self.nth else super().write(container, group, cpus)
-        sets = {name: cpus for name, cpus in standing(self.root).items() if name not in self.gone}
-        self.safe = self.safe and is_safe(sets)
-        return why
-
-
-def whole_run(nth):
-    """All events with the nth write refused, and one event more; what it printed, whether all was safe, and what stands."""
-    writer = Refusing(tree("database", "web", "packets", "control"), nth)
-    decider, out = common.Run(PROGRAM, MACHINE), io.StringIO()
-    one = agent.Agent(decider, writer, "numarun")
-    with contextlib.redirect_stdout(out):
-        for event in EVENTS + ["rebalance"]:
-            if event.startswith("ended"):
-                writer.gone.add(event.split()[1])
-            before = writer.count
-            right = one.event(event)
-            if before < nth <= writer.count:
-                check(f"write {nth} refused: none behind it", (right, writer.count), (False, nth))
-        kept = one.decided
-    decider.close()
-    sets = {name: cpus for name, cpus in standing(writer.root).items() if name not in writer.gone}
-    check(f"write {nth} refused: as decided", sets, {name: common.read_list(cpus, name) for name, cpus in kept.items()})
-    return writer, out.getvalue(), sets, right
+def admission():
+    """A newcomer without a place runs on the pool, also across a restart, until there is room."""
+    site = Site()
+    for name, count in (("a", 4), ("b", 2), ("s", 0)):
+        site.come(name, count)
+    agent = Open(site)
+    agent.until("done")
+    site.come("big", 3)
+    lines = agent.until("plan")
+    check("no place", lines[1:], ["waits big: short demand 9 allowed 1-7: it runs on the pool until there is room", "plan total 60"])
+    agent.until("done")
+    check("it runs on the pool", (site.has("a", "b", "big", "s")), ["1-4", "5-6", "0,7", "0,7"])
+    site.come("c", 1)
+    agent.until("create c")
+    agent.until("done")
+    check("nobody waits for it", site.has("c"), ["7"])
+    check("ended while one waits", agent.end()[0], 1)
+    site.log()
+    agent = Open(site)
+    agent.until("waits")
+    agent.end()
+    check("none is squeezed", {line for line in site.log() if line in ("a 0", "b 0", "c 0")}, set())
+    agent = Open(site)
+    agent.until("waits")
+    site.go("a")
+    check("room", agent.until("update")[-2:], ["ended a", f"update big {site.at('g/big')}"])
+    agent.until("done")
+    check("it is pinned", (site.has("b", "big", "c", "s"), agent.end()[0]), (["5-6", "1-3", "7", "0,4"], 0))
 
 
-def each_write_refused():
-    writer, _, sets, right = whole_run(0)
-    check("no write refused", (right, writer.safe, sorted(sets)), (True, True, ["control", "database", "web"]))
-    for nth in range(1, writer.count + 1):
-        other, out, found, right = whole_run(nth)
-        check(f"write {nth} refused: safe, and whole in the end", (right, other.safe, found), (True, True, sets))
-        check(f"write {nth} refused: told", out.count("failed numarun/"), 1)
+def fewer():
+    """One that takes fewer CPUs where one went, also across a restart, and a newcomer that does."""
+    site = Site()
+    site.come("a", "5-6", annotations={"numarun.least": "1"})
+    site.come("b", 2)
+    agent = Open(site)
+    agent.until("done")
+    site.log()
+    site.online("0-4,6-7")
+    check("one CPU less", agent.until("done"), ["offline 5", "fewer a: 1 of 2 CPUs, as there are no more", "plan total 30", "hold a 6", "done"])
+    site.come("c", 1)
+    agent.until("create c")
+    agent.until("done")
+    check("the others go on", (site.has("a", "b", "c"), agent.end()[0]), (["6", "1-2", "3"], 1))
+    site.log()
+    check("after a restart", (site.run()[0], site.has("a", "b", "c"), sorted(set(site.log()))), (1, ["6", "1-2", "3"], ["a 6", "b 1-2", "c 3"]))
+    site.online("0-7")
+    check("it is back", (site.run()[0], site.has("a", "b", "c")), (0, ["5-6", "1-2", "3"]))
+    site.come("d", 9, annotations={"numarun.least": "2"})
+    check("a newcomer", (site.run()[0], site.has("a", "b", "c", "d")), (1, ["5-6", "1-2", "3", "4,7"]))
+    site.come("e", 3, annotations={"numarun.least": "2"})
+    site.make_group("s")
+    status, lines = site.run()
+    check("and one without a place", (status, site.has("a", "b", "c"), sum(line.startswith("waits") for line in lines)), (1, ["5-6", "1-2", "3"], 1))
 
 
-def files():
-    root = tree("database", "packets")
-    path = os.path.join(root, "numarun", "packets", "cpuset.cpus")
-    os.remove(path)
-    os.mkdir(path)
-    events = f"created database {DATABASE}\ncreated packets {PACKETS}\n"
-    status, out, err = told("agent.py", *words("--apply", root), text=events)
-    told_last = out.splitlines()[-2:]
-    check("a write refused", (status, told_last, err),
-          (1, ["failed numarun/packets/cpuset.cpus 0,16: Is a directory", "stands database 1-7,17-21"], ""))
-    os.rmdir(path)
-    status, out, err = told("agent.py", *words("--apply", root), text=events + "ended packets\n")
-    check("a group that is not there", (status, "failed numarun/packets/cpuset.cpus 0,16: No such file or directory" in out), (0, True))
-    open(path, "w").close()
-    status, out, err = told("agent.py", *words("--apply", root, "--group", "numarun"), text=events)
-    check("what was written", standing(root), {"database": common.read_list("1-3,8-9,17-23", ""), "packets": {4, 5, 6, 7}})
+def who_is_pinned():
+    site = Site()
+    site.come("whole", 2)
+    site.come("part", 0.5)
+    site.come("said", 1.5, annotations={"numarun.pin": "true"})
+    site.come("listed", "7")
+    for rule, expected in [("all", ["1-2", "3", "4-5", "7"]), ("whole", ["1-2", "0,3-6", "0,3-6", "7"]),
+                           ("annotated", ["0,3-7", "0,3-7", "1-2", "0,3-7"])]:
+        for name in ("whole", "part", "said", "listed"):
+            open(site.at("root/numarun", name, "cpuset.cpus"), "w").close()
+        status, _ = site.run("--pin", rule)
+        check(f"--pin {rule}", (status, site.has("whole", "part", "said", "listed")), (0, expected))
 
 
-def runtime():
-    log, name = os.path.join(SCRATCH, "log"), os.path.join(SCRATCH, "stand-in")
-    with open(name, "w") as file:
-        file.write(f'#!/bin/sh\necho "$@" >> {log}\n[ "$(wc -l < {log})" != 3 ] || {{ echo "no such container" >&2; exit 1; }}\n')
-    os.chmod(name, 0o755)
-    events = f"created database {DATABASE}\ncreated packets {PACKETS}\nrebalance\n"
-    status, out, err = told("agent.py", *words("--runtime", name), text=events)
-    pairs = [pair.split() for pair in WRITES.split(";")]
-    calls = [f"update --cpuset-cpus {cpus} -- {name}" for name, cpus in pairs[:3] + pairs[2:]]
-    check("a runtime's calls", (status, open(log).read().splitlines()), (0, calls))
-    check("a runtime's refusal", "failed numarun/packets/cpuset.cpus 0,16: no such container\nstands database 1-7,17-21\n" in out, True)
+def refused_sections():
+    """Who asks for CPUs that nobody can have runs on the pool, and is told anew when the config is another one."""
+    site = Site()
+    site.come("a", 2)
+    site.come("none", "90", has="1")
+    site.come("mems", linux={"resources": {"cpu": {"mems": "7"}}})
+    agent = Open(site)
+    lines = agent.until("done")
+    bundle = site.at("work/bundles/shared/none")
+    check("two that are refused", [line for line in lines if line.startswith(("refused", "adopt"))],
+          [f"adopt none {bundle} 1", f"refused E63 NoSuchCpu 90: none {site.at('g/none')}: it runs on the pool",
+           f"refused E65 NoSuchNode 7: mems {site.at('g/mems')}"])
+    check("what they have", site.has("a", "none", "mems"), ["1-2", "0,3-7", ""])
+    site.come("new", "5", group=False)
+    os.rename(site.at("g/new/config.json"), site.at("g/none/config.json"))
+    agent.until("hold none")
+    agent.until("done")
+    check("a config of another time", (site.has("a", "none"), agent.end()[0]), (["1-2", "5"], 1))
 
 
-def watching():
-    folder, online = os.path.join(SCRATCH, "bundles"), os.path.join(SCRATCH, "online")
-    shutil.copytree(os.path.join(TOP, DATABASE), os.path.join(folder, "database"))
-    shutil.copytree(os.path.join(TOP, DATABASE), os.path.join(folder, "a b"))
-    open(online, "w").write("0-31\n")
-    command = [sys.executable, "-B", os.path.join(EXAMPLES, "agent.py"), *words("--watch", folder, "--online", online, "--pause", "0.1")]
-    run = subprocess.Popen(command + ["--rounds", "600"], stdout=subprocess.PIPE, stderr=subprocess.PIPE, text=True)
-
-    def next_event():
-        line = run.stdout.readline()
-        while line and not line.startswith("event "):
-            line = run.stdout.readline()
-        return line.strip()
-
-    check("a bundle that is there", next_event(), f"event created database {folder}/database")
-    open(online + ".new", "w").write("0-5,7-31\n")
-    os.rename(online + ".new", online)
-    check("a CPU off", next_event(), "event offline 6")
-    open(online + ".new", "w").write("0-31\n")
-    os.rename(online + ".new", online)
-    check("a CPU on", next_event(), "event online 6")
-    os.rename(folder, folder + ".away")
-    while not run.stderr.readline().endswith("bundles: No such file or directory; looks again\n"):
-        pass
-    os.rename(folder + ".away", folder)
-    shutil.rmtree(os.path.join(folder, "database"))
-    check("a bundle that is gone", next_event(), "event ended database")
-    run.kill()
-    run.wait()
+def pool_hook():
+    site = Site()
+    site.come("a", 2)
+    hook = site.at("hook")
+    with open(hook, "w") as file:
+        file.write(f'#!/bin/sh\necho "$@" >> {site.at("pools")}\n')
+    os.chmod(hook, 0o755)
+    check("a hook", (site.run("--pool", f"{hook} --to", rounds="3")[0], open(site.at("pools")).read()), (0, "--to 0,3-7\n"))
+    expected = [f"adopt a {site.at('g/a')} 1-2", "plan total 20", "pool 0,3-7", "done", "failed false 0,3-7: status 1"]
+    check("a hook that fails", site.run("--pool", "false"), (1, expected))
 
 
-def cgroup_root():
-    """A group of a cgroup v2 tree in which this may make groups with cpusets, or why there is none."""
-    mounts = [line.split() for line in open("/proc/mounts")]
-    roots = [words[1] for words in mounts if words[2] == "cgroup2"]
-    for root in roots:
-        try:
-            if "cpuset" not in open(os.path.join(root, "cgroup.controllers")).read().split():
-                continue
-            open(os.path.join(root, "cgroup.subtree_control"), "w").write("+cpuset")
-            top = os.path.join(root, f"numarun-test-{os.getpid()}")
-            os.mkdir(top)
-            return top, None
-        except OSError as why:
-            return None, f"{root}: {why.strerror}"
-    return None, "there is no cgroup v2 tree with the controller cpuset"
+def flapping():
+    """Ten CPUs that go and come: who has none of them is not written again."""
+    site = Site({"nodes": ["0-15"], "distances": [[10]], "reserved": "0"})
+    site.come("a", "1-3")
+    site.come("b", "14-15")
+    agent = Open(site)
+    agent.until("done")
+    site.log()
+    for cpu in range(4, 14):
+        site.online(f"0-{cpu - 1},{cpu + 1}-15")
+        agent.until("done")
+        site.online("0-15")
+        agent.until("done")
+    check("ten CPUs that flap", (site.log(), site.has("a", "b"), agent.end()[0]), ([], ["1-3", "14-15"], 0))
+    agent = Open(site)
+    agent.until("done")
+    site.online("0-1,3-15")
+    check("a shortage", agent.until("short"), ["offline 2", "short demand 3 allowed 1,3 member a"])
+    site.online("0-15")
+    agent.until("done")
+    check("gone", agent.end()[0], 0)
+    site.online("0-1,3-15")
+    status, lines = site.run()
+    check("one that had its CPUs keeps them", (status, lines[-1], site.has("a", "b")), (1, "short demand 3 allowed 1,3 member a", ["1-3", "14-15"]))
 
 
-def real_groups():
-    """On a real tree, where there is one: two containers of a CPU each."""
-    root, why = cgroup_root()
-    cpus = sorted(os.sched_getaffinity(0))
-    if root is None or len(cpus) < 3:
-        print(f"agent.py: passed over: a real cgroup v2 tree: {why or 'fewer than three CPUs'}")
-        return
-    groups = [os.path.join(root, *below) for below in (["numarun"], ["numarun", "a"], ["numarun", "b"])]
-    bundle = os.path.join(SCRATCH, "one")
-    os.mkdir(bundle)
-    section = {"quota": 100000, "period": 100000}
-    json.dump({"ociVersion": "1.0.2", "root": {"path": "r"}, "linux": {"resources": {"cpu": section}}}, open(f"{bundle}/config.json", "w"))
-    machine = os.path.join(SCRATCH, "host.json")
-    open(machine, "w").write(told("describe-host.sh")[1])
-    try:
-        open(os.path.join(root, "cgroup.subtree_control"), "w").write("+cpuset")
-        os.mkdir(groups[0])
-        open(os.path.join(groups[0], "cgroup.subtree_control"), "w").write("+cpuset")
-        for group in groups[1:]:
-            os.mkdir(group)
-        text = f"created a {bundle}\ncreated b {bundle}\n"
-        status, out, err = told("agent.py", machine, "--program", PROGRAM, "--apply", root, text=text)
-        found = standing(root) if status == 0 else {}
-        check("a real tree", (status, sorted(map(len, found.values())), len(set().union(*found.values()))), (0, [1, 1], 2))
-    finally:
-        for group in reversed([root] + groups):
-            if os.path.isdir(group):
-                os.rmdir(group)
+def storm():
+    """200 containers at once: one plan, and two writes each."""
+    site = Site({"nodes": ["0-127"], "distances": [[10]], "reserved": "0"})
+    for k in range(200):
+        site.come(f"c{k:03}", int(k % 5 == 0))
+    status, lines = site.run()
+    check("a storm", (status, len(site.log()), sum(line.startswith("plan") for line in lines)), (0, 400, 1))
 
 
-def ends_early():
+def one_agent():
+    """The second one is refused; after a kill -9 the next one waits for the run of the one before."""
+    site = Site()
+    site.come("a", 1)
+    agent = Open(site)
+    agent.until("done")
+    status, out, err = told("agent.py", *site.words("--work", site.at("second")))
+    check("two agents, one tree", (status, out, err), (1, "", f"agent.py: {site.at('root')}: another agent has it\n"))
+    agent.process.kill()
+    agent.process.wait()
+    check("killed, and the next", site.run()[0], 0)
+    site.write("a", "5")
+    agent = Open(site)
+    agent.until("done")
+    site.write("a", "0-7")
+    check("somebody else writes", agent.until("drift"), ["drift a has 0-7 in place of 5"])
+    agent.end(signal.SIGINT)
+
+
+def told_by_lines():
+    """Events of standard input, with groups of their own."""
+    site = Site()
+    site.make_group("x", group="system.slice")
+    site.come("a", 2)
+    site.come("rest")
+    agent = Open(site, "--listen", stdin=subprocess.PIPE)
+
+    def tell(text):
+        agent.process.stdin.write(text)
+        agent.process.stdin.flush()
+
+    tell(f"created a {site.at('g/a')}\ncreated rest {site.at('g/rest')} system.slice\n")
+    agent.until("done")
+    check("a group of another name", open(site.at("root/system.slice/cpuset.cpus")).read(), "0,3-7\n")
+    tell(f"ended a\ncreated a {site.at('g/a')}\n")
+    check("ended and created at once", agent.until("plan")[:2], ["ended a", f"adopt a {site.at('g/a')} 1-2"])
+    agent.process.stdin.close()
+    check("the end of input", agent.process.wait(), 0)
+
+
+def places():
+    """Where runtimes say that a group is."""
+    site = Site()
+    tree = groups.Tree(site.at("root"), site.at("work"), "numarun")
+    state = site.at("state")
+    os.mkdir(state)
+    for config, file, expected in [
+        ({}, None, "numarun/c"),
+        ({"linux": {"cgroupsPath": "/libpod_parent/x"}}, None, "libpod_parent/x"),
+        ({"linux": {"cgroupsPath": "../../etc"}}, None, "etc"),
+        ({"linux": {"cgroupsPath": "machine-a.slice:libpod:x"}}, None, "machine.slice/machine-a.slice/libpod-x.scope"),
+        ({"linux": {"cgroupsPath": ":cri:x"}}, None, "system.slice/cri-x.scope"),
+        ({"linux": {"cgroupsPath": 5}}, None, "numarun/c"),
+        ({"linux": {"cgroupsPath": "/a"}}, ("status", {"cgroup-path": "/b/c"}), "b/c"),
+        ({"linux": {"cgroupsPath": "/a"}}, ("state.json", {"cgroup_paths": {"": site.at("root/k/l")}}), "k/l"),
+    ]:
+        for name in os.listdir(state):
+            os.remove(os.path.join(state, name))
+        if file:
+            json.dump(file[1], open(os.path.join(state, file[0]), "w"))
+        check(f"the group of {config} {file}", tree.group("c", state, config, None), site.at("root", expected))
+    json.dump({"config": {"labels": ["x=y", "bundle=/some/where"]}}, open(os.path.join(state, "state.json"), "w"))
+    check("runc's bundle", groups.bundle_of(state), "/some/where")
+
+
+def refusals():
+    words_and_help("agent.py", "examples/agent.py examples/machines/two-socket.json")
+    refuses("agent.py", MACHINE, "--program", "no-such-program", says="no-such-program: no program (see --program)")
+    bad_files("agent.py", ["--program", STAND_IN])
+    bad_output("agent.py", *PLAIN, text="rebalance\n")
+    piped("agent.py", *PLAIN, text="rebalance\n")
     name = os.path.join(SCRATCH, "ends")
     with open(name, "w") as file:
         file.write("#!/bin/sh\nread line; echo settled; read line\n")
     os.chmod(name, 0o755)
-    refuses("agent.py", MACHINE, "--program", name, text="rebalance\n", says="ends: ended at 'begin' with no answer, status 0")
+    status, _, err = told("agent.py", MACHINE, "--program", name, text="rebalance\n")
+    check("a program that ends", (status, "ends: ended at 'begin' with no answer, status 0" in err), (1, True))
     refuses("agent.py", MACHINE, "--program", shutil.which("yes"), says=f"{MACHINE}: run ")
+    refuses("agent.py", *PLAIN, "--cgroup", "no-such-root", says="no-such-root: no folder")
+    refuses("agent.py", *PLAIN, "--slit", "no-such-table", says="refused E113 ReadFault")
+    refuses("agent.py", *PLAIN, "--watch", "no-such-folder", says="no-such-folder: No such file")
+    refuses("agent.py", *PLAIN, "--watch", EXAMPLES, "--online", "no-such-list", says="no-such-list: No such file")
+    refuses("agent.py", *PLAIN, "--watch", EXAMPLES, "--online", "README.md", says="README.md: '# numarun")
+    check("no pause", told("agent.py", *PLAIN, "--pause", "inf")[0], 2)
+    site = Site()
+    open(site.at("root/cpuset.cpus.effective"), "w").write("0-30\n")
+    refuses("agent.py", *site.words(), says="machine.json: refused E116 OtherMachine")
 
 
-printed()
-each_write_refused()
-files()
-runtime()
-watching()
-real_groups()
-ends_early()
-words_and_help("agent.py", "examples/agent.py examples/machines/two-socket.json")
-refuses("agent.py", MACHINE, "--program", "no-such-program", says="no-such-program: no program (see --program)")
-bad_files("agent.py", ["--program", PROGRAM])
-bad_output("agent.py", *words(), text="rebalance\n")
-refuses("agent.py", *words(), text="x" * 9000, says="standard input: line 1: more than 8192 bytes")
-piped("agent.py", *words(), text="rebalance\n")
-answers = told("agent.py", *words(), text=f"foo\n\ncreated x\ncreated web {WEB}\n")
-expected = ["refused: line 1: 'foo' is no event (see --help)", "refused: line 3: 'created x' is no event (see --help)", "write numarun/web/cpuset.cpus 0,16"]
-check("lines that are no events", (answers[0], answers[1].splitlines()[:3], answers[2]), (1, expected, ""))
-refuses("agent.py", *words("--apply", "no-such-root"), says="no-such-root: no folder")
-refuses("agent.py", *words("--runtime", "no-such-runtime"), text=f"created a {WEB}\n", says="no-such-runtime: No such file")
-refuses("agent.py", *words("--slit", "no-such-table"), says="two-socket.json: refused E113 ReadFault (error: no-such-table")
-refuses("agent.py", *words("--watch", "a folder"), says="'a folder': a name with a blank")
-refuses("agent.py", *words("--watch", "no-such-folder"), says="no-such-folder: No such file")
-refuses("agent.py", *words("--watch", EXAMPLES, "--online", "no-such-list"), says="no-such-list: No such file")
-refuses("agent.py", *words("--watch", EXAMPLES, "--online", "README.md"), says="README.md: '# numarun")
-check("two ways to write", told("agent.py", *words("--apply", "x", "--runtime", "y"))[0], 2)
-check("no pause", told("agent.py", *words("--pause", "inf"))[0], 2)
+for part in (plain, restart, under_its_id, refused_writes, admission, fewer, who_is_pinned, refused_sections, pool_hook, flapping, storm,
+             one_agent, told_by_lines, places, refusals):
+    if not sys.argv[1:] or part.__name__ in sys.argv[1:]:
+        part()
 end("agent.py")

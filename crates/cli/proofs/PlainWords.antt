@@ -1,5 +1,5 @@
 -- Command lines in plain words, computed.
-use Rattle.std.proofs.Common.{◌≡◌, [], ◌∷◌, Some, None, codes, bytes_eq, false, refl, rules}
+use Rattle.std.proofs.Common.{◌≡◌, [], ◌∷◌, Some, None, codes, bytes_eq, true, false, refl, rules}
 use Rattle.clap.proofs.OnLiterals.{clap_on_literals}
 use Rattle.clap.specs.Words.{Text}
 use Rattle.cli.specs.Asked.{check, list, run, slit, solve}
@@ -56,28 +56,47 @@ slit_escaped word = record { asks = refl; right = refl }
 pub slit_spelled : SlitSpellings
 slit_spelled = record { file = slit_file; escaped = slit_escaped }
 
-run_machine : (word : Text) → IsPlain word → Spells (codes "run" ∷ word ∷ []) (run word None)
+run_machine : (word : Text) → IsPlain word → Spells (codes "run" ∷ word ∷ []) (run word None None false)
 unfolding clap_on_literals
 run_machine word plain = let other = no_dashes word plain in record { asks = simp (other, plain); right = simp (other, plain) }
 
-run_escaped : (word : Text) → Spells (codes "run" ∷ codes "--" ∷ word ∷ []) (run word None)
+run_escaped : (word : Text) → Spells (codes "run" ∷ codes "--" ∷ word ∷ []) (run word None None false)
 unfolding clap_on_literals
 run_escaped word = record { asks = refl; right = refl }
 
-run_slit_behind : (word table : Text) → IsPlain word → IsPlain table → Spells (codes "run" ∷ word ∷ codes "--slit" ∷ table ∷ []) (run word (Some table))
+run_slit_behind : (word table : Text) → IsPlain word → IsPlain table → Spells (codes "run" ∷ word ∷ codes "--slit" ∷ table ∷ []) (run word (Some table) None false)
 unfolding clap_on_literals
 run_slit_behind word table plain plain' =
     let other = no_dashes word plain in let other' = no_dashes table plain' in
     record { asks = simp (other, plain, other', plain'); right = simp (other, plain, other', plain') }
 
-run_slit_before : (word table : Text) → IsPlain word → IsPlain table → Spells (codes "run" ∷ codes "--slit" ∷ table ∷ word ∷ []) (run word (Some table))
+run_slit_before : (word table : Text) → IsPlain word → IsPlain table → Spells (codes "run" ∷ codes "--slit" ∷ table ∷ word ∷ []) (run word (Some table) None false)
 unfolding clap_on_literals
 run_slit_before word table plain plain' =
     let other = no_dashes word plain in let other' = no_dashes table plain' in
     record { asks = simp (other, plain, other', plain'); right = simp (other, plain, other', plain') }
 
+run_cgroup : (word root : Text) → IsPlain word → IsPlain root → Spells (codes "run" ∷ word ∷ codes "--cgroup" ∷ root ∷ []) (run word None (Some root) false)
+unfolding clap_on_literals
+run_cgroup word root plain plain' =
+    let other = no_dashes word plain in let other' = no_dashes root plain' in
+    record { asks = simp (other, plain, other', plain'); right = simp (other, plain, other', plain') }
+
+run_adopt : (word root : Text) → IsPlain word → IsPlain root → Spells (codes "run" ∷ word ∷ codes "--cgroup" ∷ root ∷ codes "--adopt" ∷ []) (run word None (Some root) true)
+unfolding clap_on_literals
+run_adopt word root plain plain' =
+    let other = no_dashes word plain in let other' = no_dashes root plain' in
+    record { asks = simp (other, plain, other', plain'); right = simp (other, plain, other', plain') }
+
 pub run_spelled : RunSpellings
-run_spelled = record { machine = run_machine; escaped = run_escaped; slit_behind = run_slit_behind; slit_before = run_slit_before }
+run_spelled = record {
+  machine = run_machine;
+  escaped = run_escaped;
+  slit_behind = run_slit_behind;
+  slit_before = run_slit_before;
+  cgroup = run_cgroup;
+  adopt = run_adopt;
+}
 
 solve_file : (word : Text) → IsPlain word → Spells (codes "solve" ∷ word ∷ []) (solve (Some word))
 unfolding clap_on_literals

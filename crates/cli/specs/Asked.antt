@@ -1,18 +1,19 @@
 -- What the words after the program's name ask for.
 use Rattle.std.specs.Borrow.{Bor}
-use Rattle.std.specs.Prelude.{Option, Some, None, List, [], ◌∷◌, codes, bytes_eq, if◌then◌else◌, option_map, unwrap_or}
+use Rattle.std.specs.Prelude.{Bool, Option, Some, None, List, [], ◌∷◌, codes, bytes_eq, if◌then◌else◌, option_map, unwrap_or}
 use Rattle.clap.specs.Words.{Row, Text, first_of, subcommand_of}
 use Rattle.cli.specs.CommandLine.{numarun}
 use Rattle.cli.specs.declared.words.Words.{Words}
 use Rattle.cli.specs.declared.words.Words.TheVariants as words
 
 -- the check of a file, or of standard input; a list; the distance table in a file; a script over the machine of a file,
--- perhaps with a distance table in another; the solution of the problem in a file, or on standard input
+-- perhaps with a distance table in another, perhaps below the root of a cgroup tree, which may have folders already; the
+-- solution of the problem in a file, or on standard input
 pub data Asked : Type 0 where
   check : Option Text → Asked
   list : Text → Asked
   slit : Text → Asked
-  run : Text → Option Text → Asked
+  run : Text → Option Text → Option Text → Bool → Asked
   solve : Option Text → Asked
 
 -- the text of a word
@@ -24,19 +25,23 @@ abbrev pub asked : Words → Asked
 asked (words.Check file) = check (option_map word_bytes file)
 asked (words.List text) = list text.now
 asked (words.Slit file) = slit file.now
-asked (words.Run machine table) = run machine.now (option_map word_bytes table)
+asked (words.Run machine table root adopt) = run machine.now (option_map word_bytes table) (option_map word_bytes root) adopt
 asked (words.Solve file) = solve (option_map word_bytes file)
 
 -- the value of an argument that has to be given
 abbrev pub value : Text → List Row → Text
 value id rows = unwrap_or (first_of id rows) []
 
+-- whether a flag was given
+abbrev pub is_set : Text → List Row → Bool
+is_set id rows = bytes_eq (value id rows) (codes "true")
+
 -- what a subcommand of this name asks for with these values of its arguments
 abbrev pub asked_by : Text × List Row → Asked
 asked_by given =
     if bytes_eq given.0 (codes "list") then list (value (codes "text") given.1)
     else if bytes_eq given.0 (codes "slit") then slit (value (codes "file") given.1)
-    else if bytes_eq given.0 (codes "run") then run (value (codes "machine") given.1) (first_of (codes "slit") given.1)
+    else if bytes_eq given.0 (codes "run") then run (value (codes "machine") given.1) (first_of (codes "slit") given.1) (first_of (codes "cgroup") given.1) (is_set (codes "adopt") given.1)
     else if bytes_eq given.0 (codes "solve") then solve (first_of (codes "file") given.1)
     else check (first_of (codes "file") given.1)
 

@@ -1,6 +1,7 @@
 -- The command line of numarun: its subcommands and what each takes.
 use Rattle.std.specs.Prelude.{◌≡◌, List, [], ◌∷◌, Some, codes, true, false}
 use Rattle.clap.specs.Words.{App, Rule, Shape, Text, app_of, new_app, new_rule}
+use Rattle.clap.specs.declared.builder.action.ArgAction.TheVariants.{SetTrue}
 use Rattle.clap.specs.declared.builder.command.Command.{Command}
 use Rattle.clap.specs.declared.builder.command.Command.TheViews.{out-Command}
 
@@ -32,9 +33,13 @@ slit_command = command (codes "slit") (required (codes "file") ∷ [])
 abbrev pub option : Text → Rule
 option id = record (placed id) { long = Some id }
 
--- run MACHINE [--slit FILE]
+-- an option of this long name, which takes none
+abbrev pub flag : Text → Rule
+flag id = record (new_rule id) { long = Some id; action = Some SetTrue }
+
+-- run MACHINE [--slit FILE] [--cgroup ROOT] [--adopt]
 abbrev pub run_command : Shape
-run_command = command (codes "run") (required (codes "machine") ∷ option (codes "slit") ∷ [])
+run_command = command (codes "run") (required (codes "machine") ∷ option (codes "slit") ∷ option (codes "cgroup") ∷ flag (codes "adopt") ∷ [])
 
 -- solve [FILE]
 abbrev pub solve_command : Shape

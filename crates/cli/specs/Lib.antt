@@ -9,6 +9,7 @@ pub mod Named
 pub mod Notes
 pub mod Program
 pub mod Ready
+pub mod Roots
 pub mod RunAnswer
 pub mod Says
 pub mod SlitAnswer

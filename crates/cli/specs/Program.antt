@@ -1,11 +1,14 @@
 -- What the program does: which bytes go to which stream, and its exit status.
-use Rattle.std.specs.Prelude.{◌≡◌, ◌⊎◌, ℕ, List, [], Bool, true, false, Option, Some, None, Result, Ok, Err, bytes_eq, codes, unwrap_or}
+use Rattle.std.specs.Prelude.{◌≡◌, ◌⊎◌, ℕ, ◌-◌, ◌^◌, List, [], Bool, true, false, Option, Some, None, Result, Ok, Err, bytes_eq, codes, unwrap_or}
 use Rattle.std.specs.declared.io.ErrorKind.{ErrorKind as SystemKind}
 use Rattle.clap.specs.Words.{IsAmong, Text}
 use Rattle.clap.specs.declared.error.kind.ErrorKind.{ErrorKind}
 use Rattle.clap.specs.declared.error.kind.ErrorKind.TheVariants.{DisplayHelp, DisplayVersion, OutOfMemory}
+use Rattle.machine.specs.Layout.{Layout}
 use Rattle.node.specs.NodeState.{NodeState}
+use Rattle.runtime.specs.Boots.{Boots}
 use Rattle.runtime.specs.RuntimeState.{Told}
+use Rattle.script.specs.declared.running.TheConstants.{MOST_READS}
 use Rattle.script.specs.declared.script_fault.ScriptFault.{ScriptFault}
 use Rattle.cli.specs.Asked.{Asked, asked_for, check, list, run, slit, solve}
 use Rattle.cli.specs.Mistakes.{mistakes}
@@ -14,6 +17,7 @@ use Rattle.cli.specs.Notes.{note_of, shown, standard_input, unread_line, unwritt
 use Rattle.inputs.specs.Pages.{TakesIfRoom, contents_of}
 use Rattle.inputs.specs.Readings.{Reading, Reads}
 use Rattle.cli.specs.Ready.{SetsUp, refusal_of}
+use Rattle.cli.specs.Roots.{root_line, root_note}
 use Rattle.inputs.specs.RefusalLine.{refusal_line}
 use Rattle.cli.specs.RunAnswer.{Plays, is_unread}
 use Rattle.cli.specs.Says.{Complains, Says}
@@ -22,6 +26,7 @@ use Rattle.cli.specs.declared.console.Console.{Console}
 use Rattle.inputs.specs.declared.read_fault.ReadFault.{ReadFault}
 use Rattle.inputs.specs.declared.refusal.Refusal.TheVariants as refusal
 use Rattle.cli.specs.declared.unready.Unready.{Unready}
+use Rattle.cli.specs.declared.unrooted.Unrooted.{Unrooted}
 use Rattle.cli.specs.declared.unready.Unready.TheVariants as unready
 
 -- the words ask for the help or for the version
@@ -45,21 +50,37 @@ module _ {W E : Type 0} (out : W → Option (List ℕ)) (err : E → Option (Lis
 
 -- the two streams before and after, as far as their bytes are known, and the exit status
 module _ {W E : Type 0} (out : W → Option (List ℕ)) (err : E → Option (List ℕ)) (old new : Console W E) (status : ℕ) where
-  -- the script was run over the node and the bundles
-  abbrev pub Performs : NodeState → Told → Option (List ℕ) → Option (List ℕ) → Type 0
-  Performs n told script script' = (mid : Console W E) × (end : Result (Unit {0}) ScriptFault)
-      × Plays n told script script' (contents_of out old.out) (contents_of out mid.out) end × (mid.err ≡ old.err) × Finishes out err mid new status end
+  -- the script was run over the node and the bundles, by so many reads at most
+  abbrev pub Performs : ℕ → NodeState → Told → Option (List ℕ) → Option (List ℕ) → Type 0
+  Performs most n told script script' = (mid : Console W E) × (end : Result (Unit {0}) ScriptFault)
+      × Plays most n told script script' (contents_of out old.out) (contents_of out mid.out) end × (mid.err ≡ old.err) × Finishes out err mid new status end
 
   -- one of the two files is refused
   abbrev pub Refuses : Text → Option Text → Unready → Type 0
   Refuses machine table why = Says out err old new status (refusal_line (refusal_of why)) 1 (note_of (name_in machine table why) (refusal_of why))
 
+  -- there is no memory for a node
+  abbrev pub LacksRoom : Type 0
+  LacksRoom = Says out err old new status (refusal_line refusal.Memory) 1 []
+
+  -- the root is refused
+  abbrev pub RefusesRoot : Text → Unrooted → Type 0
+  RefusesRoot root why = Says out err old new status (root_line why) 1 (root_note root why)
+
   -- the files that may be opened under a name, the errors by which that may fail, and what the reading of one may answer
   module _ {I : Type 0} (opens : Text → I → Type 0) (fails : Text → SystemKind → Type 0) (gives : I → Reading → Type 0) where
-    -- the script was run over the machine of these files, or one of the files is refused
+    -- the script was run over a new node of the machine of these files, or there is no memory for it, or one of the files is refused
     abbrev pub Scripts : Told → Option (List ℕ) → Option (List ℕ) → Text → Option Text → Type 0
     Scripts told script script' machine table =
-        ((n : NodeState) × SetsUp opens fails gives machine table (Ok n) × Performs n told script script')
+        ((m : Layout) × SetsUp opens fails gives machine table (Ok m)
+        × (((n : NodeState) × Boots m n × Performs MOST_READS n told script script') ⊎ LacksRoom))
+        ⊎ ((why : Unready) × SetsUp opens fails gives machine table (Err why) × Refuses machine table why)
+
+    -- the same where its kernel writes are made below the root of a cgroup tree too: the root may be refused
+    abbrev pub Pins : Told → Option (List ℕ) → Option (List ℕ) → Text → Option Text → Text → Type 0
+    Pins told script script' machine table root =
+        ((m : Layout) × SetsUp opens fails gives machine table (Ok m)
+        × (((n : NodeState) × Boots m n × Performs (2 ^ 64 - 1) n told script script') ⊎ ((why : Unrooted) × RefusesRoot root why)))
         ⊎ ((why : Unready) × SetsUp opens fails gives machine table (Err why) × Refuses machine table why)
 
     -- what is asked for is done, over these files, and over what the reading of standard input may answer and its bytes
@@ -67,7 +88,8 @@ module _ {W E : Type 0} (out : W → Option (List ℕ)) (err : E → Option (Lis
     Does input script (check file) = Checks out err old new status (reads_named (Reads opens fails gives) input (name_of file)) (shown (name_of file))
     Does input script (list text) = Lists out err old new status text
     Does input script (slit file) = Tabulates out err old new status (reads_named (Reads opens fails gives) input file) (shown file)
-    Does input script (run machine table) = (script' : Option (List ℕ)) × Scripts None script script' machine table
+    Does input script (run machine table None adopt) = (script' : Option (List ℕ)) × Scripts None script script' machine table
+    Does input script (run machine table (Some root) adopt) = (script' : Option (List ℕ)) × Pins None script script' machine table root
     Does input script (solve file) = Solves out err old new status (reads_named (Reads opens fails gives) input (name_of file)) (shown (name_of file))
 
   -- the help or the version goes to standard output with status 0, and what a mistake is to standard error with

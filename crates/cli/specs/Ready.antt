@@ -1,10 +1,8 @@
--- What is ready before a script begins: the node of a machine file, perhaps with a distance table beside it.
+-- What is ready before a script begins: the machine of a file, perhaps with a distance table beside it.
 use Rattle.std.specs.Prelude.{◌≡◌, ◌⊎◌, ℕ, List, Option, Some, None, Result, Ok, Err}
 use Rattle.std.specs.declared.io.ErrorKind.{ErrorKind}
 use Rattle.machine.specs.Layout.{Layout}
 use Rattle.machine.specs.MachineOf.{machine_of, text_fault}
-use Rattle.node.specs.NodeState.{NodeState}
-use Rattle.runtime.specs.Boots.{Boots}
 use Rattle.slit.specs.Table.{Table}
 use Rattle.cli.specs.Answer.{AnswersInput}
 use Rattle.inputs.specs.FaultRefusal.{read_refusal}
@@ -21,10 +19,10 @@ abbrev pub refusal_of : Unready → Refusal
 refusal_of (unready.Machine why) = why
 refusal_of (unready.Slit why) = why
 
--- the node of the machine that the text describes beside the table, or what is wrong with the text; lack of memory only where
+-- the machine that the text describes beside the table, or what is wrong with the text; lack of memory only where
 -- no fault shows before it is read as JSON
-abbrev pub IsReady : Option Table → List ℕ → Result NodeState Refusal → Type 0
-IsReady table text (Ok n) = (m : Layout) × (machine_of table text ≡ Ok m) × Boots m n
+abbrev pub IsReady : Option Table → List ℕ → Result Layout Refusal → Type 0
+IsReady table text (Ok m) = machine_of table text ≡ Ok m
 IsReady table text (Err (refusal.Machine fault)) = machine_of table text ≡ Err fault
 IsReady table text (Err refusal.Memory) = text_fault text ≡ None
 IsReady table text (Err _) = ⊥
@@ -42,16 +40,16 @@ module _ {I : Type 0} (gives : I → Reading → Type 0) where
   IsBadTable (Some input) why = AnswersInput IsTableOrRefusal (gives input) (Err why)
 
   -- the machine file was read, and then the table
-  abbrev pub LeadsTo : I → Option I → Result NodeState Refusal → Type 0
+  abbrev pub LeadsTo : I → Option I → Result Layout Refusal → Type 0
   LeadsTo machine table answer = (text : List ℕ) × gives machine (Ok text) × ((found : Option Table) × IsTableIn table found × IsReady found text answer)
 
   -- the machine file can't be read
   abbrev pub IsUnread : I → Refusal → Type 0
   IsUnread machine why = (e : OrMemory ReadFault) × gives machine (Err e) × (why ≡ read_refusal e)
 
-  -- the node that the two lead to; or, in this order, the machine file can't be read, the table is refused, or the machine is
-  abbrev pub Readies : I → Option I → Result NodeState Unready → Type 0
-  Readies machine table (Ok n) = LeadsTo machine table (Ok n)
+  -- the machine that the two lead to; or, in this order, the machine file can't be read, the table is refused, or the machine is
+  abbrev pub Readies : I → Option I → Result Layout Unready → Type 0
+  Readies machine table (Ok m) = LeadsTo machine table (Ok m)
   Readies machine table (Err (unready.Slit why)) = ((text : List ℕ) × gives machine (Ok text)) × IsBadTable table why
   Readies machine table (Err (unready.Machine why)) = IsUnread machine why ⊎ LeadsTo machine table (Err why)
 
@@ -62,14 +60,14 @@ module _ {S I : Type 0} (opens : S → I → Type 0) (fails : S → ErrorKind �
   IsClosed name why = (fault : ReadFault) × IsUnopened opens fails gives name fault × (why ≡ refusal.ReadFault fault)
 
   -- the machine file is open, and so is the table's, if there is one; or that can't be opened
-  abbrev pub SetsUpBeside : I → Option S → Result NodeState Unready → Type 0
+  abbrev pub SetsUpBeside : I → Option S → Result Layout Unready → Type 0
   SetsUpBeside machine None result = Readies gives machine None result
   SetsUpBeside machine (Some name) result =
       ((table : I) × opens name table × Readies gives machine (Some table) result)
       ⊎ ((why : Refusal) × IsClosed name why × (result ≡ Err (unready.Slit why)))
 
   -- both files are opened, the machine's first, and then read
-  abbrev pub SetsUp : S → Option S → Result NodeState Unready → Type 0
+  abbrev pub SetsUp : S → Option S → Result Layout Unready → Type 0
   SetsUp name table result =
       ((machine : I) × opens name machine × SetsUpBeside machine table result)
       ⊎ ((why : Refusal) × IsClosed name why × (result ≡ Err (unready.Machine why)))

@@ -16,7 +16,7 @@ is_unread (fault.Read kind) why = (told : ReadFault) × IsTold kind told × (why
 is_unread fault.TooManyReads why = why ≡ Some TooManyReads
 is_unread fault.Write why = why ≡ None
 
--- the script is run over the node and the bundles, from its first line on, until this end
-abbrev pub Plays : NodeState → Told → Option (List ℕ) → Option (List ℕ) → Option (List ℕ) → Option (List ℕ) → Result (Unit {0}) ScriptFault → Type 0
-Plays n told read read' out out' end =
-    (final : RuntimeState) × EndsBy Answered read read' out out' (record { node = n; told = told }) end final
+-- the script is run over the node and the bundles, from its first line on, by so many reads at most, until this end
+abbrev pub Plays : ℕ → NodeState → Told → Option (List ℕ) → Option (List ℕ) → Option (List ℕ) → Option (List ℕ) → Result (Unit {0}) ScriptFault → Type 0
+Plays most n told read read' out out' end =
+    (final : RuntimeState) × EndsBy most Answered read read' out out' (record { node = n; told = told }) end final

@@ -1,5 +1,5 @@
 -- Command lines in plain words, and what each asks for.
-use Rattle.std.specs.Prelude.{◌≡◌, List, [], ◌∷◌, Some, None, codes}
+use Rattle.std.specs.Prelude.{◌≡◌, List, [], ◌∷◌, Some, None, codes, true, false}
 use Rattle.clap.specs.Lexer.{strip_byte}
 use Rattle.clap.specs.Words.{Text}
 use Rattle.cli.specs.Asked.{Asked, asked_for, check, list, run, slit, solve}
@@ -32,12 +32,15 @@ pub record SlitSpellings : Type 0 where
   pub file : (word : Text) → IsPlain word → Spells (codes "slit" ∷ word ∷ []) (slit word)
   pub escaped : (word : Text) → Spells (codes "slit" ∷ codes "--" ∷ word ∷ []) (slit word)
 
--- numarun run MACHINE; and with --slit FILE, behind the machine or before it
+-- numarun run MACHINE; with --slit FILE, behind the machine or before it; and with --cgroup ROOT behind it, and --adopt
 pub record RunSpellings : Type 0 where
-  pub machine : (word : Text) → IsPlain word → Spells (codes "run" ∷ word ∷ []) (run word None)
-  pub escaped : (word : Text) → Spells (codes "run" ∷ codes "--" ∷ word ∷ []) (run word None)
-  pub slit_behind : (word table : Text) → IsPlain word → IsPlain table → Spells (codes "run" ∷ word ∷ codes "--slit" ∷ table ∷ []) (run word (Some table))
-  pub slit_before : (word table : Text) → IsPlain word → IsPlain table → Spells (codes "run" ∷ codes "--slit" ∷ table ∷ word ∷ []) (run word (Some table))
+  pub machine : (word : Text) → IsPlain word → Spells (codes "run" ∷ word ∷ []) (run word None None false)
+  pub escaped : (word : Text) → Spells (codes "run" ∷ codes "--" ∷ word ∷ []) (run word None None false)
+  pub slit_behind : (word table : Text) → IsPlain word → IsPlain table → Spells (codes "run" ∷ word ∷ codes "--slit" ∷ table ∷ []) (run word (Some table) None false)
+  pub slit_before : (word table : Text) → IsPlain word → IsPlain table → Spells (codes "run" ∷ codes "--slit" ∷ table ∷ word ∷ []) (run word (Some table) None false)
+  pub cgroup : (word root : Text) → IsPlain word → IsPlain root → Spells (codes "run" ∷ word ∷ codes "--cgroup" ∷ root ∷ []) (run word None (Some root) false)
+  pub adopt : (word root : Text) → IsPlain word → IsPlain root
+      → Spells (codes "run" ∷ word ∷ codes "--cgroup" ∷ root ∷ codes "--adopt" ∷ []) (run word None (Some root) true)
 
 -- numarun solve; numarun solve FILE; and behind `--` any word is a file
 pub record SolveSpellings : Type 0 where

@@ -7,6 +7,7 @@ use crate::console::{Console, MISUSED, REFUSED, print_then_note};
 use crate::opens::Opens;
 use crate::program::run_program;
 use crate::words::Grammar;
+use cgroup_tree::GroupTrees;
 use inputs::{Input, Refusal};
 use std::alloc::Global;
 use std::io;
@@ -17,7 +18,7 @@ const NO_TEXT: &str = "error: the words of the command line are not UTF-8\n";
 /// Runs the program on its arguments, of which the first is its name; the exit status.
 ///
 /// The status is 1 where there is no memory for the words, and 2 where they are no text; beyond that see [`run_program`].
-pub fn start<G: Grammar, F: Opens, R: Read + Input, W: Write, E: Write>(
+pub fn start<G: Grammar, F: Opens + GroupTrees, R: Read + Input, W: Write, E: Write>(
     alloc: Global,
     grammar: &G,
     arguments: io::Result<Vec<String>>,

@@ -2,10 +2,10 @@
 ghost use Rattle.std.specs.Prelude.{◌≡◌, ◌⊎◌, ⊤, IfOk, codes, false};
 ghost use Rattle.clap.specs.Words.{IsAmong, app_of, fault_of, rule_of};
 ghost use Rattle.clap.specs.declared.error.kind.ErrorKind.TheVariants.{OutOfMemory};
-ghost use Rattle.cli.specs.CommandLine.{IsLeaf, bare, check_command, list_command, numarun, option, required, run_command, slit_command, solve_command};
+ghost use Rattle.cli.specs.CommandLine.{IsLeaf, bare, check_command, flag, list_command, numarun, option, required, run_command, slit_command, solve_command};
 
 use crate::words::Grammar;
-use clap::{Arg, ArgMatches, Command, Error};
+use clap::{Arg, ArgAction, ArgMatches, Command, Error};
 use std::alloc::{AllocError, Global};
 
 const VERSION: &str = "1.0.0";
@@ -42,10 +42,10 @@ const SLIT_HELP: &str =
 const RUN_HELP: &str =
     "Prints an answer to each line, a refusal too, before the next line is read. A bundle is a folder with\n\
     a config.json.\n\n\
-    Exit status: 0 if the script was read to its end; 1 if MACHINE or FILE is refused, if an input can't\n\
-    be read, if memory is short for the machine, or if an answer can't be written; 2 if the words are no\n\
-    command line, or if memory is short while they are parsed.\n\n\
-    Formats: docs/formats.md, \"Scripts\" and \"The machine file\".\n\n\
+    Exit status: 0 if the script was read to its end; 1 if MACHINE, FILE or ROOT is refused, if an input\n\
+    can't be read, if memory is short for the machine, or if an answer can't be written; 2 if the words\n\
+    are no command line, or if memory is short while they are parsed.\n\n\
+    Formats: docs/formats.md, \"Scripts\", \"The machine file\" and \"In a cgroup tree\".\n\n\
     Example: numarun run examples/machines/two-socket.json < examples/scripts/two-containers";
 
 const SOLVE_HELP: &str =
@@ -117,15 +117,37 @@ fn table<'a>(alloc: Global) -> Arg<'a>
     )
 }
 
+fn cgroup<'a>(alloc: Global) -> Arg<'a>
+    ensures rule { rule_of result ≡ option (codes "cgroup") }
+    ensures local { result.global ≡ false }
+{
+    Arg::new(alloc, "cgroup")
+        .long("cgroup")
+        .value_name("ROOT")
+        .help("Make each kernel write below this cgroup v2 folder too")
+}
+
+fn adopt<'a>(alloc: Global) -> Arg<'a>
+    ensures rule { rule_of result ≡ flag (codes "adopt") }
+    ensures local { result.global ≡ false }
+{
+    Arg::new(alloc, "adopt")
+        .long("adopt")
+        .action(ArgAction::SetTrue)
+        .help("With --cgroup: ROOT/numarun may be there already")
+}
+
 fn run<'a>(alloc: Global) -> Result<Command<'a>, AllocError>
     ensures { IfOk result (IsLeaf run_command) }
 {
     Command::new(alloc, "run")
         .about("Run the commands on standard input over a machine")
-        .override_usage("numarun run MACHINE [--slit FILE]")
+        .override_usage("numarun run MACHINE [--slit FILE] [--cgroup ROOT [--adopt]]")
         .after_help(RUN_HELP)
         .arg(machine(alloc))?
-        .arg(table(alloc))
+        .arg(table(alloc))?
+        .arg(cgroup(alloc))?
+        .arg(adopt(alloc))
 }
 
 fn solve<'a>(alloc: Global) -> Result<Command<'a>, AllocError>

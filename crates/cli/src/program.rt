@@ -1,7 +1,7 @@
 //! The program: words, files and streams in, answers and an exit status out.
 ghost use Rattle.std.specs.Prelude.{◌≡◌, map, option_map, string_bytes};
 ghost use Rattle.clap.specs.Words.{kind_of};
-ghost use Rattle.cli.specs.Asked.{asked};
+ghost use Rattle.cli.specs.Asked.{asked, run, word_bytes};
 ghost use Rattle.cli.specs.Program.{Does, ExplainsOrLacks, Runs};
 
 use crate::check::check_named;
@@ -10,9 +10,11 @@ use crate::distances::slit_named;
 use crate::folders::Folders;
 use crate::list::do_list;
 use crate::opens::Opens;
+use crate::pinning::{Root, do_pin};
 use crate::run::do_run;
 use crate::solve::solve_named;
 use crate::words::{Grammar, Words, parse};
+use cgroup_tree::GroupTrees;
 use clap::Error;
 use faults::OrMemory;
 use inputs::{Input, Refusal};
@@ -22,7 +24,7 @@ use std::io::{Read, Write};
 /// Does what the words of the command line ask for, over these files and standard streams, and tells the exit status:
 /// 0; 1 where an input is refused, memory is short or the answer can't be written; 2 where the words are no command line,
 /// or memory is short while they are parsed or while the help or a mistake is put into words.
-pub fn run_program<G: Grammar, F: Opens, R: Read + Input, W: Write, E: Write>(
+pub fn run_program<G: Grammar, F: Opens + GroupTrees, R: Read + Input, W: Write, E: Write>(
     alloc: Global,
     grammar: &G,
     words: &[String],
@@ -41,7 +43,7 @@ pub fn run_program<G: Grammar, F: Opens, R: Read + Input, W: Write, E: Write>(
     }
 }
 
-fn dispatch<F: Opens, R: Read + Input, W: Write, E: Write>(
+fn dispatch<F: Opens + GroupTrees, R: Read + Input, W: Write, E: Write>(
     alloc: Global,
     words: Words<'_>,
     files: &F,
@@ -55,12 +57,48 @@ fn dispatch<F: Opens, R: Read + Input, W: Write, E: Write>(
         Words::Check { file } => check_named(alloc, file.unwrap_or("-"), files, input, console),
         Words::List { text } => do_list(text, console),
         Words::Slit { file } => slit_named(alloc, file, files, input, console),
-        Words::Run { machine, slit } => {
-            let mut script = input;
-            let bundles = Folders::new(alloc, files);
-            do_run(alloc, machine, slit, files, bundles, &mut script, console)
-        }
+        Words::Run {
+            machine,
+            slit,
+            cgroup,
+            adopt,
+        } => run_in(alloc, machine, slit, cgroup, adopt, files, input, console),
         Words::Solve { file } => solve_named(alloc, file.unwrap_or("-"), files, input, console),
+    }
+}
+
+/// Runs the script on standard input over a machine, in the cgroup tree below a root if one is named.
+fn run_in<F: Opens + GroupTrees, R: Read + Input, W: Write, E: Write>(
+    alloc: Global,
+    machine: &str,
+    table: Option<&str>,
+    root: Option<&str>,
+    adopt: bool,
+    files: &F,
+    input: R,
+    console: &mut Console<W, E>,
+) -> u8
+    ensures { Does W.contents E.contents console.old console.new result (F.opens files.now) (F.fails files.now) F.File.gives
+        (R.Input.gives input) (R.Read.remaining input)
+        (run machine.now (option_map word_bytes table.entry) (option_map word_bytes root.entry) adopt) }
+{
+    let mut script = input;
+    let bundles = Folders::new(alloc, files);
+    match root {
+        None => do_run(alloc, machine, table, files, bundles, &mut script, console),
+        Some(path) => {
+            let root = Root { path, adopt };
+            do_pin(
+                alloc,
+                machine,
+                table,
+                root,
+                files,
+                bundles,
+                &mut script,
+                console,
+            )
+        }
     }
 }
 

@@ -1,6 +1,6 @@
 //! `numarun run`.
 ghost use Rattle.std.specs.Prelude.{◌≡◌, IfErr, IfOk, option_map};
-ghost use Rattle.cli.specs.Program.{Finishes, Scripts, name_in};
+ghost use Rattle.cli.specs.Program.{Finishes, Refuses, Scripts, name_in};
 ghost use Rattle.cli.specs.Ready.{IsBadTable, IsReady, IsTableIn, Readies, SetsUp};
 ghost use Rattle.cli.specs.RunAnswer.{Plays, is_unread};
 
@@ -10,11 +10,11 @@ use crate::note::{Note, STANDARD_INPUT};
 use crate::opens::Opens;
 use crate::unready::Unready;
 use inputs::{Input, ReadFault, Refusal};
-use kernel_model::ModelKernel;
+use kernel_model::Kernel;
 use machine::Machine;
 use node::Node;
 use runtime::{Bundles, Runner, boot};
-use script::{ScriptFault, run_script};
+use script::{MOST_READS, ScriptFault, run_script_within};
 use slit::Slit;
 use std::alloc::{AllocError, Global};
 use std::io::{Read, Write};
@@ -37,16 +37,29 @@ pub fn do_run<F: Opens, B: Bundles + Drop, R: Read, W: Write, E: Write>(
         machine.now (option_map (λ name. name.now) table.entry) }
 {
     match set_up(alloc, machine, table, files) {
-        Ok(node) => {
-            let end = play(node, bundles, script, &mut console.out);
-            finish(end, console)
-        }
-        Err(unready) => {
-            let refusal = unready.refusal();
-            let note = Note::beside(refusal, name_in(machine, table, unready));
-            print_then_note(&refusal, REFUSED, &note, console)
-        }
+        Ok(found) => match boot(alloc, found) {
+            Ok(node) => {
+                let end = play(node, bundles, script, &mut console.out, MOST_READS as u64);
+                finish(end, console)
+            }
+            Err(AllocError) => print_then_note(&Refusal::Memory, REFUSED, &None, console),
+        },
+        Err(unready) => refuse(machine, table, unready, console),
     }
+}
+
+/// Says why one of the two files is refused.
+pub fn refuse<W: Write, E: Write>(
+    machine: &str,
+    table: Option<&str>,
+    unready: Unready,
+    console: &mut Console<W, E>,
+) -> u8
+    ensures { Refuses W.contents E.contents console.old console.new result machine.now (option_map (λ name. name.now) table.entry) unready }
+{
+    let refusal = unready.refusal();
+    let note = Note::beside(refusal, name_in(machine, table, unready));
+    print_then_note(&refusal, REFUSED, &note, console)
 }
 
 /// The name of the file that is refused.
@@ -59,13 +72,13 @@ fn name_in<'a>(machine: &'a str, table: Option<&'a str>, unready: Unready) -> &'
     }
 }
 
-/// The node of the machine in this file, with the distances in that one if it is named. Both are opened first.
-fn set_up<F: Opens>(
+/// The machine in this file, with the distances in that one if it is named. Both are opened first.
+pub fn set_up<F: Opens>(
     alloc: Global,
     machine: &str,
     table: Option<&str>,
     files: &F,
-) -> Result<Node<ModelKernel>, Unready>
+) -> Result<Machine, Unready>
     ensures { SetsUp (F.opens files.now) (F.fails files.now) F.File.gives machine.now
         (option_map (λ name. name.now) table.entry) result }
 {
@@ -82,12 +95,8 @@ fn set_up<F: Opens>(
     }
 }
 
-/// The node of the machine in an open input, with the distances in the other one if it is there.
-fn ready<I: Input>(
-    alloc: Global,
-    machine: I,
-    table: Option<I>,
-) -> Result<Node<ModelKernel>, Unready>
+/// The machine in an open input, with the distances in the other one if it is there.
+fn ready<I: Input>(alloc: Global, machine: I, table: Option<I>) -> Result<Machine, Unready>
     ensures { Readies I.gives machine table result }
 {
     let text = match machine.read_whole(alloc) {
@@ -98,8 +107,8 @@ fn ready<I: Input>(
         Ok(table) => table,
         Err(refusal) => return Err(Unready::Slit(refusal)),
     };
-    match start_up(alloc, text.as_slice(), table.as_ref()) {
-        Ok(node) => Ok(node),
+    match described(alloc, text.as_slice(), table.as_ref()) {
+        Ok(machine) => Ok(machine),
         Err(refusal) => Err(Unready::Machine(refusal)),
     }
 }
@@ -115,32 +124,29 @@ fn table_in<I: Input>(alloc: Global, table: Option<I>) -> Result<Option<Slit>, R
     }
 }
 
-/// The node of the machine that a text describes, with a table beside it or without.
-fn start_up(alloc: Global, text: &[u8], table: Option<&Slit>) -> Result<Node<ModelKernel>, Refusal>
+/// The machine that a text describes, with a table beside it or without.
+fn described(alloc: Global, text: &[u8], table: Option<&Slit>) -> Result<Machine, Refusal>
     ensures { IsReady (option_map (λ t. t.now) table.entry) text.now result }
 {
-    let machine = Machine::read(alloc, text, table)?;
-    match boot(alloc, machine) {
-        Ok(node) => Ok(node),
-        Err(AllocError) => Err(Refusal::Memory),
-    }
+    Ok(Machine::read(alloc, text, table)?)
 }
 
-/// Runs the script that the reader has left over a node and bundles, and writes its answers.
-fn play<B: Bundles + Drop, R: Read, W: Write>(
-    node: Node<ModelKernel>,
+/// Runs the script that the reader has left over a node and bundles, by so many reads at most, and writes its answers.
+pub fn play<K: Kernel + Drop, B: Bundles + Drop, R: Read, W: Write>(
+    node: Node<K>,
     bundles: B,
     script: &mut R,
     w: &mut W,
+    most_reads: u64,
 ) -> Result<(), ScriptFault>
-    ensures { Plays node (B.told bundles) (R.remaining script.old) (R.remaining script.new) (W.contents w.old) (W.contents w.new) result }
+    ensures { Plays most_reads node (B.told bundles) (R.remaining script.old) (R.remaining script.new) (W.contents w.old) (W.contents w.new) result }
 {
     let mut runner = Runner::new(node, bundles);
-    run_script(&mut runner, script, w)
+    run_script_within(&mut runner, script, w, most_reads)
 }
 
 /// Ends a script: says why it could not be read to its end, or why its answers could not be written.
-fn finish<W: Write, E: Write>(end: Result<(), ScriptFault>, console: &mut Console<W, E>) -> u8
+pub fn finish<W: Write, E: Write>(end: Result<(), ScriptFault>, console: &mut Console<W, E>) -> u8
     ensures { Finishes W.contents E.contents console.old console.new result end }
 {
     let Err(fault) = end else {

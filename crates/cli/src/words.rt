@@ -1,7 +1,7 @@
 ghost use Rattle.std.specs.Prelude.{◌≡◌, ℕ, List, [], IfOk, IfErr, OnErr, OnOk, map, option_map, string_bytes};
 ghost use Rattle.clap.specs.Words.{FailsBy, fault_of, first_of, found_of, kind_of, rows_of, subcommand_of, subcommand_rows_of};
 ghost use Rattle.clap.specs.declared.error.kind.ErrorKind.{ErrorKind};
-ghost use Rattle.cli.specs.Asked.{asked, asked_by, asked_for, asked_in, value};
+ghost use Rattle.cli.specs.Asked.{asked, asked_by, asked_for, asked_in, is_set, value};
 ghost use Rattle.cli.specs.CommandLine.{numarun};
 ghost use Rattle.cli.specs.Mistakes.{HasCause, mistakes, IsFaultOf};
 
@@ -49,10 +49,13 @@ pub enum Words<'a> {
     Slit {
         file: &'a str,
     },
-    /// Run the script on standard input over the machine of a file, its distances perhaps in a table of their own.
+    /// Run the script on standard input over the machine of a file, its distances perhaps in a table of their own; perhaps
+    /// below the root of a cgroup tree, which may have folders of a run before.
     Run {
         machine: &'a str,
         slit: Option<&'a str>,
+        cgroup: Option<&'a str>,
+        adopt: bool,
     },
     /// Solve the problem in the file, or where there is none the one on standard input.
     Solve {
@@ -113,6 +116,8 @@ fn asked_by<'a>(name: &str, given: &ArgMatches<'a>) -> Words<'a>
         "run" => Words::Run {
             machine: value(given, "machine"),
             slit: text(given, "slit"),
+            cgroup: text(given, "cgroup"),
+            adopt: is_set(given, "adopt"),
         },
         "solve" => Words::Solve {
             file: text(given, "file"),
@@ -128,6 +133,13 @@ fn value<'a>(given: &ArgMatches<'a>, id: &str) -> &'a str
     ensures { result.now ≡ value id.now (rows_of (found_of given.now)) }
 {
     given.get_str(id).unwrap_or("")
+}
+
+/// Whether a flag was given.
+fn is_set(given: &ArgMatches<'_>, id: &str) -> bool
+    ensures { result ≡ is_set id.now (rows_of (found_of given.now)) }
+{
+    value(given, id) == "true"
 }
 
 /// The value of an argument, if it was given.

@@ -11,7 +11,7 @@ use Rattle.script.specs.Ends.{Ends, EndsUnread, EndsUnwritten, IsGivenBy, SendsP
 use Rattle.script.specs.Lines.{is_feed, kept, lines_of, with_piece}
 use Rattle.script.specs.Runs.{AnswersLine, Runs}
 use Rattle.script.specs.Underway.{Extends, Feeds, StopsIn, Underway}
-use Rattle.script.specs.declared.running.TheConstants.{MOST_READS, PIECE}
+use Rattle.script.specs.declared.running.TheConstants.{PIECE}
 use Rattle.script.proofs.Feeds.{HasFeed, HasNoFeed}
 
 -- a line with a piece behind it
@@ -220,10 +220,10 @@ module _ {S : Type 0} (Answers : S → Asked → List ℕ → S → Type 0) wher
       subst (λ ls. Runs Answers old ls (text ++ more) newer) (sym (lines-left old new input text held u))
       (Runs-more old new newer u.lines u.rest text more u.run (let P : Option (List ℕ) → Type 0 = λ h. AnswersLine Answers new h more newer in subst P u.held_is answered))
 
-  pub IsRunning-ends : (read read' read'' out out' out'' : Option (List ℕ)) (reads : ℕ) (old new newer : S) (held : Option (List ℕ)) (more : List ℕ)
-      → reads < MOST_READS → IsRunning read read' out out' reads old new held → Consumes read' read'' [] × IsAtEnd read'' → AnswersLine Answers new held more newer → Appends out' out'' more
-      → Ends Answers read read'' out out'' old newer
-  IsRunning-ends read read' read'' out out' out'' reads old new newer held more few r (taken, ended) answered written = record {
+  pub IsRunning-ends : (most : ℕ) (read read' read'' out out' out'' : Option (List ℕ)) (reads : ℕ) (old new newer : S) (held : Option (List ℕ)) (more : List ℕ)
+      → reads < most → IsRunning read read' out out' reads old new held → Consumes read' read'' [] × IsAtEnd read'' → AnswersLine Answers new held more newer → Appends out' out'' more
+      → Ends most Answers read read'' out out'' old newer
+  IsRunning-ends most read read' read'' out out' out'' reads old new newer held more few r (taken, ended) answered written = record {
     input = r.input;
     text = r.text ++ more;
     reads = reads;
@@ -235,10 +235,10 @@ module _ {S : Type 0} (Answers : S → Asked → List ℕ → S → Type 0) wher
     went_out = Appends-trans out out' out'' r.text more r.went_out written;
   }
 
-  pub IsRunning-end_unwritten : (read read' read'' out out' out'' : Option (List ℕ)) (reads : ℕ) (old new newer : S) (held : Option (List ℕ)) (more : List ℕ)
-      → reads < MOST_READS → IsRunning read read' out out' reads old new held → Consumes read' read'' [] × IsAtEnd read'' → AnswersLine Answers new held more newer → SendsPart out' out'' more
-      → EndsUnwritten Answers read read'' out out'' old newer
-  IsRunning-end_unwritten read read' read'' out out' out'' reads old new newer held more few r (taken, ended) answered part = record {
+  pub IsRunning-end_unwritten : (most : ℕ) (read read' read'' out out' out'' : Option (List ℕ)) (reads : ℕ) (old new newer : S) (held : Option (List ℕ)) (more : List ℕ)
+      → reads < most → IsRunning read read' out out' reads old new held → Consumes read' read'' [] × IsAtEnd read'' → AnswersLine Answers new held more newer → SendsPart out' out'' more
+      → EndsUnwritten most Answers read read'' out out'' old newer
+  IsRunning-end_unwritten most read read' read'' out out' out'' reads old new newer held more few r (taken, ended) answered part = record {
     input = r.input;
     before = r.underway.lines;
     line = r.underway.rest;
@@ -257,9 +257,9 @@ module _ {S : Type 0} (Answers : S → Asked → List ℕ → S → Type 0) wher
     written = record { mid = out'; went_out = r.went_out; part = part };
   }
 
-  pub IsRunning-unwritten : (read read' read'' out out' out'' : Option (List ℕ)) (reads : ℕ) (old new newer : S) (held : Option (List ℕ)) (piece : List ℕ)
-      → reads < MOST_READS → (r : IsRunning read read' out out' reads old new held) → IsGivenBy (reads + 1) (r.input ++ piece) → Consumes read' read'' piece → StopsIn Answers out' out'' piece new held newer → EndsUnwritten Answers read read'' out out'' old newer
-  IsRunning-unwritten read read' read'' out out' out'' reads old new newer held piece few r given taken s =
+  pub IsRunning-unwritten : (most : ℕ) (read read' read'' out out' out'' : Option (List ℕ)) (reads : ℕ) (old new newer : S) (held : Option (List ℕ)) (piece : List ℕ)
+      → reads < most → (r : IsRunning read read' out out' reads old new held) → IsGivenBy (reads + 1) (r.input ++ piece) → Consumes read' read'' piece → StopsIn Answers out' out'' piece new held newer → EndsUnwritten most Answers read read'' out out'' old newer
+  IsRunning-unwritten most read read' read'' out out' out'' reads old new newer held piece few r given taken s =
       let u : Underway Answers old (r.input ++ s.fed) (r.text ++ s.text) s.last s.line = s.extends old r.input r.text r.underway in
       record {
         input = r.input ++ piece;

@@ -4,7 +4,7 @@ use Rattle.std.specs.Io.KnownBytes.{Appends, Consumes, IsAtEnd}
 use Rattle.script.specs.Commands.{Asked}
 use Rattle.script.specs.Lines.{kept, lines_of}
 use Rattle.script.specs.Runs.{AnswersLine, Runs}
-use Rattle.script.specs.declared.running.TheConstants.{MOST_READS, PIECE}
+use Rattle.script.specs.declared.running.TheConstants.{PIECE}
 use Rattle.script.specs.declared.script_fault.ScriptFault.{ScriptFault}
 use Rattle.script.specs.declared.script_fault.ScriptFault.TheVariants.{Read, TooManyReads, Write}
 
@@ -37,11 +37,11 @@ abbrev pub IsGivenBy : ℕ → List ℕ → Type 0
 IsGivenBy reads input = (reads ≤ length input) × (length input ≤ reads * PIECE)
 
 -- the whole input was read, by fewer reads than are made at most, as one more met the end; and each of its lines was answered
-pub record Ends {S : Type 0} (Answers : S → Asked → List ℕ → S → Type 0) (read read' out out' : Option (List ℕ)) (old new : S) : Type 0 where
+pub record Ends {S : Type 0} (most : ℕ) (Answers : S → Asked → List ℕ → S → Type 0) (read read' out out' : Option (List ℕ)) (old new : S) : Type 0 where
   pub input : List ℕ
   pub text : List ℕ
   pub reads : ℕ
-  pub few : reads < MOST_READS
+  pub few : reads < most
   pub given : IsGivenBy reads input
   pub taken : Consumes read read' input
   pub ended : IsAtEnd read'
@@ -62,7 +62,7 @@ pub record EndsUnread {S : Type 0} (Answers : S → Asked → List ℕ → S →
 
 -- all lines before one were answered; that one was run, as the last of the input only where it ended, and of its answer a front went out;
 -- and no more reads gave the input than are made at most
-pub record EndsUnwritten {S : Type 0} (Answers : S → Asked → List ℕ → S → Type 0) (read read' out out' : Option (List ℕ)) (old new : S) : Type 0 where
+pub record EndsUnwritten {S : Type 0} (most : ℕ) (Answers : S → Asked → List ℕ → S → Type 0) (read read' out out' : Option (List ℕ)) (old new : S) : Type 0 where
   pub input : List ℕ
   pub before : List (List ℕ)
   pub line : List ℕ
@@ -71,7 +71,7 @@ pub record EndsUnwritten {S : Type 0} (Answers : S → Asked → List ℕ → S 
   pub answer : List ℕ
   pub mid : S
   pub reads : ℕ
-  pub few : reads ≤ MOST_READS
+  pub few : reads ≤ most
   pub given : IsGivenBy reads input
   pub taken : Consumes read read' input
   pub cut : lines_of input ≡ before ++ line ∷ others
@@ -80,9 +80,9 @@ pub record EndsUnwritten {S : Type 0} (Answers : S → Asked → List ℕ → S 
   pub answered : AnswersLine Answers mid (kept line) answer new
   pub written : SendsLast out out' text answer
 
--- the whole script was run, a read failed before the last one that is made, as many as are made all gave bytes, or a write failed
-abbrev pub EndsBy : {S : Type 0} → (S → Asked → List ℕ → S → Type 0) → Option (List ℕ) → Option (List ℕ) → Option (List ℕ) → Option (List ℕ) → S → Result (Unit {0}) ScriptFault → S → Type 0
-EndsBy Answers read read' out out' old (Ok done) new = Ends Answers read read' out out' old new
-EndsBy Answers read read' out out' old (Err (Read kind)) new = (reads : ℕ) × (reads < MOST_READS) × EndsUnread Answers read read' out out' reads old new
-EndsBy Answers read read' out out' old (Err TooManyReads) new = EndsUnread Answers read read' out out' MOST_READS old new
-EndsBy Answers read read' out out' old (Err Write) new = EndsUnwritten Answers read read' out out' old new
+-- at most so many reads are made: the whole script was run, a read failed before the last one that is made, as many as are made all gave bytes, or a write failed
+abbrev pub EndsBy : {S : Type 0} → ℕ → (S → Asked → List ℕ → S → Type 0) → Option (List ℕ) → Option (List ℕ) → Option (List ℕ) → Option (List ℕ) → S → Result (Unit {0}) ScriptFault → S → Type 0
+EndsBy most Answers read read' out out' old (Ok done) new = Ends most Answers read read' out out' old new
+EndsBy most Answers read read' out out' old (Err (Read kind)) new = (reads : ℕ) × (reads < most) × EndsUnread Answers read read' out out' reads old new
+EndsBy most Answers read read' out out' old (Err TooManyReads) new = EndsUnread Answers read read' out out' most old new
+EndsBy most Answers read read' out out' old (Err Write) new = EndsUnwritten most Answers read read' out out' old new

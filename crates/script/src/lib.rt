@@ -14,6 +14,6 @@ mod word;
 pub use command::{Command, Request};
 pub use line_buffer::MOST_LINE_BYTES;
 pub use request::read_request;
-pub use running::{MOST_READS, run_script};
+pub use running::{MOST_READS, run_script, run_script_within};
 pub use script_fault::ScriptFault;
 pub use target::Target;

@@ -1,5 +1,6 @@
 //! The run of a script.
 ghost use Rattle.script.specs.Ends.{EndsBy, Replies, WritesPart};
+ghost use Rattle.script.specs.declared.running.TheConstants.{MOST_READS};
 ghost use Rattle.script.specs.Runs.{AnswersLine, AnswersRequest};
 ghost use Rattle.script.specs.Requests.{wanted};
 ghost use Rattle.script.specs.Underway.{FeedsBy};
@@ -14,32 +15,49 @@ use memchr::memchr;
 use std::io;
 use std::io::{Read, Write};
 
-/// The most reads that a script is given to come to its end.
+/// The most reads that a script is given to come to its end, where nothing else is asked for.
 pub const MOST_READS: u32 = 1_000_000;
 
 /// The most bytes that are asked for at once.
 pub(crate) const PIECE: usize = 8192;
 
-/// Runs a script over the target: the reader's lines are carried out one after another, and answered to the writer.
-/// Bytes are read as they come, and the writer is flushed behind each answer. It takes no memory of its own.
-///
-/// A line feed ends a line. What follows the last one is a line too, where the input ends there.
+/// Runs a script over the target, by [`MOST_READS`] reads at most, as [`run_script_within`] does.
 ///
 /// # Errors
-/// `Read` where a read fails and `TooManyReads` where [`MOST_READS`] reads haven't come to the end: each line that ended
-/// was answered. `Write` where a write fails or takes no byte: a prefix of the answers went out, and the target is as
-/// after the command whose answer was being written.
+/// As there.
 pub fn run_script<T: Target, R: Read, W: Write>(
     target: &mut T,
     reader: &mut R,
     writer: &mut W,
 ) -> Result<(), ScriptFault>
-    ensures { EndsBy T.answers (R.remaining reader.old) (R.remaining reader.new) (W.contents writer.old) (W.contents writer.new)
+    ensures { EndsBy MOST_READS T.answers (R.remaining reader.old) (R.remaining reader.new) (W.contents writer.old) (W.contents writer.new)
+        target.old result target.new }
+{
+    run_script_within(target, reader, writer, u64::from(MOST_READS))
+}
+
+/// Runs a script over the target: the reader's lines are carried out one after another, and answered to the writer.
+/// Bytes are read as they come, by so many reads at most, and the writer is flushed behind each answer. It takes no memory of
+/// its own.
+///
+/// A line feed ends a line. What follows the last one is a line too, where the input ends there.
+///
+/// # Errors
+/// `Read` where a read fails and `TooManyReads` where the most reads haven't come to the end: each line that ended
+/// was answered. `Write` where a write fails or takes no byte: a prefix of the answers went out, and the target is as
+/// after the command whose answer was being written.
+pub fn run_script_within<T: Target, R: Read, W: Write>(
+    target: &mut T,
+    reader: &mut R,
+    writer: &mut W,
+    most_reads: u64,
+) -> Result<(), ScriptFault>
+    ensures { EndsBy most_reads T.answers (R.remaining reader.old) (R.remaining reader.new) (W.contents writer.old) (W.contents writer.new)
         target.old result target.new }
 {
     let mut line = LineBuffer::new();
     let mut bytes = [0u8; PIECE];
-    for reads in 0..MOST_READS {
+    for reads in 0..most_reads {
         let count = match reader.read(&mut bytes) {
             Ok(count) => count,
             Err(error) => return Err(ScriptFault::Read(error.kind())),

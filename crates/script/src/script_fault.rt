@@ -7,7 +7,7 @@ pub enum ScriptFault {
     /// E113: a read failed. All lines before were answered, except for the one whose end was not read.
     #[error("the script can't be read")]
     Read(ErrorKind),
-    /// E113: the script didn't come to its end within [`MOST_READS`](crate::MOST_READS) reads. The lines that ended were
+    /// E113: the script didn't come to its end within the most reads that it is given. The lines that ended were
     /// answered.
     #[error("the script took too many reads")]
     TooManyReads,

@@ -1,4 +1,4 @@
--- The machine, and then the option.
+-- The machine, and then the options.
 use Rattle.std.proofs.Common.{rules, [], codes}
 use Rattle.std.proofs.lemmas.Result.{IfOk-weaker}
 use Rattle.cli.specs.CommandLine.{IsLeaf, command}
@@ -9,4 +9,6 @@ pub returns : goal.returns
 returns c =
     let bare : IsLeaf (command (codes "run") []) c.after_help.result = search rules in
     let one = IsLeaf-arg _ _ c.machine.result bare c.in_ok-arg.ensures c.machine.ensures.rule c.machine.ensures.local in
-    IfOk-weaker c.arg-2.result _ _ (λ all adds. IsLeaf-arg _ all c.table.result one adds c.table.ensures.rule c.table.ensures.local) c.arg-2.ensures
+    let two = IsLeaf-arg _ _ c.table.result one c.in_ok-arg-2.ensures c.table.ensures.rule c.table.ensures.local in
+    let three = IsLeaf-arg _ _ c.cgroup.result two c.in_ok-arg-3.ensures c.cgroup.ensures.rule c.cgroup.ensures.local in
+    IfOk-weaker c.arg-4.result _ _ (λ all adds. IsLeaf-arg _ all c.adopt.result three adds c.adopt.ensures.rule c.adopt.ensures.local) c.arg-4.ensures

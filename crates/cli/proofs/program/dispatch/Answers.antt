@@ -16,7 +16,7 @@ returns-in-Check g c =
     (reads_named (Reads (g.F.Opens.opens c.args.files.now) (g.F.Opens.fails c.args.files.now) g.F.File.Input.gives) (g.R.Input.gives c.args.input) name) (shown name)) called c.check_named.ensures)
 
 pub returns-in-Run : goal.returns-in-Run
-returns-in-Run g c = rw c.in-Run.is (g.R.Read.remaining c.do_run.new.script, c.do_run.ensures)
+returns-in-Run g c = rw c.in-Run.is c.run_in.ensures
 
 pub returns-in-Solve : goal.returns-in-Solve
 returns-in-Solve g c =

@@ -2,12 +2,19 @@
 use Rattle.std.proofs.Common.{inl, inr, refl}
 use Rattle.cli.proofs.run.do_run.Goals as goal
 
-pub returns-in-Ok : goal.returns-in-Ok
-returns-in-Ok g c = inl (
-  c.in-Ok.node,
+pub returns-in-Ok-boot : goal.returns-in-Ok-boot
+returns-in-Ok-boot g c = inl (
+  c.in-Ok.found,
   c.in-Ok.ensures,
-  (record c.args.console.now { out = c.play-end.new.w }, c.play-end.result, c.play-end.ensures, refl, c.finish.ensures),
+  inl (
+    c.in-Ok-boot.node,
+    c.in-Ok-boot.ensures,
+    (record c.args.console.now { out = c.play-end.new.w }, c.play-end.result, c.play-end.ensures, refl, c.finish.ensures),
+  ),
 )
 
+pub returns-in-Err-boot : goal.returns-in-Err-boot
+returns-in-Err-boot g c = inl (c.in-Ok.found, c.in-Ok.ensures, inr c.print_then_note.ensures)
+
 pub returns-in-Err : goal.returns-in-Err
-returns-in-Err g c = inr (c.in-Err.unready, c.in-Err.ensures, rw (c.beside-note.ensures, c.name_in.ensures, c.refusal-refusal.ensures) at c.print_then_note.ensures)
+returns-in-Err g c = inr (c.in-Err.unready, c.in-Err.ensures, c.refuse.ensures)

@@ -1,4 +1,4 @@
 use Rattle.cli.proofs.run.play.Goals as goal
 
 pub returns : goal.returns
-returns g c = (c.run_script.new.target, rw c.new-runner.ensures at c.run_script.ensures)
+returns g c = (c.run_script_within.new.target, rw c.new-runner.ensures at c.run_script_within.ensures)

@@ -1,7 +1,7 @@
 -- What the text and the table lead to.
 use Rattle.std.proofs.Common.{ℕ, Bor, List, Option, Result, Err, inl, inr, option_map, subst}
 use Rattle.inputs.specs.declared.refusal.Refusal.{Refusal}
-use Rattle.node.specs.NodeState.{NodeState}
+use Rattle.machine.specs.Layout.{Layout}
 use Rattle.slit.specs.Table.{Table}
 use Rattle.cli.specs.Ready.{IsReady}
 use Rattle.cli.proofs.run.ready.Goals as goal
@@ -12,18 +12,18 @@ returns-in-Err g c = inl (c.in-Err.error, c.in-Err.ensures.err, c.from.ensures)
 pub returns-in-Err-table_in : goal.returns-in-Err-table_in
 returns-in-Err-table_in g c = ((c.in-Ok.text.items, c.in-Ok.ensures.bytes), c.in-Err-table_in.ensures.refused)
 
-pub returns-in-Ok-start_up : goal.returns-in-Ok-start_up
-returns-in-Ok-start_up g c = (
+pub returns-in-Ok-described : goal.returns-in-Ok-described
+returns-in-Ok-described g c = (
   c.in-Ok.text.items,
   c.in-Ok.ensures.bytes,
-  (c.in-Ok-table_in.table, c.in-Ok-table_in.ensures.table, rw (c.as_ref.ensures.value, c.as_slice.ensures.value) at c.in-Ok-start_up.ensures),
+  (c.in-Ok-table_in.table, c.in-Ok-table_in.ensures.table, rw (c.as_ref.ensures.value, c.as_slice.ensures.value) at c.in-Ok-described.ensures),
 )
 
 pub returns : goal.returns
 returns g c =
-    let why : Result NodeState Refusal = Err c.in-Err-start_up.refusal in
+    let why : Result Layout Refusal = Err c.in-Err-described.refusal in
     let read : IsReady (option_map (λ (t : Bor Table). t.now) c.as_ref.result) c.in-Ok.text.items why =
-    subst (λ (text : List ℕ). IsReady (option_map (λ (t : Bor Table). t.now) c.as_ref.result) text why) c.as_slice.ensures.value c.in-Err-start_up.ensures in
+    subst (λ (text : List ℕ). IsReady (option_map (λ (t : Bor Table). t.now) c.as_ref.result) text why) c.as_slice.ensures.value c.in-Err-described.ensures in
     inr (
       c.in-Ok.text.items,
       c.in-Ok.ensures.bytes,

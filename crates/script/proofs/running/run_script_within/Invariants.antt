@@ -1,5 +1,5 @@
 use Rattle.script.proofs.Lines.{IsRunning}
-use Rattle.script.proofs.running.run_script.Given as goal
+use Rattle.script.proofs.running.run_script_within.Given as goal
 
 abbrev pub invariant-loop-reads : goal.invariant-loop-reads
 invariant-loop-reads g l =

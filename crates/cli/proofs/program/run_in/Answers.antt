@@ -1,0 +1,8 @@
+-- Without a root, and below one.
+use Rattle.cli.proofs.program.run_in.Goals as goal
+
+pub returns-in-None : goal.returns-in-None
+returns-in-None g c = rw c.in-None.is (g.R.Read.remaining c.do_run.new.script, c.do_run.ensures)
+
+pub returns : goal.returns
+returns g c = rw c.in-Some.is (g.R.Read.remaining c.do_pin.new.script, c.do_pin.ensures)

@@ -1,0 +1,59 @@
+use crate::printed::Printed;
+use byte_output::put;
+use cgroup_tree::RootFault;
+use faults::OrMemory;
+use inputs::{ReadFault, Refusal};
+use kernel_model::KernelFault;
+use std::io;
+use std::io::Write;
+
+/// Why a script is not begun in a cgroup tree: what is wrong with its root.
+#[derive(Clone, Copy)]
+pub enum Unrooted {
+    /// E113: the root is no folder, or a file of it can't be read.
+    Unread(ReadFault),
+    /// E1: there was no memory.
+    Memory,
+    /// E115: its groups can't have cpusets of their own.
+    NoCpuset,
+    /// E116: its CPUs or nodes are not the machine's.
+    OtherMachine,
+    /// E50: the group of all containers can't be made.
+    Kernel,
+}
+
+impl From<RootFault> for Unrooted {
+    fn from(fault: RootFault) -> Unrooted {
+        match fault {
+            RootFault::Memory => Unrooted::Memory,
+            RootFault::Unread(kind) => Unrooted::Unread(ReadFault::told(kind)),
+            RootFault::NoCpuset => Unrooted::NoCpuset,
+            RootFault::OtherMachine => Unrooted::OtherMachine,
+        }
+    }
+}
+
+impl From<OrMemory<KernelFault>> for Unrooted {
+    fn from(error: OrMemory<KernelFault>) -> Unrooted {
+        match error {
+            OrMemory::Memory => Unrooted::Memory,
+            OrMemory::Fault(_) => Unrooted::Kernel,
+        }
+    }
+}
+
+impl Printed for Unrooted {
+    ghost use Rattle.cli.specs.Roots.{root_line};
+
+    ghost text = { root_line };
+
+    fn print<W: Write>(&self, w: &mut W) -> io::Result<()> {
+        match self {
+            Unrooted::Unread(fault) => Refusal::ReadFault(*fault).write(w),
+            Unrooted::Memory => Refusal::Memory.write(w),
+            Unrooted::NoCpuset => put(b"refused E115 NoCpuset\n", w),
+            Unrooted::OtherMachine => put(b"refused E116 OtherMachine\n", w),
+            Unrooted::Kernel => put(b"refused E50 KernelFault\n", w),
+        }
+    }
+}

@@ -1,0 +1,12 @@
+#!/usr/bin/env bash
+# Runs the built program in plain folders that stand for cgroup v2 trees: with each call of the system refused in turn, killed behind
+# each, and over roots that are not taken. PROGRAM in the environment is run in place of the one that this builds.
+set -euo pipefail
+top=$(cd "$(dirname "$0")/.." && pwd)
+work=$(mktemp -d)
+trap 'rm -rf "$work"' EXIT
+. "$top/tests/build-preloads.sh"
+. "$top/tests/build-program.sh"
+cd "$top"
+python3 -B tests/cgroup/refusals.py "$program" examples/machines/two-socket.json
+python3 -B tests/cgroup/each_call.py "$program" "$work/folders.so" examples/machines/two-socket.json tests/cgroup/script
