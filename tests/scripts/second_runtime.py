@@ -190,6 +190,25 @@ class Machine:
         if not offline <= self.present - self.reserved:
             raise Refused("E34", "BadOffline")
         self.online = self.present - offline
+        self.cores = [{cpu} for cpu in self.present] if told.get("cores") is None else self.read_cores(told["cores"])
+        self.threads = len(self.cores[0])
+
+    def read_cores(self, value):
+        if type(value) is not list:
+            raise Refused("E26", "BadField", "cores")
+        cores, left = [as_set(core, CPUS, "cores") for core in value], set(self.present)
+        for i, core in enumerate(cores):
+            nodes, reserved = {self.node_of.get(cpu) for cpu in core}, core & self.reserved
+            if not core or not core <= left or len(nodes) > 1 or len(core) != len(cores[0]) or reserved not in (set(), core):
+                raise Refused("E35", "BadCore", i)
+            left -= core
+        if left:
+            raise Refused("E36", "NoCore", min(left))
+        return cores
+
+    def whole(self, cpus):
+        """The CPUs of those cores of which all are among these."""
+        return cpus if self.threads == 1 else set().union(*(core for core in self.cores if core <= cpus))
 
     @staticmethod
     def read_nodes(value):
@@ -280,7 +299,8 @@ class Demand:
         every = set(range(len(machine.nodes)))
         self.homes = self.named(config.mems, NODES, ("E64", "BadMems"), every, ("E65", "NoSuchNode")) or every
         quota, period = config.quota or 0, config.period or 100_000
-        asked = -(-quota // period) if quota > 0 else None
+        cores = -(-quota // (period * machine.threads)) if quota > 0 else None
+        asked = None if cores is None else cores * machine.threads
         if asked is not None and asked > CPUS:
             raise Refused("E66", "QuotaTooLarge")
         if asked is None and not cpus:
@@ -288,7 +308,7 @@ class Demand:
             return
         free = (cpus or machine.present) - machine.reserved
         weights = machine.weights(self.homes)
-        self.allowed = {cpu for cpu in free if weights[cpu] < 255}
+        self.allowed = machine.whole({cpu for cpu in free if weights[cpu] < 255})
         if not self.allowed:
             raise Refused("E67", "NothingAllowed")
         self.count = len(self.allowed) if asked is None else asked

@@ -1,16 +1,19 @@
 -- The free CPUs and the allowed ones, number by number.
-use Rattle.std.proofs.Common.{◌≡◌, ℕ, ◌<◌, Bool, true, false, not, ◌&&◌, ◌||◌, nat_lt, refl, sym, ap, ◌∙◌, arith}
+use Rattle.std.proofs.Common.{◌≡◌, ℕ, ◌*◌, ◌<◌, Bool, true, false, not, ◌&&◌, ◌||◌, nat_lt, refl, sym, ap, ◌∙◌, arith}
 use Rattle.std.proofs.lemmas.Bool.{false≢true, and_parts, not-true}
 use Rattle.std.proofs.lemmas.Bool.Decides.{nat_tests}
 use Rattle.std.specs.FinSet as set
 use Rattle.cpu_set.specs.Ids.{Ids, is_empty}
 use Rattle.cpu_set.specs.Members.{InRange}
-use Rattle.cpu_set.specs.Pointwise.{same_members, contains-intersection, contains-difference}
+use Rattle.cpu_set.specs.Pointwise.{same_members, contains-intersection, contains-difference, is_subset-contains}
 use Rattle.machine.specs.Layout.{Layout}
 use Rattle.machine.specs.Present.{present, IsPresent}
 use Rattle.cpu_set.specs.declared.TheConstants.{CPU_LIMIT}
 use Rattle.machine.specs.Weight.{weight}
-use Rattle.cpu_set.specs.Those.{contains-those}
+use Rattle.cpu_set.specs.Those.{those, contains-those}
+use Rattle.machine.specs.CoreCounts.{len-whole_in}
+use Rattle.machine.specs.Cores.{cores_in, whole_in, IsWhole, AreCores}
+use Rattle.machine.specs.WholeLaws.{whole_in-within, whole_in-IsWhole}
 use Rattle.demand.specs.Allowed.{is_free, is_allowed, allowed_by}
 use Rattle.demand.proofs.HomeNodes.{is_empty-none, is_empty-some}
 
@@ -66,20 +69,20 @@ free_in_reach false known near false present in_range = refl
 below_limit : (c limit : ℕ) → c < limit → nat_lt c limit ≡ true
 below_limit c limit lt = grind (arith, nat_tests)
 
--- the free CPUs that are in reach are the allowed ones
+-- the free CPUs that are in reach, and whole cores of them, are the allowed ones
 pub allowed_meet :
     (m : Layout) (cpus homes free reach : Ids) → ((c : ℕ) → set.contains free c ≡ is_free m cpus c) → InRange free
     → ((c : ℕ) → set.contains reach c ≡ (set.contains (present m) c && nat_lt (weight m homes c) 255))
-    → set.intersection free reach ≡ allowed_by m cpus homes
+    → whole_in m (set.intersection free reach) ≡ allowed_by m cpus homes
 unfolding allowed_by
 allowed_meet m cpus homes free reach are_free in_range are_reached =
-    same_members _ _ (λ c.
+    ap (whole_in m) (same_members _ _ (λ c.
     contains-intersection free reach c
     ∙ ap (λ b. b && set.contains reach c) (are_free c)
     ∙ ap (λ b. is_free m cpus c && b) (are_reached c)
     ∙ free_in_reach (is_free m cpus c) (set.contains (present m) c) (nat_lt (weight m homes c) 255) (nat_lt c CPU_LIMIT)
     (free_is_present m cpus c) (λ is. below_limit c CPU_LIMIT (in_range c (are_free c ∙ is)))
-    ∙ sym (contains-those (is_allowed m cpus homes) CPU_LIMIT c))
+    ∙ sym (contains-those (is_allowed m cpus homes) CPU_LIMIT c)))
 
 -- what holds of an allowed CPU
 pub record IsGiven (m : Layout) (homes : Ids) (c : ℕ) : Type 0 where
@@ -99,4 +102,18 @@ given m cpus homes c is =
 pub allowed_is_given : (m : Layout) (cpus homes : Ids) (c : ℕ) → set.contains (allowed_by m cpus homes) c ≡ true → IsGiven m homes c
 unfolding allowed_by
 allowed_is_given m cpus homes c has =
-    given m cpus homes c (and_parts _ _ (sym (contains-those (is_allowed m cpus homes) CPU_LIMIT c) ∙ has)).1
+    let named_so = those (is_allowed m cpus homes) CPU_LIMIT in
+    let within = is_subset-contains (whole_in m named_so) named_so (whole_in-within m named_so) c has in
+    given m cpus homes c (and_parts _ _ (sym (contains-those (is_allowed m cpus homes) CPU_LIMIT c) ∙ within)).1
+
+-- of each core all CPUs are allowed, or none
+pub allowed_is_whole : (m : Layout) (cpus homes : Ids) → IsWhole m (allowed_by m cpus homes)
+unfolding allowed_by
+allowed_is_whole m cpus homes = whole_in-IsWhole m (those (is_allowed m cpus homes) CPU_LIMIT)
+
+-- so they are those of so many cores
+pub allowed_in_cores : (m : Layout) (cpus homes : Ids) → AreCores m → InRange (present m) → (cores : ℕ) × (set.len (allowed_by m cpus homes) ≡ cores * m.threads)
+unfolding allowed_by
+allowed_in_cores m cpus homes are in_range =
+    let named_so = those (is_allowed m cpus homes) CPU_LIMIT in
+    (set.len (cores_in m named_so), len-whole_in m named_so are in_range)

@@ -5,6 +5,7 @@ use Rattle.cpu_set.specs.Ids.{Ids, is_empty}
 use Rattle.cpu_set.specs.Those.{those}
 use Rattle.cpu_set.specs.declared.TheConstants.{CPU_LIMIT}
 use Rattle.config_json.specs.SectionOf.{Section}
+use Rattle.machine.specs.Cores.{whole_in}
 use Rattle.machine.specs.Layout.{Layout}
 use Rattle.machine.specs.Present.{present}
 use Rattle.machine.specs.Weight.{weight}
@@ -20,9 +21,9 @@ is_free m cpus c =
 abbrev pub is_allowed : Layout → Ids → Ids → ℕ → Bool
 is_allowed m cpus homes c = is_free m cpus c && nat_lt (weight m homes c) 255
 
--- these CPUs
+-- the CPUs of cores that have such CPUs alone
 unfoldable pub allowed_by : Layout → Ids → Ids → Ids
-allowed_by m cpus homes = those (is_allowed m cpus homes) CPU_LIMIT
+allowed_by m cpus homes = whole_in m (those (is_allowed m cpus homes) CPU_LIMIT)
 
 -- those of a section
 abbrev pub allowed_of : Layout → Section → Ids

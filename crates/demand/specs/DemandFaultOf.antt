@@ -14,7 +14,7 @@ use Rattle.machine.specs.Present.{present}
 use Rattle.machine.specs.Nodes.{nodes_of}
 use Rattle.demand.specs.declared.demand_fault.DemandFault.{DemandFault}
 use Rattle.demand.specs.declared.demand_fault.DemandFault.TheVariants.{BadCpus, NoSuchCpu, BadMems, NoSuchNode, QuotaTooLarge, NothingAllowed}
-use Rattle.demand.specs.Quota.{limit_of, period_of}
+use Rattle.demand.specs.Quota.{limit_of, period_of, most_cpus}
 use Rattle.demand.specs.Named.{named}
 use Rattle.demand.specs.Allowed.{allowed_of}
 
@@ -41,14 +41,14 @@ mems_fault m mems = first_of (
     ∷ option_map NoSuchNode (least_other (named mems) (nodes_of m))
     ∷ [])
 
--- a limit is above what the number of CPUs that there can be may run in a period
-abbrev pub limit_fault : Option ℕ → ℕ → Option DemandFault
-limit_fault None period = None
-limit_fault (Some limit) period = when (nat_lt (CPU_LIMIT * period) limit) QuotaTooLarge
+-- a limit is above what the most CPUs of whole cores that there can be may run in a period
+abbrev pub limit_fault : ℕ → Option ℕ → ℕ → Option DemandFault
+limit_fault threads None period = None
+limit_fault threads (Some limit) period = when (nat_lt (most_cpus threads * period) limit) QuotaTooLarge
 
--- the quota asks for no more CPUs than there can be
-unfoldable pub quota_fault : Option ℤ → Option ℕ → Option DemandFault
-quota_fault quota period = limit_fault (limit_of quota) (period_of period)
+-- the quota asks for no more CPUs than there can be, where each core has so many
+unfoldable pub quota_fault : ℕ → Option ℤ → Option ℕ → Option DemandFault
+quota_fault threads quota period = limit_fault threads (limit_of quota) (period_of period)
 
 -- a container gets CPUs of its own where its quota is a limit or it names a CPU
 abbrev pub is_pinned : Section → Bool
@@ -63,6 +63,6 @@ abbrev pub demand_fault : Layout → Section → Option DemandFault
 demand_fault m s = first_of (
     cpus_fault m s.cpus
     ∷ mems_fault m s.mems
-    ∷ quota_fault s.quota s.period
+    ∷ quota_fault m.threads s.quota s.period
     ∷ allowed_fault m s
     ∷ [])

@@ -14,14 +14,14 @@ use Rattle.demand.specs.Allowed.{allowed_of}
 use Rattle.demand.specs.DemandFaultOf.{is_pinned}
 
 -- as many CPUs as the limit asks for; with no limit as many as are allowed, or none of its own where no CPU is named
-abbrev pub IsKind : Option ℕ → ℕ → Ids → Section → Kind → Type 0
-IsKind (Some limit) period allowed s (Pinned count) = AsksFor limit period count
-IsKind (Some limit) period allowed s Shared = ⊥
-IsKind None period allowed s (Pinned count) = (is_pinned s ≡ true) × (count ≡ set.len allowed)
-IsKind None period allowed s Shared = is_pinned s ≡ false
+abbrev pub IsKind : ℕ → Option ℕ → ℕ → Ids → Section → Kind → Type 0
+IsKind threads (Some limit) period allowed s (Pinned count) = AsksFor limit period threads count
+IsKind threads (Some limit) period allowed s Shared = ⊥
+IsKind threads None period allowed s (Pinned count) = (is_pinned s ≡ true) × (count ≡ set.len allowed)
+IsKind threads None period allowed s Shared = is_pinned s ≡ false
 
 -- the homes, the allowed CPUs, which are none of a shared container, and the count
 pub record IsDemand (m : Layout) (s : Section) (d : Demand) : Type 0 where
   pub homes : d.homes ≡ homes_of m s.mems
   pub allowed : d.allowed ≡ (if is_pinned s then allowed_of m s else set.empty)
-  pub kind : IsKind (limit_of s.quota) (period_of s.period) (allowed_of m s) s d.kind
+  pub kind : IsKind m.threads (limit_of s.quota) (period_of s.period) (allowed_of m s) s d.kind

@@ -1,5 +1,5 @@
 -- What `quota` and `period` mean where they are absent or out of the ordinary.
-use Rattle.std.specs.Prelude.{ℕ, zero, suc, ℤ, pos, negsuc, ◌≤◌, Option, Some, None}
+use Rattle.std.specs.Prelude.{ℕ, zero, suc, ℤ, pos, negsuc, ◌*◌, ◌/◌, ◌≤◌, Option, Some, None}
 use Rattle.cpu_set.specs.declared.TheConstants.{CPU_LIMIT}
 use Rattle.demand.specs.AsksFor.{AsksFor}
 use Rattle.demand.specs.declared.quota.TheConstants.{DEFAULT_PERIOD}
@@ -17,9 +17,13 @@ period_of None = DEFAULT_PERIOD
 period_of (Some zero) = DEFAULT_PERIOD
 period_of (Some (suc n)) = suc n
 
+-- the most CPUs of whole cores that there can be
+abbrev pub most_cpus : ℕ → ℕ
+most_cpus threads = CPU_LIMIT / threads * threads
+
 -- a limit asks for a count of CPUs, within the number that there can be; no limit for none
-abbrev pub IsCount : Option ℕ → ℕ → Option ℕ → Type 0
-IsCount None period None = Unit {0}
-IsCount None period (Some count) = ⊥
-IsCount (Some limit) period None = ⊥
-IsCount (Some limit) period (Some count) = AsksFor limit period count × (count ≤ CPU_LIMIT)
+abbrev pub IsCount : ℕ → Option ℕ → ℕ → Option ℕ → Type 0
+IsCount threads None period None = Unit {0}
+IsCount threads None period (Some count) = ⊥
+IsCount threads (Some limit) period None = ⊥
+IsCount threads (Some limit) period (Some count) = AsksFor limit period threads count × (count ≤ CPU_LIMIT)

@@ -1,5 +1,7 @@
 ghost use Rattle.std.specs.Prelude.{◌≡◌, ℕ};
 ghost use Rattle.std.specs.FinSet as set;
+ghost use Rattle.cpu_set.specs.Members.{InRange};
+ghost use Rattle.machine.specs.Present.{present};
 ghost use Rattle.machine.specs.Weight.{AreHomes};
 ghost use Rattle.demand.specs.Allowed.{is_free, allowed_by};
 
@@ -18,13 +20,16 @@ fn free(machine: &Machine, named: &IdSet) -> IdSet
     unreserved.meet(named)
 }
 
-/// The CPUs that a container may get, given those that it names and its home nodes.
+/// The CPUs that a container may get, given those that it names and its home nodes: whole cores of them.
 #[tactic(auto, using(crate::proofs::FreeCpus::allowed_meet))]
 pub fn allowed(machine: &Machine, named: &IdSet, homes: &IdSet) -> IdSet
     requires { AreHomes machine.now homes.now }
-    ensures { result ≡ allowed_by machine.now named.now homes.now }
+    ensures is { result ≡ allowed_by machine.now named.now homes.now }
+    ensures in_range { InRange (present machine.now) }
 {
     let free = free(machine, named);
     free.stays_below_the_limit();
-    free.meet(&machine.in_reach(homes))
+    let present = machine.present();
+    present.stays_below_the_limit();
+    machine.whole_in(&free.meet(&machine.in_reach(homes)))
 }

@@ -38,8 +38,9 @@ impl Demand {
     /// What a container with this CPU section asks for on this machine.
     ///
     /// Its homes are the nodes that `mems` names, or all where it names none. It may get the CPUs that
-    /// are present, named by `cpus` if that names any, not reserved, and with a way to a home. A quota
-    /// above zero asks for as many CPUs as it takes to run it in one period, rounded up; a period that
+    /// are present, named by `cpus` if that names any, not reserved, and with a way to a home, of those
+    /// cores that have such CPUs alone. A quota above zero asks for as many CPUs as it takes to run it in
+    /// one period, rounded up to whole cores; a period that
     /// is absent or zero is [`DEFAULT_PERIOD`](crate::DEFAULT_PERIOD). With no such quota a container
     /// that names a CPU asks for all that it may get, and one that names none is shared.
     ///
@@ -55,7 +56,7 @@ impl Demand {
         let cpus = lists::cpus(section.cpus.as_ref().map(|text| text.as_str()), machine)?;
         let mems = lists::nodes(section.mems.as_ref().map(|text| text.as_str()), machine)?;
         let homes = lists::homes(&mems, machine);
-        let count = quota::count(section.quota, section.period)?;
+        let count = quota::count(section.quota, section.period, machine.threads())?;
         if !is_pinned(count, &cpus) {
             return Ok(Demand {
                 kind: Kind::Shared,

@@ -4,7 +4,7 @@ ghost use Rattle.demand.specs.AsksFor.{IsOneCount};
 
 use crate::DEFAULT_PERIOD;
 
-/// No quota asks for two different counts of CPUs in one period.
+/// No quota asks for two different counts of CPUs in one period, whatever the cores.
 pub fn no_quota_asks_for_two_counts()
     ensures { IsOneCount }
 {}

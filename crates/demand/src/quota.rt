@@ -1,6 +1,6 @@
 ghost use Rattle.std.specs.Prelude.{◌≡◌, ℕ, ◌*◌, ◌<◌, ◌≤◌, ◌^◌, IfOk, IfSome, IfNone, is_some};
 ghost use Rattle.demand.specs.AsksFor.{AsksFor};
-ghost use Rattle.demand.specs.Quota.{limit_of, period_of, IsCount};
+ghost use Rattle.demand.specs.Quota.{limit_of, period_of, most_cpus, IsCount};
 ghost use Rattle.demand.specs.DemandFaultOf.{quota_fault};
 ghost use Rattle.std.specs.Result.{result_err};
 
@@ -35,18 +35,19 @@ fn period_of(period: Option<u64>) -> u64
 }
 
 /// How many CPUs a quota asks for, unless it asks for more than there can be: the time that it gives in
-/// whole periods, rounded up.
-#[tactic(auto, using(crate::proofs::Rounding::asks_ceil))]
-fn cpus_asked(quota: u64, period: u64) -> Option<u32>
+/// whole periods, rounded up to whole cores of so many CPUs.
+fn cpus_asked(quota: u64, period: u64, threads: u32) -> Option<u32>
     requires quota { 0 < quota }
     requires signed { quota < 2 ^ 63 }
     requires period { 0 < period }
-    ensures some { IfSome result (λ n. AsksFor quota period n) }
+    requires threads { 1 ≤ threads }
+    ensures some { IfSome result (λ n. AsksFor quota period threads n) }
     ensures few { IfSome result (λ n. n ≤ CPU_LIMIT) }
-    ensures fits { IfSome result (λ n. quota ≤ CPU_LIMIT * period) }
-    ensures none { IfNone result (CPU_LIMIT * period < quota) }
+    ensures fits { IfSome result (λ n. quota ≤ most_cpus threads * period) }
+    ensures none { IfNone result (most_cpus threads * period < quota) }
 {
-    let count = quota.div_ceil(period);
+    let threads = threads as u64;
+    let count = quota.div_ceil(period).div_ceil(threads) * threads;
     if count > CPU_LIMIT as u64 {
         None
     } else {
@@ -54,17 +55,22 @@ fn cpus_asked(quota: u64, period: u64) -> Option<u32>
     }
 }
 
-/// How many CPUs a container's quota asks for; none where it is no limit.
+/// How many CPUs a container's quota asks for, where each core has so many; none where it is no limit.
 #[tactic(auto, unfolding(crate::specs::DemandFaultOf::quota_fault))]
-pub fn count(quota: Option<i64>, period: Option<u64>) -> Result<Option<u32>, DemandFault>
-    ensures fault { quota_fault quota period ≡ result_err result }
-    ensures count { IfOk result (λ n. IsCount (limit_of quota) (period_of period) n) }
+pub fn count(
+    quota: Option<i64>,
+    period: Option<u64>,
+    threads: u32,
+) -> Result<Option<u32>, DemandFault>
+    requires { 1 ≤ threads }
+    ensures fault { quota_fault threads quota period ≡ result_err result }
+    ensures count { IfOk result (λ n. IsCount threads (limit_of quota) (period_of period) n) }
     ensures some { IfOk result (λ n. is_some n ≡ is_some (limit_of quota)) }
 {
     let Some(limit) = limit_of(quota) else {
         return Ok(None);
     };
-    match cpus_asked(limit, period_of(period)) {
+    match cpus_asked(limit, period_of(period), threads) {
         Some(count) => Ok(Some(count)),
         None => Err(DemandFault::QuotaTooLarge),
     }

@@ -33,7 +33,7 @@ slit_arguments_of BadSum = []
 slit_arguments_of (ReservedValue row column) = row ∷ column ∷ []
 slit_arguments_of (BadDiagonal row) = row ∷ []
 
--- the member's name, the CPU, or the row and the column
+-- the member's name, the CPU, the row and the column, or the core's place in its list
 abbrev pub machine_arguments_of : MachineFault → List ℕ
 machine_arguments_of machine.NotJson = []
 machine_arguments_of (machine.BadField field) = word_text (name_of field)
@@ -45,6 +45,8 @@ machine_arguments_of machine.WrongSize = []
 machine_arguments_of (machine.BadDistance row column) = arguments_text (row ∷ column ∷ [])
 machine_arguments_of machine.BadReserved = []
 machine_arguments_of machine.BadOffline = []
+machine_arguments_of (machine.BadCore index) = arguments_text (index ∷ [])
+machine_arguments_of (machine.NoCore cpu) = arguments_text (cpu ∷ [])
 
 -- where the check found it: the row, the CPU, or the row and then the CPU
 abbrev pub check_arguments_of : CheckFault → List ℕ

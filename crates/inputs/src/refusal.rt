@@ -24,7 +24,7 @@ pub enum Refusal {
     List(ListError),
     /// E15 to E21: the bytes are no distance table.
     Slit(SlitFault),
-    /// E25 to E34: the text describes no machine.
+    /// E25 to E36: the text describes no machine.
     Machine(MachineFault),
     /// E70 to E76: the certificate doesn't pass its check.
     Check(CheckFault),
@@ -123,6 +123,8 @@ fn machine_arguments(fault: MachineFault) -> Arguments
         MachineFault::BadField(field) => Arguments::Word(field.name()),
         MachineFault::CpuTwice(cpu) => Arguments::One(u64::from(cpu)),
         MachineFault::BadDistance(row, column) => Arguments::Two(row as u64, column as u64),
+        MachineFault::BadCore(index) => Arguments::One(index as u64),
+        MachineFault::NoCore(cpu) => Arguments::One(u64::from(cpu)),
         MachineFault::NotJson
         | MachineFault::NodeCount
         | MachineFault::BothDistances

@@ -1,10 +1,15 @@
 -- The items of an array, as the JSON value has them and as the code goes over them.
-use Rattle.std.proofs.Common.{◌≡◌, ℕ, ◌<◌, ◌≤◌, arith, List, [], ◌∷◌, map, length, get_or, refl, sym, ap, ◌∙◌}
+use Rattle.std.proofs.Common.{◌≡◌, ℕ, ◌<◌, ◌≤◌, inl, inr, true, false, arith, List, [], ◌∷◌, map, length, get_or, refl, sym, ap, ◌∙◌}
 use Rattle.std.proofs.lemmas.List.{get_or-map, length-map}
-use Rattle.std.proofs.lemmas.List.Folds.{list_all-map}
-use Rattle.serde_json.specs.Data.{null}
+use Rattle.std.proofs.lemmas.List.Folds.{list_all-map, list_all_at}
+use Rattle.std.proofs.lemmas.Bool.{cases_Bool, false≢true}
+use Rattle.std.specs.List.{list_all}
+use Rattle.serde_json.specs.Data.{Data, null}
 use Rattle.serde_json.specs.View.{view, items_view}
 use Rattle.serde_json.specs.declared.value.Value.{Value}
+use Rattle.machine.specs.declared.field.Field.{Field}
+use Rattle.machine.specs.KindFaults.{AreLists}
+use Rattle.machine.specs.Listed.{is_list}
 use Rattle.machine.specs.Members.{item_list}
 
 pub item_list-items_view : (vs : List Value) → item_list (items_view vs) ≡ map view vs
@@ -29,3 +34,14 @@ item_within vs i lt = simp length-map lt
 
 pub item_last : (vs : List Value) (i : ℕ) → length vs ≤ i → i ≤ length vs → i ≡ length (map view vs)
 item_last vs i past within = simp length-map (omega arith)
+
+-- where each item is a list, each value is
+pub all_lists : (field : Field) (ds : List Data) → list_all is_list ds ≡ true → AreLists field ds
+all_lists field ds all i lt =
+    elim (cases_Bool (is_list (get_or ds i null))) [
+      | inl yes_ ↦ rw yes_ refl
+      | inr no_ ↦ absurd (false≢true (sym (list_all_at is_list ds i null lt no_) ∙ all))
+    ]
+
+pub all_listed_items : (field : Field) (vs : List Value) → list_all (λ v. is_list (view v)) vs ≡ true → AreLists field (map view vs)
+all_listed_items field vs all = all_lists field (map view vs) (list_all-map is_list view vs ∙ all)

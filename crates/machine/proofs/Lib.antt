@@ -1,9 +1,13 @@
 pub mod BootLaws
+pub mod CoreLaws
+pub mod CoreSteps
+pub mod CoreSets
 pub mod ItemLaws
 pub mod Marking
 pub mod NoFaultLaws
 pub mod NodeLaws
 pub mod NodeSteps
+pub mod PlaceLaws
 pub mod Reaching
 pub mod RowSteps
 pub mod SoundLaws

@@ -1,13 +1,14 @@
 -- Writing a node at each of its CPUs, in rising order.
 use Rattle.std.proofs.Common.{◌≡◌, ℕ, ◌+◌, ◌<◌, ◌≤◌, inl, inr, Bool, true, false, cond, List, length, get_or, Option, Some, None, refl, sym, ap, ◌∙◌, arith}
 use Rattle.std.specs.Prelude.{IfSome, MatchOption, AllPairs}
-use Rattle.std.proofs.lemmas.Bool.{cases_lt, cases_eq}
+use Rattle.std.proofs.lemmas.Bool.{cases_lt, cases_eq, false≢true}
 use Rattle.std.proofs.lemmas.List.{length-set, get_or-set_same, get_or-set_other}
 use Rattle.std.proofs.Math.ListN.{set as set_at}
 use Rattle.std.specs.FinSet as set
 use Rattle.cpu_set.specs.Ids.{Ids, NoneFrom, IsFirstFrom, IsDisjoint}
 use Rattle.cpu_set.specs.Members.{IsCpu}
 use Rattle.cpu_set.specs.declared.TheConstants.{CPU_LIMIT}
+use Rattle.machine.specs.Index.{ArePlaces}
 
 -- where a walk stands: at its next CPU, or past all
 abbrev pub place : Option ℕ → ℕ
@@ -108,6 +109,10 @@ pub record ArePlaced (nodes : List Ids) (i : ℕ) (places : List ℕ) : Type 0 w
   pub room : length places ≡ CPU_LIMIT
   pub placed : (c k : ℕ) → k < i → set.contains (get_or nodes k set.empty) c ≡ true → get_or places c 0 ≡ k
 
+-- at the end those of all nodes are
+pub ArePlaced-all : (nodes : List Ids) (i : ℕ) (places : List ℕ) → ArePlaced nodes i places → i ≡ length nodes → ArePlaces nodes places
+ArePlaced-all nodes i places placed end = record { room = placed.room; placed = λ c k lt has. placed.placed c k (omega arith) has }
+
 pub ArePlaced-more :
     (nodes : List Ids) (i node : ℕ) (s : Ids) (places more : List ℕ) → AllPairs IsDisjoint nodes → ArePlaced nodes i places → i < length nodes
     → s ≡ get_or nodes i set.empty → node ≡ i → length more ≡ CPU_LIMIT
@@ -126,3 +131,61 @@ ArePlaced-more nodes i node s places more apart placed lt is same room each = re
     by_both : (c k : ℕ) → k < i → set.contains (get_or nodes k set.empty) c ≡ true → (b : Bool) → set.contains s c ≡ b → set.contains s c ≡ false
     by_both c k before has true in_s = absurd (apart k i set.empty before lt c has (ap (λ t. set.contains t c) (sym is) ∙ in_s))
     by_both c k before has false in_s = in_s
+
+-- at each member that the walk has passed stands the node
+pub record AreOfNode (s : Ids) (places : List ℕ) (node : ℕ) (next : Option ℕ) : Type 0 where
+  pub passed : (c : ℕ) → IsPassed next c → set.contains s c ≡ true → get_or places c 0 ≡ node
+  pub member : IfSome next (λ n. set.contains s n ≡ true)
+  pub in_range : IfSome next (λ n. IsCpu n)
+
+pub AreOfNode-none : (s : Ids) (places : List ℕ) (node : ℕ) (next : Option ℕ) → IsNext s 0 next → AreOfNode s places node next
+AreOfNode-none s places node next is = record {
+  passed = λ c before has. absurd (false≢true (sym (nothing_between s 0 c next is (omega arith) before) ∙ has));
+  member = next_is_member s 0 next is;
+  in_range = is.1;
+}
+
+pub AreOfNode-more :
+    (s : Ids) (places : List ℕ) (node cpu : ℕ) (next : Option ℕ) → AreOfNode s places node (Some cpu) → get_or places cpu 0 ≡ node → IsNext s (cpu + 1) next
+    → AreOfNode s places node next
+AreOfNode-more s places node cpu next of_node here is = record {
+  passed = λ c before has. elim (cases_lt c cpu) [
+    | inl less ↦ of_node.passed c less has
+    | inr not_less ↦ elim (cases_eq cpu c) [
+      | inl same ↦ ap (λ k. get_or places k 0) (sym same) ∙ here
+      | inr differs ↦
+          let above : cpu + 1 ≤ c = omega arith in
+          absurd (false≢true (sym (nothing_between s (cpu + 1) c next is above before) ∙ has))
+    ]
+  ];
+  member = next_is_member s (cpu + 1) next is;
+  in_range = is.1;
+}
+
+-- at its end at each member
+pub AreOfNode-all :
+    (s : Ids) (places : List ℕ) (node : ℕ) (next : Option ℕ) → AreOfNode s places node next → ((n : ℕ) → next ≡ Some n → ⊥)
+    → (c : ℕ) → set.contains s c ≡ true → get_or places c 0 ≡ node
+AreOfNode-all s places node None of_node none c has = of_node.passed c tt has
+AreOfNode-all s places node (Some n) of_node none c has = absurd (none n refl)
+
+-- each number below n stands at its own place
+pub record AreOwn (numbers : List ℕ) (n : ℕ) : Type 0 where
+  pub room : length numbers ≡ CPU_LIMIT
+  pub own : (c : ℕ) → c < n → get_or numbers c 0 ≡ c
+
+pub AreOwn-none : (numbers : List ℕ) → length numbers ≡ CPU_LIMIT → AreOwn numbers 0
+AreOwn-none numbers room = record { room = room; own = λ c lt. absurd (omega arith) }
+
+pub AreOwn-more : (numbers more : List ℕ) (n : ℕ) → AreOwn numbers n → n < CPU_LIMIT → more ≡ set_at numbers n n → AreOwn more (n + 1)
+AreOwn-more numbers more n own lt is =
+    let room : length numbers ≡ CPU_LIMIT = own.room in
+    record {
+      room = ap length is ∙ simp length-set room;
+      own = λ c below. elim (cases_lt c n) [
+        | inl before ↦ ap (λ l. get_or l c 0) is ∙ get_or-set_other numbers n c n 0 (λ e. omega arith) ∙ own.own c before
+        | inr last ↦
+            let same : c ≡ n = omega arith in
+            ap (λ k. get_or more k 0) same ∙ ap (λ l. get_or l n 0) is ∙ get_or-set_same numbers n n 0 (omega arith) ∙ sym same
+      ];
+    }

@@ -1,12 +1,12 @@
 -- Which CPUs are present, and in which node.
 use Rattle.std.specs.Prelude.{◌||◌, ◌&&◌, nat_le}
-use Rattle.std.proofs.Common.{◌≡◌, ℕ, ◌-◌, ◌<◌, ◌≤◌, Bool, true, false, inl, inr, nat_lt, List, [], ◌∷◌, length, get_or, Some, refl, sym, ap, ◌∙◌, arith}
+use Rattle.std.proofs.Common.{◌≡◌, ℕ, ◌-◌, ◌<◌, ◌≤◌, Bool, true, false, inl, inr, nat_lt, List, [], ◌∷◌, length, get_or, take, Some, refl, sym, ap, ◌∙◌, arith}
 use Rattle.std.specs.Prelude.{AllPairs, Option, None, fold, map, min, position, unwrap_or, IsSome}
 use Rattle.std.specs.List.{list_any, position_or_len}
 use Rattle.std.proofs.lemmas.Bool.{cases_lt, false≢true}
 use Rattle.std.proofs.lemmas.Bool.Decides.{nat_tests}
 use Rattle.std.proofs.lemmas.Grind.{common_steps}
-use Rattle.std.proofs.lemmas.List.{get_or_default}
+use Rattle.std.proofs.lemmas.List.{get_or_default, get_or-take, length-take}
 use Rattle.std.proofs.lemmas.List.Folds.{list_any_at, Any-from_list_any}
 use Rattle.std.proofs.lemmas.List.Quantifiers.{position-Some}
 use Rattle.std.proofs.lemmas.List.Sums.{fails_before_first}
@@ -94,10 +94,26 @@ nodes_of-range m none all last some is empty each =
     ∙ up_to_last n (node_count m) last _ some is (ap (λ s. set.contains s n) empty ∙ contains-empty n)
     ∙ sym (contains-nodes_of m n))
 
-union_of-has : (sets : List Ids) (n k : ℕ) → k < length sets → set.contains (get_or sets k set.empty) n ≡ true → set.contains (union_of sets) n ≡ true
+pub union_of-has : (sets : List Ids) (n k : ℕ) → k < length sets → set.contains (get_or sets k set.empty) n ≡ true → set.contains (union_of sets) n ≡ true
 union_of-has sets n k lt has =
     contains-fold_union set.empty sets n ∙ ap (λ b. b || list_any (λ s. set.contains s n) sets) (contains-empty n)
     ∙ list_any_at (λ s. set.contains s n) sets k set.empty lt has
+
+-- some sets as the nodes of a machine
+only_nodes : List Ids → Layout
+only_nodes sets = record { nodes = sets; distances = []; reserved = set.empty; online = set.empty; lowest = []; threads = 0 }
+
+-- a number in the union of some sets is in one of them
+pub found_in : (sets : List Ids) (c : ℕ) → set.contains (union_of sets) c ≡ true → (k : ℕ) × (k < length sets) × (set.contains (get_or sets k set.empty) c ≡ true)
+unfolding only_nodes
+found_in sets c has = let found = IsPresent-IsOfNode (only_nodes sets) c has in (found.0, found.1.is_node, found.1.has_cpu)
+
+-- an earlier set is in the union of those before a later one
+pub union_of-at :
+    (sets : List Ids) (j k : ℕ) → j < k → k < length sets → (c : ℕ) → set.contains (get_or sets j set.empty) c ≡ true
+    → set.contains (union_of (take k sets)) c ≡ true
+union_of-at sets j k before lt c has =
+    union_of-has (take k sets) c j (omega (arith, length-take k sets)) (ap (λ s. set.contains s c) (get_or-take k sets j set.empty before) ∙ has)
 
 -- what is apart from the union of some sets is apart from each
 pub apart_from_each :

@@ -2,6 +2,7 @@ use Rattle.std.specs.Prelude.{◌≡◌, ◌≢◌, ◌≤◌, true, AllPairs}
 use Rattle.std.specs.FinSet as set
 use Rattle.cpu_set.specs.Ids.{IsDisjoint}
 use Rattle.machine.specs.declared.TheConstants.{NODE_LIMIT}
+use Rattle.machine.specs.Cores.{AreCores}
 use Rattle.machine.specs.Distances.{AreEntries}
 use Rattle.machine.specs.Layout.{Layout, node_count}
 use Rattle.machine.specs.Present.{present}
@@ -15,3 +16,4 @@ pub record IsSound (m : Layout) : Type 0 where
   pub reserved_some : m.reserved ≢ set.empty
   pub reserved_online : set.is_subset m.reserved m.online ≡ true
   pub online_present : set.is_subset m.online (present m) ≡ true
+  pub cores : AreCores m

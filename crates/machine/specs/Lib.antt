@@ -4,6 +4,10 @@ pub mod Present
 pub mod Nodes
 pub mod Weight
 pub mod Lowered
+pub mod Cores
+pub mod CoresOf
+pub mod WholeLaws
+pub mod CoreCounts
 pub mod IsSound
 pub mod Index
 pub mod FieldName
@@ -15,6 +19,7 @@ pub mod NodesFault
 pub mod Distances
 pub mod DistancesFault
 pub mod BootFaults
+pub mod CoresFault
 pub mod MachineOf
 pub mod HasMembers
 pub mod SoundIsRead

@@ -5,7 +5,7 @@ use Rattle.json_text.specs.Members.{member_of}
 use Rattle.serde_json.specs.Data.{Data, Items, no_items, item}
 use Rattle.serde_json.specs.Find.{as_array}
 use Rattle.machine.specs.FieldName.{name_of}
-use Rattle.machine.specs.declared.field.Field.TheVariants.{Nodes, Distances, Reserved, Offline}
+use Rattle.machine.specs.declared.field.Field.TheVariants.{Nodes, Distances, Reserved, Offline, Cores}
 
 -- the lists of the nodes' CPUs, node 0 first
 abbrev pub nodes_member : Data → Option Data
@@ -22,6 +22,10 @@ reserved_member d = member_of (name_of Reserved) d
 -- the list of the CPUs that are offline at boot
 abbrev pub offline_member : Data → Option Data
 offline_member d = member_of (name_of Offline) d
+
+-- the lists of the cores' CPUs
+abbrev pub cores_member : Data → Option Data
+cores_member d = member_of (name_of Cores) d
 
 -- the items of an array
 abbrev pub item_list : Items → List Data

@@ -28,6 +28,11 @@ pub enum MachineFault {
     BadReserved,
     /// E34: a CPU is offline that is not present, or that is reserved.
     BadOffline,
+    /// E35: the core with this place in the list has no CPU, one that is not present or that an earlier core has, CPUs of two
+    /// nodes, another number of CPUs than core 0, or CPUs of which some are reserved and some are not.
+    BadCore(usize),
+    /// E36: the least present CPU that no core has.
+    NoCore(u16),
 }
 
 impl MachineFault {
@@ -46,6 +51,8 @@ impl MachineFault {
             MachineFault::BadDistance(_, _) => "E32 BadDistance",
             MachineFault::BadReserved => "E33 BadReserved",
             MachineFault::BadOffline => "E34 BadOffline",
+            MachineFault::BadCore(_) => "E35 BadCore",
+            MachineFault::NoCore(_) => "E36 NoCore",
         }
     }
 }

@@ -8,6 +8,7 @@ pub enum Field {
     Distances,
     Reserved,
     Offline,
+    Cores,
 }
 
 impl Field {
@@ -20,6 +21,7 @@ impl Field {
             Field::Distances => "distances",
             Field::Reserved => "reserved",
             Field::Offline => "offline",
+            Field::Cores => "cores",
         }
     }
 }

@@ -6,6 +6,7 @@
 #![tactic(auto)]
 
 mod boot;
+mod cores;
 mod fault;
 mod field;
 mod index;

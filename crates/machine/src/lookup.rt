@@ -1,5 +1,5 @@
 //! Reading members of a machine file as what they have to be.
-ghost use Rattle.std.specs.Prelude.{◌≡◌, IfOk, map};
+ghost use Rattle.std.specs.Prelude.{◌≡◌, None, IfOk, map};
 ghost use Rattle.std.specs.Result.{result_err};
 ghost use Rattle.serde_json.specs.View.{view};
 ghost use Rattle.json_text.specs.Members.{member_of, seen};
@@ -34,6 +34,14 @@ pub(crate) fn array(found: Option<&Value>, field: Field) -> Result<&[Value], Mac
         Some(items) => Ok(items.as_slice()),
         None => Err(MachineFault::BadField(field)),
     }
+}
+
+/// The CPUs of a value that is a list.
+pub(crate) fn cpus_of(value: &Value, field: Field) -> IdSet
+    requires { list_fault field (view value.now) ≡ None }
+    ensures { result ≡ listed (view value.now) }
+{
+    list(value, field).unwrap()
 }
 
 /// The CPUs of a value that has to be a list as text.

@@ -6,10 +6,15 @@ ghost use Rattle.machine.specs.Present.{present, IsPresent};
 ghost use Rattle.machine.specs.Nodes.{nodes_of, node_of, IsOfNode};
 ghost use Rattle.machine.specs.Weight.{weight, IsWeight, AreHomes, AreWeights, HaveOneWeight};
 ghost use Rattle.machine.specs.Lowered.{AreLocal, AreLowered};
+ghost use Rattle.machine.specs.Cores.{core_of, cpus_of_core, cores_in, cpus_of_cores, whole_in, IsWhole};
+ghost use Rattle.machine.specs.CoresOf.{AreCoresOf};
 ghost use Rattle.machine.specs.declared.TheConstants.{NODE_LIMIT};
+ghost use Rattle.cpu_set.specs.declared.TheConstants.{CPU_LIMIT};
+ghost use Rattle.cpu_set.specs.Members.{IsCpu, InRange};
 ghost use Rattle.faults.specs.Answers.{Reports, Gives, ChecksFirst};
 
 use crate::boot::{read_offline, read_reserved};
+use crate::cores::read_cores;
 use crate::fault::MachineFault;
 use crate::field::Field;
 use crate::index::places_of;
@@ -17,7 +22,7 @@ use crate::lookup::{array, find};
 use crate::node_sets::{sets_of, unite_nodes};
 use crate::table::read_distances;
 use crate::{LOCAL, MAX_BYTES, NODE_LIMIT, UNREACHABLE};
-use cpu_set::IdSet;
+use cpu_set::{CPU_LIMIT, IdSet};
 use faults::OrMemory;
 use json_text::parse;
 use serde_json::Value;
@@ -37,7 +42,9 @@ pub struct Machine {
     reserved: IdSet,
     online: IdSet,
     present: IdSet,
-    places: Vec<u8>,
+    places: Vec<u16>,
+    lowest: Vec<u16>,
+    threads: u32,
 }
 
 impl Model for Machine {
@@ -53,6 +60,8 @@ impl Model for Machine {
       distances = m.distances.items;
       reserved = m.reserved;
       online = m.online;
+      lowest = m.lowest.items;
+      threads = m.threads;
     } };
 
     ghost invariant = { λ m. IsIndexed (record {
@@ -60,6 +69,8 @@ impl Model for Machine {
       distances = m.distances.items;
       reserved = m.reserved;
       online = m.online;
+      lowest = m.lowest.items;
+      threads = m.threads;
     }) m.present m.places.items };
 }
 
@@ -67,11 +78,13 @@ impl Machine {
     ghost use Rattle.machine.specs.IsSound.{IsSound};
     ghost use Rattle.machine.specs.MachineOf.{said_by, value_fault, machine_of, text_fault};
 
-    /// Reads a machine file: a JSON object with the members `nodes`, `distances`, `reserved` and `offline`.
+    /// Reads a machine file: a JSON object with the members `nodes`, `distances`, `reserved`, `offline` and
+    /// `cores`.
     ///
     /// `nodes` has a list of CPUs as text for each node, node 0 first; an empty text is a node without
     /// CPUs. `distances` has a row of whole numbers for each node; it is absent where a SLIT is given.
-    /// `reserved` is a list as text, and so is `offline`, which may be absent. A member that is null
+    /// `reserved` is a list as text, and so is `offline`, which may be absent. `cores` has a list of
+    /// CPUs as text for each core (SMT siblings); where it is absent, each CPU is a core of its own. A member that is null
     /// counts as absent, of one that is given twice the last counts, and all others are ignored.
     ///
     /// # Errors
@@ -79,7 +92,7 @@ impl Machine {
     /// and node by node `BadField` and `CpuTwice`; `BothDistances` and `NoDistances`; of a SLIT
     /// `WrongSize`; of `distances` `BadField` where it or a row is no array, `WrongSize`, and entry by
     /// entry in rows `BadField` and `BadDistance`; of `reserved` `BadField` and `BadReserved`; of
-    /// `offline` `BadField` and `BadOffline`.
+    /// `offline` `BadField` and `BadOffline`; of `cores` `BadField`, core by core `BadCore`, and `NoCore`.
     ///
     /// Before memory is asked for, it is known whether there are too many bytes or none, and whether they
     /// are UTF-8. Once the JSON value is there, no memory is asked for where it has a fault.
@@ -119,9 +132,10 @@ impl Machine {
         let distances = read_distances(find(value, Field::Distances), slit, items.len())?;
         let reserved = read_reserved(find(value, Field::Reserved), &present)?;
         let offline = read_offline(find(value, Field::Offline), &present, &reserved)?;
+        let cores = read_cores(find(value, Field::Cores), items, &present, &reserved)?;
         present.stays_below_the_limit();
         let nodes = sets_of(alloc, items)?;
-        let places = places_of(&nodes);
+        let places = places_of(items);
         Ok(Machine {
             nodes,
             distances: Vec::from_slice(alloc, distances.as_slice())?,
@@ -129,6 +143,8 @@ impl Machine {
             online: present.minus(&offline),
             present,
             places: Vec::from_slice(alloc, &places)?,
+            lowest: Vec::from_slice(alloc, &cores.lowest)?,
+            threads: cores.threads,
         })
     }
 
@@ -141,7 +157,9 @@ impl Machine {
     }
 
     fn union(&self) -> IdSet
-        ensures { result ≡ present self.now }
+        ensures is { result ≡ present self.now }
+        ensures in_range { InRange result }
+        ensures sound { IsSound self.now }
     {
         self.present
     }
@@ -199,6 +217,92 @@ impl Machine {
         ensures sound { IsSound self.now }
     {
         self.nodes[node]
+    }
+
+    /// How many CPUs each core has: those that are hyperthreads (SMT siblings) of one another.
+    pub fn threads(&self) -> u32
+        ensures is { result ≡ self.now.threads }
+        ensures some { 1 ≤ result }
+        ensures each { (cpu : ℕ) → IsPresent self.now cpu → set.len (cpus_of_core self.now (core_of self.now cpu)) ≡ result }
+    {
+        self.threads
+    }
+
+    /// Whether each CPU is a core of its own.
+    fn is_single(&self) -> bool
+        ensures { result ≡ (self.now.threads == 1) }
+    {
+        self.threads == 1
+    }
+
+    /// The cores of which the set has all CPUs, each by its lowest CPU. O(c) of c CPU numbers, and a few steps where each CPU is
+    /// a core of its own.
+    pub fn cores_in(&self, cpus: &IdSet) -> IdSet
+        ensures is { result ≡ cores_in self.now cpus.now }
+        ensures sound { IsSound self.now }
+    {
+        let present = self.union();
+        if self.is_single() {
+            return present.meet(cpus);
+        }
+        let broken = self.cores_of(&present.minus(cpus));
+        self.cores_of(&present).minus(&broken)
+    }
+
+    /// The cores that have one of the CPUs, each by its lowest CPU.
+    fn cores_of(&self, cpus: &IdSet) -> IdSet
+        ensures { AreCoresOf self.now cpus.now result CPU_LIMIT }
+    {
+        let mut cores = IdSet::empty();
+        for cpu in 0..CPU_LIMIT {
+            if cpus.contains(cpu) {
+                cores.insert(self.core_at(cpu));
+            }
+        }
+        cores
+    }
+
+    /// The lowest CPU of the CPU's core.
+    fn core_at(&self, cpu: u16) -> u16
+        requires { IsCpu cpu }
+        ensures is { result ≡ core_of self.now cpu }
+        ensures sound { IsSound self.now }
+    {
+        self.lowest[cpu as usize]
+    }
+
+    /// Whether the CPU is present, and of one of the cores with these lowest CPUs.
+    fn is_of(&self, cpu: u16, cores: &IdSet) -> bool
+        requires { IsCpu cpu }
+        ensures { result ≡ (set.contains (present self.now) cpu && set.contains cores.now (core_of self.now cpu)) }
+    {
+        self.present.contains(cpu) && cores.contains(self.core_at(cpu))
+    }
+
+    /// The CPUs of the cores with these lowest CPUs. O(c) of c CPU numbers, and a few steps where each CPU is a core of its own.
+    pub fn cpus_of_cores(&self, cores: &IdSet) -> IdSet
+        ensures { result ≡ cpus_of_cores self.now cores.now }
+    {
+        let present = self.union();
+        if self.is_single() {
+            return present.meet(cores);
+        }
+        let mut cpus = IdSet::empty();
+        for cpu in 0..CPU_LIMIT {
+            if self.is_of(cpu, cores) {
+                cpus.insert(cpu);
+            }
+        }
+        cpus
+    }
+
+    /// The CPUs of those cores of which the set has all CPUs. O(c) of c CPU numbers, and a few steps where each CPU is a core of
+    /// its own.
+    pub fn whole_in(&self, cpus: &IdSet) -> IdSet
+        ensures is { result ≡ whole_in self.now cpus.now }
+        ensures whole { IsWhole self.now result }
+    {
+        self.cpus_of_cores(&self.cores_in(cpus))
     }
 
     /// The node that has the CPU.

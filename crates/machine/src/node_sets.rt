@@ -1,11 +1,11 @@
 //! The CPUs of each node, as the member `nodes` has them.
-ghost use Rattle.std.specs.Prelude.{◌≡◌, ◌≤◌, None, IfOk, OnOk, AllPairs, length, map};
+ghost use Rattle.std.specs.Prelude.{◌≡◌, ◌≤◌, IfOk, OnOk, AllPairs, length, map};
 ghost use Rattle.std.specs.Result.{result_err};
 ghost use Rattle.std.specs.FinSet as set;
 ghost use Rattle.serde_json.specs.View.{view};
 ghost use Rattle.cpu_set.specs.Ids.{IsDisjoint};
 ghost use Rattle.machine.specs.declared.field.Field.TheVariants.{Nodes};
-ghost use Rattle.machine.specs.KindFaults.{list_fault, AreLists};
+ghost use Rattle.machine.specs.KindFaults.{AreLists};
 ghost use Rattle.machine.specs.Present.{union_of};
 ghost use Rattle.machine.specs.Listed.{listed};
 ghost use Rattle.machine.specs.NodesFault.{twice_fault, node_fault, first_node_fault, nodes_fault};
@@ -13,7 +13,7 @@ ghost use Rattle.machine.specs.NodesFault.{twice_fault, node_fault, first_node_f
 use crate::NODE_LIMIT;
 use crate::fault::MachineFault;
 use crate::field::Field;
-use crate::lookup::list;
+use crate::lookup::{cpus_of, list};
 use cpu_set::IdSet;
 use serde_json::Value;
 use std::alloc::{AllocError, Global};
@@ -78,15 +78,7 @@ pub(crate) fn sets_of(alloc: Global, items: &[Value]) -> Result<Vec<IdSet>, Allo
 {
     let mut sets = Vec::with_capacity(alloc, items.len())?;
     for item in items {
-        sets.push(cpus_of(item))?;
+        sets.push(cpus_of(item, Field::Nodes))?;
     }
     Ok(sets)
-}
-
-/// The CPUs of a value that is a list.
-fn cpus_of(item: &Value) -> IdSet
-    requires { list_fault Nodes (view item.now) ≡ None }
-    ensures { result ≡ listed (view item.now) }
-{
-    list(item, Field::Nodes).unwrap()
 }

@@ -30,23 +30,23 @@ use Rattle.node.proofs.MachineLemmas.{runs_rebalance}
 use Rattle.node.proofs.SaidLemmas.{AreSaid, rebalance_said, containers_are_said}
 
 -- what a section asks for tells whether that is CPUs of its own
-pinned_by : (limit : Option ℕ) (period : ℕ) (allowed : Ids) (s : Section) (count : ℕ) → limit_of s.quota ≡ limit → IsKind limit period allowed s (Pinned count)
+pinned_by : (threads : ℕ) (limit : Option ℕ) (period : ℕ) (allowed : Ids) (s : Section) (count : ℕ) → limit_of s.quota ≡ limit → IsKind threads limit period allowed s (Pinned count)
     → is_pinned s ≡ true
-pinned_by (Some limit) period allowed s count is kind = ap (λ (o : Option ℕ). is_some o || not (is_empty (named s.cpus))) is
-pinned_by None period allowed s count is kind = kind.0
+pinned_by threads (Some limit) period allowed s count is kind = ap (λ (o : Option ℕ). is_some o || not (is_empty (named s.cpus))) is
+pinned_by threads None period allowed s count is kind = kind.0
 
-shared_by : (limit : Option ℕ) (period : ℕ) (allowed : Ids) (s : Section) → IsKind limit period allowed s Shared → is_pinned s ≡ false
-shared_by (Some limit) period allowed s kind = absurd kind
-shared_by None period allowed s kind = kind
+shared_by : (threads : ℕ) (limit : Option ℕ) (period : ℕ) (allowed : Ids) (s : Section) → IsKind threads limit period allowed s Shared → is_pinned s ≡ false
+shared_by threads (Some limit) period allowed s kind = absurd kind
+shared_by threads None period allowed s kind = kind
 
 module _ (m : Layout) (k : KernelState) (pool : Ids) (s : Section) (d : Demand) (asked : IsDemand m s d) (cpus : Ids) where
   abbrev Kinds : Kind → Type 0
-  Kinds = IsKind (limit_of s.quota) (period_of s.period) (allowed_of m s) s
+  Kinds = IsKind m.threads (limit_of s.quota) (period_of s.period) (allowed_of m s) s
 
   are_asked : (kind : Kind) → d.kind ≡ kind → HasItsCpus k pool d kind cpus → AreAsked m k pool s cpus (is_pinned s)
   are_asked (Pinned count) is has =
       let kind : Kinds (Pinned count) = subst Kinds is asked.kind in
-      let pinned : is_pinned s ≡ true = pinned_by (limit_of s.quota) (period_of s.period) (allowed_of m s) s count refl kind in
+      let pinned : is_pinned s ≡ true = pinned_by m.threads (limit_of s.quota) (period_of s.period) (allowed_of m s) s count refl kind in
       let allowed : d.allowed ≡ allowed_of m s = asked.allowed ∙ ap (λ (b : Bool). if b then allowed_of m s else set.empty) pinned in
       subst (AreAsked m k pool s cpus) (sym pinned) (
         subst (λ (n : ℕ). Kinds (Pinned n)) (sym has.0) kind,
@@ -54,7 +54,7 @@ module _ (m : Layout) (k : KernelState) (pool : Ids) (s : Section) (d : Demand) 
       )
   are_asked Shared is has =
       let kind : Kinds Shared = subst Kinds is asked.kind in
-      subst (AreAsked m k pool s cpus) (sym (shared_by (limit_of s.quota) (period_of s.period) (allowed_of m s) s kind)) has
+      subst (AreAsked m k pool s cpus) (sym (shared_by m.threads (limit_of s.quota) (period_of s.period) (allowed_of m s) s kind)) has
 
 has_asked : (events : List Event) (m : Layout) (k : KernelState) (pool : Ids) (e : List ℕ × ContainerState) → IsSaid events m e → IsServed k pool e
     → HasAsked events m k pool e

@@ -26,7 +26,7 @@ use Rattle.node.specs.Said.{IsAskedIn}
 -- none of its own they are the pool, which is not empty
 abbrev pub AreAsked : Layout → KernelState → Ids → Section → Ids → Bool → Type 0
 AreAsked m k pool s cpus true =
-    IsKind (limit_of s.quota) (period_of s.period) (allowed_of m s) s (Pinned (set.len cpus))
+    IsKind m.threads (limit_of s.quota) (period_of s.period) (allowed_of m s) s (Pinned (set.len cpus))
     × ((cpu : ℕ) → set.contains cpus cpu ≡ true → (set.contains (allowed_of m s) cpu ≡ true) × (set.contains k.tree.online cpu ≡ true))
 AreAsked m k pool s cpus false = (cpus ≡ pool) × (is_empty pool ≡ false)
 

@@ -1,14 +1,16 @@
-use Rattle.std.proofs.Common.{◌*◌, ◌≤◌, arith}
-use Rattle.std.proofs.lemmas.Nat.{mul-le}
+use Rattle.std.proofs.Common.{◌≡◌, ◌*◌, ◌≤◌, ◌<◌, ap, sym, ◌∙◌, arith}
 use Rattle.cpu_set.specs.declared.TheConstants.{CPU_LIMIT}
-use Rattle.demand.proofs.Rounding.{asks_ceil}
+use Rattle.demand.proofs.Rounding.{rounded}
 use Rattle.demand.proofs.quota.cpus_asked.Goals as goal
+
+pub returns-then-count-clause-none : goal.returns-then-count-clause-none
+returns-then-count-clause-none c =
+    (rounded c.args.quota c.args.period c.args.threads c.div_ceil.result c.div_ceil-2.result c.requires.quota c.requires.period c.requires.threads c.div_ceil.ensures c.div_ceil-2.ensures).past (omega (arith, c.if-count.true))
+
+pub returns-else-count-clause-some : goal.returns-else-count-clause-some
+returns-else-count-clause-some c =
+    (rounded c.args.quota c.args.period c.args.threads c.div_ceil.result c.div_ceil-2.result c.requires.quota c.requires.period c.requires.threads c.div_ceil.ensures c.div_ceil-2.ensures).asks
 
 pub returns-else-count-clause-fits : goal.returns-else-count-clause-fits
 returns-else-count-clause-fits c =
-    let count = c.div_ceil-count.result in
-    let asks = asks_ceil c.args.quota c.args.period count c.requires.quota c.requires.period c.div_ceil-count.ensures in
-    let enough : c.args.quota ≤ count * c.args.period = asks.enough in
-    let few : count ≤ CPU_LIMIT = omega (arith, c.if-count.false) in
-    let most : count * c.args.period ≤ CPU_LIMIT * c.args.period = mul-le count c.args.period CPU_LIMIT c.args.period few (omega arith) in
-    omega (arith, enough, most)
+    (rounded c.args.quota c.args.period c.args.threads c.div_ceil.result c.div_ceil-2.result c.requires.quota c.requires.period c.requires.threads c.div_ceil.ensures c.div_ceil-2.ensures).fits (omega (arith, c.if-count.false))

@@ -8,13 +8,13 @@ loop-next-init c = IsMarked-none _ _ _ _ _ c.requires.room refl (c.first-next.en
 
 pub loop-next-preserved : goal.loop-next-preserved
 loop-next-preserved c =
-    let Marked : Option ℕ → Type 0 = λ next. IsMarked c.args.cpus.now c.args.node c.args.places.now c.loop-next.places next in
-    IsMarked-more c.args.cpus.now c.args.node c.args.places.now c.loop-next.places _ c.in-Some.cpu _
+    let Marked : Option ℕ → Type 0 = λ next. IsMarked c.args.cpus.now c.args.number c.args.places.now c.loop-next.places next in
+    IsMarked-more c.args.cpus.now c.args.number c.args.places.now c.loop-next.places _ c.in-Some.cpu _
     (subst Marked c.in-Some.is c.loop-next.invariant) refl (c.next_after-next.ensures.first, c.next_after-next.ensures.in_range)
 
 pub loop-next-smaller : goal.loop-next-smaller
 loop-next-smaller c =
-    let Marked : Option ℕ → Type 0 = λ next. IsMarked c.args.cpus.now c.args.node c.args.places.now c.loop-next.places next in
+    let Marked : Option ℕ → Type 0 = λ next. IsMarked c.args.cpus.now c.args.number c.args.places.now c.loop-next.places next in
     let marked = subst Marked c.in-Some.is c.loop-next.invariant in
     let here : IsCpu c.in-Some.cpu = marked.in_range in
     let rises : c.in-Some.cpu < place c.next_after-next.result =

@@ -5,7 +5,7 @@ use Rattle.machine.proofs.index.mark.Given as goal
 
 -- the CPUs before the next one are written
 abbrev pub invariant-loop-next : goal.invariant-loop-next
-invariant-loop-next l = IsMarked l.cpus l.node l.initial.places l.places l.next
+invariant-loop-next l = IsMarked l.cpus l.number l.initial.places l.places l.next
 
 abbrev pub decreases-loop-next : goal.decreases-loop-next
 decreases-loop-next l = CPU_LIMIT - place l.next

@@ -3,6 +3,7 @@ use Rattle.std.proofs.lemmas.List.{length-map}
 use Rattle.serde_json.specs.View.{view}
 use Rattle.machine.specs.Listed.{listed}
 use Rattle.machine.specs.Present.{union_of}
+use Rattle.machine.proofs.CoreLaws.{AreCores-read}
 use Rattle.machine.proofs.SoundLaws.{IsSound-parts}
 use Rattle.machine.proofs.machine.Machine.describe.Goals as goal
 
@@ -12,15 +13,20 @@ invariant_of-result c =
     let same : c.in_ok-nodes.nodes.items ≡ map listed (map view items) = c.in_ok-nodes.ensures in
     let copied : c.in_ok-from_slice.field-0.items ≡ c.in_ok-distances.distances.items = c.in_ok-from_slice.ensures.items ∙ c.as_slice.ensures.value in
     let count : length c.in_ok-nodes.nodes.items ≡ length items = ap length same ∙ length-map (map view items) listed ∙ length-map items view in
+    let all = c.in_ok-present.ensures.union ∙ ap union_of (sym same) in
     record {
-      sound = IsSound-parts _ _ _ _ _ _
+      sound = IsSound-parts _ _ _ _ _ _ _ _
           (rw count c.in_ok-present.ensures.some) (rw count c.in_ok-present.ensures.few) (rw same c.in_ok-present.ensures.apart)
           (rw (count, copied) c.in_ok-distances.ensures.are)
-          (c.in_ok-present.ensures.union ∙ ap union_of (sym same))
-          c.in_ok-reserved.ensures.some c.in_ok-reserved.ensures.present c.in_ok-offline.ensures.within c.minus.ensures;
-      all = c.in_ok-present.ensures.union ∙ ap union_of (sym same);
+          all
+          c.in_ok-reserved.ensures.some c.in_ok-reserved.ensures.present c.in_ok-offline.ensures.within c.minus.ensures
+          (AreCores-read _ _ (rw all at c.stays_below_the_limit.ensures) (rw same c.in_ok-present.ensures.apart)
+          (rw same c.in_ok-cores.ensures.fault)
+          (c.in_ok-from_slice-3.ensures.items ∙ c.in_ok-cores.ensures.lowest)
+          c.in_ok-cores.ensures.threads);
+      all = all;
       in_range = c.stays_below_the_limit.ensures;
-      places = rw c.in_ok-from_slice-2.ensures.items (rw c.deref.ensures.value at c.places_of-places.ensures);
+      places = rw (same, c.in_ok-from_slice-2.ensures.items) c.places_of-places.ensures;
     }
 
 pub returns-clause-sound : goal.returns-clause-sound
