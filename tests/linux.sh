@@ -52,7 +52,7 @@ done
 status=0
 timeout "${LIMIT:-900}" qemu-system-x86_64 -M q35 -cpu max -accel tcg,thread=multi -m 1280 -smp 8,sockets=4,cores=2,threads=1 "${nodes[@]}" \
     -nodefaults -display none -serial stdio -no-reboot -kernel "$kernel" -initrd "$work/initrd.gz" \
-    -append "console=ttyS0 quiet panic=-1 loglevel=1 mitigations=off rdinit=/init" </dev/null 2>&1 | sed -u 's/\r$//' | tee "$work/out" | grep --line-buffered '^linux: ' || status=$?
+    -append "console=ttyS0 quiet panic=-1 loglevel=1 mitigations=off no_timer_check rdinit=/init" </dev/null 2>&1 | sed -u 's/\r$//' | tee "$work/out" | grep --line-buffered '^linux: ' || status=$?
 [ -z "${KEEP:-}" ] || cp "$work/out" "$KEEP"
 if ! grep -q '^linux: all parts passed' "$work/out"; then
     grep -av '^linux: ' "$work/out" | tail -40
