@@ -6,8 +6,8 @@ use Rattle.certificate_text.specs.TextError.{AsksForMemory}
 use Rattle.certificate_text.specs.Verdict.{IsVerdict, IsVerdictError, SaysLeast}
 use Rattle.certificate_text.specs.declared.checking.VerdictFault.TheVariants as wrong
 use Rattle.faults.specs.declared.or_memory.OrMemory.TheVariants.{Fault}
-use Rattle.inputs.specs.declared.refusal.Refusal.{Refusal}
-use Rattle.inputs.specs.declared.refusal.Refusal.TheVariants as refusal
+use Rattle.program_io.specs.declared.refusal.Refusal.{Refusal}
+use Rattle.program_io.specs.declared.refusal.Refusal.TheVariants as refusal
 
 -- the verdict that the certificate proves: the plan costs this, and no plan costs less; or it has this distance and moves so
 -- many CPUs, no plan is nearer, and none as near moves fewer; or there is none

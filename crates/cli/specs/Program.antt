@@ -14,17 +14,17 @@ use Rattle.cli.specs.Asked.{Asked, asked_for, check, list, run, slit, solve}
 use Rattle.cli.specs.Mistakes.{mistakes}
 use Rattle.cli.specs.Named.{name_of, reads_named}
 use Rattle.cli.specs.Notes.{note_of, shown, standard_input, unread_line, unwritten_line}
-use Rattle.inputs.specs.Pages.{TakesIfRoom, contents_of}
-use Rattle.inputs.specs.Readings.{Reading, Reads}
+use Rattle.program_io.specs.Pages.{TakesIfRoom, contents_of}
+use Rattle.program_io.specs.Readings.{Reading, Reads}
 use Rattle.cli.specs.Ready.{SetsUp, refusal_of}
 use Rattle.cli.specs.Roots.{root_line, root_note}
-use Rattle.inputs.specs.RefusalLine.{refusal_line}
+use Rattle.program_io.specs.RefusalLine.{refusal_line}
 use Rattle.cli.specs.RunAnswer.{Plays, is_unread}
 use Rattle.cli.specs.Says.{Complains, Says}
 use Rattle.cli.specs.Tells.{Checks, Lists, Solves, Tabulates}
 use Rattle.cli.specs.declared.console.Console.{Console}
-use Rattle.inputs.specs.declared.read_fault.ReadFault.{ReadFault}
-use Rattle.inputs.specs.declared.refusal.Refusal.TheVariants as refusal
+use Rattle.program_io.specs.declared.read_fault.ReadFault.{ReadFault}
+use Rattle.program_io.specs.declared.refusal.Refusal.TheVariants as refusal
 use Rattle.cli.specs.declared.unready.Unready.{Unready}
 use Rattle.cli.specs.declared.unrooted.Unrooted.{Unrooted}
 use Rattle.cli.specs.declared.unready.Unready.TheVariants as unready

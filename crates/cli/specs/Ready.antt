@@ -5,12 +5,12 @@ use Rattle.machine.specs.Layout.{Layout}
 use Rattle.machine.specs.MachineOf.{machine_of, text_fault}
 use Rattle.slit.specs.Table.{Table}
 use Rattle.cli.specs.Answer.{AnswersInput}
-use Rattle.inputs.specs.FaultRefusal.{read_refusal}
-use Rattle.inputs.specs.Readings.{IsUnopened, Reading}
+use Rattle.program_io.specs.FaultRefusal.{read_refusal}
+use Rattle.program_io.specs.Readings.{IsUnopened, Reading}
 use Rattle.cli.specs.SlitAnswer.{IsTableOrRefusal}
-use Rattle.inputs.specs.declared.read_fault.ReadFault.{ReadFault}
-use Rattle.inputs.specs.declared.refusal.Refusal.{Refusal}
-use Rattle.inputs.specs.declared.refusal.Refusal.TheVariants as refusal
+use Rattle.program_io.specs.declared.read_fault.ReadFault.{ReadFault}
+use Rattle.program_io.specs.declared.refusal.Refusal.{Refusal}
+use Rattle.program_io.specs.declared.refusal.Refusal.TheVariants as refusal
 use Rattle.cli.specs.declared.unready.Unready.{Unready}
 use Rattle.cli.specs.declared.unready.Unready.TheVariants as unready
 use Rattle.faults.specs.declared.or_memory.OrMemory.{OrMemory}

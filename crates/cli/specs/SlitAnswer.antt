@@ -4,8 +4,8 @@ use Rattle.std.specs.List.{flat_map, range_with_len}
 use Rattle.slit.specs.Describes.{Describes}
 use Rattle.slit.specs.SlitFaultOf.{slit_fault}
 use Rattle.slit.specs.Table.{Table, distance}
-use Rattle.inputs.specs.declared.refusal.Refusal.{Refusal}
-use Rattle.inputs.specs.declared.refusal.Refusal.TheVariants as refusal
+use Rattle.program_io.specs.declared.refusal.Refusal.{Refusal}
+use Rattle.program_io.specs.declared.refusal.Refusal.TheVariants as refusal
 
 -- an entry of a row, behind a space unless it is the first
 abbrev pub entry_text : ℕ → ℕ → List ℕ

@@ -2,8 +2,8 @@
 use Rattle.std.specs.Prelude.{◌≡◌, ℕ, List, Result, MatchResult, IfErr, true}
 use Rattle.certificate_text.specs.declared.checking.VerdictFault.TheVariants as wrong
 use Rattle.faults.specs.declared.or_memory.OrMemory.TheVariants.{Memory, Fault}
-use Rattle.inputs.specs.declared.refusal.Refusal.{Refusal}
-use Rattle.inputs.specs.declared.refusal.Refusal.TheVariants as refusal
+use Rattle.program_io.specs.declared.refusal.Refusal.{Refusal}
+use Rattle.program_io.specs.declared.refusal.Refusal.TheVariants as refusal
 use Rattle.solution.specs.Solves.{HasRows, IsUnsolved, Solves}
 use Rattle.solution.specs.declared.solution.Solution.{Solution}
 

@@ -8,7 +8,7 @@ use crate::opens::Opens;
 use crate::program::run_program;
 use crate::words::Grammar;
 use cgroup_tree::GroupTrees;
-use inputs::{Input, Refusal};
+use program_io::{Input, Refusal};
 use std::alloc::Global;
 use std::io;
 use std::io::{ErrorKind, Read, Write};

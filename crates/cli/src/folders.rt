@@ -5,7 +5,7 @@ ghost use Rattle.cli.specs.Configs.{IsConfigOf};
 
 use crate::opens::Opens;
 use faults::OrMemory;
-use inputs::Input;
+use program_io::Input;
 use runtime::Bundles;
 use std::alloc::{AllocError, Global};
 

@@ -17,7 +17,7 @@ use crate::words::{Grammar, Words, parse};
 use cgroup_tree::GroupTrees;
 use clap::Error;
 use faults::OrMemory;
-use inputs::{Input, Refusal};
+use program_io::{Input, Refusal};
 use std::alloc::Global;
 use std::io::{Read, Write};
 

@@ -2,8 +2,8 @@ use crate::printed::Printed;
 use byte_output::put;
 use cgroup_tree::RootFault;
 use faults::OrMemory;
-use inputs::{ReadFault, Refusal};
 use kernel_model::KernelFault;
+use program_io::{ReadFault, Refusal};
 use std::io;
 use std::io::Write;
 
