@@ -18,7 +18,7 @@ use std::marker::Model;
 /// A modelled kernel whose writes are made in a cgroup v2 tree first.
 ///
 /// A write that the model would refuse is asked of nobody. Each other is asked for once, and where that is refused, or
-/// memory is short before, the call is a write that failed: the model is as it was. A first process is made in the model
+/// an allocation failed before it, the call is a write that failed: the model is as it was. A first process is made in the model
 /// alone.
 ///
 /// At each time all that was asked of the files is what the calls of this kernel stand for, in their order; and where

@@ -21,7 +21,7 @@ const GROUP: &str = "/numarun";
 /// Why a tree is not taken.
 #[derive(Clone, Copy, Debug, PartialEq, Eq)]
 pub enum RootFault {
-    /// E1: there was no memory.
+    /// E1: an allocation failed.
     Memory,
     /// E113: the root is no folder, or a file of it can't be read.
     Unread(ErrorKind),

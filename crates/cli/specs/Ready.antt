@@ -19,7 +19,7 @@ abbrev pub refusal_of : Unready → Refusal
 refusal_of (unready.Machine why) = why
 refusal_of (unready.Slit why) = why
 
--- the machine that the text describes beside the table, or what is wrong with the text; lack of memory only where
+-- the machine that the text describes beside the table, or what is wrong with the text; an allocation failure only where
 -- no fault shows before it is read as JSON
 abbrev pub IsReady : Option Table → List ℕ → Result Layout Refusal → Type 0
 IsReady table text (Ok m) = machine_of table text ≡ Ok m

@@ -12,7 +12,7 @@ use std::io::Write;
 pub enum Unrooted {
     /// E113: the root is no folder, or a file of it can't be read.
     Unread(ReadFault),
-    /// E1: there was no memory.
+    /// E1: an allocation failed.
     Memory,
     /// E115: its groups can't have cpusets of their own.
     NoCpuset,

@@ -48,7 +48,7 @@ StopsWith-told a b c reads bs kind fault told few h kept = by_fault fault told
     by_fault TooManyBytes told = absurd told
     by_fault TooManyReads told = absurd told
 
--- there was no memory for the last piece
+-- the allocation for the last piece failed
 pub LacksRoom-more : (a b c : Option (List ℕ)) (bs cs : List ℕ) (n : ℕ) → 0 < n → n ≤ length cs → length bs + n ≤ MOST_BYTES → Consumes a b bs → Consumes b c (take n cs) → LacksRoom a c
 LacksRoom-more a b c bs cs n some room within p q = let long : length (bs ++ take n cs) ≡ length bs + n = omega (arith, room, length-append bs (take n cs), length-take n cs) in
     (bs ++ take n cs, omega (arith, some, long), omega (arith, within, long), Consumes-trans a b c bs (take n cs) p q)

@@ -11,8 +11,8 @@ use Rattle.program_io.specs.declared.reading.TheConstants.{MOST_BYTES, MOST_READ
 abbrev pub Reading : Type 0
 Reading = Result (List ℕ) (OrMemory ReadFault)
 
--- what the reading of these bytes may answer: too many bytes or reads only where there are as many bytes, and lack of memory
--- only where there are any; no one can know beforehand whether memory suffices or a read fails
+-- what the reading of these bytes may answer: too many bytes or reads only where there are as many bytes, and an allocation failure
+-- only where there are any; no one can know beforehand whether an allocation or a read fails
 abbrev pub IsReadingOf : List ℕ → Reading → Type 0
 IsReadingOf all (Ok bytes) = (bytes ≡ all) × (length bytes ≤ MOST_BYTES)
 IsReadingOf all (Err Memory) = 0 < length all

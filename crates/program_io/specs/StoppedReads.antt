@@ -23,7 +23,7 @@ StopsAfter old new reads = (taken : List ℕ) × IsGivenBy reads taken × (lengt
 abbrev pub StopsEarly : Option (List ℕ) → Option (List ℕ) → Type 0
 StopsEarly old new = (reads : ℕ) × (reads < MOST_READS) × StopsAfter old new reads
 
--- some bytes were read, for which there was no memory
+-- some bytes were read, and an allocation for them failed
 abbrev pub LacksRoom : Option (List ℕ) → Option (List ℕ) → Type 0
 LacksRoom old new = (taken : List ℕ) × (0 < length taken) × (length taken ≤ MOST_BYTES) × Consumes old new taken
 

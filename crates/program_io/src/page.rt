@@ -11,7 +11,7 @@ use std::io::{ErrorKind, Write};
 pub(crate) const ROOM: usize = 8192;
 
 /// A writer that keeps what it is given, up to 8,192 bytes, until it is flushed, so that a short answer goes out in
-/// one write. It takes no memory. What waits when it is dropped is lost.
+/// one write. It allocates nothing. What waits when it is dropped is lost.
 #[derive(Drop)]
 pub struct Page<W> {
     pub to: W,

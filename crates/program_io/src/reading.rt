@@ -20,7 +20,7 @@ pub(crate) const PIECE: usize = 8192;
 ///
 /// # Errors
 /// `Fault` where a read fails, where [`MOST_READS`] reads haven't come to the end, or where there are more
-/// than [`MOST_BYTES`] bytes; `Memory` where there is none for them. The reader then gave what was read so far,
+/// than [`MOST_BYTES`] bytes; `Memory` where an allocation for them failed. The reader then gave what was read so far,
 /// at most [`MOST_BYTES`] bytes, and one more where there are too many.
 pub fn read_all<R: Read>(alloc: Global, reader: &mut R) -> Result<Vec<u8>, OrMemory<ReadFault>>
     ensures bytes { IfOk result (λ bytes. IfSome (R.remaining reader.old) (λ all. bytes.items ≡ all)) }

@@ -18,7 +18,7 @@ use std::io::Write;
 /// Why numarun turns an input down.
 #[derive(Clone, Copy, Debug, PartialEq, Eq)]
 pub enum Refusal {
-    /// E1: there was no memory.
+    /// E1: an allocation failed.
     Memory,
     /// E10 to E12: the text is no list of CPUs.
     List(ListError),
