@@ -17,13 +17,13 @@ trap 'rm -rf "$work"' EXIT
 refusing() { timeout 60 env REFUSE="$number" LD_PRELOAD="$work/refuse.so" "$@"; }
 
 wrong() {
-    echo "growth: $1: status $2, answer '$(cat "$work/output")', error '$(cat "$work/error")'"
+    echo "allocation failures: $1: status $2, answer '$(cat "$work/output")', error '$(cat "$work/error")'"
     exit 1
 }
 
-# each_growth NAME STATUS STATUSES INPUT WORD..: the status of the whole answer to these words and this standard input, and
+# each_failure NAME STATUS STATUSES INPUT WORD..: the status of the whole answer to these words and this standard input, and
 # the statuses of E1 in the order of the refused allocations
-each_growth() {
+each_failure() {
     local name=$1 status=$2 expected=$3 input=$4 number=0 statuses="" got
     shift 4
     timeout 60 "$program" "$@" <"$input" >"$work/whole" 2>"$work/whole-error"
@@ -41,8 +41,8 @@ each_growth() {
             wrong "$name, allocation $number" $got
         fi
     done
-    [[ $statuses =~ ^$expected$ ]] || { echo "growth: $name: the statuses of E1 are '$statuses', not $expected"; exit 1; }
-    echo "growth: $name: $((number - 1)) allocations, each refused in turn, ${#statuses} of them seen"
+    [[ $statuses =~ ^$expected$ ]] || { echo "allocation failures: $name: the statuses of E1 are '$statuses', not $expected"; exit 1; }
+    echo "allocation failures: $name: $((number - 1)) allocations, each refused in turn, ${#statuses} of them seen"
 }
 
 example=$top/crates/numarun/stdin
@@ -51,32 +51,32 @@ sed '$d' "$example" >"$work/short"
 printf 'SLIT\x30\0\0\0\x01\x53' >"$work/table"
 head -c 26 /dev/zero >>"$work/table"
 printf '\x02\0\0\0\0\0\0\0\x0a\x15\x15\x0a' >>"$work/table"
-each_growth "no words" 0 "1+" "$example"
-each_growth "check" 0 "1+2+1+" "$example" check
-each_growth "check FILE" 0 "1+2+1+" /dev/null check "$example"
-each_growth "a refused certificate" 1 "1+2+1+" "$work/dear" check
-each_growth "a text that ends early" 1 "1+2+1+" "$work/short" check
-each_growth "no such file" 1 "1+2+" /dev/null check "$work/none"
+each_failure "no words" 0 "1+" "$example"
+each_failure "check" 0 "1+2+1+" "$example" check
+each_failure "check FILE" 0 "1+2+1+" /dev/null check "$example"
+each_failure "a refused certificate" 1 "1+2+1+" "$work/dear" check
+each_failure "a text that ends early" 1 "1+2+1+" "$work/short" check
+each_failure "no such file" 1 "1+2+" /dev/null check "$work/none"
 { echo "numarun-problem 1"; grep '^row ' "$example"; echo "end"; } >"$work/problem"
 printf 'numarun-problem 1\nrow a 2 10:1-2\nrow b 1 10:1-2\nend\n' >"$work/lack"
 sed 's/^row b/row a/' "$work/problem" >"$work/twice"
-each_growth "solve" 0 "1+2+1+" "$work/problem" solve
-each_growth "solve FILE" 0 "1+2+1+" /dev/null solve "$work/lack"
-each_growth "an id of two rows" 1 "1+2+1+" "$work/twice" solve
-each_growth "list" 0 "1+2+" /dev/null list "3,1-2"
-each_growth "a text that is no list" 1 "1+2+" /dev/null list 5-3
-each_growth "slit" 0 "1+2+1+" /dev/null slit "$work/table"
-each_growth "the help" 0 "1+2+" /dev/null --help
-each_growth "the help of a command" 0 "1+2+" /dev/null help check
-each_growth "the version" 0 "1+2+" /dev/null --version
-each_growth "an unknown command" 2 "1+2+" /dev/null foo
-each_growth "a missing argument" 2 "1+2+" /dev/null list
-each_growth "an unknown option" 2 "1+2+" /dev/null check -f
-python3 -B "$top/tests/scripts/growth.py" "$program" "$work/refuse.so" "$top/tests/scripts/worked/every-command" || exit 1
+each_failure "solve" 0 "1+2+1+" "$work/problem" solve
+each_failure "solve FILE" 0 "1+2+1+" /dev/null solve "$work/lack"
+each_failure "an id of two rows" 1 "1+2+1+" "$work/twice" solve
+each_failure "list" 0 "1+2+" /dev/null list "3,1-2"
+each_failure "a text that is no list" 1 "1+2+" /dev/null list 5-3
+each_failure "slit" 0 "1+2+1+" /dev/null slit "$work/table"
+each_failure "the help" 0 "1+2+" /dev/null --help
+each_failure "the help of a command" 0 "1+2+" /dev/null help check
+each_failure "the version" 0 "1+2+" /dev/null --version
+each_failure "an unknown command" 2 "1+2+" /dev/null foo
+each_failure "a missing argument" 2 "1+2+" /dev/null list
+each_failure "an unknown option" 2 "1+2+" /dev/null check -f
+python3 -B "$top/tests/scripts/allocation_failures.py" "$program" "$work/refuse.so" "$top/tests/scripts/worked/every-command" || exit 1
 
-# tools_growth NAME FAULTS INPUT WORD..: what a tool answers to these words and this standard input; where an allocation is refused,
+# tools_failure NAME FAULTS INPUT WORD..: what a tool answers to these words and this standard input; where an allocation is refused,
 # a front of that, and a fault of these
-tools_growth() {
+tools_failure() {
     local name=$1 faults=$2 input=$3 number=0 seen=0 got
     shift 3
     timeout 60 "$tools" "$@" <"$input" >"$work/whole" 2>"$work/error" || { cp "$work/whole" "$work/output"; wrong "$name" $?; }
@@ -93,13 +93,13 @@ tools_growth() {
             wrong "$name, allocation $number" $got
         fi
     done
-    [ $seen -gt 0 ] || { echo "growth: $name: no refusal was seen"; exit 1; }
-    echo "growth: $name: $((number - 1)) allocations, each refused in turn, $seen of them seen"
+    [ $seen -gt 0 ] || { echo "allocation failures: $name: no refusal was seen"; exit 1; }
+    echo "allocation failures: $name: $((number - 1)) allocations, each refused in turn, $seen of them seen"
 }
 
 . "$top/benches/build-tools.sh"
 { cat "$example"; printf 'numarun-certificate 1\nrow a 2 10:1-2\nrow b 1 10:1-2\nshort a\nshort b\nend\n'; } >"$work/problems"
 memory="memory allocation failed|out of memory"
-tools_growth "the solver" "$memory" "$work/problems" solve
+tools_failure "the solver" "$memory" "$work/problems" solve
 python3 -B "$top/tests/runs/over_memory.py" "$tools" "$work/refuse.so" || exit 1
-tools_growth "lists, printed" "$memory|no such benchmark, or a call that was refused" /dev/null lists 1
+tools_failure "lists, printed" "$memory|no such benchmark, or a call that was refused" /dev/null lists 1

@@ -1,8 +1,8 @@
-"""Runs a worked transcript by the program with each of its allocations refused in turn: `growth.py PROGRAM REFUSE.SO
+"""Runs a worked transcript by the program with each of its allocations refused in turn: `allocation_failures.py PROGRAM REFUSE.SO
 TRANSCRIPT`. The answer is the whole one, or E1 alone, or E1 for one command, and of all others what they answer where that
-command is left out. Each command that takes memory has to be seen with E1. The status of E1 alone is 1 while the words are
+command is left out. Each command that allocates has to be seen with E1. The status of E1 alone is 1 while the words are
 collected, 2 while they are parsed, and 1 from then on. Each container of the transcript is created or adopted twice, so that one which
-could not be for want of memory is made by the second line. Then the same lines come on as many CPUs and nodes as there may be."""
+could not be is made by the second line. Then the same lines come on as many CPUs and nodes as there may be."""
 
 import json
 import os
@@ -17,7 +17,7 @@ MEMORY = "refused E1 Memory"
 
 
 def answers(told, without):
-    """What the lines answer where memory is short for the one of this number."""
+    """What the lines answer where an allocation fails in the one of this number."""
     runtime = Runtime(Machine(told.machine, told.slit and read_slit(told.slit)), config_of)
     lines = [[MEMORY] if k == without else runtime.answer(line) for k, line in enumerate(told.script)]
     return "".join(answer + "\n" for answers in lines for answer in answers)
@@ -67,13 +67,13 @@ def each_refused(program, library, told, name):
             elif done.stderr == b"" and output == MEMORY + "\n":
                 statuses += str(done.returncode)
             else:
-                sys.exit(f"growth: {name}, allocation {number}: {str(done)[:3000]}")
+                sys.exit(f"allocation failures: {name}, allocation {number}: {str(done)[:3000]}")
         os.chdir("/")
     if not re.fullmatch("1+2+1+", statuses):
-        sys.exit(f"growth: {name}: the statuses of E1 are {statuses}")
+        sys.exit(f"allocation failures: {name}: the statuses of E1 are {statuses}")
     if seen != {"create", "adopt", "update", "state", "fork", "rebalance", "begin"}:
-        sys.exit(f"growth: {name}: E1 was seen of {sorted(seen)}")
-    print(f"growth: {name}: {number - 1} allocations, each refused in turn, E1 of {', '.join(sorted(seen))}")
+        sys.exit(f"allocation failures: {name}: E1 was seen of {sorted(seen)}")
+    print(f"allocation failures: {name}: {number - 1} allocations, each refused in turn, E1 of {', '.join(sorted(seen))}")
 
 
 def main(program, library, transcript):
