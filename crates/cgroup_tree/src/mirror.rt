@@ -156,7 +156,7 @@ impl<F: GroupFiles> Kernel for Mirror<F> {
                 kernel,
                 group,
                 CPUS_IN_EFFECT,
-                ids,
+                &ids,
             );
         }
         answer
@@ -228,7 +228,7 @@ impl<F: GroupFiles> Kernel for Mirror<F> {
         self.inner.requested_cpus(group)
     }
 
-    fn effective_cpus(&self, group: Group) -> Result<&IdSet, KernelFault> {
+    fn effective_cpus(&self, group: Group) -> Result<IdSet, KernelFault> {
         self.inner.effective_cpus(group)
     }
 
@@ -236,7 +236,7 @@ impl<F: GroupFiles> Kernel for Mirror<F> {
         self.inner.requested_mems(group)
     }
 
-    fn effective_mems(&self, group: Group) -> Result<&IdSet, KernelFault> {
+    fn effective_mems(&self, group: Group) -> Result<IdSet, KernelFault> {
         self.inner.effective_mems(group)
     }
 
