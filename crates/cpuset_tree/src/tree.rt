@@ -67,7 +67,7 @@ impl Tree {
     /// A tree of its root alone, which has the first serial and all of these CPUs and nodes in effect.
     ///
     /// # Errors
-    /// Lack of memory.
+    /// An allocation failure.
     pub fn new(
         alloc: Global,
         online: IdSet,

@@ -95,7 +95,7 @@ fn ids(answer: Result<&IdSet, KernelFault>) -> Result<Reply, OrMemory<KernelFaul
 /// Makes calls of a kernel, one after another, and keeps what they answered.
 ///
 /// # Errors
-/// Lack of memory for the answers, before the first call.
+/// An allocation failure of the answers, before the first call.
 pub fn make_calls<K: Kernel>(
     alloc: Global,
     kernel: &mut K,

@@ -51,7 +51,7 @@ pub struct FusedKernel<K: Kernel> {
 }
 
 impl<K: Kernel> FusedKernel<K> {
-    /// A kernel whose write of number `n` fails, counted from 1, refused ones too; with 0 none does. Takes no memory.
+    /// A kernel whose write of number `n` fails, counted from 1, refused ones too; with 0 none does. Allocates nothing.
     pub fn new(inner: K, n: u64) -> FusedKernel<K>
         ensures inner { result.inner ≡ inner }
         ensures fuse { result.fuse ≡ fuse_after n 0 }

@@ -58,7 +58,7 @@ impl ModelKernel {
     /// A kernel with its root group alone and no process, whose first process gets this pid.
     ///
     /// # Errors
-    /// Lack of memory.
+    /// An allocation failure.
     pub fn new(
         alloc: Global,
         present: IdSet,

@@ -8,6 +8,7 @@ pub mod Cores
 pub mod CoresOf
 pub mod WholeLaws
 pub mod CoreCounts
+pub mod CoreSums
 pub mod IsSound
 pub mod Index
 pub mod FieldName

@@ -224,6 +224,8 @@ impl Machine {
         ensures is { result ≡ self.now.threads }
         ensures some { 1 ≤ result }
         ensures each { (cpu : ℕ) → IsPresent self.now cpu → set.len (cpus_of_core self.now (core_of self.now cpu)) ≡ result }
+        ensures sound { IsSound self.now }
+        ensures in_range { InRange (present self.now) }
     {
         self.threads
     }
@@ -235,16 +237,15 @@ impl Machine {
         self.threads == 1
     }
 
-    /// The cores of which the set has all CPUs, each by its lowest CPU. O(c) of c CPU numbers, and a few steps where each CPU is
-    /// a core of its own.
+    /// The cores of which the set has all CPUs, each by its lowest CPU; the set itself where each CPU is a core of its own.
     pub fn cores_in(&self, cpus: &IdSet) -> IdSet
         ensures is { result ≡ cores_in self.now cpus.now }
         ensures sound { IsSound self.now }
     {
-        let present = self.union();
         if self.is_single() {
-            return present.meet(cpus);
+            return *cpus;
         }
+        let present = self.union();
         let broken = self.cores_of(&present.minus(cpus));
         self.cores_of(&present).minus(&broken)
     }
@@ -279,13 +280,13 @@ impl Machine {
         self.present.contains(cpu) && cores.contains(self.core_at(cpu))
     }
 
-    /// The CPUs of the cores with these lowest CPUs. O(c) of c CPU numbers, and a few steps where each CPU is a core of its own.
+    /// The CPUs of the cores with these lowest CPUs; the set itself where each CPU is a core of its own.
     pub fn cpus_of_cores(&self, cores: &IdSet) -> IdSet
-        ensures { result ≡ cpus_of_cores self.now cores.now }
+        ensures is { result ≡ cpus_of_cores self.now cores.now }
+        ensures sound { IsSound self.now }
     {
-        let present = self.union();
         if self.is_single() {
-            return present.meet(cores);
+            return *cores;
         }
         let mut cpus = IdSet::empty();
         for cpu in 0..CPU_LIMIT {
@@ -296,13 +297,16 @@ impl Machine {
         cpus
     }
 
-    /// The CPUs of those cores of which the set has all CPUs. O(c) of c CPU numbers, and a few steps where each CPU is a core of
-    /// its own.
-    pub fn whole_in(&self, cpus: &IdSet) -> IdSet
-        ensures is { result ≡ whole_in self.now cpus.now }
+    /// The CPUs of those cores of which the set has all CPUs; the set itself where each CPU is a core of its own.
+    pub fn whole_in(&self, cpus: IdSet) -> IdSet
+        ensures is { result ≡ whole_in self.now cpus }
         ensures whole { IsWhole self.now result }
+        ensures sound { IsSound self.now }
     {
-        self.cpus_of_cores(&self.cores_in(cpus))
+        if self.is_single() {
+            return cpus;
+        }
+        self.cpus_of_cores(&self.cores_in(&cpus))
     }
 
     /// The node that has the CPU.

@@ -27,7 +27,7 @@ use std::alloc::{AllocError, Global};
 /// at offers, of r rows with at most o offers each and g classes: each offer's set is made at most once for a row.
 ///
 /// # Errors
-/// Lack of memory.
+/// An allocation failure.
 pub fn group(alloc: Global, problem: &Problem, kinds: &[usize]) -> Result<Classes, AllocError>
     requires fit { IsTrue (list_all row_fits problem.now) }
     requires kinds { AreKinds problem.now (length problem.now) kinds.now }
