@@ -38,7 +38,8 @@ def same_as_by_hand(name, reserved):
 
 def with_cores(*cores):
     """What hwloc tells of two-socket with these cores in it."""
-    entries = "".join(f'<object type="Core" os_index="{k}" complete_cpuset="0x{sum(1 << cpu for cpu in core):x}"/>' for k, core in enumerate(cores))
+    words = [[sum(1 << cpu % 32 for cpu in core if cpu // 32 == word) for word in (1, 0)] for core in cores]
+    entries = "".join(f'<object type="Core" os_index="{k}" complete_cpuset="0x{high:x},0x{low:x}"/>' for k, (high, low) in enumerate(words))
     return open(TWO_SOCKET).read().replace('<object type="Package" os_index="0"', entries + '<object type="Package" os_index="0"', 1)
 
 
