@@ -142,7 +142,7 @@ node_found m c i sound has =
     by_place None at some = absurd (cc)
     by_place (Some j) at some = of_one_node m c j i sound.apart (IsOfNode-at m c j at) has
 
-weight_by_node : (m : Layout) (homes : Ids) (a b : ℕ) → node_of m a ≡ node_of m b → weight m homes a ≡ weight m homes b
+pub weight_by_node : (m : Layout) (homes : Ids) (a b : ℕ) → node_of m a ≡ node_of m b → weight m homes a ≡ weight m homes b
 unfolding weight
 weight_by_node m homes a b same = ap (λ i. fold min 255 (map (distance m i) (members homes))) same
 
