@@ -60,7 +60,7 @@ len-apart s t u in_s in_t in_u apart is =
 
 -- ---- cores one by one
 
-core_in_range : (m : Layout) (core : ℕ) → InRange (present m) → InRange (cpus_of_core m core)
+pub core_in_range : (m : Layout) (core : ℕ) → InRange (present m) → InRange (cpus_of_core m core)
 core_in_range m core in_range c has = in_range c (both_true _ _ (sym (contains-cpus_of_core m core c) ∙ has)).0
 
 below_limit : (c n : ℕ) → nat_lt c n ≡ true → c < n
@@ -86,7 +86,24 @@ of_core m core c are in_range there =
     (λ has. let p = both_true (set.contains (present m) c) (core_of m c == core) has in and_true _ _ (below_test _ _ (in_range c p.0)) p.1)
     ∙ sym (contains-cpus_of_core m core c)
 
--- the CPUs of one core more
+-- the CPUs of one core more are those of the others, and its own
+pub more_cpus :
+    (m : Layout) (cores more : Ids) (core : ℕ) → AreCores m → InRange (present m) → IsPresent m core
+    → ((c : ℕ) → set.contains more c ≡ ((c == core) || set.contains cores c))
+    → (c : ℕ) → set.contains (cpus_of_cores m more) c ≡ (set.contains (cpus_of_cores m cores) c || set.contains (cpus_of_core m core) c)
+more_cpus m cores more core are in_range there is c =
+    contains-cpus_of_cores m more c
+    ∙ ap (λ b. nat_lt c CPU_LIMIT && b) (is (core_of m c))
+    ∙ spread (nat_lt c CPU_LIMIT) (core_of m c == core) (set.contains cores (core_of m c))
+    ∙ ap (λ b. b || (nat_lt c CPU_LIMIT && (core_of m c == core))) (sym (contains-cpus_of_cores m cores c))
+    ∙ ap (λ b. set.contains (cpus_of_cores m cores) c || b) (of_core m core c are in_range there)
+
+pub more_apart : (m : Layout) (cores : Ids) (core : ℕ) → set.contains cores core ≡ false → IsDisjoint (cpus_of_cores m cores) (cpus_of_core m core)
+more_apart m cores core new c in_cores in_core =
+    let p = both_true _ _ (sym (contains-cpus_of_cores m cores c) ∙ in_cores) in
+    let q = both_true _ _ (sym (contains-cpus_of_core m core c) ∙ in_core) in
+    true≢false (sym p.1 ∙ ap (set.contains cores) (same_number _ _ q.1) ∙ new)
+
 one_more :
     (m : Layout) (cores more : Ids) (core : ℕ) → AreCores m → InRange (present m) → IsPresent m core → core_of m core ≡ core
     → set.contains cores core ≡ false → ((c : ℕ) → set.contains more c ≡ ((c == core) || set.contains cores c))
@@ -94,29 +111,20 @@ one_more :
 one_more m cores more core are in_range there own new is =
     len-apart (cpus_of_cores m cores) (cpus_of_core m core) (cpus_of_cores m more)
     (cores_in_range m cores) (core_in_range m core in_range) (cores_in_range m more)
-    (λ c in_cores in_core.
-    let p = both_true _ _ (sym (contains-cpus_of_cores m cores c) ∙ in_cores) in
-    let q = both_true _ _ (sym (contains-cpus_of_core m core c) ∙ in_core) in
-    true≢false (sym p.1 ∙ ap (set.contains cores) (same_number _ _ q.1) ∙ new))
-    (λ c.
-    contains-cpus_of_cores m more c
-    ∙ ap (λ b. nat_lt c CPU_LIMIT && b) (is (core_of m c))
-    ∙ spread (nat_lt c CPU_LIMIT) (core_of m c == core) (set.contains cores (core_of m c))
-    ∙ ap (λ b. b || (nat_lt c CPU_LIMIT && (core_of m c == core))) (sym (contains-cpus_of_cores m cores c))
-    ∙ ap (λ b. set.contains (cpus_of_cores m cores) c || b) (of_core m core c are in_range there))
+    (more_apart m cores core new) (more_cpus m cores more core are in_range there is)
     ∙ ap (λ n. set.len (cpus_of_cores m cores) + n) (ap (λ k. set.len (cpus_of_core m k)) (sym own) ∙ are.threads core there)
 
-not_below_itself : (n : ℕ) (b : Bool) → (nat_lt n n && b) ≡ false
+pub not_below_itself : (n : ℕ) (b : Bool) → (nat_lt n n && b) ≡ false
 not_below_itself n b = grind (arith, nat_tests)
 
 below_more : (q n m : ℕ) (b v : Bool) → m ≡ n + 1 → (q ≡ n → b ≡ v) → (nat_lt q m && b) ≡ (((q == n) && v) || (nat_lt q n && b))
 below_more q n m b v next f = grind (arith, nat_tests)
 
-and_one : (a : Bool) → (a && true) ≡ a
+pub and_one : (a : Bool) → (a && true) ≡ a
 and_one true = refl
 and_one false = refl
 
-and_none : (a b : Bool) → ((a && false) || b) ≡ b
+pub and_none : (a b : Bool) → ((a && false) || b) ≡ b
 and_none true b = refl
 and_none false b = refl
 
@@ -155,7 +163,7 @@ counted_more m old new n false are in_range lowest apart each more before =
     let same : new ≡ old = same_members new old (λ c. each c ∙ and_none (c == n) (set.contains old c)) in
     rw same before
 
-those_more : (p : ℕ → Bool) (n c : ℕ) → set.contains (those p (suc n)) c ≡ (((c == n) && p n) || set.contains (those p n) c)
+pub those_more : (p : ℕ → Bool) (n c : ℕ) → set.contains (those p (suc n)) c ≡ (((c == n) && p n) || set.contains (those p n) c)
 those_more p n c =
     contains-those p (suc n) c
     ∙ below_more c n (suc n) (p c) (p n) (omega arith) (λ e. ap p e)

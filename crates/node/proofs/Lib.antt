@@ -21,6 +21,7 @@ pub mod DistanceLemmas
 pub mod EntryCount
 pub mod DecidingLemmas
 pub mod BestLemmas
+pub mod NeedLemmas
 pub mod HeadlineLemmas
 pub mod ProvedLemmas
 pub mod RebalanceLemmas

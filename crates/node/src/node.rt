@@ -107,6 +107,7 @@ impl<K: Kernel + Drop> Node<K> {
         // A refusal of the kernel has one of these causes.
         ensures late { IfErr result (λ r. (fault : KernelFault) → r.error ≡ Fault fault → OpenCause (K.state kernel) fault (K.state r.kernel)) }
     {
+        let _ = machine.threads();
         let mut kernel = kernel;
         let root = kernel.root();
         match find_or_make(&mut kernel, root, GROUP_NAME) {
