@@ -334,7 +334,7 @@ def large():
 
 by_hand()
 tried_out(60, 1)
-tried_out(30, 2, threads=2)
+tried_out(30, 7, threads=2)
 large()
 words_and_help("explain.py", "examples/explain.py examples/machines/two-socket.json")
 bad_files("explain.py", [], [ANSWERS])

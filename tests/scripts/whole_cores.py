@@ -16,11 +16,11 @@ from compare import list_text, some
 from second_runtime import Machine, Runtime, Wrong, config_of, numbers, print_list
 from transcripts import config, difference, doubted, place, run
 
-SCRIPTS = 400
+SCRIPTS = 300
 THREADS = [1, 2, 2, 2, 3, 4, 8]
 # What has to be seen: plans of two rows or more and shortages that were compared with every plan, plans that move some cores and
 # leave others, plans while a core is online in part, sets that were adopted and are not whole, and steps that were not the last.
-LEAST = {"plans": 400, "shortages": 200, "several": 60, "partly": 100, "halves": 100, "more": 300}
+LEAST = {"plans": 120, "shortages": 200, "several": 80, "partly": 150, "halves": 80, "more": 200}
 CPUS, MOST_TEXT = 4096, 1_048_576
 # Seconds of the processor for a list of cores of the greatest length: many times what reading it takes.
 READING = 5
