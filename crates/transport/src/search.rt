@@ -226,15 +226,7 @@ pub(crate) fn scan_row(
     find_free_class_of(instance, assignment, sorted_arcs, tree, row)?;
     sorted_arcs.block_arcs(&instance.firsts)?;
     let limit = limit_of(&assignment.values, tree.labels.free_end, row);
-    label_arcs(
-        instance,
-        assignment,
-        sorted_arcs,
-        passed,
-        tree,
-        row,
-        limit,
-    )
+    label_arcs(instance, assignment, sorted_arcs, passed, tree, row, limit)
 }
 
 /// Labels the classes of a row's arcs that are nearer than the free end, block by block, and ends at the first block past the

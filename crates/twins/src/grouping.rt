@@ -136,7 +136,17 @@ fn split_all(
     let row = &rows[k];
     spans.note(&row.offers)?;
     for at in 0..parts.len() {
-        split(rows, k, &row.offers, spans, edges, settling, at, parts, alone)?;
+        split(
+            rows,
+            k,
+            &row.offers,
+            spans,
+            edges,
+            settling,
+            at,
+            parts,
+            alone,
+        )?;
     }
     parts.turn();
     settling.turn();

@@ -12,7 +12,7 @@ loop-cpu-preserved c =
     let has = c.loop-cpu.invariant.within _ c.in-Some.ensures.first.member in
     let labelled = c.loop-cpu.invariant.labelled in
     let arc =
-        c.in_ok-label_arc.ensures ws (block_arc ws s _ _ c.args.scan.row _ c.args.block.now _ _ c.in-Some.cpu c.class_of.result c.requires.block has.0 c.requires.passed has.1 c.class_of.ensures c.requires.there labelled) in
+    c.in_ok-label_arc.ensures ws (block_arc ws s _ _ c.args.scan.row _ c.args.block.now _ _ c.in-Some.cpu c.class_of.result c.requires.block has.0 c.requires.passed has.1 c.class_of.ensures c.requires.there labelled) in
     record {
       labelled = block_more ws s _ _ _ c.args.scan.row _ c.args.block.now _ _ c.in-Some.cpu c.class_of.result labelled c.in-Some.ensures.left c.class_of.ensures arc;
       within = λ cpu on. c.loop-cpu.invariant.within cpu (left_within _ _ _ cpu c.in-Some.ensures.left on);
