@@ -71,8 +71,8 @@ impl Handover {
         ensures valid { IsHandover self.now }
     {
         let entries = self.entries();
-        make_due(kernel, &self.reserved, entries)?;
-        Ok(if all_arrived(&*kernel, entries) {
+        let place = make_due(kernel, &self.reserved, entries)?;
+        Ok(if all_arrived(&*kernel, entries, place) {
             Progress::Done
         } else {
             Progress::More

@@ -15,19 +15,6 @@ use Rattle.cpuset_tree.specs.Kept.{entry_of_kept, before, listed, HasParentAmong
 pub listed_at : (s : Slab Cgroup) (key : ℕ) (older : List ℕ) (n : Cgroup) → get s key ≡ Some n → listed s (key ∷ older) ≡ entry_of_kept n ∷ listed s older
 listed_at s key older n at = ap (λ (o : Option Cgroup). before o (listed s older)) at
 
--- a key whose group is as new as this is not among the older keys
-pub key_is_absent : (s : Slab Cgroup) (next : ℕ) (keys : List ℕ) → IsInOrder s next keys → (key : ℕ) (n : Cgroup) → get s key ≡ Some n → next ≤ n.group.serial
-    → list_any (λ k. k == key) keys ≡ false
-key_is_absent s next [] _ key n at above = refl
-key_is_absent s next (k ∷ older) (m, at_k, knows, below, parent, rest) key n at above =
-    elim (k == key) as (λ t. (k == key) ≡ t → list_any (λ k. k == key) (k ∷ older) ≡ false) [
-      | true ↦ λ e.
-          let same : m ≡ n = same_Some m n (sym at_k ∙ ap (get s) (eqb-true k key e) ∙ at) in
-          let serial : m.group.serial ≡ n.group.serial = ap (λ (x : Cgroup). x.group.serial) same in
-          absurd (omega arith)
-      | false ↦ λ e. ap (λ b. b) (rw e (key_is_absent s m.group.serial older rest key n at (omega arith)))
-    ] refl
-
 -- a key without a group is none of these
 pub vacant_is_absent : (s : Slab Cgroup) (next : ℕ) (keys : List ℕ) → IsInOrder s next keys → (key : ℕ) → get s key ≡ None → list_any (λ k. k == key) keys ≡ false
 vacant_is_absent s next [] _ key none = refl

@@ -422,15 +422,16 @@ module _ (n : NodeState) (h : IsNode n) where
   -- the lowest CPUs of cores that one of some containers may have are the lowest of their cores
   open_lowest : (core : ℕ) (es : List Container) → list_any (is_open n.kernel n.machine core) es ≡ true → IsPresent n.machine core × (core_of n.machine core ≡ core)
   open_lowest core [] none = absurd (false≢true none)
-  open_lowest core (e ∷ es) some = by (is_open n.kernel n.machine core e) refl some where
-    by : (b : Bool) → is_open n.kernel n.machine core e ≡ b → (b || list_any (is_open n.kernel n.machine core) es) ≡ true
-        → IsPresent n.machine core × (core_of n.machine core ≡ core)
-    by true here some =
+  open_lowest core (e ∷ es) some = by (is_open n.kernel n.machine core e) refl (open_lowest core es) some where
+    by : (b : Bool) → is_open n.kernel n.machine core e ≡ b
+        → (list_any (is_open n.kernel n.machine core) es ≡ true → IsPresent n.machine core × (core_of n.machine core ≡ core))
+        → (b || list_any (is_open n.kernel n.machine core) es) ≡ true → IsPresent n.machine core × (core_of n.machine core ≡ core)
+    by true here later some =
         let s : Ids = available n.kernel.tree.online e.1.demand in
         cores_in-lowest n.machine s
         (contains-is_subset s (present n.machine) (λ c has.
         online_there n h c (and_parts (set.contains e.1.demand.allowed c) (set.contains n.kernel.tree.online c) (sym (contains-intersection e.1.demand.allowed n.kernel.tree.online c) ∙ has)).1)) core here
-    by false here some = open_lowest core es some
+    by false here later some = later some
 
   open_counted : (cores : Ids) (es : List Container) → ((core : ℕ) → set.contains cores core ≡ list_any (is_open n.kernel n.machine core) es)
       → set.len (cpus_of_cores n.machine cores) ≡ set.len cores * n.machine.threads

@@ -1,7 +1,8 @@
 -- What is asked for and told of cores fits the numbers of CPUs.
-use Rattle.std.proofs.Common.{◌≡◌, ℕ, zero, suc, ◌+◌, ◌*◌, ◌^◌, ◌<◌, ◌≤◌, Bool, true, false, ◌&&◌, List, [], ◌∷◌, length, get_or, inl, inr, Option, Some, None, refl, sym, ap, ◌∙◌, subst, sum_by, arith}
+use Rattle.std.proofs.Common.{◌≡◌, ℕ, zero, suc, ◌+◌, ◌*◌, ◌^◌, ◌<◌, ◌≤◌, Bool, true, false, cond, ◌&&◌, List, [], ◌∷◌, length, filter, get_or, inl, inr, Option, Some, None, refl, sym, ap, ◌∙◌, subst, sum_by, arith}
 use Rattle.std.proofs.lemmas.Bool.{cases_lt, and_parts, leb-true, false≢true}
 use Rattle.std.proofs.lemmas.List.Sums.{sum_by-cons}
+use Rattle.std.proofs.Math.Numerals.{add-one}
 use Rattle.std.proofs.lemmas.Nat.{mul-le}
 use Rattle.std.proofs.lemmas.Option.{none-some, same_Some}
 use Rattle.std.specs.Prelude.{All, slice_get}
@@ -66,12 +67,16 @@ module _ (n : NodeState) (h : IsNode n) where
 -- numbers that rise below a limit are no more than it
 at_least : (ks : List ℕ) → IsStrictlyIncreasing ks → (i : ℕ) → i < length ks → i ≤ get_or ks i 0
 at_least ks rising zero lt = omega arith
-at_least ks rising (suc i) lt = omega (arith, rising i (suc i) 0 (omega arith) lt, at_least ks rising i (omega (arith, lt)))
+at_least ks rising (suc i) lt =
+    let next : get_or ks i 0 < get_or ks (suc i) 0 = subst (λ j. get_or ks i 0 < get_or ks j 0) (add-one i) (rising i (omega arith)) in
+    omega (arith, at_least ks rising i (omega arith))
 
 few_numbers : (ks : List ℕ) (n : ℕ) → IsStrictlyIncreasing ks → All (λ k. k < n) ks → length ks ≤ n
-few_numbers [] n rising below = omega arith
-few_numbers (k ∷ ks) n rising below =
-    omega (arith, at_least (k ∷ ks) rising (length ks) (omega arith), below (length ks) 0 (omega arith))
+few_numbers ks n rising below = by_length (length ks) (omega arith)
+  where
+    by_length : (m : ℕ) → m ≤ length ks → m ≤ n
+    by_length zero le = omega arith
+    by_length (suc m) le = omega (arith, at_least ks rising m (omega arith), below m 0 (omega arith))
 
 -- the members of a shortage ask for no more than that many times the most that a row may
 abbrev IsSmall : RowView → Type 0

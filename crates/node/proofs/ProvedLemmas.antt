@@ -54,9 +54,7 @@ total_is_proved again old n total h r c is held =
     let proved : IsProvedCertificate own (Moves r.told.distance (moved old sets)) = (itself.1, itself.2, r.told.parts) in (
       r.told.distance,
       r.told.counts,
-      c,
-      again c kept.0 held,
-      subst (λ (x : Certificate). IsProvedCertificate x (Moves r.told.distance (moved old sets))) (sym c_is) proved,
+      (c, again c kept.0 held, subst (λ (x : Certificate). IsProvedCertificate x (Moves r.told.distance (moved old sets))) (sym c_is) proved),
     )
 
 -- before what was worked out last there was a node as well
@@ -77,7 +75,7 @@ module _ (old n : NodeState) (wanted : ℕ) (allowed : Ids) (h : IsNode n) (l : 
         proved = tt;
       }
 
-  earlier_lacks : Lacks earlier wanted allowed n
+  abbrev earlier_lacks : Lacks earlier wanted allowed n
   earlier_lacks = record { members = l.members; settled = l.settled; decides = l.decides; kept = l.kept; need = l.need; is = l.is }
 
   named_counted : RowsWeigh → ScaledRowsWeigh → set.len allowed ≡ length (offered (chosen (scaled_rows_of old) l.members)) * old.machine.threads

@@ -1,5 +1,5 @@
 -- Whose the rows of a problem are.
-use Rattle.std.specs.Prelude.{◌≡◌, ◌*◌, ℕ, cond, List, Some, None, is_some}
+use Rattle.std.specs.Prelude.{◌≡◌, ◌*◌, ℕ, Bool, cond, List, Some, None, is_some}
 use Rattle.std.specs.List.{AllZip}
 use Rattle.std.specs.FinSet as set
 use Rattle.cpu_set.specs.Ids.{Ids}

@@ -16,6 +16,7 @@ mod kinds;
 pub mod laws;
 mod parts;
 mod pricing;
+mod settling;
 mod spans;
 
 pub use classes::Classes;

@@ -1,5 +1,5 @@
 use Rattle.transport.specs.Weights.{weights}
-use Rattle.transport.proofs.Blocks.{block_start, block_arc, block_more, left_within, left_fewer, passed_more}
+use Rattle.transport.proofs.Blocks.{block_arc, block_more, left_within, left_fewer, passed_more}
 use Rattle.transport.proofs.search.label_block.Goals as goal
 
 pub loop-cpu-smaller : goal.loop-cpu-smaller

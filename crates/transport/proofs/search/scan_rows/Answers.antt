@@ -1,4 +1,4 @@
-use Rattle.std.proofs.Common.{◌≡◌, ◌<◌, true, length, sym, ap, subst, arith}
+use Rattle.std.proofs.Common.{◌≡◌, ◌<◌, true, length, ap, subst, arith}
 use Rattle.transport.specs.ReachedRows.{is_reached, row_at}
 use Rattle.transport.specs.Weights.{weights}
 use Rattle.transport.specs.States.{HasScanned}

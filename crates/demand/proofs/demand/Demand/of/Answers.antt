@@ -13,7 +13,7 @@ returns-then-not-is_pinned-clause-fits c =
 pub returns-clause-fits : goal.returns-clause-fits
 returns-clause-fits c =
     let few : set.len c.allowed-allowed.result ≤ CPU_LIMIT = omega arith in
-    pinned_fits _ _ _ _ c.allowed-allowed.result c.homes-homes.result _ _ c.homes-homes.ensures.sound.cores c.allowed-allowed.ensures.in_range
-    c.in_ok-count.ensures.count c.allowed-allowed.ensures.is c.homes-homes.ensures.homes few
+    pinned_fits _ _ _ _ c.allowed-allowed.result c.homes-homes.result _ _ c.homes-homes.ensures.sound.cores c.threads.ensures.in_range
+    c.in_ok-count.ensures.count c.allowed-allowed.ensures c.homes-homes.ensures.homes few
     (λ none. false≢true (sym c.if-is_empty.false ∙ c.is_empty.ensures.1 none))
     (c.unwrap_or.ensures ∙ ap (unwrap_or c.in_ok-count.count) c.count-2.ensures.is_len)
