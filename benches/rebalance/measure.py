@@ -9,7 +9,6 @@ eight ask for 1 to 7 CPUs, which may be any or, with lists of their own, half of
 own. The last line of each machine has the thousands of instructions that a `create` takes, with homes on one node, and on all
 nodes where the config names none."""
 
-import json
 import os
 import random
 import re
@@ -18,6 +17,8 @@ import subprocess
 import sys
 import tempfile
 import time
+
+from places import place
 
 ROUNDS, TIMES, RUNS = 5, 200, 40
 # Nodes, CPUs, containers, and whether these have lists of their own; the last two are as large as may be.
@@ -41,29 +42,6 @@ class Shell:
     def close(self):
         self.shell.stdin.close()
         self.shell.wait()
-
-
-def write_bundle(name, section):
-    os.makedirs(name, exist_ok=True)
-    told = {"ociVersion": "1.0.2", "root": {"path": "rootfs"}, "linux": {"resources": {"cpu": section}}}
-    json.dump(told, open(f"{name}/config.json", "w"))
-
-
-def place(count, cpus, containers, own_lists):
-    """Writes a machine of so many nodes, and the bundle of each container."""
-    per = cpus // count
-    nodes = [f"{per * k}-{per * k + per - 1}" for k in range(count)]
-    distances = [[10 if i == j else 16 if i // 2 == j // 2 else 32 for j in range(count)] for i in range(count)]
-    json.dump({"nodes": nodes, "distances": distances, "reserved": "0"}, open("machine.json", "w"))
-    for k in range(containers):
-        section = {"mems": str(k % count)}
-        if k % 8 != 7:
-            section["quota"] = 100000 * random.randint(1, 7)
-            if own_lists:
-                section["cpus"] = ",".join(map(str, sorted(random.sample(range(1, cpus), cpus // 2))))
-        write_bundle(f"b{k}", section)
-        if k % 2:
-            write_bundle(f"any{k}", {"quota": 100000})
 
 
 def typed(program, before):
