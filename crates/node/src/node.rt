@@ -148,6 +148,13 @@ impl<K: Kernel + Drop> Node<K> {
         self.pool
     }
 
+    /// The machine.
+    pub fn machine(&self) -> &Machine
+        ensures { result.now ≡ self.now.machine }
+    {
+        &self.machine
+    }
+
     /// How far the last hand-over has come.
     pub fn phase(&self) -> Phase
         ensures { result ≡ self.now.phase }

@@ -10,27 +10,28 @@ use byte_output::{put, put_all, put_number};
 use certificate::{Certificate, Row};
 use cpu_set::IdSet;
 use kernel_model::Kernel;
+use machine::Machine;
 use node::{Node, Outcome, Progress};
 use std::io;
 use std::io::Write;
 
-fn put_hold<W: Write>(row: &Row, cpus: &IdSet, w: &mut W) -> io::Result<()>
-    ensures { Writes (W.contents w.old) (W.contents w.new) result (hold_line (row.now, cpus.now)) }
+fn put_hold<W: Write>(machine: &Machine, row: &Row, cores: &IdSet, w: &mut W) -> io::Result<()>
+    ensures { Writes (W.contents w.old) (W.contents w.new) result (hold_line machine.now (row.now, cores.now)) }
 {
     put_all(
         &[b"hold ".as_slice(), row.id.as_bytes(), b" ".as_slice()],
         w,
     )?;
-    put_set(cpus, w)?;
+    put_set(&machine.cpus_of_cores(cores), w)?;
     put(b"\n", w)
 }
 
-fn put_holds<W: Write>(rows: &[Row], sets: &[IdSet], w: &mut W) -> io::Result<()>
-    requires { length sets.now ≡ length rows.now }
-    ensures { Writes (W.contents w.old) (W.contents w.new) result (flat_map hold_line (zip rows.now sets.now)) }
+fn put_holds<W: Write>(machine: &Machine, rows: &[Row], plan: &[IdSet], w: &mut W) -> io::Result<()>
+    requires { length plan.now ≡ length rows.now }
+    ensures { Writes (W.contents w.old) (W.contents w.new) result (flat_map (hold_line machine.now) (zip rows.now plan.now)) }
 {
     for (k, row) in rows.iter().enumerate() {
-        put_hold(row, &sets[k], w)?;
+        put_hold(machine, row, &plan[k], w)?;
     }
     Ok(())
 }
@@ -55,13 +56,17 @@ fn put_members<W: Write>(rows: &[Row], members: &[usize], w: &mut W) -> io::Resu
 }
 
 /// Writes a line for each container that the certificate names.
-fn put_containers<W: Write>(certificate: &Certificate, w: &mut W) -> io::Result<()>
+fn put_containers<W: Write>(
+    machine: &Machine,
+    certificate: &Certificate,
+    w: &mut W,
+) -> io::Result<()>
     requires { CanWrite certificate.now }
-    ensures { Writes (W.contents w.old) (W.contents w.new) result (container_lines certificate.now) }
+    ensures { Writes (W.contents w.old) (W.contents w.new) result (container_lines machine.now certificate.now) }
 {
     match certificate {
         Certificate::Plan { problem, plan, .. } => {
-            put_holds(problem.rows.as_slice(), plan.sets.as_slice(), w)
+            put_holds(machine, problem.rows.as_slice(), plan.sets.as_slice(), w)
         }
         Certificate::Short {
             problem,
@@ -112,10 +117,10 @@ fn put_last<W: Write>(outcome: &Outcome, pool: &IdSet, w: &mut W) -> io::Result<
 
 /// Writes a line for each container that the last certificate names.
 fn put_named<K: Kernel + Drop, W: Write>(node: &Node<K>, w: &mut W) -> io::Result<()>
-    ensures { Writes (W.contents w.old) (W.contents w.new) result (last_lines node.now.last) }
+    ensures { Writes (W.contents w.old) (W.contents w.new) result (last_lines node.now.machine node.now.last) }
 {
     match node.certificate() {
-        Ok(certificate) => put_containers(certificate, w),
+        Ok(certificate) => put_containers(node.machine(), certificate, w),
         Err(_) => Ok(()),
     }
 }

@@ -7,4 +7,4 @@ use Rattle.runtime.proofs.outcomes.put_holds.Given as goal
 
 abbrev pub invariant-loop-k : goal.invariant-loop-k
 invariant-loop-k g l =
-    HasSent (g.W.Write.contents l.fn.w) (g.W.Write.contents l.w) (flat_map hold_line (zip l.rows l.sets)) (flat_map hold_line (zip (drop l.k l.rows) (drop l.k l.sets)))
+    HasSent (g.W.Write.contents l.fn.w) (g.W.Write.contents l.w) (flat_map (hold_line l.machine) (zip l.rows l.plan)) (flat_map (hold_line l.machine) (zip (drop l.k l.rows) (drop l.k l.plan)))
