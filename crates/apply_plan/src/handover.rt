@@ -47,7 +47,7 @@ impl Model for Handover {
 impl Handover {
     /// A hand-over that is to bring each entry's container to its target.
     ///
-    /// Takes no memory: the entries are kept as they come.
+    /// Allocates nothing: the entries are kept as they come.
     pub fn new(entries: Vec<Entry>, reserved: IdSet) -> Handover
         requires { IsHandover (record { entries = entries.items; reserved = reserved }) }
         ensures { result ≡ record { entries = entries.items; reserved = reserved } }
@@ -71,8 +71,8 @@ impl Handover {
         ensures valid { IsHandover self.now }
     {
         let entries = self.entries();
-        make_due(kernel, &self.reserved, entries)?;
-        Ok(if all_arrived(&*kernel, entries) {
+        let place = make_due(kernel, &self.reserved, entries)?;
+        Ok(if all_arrived(&*kernel, entries, place) {
             Progress::Done
         } else {
             Progress::More
@@ -81,7 +81,7 @@ impl Handover {
 
     /// Makes the write that is due and no other, or none where none is due, and tells whether more are to come.
     ///
-    /// Entries whose first process has ended are passed over. Takes no memory.
+    /// Entries whose first process has ended are passed over. Allocates nothing.
     ///
     /// # Errors
     /// `Failed` where the write failed: it is counted, and nothing else changed; the hand-over may go on.
@@ -123,7 +123,7 @@ impl Handover {
     /// Makes all writes that are to come, up to the first that fails: what [`step`](Handover::step) leaves, called until
     /// nothing is due.
     ///
-    /// Looks each entry through twice, where single steps look all of them through for each write. Takes no memory.
+    /// Looks each entry through twice, where single steps look all of them through for each write. Allocates nothing.
     ///
     /// # Errors
     /// `Failed` where a write failed: it is counted, and no other was made after it; the hand-over may go on.

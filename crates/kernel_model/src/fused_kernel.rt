@@ -51,7 +51,7 @@ pub struct FusedKernel<K: Kernel> {
 }
 
 impl<K: Kernel> FusedKernel<K> {
-    /// A kernel whose write of number `n` fails, counted from 1, refused ones too; with 0 none does. Takes no memory.
+    /// A kernel whose write of number `n` fails, counted from 1, refused ones too; with 0 none does. Allocates nothing.
     pub fn new(inner: K, n: u64) -> FusedKernel<K>
         ensures inner { result.inner ≡ inner }
         ensures fuse { result.fuse ≡ fuse_after n 0 }
@@ -145,7 +145,7 @@ impl<K: Kernel> Kernel for FusedKernel<K> {
         self.inner.requested_cpus(group)
     }
 
-    fn effective_cpus(&self, group: Group) -> Result<&IdSet, KernelFault> {
+    fn effective_cpus(&self, group: Group) -> Result<IdSet, KernelFault> {
         self.inner.effective_cpus(group)
     }
 
@@ -153,7 +153,7 @@ impl<K: Kernel> Kernel for FusedKernel<K> {
         self.inner.requested_mems(group)
     }
 
-    fn effective_mems(&self, group: Group) -> Result<&IdSet, KernelFault> {
+    fn effective_mems(&self, group: Group) -> Result<IdSet, KernelFault> {
         self.inner.effective_mems(group)
     }
 

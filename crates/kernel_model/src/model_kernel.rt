@@ -58,7 +58,7 @@ impl ModelKernel {
     /// A kernel with its root group alone and no process, whose first process gets this pid.
     ///
     /// # Errors
-    /// Lack of memory.
+    /// An allocation failure.
     pub fn new(
         alloc: Global,
         present: IdSet,
@@ -189,7 +189,7 @@ impl Kernel for ModelKernel {
         Ok(self.tree.cpus(group)?)
     }
 
-    fn effective_cpus(&self, group: Group) -> Result<&IdSet, KernelFault> {
+    fn effective_cpus(&self, group: Group) -> Result<IdSet, KernelFault> {
         Ok(self.tree.effective_cpus(group)?)
     }
 
@@ -197,7 +197,7 @@ impl Kernel for ModelKernel {
         Ok(self.tree.mems(group)?)
     }
 
-    fn effective_mems(&self, group: Group) -> Result<&IdSet, KernelFault> {
+    fn effective_mems(&self, group: Group) -> Result<IdSet, KernelFault> {
         Ok(self.tree.effective_mems(group)?)
     }
 

@@ -152,7 +152,7 @@ not_true false e = refl
 
 pub left_and : (left reserved core : Ids) → ((set.is_subset core (set.difference left reserved) ≡ true) ⊎ (set.is_subset core (set.intersection left reserved) ≡ true))
     → (((c : ℕ) → set.contains core c ≡ true → set.contains left c ≡ true)
-      × (((c : ℕ) → set.contains core c ≡ true → set.contains reserved c ≡ true) ⊎ ((c : ℕ) → set.contains core c ≡ true → set.contains reserved c ≡ false)))
+    × (((c : ℕ) → set.contains core c ≡ true → set.contains reserved c ≡ true) ⊎ ((c : ℕ) → set.contains core c ≡ true → set.contains reserved c ≡ false)))
 left_and left reserved core (inl outside) =
     let each : (c : ℕ) → set.contains core c ≡ true → (set.contains left c ≡ true) × (not (set.contains reserved c) ≡ true) =
     λ c has. both_true _ _ (sym (contains-difference left reserved c) ∙ is_subset-contains core _ outside c has) in
@@ -243,6 +243,7 @@ core_is m cores shared is c k at =
         let here : found.0 ≡ k = one_core cores (core_of m c) found.0 k shared.apart found.1.lt at.lt
         (ap (set.contains (get_or cores found.0 set.empty)) (sym same) ∙ found.1.least) at.least in
         ap (λ j. set.contains (get_or cores j set.empty) q) (sym here) ∙ found.1.has
+
     is_kept : (q : ℕ) → set.contains (get_or cores k set.empty) q ≡ true → (set.contains (present m) q && (core_of m q == core_of m c)) ≡ true
     is_kept q has =
         let other = in_core m cores shared is q k at.lt has in
@@ -355,7 +356,7 @@ AreListed-no_fault nodes reserved cores in_range apart none all =
     let each : (k : ℕ) → k < length cores → IsFit nodes reserved (size_of cores) (left_by nodes (take k cores)) (get_or cores k set.empty) =
     λ k lt. is_core-fit _ _ _ _ _ (when_none _ _ (each_none (length cores) _ none k lt)) in
     let parts : (k : ℕ) → k < length cores → (c : ℕ) → set.contains (get_or cores k set.empty) c ≡ true
-        → (set.contains (union_of nodes) c ≡ true) × (not (set.contains (union_of (take k cores)) c) ≡ true) =
+    → (set.contains (union_of nodes) c ≡ true) × (not (set.contains (union_of (take k cores)) c) ≡ true) =
     λ k lt c has. both_true _ _ (sym (contains-difference (union_of nodes) (union_of (take k cores)) c) ∙ (each k lt).within c has) in
     record {
       nodes_apart = apart;
@@ -367,13 +368,13 @@ AreListed-no_fault nodes reserved cores in_range apart none all =
         node = (each k lt).node;
       };
       shared = record {
-      in_range = in_range;
-      within = λ k lt c has. (parts k lt c has).0;
-      apart = λ j k d before lt c in_j in_k.
-          let in_j_too : set.contains (get_or cores j set.empty) c ≡ true = ap (λ s. set.contains s c) (get_or_default cores j set.empty d (omega arith)) ∙ in_j in
-          let in_k_too : set.contains (get_or cores k set.empty) c ≡ true = ap (λ s. set.contains s c) (get_or_default cores k set.empty d lt) ∙ in_k in
-          true≢false (sym (union_of-at cores j k before lt c in_j_too) ∙ not_true _ (parts k lt c in_k_too).1);
-      all = λ c there. found_in cores c (all c there);
+        in_range = in_range;
+        within = λ k lt c has. (parts k lt c has).0;
+        apart = λ j k d before lt c in_j in_k.
+            let in_j_too : set.contains (get_or cores j set.empty) c ≡ true = ap (λ s. set.contains s c) (get_or_default cores j set.empty d (omega arith)) ∙ in_j in
+            let in_k_too : set.contains (get_or cores k set.empty) c ≡ true = ap (λ s. set.contains s c) (get_or_default cores k set.empty d lt) ∙ in_k in
+            true≢false (sym (union_of-at cores j k before lt c in_j_too) ∙ not_true _ (parts k lt c in_k_too).1);
+        all = λ c there. found_in cores c (all c there);
       };
     }
 

@@ -193,6 +193,7 @@ or_past a e q past = by a (nat_lt q CPU_LIMIT) (tested q CPU_LIMIT past)
   where
     tested : (q n : ℕ) → (q < n → ⊥) → nat_lt q n ≡ false
     tested q n past = grind (arith, nat_tests)
+
     by : (a b : Bool) → b ≡ false → a ≡ (a || (b && e))
     by true b none = refl
     by false b none = ap (λ c. c && e) (sym none)

@@ -49,23 +49,23 @@ AreLinked-more lowest firsts next firsts_more next_more n core are is_core lt is
       within = omega arith;
       first = λ k below. elim (cases_eq k core) [
         | inl same ↦ record {
-            is = λ less. let at_k : get_or firsts_more k 0 ≡ n = ap (λ j. get_or firsts_more j 0) same ∙ here in
-                (omega (arith, at_k), ap (λ j. at lowest j) at_k ∙ sym is_core ∙ sym same);
-            least = λ q from is_cpu of_k. let at_k : get_or firsts_more k 0 ≡ n = ap (λ j. get_or firsts_more j 0) same ∙ here in omega (arith, at_k);
-          }
+          is = λ less. let at_k : get_or firsts_more k 0 ≡ n = ap (λ j. get_or firsts_more j 0) same ∙ here in
+              (omega (arith, at_k), ap (λ j. at lowest j) at_k ∙ sym is_core ∙ sym same);
+          least = λ q from is_cpu of_k. let at_k : get_or firsts_more k 0 ≡ n = ap (λ j. get_or firsts_more j 0) same ∙ here in omega (arith, at_k);
+        }
         | inr differs ↦ record {
-            is = λ less.
-                let kept : get_or firsts_more k 0 ≡ get_or firsts k 0 = other k differs in
-                let old = (are.first k below).is (omega (arith, less, kept)) in
-                let from : n + 1 ≤ get_or firsts k 0 = old.0 in
-                (omega (arith, kept, from), ap (λ j. at lowest j) kept ∙ old.1);
-            least = λ q from is_cpu of_k.
-                let kept : get_or firsts_more k 0 ≡ get_or firsts k 0 = other k differs in
-                elim (cases_eq n q) [
-                  | inl now ↦ absurd (differs (sym of_k ∙ ap (at lowest) (sym now) ∙ sym is_core))
-                  | inr later ↦ let least : get_or firsts k 0 ≤ q = (are.first k below).least q (omega arith) is_cpu of_k in omega (arith, kept, least)
-                ];
-          }
+          is = λ less.
+              let kept : get_or firsts_more k 0 ≡ get_or firsts k 0 = other k differs in
+              let old = (are.first k below).is (omega (arith, less, kept)) in
+              let from : n + 1 ≤ get_or firsts k 0 = old.0 in
+              (omega (arith, kept, from), ap (λ j. at lowest j) kept ∙ old.1);
+          least = λ q from is_cpu of_k.
+              let kept : get_or firsts_more k 0 ≡ get_or firsts k 0 = other k differs in
+              elim (cases_eq n q) [
+                | inl now ↦ absurd (differs (sym of_k ∙ ap (at lowest) (sym now) ∙ sym is_core))
+                | inr later ↦ let least : get_or firsts k 0 ≤ q = (are.first k below).least q (omega arith) is_cpu of_k in omega (arith, kept, least)
+              ];
+        }
       ];
       each = λ c from below. elim (cases_eq n c) [
         | inl same ↦

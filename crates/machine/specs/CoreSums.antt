@@ -157,6 +157,7 @@ module _ (m : Layout) (cores : Ids) (f : ℕ → ℕ) (are : AreCores m) (in_ran
       and_no : (a : Bool) → (a && false) ≡ false
       and_no true = refl
       and_no false = refl
+
       nothing : (n t : ℕ) → n ≡ 0 → 0 ≡ n * t
       nothing n t is = rw is (omega arith)
 

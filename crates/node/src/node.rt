@@ -1,5 +1,6 @@
 ghost use Rattle.std.specs.Prelude.{◌≡◌, ◌+◌, IfOk, IfErr, MatchResult};
 ghost use Rattle.faults.specs.declared.OrMemory.TheVariants.{Fault};
+ghost use Rattle.machine.specs.Cores.{cpus_of_cores};
 ghost use Rattle.node.specs.IsNode.{IsOfMachine};
 ghost use Rattle.node.specs.Unused.{IsUnused};
 
@@ -148,11 +149,11 @@ impl<K: Kernel + Drop> Node<K> {
         self.pool
     }
 
-    /// The machine.
-    pub fn machine(&self) -> &Machine
-        ensures { result.now ≡ self.now.machine }
+    /// The CPUs of the cores with these lowest CPUs, by which a certificate names cores.
+    pub fn cpus_of(&self, cores: &IdSet) -> IdSet
+        ensures { result ≡ cpus_of_cores self.now.machine cores.now }
     {
-        &self.machine
+        self.machine.cpus_of_cores(cores)
     }
 
     /// How far the last hand-over has come.

@@ -2,8 +2,8 @@
 use Rattle.std.specs.Prelude.{ℕ, List, [], ◌++◌, Option, Some, None, codes, decimal, zip}
 use Rattle.std.specs.List.{flat_map}
 use Rattle.cpu_set.specs.Ids.{Ids}
-use Rattle.machine.specs.Cores.{cpus_of_cores}
 use Rattle.machine.specs.Layout.{Layout}
+use Rattle.machine.specs.Cores.{cpus_of_cores}
 use Rattle.certificate.specs.RowView.{RowView}
 use Rattle.certificate.specs.declared.certificates.Certificate.{Certificate}
 use Rattle.certificate.specs.declared.certificates.Certificate.TheVariants as certificate
@@ -15,17 +15,21 @@ use Rattle.node.specs.declared.outcome.Outcome.TheVariants.{Plan, Short}
 use Rattle.node.specs.NodeState.{NodeState}
 use Rattle.runtime.specs.AnswerTexts.{set_text}
 
--- what a plan gives a container: the CPUs of its cores
-abbrev pub hold_line : Layout → RowView × Ids → List ℕ
-hold_line m p = (codes "hold " ++ (p.0.id ++ codes " ")) ++ (set_text (cpus_of_cores m p.1) ++ codes "\n")
+-- what a plan gives a container
+abbrev pub hold_line : RowView × Ids → List ℕ
+hold_line p = (codes "hold " ++ (p.0.id ++ codes " ")) ++ (set_text p.1 ++ codes "\n")
+
+-- the same of a certificate's row, which has cores by their lowest CPUs
+abbrev pub core_line : Layout → RowView × Ids → List ℕ
+core_line m p = hold_line (p.0, cpus_of_cores m p.1)
 
 -- a container that is short
 abbrev pub member_line : List RowView → ℕ → List ℕ
 member_line rows k = codes "member " ++ (id_at rows k ++ codes "\n")
 
--- a line for each container that a certificate of a machine's cores names
+-- a line for each container that a certificate names
 abbrev pub container_lines : Layout → Certificate → List ℕ
-container_lines m (certificate.Plan rows plan prices total weights) = flat_map (hold_line m) (zip rows plan)
+container_lines m (certificate.Plan rows sets prices total weights) = flat_map (core_line m) (zip rows sets)
 container_lines m (certificate.Short rows members weights) = flat_map (member_line rows) members
 
 abbrev pub last_lines : Layout → Option Certificate → List ℕ

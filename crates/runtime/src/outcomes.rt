@@ -3,35 +3,40 @@ ghost use Rattle.std.specs.Prelude.{◌≡◌, ◌<◌, ◌++◌, All, codes, le
 ghost use Rattle.std.specs.List.{flat_map};
 ghost use Rattle.byte_output.specs.Output.{Writes};
 ghost use Rattle.certificate_text.specs.Written.{CanWrite};
-ghost use Rattle.runtime.specs.OutcomeTexts.{container_lines, end_lines, first_line, hold_line, last_lines, member_line, need_line, outcome_text, pool_lines, progress_line, total_line};
+ghost use Rattle.runtime.specs.OutcomeTexts.{container_lines, core_line, end_lines, first_line, hold_line, last_lines, member_line, need_line, outcome_text, pool_lines, progress_line, total_line};
 
 use crate::answers::{put_labelled, put_set};
 use byte_output::{put, put_all, put_number};
 use certificate::{Certificate, Row};
 use cpu_set::IdSet;
 use kernel_model::Kernel;
-use machine::Machine;
 use node::{Node, Outcome, Progress};
 use std::io;
 use std::io::Write;
 
-fn put_hold<W: Write>(machine: &Machine, row: &Row, cores: &IdSet, w: &mut W) -> io::Result<()>
-    ensures { Writes (W.contents w.old) (W.contents w.new) result (hold_line machine.now (row.now, cores.now)) }
+fn put_hold<W: Write>(row: &Row, cpus: &IdSet, w: &mut W) -> io::Result<()>
+    ensures { Writes (W.contents w.old) (W.contents w.new) result (hold_line (row.now, cpus.now)) }
 {
     put_all(
         &[b"hold ".as_slice(), row.id.as_bytes(), b" ".as_slice()],
         w,
     )?;
-    put_set(&machine.cpus_of_cores(cores), w)?;
+    put_set(cpus, w)?;
     put(b"\n", w)
 }
 
-fn put_holds<W: Write>(machine: &Machine, rows: &[Row], plan: &[IdSet], w: &mut W) -> io::Result<()>
-    requires { length plan.now ≡ length rows.now }
-    ensures { Writes (W.contents w.old) (W.contents w.new) result (flat_map (hold_line machine.now) (zip rows.now plan.now)) }
+/// Writes a line for each row of a plan, with the CPUs of its cores.
+fn put_holds<K: Kernel + Drop, W: Write>(
+    node: &Node<K>,
+    rows: &[Row],
+    sets: &[IdSet],
+    w: &mut W,
+) -> io::Result<()>
+    requires { length sets.now ≡ length rows.now }
+    ensures { Writes (W.contents w.old) (W.contents w.new) result (flat_map (core_line node.now.machine) (zip rows.now sets.now)) }
 {
     for (k, row) in rows.iter().enumerate() {
-        put_hold(machine, row, &plan[k], w)?;
+        put_hold(row, &node.cpus_of(&sets[k]), w)?;
     }
     Ok(())
 }
@@ -56,17 +61,17 @@ fn put_members<W: Write>(rows: &[Row], members: &[usize], w: &mut W) -> io::Resu
 }
 
 /// Writes a line for each container that the certificate names.
-fn put_containers<W: Write>(
-    machine: &Machine,
+fn put_containers<K: Kernel + Drop, W: Write>(
+    node: &Node<K>,
     certificate: &Certificate,
     w: &mut W,
 ) -> io::Result<()>
     requires { CanWrite certificate.now }
-    ensures { Writes (W.contents w.old) (W.contents w.new) result (container_lines machine.now certificate.now) }
+    ensures { Writes (W.contents w.old) (W.contents w.new) result (container_lines node.now.machine certificate.now) }
 {
     match certificate {
         Certificate::Plan { problem, plan, .. } => {
-            put_holds(machine, problem.rows.as_slice(), plan.sets.as_slice(), w)
+            put_holds(node, problem.rows.as_slice(), plan.sets.as_slice(), w)
         }
         Certificate::Short {
             problem,
@@ -120,7 +125,7 @@ fn put_named<K: Kernel + Drop, W: Write>(node: &Node<K>, w: &mut W) -> io::Resul
     ensures { Writes (W.contents w.old) (W.contents w.new) result (last_lines node.now.machine node.now.last) }
 {
     match node.certificate() {
-        Ok(certificate) => put_containers(node.machine(), certificate, w),
+        Ok(certificate) => put_containers(node, certificate, w),
         Err(_) => Ok(()),
     }
 }

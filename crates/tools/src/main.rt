@@ -5,7 +5,8 @@
 //! - `tools ask MACHINE CONFIG..` prints what bundles ask for on a machine.
 //! - `tools list LIMIT`: what a list names, where the limit is at most that of a set.
 //! - `tools write WHAT WIDTH FAULT`: what a writer that fails has of a text.
-//! - `tools twins`: the kinds of the rows of certificates, and the classes of their CPUs; `tools solve`: what comes of them.
+//! - `tools twins`: which rows of certificates have the same offers, and the classes of their CPUs; `tools solve`: what
+//!   comes of them.
 //! - `tools kernel FAIL`: what a modelled kernel answers to calls.
 //! - `tools run FAIL MOST READ WIDTH WRITES WRITE MACHINE BUNDLE..`: a script over a kernel and streams that fail.
 //!

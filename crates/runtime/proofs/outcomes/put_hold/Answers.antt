@@ -14,11 +14,10 @@ pub returns-in_err-put_set : goal.returns-in_err-put_set
 returns-in_err-put_set g c =
     let fault = err_from_is_err_and c.from_residual-in_err-put_set.result c.from_residual-in_err-put_set.ensures.1 in
     let id : c.as_bytes.result.now ≡ c.args.row.now.id = c.as_bytes.ensures.value ∙ ap (λ (r : RowView). r.id) c.row.view_is in
-    rw fault.1 (SendsFront-then _ _ _ _ _ (rw (c.as_slice.ensures, id, c.as_slice-2.ensures) at c.in_ok-put_all.ensures)
-    (SendsFront-more _ _ _ _ (rw c.cpus_of_cores.ensures.is at c.in_err-put_set.ensures)))
+    rw fault.1 (SendsFront-then _ _ _ _ _ (rw (c.as_slice.ensures, id, c.as_slice-2.ensures) at c.in_ok-put_all.ensures) (SendsFront-more _ _ _ _ c.in_err-put_set.ensures))
 
 pub returns : goal.returns
 returns g c =
     let id : c.as_bytes.result.now ≡ c.args.row.now.id = c.as_bytes.ensures.value ∙ ap (λ (r : RowView). r.id) c.row.view_is in
     Writes-then _ _ _ c.put.result _ _ (rw (c.as_slice.ensures, id, c.as_slice-2.ensures) at c.in_ok-put_all.ensures)
-    (Writes-then _ _ _ c.put.result _ _ (rw c.cpus_of_cores.ensures.is at c.in_ok-put_set.ensures) c.put.ensures)
+    (Writes-then _ _ _ c.put.result _ _ c.in_ok-put_set.ensures c.put.ensures)
