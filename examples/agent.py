@@ -31,8 +31,9 @@ import tempfile
 import time
 
 from common import Machine, Refused, Run, check_program, find_program, print_list, read_list, run
-from events import Folder, Input, Online
+from events import Folder, Input, Online, Rest
 from groups import Absent, NoTree, Tree, at, parse
+from records import Records
 
 EXAMPLE = """examples, from the top of the repository:
   echo "created database examples/bundles/database" | examples/agent.py examples/machines/two-socket.json
@@ -89,6 +90,7 @@ def shared(config):
 class Agent:
     def __init__(self, words, machine, tree, work):
         self.words, self.machine, self.tree, self.work = words, machine, tree, work
+        self.records = Records(words.textfile, words.certificates)
         self.threads, self.numarun = 1, None
         self.held = {}          # by id, in the order in which numarun was told of them
         self.refused = {}       # the stamp of what was refused, by the id
@@ -113,9 +115,29 @@ class Agent:
             self.open[of] = line
             self.say(line)
 
+    def record(self):
+        """Leaves the figures, where that is asked for."""
+        pinned = sum(one.pinned and not one.waits for one in self.held.values())
+        waiting = sum(one.waits for one in self.held.values())
+        self.records.set(containers_pinned=pinned, containers_waiting=waiting, containers_shared=len(self.held) - pinned - waiting,
+                         undone=len(self.open) + len([name for name in self.refused if ("container", name) not in self.open]))
+        self.leave(self.words.textfile, self.records.write)
+
+    def leave(self, where, write, *what):
+        """Writes for others to read; that it can't be is said, and stops nothing."""
+        if not where:
+            return
+        try:
+            write(*what)
+            self.open.pop(("record", where), None)
+        except Refused as why:
+            self.say_once(("record", where), f"failed {why}")
+
     def ask(self, line, quiet=False):
         """A command's answer. Notes of the program are said; the last of them is why a write was refused."""
         answer = self.numarun.ask(line)
+        if answer[0].startswith("refused E50"):
+            self.records.count("refused_writes_total")
         notes = [re.sub("^(error|note): ", "", note).replace(f"{self.tree.folder}/numarun/", "") for note in self.numarun.said()]
         self.failed = notes[-1] if notes else answer[0]
         for note in [] if quiet or answer[0].startswith("refused E50") else notes:
@@ -388,7 +410,10 @@ class Agent:
         while outcome[0].startswith("short") and self.ease(outcome):
             outcome = self.ask("begin")
         self.say_fewer()
+        if self.words.certificates:
+            self.leave(self.words.certificates, self.records.keep, self.ask("certificate"))
         if not outcome[0].startswith("plan"):
+            self.records.count("shortages_total", int(outcome[0].startswith("short")))
             self.due = outcome[0].startswith("refused")
             self.say_once("plan", " ".join(outcome[:-1] or outcome))
             return
@@ -404,19 +429,22 @@ class Agent:
         for line in [outcome[0], *changes] if changes != self.tried else []:
             self.say(line)
         self.tried = changes
-        self.hand_over(targets, pool)
+        moves = sum(len(cpus - (self.held[name].cpus or set())) for name, cpus in targets.items())
+        if self.hand_over(targets, pool):
+            self.records.plan(int(outcome[0].split(" ")[2]), sum(map(len, targets.values())), moves)
 
     def hand_over(self, targets, pool):
+        """Makes the writes of a plan, one after another; whether all were made."""
         answer = "more"
         while answer == "more":
             if self.ending:
-                return
+                return False
             answer = self.ask("step")[0]
         if answer != "done":
             self.say_once("plan", f"failed {self.failed}")
             for name, one in self.held.items():
                 one.cpus = self.requested(name)
-            return
+            return False
         self.due, self.tried = False, None
         self.open.pop("plan", None)
         for name, one in self.held.items():
@@ -426,6 +454,7 @@ class Agent:
         if pool != self.pool:
             self.pool = pool
             self.tell_pool()
+        return True
 
     def tell_pool(self):
         """Runs the command that moves the rest of the machine onto the pool."""
@@ -451,7 +480,7 @@ class Agent:
                 self.say_once(("drift", name), f"drift {name} has {print_list(cpus)} in place of {print_list(one.cpus)}")
 
 
-def work(agent, source, online, words):
+def work(agent, source, online, rest, words):
     """Looks again and again, at the latest after a pause, until the input ends, or it is told to end."""
     reader, writer = os.pipe()
     os.set_blocking(writer, False)
@@ -476,7 +505,8 @@ def work(agent, source, online, words):
             agent.open.pop("look", None)
         except Refused as why:
             agent.say_once("look", f"{why}; looks again")
-        agent.look(source.told, events)
+        agent.look({**rest.told(), **source.told}, events)
+        agent.record()
         if turn == words.rounds or getattr(source, "ended", False):
             break
         if isinstance(source, Folder):
@@ -498,7 +528,13 @@ def words_of():
     parser.add_argument("--pin", choices=("all", "whole", "annotated"), default="all",
                         help=f"who gets CPUs of its own: all that ask for some, those whose quota is of whole CPUs, those annotated {PIN}=true")
     parser.add_argument("--pool", metavar="COMMAND", help="run this with the pool's list behind it whenever that has changed")
+    parser.add_argument("--rest", default="", metavar="GROUPS", help="groups of the system itself, with commas between them, as system.slice,user.slice,"
+                        "init.scope: they are held on the pool, those that are there")
+    parser.add_argument("--textfile", metavar="FILE", help="leave the figures here for node_exporter, as a file of its folder that ends in .prom")
+    parser.add_argument("--certificates", metavar="FOLDER", help="keep the certificate of each plan and shortage here, by its date")
     words = parser.parse_args()
+    if words.rest and not words.cgroup:
+        parser.error("--rest is of a tree: --cgroup names it")
     if not 0 <= words.pause <= 86400 or words.rounds < 0:
         parser.error("--pause is 0 to 86400, and --rounds is 0 or more")
     if words.watch and not words.online:
@@ -515,8 +551,9 @@ def main():
         tree = Tree(words.cgroup, folder, words.group) if words.cgroup else NoTree()
         agent = Agent(words, machine, tree, folder)
         source = Folder(words.watch) if words.watch else Input()
+        rest = Rest(words.cgroup, [group.strip("/") for group in words.rest.split(",") if group.strip("/")], folder)
         try:
-            work(agent, source, Online(words.online, machine) if words.online else None, words)
+            work(agent, source, Online(words.online, machine) if words.online else None, rest, words)
         finally:
             if agent.numarun:
                 agent.numarun.close()

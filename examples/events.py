@@ -3,6 +3,7 @@ list of online CPUs. What they come to is kept as containers that ought to be th
 sees what is, and nothing twice."""
 
 import collections
+import json
 import os
 import select
 
@@ -78,7 +79,7 @@ class Folder:
             names = os.listdir(self.path)
         except OSError as why:
             raise Refused(f"{self.path}: {why.strerror}") from None
-        found = {name: self.container(os.path.join(self.path, name)) for name in sorted(names) if name.split() == [name]}
+        found = {name: self.container(os.path.join(self.path, name)) for name in sorted(names) if name.split() == [name] and name[0] != "."}
         self.told = {name: told for name, told in found.items() if told}
         self.bundles = {told.folder: self.bundles[told.folder] for told in self.told.values()}
 
@@ -93,6 +94,22 @@ class Folder:
             bundle = bundle_of(folder)
             self.bundles[folder] = (found.st_ino, found.st_mtime_ns), bundle
         return bundle and Told(bundle, folder, None, found.st_ino)
+
+
+class Rest:
+    """Groups of the system itself, as system.slice, each of them as a shared container; those that are there."""
+
+    def __init__(self, root, groups, work):
+        self.root, self.groups, self.bundle = root, groups, os.path.join(work, "bundles", "rest")
+
+    def told(self):
+        there = [name for name in self.groups if os.path.isdir(os.path.join(self.root, name))]
+        path = os.path.join(self.bundle, "config.json")
+        if there and not os.path.exists(path):
+            os.makedirs(self.bundle, exist_ok=True)
+            with open(path, "w") as file:
+                json.dump({"ociVersion": "1.0.2", "root": {"path": "/"}}, file)
+        return {name.replace("/", "+"): Told(self.bundle, self.bundle, name, 0) for name in there}
 
 
 class Online:

@@ -18,17 +18,23 @@ class Absent(Exception):
     """What keeps a container from being told: its group, or its config, is not there."""
 
 
+def parse_text(text, place):
+    """A JSON object."""
+    try:
+        told = json.loads(text)
+    except (ValueError, RecursionError):
+        raise Refused(f"{place}: not JSON") from None
+    if not isinstance(told, dict):
+        raise Refused(f"{place}: no JSON object")
+    return told
+
+
 def parse(path):
     """A JSON object in a file that somebody else writes, so that it may be there in part."""
     try:
-        told = json.loads(read_text(path, CONFIG_BYTES))
+        return parse_text(read_text(path, CONFIG_BYTES), path)
     except Refused as why:
         raise Absent(str(why)) from None
-    except (ValueError, RecursionError):
-        raise Absent(f"{path}: not JSON") from None
-    if not isinstance(told, dict):
-        raise Absent(f"{path}: no JSON object")
-    return told
 
 
 def at(told, *names):

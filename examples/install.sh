@@ -3,7 +3,8 @@
 # Usage: examples/install.sh [--uninstall] PREFIX
 #
 # PREFIX/bin has numarun and the scripts: numarun-agent, numarun-draw-plan, numarun-dry-run, numarun-explain,
-# numarun-describe-host, numarun-describe-hwloc. PREFIX/share has the man page and docs/formats.md. The program is the one
+# numarun-hook, numarun-describe-host, numarun-describe-hwloc. PREFIX/lib/systemd/system has a unit for the agent, which is not
+# enabled. PREFIX/share has the man page and docs/formats.md. The program is the one
 # that PROGRAM in the environment names, or the proved one of this checkout, from (cd crates/numarun && rt run -- --version).
 # Nothing in it names PREFIX, so that it may be moved, and packed. To install again is to bring it up to date: what the last
 # time installed, and this time does not, is taken away. PREFIX/lib/numarun/installed is the list of all that was installed,
@@ -13,7 +14,7 @@
 set -euo pipefail
 export LC_ALL=C
 top=$(cd "$(dirname "$(realpath "$0")")/.." && pwd)
-scripts=(agent.py draw-plan.py dry-run.py explain.py describe-host.sh describe-hwloc.py)
+scripts=(agent.py draw-plan.py dry-run.py explain.py hook.py describe-host.sh describe-hwloc.py)
 
 say() { echo "install.sh: $1" >&2; }
 fail() { say "$1"; exit 1; }
@@ -67,7 +68,7 @@ put() {
 put_all() {
     local name script
     put 755 "$program" bin/numarun
-    for name in common.py answers.py events.py groups.py; do
+    for name in common.py answers.py events.py groups.py records.py; do
         put 644 "$top/examples/$name" "lib/numarun/$name"
     done
     for script in "${scripts[@]}"; do
@@ -75,6 +76,7 @@ put_all() {
         ln -sfn "../lib/numarun/$script" "$prefix/bin/numarun-${script%.*}"
         made+="bin/numarun-${script%.*}"$'\n'
     done
+    put 644 "$top/examples/numarun-agent.service" lib/systemd/system/numarun-agent.service
     put 644 "$top/docs/numarun.1" share/man/man1/numarun.1
     put 644 "$top/docs/formats.md" share/doc/numarun/formats.md
 }

@@ -1,56 +1,61 @@
 #!/usr/bin/env bash
-# Runs the built program on a real kernel: Debian's, in a machine that qemu emulates (8 CPUs on 4 nodes), over its own cgroup v2 tree.
-# What it needs it installs where it may: qemu-system-x86, cpio, busybox-static, and the kernel's package, which is only unpacked.
-# Where it can't, it is passed over. PROGRAM in the environment is run in place of the one that this builds.
+# Runs the built programs on a real kernel: Debian's, in a machine that qemu emulates (8 CPUs on 4 nodes), over its own cgroup v2
+# tree. What it needs it installs where it may: qemu-system-x86, cpio, crun, a C compiler, and the kernel's package, which is only
+# unpacked. Where it can't, it says so and is passed over. PROGRAM and TOOLS in the environment are run in place of those that this
+# builds; PARTS are the parts of linux/parts/ that are run, in this order, and SEED chooses what is random in them.
 set -euo pipefail
 top=$(cd "$(dirname "$0")/.." && pwd)
+parts=${PARTS:-calls chance strangers refused killed gone crun agent}
+seed=${SEED:-1}
 work=$(mktemp -d)
 trap 'rm -rf "$work"' EXIT
-needed=(qemu-system-x86 cpio busybox-static)
 
 pass_over() {
     echo "linux: passed over: $1"
     exit 0
 }
 
-has_all() { command -v qemu-system-x86_64 && command -v cpio && [ -x /bin/busybox ]; }
+has_all() { command -v qemu-system-x86_64 && command -v cpio && command -v crun && command -v gcc; }
 
+needed="qemu-system-x86 cpio crun gcc libc6-dev"
 if ! has_all >/dev/null; then
-    echo "linux: installing ${needed[*]} by apt-get" >&2
-    { apt-get -qq update && apt-get -qq install -y --no-install-recommends "${needed[@]}"; } >/dev/null 2>&1 || true
-    has_all >/dev/null || pass_over "there is no ${needed[*]}, and they can't be installed"
+    echo "linux: installing $needed by apt-get" >&2
+    { apt-get -qq update && apt-get -qq install -y --no-install-recommends $needed; } >/dev/null 2>&1 || true
+    has_all >/dev/null || pass_over "there is no $needed, and they can't be installed"
 fi
 kernel=${KERNEL:-}
 if [ -z "$kernel" ]; then
     package=$(apt-cache depends linux-image-cloud-amd64 2>/dev/null | awk '/Depends: linux-image/ {print $2; exit}')
     [ -n "$package" ] || pass_over "apt-cache knows no linux-image-cloud-amd64"
+    echo "linux: downloading $package, to be unpacked" >&2
     (cd "$work" && apt-get -qq download "$package" && dpkg -x "$package"_*.deb unpacked) >/dev/null 2>&1 || pass_over "$package can't be had"
     kernel=$(echo "$work"/unpacked/boot/vmlinuz-*)
 fi
 . "$top/tests/build-program.sh"
+case " $parts " in *" calls "*) . "$top/benches/build-tools.sh" ;; esac
 
 root=$work/root
-mkdir -p "$root"/{bin,proc,sys,dev,cg,tmp,app}
-cp /bin/busybox "$root/bin/"
-cp "$top/tests/linux/init" "$top/tests/linux/job.sh" "$root/"
-cp -r "$top/tests/linux/app/." "$root/app/"
-cp "$program" "$root/app/numarun"
-for library in $(ldd "$program" | grep -o '/[^ ]*' || true); do
-    mkdir -p "$root$(dirname "$library")"
-    cp -L "$library" "$root$library"
-done
-chmod +x "$root/init"
+gcc -O2 -shared -fPIC -o "$work/stop.so" "$top/tests/linux/stop.c"
+gcc -O2 -static -o "$work/sleeper" "$top/tests/linux/sleeper.c"
+python3 -B "$top/tests/linux/image.py" "$root" "$program" "$(command -v crun)" "$work/stop.so" "$work/sleeper"
+case " $parts " in *" calls "*) python3 -B "$top/tests/linux/lists.py" "$tools" "$seed" >"$root/calls" ;; esac
+echo "$seed $parts" >"$root/parts"
 (cd "$root" && find . | cpio -o -H newc --quiet | gzip -1) >"$work/initrd.gz"
-memory=() distances=()
+nodes=()
 for node in 0 1 2 3; do
-    memory+=(-object "memory-backend-ram,id=m$node,size=256M" -numa "node,nodeid=$node,memdev=m$node,cpus=$((2 * node))-$((2 * node + 1))")
+    nodes+=(-object "memory-backend-ram,id=m$node,size=320M" -numa "node,nodeid=$node,memdev=m$node,cpus=$((2 * node))-$((2 * node + 1))")
 done
 for row in 0,1,20 0,2,20 0,3,30 1,2,30 1,3,20 2,3,20; do
     IFS=, read -r from to distance <<<"$row"
-    distances+=(-numa "dist,src=$from,dst=$to,val=$distance")
+    nodes+=(-numa "dist,src=$from,dst=$to,val=$distance")
 done
-timeout 240 qemu-system-x86_64 -M q35 -cpu max -m 1024 -smp 8,sockets=4,cores=2,threads=1 "${memory[@]}" "${distances[@]}" \
-    -nographic -no-reboot -serial stdio -monitor none -kernel "$kernel" -initrd "$work/initrd.gz" \
-    -append "console=ttyS0 quiet panic=-1 loglevel=1" </dev/null >"$work/out" 2>&1 || { tail -20 "$work/out"; exit 1; }
+status=0
+timeout "${LIMIT:-900}" qemu-system-x86_64 -M q35 -cpu max -accel tcg,thread=multi -m 1280 -smp 8,sockets=4,cores=2,threads=1 "${nodes[@]}" \
+    -nodefaults -display none -serial stdio -no-reboot -kernel "$kernel" -initrd "$work/initrd.gz" \
+    -append "console=ttyS0 quiet panic=-1 loglevel=1 mitigations=off rdinit=/init" </dev/null 2>&1 | sed -u 's/\r$//' | tee "$work/out" | grep --line-buffered '^linux: ' || status=$?
 [ -z "${KEEP:-}" ] || cp "$work/out" "$KEEP"
-python3 -B "$top/tests/linux/judge.py" "$work/out"
+if ! grep -q '^linux: all parts passed' "$work/out"; then
+    grep -av '^linux: ' "$work/out" | tail -40
+    echo "linux: the emulated machine did not come to its end, or a part failed"
+    exit 1
+fi

@@ -4,6 +4,7 @@ write, a group, a config or a line of input is not as it ought to be."""
 import importlib
 import json
 import os
+import re
 import shutil
 import signal
 import subprocess
@@ -36,6 +37,7 @@ class Site:
     def __init__(self, machine=None, root=True):
         Site.count += 1
         self.folder = os.path.join(SCRATCH, f"site-{Site.count}")
+        shutil.rmtree(self.folder, ignore_errors=True)
         os.makedirs(os.path.join(self.folder, "g"))
         if root:
             os.makedirs(os.path.join(self.folder, "root", "numarun"))
@@ -361,13 +363,98 @@ def flapping():
     check("one that had its CPUs keeps them", (status, lines[-1], site.has("a", "b")), (1, "short demand 3 allowed 1,3 member a", ["1-3", "14-15"]))
 
 
-def storm():
-    """200 containers at once: one plan, and two writes each."""
+    site.online("0,14-15")
+    agent = Open(site)
+    agent.until("short")
+    site.online("0-15")
+    agent.until("done")
+    check("ten CPUs at once", (site.has("a", "b"), agent.end()[0]), (["1-3", "14-15"], 0))
+
+
+def storm(count=400):
+    """400 containers at once: one plan, and two writes each. They end at once, too."""
     site = Site({"nodes": ["0-127"], "distances": [[10]], "reserved": "0"})
-    for k in range(200):
+    for k in range(count):
         site.come(f"c{k:03}", int(k % 5 == 0))
     status, lines = site.run()
-    check("a storm", (status, len(site.log()), sum(line.startswith("plan") for line in lines)), (0, 400, 1))
+    check("a storm", (status, len(site.log()), sum(line.startswith("plan") for line in lines)), (0, 2 * count, 1))
+    agent = Open(site)
+    agent.until("done")
+    for k in range(1, count):
+        site.go(f"c{k:03}")
+    ended = 0
+    while ended < count - 1:
+        ended += sum(line.startswith("ended") for line in agent.until("done"))
+    check("its end", (site.has("c000"), agent.end()[0]), (["1"], 0))
+
+
+def rest():
+    """Groups of the system itself are held on the pool; one that is not there is none, and comes when it is."""
+    site = Site()
+    site.come("a", 2)
+    site.make_group("x", group="system.slice")
+    agent = Open(site, "--rest", "system.slice,/user.slice/,init.scope")
+    lines = agent.until("done")
+    check("the rest of the machine", sorted(line for line in lines if line.startswith(("create", "absent"))),
+          [f"create a {site.at('g/a')}", f"create system.slice {site.at('work/bundles/rest')}"])
+    site.make_group("x", group="user.slice")
+    agent.until("done")
+    has = [open(site.at("root", name, "cpuset.cpus")).read() for name in ("system.slice", "user.slice", "numarun/a")]
+    check("it runs on the pool", (has, agent.end()[0]), (["0,3-7\n", "0,3-7\n", "1-2\n"], 0))
+    status, _, err = told("agent.py", *PLAIN, "--rest", "system.slice")
+    check("without a tree", (status, "--rest is of a tree" in err), (2, True))
+
+
+def recorded():
+    """The figures for node_exporter, and the certificates by their dates, which hold."""
+    site = Site({"nodes": ["0-3", "4-7"], "distances": [[10, 21], [21, 10]], "reserved": "0"})
+    site.online("0-7")
+    site.come("a", linux={"resources": {"cpu": {"quota": 5 * QUOTA, "period": QUOTA, "mems": "1"}}})
+    site.come("s")
+    more = ("--textfile", site.at("numarun.prom"), "--certificates", site.at("kept"))
+    check("a plan", site.run(*more)[0], 0)
+    figures = dict(line.split(" ") for line in open(site.at("numarun.prom")).read().splitlines() if not line.startswith("#"))
+    del figures["numarun_look_timestamp_seconds"]
+    expected = {"plans_total": "1", "moves_total": "5", "shortages_total": "0", "refused_writes_total": "0", "distance": "61", "distance_beyond_local": "11",
+                "containers_pinned": "1", "containers_shared": "1", "containers_waiting": "0", "undone": "0"}
+    check("its figures", figures, {f"numarun_{name}": figure for name, figure in expected.items()})
+    site.come("big", 4)
+    check("a newcomer waits", site.run(*more, rounds="2")[0], 1)
+    figures = open(site.at("numarun.prom")).read()
+    check("and is counted", ["\nnumarun_containers_waiting 1\n" in figures, "\nnumarun_undone 1\n" in figures], [True, True])
+    kept = sorted(os.listdir(site.at("kept")))
+    texts = [open(site.at("kept", name)).read() for name in kept]
+    check("certificates by their dates", [bool(re.fullmatch(r"20[-0-9]{8}T[-0-9]{8}\.[0-9]{3}Z\.certificate", name)) for name in kept], [True] * len(kept))
+    whole = [text.startswith("numarun-certificate 2\nrow a 5 ") and text.endswith("\nend\n") for text in texts]
+    check("they are whole", (len(kept) >= 2, whole), (True, [True] * len(kept)))
+    status, lines = site.run("--textfile", site.at("nowhere", "x"), "--certificates", site.at("kept"))
+    check("a folder that is not there", (status, [line for line in lines if "nowhere" in line]),
+          (1, [f"failed {site.at('nowhere', 'x')}: No such file or directory"]))
+    refuses("agent.py", *PLAIN, "--certificates", "/proc/no/where", says="/proc/no/where: No such file")
+
+
+def hooked():
+    """A runtime's hook tells of a container, in the group that its process is in, and that it is gone."""
+    site = Site()
+    site.come("a", 2, group=False)
+    os.mkdir(site.at("told"))
+    os.rename(site.at("g/a"), site.at("bundle"))
+    state = {"ociVersion": "1.0.2", "id": "a", "status": "created", "pid": os.getpid(), "bundle": site.at("bundle")}
+    check("a container", told("hook.py", site.at("told"), text=json.dumps(state)), (0, "", ""))
+    group = json.load(open(site.at("told/a/status")))["cgroup-path"] if os.path.exists(site.at("told/a/status")) else "/numarun/a"
+    site.make_group("a", group=group.strip("/"))
+    status, lines = site.run("--watch", site.at("told"))
+    check("it is told", (status, lines[0]), (0, f"create a {site.at('told/a')}"))
+    first = os.stat(site.at("told/a")).st_ino
+    check("told again", told("hook.py", site.at("told"), text=json.dumps({**state, "status": "creating"})), (0, "", ""))
+    check("as another one", os.stat(site.at("told/a")).st_ino != first, True)
+    for _ in range(2):
+        check("gone", told("hook.py", site.at("told"), text=json.dumps({**state, "status": "stopped", "pid": 0})), (0, "", ""))
+        check("nothing is left", os.listdir(site.at("told")), [])
+    for text, says in [("", "not JSON"), ("[]", "no JSON object"), ("{}", "no id in the"), (json.dumps({**state, "id": "../x"}), "'../x' is no id"),
+                       (json.dumps({**state, "bundle": "/no"}), "/no/config.json: no such file"), ("x" * (1 << 20 | 1), "more than 1048576 bytes")]:
+        refuses("hook.py", site.at("told"), text=text, says=says)
+    words_and_help("hook.py", "/usr/local/bin/numarun-hook")
 
 
 def one_agent():
@@ -460,7 +547,7 @@ def refusals():
 
 
 for part in (plain, restart, under_its_id, refused_writes, admission, fewer, who_is_pinned, refused_sections, pool_hook, flapping, storm,
-             one_agent, told_by_lines, places, refusals):
+             rest, recorded, hooked, one_agent, told_by_lines, places, refusals):
     if not sys.argv[1:] or part.__name__ in sys.argv[1:]:
         part()
 end("agent.py")

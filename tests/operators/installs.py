@@ -12,7 +12,7 @@ PREFIX = os.path.join(os.environ["SCRATCH"], "installed here")
 MACHINE = os.path.join(TOP, "examples", "machines", "two-socket.json")
 ANSWERS = os.path.join(TOP, "examples", "scripts", "before-and-after.answers")
 DATABASE = os.path.join(TOP, "examples", "bundles", "database")
-NAMES = ["agent", "describe-host", "describe-hwloc", "draw-plan", "dry-run", "explain"]
+NAMES = ["agent", "describe-host", "describe-hwloc", "draw-plan", "dry-run", "explain", "hook"]
 HERE = {**os.environ, "PROGRAM": PROGRAM}
 
 

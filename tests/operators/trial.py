@@ -16,7 +16,7 @@ def command(script, *words):
 
 def told(script, *words, text="", folder=TOP, **more):
     """Status, standard output and standard error of a script of examples/."""
-    ran = subprocess.run(command(script, *words), input=text.encode(), capture_output=True, cwd=folder, timeout=100, **more)
+    ran = subprocess.run(command(script, *words), input=text.encode(), capture_output=True, cwd=folder, timeout=300, **more)
     return ran.returncode, ran.stdout.decode(), ran.stderr.decode()
 
 

@@ -1,0 +1,70 @@
+"""Makes the first file system of the emulated machine: `image.py FOLDER FILE..`. It has Python with the modules that are used, the
+scripts of examples/, the folder linux/ of the tests, and FILES with the libraries that they are linked with, in /app."""
+
+import compileall
+import os
+import py_compile
+import re
+import shutil
+import subprocess
+import sys
+
+HERE = os.path.dirname(os.path.abspath(__file__))
+TOP = os.path.dirname(os.path.dirname(HERE))
+MODULES = """argparse bisect collections contextlib copy ctypes datetime encodings.ascii encodings.latin_1 encodings.utf_8 errno fcntl gettext
+itertools json linecache locale math os pathlib random re select selectors shlex shutil signal subprocess sys tempfile textwrap
+threading time tokenize traceback""".split()
+
+
+def put(root, path, place=None):
+    """Copies a file to the same place, or to this one."""
+    to = root + (place or path)
+    os.makedirs(os.path.dirname(to), exist_ok=True)
+    shutil.copy2(path, to)
+
+
+def put_linked(root, path, place=None):
+    """Copies a program or a library, and the libraries that it is linked with."""
+    put(root, path, place)
+    found = subprocess.run(["ldd", path], stdout=subprocess.PIPE, stderr=subprocess.DEVNULL, text=True).stdout
+    for library in re.findall(r"(?:=> |^\s*)(/\S+) \(", found, re.M):
+        put(root, library)
+
+
+def files_of_python():
+    """The program, and the files of the modules that are loaded by all these."""
+    script = f"import {', '.join(MODULES)}\nprint(os.path.realpath(sys.executable))\n" + \
+        "for one in list(sys.modules.values()):\n    if getattr(one, '__file__', None): print(one.__file__)\n"
+    return subprocess.run([sys.executable, "-S", "-E", "-B", "-c", script], stdout=subprocess.PIPE, text=True, check=True).stdout.split("\n")[:-1]
+
+
+def is_binary(path):
+    with open(path, "rb") as file:
+        return file.read(4) == b"\x7fELF"
+
+
+def main(root, *files):
+    for place in ("proc", "sys", "dev", "tmp", "run", "root", "app", "bin"):
+        os.makedirs(os.path.join(root, place))
+    python, *modules = files_of_python()
+    put_linked(root, python)
+    os.symlink(python, f"{root}/bin/python3")
+    for path in modules:
+        put_linked(root, path) if path.endswith(".so") else put(root, path)
+    for folder in ("examples", "tests/linux"):
+        for place, _, names in os.walk(os.path.join(TOP, folder)):
+            for name in names:
+                if name.endswith((".py", ".json")):
+                    path = os.path.join(place, name)
+                    put(root, path, "/numarun/" + os.path.relpath(path, TOP))
+    for path in files:
+        put_linked(root, os.path.realpath(path), f"/app/{os.path.basename(path)}")
+    # No time of a file counts there, since not every kernel keeps these when it unpacks them.
+    stripped = [path for place, _, names in os.walk(root) for path in (os.path.join(place, name) for name in names) if is_binary(path)]
+    subprocess.run(["strip", "--strip-unneeded", *stripped], stderr=subprocess.DEVNULL)
+    compileall.compile_dir(root, quiet=1, maxlevels=20, invalidation_mode=py_compile.PycInvalidationMode.UNCHECKED_HASH, stripdir=root)
+    put(root, os.path.join(HERE, "init"), "/init")
+    os.chmod(f"{root}/init", 0o755)
+
+
+main(*sys.argv[1:])
