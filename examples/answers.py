@@ -1,6 +1,7 @@
 """What scripts read in the answers of a script: plans, shortages and certificates.
 
-Sets of CPUs in certificates are masks (whole numbers whose bit N is CPU N), since a large one has thousands of them."""
+Sets of CPUs in certificates are masks (whole numbers whose bit N is CPU N), since a large one has thousands of them. Where the
+machine file lists cores, a certificate counts cores: each is there as its lowest CPU, and all its numbers are those of cores."""
 
 import re
 
@@ -53,10 +54,10 @@ def wrapped(text, indent="    "):
 
 
 class Certificate:
-    """Its rows by their ids. Weights, values and amounts are as they are written, `scale` times a distance."""
+    """Its rows by their ids. Weights, values and amounts are as they are written, `scale` times a distance; CPUs stand for cores."""
 
-    def __init__(self, line, scale):
-        self.line, self.scale, self.total, self.moves = line, scale, None, 0
+    def __init__(self, line, scale, machine):
+        self.line, self.scale, self.machine, self.total, self.moves = line, scale, machine, None, 0
         self.demand, self.offers = {}, {}  # offers are pairs of a weight and a mask
         self.holds, self.values, self.prices, self.short = {}, {}, [], []
 
@@ -68,7 +69,23 @@ class Certificate:
         return mask
 
     def distance_to(self, name, cpu):
-        return next((weight // self.scale for weight, cpus in self.offers.get(name, []) if cpus >> cpu & 1), None)
+        core = self.machine.core_of[cpu]
+        return next((weight // self.scale for weight, cores in self.offers.get(name, []) if cores >> core & 1), None)
+
+    def cpus(self, cores):
+        """The CPUs of cores, which are a mask of their lowest CPUs."""
+        return self.machine.cpus_of(cpus_of(cores))
+
+    def listed(self, cores):
+        return print_list(self.cpus(cores))
+
+    def of_cpus(self, number):
+        """As many cores, or what so many cost together, counted by CPUs."""
+        return number * self.machine.threads
+
+    @property
+    def unit(self):
+        return "CPU" if self.machine.threads == 1 else "core"
 
 
 class Outcome:
@@ -123,7 +140,7 @@ class Answers:
     def __init__(self, path, machine, lines=None):
         self.path, self.machine, self.outcomes, self.certificates, self.masks = path, machine, [], [], {}
         self.lines = read_text(path).splitlines() if lines is None else lines
-        self.present = mask_of(machine.present)
+        self.cores = mask_of(machine.cores)
         self.at = 0
         while self.at < len(self.lines):
             words = self.lines[self.at].split(" ")
@@ -167,13 +184,14 @@ class Answers:
         return cpus
 
     def mask(self, text):
-        """The mask of a list; the same text is read once."""
+        """The mask of a list of CPUs that stand for cores; the same text is read once."""
         mask = self.masks.get(text, 0)
         if not mask:
             for first, last in read_ranges(text, self.place()):
                 mask |= (1 << last + 1) - (1 << first)
-            if mask & ~self.present:
-                self.refuse(f"the machine has no CPU {min(cpus_of(mask & ~self.present))}")
+            if mask & ~self.cores:
+                stray = min(cpus_of(mask & ~self.cores))
+                self.refuse(f"CPU {stray} is the lowest of no core" if stray in self.machine.present else f"the machine has no CPU {stray}")
             self.masks[text] = mask
         return mask
 
@@ -207,7 +225,7 @@ class Answers:
         self.outcomes.append(shortage)
 
     def read_certificate(self, scale):
-        told, priced = Certificate(self.at, scale), 0
+        told, priced = Certificate(self.at, scale, self.machine), 0
         for words in self.block("certificate"):
             if words[0] == "row" and len(words) >= 3 and words[1].isprintable() and words[1] not in told.demand:
                 told.demand[words[1]] = self.number(words[2])

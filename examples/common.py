@@ -103,6 +103,9 @@ class Machine:
         self.offline = self.as_set(told.get("offline") or "", f"{path}: offline")
         if not self.reserved or not self.reserved | self.offline <= self.present:
             raise Refused(f"{path}: reserved or offline: no CPU, or one that no node has")
+        self.cores = {cpu: {cpu} for cpu in self.present} if told.get("cores") is None else self.read_cores(told["cores"], path)
+        self.threads = len(next(iter(self.cores.values())))
+        self.core_of = {cpu: core for core, cpus in self.cores.items() for cpu in cpus}
         self.distances = told.get("distances")
         self.check_distances(path)
         about = told.get("about") if isinstance(told.get("about"), str) else ""
@@ -126,6 +129,28 @@ class Machine:
         if not isinstance(text, str):
             raise Refused(f"{place}: no list of CPUs as text")
         return read_list(text, place)
+
+    def read_cores(self, lists, path):
+        """The CPUs of each core, by its lowest one."""
+        if not isinstance(lists, list):
+            raise Refused(f"{path}: cores: not an array of lists")
+        cores, left = [self.as_set(item, f"{path}: cores: core {k}") for k, item in enumerate(lists)], set(self.present)
+        for k, core in enumerate(cores):
+            of_one = len({self.node_of.get(cpu) for cpu in core}) == 1 and core & self.reserved in (set(), core)
+            if not core <= left or not of_one or len(core) != len(cores[0]):
+                raise Refused(f"{path}: cores: core {k}: not as many CPUs as core 0 has, of one node, of no other core, reserved or not")
+            left -= core
+        if left:
+            raise Refused(f"{path}: cores: CPU {min(left)} is in no core")
+        return {min(core): core for core in sorted(cores, key=min)}
+
+    def cores_in(self, cpus):
+        """The cores of which all CPUs are among these, each by its lowest CPU."""
+        return {core for core in self.cores.keys() & cpus if self.cores[core] <= cpus}
+
+    def cpus_of(self, cores):
+        """The CPUs of the cores with these lowest CPUs."""
+        return set().union(*(self.cores[core] for core in cores))
 
     def check_distances(self, path):
         rows, count = self.distances, len(self.nodes)

@@ -5,8 +5,10 @@ AllowedCPUs), and such CPUs can't be told from those that are offline.
 
 CPUs and nodes keep the numbers of the system. As describe-host.sh does it: where no reserved CPUs are named, the lowest
 online one is; a number that no node has becomes a node without CPUs, at distance 255 (unreachable) from all others, and
---renumber leaves these out; memory without CPUs is a node without CPUs; a distance that is not told is 255. What of this
-was done, and what the file can't tell, is said on standard error."""
+--renumber leaves these out; memory without CPUs is a node without CPUs; a distance that is not told is 255. With --cores the
+CPUs of each physical core are told, its hardware threads (SMT siblings), so that plans give whole cores; this is refused where
+cores have different numbers of CPUs, or a CPU is in no core, as one that is offline mostly is. What of this was done, and what
+the file can't tell, is said on standard error."""
 
 import argparse
 import json
@@ -52,6 +54,7 @@ class Topology:
         self.unsure = set() if told_apart else present - self.online
         self.nodes = self.read_nodes(machine, present)
         self.numbers = sorted(self.nodes)
+        self.cores = [self.bitmap(core, "complete_cpuset", "cpuset") for core in machine.iter("object") if core.get("type") == "Core"]
         self.distances = self.read_distances(root)
         stray = present - set().union(*self.nodes.values())
         if stray:
@@ -163,7 +166,36 @@ def rows_of(topology, nodes):
     return [[10 if a == b else told.get((a, b), UNREACHABLE) for b in nodes] for a in nodes]
 
 
-def describe(topology, reserved, renumber):
+def cores_of(topology, present):
+    """The CPUs of each core, that of the lowest CPU first, of a machine with these CPUs; without cores in the file it is refused."""
+    cores, left = sorted((core for core in topology.cores if core & present), key=min), set(present)
+    for core in cores:
+        odd = [cpus for cpus in topology.nodes.values() if cpus & core not in (set(), core)]
+        if odd or not core <= left:
+            raise Refused(f"--cores: the core {print_list(core)} has CPUs of another one, or of two nodes, or of none")
+        if len(core) != len(cores[0]):
+            raise Refused(f"--cores: cores have different numbers of CPUs: {print_list(cores[0])} and {print_list(core)}")
+        left -= core
+    if left:
+        raise Refused(f"--cores: no core is told of the CPUs {print_list(left)}, as of those that are offline; without --cores each CPU is a core")
+    return cores
+
+
+def reserved_of(topology, online, cores, reserved):
+    """The reserved CPUs: those that were named, or the lowest online one with its core."""
+    if reserved is None:
+        reserved = next((core for core in cores or [] if min(online) in core), {min(online)})
+    if not reserved:
+        raise Refused("--reserved: no CPU is named")
+    if reserved - online:
+        raise Refused(f"reserved CPUs that are not online: {print_list(reserved - online)}")
+    parts = [core for core in cores or [] if core & reserved not in (set(), core)]
+    if parts:
+        raise Refused(f"--cores: the core {print_list(parts[0])} is reserved in part")
+    return reserved
+
+
+def describe(topology, reserved, renumber, with_cores):
     """The text of the machine file."""
     path = topology.path
     nodes = topology.numbers if renumber else range(topology.numbers[-1] + 1)
@@ -180,11 +212,8 @@ def describe(topology, reserved, renumber):
     online = topology.online & present
     if not online:
         raise Refused(f"{path}: no CPU is online")
-    reserved = reserved if reserved is not None else {min(online)}
-    if not reserved:
-        raise Refused("--reserved: no CPU is named")
-    if reserved - online:
-        raise Refused(f"reserved CPUs that are not online: {print_list(reserved - online)}")
+    cores = cores_of(topology, present) if with_cores else None
+    reserved = reserved_of(topology, online, cores, reserved)
     if topology.allowed & online != online:
         say(f"hwloc was not allowed the CPUs {print_list(online - topology.allowed)}; they are in the file")
     if topology.unsure:
@@ -195,6 +224,8 @@ def describe(topology, reserved, renumber):
         f'"reserved": "{print_list(reserved)}"',
         f'"offline": {json.dumps(print_list(present - online, ""))}',
     ]
+    if cores:
+        told.append(f'"cores": {json.dumps([print_list(core) for core in cores])}')
     return "{\n  " + ",\n  ".join(told) + "\n}"
 
 
@@ -203,9 +234,10 @@ def main():
     parser.add_argument("file", nargs="?", default="-", metavar="FILE", help="what lstopo wrote; none, or -, is standard input")
     parser.add_argument("--reserved", metavar="LIST", help="the reserved CPUs")
     parser.add_argument("--renumber", action="store_true", help="number the nodes anew from 0")
+    parser.add_argument("--cores", action="store_true", help="tell the CPUs of each core, so that plans give whole cores")
     words = parser.parse_intermixed_args()
     reserved = None if words.reserved is None else read_list(words.reserved, "--reserved")
-    print(describe(Topology(words.file), reserved, words.renumber))
+    print(describe(Topology(words.file), reserved, words.renumber, words.cores))
 
 
 run(main)

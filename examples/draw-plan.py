@@ -5,7 +5,8 @@
 Drawn are the nodes with their CPUs: each container in a colour and with letters of its own, the pool, reserved and offline
 CPUs. The legend has each container's CPUs and total distance, and which of them are far from home. Of a shortage it is the
 CPUs that those who are short may have: in a container's colour where no other of them may have it, and `*` where several
-may. Distances, and who may have what, are told by the certificate: put the command `certificate` behind `rebalance` in the
+may. Where the machine file lists cores, the CPUs of a core (SMT siblings) stand together, in a box of their own. Distances, and
+who may have what, are told by the certificate: put the command `certificate` behind `rebalance` in the
 script. Of several outcomes the last one is drawn; --before draws it beside the plan before, with a thick edge where a
 container got a CPU, and lists what has moved."""
 
@@ -13,7 +14,7 @@ import argparse
 import html
 from typing import NamedTuple
 
-from answers import LOCAL, Answers, Plan, counted, cut, cut_name, listed, wrapped
+from answers import LOCAL, Answers, Plan, counted, cut, cut_name, wrapped
 from common import Machine, print_list, run
 
 EXAMPLE = """example, from the top of the repository:
@@ -130,10 +131,11 @@ class ShortView:
         self.signs = "# reserved   . for none who is short   * for several"
         self.takers = {}
         for name in shortage.members if self.told else []:
-            allowed = self.told.allowed(name)
-            for cpu in shortage.allowed:
-                if allowed >> cpu & 1:
-                    self.takers.setdefault(cpu, []).append(name)
+            for cpu in shortage.allowed & self.allowed(name):
+                self.takers.setdefault(cpu, []).append(name)
+
+    def allowed(self, name):
+        return self.told.cpus(self.told.allowed(name))
 
     def sign(self, cpu):
         if cpu in self.machine.reserved:
@@ -158,8 +160,8 @@ class ShortView:
             return "not short", "", ""
         if not self.told:
             return "short", "", ""
-        allowed = self.told.allowed(name)
-        return f"asks for {self.told.demand[name]}, may have {bin(allowed).count('1')}", listed(allowed), ""
+        asked, allowed = self.told.of_cpus(self.told.demand[name]), self.allowed(name)
+        return f"asks for {asked}, may have {len(allowed)}", print_list(allowed), ""
 
 
 def moves(before, after):
@@ -199,22 +201,37 @@ def views_of(machine, outcomes, style):
 # Text.
 
 
-def text_rows(view, cpus, width, size):
-    return ["".join(view.sign(cpu).ljust(size) for cpu in cpus[k : k + width]) for k in range(0, len(cpus), width)]
+def by_cores(machine, cpus):
+    """The CPUs of a node as lists, one for each core."""
+    return [sorted(machine.cores[cpu]) for cpu in sorted(cpus & machine.cores.keys())]
+
+
+def text_lines(machine, cpus, width, size):
+    """The CPUs of a node in lines of as many cores as have room, or of CPUs where a core is alone longer than a line."""
+    cores = by_cores(machine, cpus)
+    apart = machine.threads > 1
+    if machine.threads * size > width:
+        cores, apart = [[cpu] for core in cores for cpu in core], False
+    count = width // (len(cores[0]) * size + apart) if cores else 1
+    return [cores[k : k + max(count, 1)] for k in range(0, len(cores), max(count, 1))], " " if apart else ""
+
+
+def text_row(view, cores, between, size):
+    return between.join("".join(view.sign(cpu).ljust(size) for cpu in core) for core in cores)
 
 
 def draw_text(machine, outcomes):
     style = Style(outcomes)
     views = views_of(machine, outcomes, style)
     size = max([1] + [len(tag) for tag in style.tag.values()])
-    width = (64 if len(views) == 1 else 32) // size
+    width = 64 if len(views) == 1 else 32
     out = [view.name + view.title for view in views]
     for node, cpus in enumerate(machine.nodes):
         out += ["", cut(f"node {node}: " + (f"CPUs {print_list(cpus)}" if cpus else "memory alone"), 80)]
-        sides = [text_rows(view, sorted(cpus), width, size) for view in views]
-        for k, row in enumerate(zip(*sides)):
-            first = sorted(cpus)[k * width]
-            out.append(f"{first:>6}  " + "   ".join(part.ljust(width * size) for part in row).rstrip())
+        lines, between = text_lines(machine, cpus, width, size)
+        for cores in lines:
+            row = "   ".join(text_row(view, cores, between, size).ljust(width // size * size) for view in views)
+            out.append(f"{cores[0][0]:>6}  " + row.rstrip())
     out += ["", *dict.fromkeys(f"legend: {view.signs}" for view in views)]
     for name in style.names:
         out += legend_lines(views[-1], style, name, size)
@@ -298,25 +315,51 @@ def draw_cell(picture, x, y, side, cpu, look):
     picture.add("</g>")
 
 
+class Grid:
+    """Where the CPUs of nodes stand: in lines of cells, with as many cores across as have room. A core whose CPUs are more than a
+    line has is several lines high; round one of several CPUs there is room for a box."""
+
+    def __init__(self, machine):
+        most = max(len(cpus) for cpus in machine.nodes)
+        self.side = 34 if len(machine.present) <= 64 else 28 if len(machine.present) <= 256 else 24
+        columns = min(16 if most > 8 else 8, most)
+        self.threads, self.columns = machine.threads, min(machine.threads, columns)
+        self.across, self.edge = columns // self.columns, 3 if self.threads > 1 else 0
+        self.wide = self.columns * self.side + 2 * self.edge
+        self.high = -(-self.threads // self.columns) * self.side + 2 * self.edge
+        self.width = self.across * self.wide
+
+    def height(self, cpus):
+        """What a node of so many CPUs takes."""
+        return max(1, -(-len(cpus) // self.threads // self.across)) * self.high
+
+    def draw_core(self, picture, x, y, core, cpus, view):
+        """The core with this place in its node, whose cells begin here."""
+        x, y = x + core % self.across * self.wide, y + core // self.across * self.high
+        if self.edge:
+            picture.box(x, y, self.wide - 3, self.high - 3, "#c4c4c4", ' rx="4" stroke="#808080" stroke-width="0.8"')
+        for k, cpu in enumerate(cpus):
+            left, top = x + self.edge + k % self.columns * self.side, y + self.edge + k // self.columns * self.side
+            draw_cell(picture, left - self.edge / 6, top - self.edge / 6, self.side, cpu, view.look(cpu))
+
+
 def draw_nodes(picture, machine, view, left, top, room):
     """The nodes of a machine from this corner on; answers how far down they reach."""
-    most = max(len(cpus) for cpus in machine.nodes)
-    side = 34 if len(machine.present) <= 64 else 28 if len(machine.present) <= 256 else 24
-    columns = min(16 if most > 8 else 8, most)
-    width = max(columns * side, 150) + 20
+    grid = Grid(machine)
+    width = max(grid.width, 150) + 20
     across = max(1, min(len(machine.nodes), int(room // (width + 12))))
     y = top
     for first in range(0, len(machine.nodes), across):
         nodes = range(first, min(first + across, len(machine.nodes)))
-        lines = max(1, max(-(-len(machine.nodes[node]) // columns) for node in nodes))
+        height = max(grid.height(machine.nodes[node]) for node in nodes)
         for node in nodes:
-            x, cpus = left + (node - first) * (width + 12), sorted(machine.nodes[node])
-            picture.box(x, y, width, lines * side + 34, "#eeeeee", ' rx="5" stroke="#404040"')
+            x, cpus = left + (node - first) * (width + 12), machine.nodes[node]
+            picture.box(x, y, width, height + 34, "#eeeeee", ' rx="5" stroke="#404040"')
             name = f"node {node}" + (f": {print_list(cpus)}" if cpus else ": memory alone")
             picture.text(x + 10, y + 18, 12, cut(name, int((width - 20) / 7.5)), ' fill="#000000"')
-            for k, cpu in enumerate(cpus):
-                draw_cell(picture, x + 10 + k % columns * side, y + 27 + k // columns * side, side, cpu, view.look(cpu))
-        y += lines * side + 46
+            for core, siblings in enumerate(by_cores(machine, cpus)):
+                grid.draw_core(picture, x + 10, y + 27, core, siblings, view)
+        y += height + 46
     return y
 
 

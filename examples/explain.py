@@ -7,13 +7,14 @@ named as enough is enough for all containers, those that are not short too. Put 
 in the script; a certificate alone will do as well. Of several the last one is explained.
 
 What a CPU is worth is its price, a dual variable of the plan: no plan with one CPU more that is like it, for each container
-as near and as allowed, has a total that is less by more than that."""
+as near and as allowed, has a total that is less by more than that. Where the machine file lists cores, a plan gives whole ones,
+and moves and worths are those of cores."""
 
 import argparse
 from bisect import bisect_right
 from collections import deque
 
-from answers import LOCAL, Answers, counted, cpus_of, cut, listed, mask_of, wrapped
+from answers import LOCAL, Answers, counted, cpus_of, cut, mask_of, wrapped
 from common import Machine, print_list, run
 
 EXAMPLE = """example, from the top of the repository:
@@ -82,8 +83,8 @@ class Explained:
 
     def __init__(self, told, machine):
         self.told, self.reserved = told, mask_of(machine.reserved)
-        self.slack = sum(told.demand.values()) - told.moves  # moves are no more than the CPUs that are asked for
-        self.nodes = [mask_of(cpus) for cpus in machine.nodes]
+        self.slack = sum(told.demand.values()) - told.moves  # moves are no more than the cores that are asked for
+        self.nodes = [mask_of(cpus & machine.cores.keys()) for cpus in machine.nodes]
         self.offered = {name: self.by_distance(offers) for name, offers in told.offers.items()}
         self.worths = self.by_distance([((amount + self.slack if told.scale != 1 else amount), cpus) for amount, cpus in told.prices])
 
@@ -96,10 +97,10 @@ class Explained:
 
     def heading(self):
         told = self.told
-        moved = f", {counted(told.moves)} moved" if told.scale != 1 else ""
+        moved = f", {counted(told.moves, told.unit)} moved" if told.scale != 1 else ""
         far = sum(bool(self.far(name)) for name in told.demand)
         where = f"far from home: CPUs of {counted(far, 'container')}" if far else "none is far from home"
-        return f"plan: total distance {told.total}{moved}; {where}"
+        return f"plan: total distance {told.of_cpus(told.total)}{moved}; {where}"
 
     def far(self, name):
         """What a container holds beyond local, by distance."""
@@ -108,13 +109,13 @@ class Explained:
 
     def lines(self, name):
         told, held, offered, far = self.told, self.told.holds[name], self.offered[name], self.far(name)
-        distance = sum(distance * size(held & cpus) for distance, cpus in offered.items())
-        start = f"{name}: {counted(told.demand[name])}, distance {distance}: {listed(held)}"
+        distance = told.of_cpus(sum(distance * size(held & cpus) for distance, cpus in offered.items()))
+        start = f"{name}: {counted(told.of_cpus(told.demand[name]))}, distance {distance}: {told.listed(held)}"
         if not far:
             return [f"{start}: all near; {self.one_more(name)}"]
         farthest = max(far)
         nearer = {distance: cpus for distance, cpus in offered.items() if distance < farthest}
-        lines = [start, *(f"  far: {listed(cpus)} at {distance}" for distance, cpus in far.items())]
+        lines = [start, *(f"  far: {told.listed(cpus)} at {distance}" for distance, cpus in far.items())]
         for distance, cpus in list(nearer.items())[:NAMED]:
             lines += self.holders(name, distance, cpus)
         lines += [] if nearer else ["  it may have none that are nearer"]
@@ -123,7 +124,8 @@ class Explained:
 
     def holders(self, name, distance, cpus):
         """Who holds the CPUs that a container may have at this distance."""
-        holds, lines = self.told.holds, [f"  at {distance} it may have {listed(cpus)}"]
+        holds, listed = self.told.holds, self.told.listed
+        lines = [f"  at {distance} it may have {listed(cpus)}"]
         if cpus & holds[name]:
             lines.append(f"    {listed(cpus & holds[name])}: its own")
         others = [other for other in holds if other != name and holds[other] & cpus]
@@ -135,8 +137,9 @@ class Explained:
         """What a holder may have besides what it holds: the nearest of it."""
         free = [(distance, cpus & ~self.told.holds[name]) for distance, cpus in self.offered[name].items()]
         free = [(distance, cpus) for distance, cpus in free if cpus]
-        told = [f"{cut(listed(cpus), 60)} at {distance}" for distance, cpus in free[:3]]
-        return " and ".join(told + ([f"{sum(size(cpus) for _, cpus in free[3:])} farther ones"] if free[3:] else [])) or "no others"
+        told = [f"{cut(self.told.listed(cpus), 60)} at {distance}" for distance, cpus in free[:3]]
+        farther = self.told.of_cpus(sum(size(cpus) for _, cpus in free[3:]))
+        return " and ".join(told + ([f"{farther} farther ones"] if farther else [])) or "no others"
 
     def not_offered(self, name, distance):
         """The CPUs of nearer nodes that are not offered to it, and why."""
@@ -145,23 +148,23 @@ class Explained:
             at = [offered for offered, cpus in self.offered[name].items() if cpus & node]
             missing |= node & ~allowed if at and min(at) < distance else 0
         parts = [(missing & self.reserved, "reserved"), (missing & ~self.reserved, "offline, or not on its list")]
-        told = [f"{cut(listed(cpus), 160)} ({why})" for cpus, why in parts if cpus]
+        told = [f"{cut(self.told.listed(cpus), 160)} ({why})" for cpus, why in parts if cpus]
         return [f"  not for it: {', '.join(told)}"] if told else []
 
     def worth(self, nearer):
-        """What a CPU more would be worth at the nearer places, by the prices there."""
-        left = 0
+        """What a core more would be worth at the nearer places, by the prices there."""
+        told, left = self.told, 0
         for cpus in nearer.values():
             left |= cpus
         groups = [(worth, cpus & left) for worth, cpus in reversed(list(self.worths.items())) if worth and cpus & left]
-        lines = [f"  another CPU like {listed(cpus)} would bring the total down by up to {worth}" for worth, cpus in groups[:NAMED]]
-        return lines + ([f"  .. and like others by up to {groups[NAMED][0]}"] if groups[NAMED:] else [])
+        lines = [f"  another {told.unit} like {told.listed(cpus)} would bring the total down by up to {told.of_cpus(worth)}" for worth, cpus in groups[:NAMED]]
+        return lines + ([f"  .. and like others by up to {told.of_cpus(groups[NAMED][0])}"] if groups[NAMED:] else [])
 
     def one_more(self, name):
         """What it would cost if a container asked for one more: the total is at least so much higher then."""
         told, value = self.told, self.told.values[name]
         least = -(-(value - self.slack - 1) // told.scale) if told.scale != 1 else value
-        return f"one more CPU for it would add {max(least, 0)} or more"
+        return f"one more {told.unit} for it would add {told.of_cpus(max(least, 0))} or more"
 
 
 # Shortages.
@@ -169,10 +172,10 @@ class Explained:
 
 class Room:
     """A largest assignment of CPUs to containers, in which those that came first are served first: a flow over classes of CPUs
-    that the same containers may have. The rest is CPUs that none of them may have."""
+    that the same containers may have. The rest is CPUs that none of them may have. CPUs stand for cores, as in the certificate."""
 
     def __init__(self, told, rest):
-        self.lacks = dict(told.demand)
+        self.told, self.lacks = told, dict(told.demand)
         self.masks = {name: told.allowed(name) for name in self.lacks}
         self.classes = self.split(set(self.masks.values()), rest)
         self.free = [size(mask) for mask in self.classes]
@@ -271,15 +274,15 @@ def explain_shortage(told, machine):
     for name in told.demand:
         allowed |= told.allowed(name) if name in told.short else 0
         offered |= told.allowed(name)
-    demand, known = sum(told.demand[name] for name in told.short), mask_of(machine.reserved)
-    rest = mask_of(machine.present - machine.offline) & ~known & ~offered
+    demand = sum(told.demand[name] for name in told.short)
+    rest = mask_of(machine.cores_in(machine.present - machine.offline - machine.reserved)) & ~offered
     room = Room(told, rest)
-    missing = room.missing()
-    ask = "asks for" if len(told.short) == 1 else "together ask for"
-    lines = [f"short: {joined(told.short)} {ask} {counted(demand)} and may have {size(allowed)}: {listed(allowed)}"]
-    here = demand - size(allowed)
-    lines.append(f"missing: {counted(here)}" + (f" for these, and {missing} in all" if missing > here else ""))
-    return lines + remedies(told, room, missing, rest) + unoffered(machine, offered)
+    missing, here = room.missing(), demand - size(allowed)
+    ask, there = "asks for" if len(told.short) == 1 else "together ask for", told.cpus(allowed)
+    lines = [f"short: {joined(told.short)} {ask} {counted(told.of_cpus(demand))} and may have {len(there)}: {print_list(there)}"]
+    in_all = f" for these, and {told.of_cpus(missing)} in all" if missing > here else ""
+    lines.append(f"missing: {counted(told.of_cpus(here))}" + in_all)
+    return lines + remedies(told, room, missing, rest) + unoffered(machine, told.cpus(offered))
 
 
 def remedies(told, room, missing, rest):
@@ -289,15 +292,15 @@ def remedies(told, room, missing, rest):
     ends, allows, tried = [], [], 4 * NAMED
     for name in names[:tried]:
         if room.heals_without(name):
-            left = told.demand[name] - missing
-            ends.append(f"  end {name}" + (f", or shrink it from {told.demand[name]} to {counted(left)}" if left else ""))
+            before, left = told.of_cpus(told.demand[name]), told.of_cpus(told.demand[name] - missing)
+            ends.append(f"  end {name}" + (f", or shrink it from {before} to {counted(left)}" if left else ""))
         allows += [f"  allow {text}" for text in allowed_more(room, [name], rest)]
     lines = few(ends) + few(allows)
     lines = ["each of these makes room by itself:"] + lines if lines else ["no single container makes room by itself"]
     lines += [f"  (not tried of {counted(len(names) - tried, 'other')})"] if names[tried:] else []
     if len(lacking) == 1:
         return lines
-    shrinks = [(name, told.demand[name], told.demand[name] - room.lacks[name]) for name in lacking]
+    shrinks = [(name, told.of_cpus(told.demand[name]), told.of_cpus(told.demand[name] - room.lacks[name])) for name in lacking]
     whole = [f"{name} from {before} to {after}" if after else f"{name} from {before} to 0 (end it)" for name, before, after in shrinks]
     lines.append(f"all of these together make room, the oldest being served first: shrink {joined(whole)}")
     more = allowed_more(room, lacking, rest)
@@ -308,7 +311,8 @@ def allowed_more(room, names, rest):
     """What these are to be allowed besides, of CPUs that somebody may have now, or else of all."""
     found = room.heals_with(names, ~rest) or room.heals_with(names, ~0)
     unsure = ", if those of them that are for nobody now are online"
-    return [f"{name} {counted(size(more))} more, as {listed(more)}{unsure if more & rest else ''}" for name, more in found.items()]
+    lists = {name: room.told.cpus(more) for name, more in found.items()}
+    return [f"{name} {counted(len(more))} more, as {print_list(more)}{unsure if found[name] & rest else ''}" for name, more in lists.items()]
 
 
 def few(lines):
@@ -317,7 +321,7 @@ def few(lines):
 
 def unoffered(machine, offered):
     """CPUs that no container may have now, which says that they are offline, or on nobody's list."""
-    cpus = {cpu for cpu in machine.present - machine.reserved if not offered >> cpu & 1}
+    cpus = machine.present - machine.reserved - offered
     return [f"for nobody: {print_list(cpus)}: offline, or on nobody's list"] if cpus else []
 
 

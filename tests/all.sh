@@ -4,7 +4,7 @@
 # with the programs that this built, machine files made of recorded hosts, tables of inputs and of command lines, a second kernel,
 # a second checker, a second reader of problems, a second runtime, kernels, streams and cgroup trees that fail, a solver that
 # tries every plan, the first form of the solver, the scripts for those who operate machines, and each of the program's
-# growths refused in turn.
+# allocations refused in turn.
 set -euo pipefail
 cd "$(dirname "$0")/.."
 bash tests/pages.sh
@@ -26,4 +26,4 @@ bash tests/linux.sh
 bash tests/solver.sh
 bash tests/first-solver.sh
 bash tests/operators.sh
-bash tests/growth.sh
+bash tests/allocation-failures.sh

@@ -55,6 +55,47 @@ says '{
 }' --reserved 4,0
 says 'describe-host.sh: reserved CPUs that are not online: 7-8' refused --reserved 6-8
 
+# Cores: siblings CPU LIST.. says which CPUs have this list of siblings.
+siblings() {
+    local cpu
+    for cpu in "${@:2}"; do
+        mkdir -p "$scratch/$name/cpu/cpu$cpu/topology"
+        echo "$1" > "$scratch/$name/cpu/cpu$cpu/topology/thread_siblings_list"
+    done
+}
+siblings 0,4 0 4
+siblings 1,5 1 5
+siblings 2,6 2 6
+siblings 3 3
+says 'describe-host.sh: --cores: of CPU 7 no siblings are told, as of one that is offline; without --cores each CPU is a core' refused --cores
+echo 0-7 > "$scratch/$name/cpu/online"
+siblings 7 7
+says 'describe-host.sh: --cores: cores have different numbers of CPUs: 0,4 and 3' refused --cores
+siblings 3,7 3 7
+with_cores='{
+  "nodes": ["0-1,4-5", "2-3,6-7"],
+  "distances": [[10, 21], [21, 10]],
+  "reserved": "0,4",
+  "offline": "",
+  "cores": ["0,4", "1,5", "2,6", "3,7"]
+}'
+says "$with_cores" --cores
+says "$with_cores" --cores --reserved 0,4
+says 'describe-host.sh: --cores: the core 1,5 is reserved in part' refused --reserved 0,4,1 --cores
+echo '{"ociVersion": "1.0.2", "root": {"path": "r"}, "linux": {"resources": {"cpu": {"quota": 100000}}}}' > "$scratch/config.json"
+echo "$with_cores" > "$scratch/cores.json"
+answers=$(printf 'create a %s\nrebalance\n' "$scratch" | timeout 60 "$program" run "$scratch/cores.json" | paste -s -d ,)
+[ "$answers" = "pid 2,plan total 20,hold a 1,5,pool 0,2-4,6-7,end" ] || { echo "cores: the written machine file is not run: $answers"; failed=1; }
+siblings 2-3 2 3
+siblings 3,6 6
+says 'describe-host.sh: --cores: CPU 3 is in two cores' refused --cores
+siblings 1,6 1
+says 'describe-host.sh: --cores: the core 1,6 is in two nodes' refused --cores
+siblings 1,9 1
+says 'describe-host.sh: --cores: CPU 9 of the core 1,9 is in no node' refused --cores
+siblings x 1
+says "describe-host.sh: $scratch/$name/cpu/cpu1/topology/thread_siblings_list: x is no list" refused --cores
+
 # The nodes 0 and 2, and memory alone at 3.
 tree gap 0-3,10 0-3,10
 node 0 "10 40 80" 0 1
@@ -176,7 +217,7 @@ recorded() {
         mkdir -p "$scratch/$name/$(dirname "$path")"
         if [ -n "$text" ]; then echo "$text" > "$scratch/$name/$path"; else mkdir "$scratch/$name/$path"; fi
     done
-    bash "$top/examples/describe-host.sh" --sys "$scratch/$name" --reserved "$2" > "$scratch/$name.json"
+    bash "$top/examples/describe-host.sh" --sys "$scratch/$name" --reserved "$2" "${@:3}" > "$scratch/$name.json"
     if ! python3 -B "$top/tests/describe-host/same.py" "$top/examples/machines/$name.json" "$scratch/$name.json"; then
         failed=1
     elif [ "$(echo list | timeout 60 "$program" run "$scratch/$name.json")" != end ]; then
@@ -203,6 +244,15 @@ says "{
   \"reserved\": \"0\",
   \"offline\": \"4095\"
 }"
+mkdir -p "$scratch/most/cpu/cpu"{0..4095}/topology
+for k in {0..4095}; do
+    echo "$((k & ~1))-$((k | 1))" > "$scratch/most/cpu/cpu$k/topology/thread_siblings_list"
+done
+echo 0-4095 > "$scratch/most/cpu/online"
+bash "$top/examples/describe-host.sh" --sys "$scratch/most" --cores > "$scratch/most.json"
+answers=$(echo list | timeout 60 "$program" run "$scratch/most.json")
+[ "$answers $(grep -o '"[0-9]*-[0-9]*[13579]"' "$scratch/most.json" | wc -l)" = "end 2177" ] || { echo "most: cores: $answers"; failed=1; }
+echo 0-4094 > "$scratch/most/cpu/online"
 bash "$top/examples/describe-host.sh" --sys "$scratch/most" > "$scratch/most.json"
 answers=$(printf 'online 4095\nonline 4096\nlist\n' | timeout 60 "$program" run "$scratch/most.json" | paste -s -d ,)
 [ "$answers" = "ok,refused E52 NoCpu,end" ] || { echo "most: the written machine file is not run: $answers"; failed=1; }
@@ -210,7 +260,7 @@ nodes 0-128
 node 128 "20"
 says 'describe-host.sh: node 128: a machine file has nodes 0 to 127 (see --renumber)' refused
 
-recorded two-socket 0,16
+recorded two-socket 0,16 --cores
 recorded two-nodes-a-socket 0-1,64-65
 
 [ "$failed" = 0 ] && echo "describe-host.sh: all machine files as expected"

@@ -8,10 +8,11 @@ top=$(cd "$(dirname "$0")/.." && pwd)
 for script in "$top"/examples/scripts/*.answers; do
     (cd "$top" && timeout 60 "$program" run examples/machines/two-socket.json <"${script%.answers}") | diff "$script" -
 done
-sed -n '/^numarun-certificate/,/^end$/p' "$top/examples/scripts/plans.answers" | timeout 60 "$program" check | grep -qx "plan total 60 moves 2"
+sed -n '/^numarun-certificate/,/^end$/p' "$top/examples/scripts/plans.answers" | timeout 60 "$program" check | grep -qx "plan total 30 moves 1"
 python3 -B "$top/tests/scripts/worked.py" "$program"
 python3 -B "$top/tests/scripts/interleaved.py" "$program"
 python3 -B "$top/tests/scripts/compare.py" "$program"
 python3 -B "$top/tests/scripts/adopted.py" "$program"
+python3 -B "$top/tests/scripts/whole_cores.py" "$program"
 python3 -B "$top/tests/scripts/largest.py" "$program"
 python3 -B "$top/tests/scripts/last_pid.py" "$program"

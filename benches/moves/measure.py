@@ -19,7 +19,7 @@ import tempfile
 TOP = os.path.dirname(os.path.dirname(os.path.dirname(os.path.abspath(__file__))))
 sys.path[:0] = [os.path.join(TOP, "examples"), os.path.join(TOP, "benches", "peers")]
 from common import Machine, print_list, run
-from compare import MACHINES, Container, Numarun, machine_file, mix
+from compare import MACHINES, Container, Numarun, machine_file, mix, written
 
 PARTS, SEED, MANY = (0.8, 0.95), 1, 255
 CHANGES = ["container goes", "comes", "CPU goes", "comes back"]
@@ -121,7 +121,7 @@ def main():
     with tempfile.TemporaryDirectory() as folder:
         os.chdir(folder)
         for name, part in itertools.product(MACHINES, PARTS):
-            changes = measure(program, machine_file(name), f"{name} {part}", lambda m, c: mix(m, c, part, None), words.mixes)
+            changes = measure(program, written(name), f"{name} {part}", lambda m, c: mix(m, c, part, None), words.mixes)
             all_of[part].add(changes)
             show(name, part, changes)
         for part in PARTS:

@@ -1,10 +1,13 @@
 #!/usr/bin/env python3
-"""Places the same containers by numarun and by two plainer ways, and prints how they fare.
+"""Places the same containers by numarun and by four plainer ways, and prints how they fare.
 
-`nearest` takes the containers in the order of creation and gives each the nearest CPUs that are free, the lower first.
-`packing` is as a kubelet's static policy has it where no hints say which node is meant: it does not look at homes, and
-takes the node that fits best, that is the one with the fewest free CPUs that has enough, or else whole nodes, the
-fullest first. With CPU lists, each takes CPUs of the container's list alone.
+`nearest` takes the containers in the order of creation and gives each the nearest CPUs that are free, the lower first. The others
+are as a kubelet's static CPU manager policy has it, one container after another. `packing` is that policy unaligned (no Topology
+Manager): it does not look at homes, and takes the node that fits best, that is the one with the fewest free CPUs that has enough,
+or else whole nodes, the fullest first. `best-effort` and `single-numa-node` are aligned, by the Topology Manager's policies of
+these names, where hints (of a memory manager, or of devices) name the homes: what one home node has, or what there is of it, and
+the rest as packing has it; or one home node that has all, or no place. With CPU lists, each takes CPUs of the container's list
+alone.
 
 A mix is containers that together ask for a part of the CPUs of a machine, each of 1 to a half of a node, with memory on
 one node, or now and then on two. With lists, one in three containers names the CPUs that it may have, as an operator would:
@@ -12,11 +15,15 @@ those of its home nodes or of their sockets, or, for one in five of these, as ma
 highest there, so the last that nearest and packing give to others, and are left out of the lists of containers that come
 later. Where the mix has no plan at all, it is left out and counted.
 
-Of the mixes that all three place: `total` is the sum of the distances, `beyond` that part of it that is more than the 10
+Of the mixes that a way places: `total` is the sum of the distances, `beyond` that part of it that is more than the 10
 of a local CPU, both beside numarun's. `no` is how many mixes out of all that have a plan are refused, and `first` how many
 nearest refuses where the containers with lists are created first. `hands` is how many CPUs of a container that stays are
-taken from it, on the average, when one of the containers goes and another one comes: of nearest and packing none ever are,
-since they move nobody; numarun plans anew."""
+taken from it, on the average, when one of the containers goes and another one comes: of the others none ever are,
+since they move nobody; numarun plans anew.
+
+The second table is of whole cores, on the machines of which the hardware threads (SMT siblings) are known: all ask for cores, and
+each way gives whole ones. Packing is `full-pcpus-only` there, that option of the static policy, which gives whole cores and
+refuses whoever does not ask for some."""
 
 import argparse
 import itertools
@@ -29,17 +36,29 @@ import tempfile
 sys.path.insert(0, os.path.join(os.path.dirname(os.path.abspath(__file__)), "..", "..", "examples"))
 from common import Machine, Refused, Run, print_list, read_list, run
 
-# The machine files, with the nodes of a socket.
+# The machine files, with the nodes of a socket; and how the siblings of a core are numbered: how many, and how far apart.
 MACHINES = {"two-socket": 1, "four-socket-ring": 1, "two-nodes-a-socket": 2, "four-nodes-a-socket": 4, "memory-only-nodes": 1}
+SIBLINGS = {"two-socket": (2, 16), "four-nodes-a-socket": (2, 64), "memory-only-nodes": (4, 1)}
 TOP = os.path.dirname(os.path.dirname(os.path.dirname(os.path.abspath(__file__))))
 LOCAL, SEED = 10, 1
 EXAMPLE = "example: benches/peers/run.sh 300, which builds the program first"
 
 
+class Cores:
+    """A machine seen by its cores, each by its lowest CPU: of one that lists none each CPU is a core."""
+
+    def __init__(self, machine):
+        self.threads, self.weight, self.cpus_of, self.cores_in = machine.threads, machine.weight, machine.cpus_of, machine.cores_in
+        self.nodes = [cpus & machine.cores.keys() for cpus in machine.nodes]
+        self.present, self.reserved = set(machine.cores), machine.cores_in(machine.reserved)
+
+
 class Container:
+    """What a container asks for, in cores."""
+
     def __init__(self, machine, chance, most):
         nodes = [node for node, cpus in enumerate(machine.nodes) if cpus]
-        self.count = chance.randint(1, most)
+        self.machine, self.count = machine, chance.randint(1, most)
         self.homes = set(chance.sample(nodes, 2 if len(nodes) > 1 and chance.random() < 0.15 else 1))
         self.allowed = machine.present - machine.reserved
         self.named = None
@@ -56,10 +75,10 @@ class Container:
             claimed |= free
         if free:
             self.count = min(self.count, len(free))
-            self.allowed, self.named = free, print_list(free)
+            self.allowed, self.named = free, print_list(machine.cpus_of(free))
 
     def config(self):
-        section = {"quota": 100000 * self.count, "period": 100000, "mems": print_list(self.homes)}
+        section = {"quota": 100000 * self.count * self.machine.threads, "period": 100000, "mems": print_list(self.homes)}
         if self.named:
             section["cpus"] = self.named
         return {"ociVersion": "1.0.2", "root": {"path": "rootfs"}, "linux": {"resources": {"cpu": section}}}
@@ -83,16 +102,42 @@ def nearest(container, free, machine):
     return set(may[: container.count]) if len(may) >= container.count else None
 
 
+def packed(count, may, machine):
+    """So many of these CPUs: of the node that fits best, or of whole nodes, the fullest first."""
+    by_node = [sorted(may & cpus) for cpus in machine.nodes]
+    fits = [cpus for cpus in by_node if len(cpus) >= count]
+    if fits:
+        return set(min(fits, key=len)[:count])
+    return set([cpu for cpus in sorted(by_node, key=len, reverse=True) for cpu in cpus][:count])
+
+
 def packing(container, free, machine):
+    may = container.allowed & free
+    return packed(container.count, may, machine) if len(may) >= container.count else None
+
+
+def at_home(container, may, machine):
+    """What the first home node that has enough has free, or else all that the homes have."""
+    homes = [sorted(may & machine.nodes[home]) for home in sorted(container.homes)]
+    return next((cpus[: container.count] for cpus in homes if len(cpus) >= container.count), None), [cpu for cpus in homes for cpu in cpus]
+
+
+def best_effort(container, free, machine):
     may = container.allowed & free
     if len(may) < container.count:
         return None
-    by_node = [sorted(may & cpus) for cpus in machine.nodes]
-    fits = [cpus for cpus in by_node if len(cpus) >= container.count]
-    if fits:
-        return set(min(fits, key=len)[: container.count])
-    taken = [cpu for cpus in sorted(by_node, key=len, reverse=True) for cpu in cpus]
-    return set(taken[: container.count])
+    one, some = at_home(container, may, machine)
+    if one is not None:
+        return set(one)
+    return set(some) | packed(container.count - len(some), may - set(some), machine) if len(some) < container.count else set(some[: container.count])
+
+
+def single_numa_node(container, free, machine):
+    one, _ = at_home(container, container.allowed & free, machine)
+    return None if one is None else set(one)
+
+
+WAYS = {"nearest": nearest, "packing": packing, "best-effort": best_effort, "single-numa-node": single_numa_node}
 
 
 def place(way, containers, machine):
@@ -138,43 +183,52 @@ class Numarun(Run):
 
 class Tally:
     def __init__(self):
-        self.mixes = self.no_plan = self.placed = self.changes = self.hands = 0
-        self.cost = {"numarun": 0, "nearest": 0, "packing": 0}
-        self.local = 0
-        self.refused = {"nearest": 0, "packing": 0, "first": 0}
+        self.mixes = self.no_plan = self.changes = self.hands = self.first = 0
+        self.placed = {name: Sum() for name in WAYS}
 
     def take(self, containers, planned, machine):
         """Compares the ways on a mix that has a plan."""
         self.mixes += 1
-        ways = {"nearest": place(nearest, containers, machine), "packing": place(packing, containers, machine)}
-        for name, sets in ways.items():
-            self.refused[name] += sets is None
-        self.refused["first"] += place(nearest, sorted(containers, key=lambda asks: not asks.named), machine) is None
-        if None not in ways.values():
-            self.placed += 1
-            self.local += LOCAL * sum(container.count for container in containers)
-            for name, sets in {**ways, "numarun": planned}.items():
-                self.cost[name] += cost(containers, sets)
+        ours, local = cost(containers, planned), LOCAL * sum(container.count for container in containers)
+        for name, way in WAYS.items():
+            sets = place(way, containers, machine)
+            if sets is not None:
+                self.placed[name].add(Sum(1, ours, cost(containers, sets), local))
+        self.first += place(nearest, sorted(containers, key=lambda asks: not asks.named), machine) is None
 
     def add(self, other):
-        for name in ("mixes", "no_plan", "placed", "changes", "hands", "local"):
+        for name in ("mixes", "no_plan", "changes", "hands", "first"):
             setattr(self, name, getattr(self, name) + getattr(other, name))
-        for mine, theirs in ((self.cost, other.cost), (self.refused, other.refused)):
-            for name in mine:
-                mine[name] += theirs[name]
+        for name in WAYS:
+            self.placed[name].add(other.placed[name])
 
     def row(self):
-        ours, local = self.cost["numarun"], self.local
-        cells = [f"{self.mixes:5} {self.no_plan:7}", f"{ours / local:9.3f}" if local else f"{'-':>9}"]
-        for name in ("nearest", "packing"):
-            there = self.cost[name]
-            beyond = f"{(there - local) / (ours - local):7.2f}" if ours > local else f"{'-':>7}"
-            total = f"{there / ours:6.2f}" if ours else f"{'-':>6}"
-            refused = [self.refused[name]] + ([self.refused["first"]] if name == "nearest" else [])
-            no = " ".join(f"{100 * count / self.mixes if self.mixes else 0:4.0f} %" for count in refused)
-            cells.append(f"{total} {beyond} {no}")
+        part = lambda count: f"{100 * count / self.mixes if self.mixes else 0:4.0f} %"
+        cells = [f"{self.mixes:5} {self.no_plan:7}", self.placed["nearest"].to_local()]
+        for name, placed in self.placed.items():
+            refused = [self.mixes - placed.mixes] + [self.first] * (name == "nearest")
+            cells.append(" ".join([placed.beside_ours()] + [part(count) for count in refused]))
         cells.append(f"{self.hands / self.changes:7.1f}" if self.changes else f"{'-':>7}")
         return "   ".join(cells)
+
+
+class Sum:
+    """Of mixes that a way places: their number, numarun's total, its own, and that of local CPUs."""
+
+    def __init__(self, mixes=0, ours=0, there=0, local=0):
+        self.mixes, self.ours, self.there, self.local = mixes, ours, there, local
+
+    def add(self, other):
+        self.mixes, self.ours, self.there, self.local = (
+            self.mixes + other.mixes, self.ours + other.ours, self.there + other.there, self.local + other.local)
+
+    def to_local(self):
+        return f"{self.ours / self.local:9.3f}" if self.local else f"{'-':>9}"
+
+    def beside_ours(self):
+        total = f"{self.there / self.ours:6.2f}" if self.ours else f"{'-':>6}"
+        beyond = f"{(self.there - self.local) / (self.ours - self.local):7.2f}" if self.ours > self.local else f"{'-':>7}"
+        return f"{total} {beyond}"
 
 
 def change(numarun, names, before, containers, machine, chance, tally):
@@ -195,9 +249,33 @@ def machine_file(name):
     return os.path.join(TOP, "examples", "machines", name + ".json")
 
 
-def measure(program, name, part, lists, mixes):
-    path = machine_file(name)
-    machine, chance, tally = Machine(path), random.Random(f"{SEED} {name} {part} {lists}"), Tally()
+def written(name, whole=False):
+    """Writes a machine file without cores, or with those that its siblings are, and answers its name."""
+    with open(machine_file(name)) as file:
+        told = json.load(file)
+    told.pop("cores", None)
+    if whole:
+        threads, apart = SIBLINGS[name]
+        cpus = sorted(set().union(*(read_list(cpus, "nodes") for cpus in told["nodes"])))
+        lowest = [cpu for cpu in cpus if cpu // apart % threads == 0]
+        told["cores"] = [print_list({cpu + apart * k for k in range(threads)}) for cpu in lowest]
+    path = f"{name}{'-cores' * whole}.json"
+    with open(path, "w") as file:
+        json.dump(told, file)
+    return path
+
+
+def by_cores(planned, machine):
+    """The cores of each set of a plan."""
+    sets = [machine.cores_in(cpus) for cpus in planned]
+    if [machine.cpus_of(cores) for cores in sets] != planned:
+        raise Refused(f"numarun: no whole cores: {[print_list(cpus) for cpus in planned]}")
+    return sets
+
+
+def measure(program, name, part, lists, mixes, whole=False):
+    path = written(name, whole)
+    machine, chance, tally = Cores(Machine(path)), random.Random(f"{SEED} {name} {part} {lists}"), Tally()
     numarun = Numarun(program, path)
     for _ in range(mixes):
         containers = mix(machine, chance, part, MACHINES[name] if lists else None)
@@ -208,12 +286,26 @@ def measure(program, name, part, lists, mixes):
         if planned is None:
             tally.no_plan += 1
         else:
-            tally.take(containers, [planned[label] for label in names], machine)
+            tally.take(containers, by_cores([planned[label] for label in names], machine), machine)
             names = change(numarun, names, planned, containers, machine, chance, tally)
         for label in names:
             numarun.remove(label)
     numarun.close()
     return tally
+
+
+def compare(program, mixes, names, whole):
+    """A table of all mixes on these machines."""
+    each, all_of = f"{'total':>6} {'beyond':>7} {'no':>6}", {}
+    packs = "full-pcpus-only" if whole else "packing"
+    print(f"{'of whole cores' if whole else '':60}   {'nearest':^28}   {packs:^21}   {'best-effort':^21}   {'single-numa-node':^21}\n"
+          f"{'machine':20} {'full':>5} {'lists':>5}   {'mixes no plan':>13}   {'to local':>9}   {each} {'first':>6}   {each}   {each}   {each}   {'hands':>7}")
+    for name, part, lists in itertools.product(names, (0.8, 0.95, 1.0), (False, True)):
+        tally = measure(program, name, part, lists, mixes, whole)
+        all_of.setdefault((part, lists), Tally()).add(tally)
+        show(name, part, lists, tally)
+    for (part, lists), tally in all_of.items():
+        show(f"all {len(names)}", part, lists, tally)
 
 
 def main():
@@ -224,20 +316,13 @@ def main():
     if words.mixes < 1:
         parser.error("MIXES is 1 or more")
     program = os.path.abspath(words.program)
-    Numarun(program, machine_file("two-socket")).close()
-    each = f"{'total':>6} {'beyond':>7} {'no':>6}"
-    print(f"{'':60}   {'nearest':^28}   {'packing':^21}\n{'machine':20} {'full':>5} {'lists':>5}   {'mixes no plan':>13}   "
-          f"{'to local':>9}   {each} {'first':>6}   {each}   {'hands':>7}")
-    all_of = {}
     with tempfile.TemporaryDirectory() as folder:
         os.chdir(folder)
-        for name, part, lists in itertools.product(MACHINES, (0.8, 0.95, 1.0), (False, True)):
-            tally = measure(program, name, part, lists, words.mixes)
-            all_of.setdefault((part, lists), Tally()).add(tally)
-            show(name, part, lists, tally)
+        Numarun(program, written("two-socket")).close()
+        compare(program, words.mixes, MACHINES, False)
+        print()
+        compare(program, words.mixes, SIBLINGS, True)
         os.chdir("/")
-    for (part, lists), tally in all_of.items():
-        show("all five", part, lists, tally)
 
 
 def show(name, part, lists, tally):

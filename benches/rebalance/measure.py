@@ -1,4 +1,5 @@
-"""Prints how long `rebalance` takes: `measure.py PROGRAM TOOLS`.
+"""Prints how long `rebalance` takes: `measure.py PROGRAM TOOLS [--count] [NAME..]`; with names only these jobs, and with --count
+instructions alone.
 
 In microseconds, the least of some: `typed` is the time from the line to the `end` of its answer, with what the pipe takes; `again`
 what one takes that has nothing to write, since it comes right behind another, in a script read from a file; and `solver` the
@@ -6,10 +7,10 @@ solver on the same rows, as the node's certificate tells them. In thousands of i
 rebalance, `writes` what it takes more than a `begin`, which plans and writes nothing, `solver`, and `rest` what is left: rows,
 certificate, entries and the text of the answer. (The time of the writes is lost in that of a script.) The containers have their homes on one node: seven of
 eight ask for 1 to 7 CPUs, which may be any or, with lists of their own, half of them by chance, the others for none of their
-own. The last line of each machine has the thousands of instructions that a `create` takes, with homes on one node, and on all
-nodes where the config names none."""
+own; with few CPUs of their own each names 4 that no other one names, and asks for these. With cores, and in the job beside it
+that has the same demands and no cores, they ask for 2, 4 or 6 CPUs. The last line of each machine has the thousands of
+instructions that a `create` takes, with homes on one node, and on all nodes where the config names none."""
 
-import json
 import os
 import random
 import re
@@ -19,9 +20,27 @@ import sys
 import tempfile
 import time
 
+from places import Job, place
+
 ROUNDS, TIMES, RUNS = 5, 200, 40
-# Nodes, CPUs, containers, and whether these have lists of their own; the last two are as large as may be.
-MACHINES = [(8, 1024, 256, False), (64, 1024, 256, False), (64, 1024, 256, True), (128, 4096, 1024, False), (128, 4096, 1024, True)]
+
+
+# The last eight are as large as may be.
+JOBS = {
+    "8-nodes": Job(8, 1024, 256),
+    "64-nodes": Job(64, 1024, 256),
+    "64-nodes-ring": Job(64, 1024, 255, ring=True),
+    "64-nodes-lists": Job(64, 1024, 256, lists="half"),
+    "64-nodes-few": Job(64, 1024, 255, lists="few"),
+    "128-nodes": Job(128, 4096, 1024),
+    "128-nodes-ring": Job(128, 4096, 1024, ring=True),
+    "128-nodes-lists": Job(128, 4096, 1024, lists="half"),
+    "8-nodes-few": Job(8, 4096, 1024, lists="few"),
+    "128-nodes-whole": Job(128, 4096, 1023, whole=True),
+    "128-nodes-cores": Job(128, 4096, 1023, whole=True, threads=2),
+    "128-nodes-ring-whole": Job(128, 4096, 1023, ring=True, whole=True),
+    "128-nodes-ring-cores": Job(128, 4096, 1023, ring=True, whole=True, threads=2),
+}
 
 
 class Shell:
@@ -41,29 +60,6 @@ class Shell:
     def close(self):
         self.shell.stdin.close()
         self.shell.wait()
-
-
-def write_bundle(name, section):
-    os.makedirs(name, exist_ok=True)
-    told = {"ociVersion": "1.0.2", "root": {"path": "rootfs"}, "linux": {"resources": {"cpu": section}}}
-    json.dump(told, open(f"{name}/config.json", "w"))
-
-
-def place(count, cpus, containers, own_lists):
-    """Writes a machine of so many nodes, and the bundle of each container."""
-    per = cpus // count
-    nodes = [f"{per * k}-{per * k + per - 1}" for k in range(count)]
-    distances = [[10 if i == j else 16 if i // 2 == j // 2 else 32 for j in range(count)] for i in range(count)]
-    json.dump({"nodes": nodes, "distances": distances, "reserved": "0"}, open("machine.json", "w"))
-    for k in range(containers):
-        section = {"mems": str(k % count)}
-        if k % 8 != 7:
-            section["quota"] = 100000 * random.randint(1, 7)
-            if own_lists:
-                section["cpus"] = ",".join(map(str, sorted(random.sample(range(1, cpus), cpus // 2))))
-        write_bundle(f"b{k}", section)
-        if k % 2:
-            write_bundle(f"any{k}", {"quota": 100000})
 
 
 def typed(program, before):
@@ -138,38 +134,51 @@ def created(program, containers):
     return [(count - counts[0]) / (containers // 2) for count in counts[1:]]
 
 
-def measure(program, tools, count, cpus, containers, own_lists):
-    share = cpus // 1024 * (4 if own_lists else 1)
+def shown(count_only, job, program, tools, share):
+    """A line for each state in which a rebalance is asked for."""
+    gone = 401 if job.lists == "few" else 500
+    before = [[f"create c{k} b{k}" for k in range(job.containers)], ["kill c100 KILL", "delete c100"], [f"offline {gone}"]]
+    whole, told, shell = None if count_only else typed(program, before), [], Shell(program)
+    for k, name in enumerate(["from nothing", "after a container went", "after a CPU went off"]):
+        told += before[k]
+        for line in before[k] + ["rebalance"]:
+            answer, _ = shell.ask(line)
+        if not answer[0].startswith(b"plan"):
+            sys.exit(f"rebalance: {answer}")
+        certificate = b"".join(shell.ask("certificate")[0])
+        times = [0] * 3 if count_only else [whole[k], again(program, told, share), solver(tools, certificate, share)]
+        row = f"{name:24} {times[0]:8.0f} {times[1]:8.0f} {times[2]:8.0f}"
+        if shutil.which("valgrind"):
+            all_of_it, begun, alone = counted(program, tools, told, certificate)
+            row += f"   {all_of_it:8.0f} {all_of_it - begun:8.0f} {begun - alone:8.0f} {alone:8.0f}"
+        print(row, flush=True)
+        told += ["rebalance"]
+    shell.close()
+
+
+def measure(program, tools, job, count_only):
+    share = job.cpus // 1024 * (4 if job.lists else 1)
     with tempfile.TemporaryDirectory() as folder:
         os.chdir(folder)
-        place(count, cpus, containers, own_lists)
-        before = [[f"create c{k} b{k}" for k in range(containers)], ["kill c100 KILL", "delete c100"], ["offline 500"]]
-        whole, told, shell = typed(program, before), [], Shell(program)
-        print(f"{cpus} CPUs, {containers} containers{', lists of their own' * own_lists}")
-        print(f"{f'{count} nodes':24} {'typed':>8} {'again':>8} {'solver':>8}   {'all':>8} {'writes':>8} {'rest':>8} {'solver':>8}")
-        for k, name in enumerate(["from nothing", "after a container went", "after a CPU went off"]):
-            told += before[k]
-            for line in before[k] + ["rebalance"]:
-                shell.ask(line)
-            certificate = b"".join(shell.ask("certificate")[0])
-            row = f"{name:24} {whole[k]:8.0f} {again(program, told, share):8.0f} {solver(tools, certificate, share):8.0f}"
-            if shutil.which("valgrind"):
-                all_of_it, begun, alone = counted(program, tools, told, certificate)
-                row += f"   {all_of_it:8.0f} {all_of_it - begun:8.0f} {begun - alone:8.0f} {alone:8.0f}"
-            print(row)
-            told += ["rebalance"]
-        shell.close()
+        place(job)
+        print(job.about())
+        print(f"{f'{job.nodes} nodes':24} {'typed':>8} {'again':>8} {'solver':>8}   {'all':>8} {'writes':>8} {'rest':>8} {'solver':>8}")
+        shown(count_only, job, program, tools, share)
         if shutil.which("valgrind"):
-            near, anywhere = created(program, containers)
+            near, anywhere = created(program, job.containers)
             print(f"{'a create':53} {near:8.0f} {anywhere:8.0f}")
         os.chdir("/")
 
 
-def main(program, tools):
+def main(program, tools, *words):
     program, tools = os.path.abspath(program), os.path.abspath(tools)
-    for machine in MACHINES:
+    names = [word for word in words if word != "--count"] or list(JOBS)
+    if not set(names) <= JOBS.keys():
+        sys.exit(f"measure.py: the jobs are {', '.join(JOBS)}")
+    for name in names:
         random.seed(1)
-        measure(program, tools, *machine)
+        measure(program, tools, JOBS[name], "--count" in words)
 
 
-main(*sys.argv[1:])
+if __name__ == "__main__":
+    main(*sys.argv[1:])

@@ -2,8 +2,9 @@
 
 All have the CPUs from 1 to LAST, and ROWS rows unless their name says another number. A machine's nodes stand in a ring, a
 row is at home on one of them, and its weights are the distances to it. `full` is the share of the CPUs that the rows ask for
-together."""
+together. `HARD` are families on which LEMON's network simplex is at its best, or a search at its worst."""
 
+import math
 import random
 import sys
 from pathlib import Path
@@ -55,6 +56,81 @@ def no_plan(cpus, rows):
         yield demand, {cpu: weights[cpu] for cpu in few} if k % 32 == 31 else weights
 
 
+def weighted(cpus, rows, weight, counts=None):
+    """All CPUs, each at the weight that a row's number and the CPU's give, all of them asked for."""
+    for k, demand in enumerate(counts or demands(cpus, rows, 1)):
+        yield demand, {cpu: weight(k, cpu) for cpu in cpus}
+
+
+def last_takes_all(cpus, rows):
+    """A CPU each, at weights that are products, and what is left for the last row."""
+    return weighted(cpus, rows, lambda k, cpu: (k + 1) * cpu, [1] * (rows - 1) + [len(cpus) - rows + 1])
+
+
+def low_rank(cpus, rows):
+    """Products of two numbers by chance, and a little more."""
+    of_row, of_cpu = [[random.randint(1, 5000) for _ in range(count)] for count in (rows, cpus[-1] + 1)]
+    return weighted(cpus, rows, lambda k, cpu: of_row[k] * of_cpu[cpu] + random.randrange(10))
+
+
+def geometric(cpus, rows):
+    return weighted(cpus, rows, lambda k, cpu: min(33_554_431, int(2 ** (24.9 * (k + 1) / rows * cpu / cpus[-1])) + cpu))
+
+
+def plane(cpus, rows):
+    """Points of a square, and how far they lie apart."""
+    of_row, of_cpu = [[(random.random(), random.random()) for _ in range(count)] for count in (rows, cpus[-1] + 1)]
+    return weighted(cpus, rows, lambda k, cpu: 1 + int(10000 * math.dist(of_row[k], of_cpu[cpu])))
+
+
+def nested(cpus, rows):
+    """Each row may have what the rows before it may, and some more, at weights by chance."""
+    for k in range(rows):
+        yield max(1, len(cpus) // rows), {cpu: random.randint(10, 254) for cpu in cpus[: len(cpus) * (k + 1) // rows]}
+
+
+def hidden_plan(cpus, rows, more, weight):
+    """A plan by chance that takes all CPUs, and some CPUs more in each row, as NETGEN makes such problems."""
+    left = random.sample(cpus, len(cpus))
+    for demand in demands(cpus, rows, 1):
+        own, left = left[:demand], left[demand:]
+        yield demand, {cpu: weight() for cpu in own + random.sample(cpus, min(more, len(cpus)))}
+
+
+def few_shift_many(cpus, rows):
+    """One weight. Most rows hold the first third and may have the second, eight hold that one and may have the last, and
+    eight that come last want the first: each of their CPUs moves most rows."""
+    third = len(cpus) // 3
+    thirds = [list(cpus[third * i : third * (i + 1)]) for i in range(3)]
+    few = max(1, rows // 32)
+    for count, held, more in (rows - 2 * few, 0, 1), (few, 1, 2), (few, 0, None):
+        for k in range(count):
+            own = thirds[held][third * k // count : third * (k + 1) // count]
+            may = thirds[held] if more is None else thirds[held] + thirds[more]
+            allowed = set(own).union(cpu for cpu in may if random.random() < 0.95)
+            yield len(own), dict.fromkeys(allowed, 10)
+
+
+def own_few(cpus, rows):
+    """The four CPUs that each row asks for, by chance, and no others."""
+    left = random.sample(cpus, len(cpus))
+    for k in range(min(rows, len(cpus) // 4)):
+        yield 4, dict.fromkeys(left[4 * k : 4 * k + 4], 10)
+
+
+HARD = {
+    "products": lambda cpus, rows: weighted(cpus, rows, lambda k, cpu: (k + 1) * cpu),
+    "last-takes-all": last_takes_all,
+    "low-rank": low_rank,
+    "geometric": geometric,
+    "plane": plane,
+    "nested": nested,
+    "netgen-16": lambda cpus, rows: hidden_plan(cpus, rows, 16, lambda: random.randint(1, 10000)),
+    "short-lists": lambda cpus, rows: hidden_plan(cpus, rows, 6, lambda: 10),
+    "few-shift-many": few_shift_many,
+    "own-few": own_few,
+}
+
 FAMILIES = {
     "machine-2-nodes-95": lambda cpus, rows: machine(cpus, rows, 2, 0.95),
     "machine-8-nodes-95": lambda cpus, rows: machine(cpus, rows, 8, 0.95),
@@ -97,7 +173,7 @@ def text(rows):
 
 
 def main(folder, last, rows):
-    for name, made in FAMILIES.items():
+    for name, made in (FAMILIES | HARD).items():
         random.seed(name)
         Path(folder, name).write_text(text(made(range(1, int(last) + 1), int(rows))))
 

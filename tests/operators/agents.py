@@ -128,10 +128,10 @@ def plain():
     """Without a tree: the plans alone."""
     events = f"created database {DATABASE}\ncreated packets {PACKETS}\n"
     status, out, err = told("agent.py", *PLAIN, text=events)
-    expected = [f"create database {DATABASE}", f"create packets {PACKETS}", "plan total 182", "hold database 1-3,8-9,17-23", "hold packets 4-7",
-                "pool 0,10-16,24-31", "done"]
+    expected = [f"create database {DATABASE}", f"create packets {PACKETS}", "plan total 182", "hold database 1-3,6-8,17-19,22-24", "hold packets 4-5,20-21",
+                "pool 0,9-16,25-31", "done"]
     check("two containers at once", (status, untimed(out), err), (0, expected, ""))
-    for more, expected in [("", 0), ("offline 6\n", 1), ("offline 6\nonline 6\n", 0), ("created x no\n", 1), ("ended nobody\n", 1),
+    for more, expected in [("", 0), ("offline 5\n", 1), ("offline 5\nonline 5\n", 0), ("created x no\n", 1), ("ended nobody\n", 1),
                            ("offline 0\nrebalance\n", 1), ("ended packets\n", 0), ("\n", 0), ("foo\n", 1), ("created x\n", 1), ("\xff\n", 1),
                            (f"created ../x {WEB}\n", 1), ("x" * 300000 + "\nrebalance\n", 1)]:
         status, out, err = told("agent.py", *PLAIN, text=events + more)
@@ -141,7 +141,7 @@ def plain():
                 "refused: line 3: unknown x", "refused E51 Reserved: offline 0", f"refused E91 BadId: .. {WEB}"]
     lines = untimed(out)
     check("what is refused", [line for line in lines if line.startswith("refused")], expected)
-    check("and what is behind it", lines[-2:], ["pool 0,10-16,24-31", "done"])
+    check("and what is behind it", lines[-2:], ["pool 0,9-16,25-31", "done"])
 
 
 def restart():

@@ -10,24 +10,24 @@ PROGRAM, SCRATCH = os.environ["PROGRAM"], os.environ["SCRATCH"]
 MACHINE = os.path.join(EXAMPLES, "machines", "two-socket.json")
 DATABASE, PACKETS, WEB, CONTROL = (f"examples/bundles/{name}" for name in ("database", "packet-processing", "web", "real-time"))
 AFTER = ["--after", os.path.join("examples", "scripts", "a-cpu-goes")]
-# By hand, over the plan that a-cpu-goes ends with: the database on 1-3,8-9,17-23 and packets on 4-7, 182 together.
+# By hand, over the plan that a-cpu-goes ends with: the database on the cores 1-3 and 6-8, packets on 4-5, 182 together.
 CASES = [
-    ((CONTROL, *AFTER), "new would have 24-25: 2 CPUs, distance 20\ntotal distance: 202; 0 CPUs of the others would move"),
-    ((WEB, *AFTER), "new asks for no CPUs of its own, and would run on the pool: 0,10-16,24-31\ntotal distance: 182; 0 CPUs of the others would move"),
-    (("--cpus", "2", "--cpuset-mems", "0", *AFTER), "new would have 10-11: 2 CPUs, distance 42\n  far: 10-11 at 21\ntotal distance: 224; 0 CPUs of the others would move"),
-    (("--cpus", "1.2", "--cpuset-cpus", "8-9", "--id", "x", *AFTER), "x would have 8-9: 2 CPUs, distance 20\n"
-     "database would give 8-9 and get 10-11\ntotal distance: 202; 2 CPUs of the others would move"),
-    (("--cpus", "0.5"), "new would have 1: 1 CPU, distance 10\ntotal distance: 10; 0 CPUs of the others would move"),
-    (("--cpuset-cpus", "5-6"), "new would have 5-6: 2 CPUs, distance 20\ntotal distance: 20; 0 CPUs of the others would move"),
-    ((DATABASE,), "new would have 1-7,17-21: 12 CPUs, distance 120\ntotal distance: 120; 0 CPUs of the others would move"),
+    ((CONTROL, *AFTER), "new would have 12,28: 2 CPUs, distance 20\ntotal distance: 202; 0 CPUs of the others would move"),
+    ((WEB, *AFTER), "new asks for no CPUs of its own, and would run on the pool: 0,9-16,25-31\ntotal distance: 182; 0 CPUs of the others would move"),
+    (("--cpus", "2", "--cpuset-mems", "0", *AFTER), "new would have 9,25: 2 CPUs, distance 42\n  far: 9,25 at 21\ntotal distance: 224; 0 CPUs of the others would move"),
+    (("--cpus", "2.2", "--cpuset-cpus", "8-9,24-25", "--id", "x", *AFTER), "x would have 8-9,24-25: 4 CPUs, distance 40\n"
+     "database would give 8,24 and get 10,26\ntotal distance: 222; 2 CPUs of the others would move"),
+    (("--cpus", "0.5"), "new would have 1,17: 2 CPUs, distance 20\ntotal distance: 20; 0 CPUs of the others would move"),
+    (("--cpuset-cpus", "5-6,20-22"), "new would have 5-6,21-22: 4 CPUs, distance 40\ntotal distance: 40; 0 CPUs of the others would move"),
+    ((DATABASE,), "new would have 1-6,17-22: 12 CPUs, distance 120\ntotal distance: 120; 0 CPUs of the others would move"),
 ]
 NO_PLACE = """new has no place
-short: packets and new together ask for 5 CPUs and may have 4: 4-7
-missing: 1 CPU
+short: packets and new together ask for 6 CPUs and may have 4: 4-5,20-21
+missing: 2 CPUs
 each of these makes room by itself:
   end new
-  end packets, or shrink it from 4 to 3 CPUs
-  allow new 1 CPU more, as """
+  end packets, or shrink it from 4 to 2 CPUs
+  allow new 2 CPUs more, as """
 
 
 def dry(*words, **more):
@@ -36,7 +36,7 @@ def dry(*words, **more):
 
 for words, expected in CASES:
     check(f"{' '.join(words)}", dry(*words), (0, expected + "\n", ""))
-status, out, err = dry("--cpus", "1", "--cpuset-cpus", "4-7", *AFTER)
+status, out, err = dry("--cpus", "1", "--cpuset-cpus", "4-5,20-21", *AFTER)
 check("no place", (status, out.startswith(NO_PLACE), err), (1, True, ""))
 
 running = os.path.join(SCRATCH, "running")
@@ -48,15 +48,15 @@ check("beside what runs", dry(CONTROL, "--running", running), dry(CONTROL, *AFTE
 online = os.path.join(SCRATCH, "list")
 with open(online, "w") as file:
     file.write("0-5,7-31\n")
-status, out, err = dry("--cpuset-cpus", "5-7", "--online", online)
+status, out, err = dry("--cpuset-cpus", "5-7,21-23", "--online", online)
 check("a CPU that is offline", (status, out.splitlines()[0]), (1, "new has no place"))
 with open(os.path.join(running, "not-yet", "config.json"), "w") as file:
     file.write("{")
 status, out, err = dry(CONTROL, "--running", running)
 check("a config that is not whole", (status, out.splitlines()[0], err),
-      (0, "new would have 24-25: 2 CPUs, distance 20", f"dry-run.py: passed over: {running}/not-yet: refused E56 NotJson\n"))
-check("an open hand-over", dry(CONTROL, "--after", "-", text=f"create database {DATABASE}\nbegin\n")[1].splitlines()[0], "new would have 24-25: 2 CPUs, distance 20")
-check("an id that is taken", dry(CONTROL, "--after", "-", text=f"create new {WEB}\n")[1].splitlines()[0], "new-2 would have 24-25: 2 CPUs, distance 20")
+      (0, "new would have 12,28: 2 CPUs, distance 20", f"dry-run.py: passed over: {running}/not-yet: refused E56 NotJson\n"))
+check("an open hand-over", dry(CONTROL, "--after", "-", text=f"create database {DATABASE}\nbegin\n")[1].splitlines()[0], "new would have 12,28: 2 CPUs, distance 20")
+check("an id that is taken", dry(CONTROL, "--after", "-", text=f"create new {WEB}\n")[1].splitlines()[0], "new-2 would have 12,28: 2 CPUs, distance 20")
 gone = f"create database {DATABASE}\nrebalance\nkill database KILL\n"
 check("one that has stopped", dry(CONTROL, "--after", "-", text=gone)[1].splitlines()[-1], "total distance: 20; 0 CPUs of the others would move")
 

@@ -108,6 +108,46 @@ each of these makes room by itself:
       online
 for nobody: 3-7: offline, or on nobody's list
 """
+# The same certificates on a machine whose cores have two CPUs: their numbers are those of cores.
+CORES = os.path.join(SCRATCH, "cores.json")
+PAIRS = {"nodes": ["0-3,8-11", "4-7,12-15"], "distances": [[10, 21], [21, 10]], "reserved": "0,8", "cores": [f"{k},{k + 8}" for k in range(8)], "offline": "11"}
+FAR_OF_CORES = """plan: total distance 102; far from home: CPUs of 1 container
+a: 2 CPUs, distance 20: 3,11: all near; one more core for it would add 42 or
+    more
+b: 4 CPUs, distance 62: 1,4,9,12
+  far: 4,12 at 21
+  at 10 it may have 1-3,9-11
+    1,9: its own
+    3,11: held by a, which may have 1-2,9-10 at 10 and 4-7,12-15 at 21
+    2,10: held by c, which may have no others
+  not for it: 0,8 (reserved)
+  another core like 1-3,9-11 would bring the total down by up to 22
+  one more core for it would add 42 or more
+c: 2 CPUs, distance 20: 2,10: all near; one more core for it would add 42 or
+    more
+"""
+MOVED_OF_CORES = """plan: total distance 40, 1 core moved; none is far from home
+a: 4 CPUs, distance 40: 1-2,9-10: all near; one more core for it would add 20 or
+    more
+"""
+SHORT_OF_CORES = """short: a and b together ask for 6 CPUs and may have 4: 1-2,9-10
+missing: 2 CPUs
+each of these makes room by itself:
+  end b
+  end a, or shrink it from 4 to 2 CPUs
+  allow b 2 CPUs more, as 4,12
+  allow a 2 CPUs more, as 4,12
+for nobody: 3,6-7,11,14-15: offline, or on nobody's list
+"""
+# Core 3 has a CPU that is offline from the start.
+NOT_SURE_OF_CORES = """short: a asks for 8 CPUs and may have 4: 1-2,9-10
+missing: 4 CPUs
+each of these makes room by itself:
+  end a, or shrink it from 8 to 4 CPUs
+  allow a 4 CPUs more, as 4-5,12-13, if those of them that are for nobody now
+      are online
+for nobody: 3-7,11-15: offline, or on nobody's list
+"""
 EMPTY, EMPTY_TOLD = "numarun-certificate 2\ntotal 0 moves 0\nend\n", "plan: total distance 0, 0 CPUs moved; none is far from home\n"
 NO_PLAN, OTHER = "what b holds is no plan", "its values and prices do not come to its total"
 WRONG = [
@@ -123,6 +163,9 @@ def by_hand():
     for name, text, expected in [("far", FAR, FAR_TOLD), ("moved", MOVED, MOVED_TOLD), ("bound", BOUND, BOUND_TOLD), ("short", SHORT, SHORT_TOLD),
                                  ("short twice", TWICE, TWICE_TOLD), ("not sure", NOT_SURE, NOT_SURE_TOLD)]:
         check(name, told("explain.py", SMALL, text=text), (0, expected, ""))
+    json.dump(PAIRS, open(CORES, "w"))
+    for name, text, expected in [("far", FAR, FAR_OF_CORES), ("moved", MOVED, MOVED_OF_CORES), ("short", SHORT, SHORT_OF_CORES), ("not sure", NOT_SURE, NOT_SURE_OF_CORES)]:
+        check(f"{name}, of cores", told("explain.py", CORES, text=text), (0, expected, ""))
     check("one alone", told("explain.py", SMALL, "--only", "a", text=FAR), (0, "\n".join(FAR_TOLD.splitlines()[:2]) + "\n", ""))
     check("the last of several", told("explain.py", SMALL, text=SHORT + FAR), (0, FAR_TOLD, ""))
     check("an empty plan", told("explain.py", SMALL, text=EMPTY), (0, EMPTY_TOLD, ""))
@@ -156,42 +199,53 @@ def run_of(machine, containers):
     return machine, answers.Answers("-", machine, found)
 
 
-def random_case(random):
+def random_case(random, threads):
+    """A machine of which each core has so many CPUs, and containers."""
     nodes, each = random.choice([(1, 6), (2, 5), (3, 4)])
     rows = [[10 if a == b else random.choice([12, 16, 21, 32]) for b in range(nodes)] for a in range(nodes)]
-    machine = {"nodes": [f"{each * k}-{each * k + each - 1}" for k in range(nodes)], "distances": rows, "reserved": "0"}
-    containers, cpus = {}, nodes * each
+    containers, count = {}, nodes * each
+
+    def cpus_of(cores):
+        return common.print_list({core + count * k for core in cores for k in range(threads)})
+
+    machine = {"nodes": [cpus_of(range(each * k, each * k + each)) for k in range(nodes)], "distances": rows, "reserved": cpus_of([0])}
+    if threads > 1:
+        machine["cores"] = [cpus_of([core]) for core in range(count)]
     for k in range(random.randint(2, 5)):
-        section = {"quota": 100000 * random.randint(1, max(1, cpus // 3)), "mems": str(random.randrange(nodes))}
+        section = {"quota": 100000 * threads * random.randint(1, max(1, count // 3)), "mems": str(random.randrange(nodes))}
         if random.random() < 0.7:
-            section["cpus"] = common.print_list(random.sample(range(1, cpus), random.randint(1, cpus // 3)))
+            section["cpus"] = cpus_of(random.sample(range(1, count), random.randint(1, count // 3)))
         containers[f"c{k}"] = section
     return machine, containers
 
 
 def plan_holds(machine, containers, found, random):
-    """What is said of a plan: one more for a container, and one more CPU like another."""
-    told = found.certificates[0]
-    plan = explain.Explained(told, common.Machine(os.path.join(SCRATCH, "m.json")))
+    """What is said of a plan: one more for a container, and one more CPU, or core, like another."""
+    told, total = found.certificates[0], found.plans[0].total
+    of = common.Machine(os.path.join(SCRATCH, "m.json"))
+    plan, threads = explain.Explained(told, of), of.threads
     for name in containers:
         least = int(re.search(r"would add ([0-9]+) or more", plan.one_more(name))[1])
         more = copy.deepcopy(containers)
-        more[name]["quota"] += 100000
+        more[name]["quota"] += 100000 * threads
         after = run_of(machine, more)[1]
-        if after.outcomes and after.plans and after.plans[0].total < told.total + least:
-            return f"{name} asks for one more: {after.plans[0].total} < {told.total} + {least}"
+        if after.outcomes and after.plans and after.plans[0].total < total + least:
+            return f"{name} asks for one more: {after.plans[0].total} < {total} + {least}"
     text = "\n".join(line for name in told.demand for line in plan.lines(name))
-    for cpus, worth in re.findall(r"another CPU like (\S+) would bring the total down by up to ([0-9]+)", text):
+    for cpus, worth in re.findall(r"another (?:CPU|core) like (\S+) would bring the total down by up to ([0-9]+)", text):
         like = random.choice(sorted(common.read_list(cpus, "")))
         new, bigger, wider = len(common.read_list(",".join(machine["nodes"]), "")), copy.deepcopy(machine), copy.deepcopy(containers)
+        new = common.print_list(range(new, new + threads))
         node = next(k for k, one in enumerate(machine["nodes"]) if like in common.read_list(one, ""))
         bigger["nodes"][node] += f",{new}"
+        if threads > 1:
+            bigger["cores"].append(new)
         for section in wider.values():
             if "cpus" in section and like in common.read_list(section["cpus"], ""):
                 section["cpus"] += f",{new}"
         after = run_of(bigger, wider)[1].plans[0]
-        if after.total < told.total - int(worth):
-            return f"a CPU like {like}: {after.total} < {told.total} - {worth}"
+        if after.total < total - int(worth):
+            return f"a CPU like {like}: {after.total} < {total} - {worth}"
     return None
 
 
@@ -209,15 +263,15 @@ def smaller(containers, name, count):
     return fewer
 
 
-def shortage_heals(machine, containers, text):
-    """What is said to make room makes room, and one CPU less of it does not."""
+def shortage_heals(machine, containers, text, threads):
+    """What is said to make room makes room, and one CPU, or core, less of it does not."""
     found = re.search(r"missing: ([0-9]+) CPUs?(?: for these, and ([0-9]+) in all)?", text)
     missing = int(found[2] or found[1])
     for name, before, after in re.findall(r"^  end (\S+), or shrink it from ([0-9]+) to ([0-9]+)", text, re.M):
         if int(before) - int(after) != missing or not is_planned(machine, smaller(containers, name, int(after))):
             return f"{name} from {before} to {after} of {missing}"
-        if is_planned(machine, smaller(containers, name, int(after) + 1)):
-            return f"{name} from {before} to {int(after) + 1} is enough"
+        if is_planned(machine, smaller(containers, name, int(after) + threads)):
+            return f"{name} from {before} to {int(after) + threads} is enough"
     for name in re.findall(r"^  end (\S+?)(?:,|$)", text, re.M):
         if not is_planned(machine, smaller(containers, name, 0)):
             return f"{name} ends"
@@ -241,24 +295,24 @@ def shortage_heals(machine, containers, text):
     return None if together or "makes room" in text else "nothing is said"
 
 
-def tried_out(count, seed):
+def tried_out(count, seed, threads=1):
     """Random cases; how many were plans with far CPUs and shortages, so that enough are seen."""
     chance, seen = random.Random(seed), {"far": 0, "short": 0, "alone": 0, "allow": 0, "together": 0, "more": 0}
     for at in range(count):
-        machine, containers = random_case(chance)
+        machine, containers = random_case(chance, threads)
         shutil.rmtree(os.path.join(SCRATCH, "made"), ignore_errors=True)
         of, found = run_of(machine, containers)
         if found is None:
             continue
         text = "\n".join(explain.explain(found.certificates[0], of))
         if found.plans:
-            seen["far"] += "another CPU like" in text
+            seen["far"] += "  another " in text
             wrong = explain.check_plan(found.certificates[0]) or plan_holds(machine, containers, found, chance)
         else:
             for word, said in [("short", "missing"), ("alone", "  end "), ("allow", "  allow "), ("together", "together make room"),
                                ("more", "so do all of these")]:
                 seen[word] += said in text
-            wrong = explain.check_shortage(found.certificates[0]) or shortage_heals(machine, containers, text)
+            wrong = explain.check_shortage(found.certificates[0]) or shortage_heals(machine, containers, text, threads)
         if wrong:
             check(f"case {at} of seed {seed}: {wrong}", (machine, containers, text), None)
             return
@@ -280,6 +334,7 @@ def large():
 
 by_hand()
 tried_out(60, 1)
+tried_out(30, 7, threads=2)
 large()
 words_and_help("explain.py", "examples/explain.py examples/machines/two-socket.json")
 bad_files("explain.py", [], [ANSWERS])
@@ -290,6 +345,7 @@ refuses("explain.py", MACHINE, text="", says="standard input: line 1: the answer
 refuses("explain.py", MACHINE, text=FAR + "plan total 10\nhold a 1\npool 0\nend\n", says="line 11: no certificate stands behind this outcome")
 refuses("explain.py", MACHINE, text=FAR.replace("end\n", ""), says="line 10: the certificate has no end")
 refuses("explain.py", SMALL, text=FAR.replace("4-7", "4-8"), says="line 2: the machine has no CPU 8")
+refuses("explain.py", CORES, text=FAR.replace("4-7", "4-8"), says="line 2: CPU 8 is the lowest of no core")
 refuses("explain.py", SMALL, text=FAR.replace("10:2", "10-2"), says="line 4: '10-2' is no offer")
 refuses("explain.py", SMALL, text=FAR.replace("row c", "row b"), says="line 4: 'row b 1 10:2' is no line of a certificate")
 for old, new, says in [("21:4-5", "21:3-5", "line 3: CPU 3 stands twice"), ("price 11 1-3", "price 11 1-3\nprice 0 3", "line 9: CPU 3 stands twice"),

@@ -32,7 +32,34 @@ def same_as_by_hand(name, reserved):
     told_here = told("describe-hwloc.py", os.path.join(MACHINES, name + ".xml"), "--reserved", reserved)[1]
     expected = json.load(open(os.path.join(TOP, "examples", "machines", name + ".json")))
     del expected["about"]
+    expected.pop("cores", None)
     check(f"{name}, read off by hand", json.loads(told_here or "{}"), {**expected, "offline": ""})
+
+
+def with_cores(*cores):
+    """What hwloc tells of two-socket with these cores in it."""
+    words = [[sum(1 << cpu % 32 for cpu in core if cpu // 32 == word) for word in (1, 0)] for core in cores]
+    entries = "".join(f'<object type="Core" os_index="{k}" complete_cpuset="0x{high:x},0x{low:x}"/>' for k, (high, low) in enumerate(words))
+    return open(TWO_SOCKET).read().replace('<object type="Package" os_index="0"', entries + '<object type="Package" os_index="0"', 1)
+
+
+def of_cores():
+    pairs = [(k, k + 16) for k in range(16)]
+    expected = json.load(open(os.path.join(TOP, "examples", "machines", "two-socket.json")))
+    del expected["about"]
+    for words in ([], ["--reserved", "16,0"]):
+        status, out, err = told("describe-hwloc.py", "--cores", *words, text=with_cores(*reversed(pairs)))
+        check(f"cores {words}", (status, json.loads(out or "{}"), err), (0, {**expected, "offline": ""}, ""))
+    for cores, words, says in [
+        (pairs[:5] + [(5,)], (), "--cores: cores have different numbers of CPUs: 0,16 and 5"),
+        (pairs[:5], (), "--cores: no core is told of the CPUs 5-15,21-31, as of those that are offline"),
+        ([], (), "--cores: no core is told of the CPUs 0-31"),
+        (pairs[:7] + [(7, 8)], (), "--cores: the core 7-8 has CPUs of another one, or of two nodes, or of none"),
+        (pairs[:5] + [(4, 20)], (), "--cores: the core 4,20 has CPUs of another one"),
+        (pairs + [(15, 31, 32)], (), "--cores: the core 15,31-32 has CPUs of another one"),
+        (pairs, ("--reserved", "0-1,16"), "--cores: the core 1,17 is reserved in part"),
+    ]:
+        refuses("describe-hwloc.py", "--cores", *words, text=with_cores(*cores), says=says)
 
 
 def same_as_of_this_machine():
@@ -49,10 +76,12 @@ FROM_ITSELF = ["node 2 is at 17 from itself", "node 16 is at 14 from itself", "l
 same_as_by_hand("two-socket", "0,16")
 same_as_by_hand("two-nodes-a-socket", "0-1,64-65")
 same_as_of_this_machine()
+of_cores()
 recorded("offline", said=["which `lstopo --disallowed` tells apart: CPUs 2,5,7-11,13-14"], nodes=["0-15"], distances=[[10]], reserved="0", offline="2,5,7-11,13-14")
 recorded("memory-and-a-hole", "--renumber", said=FROM_ITSELF,
          nodes=["0-3", "16-19", ""], distances=[[10, 17, 17], [17, 10, 10], [14, 14, 10]], reserved="0", offline="")
 recorded("memory-and-a-hole", said=FROM_ITSELF + ["become nodes without CPUs: 1,3-15"], nodes=["0-3", "", "16-19"] + [""] * 14)
+recorded("memory-and-a-hole", "--renumber", "--cores", said=FROM_ITSELF, reserved="0", cores=["0", "1", "2", "3", "16", "17", "18", "19"])
 recorded("no-distances", "--reserved", "7", said=["it tells no distances"], nodes=["0-1", "2-3", "4-5", "6-7"], reserved="7",
          distances=[[10 if a == b else 255 for b in range(4)] for a in range(4)], offline="")
 
@@ -76,6 +105,7 @@ refuses("describe-hwloc.py", text='<?xml version="1.0" encoding="none"?><a/>', s
 refuses("describe-hwloc.py", text=open(TWO_SOCKET).read()[:700], says="-: line ")
 refuses("describe-hwloc.py", text="<html/>", says="first object is no Machine")
 refuses("describe-hwloc.py", TWO_SOCKET, "--reserved", "32", says="reserved CPUs that are not online: 32")
+refuses("describe-hwloc.py", os.path.join(MACHINES, "offline.xml"), "--cores", says="--cores: no core is told of the CPUs")
 refuses("describe-hwloc.py", TWO_SOCKET, "--reserved", "x", says="--reserved: 'x' is no CPU")
 refuses("describe-hwloc.py", text=NODE.format(online="1", all="1", node=128), says="node 128: a machine file has nodes 0 to 127")
 refuses("describe-hwloc.py", text=NODE.format(online="1", all="1", node="x"), says="NUMANode x: no os_index")

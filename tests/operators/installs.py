@@ -61,10 +61,10 @@ for name in NAMES:
     status, out, err = installed(f"numarun-{name}", "--help")
     check(f"numarun-{name} --help", (status, bool(out), err), (0, True, ""))
 check("numarun", installed("numarun", "list", "3,1-2"), (0, "1-3\n", ""))
-check("numarun-agent", installed("numarun-agent", MACHINE, text=f"created database {DATABASE}\n")[1].splitlines()[-2].split()[1:], ["pool", "0,8-16,22-31"])
+check("numarun-agent", installed("numarun-agent", MACHINE, text=f"created database {DATABASE}\n")[1].splitlines()[-2].split()[1:], ["pool", "0,7-16,23-31"])
 check("numarun-draw-plan", installed("numarun-draw-plan", "--before", MACHINE, ANSWERS), (0, open(os.path.join(TOP, "docs", "two-socket.svg")).read(), ""))
-check("numarun-explain", installed("numarun-explain", MACHINE, ANSWERS)[1].splitlines()[0], "plan: total distance 140, 5 CPUs moved; none is far from home")
-check("numarun-dry-run", installed("numarun-dry-run", MACHINE, DATABASE)[1].splitlines()[0], "new would have 1-7,17-21: 12 CPUs, distance 120")
+check("numarun-explain", installed("numarun-explain", MACHINE, ANSWERS)[1].splitlines()[0], "plan: total distance 140, 2 cores moved; none is far from home")
+check("numarun-dry-run", installed("numarun-dry-run", MACHINE, DATABASE)[1].splitlines()[0], "new would have 1-6,17-22: 12 CPUs, distance 120")
 check("numarun-describe-host", installed("numarun-describe-host")[:2], told("describe-host.sh")[:2])
 check("what a refusal is named by", installed("numarun-explain", "no-file")[2], "numarun-explain: no-file: No such file or directory\n")
 

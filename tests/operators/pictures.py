@@ -26,6 +26,21 @@ legend: # reserved   . for none who is short   * for several
 a a: asks for 2, may have 2: 1-2
 b b: asks for 2, may have 2: 2-3
 """
+# The same of cores of two CPUs: the certificate's numbers are those of cores.
+PAIRS = {"nodes": ["0-3,8-11", "4-7,12-15"], "distances": [[10, 21], [21, 10]], "reserved": "0,8", "cores": [f"{k},{k + 8}" for k in range(8)]}
+SHORT_OF_CORES = "short demand 8 allowed 1-3,9-11\nmember a\nmember b\nend\n"
+CORES_DRAWN = """short: 8 CPUs asked for, 6 there, 2 missing
+
+node 0: CPUs 0-3,8-11
+     0  ## aa ** bb
+
+node 1: CPUs 4-7,12-15
+     4  .. .. .. ..
+
+legend: # reserved   . for none who is short   * for several
+a a: asks for 4, may have 4: 1-2,9-10
+b b: asks for 4, may have 4: 2-3,10-11
+"""
 BARE_DRAWN = SHORT_DRAWN.replace("#a*b", "#***").replace("asks for 2, may have 2: 1-2", "short").replace("asks for 2, may have 2: 2-3", "short")
 BEFORE_DRAWN = """before: total distance 41 (each: no certificate)
 after: short: 4 CPUs asked for, 3 there, 1 missing
@@ -77,6 +92,27 @@ def large(cpus, nodes, containers):
     apart(f"{cpus} CPUs", xml.fromstring(drawn))
 
 
+def cores(cpus, threads, nodes):
+    """Each core is a box, and within a node the CPUs of one stand together."""
+    of = [range(k * threads, k * threads + threads) for k in range(cpus // threads)]
+    lists = [f"{core[0]}-{core[-1]}" for core in of]
+    machine = {"nodes": [",".join(lists[n::nodes]) for n in range(nodes)], "reserved": lists[0], "cores": lists}
+    path = os.path.join(os.environ["SCRATCH"], f"cores-{cpus}-{threads}.json")
+    json.dump(machine, open(path, "w"))
+    text = f"plan total 0\npool 0-{cpus - 1}\nend\n"
+    status, drawn, _ = told("draw-plan.py", path, "--text", text=text)
+    rows = [row[8:] for row in drawn.splitlines() if re.match(r"[ 0-9]{5}[0-9]  \S", row)]
+    check(f"{threads} CPUs a core as text", (status, max(map(len, drawn.splitlines())) <= 80, sum(map(len, "".join(rows).split()))), (0, True, cpus))
+    check(f"{threads} CPUs a core apart", {len(word) for row in rows for word in row.split()}, {threads} if threads <= 64 else {64})
+    for words in ((path,), (path, "--before")):
+        status, drawn, _ = told("draw-plan.py", *words, text=text * len(words))
+        check(f"{words}", (status, drawn.count("<title>CPU "), drawn.count('fill="#c4c4c4"')), (0, cpus * len(words), len(of) * len(words)))
+        titles = [int(number) for number in re.findall("<title>CPU ([0-9]+):", drawn)]
+        together = [titles[k : k + threads] for k in range(0, len(titles), threads)]
+        check(f"{words}: together", [part for part in together if part[-1] - part[0] != threads - 1 or part[0] % threads], [])
+        apart(f"{words}", xml.fromstring(drawn))
+
+
 def apart(name, root):
     """No two texts overlap, and none reaches out of the picture, where a letter is 0.62 of its size wide at most."""
     boxes, spot = [], "{http://www.w3.org/2000/svg}text"
@@ -102,6 +138,8 @@ stands("before and after as text", os.path.join(TOP, "tests", "operators", "two-
 apart("before and after", xml.parse(os.path.join(TOP, "docs", "two-socket.svg")).getroot())
 for size in [(8, 2, 3), (32, 2, 6), (256, 8, 24), (1024, 64, 200), (4096, 128, 1024)]:
     large(*size)
+for size in [(12, 3, 2), (64, 2, 2), (256, 8, 4), (512, 128, 2), (4096, 2, 128), (4096, 8, 16)]:
+    cores(*size)
 
 words_and_help("draw-plan.py", "draw-plan.py examples/machines/two-socket.json < answers")
 bad_files("draw-plan.py", [], [ANSWERS])
@@ -110,6 +148,12 @@ bad_output("draw-plan.py", MACHINE, ANSWERS)
 refuses("draw-plan.py", ANSWERS, says="before-and-after.answers: line 1: not JSON")
 refuses("draw-plan.py", MACHINE, text="", says="standard input: line 1: the answers end with no plan and no shortage")
 refuses("draw-plan.py", MACHINE, "--before", text=PLAN, says="standard input: line 5: the answers have no plan before the last outcome")
+bad = os.path.join(os.environ["SCRATCH"], "bad-cores.json")
+for lists, says in [("x", "cores: not an array of lists"), (["0,8", "1,2,9"], "cores: core 1: not as many CPUs as core 0 has"), (["0,1"], "cores: core 0: not"),
+                    (["0,8", "4,3"], "cores: core 1: not"), (["0,8", 7], "cores: core 1: no list of CPUs"), (["0,8", "1,x"], "cores: core 1: 'x' is no CPU"),
+                    (["0,8", "1,9", "9,2"], "cores: core 2: not"), ([""], "cores: core 0: not"), (["0,8", "1,9"], "cores: CPU 2 is in no core"), ([], "cores: CPU 0 is in no core")]:
+    json.dump({**PAIRS, "cores": lists}, open(bad, "w"))
+    refuses("draw-plan.py", bad, text=PLAN, says=f"bad-cores.json: {says}")
 refuses("draw-plan.py", MACHINE, text=PLAN[:-4], says="standard input: line 4: the plan has no end")
 refuses("draw-plan.py", MACHINE, text=PLAN.replace("31", "32"), says="standard input: line 3: the machine has no CPU 32")
 refuses("draw-plan.py", MACHINE, text=PLAN.replace("1-2", "1-x"), says="standard input: line 2: '1-x' is no CPU")
@@ -122,6 +166,9 @@ def shortages():
     """Shortages in text, to the letter, and as a picture: which CPU says what, and that no two texts overlap."""
     json.dump({"nodes": ["0-3", "4-7"], "distances": [[10, 21], [21, 10]], "reserved": "0"}, open(TINY, "w"))
     check("a shortage", told("draw-plan.py", TINY, "--text", text=SHORT + SHORT_TOLD), (0, SHORT_DRAWN, ""))
+    path = os.path.join(os.environ["SCRATCH"], "pairs.json")
+    json.dump(PAIRS, open(path, "w"))
+    check("a shortage of cores", told("draw-plan.py", path, "--text", text=SHORT_OF_CORES + SHORT_TOLD), (0, CORES_DRAWN, ""))
     check("a shortage last", told("draw-plan.py", TINY, "--text", text=TINY_PLAN + SHORT + SHORT_TOLD), (0, SHORT_DRAWN, ""))
     check("a shortage without its certificate", told("draw-plan.py", TINY, "--text", text=SHORT), (0, BARE_DRAWN, ""))
     check("before and a shortage", told("draw-plan.py", TINY, "--text", "--before", text=TINY_PLAN + SHORT + SHORT_TOLD), (0, BEFORE_DRAWN, ""))

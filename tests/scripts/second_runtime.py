@@ -190,8 +190,9 @@ class Machine:
         if not offline <= self.present - self.reserved:
             raise Refused("E34", "BadOffline")
         self.online = self.present - offline
-        self.cores = [{cpu} for cpu in self.present] if told.get("cores") is None else self.read_cores(told["cores"])
-        self.threads = len(self.cores[0])
+        cores = [{cpu} for cpu in self.present] if told.get("cores") is None else self.read_cores(told["cores"])
+        self.threads = len(cores[0])
+        self.cores = {min(core): core for core in cores}
 
     def read_cores(self, value):
         if type(value) is not list:
@@ -206,9 +207,13 @@ class Machine:
             raise Refused("E36", "NoCore", min(left))
         return cores
 
-    def whole(self, cpus):
-        """The CPUs of those cores of which all are among these."""
-        return cpus if self.threads == 1 else set().union(*(core for core in self.cores if core <= cpus))
+    def cores_in(self, cpus):
+        """The cores of which all CPUs are among these, each by its lowest CPU."""
+        return cpus if self.threads == 1 else {core for core in self.cores.keys() & cpus if self.cores[core] <= cpus}
+
+    def cpus_of(self, cores):
+        """The CPUs of the cores with these lowest CPUs."""
+        return cores if self.threads == 1 else set().union(*(self.cores[core] for core in cores))
 
     @staticmethod
     def read_nodes(value):
@@ -308,7 +313,7 @@ class Demand:
             return
         free = (cpus or machine.present) - machine.reserved
         weights = machine.weights(self.homes)
-        self.allowed = machine.whole({cpu for cpu in free if weights[cpu] < 255})
+        self.allowed = machine.cpus_of(machine.cores_in({cpu for cpu in free if weights[cpu] < 255}))
         if not self.allowed:
             raise Refused("E67", "NothingAllowed")
         self.count = len(self.allowed) if asked is None else asked
@@ -535,14 +540,15 @@ class Runtime:
     # Plans.
 
     def rows(self):
-        """The ids of the containers that are to be pinned, what each asks for with the distance of each CPU, and what it holds."""
-        found = {}
+        """The ids of the containers that are to be pinned, for how many cores each asks with the distance of each core, and the
+        cores that it holds. A core stands by its lowest CPU."""
+        found, machine = {}, self.machine
         for name, container in self.containers.items():
             demand = container.demand
             if self.live(container) and demand.count is not None:
-                distances = self.machine.weights(demand.homes)
-                allowed = {cpu: distances[cpu] for cpu in demand.allowed & self.running_cpus}
-                found[name] = ((demand.count, allowed), container.cpus)
+                distances = machine.weights(demand.homes)
+                allowed = {core: distances[core] for core in machine.cores_in(demand.allowed & self.running_cpus)}
+                found[name] = ((demand.count // machine.threads, allowed), machine.cores_in(container.cpus))
         return list(found), [row for row, _ in found.values()], [held for _, held in found.values()]
 
     def block(self):
@@ -550,7 +556,7 @@ class Runtime:
         return self.coming[: self.coming.index("end") + 1] if "end" in self.coming else []
 
     def work_out(self, names, rows, held):
-        """A plan of least distance that moves the fewest CPUs, or the members of a shortage."""
+        """A plan of least distance that moves the fewest cores, or the members of a shortage."""
         if self.coming is None:
             return plain_plan.work_out(plain_plan.with_moves(rows, held))
         words = [line.split(" ") for line in self.block()]
@@ -561,12 +567,15 @@ class Runtime:
                 raise Wrong(f"no shortage of {rows}: {ids}")
             return None, members
         holds = {word[1]: numbers(word[2]) for word in words if word[0] == "hold" and len(word) == 3}
-        plan = [holds.get(name, set()) for name in names]
+        sets = [holds.get(name, set()) & self.machine.present for name in names]
+        plan = [self.machine.cores_in(cpus) for cpus in sets]
+        if [self.machine.cpus_of(cores) for cores in plan] != sets:
+            raise Wrong(f"no whole cores: {sets}")
         self.judge(rows, held, plan)
         return plan, None
 
     def judge(self, rows, held, plan):
-        """Raises `Wrong` where a plan is none, not dealt, not of least distance, or moves more CPUs than another of that distance.
+        """Raises `Wrong` where a plan is none, not dealt, not of least distance, or moves more cores than another of that distance.
         Where problems are small, other ways to find that out are gone, too."""
         weighed = plain_plan.with_moves(rows, held)
         if not plain_plan.is_least(weighed, plan):
@@ -589,15 +598,17 @@ class Runtime:
         names, rows, held = self.rows()
         plan, members = self.work_out(names, rows, held)
         self.outcome = (names, rows, held, plan, members)
+        threads = self.machine.threads
         if plan is None:
-            asked = sum(rows[k][0] for k in members)
-            allowed = print_list(set().union(*(rows[k][1] for k in members)))
+            asked = threads * sum(rows[k][0] for k in members)
+            allowed = print_list(self.machine.cpus_of(set().union(*(rows[k][1] for k in members))))
             return [f"short demand {asked} allowed {allowed}"] + [f"member {names[k]}" for k in members] + ["end"]
-        self.pool = self.running_cpus - set().union(*plan)
-        planned = dict(zip(names, plan))
+        planned = {name: self.machine.cpus_of(cores) for name, cores in zip(names, plan)}
+        self.pool = self.running_cpus - set().union(*planned.values())
         self.underway = [(c, planned.get(name, self.pool)) for name, c in self.containers.items() if self.live(c)]
         holds = [f"hold {name} {print_list(cpus)}" for name, cpus in planned.items()]
-        return [f"plan total {plain_plan.cost_of(rows, plan)}"] + holds + [f"pool {print_list(self.pool)}", "end"]
+        total = threads * plain_plan.cost_of(rows, plan)
+        return [f"plan total {total}"] + holds + [f"pool {print_list(self.pool)}", "end"]
 
     def due(self):
         """The write of the hand-over that comes next: of those that give CPUs back the first, else the first."""

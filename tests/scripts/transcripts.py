@@ -117,17 +117,19 @@ def difference(runtime, script, output, note=lambda line, answer: None):
     return f"more than was asked for: {found[at:]}" if at < len(found) else None
 
 
-def answer_to(outcome, certificate):
+def answer_to(outcome, certificate, threads=1):
     """What a check answers to the certificate of an outcome, by the outcome's first line; the moves are told by the certificate
-    alone."""
+    alone, and its other numbers are those of cores of so many CPUs."""
     words = outcome.split(" ")
+    of_cores = lambda number: f"{number}/{threads}" if number % threads else number // threads
     if words[0] == "plan":
-        return outcome + " moves " + certificate[-2].rstrip("\n").split(" ")[-1]
-    return f"short demand {words[2]} cpus {len(numbers(words[4]))}"
+        return f"plan total {of_cores(int(words[2]))} moves " + certificate[-2].rstrip("\n").split(" ")[-1]
+    return f"short demand {of_cores(int(words[2]))} cpus {of_cores(len(numbers(words[4])))}"
 
 
-def doubted(program, output):
-    """The first certificate in the output to which the program's own check answers anything but the outcome before it."""
+def doubted(program, output, threads=1):
+    """The first certificate in the output to which the program's own check answers anything but the outcome before it, on a
+    machine whose cores have so many CPUs."""
     outcome, certificate = None, None
     for line in output.decode("utf-8", "backslashreplace").split("\n"):
         if line.startswith(("plan total ", "short demand ")):
@@ -138,7 +140,7 @@ def doubted(program, output):
             certificate.append(line + "\n")
             if line == "end":
                 done = run(program, ["check"], "".join(certificate).encode())
-                if (done.returncode, done.stdout.decode()) != (0, answer_to(outcome, certificate) + "\n"):
+                if (done.returncode, done.stdout.decode()) != (0, answer_to(outcome, certificate, threads) + "\n"):
                     return f"{outcome}: its certificate is answered by {done}: {certificate}"
                 certificate = None
     return None

@@ -14,14 +14,11 @@ from transcripts import SECONDS, Transcript, difference, doubted, run
 WORKED = os.path.join(os.path.dirname(os.path.abspath(__file__)), "worked")
 
 
-def by_second_runtime(told, program_output):
+def by_second_runtime(told, machine, program_output):
     """What is wrong with the second runtime's answers: to a script alone, and where it is told what the program answers."""
-    def runtime():
-        return Runtime(Machine(told.machine, None if told.slit is None else read_slit(told.slit)), config_of)
-
-    alone = runtime()
+    alone = Runtime(machine, config_of)
     _, wrong = told.cut([answer for line in told.script for answer in alone.answer(line)])
-    return wrong or difference(runtime(), told.script, program_output)
+    return wrong or difference(Runtime(machine, config_of), told.script, program_output)
 
 
 def typed(program, words, told, lengths):
@@ -48,7 +45,8 @@ def check(program, told):
     if (done.returncode, done.stderr) != (0, b""):
         return str(done)
     answers, wrong = told.cut(done.stdout.decode().split("\n")[:-1])
-    wrong = wrong or by_second_runtime(told, done.stdout) or doubted(program, done.stdout)
+    machine = Machine(told.machine, None if told.slit is None else read_slit(told.slit))
+    wrong = wrong or by_second_runtime(told, machine, done.stdout) or doubted(program, done.stdout, machine.threads)
     if not wrong and typed(program, words, told, map(len, answers)) != done.stdout:
         return "typed, its answers are others, or do not come before the next line"
     return wrong

@@ -13,7 +13,7 @@ from pathlib import Path
 
 HERE = os.path.dirname(os.path.abspath(__file__))
 sys.path[:0] = [os.path.join(HERE, "..", "..", "benches", "solver")]
-from families import FAMILIES, shown, text
+from families import FAMILIES, HARD, shown, text
 
 # Problems of one file, and the CPUs, rows and weights that they have at most.
 MADE = {
@@ -80,7 +80,7 @@ def write(folder):
     for name, (count, cpus, rows, weights) in MADE.items():
         random.seed(name)
         Path(folder, name).write_text("".join(problem(made(cpus, rows, weights)) for _ in range(count)))
-    for name, family in FAMILIES.items():
+    for name, family in (FAMILIES | HARD).items():
         random.seed(name)
         sized = [list(family(range(1, last + 1), rows)) for last, rows in SIZES]
         Path(folder, name).write_text("".join(text(rows) for rows in sized if all(demand for demand, _ in rows)))

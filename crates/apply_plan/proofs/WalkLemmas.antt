@@ -16,7 +16,7 @@ use Rattle.apply_plan.specs.Targets.{Targets, IsHandover, IsPlaced, ArePlaced}
 use Rattle.apply_plan.specs.DueWrite.{held, kept_of, must_release, must_move, release_of, move_of, first_write, due, written}
 use Rattle.apply_plan.specs.KeptLemmas.{kept_target, kept_again}
 use Rattle.apply_plan.specs.Walks.{its_release, its_move, IsMadeIfAny, Writes, HasWritten, Stops, NoneMust, HaveReleased, HaveMoved}
-use Rattle.apply_plan.specs.ListLemmas.{all_map2, find_among}
+use Rattle.apply_plan.specs.ListLemmas.{all_behind, all_map2, find_among}
 use Rattle.apply_plan.specs.KernelFacts.{with_request, is_write, stands, placed_alike}
 use Rattle.apply_plan.specs.WriteLemmas.{IsWrite, Left, all_left, by_test}
 use Rattle.apply_plan.specs.StepLemmas.{is_same_itself}
@@ -30,10 +30,6 @@ module _ {X : Type 0} (P : X → Type 0) where
   pub all_push : (xs : List X) (y : X) → AllByRecursion P xs → P y → AllByRecursion P (xs ++ y ∷ [])
   all_push [] y h p = (p, tt)
   all_push (x ∷ xs) y h p = (h.0, all_push xs y h.1 p)
-
-  pub all_after : (xs ys : List X) → AllByRecursion P (xs ++ ys) → AllByRecursion P ys
-  all_after [] ys h = h
-  all_after (x ∷ xs) ys h = all_after xs ys h.1
 
 module _ {X : Type 0} (test : X → Bool) where
   -- where none of the earlier ones passes, the first that does is found
@@ -121,7 +117,7 @@ module _ (h : Targets) (valid : IsHandover h) (first old : KernelState) (entries
 
   -- a fact on each entry, at this one
   pub of_each : (P : Entry → Type 0) → AllByRecursion P h.entries → P e
-  of_each P all = (all_after P (take i h.entries) (e ∷ drop (i + 1) h.entries) (subst (AllByRecursion P) (sym whole) all)).0
+  of_each P all = (all_behind P (take i h.entries) (e ∷ drop (i + 1) h.entries) (subst (AllByRecursion P) (sym whole) all)).0
 
   none_more : (test : Entry → Bool) → NoneMust test (take i h.entries) → test e ≡ false → NoneMust test (take (i + 1) h.entries)
   none_more test none fails = subst (NoneMust test) (sym front_more) (all_push (λ x. test x ≡ false) (take i h.entries) e none fails)

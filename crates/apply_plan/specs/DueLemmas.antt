@@ -1,10 +1,9 @@
 -- Which write is due, case by case.
-use Rattle.std.proofs.Common.{◌≡◌, ℕ, ◌+◌, ◌<◌, Bool, true, false, not, ◌&&◌, List, ◌∷◌, drop, get_or, length, refl, sym, ap, ◌∙◌, inl, inr}
+use Rattle.std.proofs.Common.{◌≡◌, ℕ, ◌+◌, ◌<◌, Bool, true, false, not, ◌&&◌, List, ◌∷◌, drop, get_or, length, refl, sym, ap, ◌∙◌}
 use Rattle.std.proofs.lemmas.Bool.{false≢true}
 use Rattle.std.proofs.lemmas.List.{drop_more}
 use Rattle.std.proofs.lemmas.Option.{none-some}
-use Rattle.std.specs.Option.{option_or}
-use Rattle.std.specs.Prelude.{◌⊎◌, cond, find, Option, Some, None, IfSome, is_some, is_none}
+use Rattle.std.specs.Prelude.{cond, find, Option, Some, None, IfSome, is_none}
 use Rattle.cpu_set.specs.Ids.{Ids, is_empty, is_same}
 use Rattle.cpu_set.specs.Pointwise.{is_same_decides}
 use Rattle.proctable.specs.Processes.{is_alive}
@@ -15,8 +14,8 @@ use Rattle.apply_plan.specs.Targets.{HaveSomeTarget, IsPlaced, ArePlaced}
 use Rattle.apply_plan.specs.Kept.{kept}
 use Rattle.apply_plan.specs.KeptLemmas.{kept_target}
 use Rattle.apply_plan.specs.DueWrite.{held, kept_of, must_release, must_move, release_of, move_of, first_write, due_write}
-use Rattle.apply_plan.specs.Walks.{moving, release_from, its_release}
-use Rattle.apply_plan.specs.ListLemmas.{all_map2, all_at, find_among, find_none, none_found}
+use Rattle.apply_plan.specs.Walks.{release_from, its_release}
+use Rattle.apply_plan.specs.ListLemmas.{all_map2, find_among, find_none, none_found}
 
 -- an entry lets go, or none must and one takes its target, or nothing is due
 pub data Due (k : KernelState) (reserved : Ids) (entries : List Entry) : Option Write → Type 0 where
@@ -39,7 +38,14 @@ due_is_placed k reserved entries placed = by (due_write k reserved entries) (due
   by d (Moves e none found) = find_among (must_move k) (λ a. IsPlaced k a.group) entries e placed found
   by d (Rests r m) = tt
 
--- a container that holds its target has nothing to let go
+-- a container that holds its target need not move
+pub holds_its_target : (k : KernelState) (e : Entry) → is_same (held k e) e.target ≡ true → must_move k e ≡ false
+holds_its_target k e same = ap (λ b. is_alive k.table e.pid && not b) same ∙ none_at (is_alive k.table e.pid) where
+  none_at : (lives : Bool) → (lives && false) ≡ false
+  none_at true = refl
+  none_at false = refl
+
+-- and it has nothing to let go
 pub keeps_its_target : (k : KernelState) (reserved : Ids) (e : Entry) → is_empty e.target ≡ false → must_move k e ≡ false → must_release k reserved e ≡ false
 keeps_its_target k reserved e some stays = by (is_alive k.table e.pid) (is_same (held k e) e.target) refl refl where
   is_kept : held k e ≡ e.target → is_same (kept_of k reserved e) (held k e) ≡ true
@@ -68,47 +74,12 @@ release_if_alive k reserved e lives = ap (λ a. cond (a && not (is_same (kept_of
 pub no_release_if_dead : (k : KernelState) (reserved : Ids) (e : Entry) → is_alive k.table e.pid ≡ false → its_release k reserved e ≡ None
 no_release_if_dead k reserved e dead = ap (λ a. cond (a && not (is_same (kept_of k reserved e) (held k e))) (Some (release_of k reserved e)) None) dead
 
-pub release_none : (k : KernelState) (reserved : Ids) (e : Entry) → its_release k reserved e ≡ None → must_release k reserved e ≡ false
-release_none k reserved e none = by (must_release k reserved e) refl where
-  by : (b : Bool) → must_release k reserved e ≡ b → must_release k reserved e ≡ false
-  by false is = is
-  by true is = absurd (none-some (release_of k reserved e) (sym none ∙ ap (λ b. cond b (Some (release_of k reserved e)) None) is))
-
--- an entry that does not pass is passed over, and one that does is found
+-- an entry that does not pass is passed over
 pub passed_over : (test : Entry → Bool) (entries : List Entry) (i : ℕ) (e : Entry) → i < length entries → e ≡ get_or entries i e → test e ≡ false
     → find test (drop i entries) ≡ find test (drop (i + 1) entries)
 passed_over test entries i e within at fails =
     ap (find test) (drop_more entries i e within ∙ ap (λ x. x ∷ drop (i + 1) entries) (sym at))
     ∙ ap (λ b. cond b (Some e) (find test (drop (i + 1) entries))) fails
-
-pub found_here : (test : Entry → Bool) (entries : List Entry) (i : ℕ) (e : Entry) → i < length entries → e ≡ get_or entries i e → test e ≡ true
-    → find test (drop i entries) ≡ Some e
-found_here test entries i e within at passes =
-    ap (find test) (drop_more entries i e within ∙ ap (λ x. x ∷ drop (i + 1) entries) (sym at))
-    ∙ ap (λ b. cond b (Some e) (find test (drop (i + 1) entries))) passes
-
--- the first to move among those that are left is the first of all, once this one was looked at
-pub first_is_left : (k : KernelState) (entries : List Entry) (i : ℕ) (e : Entry) (first next : Option Entry) → i < length entries → e ≡ get_or entries i e
-    → next ≡ option_or first (moving k e) → option_or first (find (must_move k) (drop i entries)) ≡ find (must_move k) entries
-    → option_or next (find (must_move k) (drop (i + 1) entries)) ≡ find (must_move k) entries
-first_is_left k entries i e first next within at is same =
-    ap (λ n. option_or n (find (must_move k) (drop (i + 1) entries))) is
-    ∙ or_else first (must_move k e) (find (must_move k) (drop (i + 1) entries))
-    ∙ ap (λ l. option_or first (find (must_move k) l)) (sym (drop_more entries i e within ∙ ap (λ x. x ∷ drop (i + 1) entries) (sym at)))
-    ∙ same
-  where
-    or_else : (first : Option Entry) (b : Bool) (later : Option Entry) → option_or (option_or first (cond b (Some e) None)) later ≡ option_or first (cond b (Some e) later)
-    or_else None true later = refl
-    or_else None false later = refl
-    or_else (Some f) b later = refl
-
--- an entry that passes is found
-pub some_is_found : (test : Entry → Bool) (entries : List Entry) (i : ℕ) (e : Entry) → i < length entries → e ≡ get_or entries i e → test e ≡ true
-    → is_none (find test entries) ≡ false
-some_is_found test entries i e within at passes = by (find test entries) refl where
-  by : (found : Option Entry) → find test entries ≡ found → is_none (find test entries) ≡ false
-  by None none = absurd (false≢true (sym (all_at (λ a. test a ≡ false) entries i e (find_none test entries none) within at) ∙ passes))
-  by (Some f) some = ap is_none some
 
 -- where each live container holds its target nothing is due
 pub nothing_is_due : (k : KernelState) (reserved : Ids) (entries : List Entry) → HaveSomeTarget entries → is_none (find (must_move k) entries) ≡ true

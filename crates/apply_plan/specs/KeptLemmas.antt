@@ -94,6 +94,25 @@ module _ (reserved target : Ids) where
       (λ left. is_subset-contains (set.difference cpus target) reserved sub q (contains-difference cpus target q ∙ left))))
       some
 
+  bools_part : (c t r : Bool) → (c ≡ true → t ≡ true) → (c && (t || r)) ≡ c
+  bools_part true t r f = ap (λ b. b || r) (f refl)
+  bools_part false t r f = refl
+
+  -- and of some that are each in the target
+  pub kept_part : (cpus : Ids) → set.is_subset cpus target ≡ true → is_empty cpus ≡ false → kept reserved target cpus ≡ cpus
+  kept_part cpus sub some =
+      kept_whole cpus
+      (same_members _ _ (λ q. in_within cpus q
+      ∙ bools_part (set.contains cpus q) (set.contains target q) (set.contains reserved q) (is_subset-contains cpus target sub q)))
+      some
+
+  -- the reserved ones are kept
+  pub kept_reserved : kept reserved target reserved ≡ reserved
+  kept_reserved = split (is_empty (within reserved target reserved)) refl where
+    split : (b : Bool) → is_empty (within reserved target reserved) ≡ b → kept reserved target reserved ≡ reserved
+    split true e = kept_nothing reserved target reserved e
+    split false e = kept_some reserved target reserved e ∙ within_reserved
+
   -- the target is kept
   pub kept_target : is_empty target ≡ false → kept reserved target target ≡ target
   kept_target some = kept_whole target within_target some

@@ -1,9 +1,9 @@
 -- What a look through a list finds, and facts on each element and on each two.
-use Rattle.std.proofs.Common.{◌≡◌, ℕ, zero, suc, ◌+◌, ◌*◌, ◌<◌, ◌≤◌, get_or, Bool, true, false, List, [], ◌∷◌, length, refl, sym, ap, ◌∙◌, subst, arith}
+use Rattle.std.proofs.Common.{◌≡◌, ℕ, zero, suc, ◌+◌, ◌*◌, ◌<◌, ◌≤◌, get_or, Bool, true, false, List, [], ◌∷◌, ◌++◌, length, refl, sym, ap, ◌∙◌, subst, arith}
 use Rattle.std.proofs.lemmas.Bool.{false≢true}
 use Rattle.std.proofs.lemmas.Option.{none-some}
 use Rattle.std.proofs.lemmas.List.Sums.{sum_by-cons}
-use Rattle.std.specs.Prelude.{cond, find, map, Some, None}
+use Rattle.std.specs.Prelude.{cond, find, map, is_none, Some, None}
 use Rattle.std.specs.List.{AllByRecursion, sum_by}
 use Rattle.apply_plan.specs.Holders.{Pairwise}
 
@@ -20,6 +20,10 @@ module _ {X : Type 0} where
   pub all_of : (P : X → Type 0) → ((x : X) → P x) → (xs : List X) → AllByRecursion P xs
   all_of P f [] = tt
   all_of P f (x ∷ xs) = (f x, all_of P f xs)
+
+  pub all_behind : (P : X → Type 0) (xs ys : List X) → AllByRecursion P (xs ++ ys) → AllByRecursion P ys
+  all_behind P [] ys h = h
+  all_behind P (x ∷ xs) ys h = all_behind P xs ys h.1
 
   pub all_at : (P : X → Type 0) (xs : List X) (i : ℕ) (x : X) → AllByRecursion P xs → i < length xs → x ≡ get_or xs i x → P x
   all_at P [] i x h within is = absurd (omega arith)
@@ -76,6 +80,20 @@ module _ {X : Type 0} where
     pub none_found : (xs : List X) → AllByRecursion (λ x. test x ≡ false) xs → find test xs ≡ None
     none_found [] h = refl
     none_found (x ∷ xs) h = later x xs h.0 ∙ none_found xs h.1
+
+    -- of two lists one after the other nothing is found where nothing is in either
+    pub none_in_both : (xs ys : List X) → is_none (find test ys) ≡ true → is_none (find test (xs ++ ys)) ≡ is_none (find test xs)
+    none_in_both [] ys none = none
+    none_in_both (x ∷ xs) ys none =
+        split x (λ t. ap is_none (passes (xs ++ ys) t ∙ sym (passes xs t))) (λ t. ap is_none (later x (xs ++ ys) t) ∙ none_in_both xs ys none ∙ sym (ap is_none (later x xs t)))
+      where
+        passes : (zs : List X) → test x ≡ true → find test (x ∷ zs) ≡ Some x
+        passes zs t = ap (λ b. cond b (Some x) (find test zs)) t
+
+    pub some_in_later : (xs ys : List X) → is_none (find test ys) ≡ false → is_none (find test (xs ++ ys)) ≡ false
+    some_in_later [] ys some = some
+    some_in_later (x ∷ xs) ys some =
+        split x (λ t. ap (λ b. is_none (cond b (Some x) (find test (xs ++ ys)))) t) (λ t. ap is_none (later x (xs ++ ys) t) ∙ some_in_later xs ys some)
 
     module _ (same : X → X → Bool) (swap : (a b : X) → same a b ≡ same b a) where
       -- what is found is the only one that is the same as it

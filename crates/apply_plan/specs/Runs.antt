@@ -1,5 +1,5 @@
 -- What may happen while a hand-over is open, one event after another.
-use Rattle.std.specs.Prelude.{◌≡◌, ℕ, ◌+◌, ◌-◌, ◌*◌, ◌<◌, ◌≤◌, false, List, [], ◌∷◌, length, Result, Ok, Err}
+use Rattle.std.specs.Prelude.{◌≡◌, ℕ, ◌+◌, ◌-◌, ◌*◌, ◌<◌, ◌≤◌, false, List, [], ◌∷◌, length, Result}
 use Rattle.std.specs.List.{AllByRecursion}
 use Rattle.faults.specs.declared.OrMemory.{OrMemory}
 use Rattle.cpuset_tree.specs.declared.Group.{Group}

@@ -9,7 +9,7 @@ use Rattle.apply_plan.specs.declared.entry.Entry.{Entry}
 use Rattle.apply_plan.specs.declared.scan.Write.{Write}
 use Rattle.apply_plan.specs.Targets.{Targets, ArePlaced}
 use Rattle.apply_plan.specs.Kept.{kept}
-use Rattle.apply_plan.specs.DueWrite.{held, must_release, must_move, release_of, move_of, due, written}
+use Rattle.apply_plan.specs.DueWrite.{must_release, must_move, release_of, move_of, due, written}
 
 -- an entry whose container must move
 abbrev pub moving : KernelState → Entry → Option Entry
@@ -32,6 +32,11 @@ its_move k e = cond (must_move k e) (Some (move_of e)) None
 abbrev pub IsMadeIfAny : Option Write → KernelState → Result (Unit {0}) KernelFault → KernelState → Type 0
 IsMadeIfAny w old (Ok _) new = new ≡ written old w
 IsMadeIfAny w old (Err fault) new = (fault ≡ Failed) × (new ≡ failed old) × (is_some w ≡ true)
+
+-- that a write was made, or that it failed
+abbrev pub done_of : Result ℕ KernelFault → Result (Unit {0}) KernelFault
+done_of (Ok _) = Ok tt
+done_of (Err fault) = Err fault
 
 -- so many writes, each of which is due
 abbrev pub Writes : Targets → ℕ → KernelState → KernelState → Type 0

@@ -14,7 +14,7 @@ use kernel_model::{Group, Kernel};
 /// outside the reserved CPUs the target of a pinned container meets no other, and no target is empty, nor are the
 /// reserved CPUs.
 ///
-/// Looks at each target once, and compares the groups of each two of the entries. Takes no memory.
+/// Looks at each target once, and compares the groups of each two of the entries. Allocates nothing.
 pub fn may_begin(entries: &[Entry], reserved: &IdSet) -> bool
     ensures { IsTrue result ↔ IsHandover (record { entries = entries.now; reserved = reserved.now }) }
 {
@@ -99,7 +99,7 @@ fn is_placed<K: Kernel>(kernel: &K, group: Group) -> bool
 
 /// Whether all groups of the entries are in the tree, and none is the root, as the calls of a hand-over require.
 ///
-/// Takes no memory.
+/// Allocates nothing.
 pub fn are_placed<K: Kernel>(kernel: &K, entries: &[Entry]) -> bool
     ensures { IsTrue result ↔ ArePlaced (K.state kernel.now) entries.now }
 {

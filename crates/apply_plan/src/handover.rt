@@ -47,7 +47,7 @@ impl Model for Handover {
 impl Handover {
     /// A hand-over that is to bring each entry's container to its target.
     ///
-    /// Takes no memory: the entries are kept as they come.
+    /// Allocates nothing: the entries are kept as they come.
     pub fn new(entries: Vec<Entry>, reserved: IdSet) -> Handover
         requires { IsHandover (record { entries = entries.items; reserved = reserved }) }
         ensures { result ≡ record { entries = entries.items; reserved = reserved } }
@@ -71,8 +71,8 @@ impl Handover {
         ensures valid { IsHandover self.now }
     {
         let entries = self.entries();
-        make_due(kernel, &self.reserved, entries)?;
-        Ok(if all_arrived(&*kernel, entries) {
+        let place = make_due(kernel, &self.reserved, entries)?;
+        Ok(if all_arrived(&*kernel, entries, place) {
             Progress::Done
         } else {
             Progress::More
@@ -81,7 +81,7 @@ impl Handover {
 
     /// Makes the write that is due and no other, or none where none is due, and tells whether more are to come.
     ///
-    /// Entries whose first process has ended are passed over. Takes no memory.
+    /// Entries whose first process has ended are passed over. Allocates nothing.
     ///
     /// # Errors
     /// `Failed` where the write failed: it is counted, and nothing else changed; the hand-over may go on.
@@ -101,7 +101,8 @@ impl Handover {
         // One writing call of the kernel is made where a write is due, and else none.
         ensures made { (K.state kernel.new).writes ≡ (K.state kernel.old).writes + made_by_step self.old (K.state kernel.old) }
         // Each container requests what it did at first, or what it keeps of that, or its target.
-        ensures between { (first : KernelState) → Between self.old first (K.state kernel.old) → Between self.old first (K.state kernel.new) }
+        ensures between { (first : KernelState) → Between self.old first (K.state kernel.old)
+            → Between self.old first (K.state kernel.new) }
         // A failure is counted, and nothing else in the kernel changes.
         ensures counted { (K.state kernel.new).failures ≡ (K.state kernel.old).failures + rise result }
         ensures rest { KeepsRest self.old (K.state kernel.old) (K.state kernel.new) }
@@ -123,7 +124,7 @@ impl Handover {
     /// Makes all writes that are to come, up to the first that fails: what [`step`](Handover::step) leaves, called until
     /// nothing is due.
     ///
-    /// Looks each entry through twice, where single steps look all of them through for each write. Takes no memory.
+    /// Looks each entry through twice, where single steps look all of them through for each write. Allocates nothing.
     ///
     /// # Errors
     /// `Failed` where a write failed: it is counted, and no other was made after it; the hand-over may go on.
@@ -140,11 +141,13 @@ impl Handover {
         // One writing call of the kernel is made for each write that is less to come, and one for a failure.
         ensures made { Spends self.old (K.state kernel.old) (rise result) (K.state kernel.new) }
         // At the end these are all that were to come.
-        ensures all { IsOk result → (K.state kernel.new).writes ≡ (K.state kernel.old).writes + writes_to_come self.old (K.state kernel.old) }
+        ensures all { IsOk result → (K.state kernel.new).writes ≡ (K.state kernel.old).writes
+            + writes_to_come self.old (K.state kernel.old) }
         // At most two for each entry, and the one that failed.
         ensures few { (K.state kernel.new).writes ≤ (K.state kernel.old).writes + 2 * length self.old.entries + rise result }
         // Each container requests what it did at first, or what it keeps of that, or its target.
-        ensures between { (first : KernelState) → Between self.old first (K.state kernel.old) → Between self.old first (K.state kernel.new) }
+        ensures between { (first : KernelState) → Between self.old first (K.state kernel.old)
+            → Between self.old first (K.state kernel.new) }
         // A failure is counted, and nothing else in the kernel changes.
         ensures counted { (K.state kernel.new).failures ≡ (K.state kernel.old).failures + rise result }
         ensures rest { KeepsRest self.old (K.state kernel.old) (K.state kernel.new) }

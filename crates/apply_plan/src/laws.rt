@@ -1,4 +1,4 @@
-//! Laws over the definitions alone: nothing here runs.
+//! What hand-overs keep at every moment, and when they end: laws over the definitions alone. Nothing here runs.
 ghost use Rattle.apply_plan.specs.Runs.{StaysSafe, StaysBetween, EndsWithin, FewToCome};
 ghost use Rattle.apply_plan.specs.OneStep.{StepsLeave};
 ghost use Rattle.apply_plan.specs.Effects.{TargetsTakeEffect, SafeInEffect};

@@ -1,11 +1,12 @@
 //! The entries looked through for the write that is due.
-ghost use Rattle.std.specs.Prelude.{◌≡◌, true, IsTrue, IfSome, is_none, find, option_copied};
+ghost use Rattle.std.specs.Prelude.{◌≡◌, true, false, IsTrue, IfSome, is_none, find, option_copied};
 ghost use Rattle.std.specs.Option.{option_or};
 ghost use Rattle.cpuset_tree.specs.Groups.{has_group};
 ghost use Rattle.apply_plan.specs.Kept.{kept};
-ghost use Rattle.apply_plan.specs.Targets.{IsPlaced, ArePlaced};
-ghost use Rattle.apply_plan.specs.DueWrite.{must_move, due_write};
-ghost use Rattle.apply_plan.specs.Walks.{moving, release_from, its_release, its_move, IsMadeIfAny};
+ghost use Rattle.cpu_set.specs.Ids.{is_same};
+ghost use Rattle.apply_plan.specs.Targets.{IsPlaced, ArePlaced, HaveSomeTarget};
+ghost use Rattle.apply_plan.specs.DueWrite.{held as requested_by, must_move, due_write};
+ghost use Rattle.apply_plan.specs.Walks.{moving, release_from, its_release, its_move, IsMadeIfAny, done_of};
 
 use crate::Entry;
 use cpu_set::IdSet;
@@ -27,12 +28,13 @@ fn kept_of(reserved: &IdSet, target: &IdSet, cpus: &IdSet) -> IdSet
     if within.is_empty() { *reserved } else { within }
 }
 
-/// Whether a container that requests these CPUs keeps all of them on the way to its target: they are some, and each is in
-/// the target or reserved. So most entries are passed over without a set being made.
+/// Whether a container that requests these CPUs keeps all of them on the way to its target: they are the reserved ones, or they
+/// are some, and each is in the target or reserved. So most entries are passed over without a set being made.
 fn keeps_all(reserved: &IdSet, target: &IdSet, held: &IdSet) -> bool
     ensures { IsTrue result → kept reserved.now target.now held.now ≡ held.now }
 {
-    held.minus(target).is_subset(reserved) && !held.is_empty()
+    held == reserved
+        || !held.is_empty() && (held.is_subset(target) || held.minus(target).is_subset(reserved))
 }
 
 /// The write by which a container that requests these CPUs lets go of what it is not to have, where that is any.
@@ -49,13 +51,17 @@ fn release_from(reserved: &IdSet, entry: &Entry, held: &IdSet) -> Option<Write>
     })
 }
 
-/// The write by which a live container lets go of what it is not to have, where it holds any of that. Most hold none of it,
-/// so that is tested before the process is looked up.
-pub fn release_of<K: Kernel>(kernel: &K, reserved: &IdSet, entry: &Entry) -> Option<Write>
-    requires { has_group (K.state kernel.now).tree entry.now.group ≡ true }
+/// The write by which a live container that requests these CPUs lets go of what it is not to have, where it holds any of that.
+/// Most hold none of it, so that is tested before the process is looked up.
+fn release_held<K: Kernel>(
+    kernel: &K,
+    reserved: &IdSet,
+    entry: &Entry,
+    held: &IdSet,
+) -> Option<Write>
+    requires { held.now ≡ requested_by (K.state kernel.now) entry.now }
     ensures { result ≡ its_release (K.state kernel.now) reserved.now entry.now }
 {
-    let held = requested(kernel, entry.group);
     if keeps_all(reserved, &entry.target, held) {
         return None;
     }
@@ -64,6 +70,14 @@ pub fn release_of<K: Kernel>(kernel: &K, reserved: &IdSet, entry: &Entry) -> Opt
     } else {
         None
     }
+}
+
+/// The write by which a live container lets go of what it is not to have, where it holds any of that.
+pub fn release_of<K: Kernel>(kernel: &K, reserved: &IdSet, entry: &Entry) -> Option<Write>
+    requires { has_group (K.state kernel.now).tree entry.now.group ≡ true }
+    ensures { result ≡ its_release (K.state kernel.now) reserved.now entry.now }
+{
+    release_held(kernel, reserved, entry, requested(kernel, entry.group))
 }
 
 /// Whether a live container does not hold its target.
@@ -89,56 +103,73 @@ pub fn move_of<K: Kernel>(kernel: &K, entry: &Entry) -> Option<Write>
     }
 }
 
-/// The first entry whose live container does not hold its target: the one that was found, or else this one, if it is such.
+/// The first entry whose live container does not hold its target: the one that was found, or else this one, which does not hold
+/// its own, if its container lives.
 fn first_to_move<'a, K: Kernel>(
     kernel: &K,
     found: Option<&'a Entry>,
     entry: &'a Entry,
 ) -> Option<&'a Entry>
-    requires { has_group (K.state kernel.now).tree entry.now.group ≡ true }
+    requires { is_same (requested_by (K.state kernel.now) entry.now) entry.now.target ≡ false }
     ensures { option_copied result ≡ option_or (option_copied found.entry) (moving (K.state kernel.now) entry.now) }
 {
-    if found.is_none() && must_move(kernel, entry) {
+    if found.is_none() && kernel.first_alive(entry.pid) {
         Some(entry)
     } else {
         found
     }
 }
 
-/// The write that is due: of the first live container that holds what it is to let go, else of the first that does not
-/// hold its target.
-pub fn due<K: Kernel>(kernel: &K, reserved: &IdSet, entries: &[Entry]) -> Option<Write>
-    requires { ArePlaced (K.state kernel.now) entries.now }
-    ensures { result ≡ due_write (K.state kernel.now) reserved.now entries.now }
+/// The write that is due, and the place of its entry: of the first live container that holds what it is to let go, else of the
+/// first that does not hold its target. Nothing is due of a container that holds its target, as most do.
+pub fn due<K: Kernel>(kernel: &K, reserved: &IdSet, entries: &[Entry]) -> (Option<Write>, usize)
+    requires placed { ArePlaced (K.state kernel.now) entries.now }
+    requires some { HaveSomeTarget entries.now }
+    ensures { result.0 ≡ due_write (K.state kernel.now) reserved.now entries.now }
 {
     let mut moving = None;
-    for entry in entries {
-        if let Some(write) = release_of(kernel, reserved, entry) {
-            return Some(write);
+    let mut first = 0;
+    for (place, entry) in entries.iter().enumerate() {
+        let held = requested(kernel, entry.group);
+        if *held == entry.target {
+            continue;
+        }
+        if let Some(write) = release_held(kernel, reserved, entry, held) {
+            return (Some(write), place);
+        }
+        if moving.is_none() {
+            first = place;
         }
         moving = first_to_move(kernel, moving, entry);
     }
-    match moving {
-        Some(entry) => Some(Write {
-            group: entry.group,
-            cpus: entry.target,
-        }),
-        None => None,
-    }
+    let write = moving.map(|entry| Write {
+        group: entry.group,
+        cpus: entry.target,
+    });
+    (write, first)
 }
 
-/// Whether each live container holds its target. It is looked for from the end on, and ends at the first that does not:
-/// the entries take their targets from the start on, so that while writes are to come the last has mostly not got its own.
-pub fn all_arrived<K: Kernel>(kernel: &K, entries: &[Entry]) -> bool
+/// Whether each live container of these entries holds its target.
+fn have_arrived<K: Kernel>(kernel: &K, entries: &[Entry]) -> bool
     requires { ArePlaced (K.state kernel.now) entries.now }
     ensures { result ≡ is_none (find (must_move (K.state kernel.now)) entries.now) }
 {
-    for place in (0..entries.len()).rev() {
-        if must_move(kernel, &entries[place]) {
+    for entry in entries {
+        if must_move(kernel, entry) {
             return false;
         }
     }
     true
+}
+
+/// Whether each live container holds its target. It is looked for from a place on, and then before it: behind the place of a
+/// write that was made is mostly the next one that moves.
+pub fn all_arrived<K: Kernel>(kernel: &K, entries: &[Entry], from: usize) -> bool
+    requires { ArePlaced (K.state kernel.now) entries.now }
+    ensures { result ≡ is_none (find (must_move (K.state kernel.now)) entries.now) }
+{
+    let (before, behind) = entries.split_at(from.min(entries.len()));
+    have_arrived(kernel, behind) && have_arrived(kernel, before)
 }
 
 /// Makes a write, where there is one.
@@ -152,15 +183,19 @@ pub fn make_if_any<K: Kernel>(kernel: &mut K, write: Option<Write>) -> Result<()
     }
 }
 
-/// Makes the write that is due, where one is.
+/// Makes the write that is due, where one is, and tells the place of its entry.
 pub fn make_due<K: Kernel>(
     kernel: &mut K,
     reserved: &IdSet,
     entries: &[Entry],
-) -> Result<(), KernelFault>
-    requires { ArePlaced (K.state kernel.old) entries.now }
-    ensures made { IsMadeIfAny (due_write (K.state kernel.old) reserved.now entries.now) (K.state kernel.old) result (K.state kernel.new) }
+) -> Result<usize, KernelFault>
+    requires placed { ArePlaced (K.state kernel.old) entries.now }
+    requires some { HaveSomeTarget entries.now }
+    ensures made { IsMadeIfAny (due_write (K.state kernel.old) reserved.now entries.now) (K.state kernel.old) (done_of result)
+        (K.state kernel.new) }
     ensures placed { ArePlaced (K.state kernel.new) entries.now }
 {
-    make_if_any(kernel, due(&*kernel, reserved, entries))
+    let (write, place) = due(&*kernel, reserved, entries);
+    make_if_any(kernel, write)?;
+    Ok(place)
 }

@@ -21,12 +21,13 @@ pub enum Verdict {
     Short(u64, u32),
 }
 
-/// Checks a certificate, as its text says it or as it was built. This takes no memory, so only the reading of a text can
-/// want any. It takes steps in the order of those of [`check_plan`] or [`check_shortage`].
+/// Checks a certificate, as its text says it or as it was built. It allocates nothing, so an
+/// allocation can fail in the reading of a text alone. It takes steps in the order of those of [`check_plan`] or
+/// [`check_shortage`].
 ///
 /// # Errors
-/// `BadProblem` where weights count moves and one is more than one move; then those of [`check_plan`], then `Gap` where the written
-/// total isn't the plan's cost; for a shortage those of [`check_shortage`].
+/// `BadProblem` where weights count moves and one is more than one move; then those of [`check_plan`], then `Gap` (the
+/// duality gap) where the written total isn't the plan's cost; for a shortage those of [`check_shortage`].
 pub fn check(certificate: &Certificate) -> Result<Verdict, CheckFault>
     // A yes: values and prices prove the plan to cost the total, or the members are short by these counts; where weights
     // count moves, each is a distance, and one move at most.

@@ -17,7 +17,7 @@ use cpu_set::IdSet;
 
 /// Checks that a plan is of least cost, by values and prices: the plan's cost, or the first cause why not.
 ///
-/// Takes no memory. A set takes a few steps for each of its ranges. Only the CPUs of an offer whose weight is below its
+/// Allocates nothing. A set takes a few steps for each of its ranges. Only the CPUs of an offer whose weight is below its
 /// row's value take a step each: a look at a table of their prices. At worst O(w + p + r * n) of w offers in all, p prices,
 /// r rows and n CPUs.
 ///

@@ -15,7 +15,7 @@ use crate::{MAX_AMOUNT, MAX_DEMAND, MAX_ROWS, MAX_WEIGHT, Offers, PriceList, Pri
 use cpu_set::{CPU_LIMIT, IdSet};
 
 /// What a plan costs: the weights of the CPUs that its rows hold, summed. A CPU without a weight in its row
-/// counts nothing. Takes no memory.
+/// counts nothing. Allocates nothing.
 pub(crate) fn plan_cost(rows: &[Row], sets: &[IdSet]) -> u64
     requires few { length rows.now ≤ MAX_ROWS }
     requires fit { IsTrue (list_all row_fits rows.now) }
@@ -65,7 +65,7 @@ fn shared_count(held: &IdSet, cpus: &IdSet) -> u32
 }
 
 /// What a plan costs that values and prices prove to cost the least: what its rows are worth, less the prices of all CPUs.
-/// Takes no memory, and a step for each row and price.
+/// Allocates nothing, and a step for each row and price.
 pub fn proved_cost(rows: &[Row], prices: &Prices) -> u64
     requires { (sets : List Ids) × (total : ℕ) × IsProved rows.now sets prices.now total }
     ensures { (sets : List Ids) (total : ℕ) → IsProved rows.now sets prices.now total → result ≡ total }

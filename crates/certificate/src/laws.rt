@@ -1,4 +1,4 @@
-//! Laws over the definitions alone: nothing here runs.
+//! What a proved plan, a shortage and a cost mean, and the limits: laws over the definitions alone. Nothing here runs.
 ghost use Rattle.std.specs.Prelude.{◌≡◌};
 ghost use Rattle.certificate.specs.AreWithin.{RowsFitMeans, LimitsMean};
 ghost use Rattle.certificate.specs.Laws.{NoPlanBelowBound, ProvedIsLeast, ShortageLeavesNoPlan, ProvedHasNoFault, FaultlessIsProved};

@@ -44,7 +44,7 @@ fn are_below(members: &[usize], count: usize) -> bool
 /// Whether rows are within their limits, as the solver wants them to be: at most [`MAX_ROWS`] of them, each of which asks
 /// for 1 to [`MAX_DEMAND`] CPUs, with no weight above [`MAX_WEIGHT`] and no CPU in two of its offers.
 ///
-/// O(w) of w offers in all. Takes no memory.
+/// O(w) of w offers in all. Allocates nothing.
 #[tactic(auto, unfolding(crate::specs::Limits::rows_fit))]
 pub fn rows_fit(rows: &[Row]) -> bool
     ensures { result ≡ rows_fit rows.now }

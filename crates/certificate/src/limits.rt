@@ -6,7 +6,7 @@ pub const MAX_ROWS: usize = 1_024;
 /// A row asks for at most so many CPUs, and for one at least.
 pub const MAX_DEMAND: u32 = CPU_LIMIT as u32;
 
-/// No weight is above this.
+/// No weight, what a CPU costs a row, is above this.
 pub const MAX_WEIGHT: u32 = 33_554_431;
 
 /// No row's value and no CPU's price is above this.

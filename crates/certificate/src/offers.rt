@@ -39,7 +39,7 @@ impl Model for Offers {
 }
 
 impl Offers {
-    /// No offers. Takes no memory.
+    /// No offers. Allocates nothing.
     pub fn new(alloc: Global) -> Offers
         ensures { result ≡ [] }
     {
@@ -52,7 +52,7 @@ impl Offers {
     /// Adds an offer after the others.
     ///
     /// # Errors
-    /// Lack of memory, which changes nothing.
+    /// An allocation failure, which changes nothing.
     pub fn push(&mut self, offer: Offer) -> Result<(), AllocError>
         ensures ok { OnOk result (self.new ≡ self.old ++ offer ∷ []) }
         ensures err { OnErr result (self.new ≡ self.old) }
@@ -67,7 +67,7 @@ impl Offers {
     /// of its r ranges.
     ///
     /// # Errors
-    /// Lack of memory, which changes nothing.
+    /// An allocation failure, which changes nothing.
     pub fn push_from(&mut self, weight: u32, other: &Offers, at: usize) -> Result<(), AllocError>
         requires { at < length other.now }
         ensures ok { (d : Offer) → OnOk result (self.new ≡ self.old ++ (record { weight = weight; cpus = (slice_index_or other.now at d).cpus }) ∷ []) }
@@ -93,7 +93,7 @@ impl Offers {
     /// The same offers once more.
     ///
     /// # Errors
-    /// Lack of memory.
+    /// An allocation failure.
     pub fn copy(&self, alloc: Global) -> Result<Offers, AllocError>
         ensures { IfOk result (λ same. same ≡ self.now) }
     {
@@ -142,7 +142,7 @@ impl Offers {
     /// The offers in a list, each with a whole set.
     ///
     /// # Errors
-    /// Lack of memory.
+    /// An allocation failure.
     pub fn to_vec(&self, alloc: Global) -> Result<Vec<Offer>, AllocError>
         ensures { IfOk result (λ list. list.items ≡ self.now) }
     {

@@ -61,7 +61,7 @@ impl Model for PriceList {
 }
 
 impl PriceList {
-    /// No prices. Takes no memory.
+    /// No prices. Allocates nothing.
     pub fn new(alloc: Global) -> PriceList
         ensures { result ≡ [] }
     {
@@ -73,7 +73,7 @@ impl PriceList {
     /// Adds a price after the others.
     ///
     /// # Errors
-    /// Lack of memory, which changes nothing.
+    /// An allocation failure, which changes nothing.
     pub fn push(&mut self, price: Price) -> Result<(), AllocError>
         ensures ok { OnOk result (self.new ≡ self.old ++ price ∷ []) }
         ensures err { OnErr result (self.new ≡ self.old) }

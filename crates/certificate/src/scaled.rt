@@ -7,7 +7,7 @@ use crate::{Cost, Offers, Row};
 
 /// Whether each weight is a [`Cost`] of one move at most.
 ///
-/// O(w) of w offers in all. Takes no memory.
+/// O(w) of w offers in all. Allocates nothing.
 pub fn are_scaled(rows: &[Row]) -> bool
     ensures { result ≡ are_scaled rows.now }
 {

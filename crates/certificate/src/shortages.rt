@@ -16,7 +16,7 @@ use cpu_set::IdSet;
 /// Checks that some rows, the members, ask together for more CPUs than the union of their offers has: how
 /// many they ask for and how many there are, or the first cause why not.
 ///
-/// `members` are row numbers, each above the one before. O(m + w) of m members and w offers in all. Takes no memory.
+/// `members` are row numbers, each above the one before. O(m + w) of m members and w offers in all. Allocates nothing.
 ///
 /// # Errors
 /// `BadProblem` (E70), then `NoShortage` (E76).
@@ -75,7 +75,7 @@ fn asked_by(rows: &[Row], members: &[usize]) -> u64
 
 /// The CPUs that are in an offer of a member, each a row of this number.
 ///
-/// Takes no memory.
+/// Allocates nothing.
 pub fn offered_to(rows: &[Row], members: &[usize]) -> IdSet
     requires { All (λ k. k < length rows.now) members.now }
     ensures { (cpu : ℕ) → set.contains result cpu ≡ is_offered (chosen rows.now members.now) cpu }

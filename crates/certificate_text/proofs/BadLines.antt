@@ -245,7 +245,7 @@ pub some_of : {A : Type 0} (o : Option A) → IsSome o → (x : A) × (o ≡ Som
 some_of (Some x) h = (x, refl)
 some_of None h = absurd (false≢true h)
 
--- memory ran out at a line
+-- an allocation failed at a line
 pub read_asks : (text rest line after : List ℕ) (d : DraftView) (n : ℕ) → IsReadTo text rest d n → parts 10 rest ≡ line ∷ parts 10 after → AsksForRoom d line → AsksForMemory text
 read_asks text rest line after d n r cut a =
     let e = some_of (next d a.0) a.3 in
@@ -261,7 +261,7 @@ read_asks text rest line after d n r cut a =
       begun = begun_can (r.before ++ line ∷ []) e.0 (begun_more r.before line d e.0 a.0 r.begun a.1 e.1);
     }
 
--- where the text stands for a certificate, that one was read, unless memory ran out
+-- where the text stands for a certificate, that one was read, unless an allocation failed
 pub is_read : (text : List ℕ) (r : Result Certificate (OrMemory BadText)) → IfOk r (λ c. IsText text c) → IfErr r (λ e. IsTextError text e)
     → (c : Certificate) → IsText text c → IsRead r c
 is_read text (Ok d) ok bad c t = one_certificate text d c ok t

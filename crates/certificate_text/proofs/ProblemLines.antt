@@ -184,7 +184,7 @@ rows_long text rest line after rows n r cut is some = at (parts 10 after) refl w
         no_text = λ all t. too_long before l ls after e some cannot all t.0 (sym whole ∙ t.1) t.2;
       }
 
--- memory ran out at a row
+-- an allocation failed at a row
 pub rows_ask : (text rest line after : List ℕ) (rows : List RowView) (n : ℕ) (row : RowView) → IsRowsTo text rest rows n → parts 10 rest ≡ line ∷ parts 10 after
     → length after < length rest → Spells line (RowLine row) → has_id row.id rows ≡ false → ProblemAsksForMemory text
 rows_ask text rest line after rows n row r cut shorter s new =
@@ -238,7 +238,7 @@ row_taken (Ok done) old new line row t s = (row, s, t)
 row_taken (Err (Fault bad)) old new line row t s = λ m n. ap (next old) (spelled_once line (RowLine m) (RowLine row) n s) ∙ t.0
 row_taken (Err Memory) old new line row t s = (row, s, t.1)
 
--- a row's line for which there is no memory
+-- a row's line whose row could not be allocated
 pub row_refused : (why : OrMemory BadLine) (d : DraftView) (line : List ℕ) (row : RowView) → Spells line (RowLine row) → TakesLine (Err why) d line d → TakesRow (Err why) d line d
 row_refused (Fault bad) d line row s t = λ m n. t (RowLine m) n
 row_refused Memory d line row s t = (row, s, subst (λ (l : LineView). IsSome (next d l)) (spelled_once line t.0 (RowLine row) t.1 s) t.3)
@@ -264,7 +264,7 @@ pub not_false : (b : Bool) → false ≡ not b → true ≡ b
 not_false true e = refl
 not_false false e = absurd (cc)
 
--- where the text stands for rows, those were read, unless memory ran out
+-- where the text stands for rows, those were read, unless an allocation failed
 pub is_problem_read : (text : List ℕ) (r : Result (List RowView) (OrMemory BadText)) → IfOk r (λ rows. IsProblemText text rows) → IfErr r (λ e. IsProblemError text e)
     → (rows : List RowView) → IsProblemText text rows → IsProblemRead r rows
 is_problem_read text (Ok own) ok bad rows t = one_problem text own rows ok t

@@ -16,7 +16,7 @@ line_taken (Ok done) old new line l t s = (l, s, t)
 line_taken (Err (Fault bad)) old new line l t s = λ m n. ap (next old) (spelled_once line m l n s) ∙ t.0
 line_taken (Err Memory) old new line l t s = (l, s, t.0, t.1)
 
--- a row's line for which there is no memory: it can follow, or it can't
+-- a row's line whose row could not be allocated: it can follow, or it can't
 pub row_lacks : (d : DraftView) (line id : List ℕ) (row : RowView) → Spells line (RowLine row) → id ≡ row.id → takes_row id d ≡ true → TakesLine (Err Memory) d line d
 row_lacks d line id row s e h = (RowLine row, s, tt, row_some d row (ap (λ i. takes_row i d) (sym e) ∙ h))
 

@@ -24,7 +24,7 @@ pub record IsFirstBadProblemLine (text : List ℕ) (n : ℕ) : Type 0 where
   pub cannot : (after ≡ []) ⊎ (CanBeginProblem (before ++ line ∷ []) → ⊥)
   pub no_text : (rows : List RowView) → IsProblemText text rows → ⊥
 
--- the text has a row's line, and some problem begins with the lines before it and this one: so memory is asked for only at a
+-- the text has a row's line, and some problem begins with the lines before it and this one: so it allocates only at a
 -- line that can follow
 pub record ProblemAsksForMemory (text : List ℕ) : Type 0 where
   pub before : List (List ℕ)
@@ -36,11 +36,11 @@ pub record ProblemAsksForMemory (text : List ℕ) : Type 0 where
   pub spelled : Spells line (RowLine row)
   pub begun : CanBeginProblem (before ++ line ∷ [])
 
--- the error names the first line that can't follow, or memory ran out at a line before
+-- the error names the first line that can't follow, or an allocation failed at a line before
 abbrev pub IsProblemError : List ℕ → OrMemory BadText → Type 0
 IsProblemError text Memory = ProblemAsksForMemory text
 IsProblemError text (Fault bad) = IsFirstBadProblemLine text bad.line
 
--- these rows were read, unless memory ran out
+-- these rows were read, unless an allocation failed
 abbrev pub IsProblemRead : Result (List RowView) (OrMemory BadText) → List RowView → Type 0
 IsProblemRead result rows = MatchResult result (λ own. own ≡ rows) (λ e. e ≡ Memory)

@@ -10,7 +10,7 @@ use Rattle.certificate_text.specs.Parts.{parts}
 use Rattle.certificate_text.specs.Takes.{TakesRoom}
 
 -- the text has a line of which something is kept, and some certificate begins with the lines before it and this one: so
--- memory is asked for only at a line that can follow
+-- it allocates only at a line that can follow
 pub record AsksForMemory (text : List ℕ) : Type 0 where
   pub before : List (List ℕ)
   pub line : List ℕ
@@ -22,11 +22,11 @@ pub record AsksForMemory (text : List ℕ) : Type 0 where
   pub kept : TakesRoom said
   pub begun : CanBegin (before ++ line ∷ [])
 
--- the error names the first line that can't follow, or memory ran out at a line before
+-- the error names the first line that can't follow, or an allocation failed at a line before
 abbrev pub IsTextError : List ℕ → OrMemory BadText → Type 0
 IsTextError text Memory = AsksForMemory text
 IsTextError text (Fault bad) = IsFirstBadLine text bad.line
 
--- this certificate was read, unless memory ran out
+-- this certificate was read, unless an allocation failed
 abbrev pub IsRead : Result Certificate (OrMemory BadText) → Certificate → Type 0
 IsRead result c = MatchResult result (λ d. d ≡ c) (λ e. e ≡ Memory)

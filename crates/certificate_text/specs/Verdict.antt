@@ -23,12 +23,12 @@ IsVerdict text verdict = SaysThat text (λ c. IsProvedCertificate c verdict)
 abbrev pub SaysLeast : List ℕ → Verdict → Type 0
 SaysLeast text verdict = SaysThat text (λ c. IsBest c verdict)
 
--- the text stands for no certificate, or for one that has this fault, or memory ran out at one of its lines
+-- the text stands for no certificate, or for one that has this fault, or an allocation failed at one of its lines
 abbrev pub IsVerdictError : List ℕ → OrMemory VerdictFault → Type 0
 IsVerdictError text Memory = AsksForMemory text
 IsVerdictError text (Fault (BadText bad)) = IsFirstBadLine text bad.line
 IsVerdictError text (Fault (Check fault)) = SaysThat text (IsFaultOf fault)
 
--- this was answered, unless memory ran out
+-- this was answered, unless an allocation failed
 abbrev pub IsAnswered : Result Verdict (OrMemory VerdictFault) → Verdict → Type 0
 IsAnswered result verdict = MatchResult result (λ v. v ≡ verdict) (λ e. e ≡ Memory)

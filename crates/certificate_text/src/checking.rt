@@ -12,9 +12,9 @@ use std::alloc::Global;
 pub enum VerdictFault {
     /// E77: the text is no certificate's.
     BadText(BadText),
-    /// The certificate is refused: `BadProblem` (E70) where weights count moves and one is more than one move, then the first cause as
-    /// [`check_plan`](certificate::check_plan) or [`check_shortage`](certificate::check_shortage) words it, then `Gap` (E75)
-    /// where the written total isn't the plan's cost.
+    /// The certificate is refused: `BadProblem` (E70) where weights count moves and one is more than one move, then the
+    /// first cause as [`check_plan`](certificate::check_plan) or [`check_shortage`](certificate::check_shortage) words it,
+    /// then `Gap` (E75, the duality gap) where the written total isn't the plan's cost.
     Check(CheckFault),
 }
 
@@ -31,9 +31,9 @@ pub fn check_text(alloc: Global, text: &[u8]) -> Result<Verdict, OrMemory<Verdic
     // Hence no plan of the text's rows costs less, and in version 2 none is nearer and none as near moves fewer CPUs; or
     // they have none, whoever wrote the text.
     ensures least { IfOk result (λ v. SaysLeast text.now v) }
-    // A yes wherever that holds, unless memory runs out.
+    // A yes wherever that holds, unless an allocation failed.
     ensures complete { (v : Verdict) → IsVerdict text.now v → IsAnswered result v }
-    // A no: the first bad line, or the certificate's first fault, whose cause stands; or memory ran out at a line, and
+    // A no: the first bad line, or the certificate's first fault, whose cause stands; or an allocation failed at a line, and
     // those before it were in order.
     ensures fault { IfErr result (λ e. IsVerdictError text.now e) }
 {

@@ -1,4 +1,4 @@
-//! Laws over the definitions alone: nothing here runs.
+//! How the texts of certificates and problems are read and written: laws over the definitions alone. Nothing here runs.
 ghost use Rattle.std.specs.Prelude.{◌≡◌};
 ghost use Rattle.certificate_text.specs.CertificateText.{OneCertificate};
 ghost use Rattle.certificate_text.specs.FirstBadLine.{OneBadLine};

@@ -19,7 +19,7 @@ use cpu_set::IdSet;
 use faults::OrMemory;
 use std::alloc::Global;
 
-/// ID DEMAND, and offers. Memory is wanted only for words that spell a row.
+/// ID DEMAND, and offers. It allocates only for words that spell a row.
 pub fn read_row(alloc: Global, text: &[u8]) -> Result<Row, OrMemory<BadLine>>
     ensures ok { IfOk result (λ row. AreRowWords (words text.now) row) }
     ensures bad { OnBad result ((row : RowView) → AreRowWords (words text.now) row → ⊥) }

@@ -25,7 +25,7 @@ fn read_offer(word: &[u8]) -> Option<Offer>
     Some(Offer { weight, cpus })
 }
 
-/// The offers that the words of the text spell, one each. Where memory runs out the other words are read all the same, so
+/// The offers that the words of the text spell, one each. Where an allocation fails the other words are read all the same, so
 /// that a bad one is told as such.
 pub fn read_offers(alloc: Global, text: &[u8]) -> Result<Offers, OrMemory<BadLine>>
     ensures ok { IfOk result (λ offers. AllZip IsOfferWord (words text.now) offers) }
@@ -51,7 +51,7 @@ pub fn read_offers(alloc: Global, text: &[u8]) -> Result<Offers, OrMemory<BadLin
     Ok(offers)
 }
 
-/// Adds an offer, unless memory for one was lacking before; says whether it was, or is for this one.
+/// Adds an offer, unless the allocation of one failed before; says whether it was, or is for this one.
 fn add(offers: &mut Offers, offer: Offer, lacks: bool) -> bool
     ensures { result ≡ false → (lacks ≡ false) × (offers.new ≡ offers.old ++ offer ∷ []) }
 {

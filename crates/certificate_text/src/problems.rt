@@ -22,14 +22,14 @@ use std::alloc::Global;
 /// O(b + r log r) of b bytes and r rows.
 ///
 /// # Errors
-/// Lack of memory, and [`BadText`] where the text is no problem's. The line that wants memory and those before it are
-/// in order, so the first bad line is told as such unless memory ran out before it.
+/// An allocation failure, and [`BadText`] where the text is no problem's. The line at which it fails and those before it are
+/// in order, so the first bad line is told as such unless an allocation failed before it.
 pub fn read_problem(alloc: Global, text: &[u8]) -> Result<Problem, OrMemory<BadText>>
     // What is read is what the text stands for,
     ensures ok { IfOk result (λ problem. IsProblemText text.now problem) }
     // what the text stands for is read,
     ensures complete { (rows : List RowView) → IsProblemText text.now rows → IsProblemRead result rows }
-    // and where it stands for nothing, or memory runs out, this says at which line.
+    // and where it stands for nothing, or an allocation fails, this says at which line.
     ensures error { IfErr result (λ e. IsProblemError text.now e) }
 {
     read_problem_body(alloc, text)

@@ -34,14 +34,14 @@ impl Fault for BadText {}
 /// O(b + r log r) of b bytes and r rows.
 ///
 /// # Errors
-/// Lack of memory, and [`BadText`] where the text is no certificate's. The line that wants memory and those before it are
-/// in order, so the first bad line is told as such unless memory ran out before it.
+/// An allocation failure, and [`BadText`] where the text is no certificate's. The line at which it fails and those before it are
+/// in order, so the first bad line is told as such unless an allocation failed before it.
 pub fn read_text(alloc: Global, text: &[u8]) -> Result<Certificate, OrMemory<BadText>>
     // What is read is what the text stands for,
     ensures ok { IfOk result (λ c. IsText text.now c) }
     // what the text stands for is read,
     ensures complete { (c : Certificate) → IsText text.now c → IsRead result c }
-    // and where it stands for nothing, or memory runs out, this says at which line.
+    // and where it stands for nothing, or an allocation fails, this says at which line.
     ensures error { IfErr result (λ e. IsTextError text.now e) }
 {
     read_text_body(alloc, text)
@@ -87,7 +87,7 @@ fn take_line<'a>(
     }
 }
 
-/// What stands against a row's line for which there is no memory: that it can't follow, or else that.
+/// What stands against a row's line whose row could not be allocated: that it can't follow, or else that.
 pub(crate) fn row_fault(draft: &Draft<'_>, line: &[u8]) -> OrMemory<BadLine>
     requires { (row : RowView) × Spells line.now (RowLine row) }
     ensures { TakesLine (Err result) draft.now line.now draft.now }

@@ -222,7 +222,7 @@ fn write_text_body<W: Write>(certificate: &Certificate, w: &mut W) -> io::Result
     }
 }
 
-/// Writes the certificate as a text, which [`read_text`](crate::read_text) reads again. It takes no memory.
+/// Writes the certificate as a text, which [`read_text`](crate::read_text) reads again. It allocates nothing.
 ///
 /// # Errors
 /// As [`put`]: where it fails, a prefix of the text went out.

@@ -43,13 +43,13 @@ Happens old (WentOffline cpu r) new = GoesOffline old cpu r new
 Happens old (CameOnline cpu r) new = ComesOnline old cpu r new
 
 -- what a write asked of the files, the newest first: where it is Ok this, which was done; where it failed this, which was refused,
--- or nothing, for want of memory; and nothing where something stood against it
+-- or nothing, where an allocation failed; and nothing where something stood against it
 abbrev pub IsAsked : {A : Type 0} → Deed → Result A KernelFault → List Asked → Type 0
 IsAsked deed (Ok value) these = these ≡ done deed ∷ []
 IsAsked deed (Err Failed) these = (these ≡ refused deed ∷ []) ⊎ (these ≡ [])
 IsAsked deed (Err fault) these = these ≡ []
 
--- of a new group: the first and then the second, and the third where the model had no memory for it
+-- of a new group: the first and then the second, and the third where its allocation in the model failed
 abbrev pub AreAsked : {A : Type 0} → Deed → Deed → Deed → Result A (OrMemory KernelFault) → List Asked → Type 0
 AreAsked first then undone (Ok value) these = these ≡ done then ∷ done first ∷ []
 AreAsked first then undone (Err Memory) these =

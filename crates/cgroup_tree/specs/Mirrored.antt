@@ -12,13 +12,13 @@ use Rattle.cgroup_tree.specs.Paths.{IsName}
 abbrev pub mirrored : ℕ → KernelState → KernelState
 mirrored n k = record k { failures = k.failures + n; writes = k.writes + n }
 
--- a group that was made, or for which the model alone had no memory, has a name that a folder may have
+-- a group that was made, or whose allocation in the model alone failed, has a name that a folder may have
 abbrev pub IsNamed : {A : Type 0} → List ℕ → Result A (OrMemory KernelFault) → Type 0
 IsNamed name (Err (Fault fault)) = ⊤
 IsNamed name answer = IsName name
 
 module _ {F : Type 0} (asked : F → List Asked → Type 0) (old : F) where
-  -- this alone was asked for and done, or it was refused, or memory was short before it was asked for
+  -- this alone was asked for and done, or it was refused, or an allocation failed before it was asked for
   abbrev pub Tries : {E : Type 0} → Deed → Result (Unit {0}) E → F → Type 0
   Tries deed (Ok value) new = Asks asked old (done deed ∷ []) new
   Tries deed (Err error) new = Asks asked old (refused deed ∷ []) new ⊎ Asks asked old [] new
@@ -29,21 +29,21 @@ module _ {F : Type 0} (asked : F → List Asked → Type 0) (old : F) where
   TriesWhere None deed (Err error) new = ⊥
   TriesWhere (Some place) deed answer new = Tries deed answer new
 
-  -- what the kernel answers: where it is Ok this was asked for and done; where it failed it was refused, or memory was
-  -- short before it was asked for; and where something stood against it, nothing was asked for
+  -- what the kernel answers: where it is Ok this was asked for and done; where it failed it was refused, or an
+  -- allocation failed before it was asked for; and where something stood against it, nothing was asked for
   abbrev pub Mirrors : {A : Type 0} → Deed → Result A KernelFault → F → Type 0
   Mirrors deed (Ok value) new = Asks asked old (done deed ∷ []) new
   Mirrors deed (Err Failed) new = Asks asked old (refused deed ∷ []) new ⊎ Asks asked old [] new
   Mirrors deed (Err fault) new = Asks asked old [] new
 
   -- a folder is made once this was done, as its parent has to pass the controller on; or the one or the other was refused,
-  -- or memory was short before
+  -- or an allocation failed before
   abbrev pub TriesBoth : {A E : Type 0} → Deed → Deed → Result A E → F → Type 0
   TriesBoth first then (Ok value) new = Asks asked old (done then ∷ done first ∷ []) new
   TriesBoth first then (Err error) new =
       Asks asked old (refused then ∷ done first ∷ []) new ⊎ Asks asked old (refused first ∷ []) new ⊎ Asks asked old [] new
 
-  -- the same of what the kernel answers; the folder that was made is removed again where the model has no memory for its group
+  -- the same of what the kernel answers; the folder that was made is removed again where the allocation of its group in the model fails
   abbrev pub MirrorsBoth : {A : Type 0} → Deed → Deed → Deed → Result A (OrMemory KernelFault) → F → Type 0
   MirrorsBoth first then undone (Ok value) new = Asks asked old (done then ∷ done first ∷ []) new
   MirrorsBoth first then undone (Err Memory) new =

@@ -106,7 +106,7 @@ pub fn make_folder<F: GroupFiles>(
     Ok(path)
 }
 
-/// Looks whether what a group has in effect is what the kernel's model says, where there is memory for that.
+/// Looks whether what a group has in effect is what the kernel's model says, where no allocation for that fails.
 pub fn compare_list<F: GroupFiles>(
     alloc: Global,
     folders: &mut F,

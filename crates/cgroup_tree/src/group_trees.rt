@@ -23,7 +23,7 @@ pub trait GroupTrees {
     /// What a file has, or none where it is not there.
     ///
     /// # Errors
-    /// Those of the system, and lack of memory.
+    /// Those of the system, and an allocation failure.
     fn read(&self, alloc: Global, path: &str) -> io::Result<Option<Vec<u8>>>;
 
     /// Names to the operator each folder in this one.

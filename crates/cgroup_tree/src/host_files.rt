@@ -43,17 +43,25 @@ impl<R: Files + Alloc + Clock + Eprint> HostFiles<'_, R> {
     fn differs(&self, path: &str, text: &[u8], line: &[u8]) {
         if let (Ok(text), Ok(line)) = (str::from_utf8(text), str::from_utf8(line)) {
             let (text, line) = (text.trim_end(), line.trim_end());
+            let text = if text.is_empty() { "nothing" } else { text };
             let _ = eprintln!(self.rt; "error: {path}: {text} in place of {line}");
         }
     }
 
-    /// Writes the whole text at once: the kernel takes each write for a whole value.
+    /// Writes the whole text at once, since the kernel takes each write for a whole value; again where a signal came before it.
     fn write(&self, path: &str, text: &[u8]) -> io::Result<()> {
         let mut file = OpenOptions::new().write(true).open(self.rt, path)?;
-        if file.write(text)? < text.len() {
-            return Err(io::Error::from(ErrorKind::WriteZero));
+        for _ in 0..u64::MAX {
+            match file.write(text) {
+                Err(error) if error.kind() == ErrorKind::Interrupted => {}
+                Err(error) => return Err(error),
+                Ok(count) if count < text.len() => {
+                    return Err(io::Error::from(ErrorKind::WriteZero));
+                }
+                Ok(_) => return Ok(()),
+            }
         }
-        Ok(())
+        Err(io::Error::from(ErrorKind::Interrupted))
     }
 
     /// Whether the folder that a file is in is gone.
@@ -61,7 +69,12 @@ impl<R: Files + Alloc + Clock + Eprint> HostFiles<'_, R> {
         let Some((folder, _)) = path.rsplit_once('/') else {
             return false;
         };
-        matches!(fs::exists(self.rt, folder), Ok(false))
+        self.is_absent(folder)
+    }
+
+    /// Whether there is nothing under this path, or a link to nothing.
+    fn is_absent(&self, path: &str) -> bool {
+        matches!(fs::exists(self.rt, path), Ok(false))
     }
 
     /// Whether this is the file of a folder of links, which needs none.
@@ -107,9 +120,10 @@ impl<R: Files + Alloc + Clock + Eprint> GroupFiles for HostFiles<'_, R> {
             Ok(()) => Ok(()),
             Err(error) => {
                 self.note(path, &error);
-                match error.kind() {
-                    ErrorKind::NotFound => Ok(()),
-                    _ => Err(error),
+                if error.kind() == ErrorKind::NotFound || self.is_absent(path) {
+                    Ok(())
+                } else {
+                    Err(error)
                 }
             }
         }

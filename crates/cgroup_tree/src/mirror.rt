@@ -75,12 +75,9 @@ impl<F: GroupFiles> Mirror<F> {
         self.failed = self.failed.one_more();
         KernelFault::Failed
     }
-}
 
-impl<F: GroupFiles> Kernel for Mirror<F> {
-    ghost state = { λ k. mirrored k.failed.writes k.inner };
-
-    fn make_group(&mut self, parent: Group, name: &str) -> Result<Group, OrMemory<KernelFault>>
+    /// Makes a group, once the files have made its folder; that is removed again where its allocation in the model fails.
+    pub fn make_group(&mut self, parent: Group, name: &str) -> Result<Group, OrMemory<KernelFault>>
         ensures case { MakesGroup (mirrored self.old.failed.writes self.old.inner) parent name.now result (mirrored self.new.failed.writes self.new.inner) }
         ensures asks { MirrorsBoth F.asked self.old.folders
             (Written (string_bytes self.old.root ++ (folder self.old.inner.tree parent ++ controls_file)) controls_line)
@@ -109,7 +106,8 @@ impl<F: GroupFiles> Kernel for Mirror<F> {
         answer
     }
 
-    fn remove_group(&mut self, group: Group) -> Result<(), KernelFault>
+    /// Removes a group, once the files have removed its folder.
+    pub fn remove_group(&mut self, group: Group) -> Result<(), KernelFault>
         ensures case { RemovesGroup (mirrored self.old.failed.writes self.old.inner) group result (mirrored self.new.failed.writes self.new.inner) }
         ensures asks { Mirrors F.asked self.old.folders
             (Removed (string_bytes self.old.root ++ (folder self.old.inner.tree group ++ []))) result self.new.folders }
@@ -126,7 +124,8 @@ impl<F: GroupFiles> Kernel for Mirror<F> {
         answer
     }
 
-    fn write_cpus(&mut self, group: Group, cpus: IdSet) -> Result<(), KernelFault>
+    /// Writes what a group requests of CPUs, and looks whether it has them in effect.
+    pub fn write_cpus(&mut self, group: Group, cpus: IdSet) -> Result<(), KernelFault>
         ensures case { WritesCpus (mirrored self.old.failed.writes self.old.inner) group cpus result (mirrored self.new.failed.writes self.new.inner) }
         ensures asks { Mirrors F.asked self.old.folders
             (Written (string_bytes self.old.root ++ (folder self.old.inner.tree group ++ cpus_file)) (list_line cpus)) result self.new.folders }
@@ -147,7 +146,9 @@ impl<F: GroupFiles> Kernel for Mirror<F> {
         }
         let answer = self.inner.write_cpus(group, cpus);
         self.inner.never_fails();
-        if let Ok(ids) = self.inner.effective_cpus(group) {
+        if answer.is_ok()
+            && let Ok(ids) = self.inner.effective_cpus(group)
+        {
             let (root, kernel) = (self.root.as_str(), &self.inner);
             compare_list(
                 self.alloc,
@@ -156,13 +157,14 @@ impl<F: GroupFiles> Kernel for Mirror<F> {
                 kernel,
                 group,
                 CPUS_IN_EFFECT,
-                ids,
+                &ids,
             );
         }
         answer
     }
 
-    fn write_mems(&mut self, group: Group, mems: IdSet) -> Result<(), KernelFault>
+    /// Writes what a group requests of nodes, of which the files get those that have memory.
+    pub fn write_mems(&mut self, group: Group, mems: IdSet) -> Result<(), KernelFault>
         ensures case { WritesMems (mirrored self.old.failed.writes self.old.inner) group mems result (mirrored self.new.failed.writes self.new.inner) }
         ensures asks { Mirrors F.asked self.old.folders
             (Written (string_bytes self.old.root ++ (folder self.old.inner.tree group ++ mems_file)) (list_line (granted mems self.old.memory))) result self.new.folders }
@@ -187,15 +189,16 @@ impl<F: GroupFiles> Kernel for Mirror<F> {
         answer
     }
 
-    fn spawn(&mut self, group: Group) -> Result<u32, OrMemory<KernelFault>>
+    /// A first process, of which nothing is asked.
+    pub fn spawn(&mut self, group: Group) -> Result<u32, OrMemory<KernelFault>>
         ensures case { Spawns (mirrored self.old.failed.writes self.old.inner) group result (mirrored self.new.failed.writes self.new.inner) }
         ensures same { (self.new.root ≡ self.old.root) × (self.new.memory ≡ self.old.memory) × (self.new.folders ≡ self.old.folders) }
     {
         self.inner.spawn(group)
     }
 
-    /// The root's processes are not ended: its folder has no file for that.
-    fn end_group(&mut self, group: Group) -> Result<(), KernelFault>
+    /// Ends a group's processes. Those of the root are left: its folder has no file for that.
+    pub fn end_group(&mut self, group: Group) -> Result<(), KernelFault>
         ensures case { EndsGroup (mirrored self.old.failed.writes self.old.inner) group result (mirrored self.new.failed.writes self.new.inner) }
         ensures asks { Mirrors F.asked self.old.folders
             (Written (string_bytes self.old.root ++ (folder self.old.inner.tree group ++ kill_file)) kill_line) result self.new.folders }
@@ -216,64 +219,32 @@ impl<F: GroupFiles> Kernel for Mirror<F> {
         answer
     }
 
-    fn root(&self) -> Group {
-        self.inner.root()
-    }
-
-    fn find_group(&self, parent: Group, name: &str) -> Result<Option<Group>, KernelFault> {
-        self.inner.find_group(parent, name)
-    }
-
-    fn requested_cpus(&self, group: Group) -> Result<&IdSet, KernelFault> {
-        self.inner.requested_cpus(group)
-    }
-
-    fn effective_cpus(&self, group: Group) -> Result<&IdSet, KernelFault> {
-        self.inner.effective_cpus(group)
-    }
-
-    fn requested_mems(&self, group: Group) -> Result<&IdSet, KernelFault> {
-        self.inner.requested_mems(group)
-    }
-
-    fn effective_mems(&self, group: Group) -> Result<&IdSet, KernelFault> {
-        self.inner.effective_mems(group)
-    }
-
-    fn online(&self) -> IdSet {
-        self.inner.online()
-    }
-
-    fn nodes(&self) -> IdSet {
-        self.inner.nodes()
-    }
-
-    fn first_alive(&self, pid: u32) -> bool {
-        self.inner.first_alive(pid)
-    }
-
-    fn fork(&mut self, parent: u32) -> Result<u32, OrMemory<KernelFault>>
+    /// A process forks; nothing is asked.
+    pub fn fork(&mut self, parent: u32) -> Result<u32, OrMemory<KernelFault>>
         ensures case { Forks (mirrored self.old.failed.writes self.old.inner) parent result (mirrored self.new.failed.writes self.new.inner) }
         ensures same { (self.new.root ≡ self.old.root) × (self.new.memory ≡ self.old.memory) × (self.new.folders ≡ self.old.folders) }
     {
         self.inner.fork(parent)
     }
 
-    fn exit(&mut self, pid: u32) -> Result<(), KernelFault>
+    /// A process ends; nothing is asked.
+    pub fn exit(&mut self, pid: u32) -> Result<(), KernelFault>
         ensures case { Exits (mirrored self.old.failed.writes self.old.inner) pid result (mirrored self.new.failed.writes self.new.inner) }
         ensures same { (self.new.root ≡ self.old.root) × (self.new.memory ≡ self.old.memory) × (self.new.folders ≡ self.old.folders) }
     {
         self.inner.exit(pid)
     }
 
-    fn offline(&mut self, cpu: u32) -> Result<(), KernelFault>
+    /// A CPU goes offline; nothing is asked.
+    pub fn offline(&mut self, cpu: u32) -> Result<(), KernelFault>
         ensures case { GoesOffline (mirrored self.old.failed.writes self.old.inner) cpu result (mirrored self.new.failed.writes self.new.inner) }
         ensures same { (self.new.root ≡ self.old.root) × (self.new.memory ≡ self.old.memory) × (self.new.folders ≡ self.old.folders) }
     {
         self.inner.offline(cpu)
     }
 
-    fn online_cpu(&mut self, cpu: u32) -> Result<(), KernelFault>
+    /// A CPU comes online; nothing is asked.
+    pub fn online_cpu(&mut self, cpu: u32) -> Result<(), KernelFault>
         ensures case { ComesOnline (mirrored self.old.failed.writes self.old.inner) cpu result (mirrored self.new.failed.writes self.new.inner) }
         ensures same { (self.new.root ≡ self.old.root) × (self.new.memory ≡ self.old.memory) × (self.new.folders ≡ self.old.folders) }
     {

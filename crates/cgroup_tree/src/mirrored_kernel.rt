@@ -18,7 +18,7 @@ use std::marker::Model;
 /// A modelled kernel whose writes are made in a cgroup v2 tree first.
 ///
 /// A write that the model would refuse is asked of nobody. Each other is asked for once, and where that is refused, or
-/// memory is short before, the call is a write that failed: the model is as it was. A first process is made in the model
+/// an allocation failed before it, the call is a write that failed: the model is as it was. A first process is made in the model
 /// alone.
 ///
 /// At each time all that was asked of the files is what the calls of this kernel stand for, in their order; and where
@@ -140,39 +140,39 @@ impl<F: GroupFiles> Kernel for MirroredKernel<F> {
     }
 
     fn root(&self) -> Group {
-        self.mirror.root()
+        self.mirror.inner.root()
     }
 
     fn find_group(&self, parent: Group, name: &str) -> Result<Option<Group>, KernelFault> {
-        self.mirror.find_group(parent, name)
+        self.mirror.inner.find_group(parent, name)
     }
 
     fn requested_cpus(&self, group: Group) -> Result<&IdSet, KernelFault> {
-        self.mirror.requested_cpus(group)
+        self.mirror.inner.requested_cpus(group)
     }
 
-    fn effective_cpus(&self, group: Group) -> Result<&IdSet, KernelFault> {
-        self.mirror.effective_cpus(group)
+    fn effective_cpus(&self, group: Group) -> Result<IdSet, KernelFault> {
+        self.mirror.inner.effective_cpus(group)
     }
 
     fn requested_mems(&self, group: Group) -> Result<&IdSet, KernelFault> {
-        self.mirror.requested_mems(group)
+        self.mirror.inner.requested_mems(group)
     }
 
-    fn effective_mems(&self, group: Group) -> Result<&IdSet, KernelFault> {
-        self.mirror.effective_mems(group)
+    fn effective_mems(&self, group: Group) -> Result<IdSet, KernelFault> {
+        self.mirror.inner.effective_mems(group)
     }
 
     fn online(&self) -> IdSet {
-        self.mirror.online()
+        self.mirror.inner.online()
     }
 
     fn nodes(&self) -> IdSet {
-        self.mirror.nodes()
+        self.mirror.inner.nodes()
     }
 
     fn first_alive(&self, pid: u32) -> bool {
-        self.mirror.first_alive(pid)
+        self.mirror.inner.first_alive(pid)
     }
 
     fn fork(&mut self, parent: u32) -> Result<u32, OrMemory<KernelFault>> {

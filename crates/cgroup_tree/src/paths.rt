@@ -24,7 +24,7 @@ fn push_folder(kernel: &ModelKernel, group: Group, text: &mut String) -> Result<
 /// The path of a file in the folder of a group.
 ///
 /// # Errors
-/// Lack of memory.
+/// An allocation failure.
 pub fn path_of(
     alloc: Global,
     root: &str,
@@ -43,7 +43,7 @@ pub fn path_of(
 /// A set as a line.
 ///
 /// # Errors
-/// Lack of memory.
+/// An allocation failure.
 pub fn line_of(alloc: Global, ids: &IdSet) -> Result<String, AllocError>
     ensures { IfOk result (λ line. string_bytes line ≡ list_line ids.now) }
 {
@@ -55,7 +55,7 @@ pub fn line_of(alloc: Global, ids: &IdSet) -> Result<String, AllocError>
 /// The path of the folder that a name has in the folder of a group.
 ///
 /// # Errors
-/// Lack of memory.
+/// An allocation failure.
 pub fn path_below(
     alloc: Global,
     root: &str,

@@ -21,13 +21,14 @@ const GROUP: &str = "/numarun";
 /// Why a tree is not taken.
 #[derive(Clone, Copy, Debug, PartialEq, Eq)]
 pub enum RootFault {
-    /// E1: there was no memory.
+    /// E1: an allocation failed.
     Memory,
     /// E113: the root is no folder, or a file of it can't be read.
     Unread(ErrorKind),
     /// E115: its groups can't have cpusets of their own: `cgroup.controllers` is there and does not name `cpuset`.
     NoCpuset,
-    /// E116: its CPUs in effect are there and are not those that are online, or a node in effect is none of the machine's.
+    /// E116: what says its CPUs in effect is there and names others than those that are online, or a node in effect is none of
+    /// the machine's; so is what is no list.
     OtherMachine,
 }
 
@@ -77,7 +78,7 @@ pub fn memory_of<T: GroupTrees>(
     }
     let memory = match read_below(alloc, trees, root, MEMS_IN_EFFECT)? {
         None => *nodes,
-        Some(text) => set_in(text.as_slice()).unwrap_or(*nodes),
+        Some(text) => set_in(text.as_slice()).ok_or(RootFault::OtherMachine)?,
     };
     if !memory.is_subset(nodes) {
         return Err(RootFault::OtherMachine);

@@ -7,7 +7,7 @@ use Rattle.certificate_text.specs.Verdict.{IsVerdict, IsVerdictError}
 use Rattle.certificate_text.specs.declared.checking.VerdictFault.{VerdictFault}
 use Rattle.certificate_text.specs.declared.checking.VerdictFault.TheVariants.{BadText, Check}
 use Rattle.cli.specs.CheckAnswer.{IsAnswerTo}
-use Rattle.inputs.specs.FaultRefusal.{verdict_refusal}
+use Rattle.program_io.specs.FaultRefusal.{verdict_refusal}
 
 pub refused : (text : List ℕ) (e : OrMemory VerdictFault) → IsVerdictError text e → ((w : Verdict) → IsVerdict text w → e ≡ Memory) → IsAnswerTo text (Err (verdict_refusal e))
 refused text Memory wrong complete = record { sound = wrong; complete = λ w p. refl }

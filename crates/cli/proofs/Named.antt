@@ -1,7 +1,7 @@
 -- The input of a name, which may be standard input.
 use Rattle.std.proofs.Common.{◌≡◌, ◌∙◌, Bool, true, false, Option, None, Some, Bor, codes, inl, inr, option_map, refl, subst, sym, unwrap_or}
 use Rattle.clap.specs.Words.{Text}
-use Rattle.inputs.specs.Readings.{Reading, Reads}
+use Rattle.program_io.specs.Readings.{Reading, Reads}
 use Rattle.cli.specs.Asked.{word_bytes}
 use Rattle.cli.specs.Named.{name_of}
 

@@ -5,7 +5,7 @@ use Rattle.faults.specs.declared.or_memory.OrMemory.TheVariants.{Memory, Fault}
 use Rattle.certificate_text.specs.declared.checking.VerdictFault.{VerdictFault}
 use Rattle.certificate_text.specs.declared.checking.VerdictFault.TheVariants.{BadText, Check}
 use Rattle.cli.specs.SolveAnswer.{IsSolutionOf}
-use Rattle.inputs.specs.FaultRefusal.{verdict_refusal}
+use Rattle.program_io.specs.FaultRefusal.{verdict_refusal}
 use Rattle.solution.specs.Solves.{HasRows, IsUnsolved}
 
 pub unsolved : (text : List ℕ) (e : OrMemory VerdictFault) → IsUnsolved text e → (HasRows text true → e ≡ Memory) → IsSolutionOf text (Err (verdict_refusal e))

@@ -1,9 +1,9 @@
 -- What numarun answers to an input, and its exit status.
 use Rattle.std.specs.Prelude.{◌≡◌, ℕ, List, Result, Ok, Err}
-use Rattle.inputs.specs.FaultRefusal.{read_refusal}
-use Rattle.inputs.specs.Readings.{Reading}
-use Rattle.inputs.specs.RefusalLine.{refusal_line}
-use Rattle.inputs.specs.declared.refusal.Refusal.{Refusal}
+use Rattle.program_io.specs.FaultRefusal.{read_refusal}
+use Rattle.program_io.specs.Readings.{Reading}
+use Rattle.program_io.specs.RefusalLine.{refusal_line}
+use Rattle.program_io.specs.declared.refusal.Refusal.{Refusal}
 
 -- the text of what was found, or the refusal's line
 abbrev pub answer_text : {T : Type 0} → (T → List ℕ) → Result T Refusal → List ℕ

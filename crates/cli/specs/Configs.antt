@@ -2,7 +2,7 @@
 use Rattle.std.specs.Prelude.{◌≡◌, ◌⊎◌, ℕ, List, ◌++◌, Option, Some, None, Ok, Err, codes}
 use Rattle.std.specs.declared.io.ErrorKind.{ErrorKind}
 use Rattle.faults.specs.declared.or_memory.OrMemory.TheVariants.{Memory, Fault}
-use Rattle.inputs.specs.Readings.{Reading}
+use Rattle.program_io.specs.Readings.{Reading}
 
 -- where its config is (OCI Runtime Specification 1.0.2, bundle.md)
 abbrev pub config_path : List ℕ → List ℕ

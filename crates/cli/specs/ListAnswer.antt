@@ -5,8 +5,8 @@ use Rattle.cpu_set.specs.declared.TheConstants.{CPU_LIMIT}
 use Rattle.cpu_list.specs.CanonicalList.{list_text}
 use Rattle.cpu_list.specs.FirstFault.{first_fault}
 use Rattle.cpu_list.specs.ListText.{IsSetOf}
-use Rattle.inputs.specs.declared.refusal.Refusal.{Refusal}
-use Rattle.inputs.specs.declared.refusal.Refusal.TheVariants as refusal
+use Rattle.program_io.specs.declared.refusal.Refusal.{Refusal}
+use Rattle.program_io.specs.declared.refusal.Refusal.TheVariants as refusal
 
 -- the set of the text, or the first fault of one that is no list
 abbrev pub IsSetOrRefusal : List ℕ → Result Ids Refusal → Type 0

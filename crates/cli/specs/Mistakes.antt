@@ -13,12 +13,12 @@ abbrev pub mistakes : List Text → Kinds
 mistakes [] = []
 mistakes (word ∷ rest) = fault_of numarun (word ∷ rest)
 
--- the words failed by an error of a kind that they may fail by: memory ran out, or they have a mistake of this kind
+-- the words failed by an error of a kind that they may fail by: an allocation failed, or they have a mistake of this kind
 abbrev pub HasCause : (ErrorKind → Type 0) → List Text → OrMemory Error → Type 0
 HasCause fails words Memory = fails kind.OutOfMemory
 HasCause fails words (Fault error) = IsAmong (kind_of error) (mistakes words) × fails (kind_of error)
 
--- lack of memory as the builder tells it, or any other of its errors
+-- an allocation failure as the builder tells it, or any other of its errors
 abbrev pub IsFaultOf : Error → OrMemory Error → Type 0
 IsFaultOf error Memory = kind_of error ≡ kind.OutOfMemory
 IsFaultOf error (Fault other) = (other ≡ error) × (kind_of error ≡ kind.OutOfMemory → ⊥)

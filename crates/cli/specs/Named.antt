@@ -1,7 +1,7 @@
 -- The input of a name, which may be standard input.
 use Rattle.std.specs.Prelude.{◌≡◌, true, false, Option, Some, None, bytes_eq, codes}
 use Rattle.clap.specs.Words.{Text}
-use Rattle.inputs.specs.Readings.{Reading}
+use Rattle.program_io.specs.Readings.{Reading}
 
 -- what the reading of the input of this name may answer: of standard input, or of a file
 abbrev pub reads_named : (Text → Reading → Type 0) → (Reading → Type 0) → Text → Reading → Type 0

@@ -1,12 +1,12 @@
 -- What standard error says beside an answer.
 use Rattle.std.specs.Prelude.{List, [], ℕ, Option, Some, None, Result, Ok, Err, bytes_eq, codes, if◌then◌else◌}
 use Rattle.clap.specs.Words.{Text}
-use Rattle.inputs.specs.ErrorLine.{error_line}
-use Rattle.inputs.specs.ReadFaults.{reason_of}
+use Rattle.program_io.specs.ErrorLine.{error_line}
+use Rattle.program_io.specs.ReadFaults.{reason_of}
 use Rattle.cli.specs.declared.note.Note.{Note}
-use Rattle.inputs.specs.declared.read_fault.ReadFault.{ReadFault}
-use Rattle.inputs.specs.declared.refusal.Refusal.{Refusal}
-use Rattle.inputs.specs.declared.refusal.Refusal.TheVariants as refusal
+use Rattle.program_io.specs.declared.read_fault.ReadFault.{ReadFault}
+use Rattle.program_io.specs.declared.refusal.Refusal.{Refusal}
+use Rattle.program_io.specs.declared.refusal.Refusal.TheVariants as refusal
 
 -- of an answer that can't be written
 abbrev pub unwritten_line : List ℕ

@@ -14,17 +14,17 @@ use Rattle.cli.specs.Asked.{Asked, asked_for, check, list, run, slit, solve}
 use Rattle.cli.specs.Mistakes.{mistakes}
 use Rattle.cli.specs.Named.{name_of, reads_named}
 use Rattle.cli.specs.Notes.{note_of, shown, standard_input, unread_line, unwritten_line}
-use Rattle.inputs.specs.Pages.{TakesIfRoom, contents_of}
-use Rattle.inputs.specs.Readings.{Reading, Reads}
+use Rattle.program_io.specs.Pages.{TakesIfRoom, contents_of}
+use Rattle.program_io.specs.Readings.{Reading, Reads}
 use Rattle.cli.specs.Ready.{SetsUp, refusal_of}
 use Rattle.cli.specs.Roots.{root_line, root_note}
-use Rattle.inputs.specs.RefusalLine.{refusal_line}
+use Rattle.program_io.specs.RefusalLine.{refusal_line}
 use Rattle.cli.specs.RunAnswer.{Plays, is_unread}
 use Rattle.cli.specs.Says.{Complains, Says}
 use Rattle.cli.specs.Tells.{Checks, Lists, Solves, Tabulates}
 use Rattle.cli.specs.declared.console.Console.{Console}
-use Rattle.inputs.specs.declared.read_fault.ReadFault.{ReadFault}
-use Rattle.inputs.specs.declared.refusal.Refusal.TheVariants as refusal
+use Rattle.program_io.specs.declared.read_fault.ReadFault.{ReadFault}
+use Rattle.program_io.specs.declared.refusal.Refusal.TheVariants as refusal
 use Rattle.cli.specs.declared.unready.Unready.{Unready}
 use Rattle.cli.specs.declared.unrooted.Unrooted.{Unrooted}
 use Rattle.cli.specs.declared.unready.Unready.TheVariants as unready
@@ -59,7 +59,7 @@ module _ {W E : Type 0} (out : W → Option (List ℕ)) (err : E → Option (Lis
   abbrev pub Refuses : Text → Option Text → Unready → Type 0
   Refuses machine table why = Says out err old new status (refusal_line (refusal_of why)) 1 (note_of (name_in machine table why) (refusal_of why))
 
-  -- there is no memory for a node
+  -- the allocation of a node failed
   abbrev pub LacksRoom : Type 0
   LacksRoom = Says out err old new status (refusal_line refusal.Memory) 1 []
 
@@ -69,7 +69,7 @@ module _ {W E : Type 0} (out : W → Option (List ℕ)) (err : E → Option (Lis
 
   -- the files that may be opened under a name, the errors by which that may fail, and what the reading of one may answer
   module _ {I : Type 0} (opens : Text → I → Type 0) (fails : Text → SystemKind → Type 0) (gives : I → Reading → Type 0) where
-    -- the script was run over a new node of the machine of these files, or there is no memory for it, or one of the files is refused
+    -- the script was run over a new node of the machine of these files, or its allocation failed, or one of the files is refused
     abbrev pub Scripts : Told → Option (List ℕ) → Option (List ℕ) → Text → Option Text → Type 0
     Scripts told script script' machine table =
         ((m : Layout) × SetsUp opens fails gives machine table (Ok m)
@@ -97,15 +97,15 @@ module _ {W E : Type 0} (out : W → Option (List ℕ)) (err : E → Option (Lis
   abbrev pub Explains : ErrorKind → Type 0
   Explains kind = (text : List ℕ) × (IsRequest kind → Says out err old new status text 0 []) × ((IsRequest kind → ⊥) → Complains out err old new status text)
 
-  -- memory is short for the words
+  -- an allocation for the words failed
   abbrev pub LacksMemory : Type 0
   LacksMemory = Says out err old new status (refusal_line refusal.Memory) 2 []
 
-  -- a mistake of this kind is explained, or there is no memory for its text
+  -- a mistake of this kind is explained, or an allocation for its text failed
   abbrev pub ExplainsOrLacks : Type 0 → ErrorKind → Type 0
   ExplainsOrLacks lacks kind = Explains kind ⊎ (lacks × LacksMemory)
 
-  -- the words are obeyed or explained, or there is no memory to parse them
+  -- the words are obeyed or explained, or an allocation failed while they were parsed
   abbrev pub Runs : (List Text → ErrorKind → Type 0) → Type 0 → (Asked → Type 0) → List Text → Type 0
   Runs fails lacks does words =
       ((mistakes words ≡ []) × does (asked_for words))

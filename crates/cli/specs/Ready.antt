@@ -5,12 +5,12 @@ use Rattle.machine.specs.Layout.{Layout}
 use Rattle.machine.specs.MachineOf.{machine_of, text_fault}
 use Rattle.slit.specs.Table.{Table}
 use Rattle.cli.specs.Answer.{AnswersInput}
-use Rattle.inputs.specs.FaultRefusal.{read_refusal}
-use Rattle.inputs.specs.Readings.{IsUnopened, Reading}
+use Rattle.program_io.specs.FaultRefusal.{read_refusal}
+use Rattle.program_io.specs.Readings.{IsUnopened, Reading}
 use Rattle.cli.specs.SlitAnswer.{IsTableOrRefusal}
-use Rattle.inputs.specs.declared.read_fault.ReadFault.{ReadFault}
-use Rattle.inputs.specs.declared.refusal.Refusal.{Refusal}
-use Rattle.inputs.specs.declared.refusal.Refusal.TheVariants as refusal
+use Rattle.program_io.specs.declared.read_fault.ReadFault.{ReadFault}
+use Rattle.program_io.specs.declared.refusal.Refusal.{Refusal}
+use Rattle.program_io.specs.declared.refusal.Refusal.TheVariants as refusal
 use Rattle.cli.specs.declared.unready.Unready.{Unready}
 use Rattle.cli.specs.declared.unready.Unready.TheVariants as unready
 use Rattle.faults.specs.declared.or_memory.OrMemory.{OrMemory}
@@ -19,7 +19,7 @@ abbrev pub refusal_of : Unready → Refusal
 refusal_of (unready.Machine why) = why
 refusal_of (unready.Slit why) = why
 
--- the machine that the text describes beside the table, or what is wrong with the text; lack of memory only where
+-- the machine that the text describes beside the table, or what is wrong with the text; an allocation failure only where
 -- no fault shows before it is read as JSON
 abbrev pub IsReady : Option Table → List ℕ → Result Layout Refusal → Type 0
 IsReady table text (Ok m) = machine_of table text ≡ Ok m

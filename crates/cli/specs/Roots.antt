@@ -1,8 +1,8 @@
 -- What is said where the root of a cgroup tree is refused.
 use Rattle.std.specs.Prelude.{ℕ, List, [], codes}
 use Rattle.clap.specs.Words.{Text}
-use Rattle.inputs.specs.RefusalLine.{refusal_line}
-use Rattle.inputs.specs.declared.refusal.Refusal.TheVariants as refusal
+use Rattle.program_io.specs.RefusalLine.{refusal_line}
+use Rattle.program_io.specs.declared.refusal.Refusal.TheVariants as refusal
 use Rattle.cli.specs.Notes.{note_of}
 use Rattle.cli.specs.declared.unrooted.Unrooted.{Unrooted}
 use Rattle.cli.specs.declared.unrooted.Unrooted.TheVariants as unrooted

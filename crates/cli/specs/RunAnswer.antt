@@ -6,9 +6,9 @@ use Rattle.runtime.specs.RuntimeState.{RuntimeState, Told}
 use Rattle.script.specs.Ends.{EndsBy}
 use Rattle.script.specs.declared.script_fault.ScriptFault.{ScriptFault}
 use Rattle.script.specs.declared.script_fault.ScriptFault.TheVariants as fault
-use Rattle.inputs.specs.ReadFaults.{IsTold}
-use Rattle.inputs.specs.declared.read_fault.ReadFault.{ReadFault}
-use Rattle.inputs.specs.declared.read_fault.ReadFault.TheVariants.{TooManyReads}
+use Rattle.program_io.specs.ReadFaults.{IsTold}
+use Rattle.program_io.specs.declared.read_fault.ReadFault.{ReadFault}
+use Rattle.program_io.specs.declared.read_fault.ReadFault.TheVariants.{TooManyReads}
 
 -- why the script could not be read, or none where an answer could not be written
 abbrev pub is_unread : ScriptFault → Option ReadFault → Type 0

@@ -1,7 +1,7 @@
 -- What goes to the two streams of the program, and its exit status.
 use Rattle.std.specs.Prelude.{◌≡◌, ◌⊎◌, ℕ, List, Option}
 use Rattle.cli.specs.Notes.{unwritten_line}
-use Rattle.inputs.specs.Pages.{Sends, Takes, TakesIfRoom}
+use Rattle.program_io.specs.Pages.{Sends, Takes, TakesIfRoom}
 use Rattle.cli.specs.declared.console.Console.{Console}
 
 -- the two streams before and after, as far as their bytes are known, and the exit status

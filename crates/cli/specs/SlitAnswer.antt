@@ -4,8 +4,8 @@ use Rattle.std.specs.List.{flat_map, range_with_len}
 use Rattle.slit.specs.Describes.{Describes}
 use Rattle.slit.specs.SlitFaultOf.{slit_fault}
 use Rattle.slit.specs.Table.{Table, distance}
-use Rattle.inputs.specs.declared.refusal.Refusal.{Refusal}
-use Rattle.inputs.specs.declared.refusal.Refusal.TheVariants as refusal
+use Rattle.program_io.specs.declared.refusal.Refusal.{Refusal}
+use Rattle.program_io.specs.declared.refusal.Refusal.TheVariants as refusal
 
 -- an entry of a row, behind a space unless it is the first
 abbrev pub entry_text : ℕ → ℕ → List ℕ
@@ -19,7 +19,7 @@ row_text t i = flat_map (λ j. entry_text j (distance t i j)) (range_with_len 0 
 abbrev pub table_text : Table → List ℕ
 table_text t = (codes "localities " ++ (decimal t.localities ++ codes "\n")) ++ flat_map (row_text t) (range_with_len 0 t.localities)
 
--- the table that the bytes describe, or their first fault; lack of memory only where they have none
+-- the table that the bytes describe, or their first fault; an allocation failure only where they have none
 abbrev pub IsTableOrRefusal : List ℕ → Result Table Refusal → Type 0
 IsTableOrRefusal bytes (Ok t) = Describes bytes t
 IsTableOrRefusal bytes (Err (refusal.Slit fault)) = slit_fault bytes ≡ Some fault

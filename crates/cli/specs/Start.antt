@@ -3,10 +3,10 @@ use Rattle.std.specs.Prelude.{◌≡◌, ◌≢◌, ℕ, List, [], Option, codes
 use Rattle.std.specs.IoError.{error_kind}
 use Rattle.std.specs.declared.io.Error.{Error}
 use Rattle.std.specs.declared.io.ErrorKind.TheVariants.{OutOfMemory}
-use Rattle.inputs.specs.RefusalLine.{refusal_line}
+use Rattle.program_io.specs.RefusalLine.{refusal_line}
 use Rattle.cli.specs.Says.{Complains, Says}
 use Rattle.cli.specs.declared.console.Console.{Console}
-use Rattle.inputs.specs.declared.refusal.Refusal.TheVariants.{Memory}
+use Rattle.program_io.specs.declared.refusal.Refusal.TheVariants.{Memory}
 
 -- what standard error says of words that are no text
 abbrev pub no_text_line : List ℕ

@@ -6,12 +6,12 @@ use Rattle.cli.specs.Answer.{AnswersInput, answer_text, status_of}
 use Rattle.cli.specs.CheckAnswer.{IsAnswerTo, verdict_line}
 use Rattle.cli.specs.ListAnswer.{IsSetOrRefusal, set_line}
 use Rattle.cli.specs.Notes.{note_on}
-use Rattle.inputs.specs.Readings.{Reading}
+use Rattle.program_io.specs.Readings.{Reading}
 use Rattle.cli.specs.Says.{Says}
 use Rattle.cli.specs.SlitAnswer.{IsTableOrRefusal, table_text}
 use Rattle.cli.specs.SolveAnswer.{IsSolutionOf, solution_text}
 use Rattle.cli.specs.declared.console.Console.{Console}
-use Rattle.inputs.specs.declared.refusal.Refusal.{Refusal}
+use Rattle.program_io.specs.declared.refusal.Refusal.{Refusal}
 
 -- the two streams before and after, as far as their bytes are known, and the exit status
 module _ {W E : Type 0} (out : W → Option (List ℕ)) (err : E → Option (List ℕ)) (old new : Console W E) (status : ℕ) where

@@ -2,13 +2,13 @@
 ghost use Rattle.std.specs.Prelude.{ℕ, List, Result};
 ghost use Rattle.cli.specs.Answer.{AnswersInput};
 ghost use Rattle.cli.specs.Tells.{Answers};
-ghost use Rattle.inputs.specs.Readings.{Reads};
-ghost use Rattle.inputs.specs.declared.refusal.Refusal.{Refusal};
+ghost use Rattle.program_io.specs.Readings.{Reads};
+ghost use Rattle.program_io.specs.declared.refusal.Refusal.{Refusal};
 
 use crate::console::{Console, REFUSED, print_then_note};
 use crate::note::Note;
 use crate::printed::Printed;
-use inputs::{Input, ReadFault, Refusal, Source};
+use program_io::{Input, ReadFault, Refusal, Source};
 use std::alloc::Global;
 use std::io::Write;
 

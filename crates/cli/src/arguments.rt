@@ -8,7 +8,7 @@ use crate::opens::Opens;
 use crate::program::run_program;
 use crate::words::Grammar;
 use cgroup_tree::GroupTrees;
-use inputs::{Input, Refusal};
+use program_io::{Input, Refusal};
 use std::alloc::Global;
 use std::io;
 use std::io::{ErrorKind, Read, Write};
@@ -17,7 +17,7 @@ const NO_TEXT: &str = "error: the words of the command line are not UTF-8\n";
 
 /// Runs the program on its arguments, of which the first is its name; the exit status.
 ///
-/// The status is 1 where there is no memory for the words, and 2 where they are no text; beyond that see [`run_program`].
+/// The status is 1 where an allocation for the words failed, and 2 where they are no text; beyond that see [`run_program`].
 pub fn start<G: Grammar, F: Opens + GroupTrees, R: Read + Input, W: Write, E: Write>(
     alloc: Global,
     grammar: &G,

@@ -5,7 +5,7 @@ ghost use Rattle.cli.specs.CheckAnswer.{IsAnswerTo, verdict_line};
 ghost use Rattle.cli.specs.Named.{reads_named};
 ghost use Rattle.cli.specs.Notes.{shown};
 ghost use Rattle.cli.specs.Tells.{Checks};
-ghost use Rattle.inputs.specs.Readings.{Reads};
+ghost use Rattle.program_io.specs.Readings.{Reads};
 
 use crate::answer::{Answer, answer_of, print_answer};
 use crate::console::Console;
@@ -15,7 +15,7 @@ use crate::printed::Printed;
 use byte_output::put_number;
 use certificate::Verdict;
 use certificate_text::check_text;
-use inputs::{Input, Opened, Refusal, Source, put_number_line};
+use program_io::{Input, Opened, Refusal, Source, put_number_line};
 use std::alloc::Global;
 use std::io;
 use std::io::Write;

@@ -11,8 +11,8 @@ use std::alloc::{AllocError, Global};
 const VERSION: &str = "1.0.0";
 
 const HELP: &str =
-    "Exit status: 0; 1 if an input is refused or can't be read, if memory is short, or if the answer\n\
-    can't be written; 2 if the words are no command line, or if memory is short while they are parsed.\n\n\
+    "Exit status: 0; 1 if an input is refused or can't be read, if an allocation fails, or if the answer\n\
+    can't be written; 2 if the words are no command line, or if an allocation fails while they are parsed.\n\n\
     Formats and refusals: docs/formats.md.\n\n\
     Example: numarun check examples/two-containers.certificate";
 
@@ -20,21 +20,21 @@ const CHECK_HELP: &str =
     "Prints `plan total N` if the certificate proves its plan to be of least cost, `plan total N moves M` if\n\
     it proves it to be of least distance and, among those, to move the fewest CPUs, `short demand N cpus M`\n\
     if it shows that there is none, else why it is refused.\n\n\
-    Exit status: 0 if it proves or shows that; 1 if it is refused or can't be read, if memory is short, or\n\
-    if the answer can't be written; 2 if the words are no command line, or if memory is short while they\n\
+    Exit status: 0 if it proves or shows that; 1 if it is refused or can't be read, if an allocation fails, or\n\
+    if the answer can't be written; 2 if the words are no command line, or if an allocation fails while they\n\
     are parsed.\n\n\
     Format: docs/formats.md, \"Certificates\".\n\n\
     Example: numarun check examples/two-containers.certificate";
 
 const LIST_HELP: &str =
-    "Exit status: 0 if the text is a list; 1 if it is refused, if memory is short, or if the answer can't\n\
-    be written; 2 if the words are no command line, or if memory is short while they are parsed.\n\n\
+    "Exit status: 0 if the text is a list; 1 if it is refused, if an allocation fails, or if the answer can't\n\
+    be written; 2 if the words are no command line, or if an allocation fails while they are parsed.\n\n\
     Format: docs/formats.md, \"Lists\".\n\n\
     Example: numarun list 3,1-2 prints 1-3";
 
 const SLIT_HELP: &str =
-    "Exit status: 0 if the bytes are a table; 1 if they are refused or can't be read, if memory is short,\n\
-    or if the answer can't be written; 2 if the words are no command line, or if memory is short while\n\
+    "Exit status: 0 if the bytes are a table; 1 if they are refused or can't be read, if an allocation fails,\n\
+    or if the answer can't be written; 2 if the words are no command line, or if an allocation fails while\n\
     they are parsed.\n\n\
     Format: docs/formats.md, \"Distance tables\".\n\n\
     Example: numarun slit /sys/firmware/acpi/tables/SLIT";
@@ -43,16 +43,16 @@ const RUN_HELP: &str =
     "Prints an answer to each line, a refusal too, before the next line is read. A bundle is a folder with\n\
     a config.json.\n\n\
     Exit status: 0 if the script was read to its end; 1 if MACHINE, FILE or ROOT is refused, if an input\n\
-    can't be read, if memory is short for the machine, or if an answer can't be written; 2 if the words\n\
-    are no command line, or if memory is short while they are parsed.\n\n\
+    can't be read, if an allocation for the machine fails, or if an answer can't be written; 2 if the words\n\
+    are no command line, or if an allocation fails while they are parsed.\n\n\
     Formats: docs/formats.md, \"Scripts\", \"The machine file\" and \"In a cgroup tree\".\n\n\
     Example: numarun run examples/machines/two-socket.json < examples/scripts/two-containers";
 
 const SOLVE_HELP: &str =
     "Prints the certificate of a plan of least cost, or of a shortage if the rows have no plan, for numarun\n\
     check.\n\n\
-    Exit status: 0 if the problem is solved; 1 if it is refused or can't be read, if memory is short, or\n\
-    if the answer can't be written; 2 if the words are no command line, or if memory is short while they\n\
+    Exit status: 0 if the problem is solved; 1 if it is refused or can't be read, if an allocation fails, or\n\
+    if the answer can't be written; 2 if the words are no command line, or if an allocation fails while they\n\
     are parsed.\n\n\
     Format: docs/formats.md, \"Problems\".\n\n\
     Example: numarun solve examples/caches.problem | numarun check";
@@ -168,7 +168,7 @@ fn bare<'a>(alloc: Global) -> Command<'a>
     ensures { app_of result ≡ bare }
 {
     Command::new(alloc, "numarun")
-        .about("CPU pinning for containers, with plans that anyone can check")
+        .about("Exclusive CPUs for containers on NUMA hosts, by plans that anyone can check")
         .version(VERSION)
         .override_usage("numarun [COMMAND]")
         .after_help(HELP)

@@ -1,11 +1,11 @@
 ghost use Rattle.std.specs.Prelude.{◌≡◌, [], MatchResult};
 ghost use Rattle.cli.specs.Notes.{note_text};
-ghost use Rattle.inputs.specs.Pages.{Sends, Takes};
+ghost use Rattle.program_io.specs.Pages.{Sends, Takes};
 ghost use Rattle.cli.specs.Says.{Says};
 
 use crate::note::Note;
 use crate::printed::Printed;
-use inputs::Page;
+use program_io::Page;
 use std::io;
 use std::io::Write;
 

@@ -6,7 +6,7 @@ ghost use Rattle.byte_output.specs.Output.{Writes};
 ghost use Rattle.cli.specs.Named.{reads_named};
 ghost use Rattle.cli.specs.Notes.{shown};
 ghost use Rattle.cli.specs.Tells.{Tabulates};
-ghost use Rattle.inputs.specs.Readings.{Reads};
+ghost use Rattle.program_io.specs.Readings.{Reads};
 ghost use Rattle.cli.specs.SlitAnswer.{IsTableOrRefusal, entry_text, row_text, table_text};
 
 use crate::answer::{Answer, answer_of, print_answer};
@@ -15,7 +15,7 @@ use crate::note::STANDARD_INPUT;
 use crate::opens::{NamedFile, Opens};
 use crate::printed::Printed;
 use byte_output::{put, put_number};
-use inputs::{Input, Opened, Refusal, Source, put_number_line};
+use program_io::{Input, Opened, Refusal, Source, put_number_line};
 use slit::Slit;
 use std::alloc::Global;
 use std::io;

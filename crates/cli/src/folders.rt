@@ -5,7 +5,7 @@ ghost use Rattle.cli.specs.Configs.{IsConfigOf};
 
 use crate::opens::Opens;
 use faults::OrMemory;
-use inputs::Input;
+use program_io::Input;
 use runtime::Bundles;
 use std::alloc::{AllocError, Global};
 
@@ -21,7 +21,7 @@ pub struct Folders<'a, F> {
 }
 
 impl<'a, F> Folders<'a, F> {
-    /// The bundles among these files. Takes no memory.
+    /// The bundles among these files. Allocates nothing.
     pub fn new(alloc: Global, files: &'a F) -> Folders<'a, F>
         ensures { result.files.now ≡ files.now }
     {

@@ -8,7 +8,7 @@ use crate::printed::Printed;
 use byte_output::put;
 use cpu_list::{read, write_list};
 use cpu_set::{CPU_LIMIT, IdSet};
-use inputs::Refusal;
+use program_io::Refusal;
 use std::io;
 use std::io::Write;
 

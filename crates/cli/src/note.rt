@@ -3,7 +3,7 @@ ghost use Rattle.cli.specs.Notes.{note_of, note_text};
 ghost use Rattle.cli.specs.declared.note.Note.{Note};
 
 use crate::printed::Printed;
-use inputs::{ReadFault, Refusal, put_error_line};
+use program_io::{ReadFault, Refusal, put_error_line};
 use std::io;
 use std::io::Write;
 

@@ -4,7 +4,7 @@ ghost use Rattle.std.specs.IoError.{error_kind};
 ghost use Rattle.std.specs.declared.io.ErrorKind.{ErrorKind};
 
 use cgroup_tree::{GroupTrees, HostFiles, HostTrees};
-use inputs::{Input, Source};
+use program_io::{Input, Source};
 use std::alloc::Global;
 use std::rt::Files;
 use std::time::Clock;

@@ -1,10 +1,10 @@
 //! What is printed.
 ghost use Rattle.std.specs.Prelude.{ℕ, List, string_bytes};
 ghost use Rattle.byte_output.specs.Output.{Writes};
-ghost use Rattle.inputs.specs.RefusalLine.{refusal_line};
+ghost use Rattle.program_io.specs.RefusalLine.{refusal_line};
 
 use byte_output::put;
-use inputs::Refusal;
+use program_io::Refusal;
 use std::io;
 use std::io::Write;
 

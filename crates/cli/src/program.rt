@@ -17,13 +17,13 @@ use crate::words::{Grammar, Words, parse};
 use cgroup_tree::GroupTrees;
 use clap::Error;
 use faults::OrMemory;
-use inputs::{Input, Refusal};
+use program_io::{Input, Refusal};
 use std::alloc::Global;
 use std::io::{Read, Write};
 
 /// Does what the words of the command line ask for, over these files and standard streams, and tells the exit status:
-/// 0; 1 where an input is refused, memory is short or the answer can't be written; 2 where the words are no command line,
-/// or memory is short while they are parsed or while the help or a mistake is put into words.
+/// 0; 1 where an input is refused, an allocation fails or the answer can't be written; 2 where the words are no command line,
+/// or an allocation fails while they are parsed or while the help or a mistake is put into words.
 pub fn run_program<G: Grammar, F: Opens + GroupTrees, R: Read + Input, W: Write, E: Write>(
     alloc: Global,
     grammar: &G,

@@ -3,14 +3,14 @@ ghost use Rattle.cli.specs.Named.{reads_named};
 ghost use Rattle.cli.specs.Notes.{shown};
 ghost use Rattle.cli.specs.SolveAnswer.{IsSolutionOf, solution_text};
 ghost use Rattle.cli.specs.Tells.{Solves};
-ghost use Rattle.inputs.specs.Readings.{Reads};
+ghost use Rattle.program_io.specs.Readings.{Reads};
 
 use crate::answer::{Answer, answer_of, print_answer};
 use crate::console::Console;
 use crate::note::STANDARD_INPUT;
 use crate::opens::{NamedFile, Opens};
 use crate::printed::Printed;
-use inputs::{Input, Opened, Refusal, Source};
+use program_io::{Input, Opened, Refusal, Source};
 use solution::{Solution, solve_text};
 use std::alloc::Global;
 use std::io;

@@ -1,4 +1,4 @@
-use inputs::Refusal;
+use program_io::Refusal;
 
 /// Why a script is not begun: what is wrong with the machine file, or with the distance table beside it.
 #[derive(Clone, Copy)]

@@ -2,8 +2,8 @@ use crate::printed::Printed;
 use byte_output::put;
 use cgroup_tree::RootFault;
 use faults::OrMemory;
-use inputs::{ReadFault, Refusal};
 use kernel_model::KernelFault;
+use program_io::{ReadFault, Refusal};
 use std::io;
 use std::io::Write;
 
@@ -12,7 +12,7 @@ use std::io::Write;
 pub enum Unrooted {
     /// E113: the root is no folder, or a file of it can't be read.
     Unread(ReadFault),
-    /// E1: there was no memory.
+    /// E1: an allocation failed.
     Memory,
     /// E115: its groups can't have cpusets of their own.
     NoCpuset,

@@ -15,13 +15,13 @@ pub trait Grammar {
     /// The kinds of error by which words may fail.
     ghost fails: { Self → List (List ℕ) → ErrorKind → Type 0 };
 
-    /// Whether there may be no memory for an error's text.
+    /// Whether an allocation may fail for an error's text.
     ghost lacks: { Self → Type 0 };
 
     /// The matches of the words, which are not empty.
     ///
     /// # Errors
-    /// A mistake in the words, their request for the help, or lack of memory.
+    /// A mistake in the words, their request for the help, or an allocation failure.
     fn matches<'a>(&self, alloc: Global, words: &'a [String]) -> Result<ArgMatches<'a>, Error>
         ensures matches { IfOk result (λ m. subcommand_rows_of m ≡ subcommand_of numarun (map string_bytes words.entry.now)) }
         ensures kinds { FailsBy (fault_of numarun (map string_bytes words.entry.now)) result }
@@ -29,7 +29,7 @@ pub trait Grammar {
 
     /// The text of an error.
     ///
-    /// The only error is lack of memory.
+    /// The only error is an allocation failure.
     fn text(&self, alloc: Global, error: &Error) -> Result<String, AllocError>
         ensures { OnErr result (lacks self.now) };
 }
@@ -66,7 +66,7 @@ pub enum Words<'a> {
 /// What the words after the program's name ask for; no words ask for a check of standard input.
 ///
 /// # Errors
-/// `Fault` has the mistake in the words, or their request for the help. `Memory` comes where the grammar had none.
+/// `Fault` has the mistake in the words, or their request for the help. `Memory` comes where an allocation of the grammar failed.
 pub fn parse<'a, G: Grammar>(
     alloc: Global,
     grammar: &G,

@@ -1,4 +1,4 @@
--- What is wrong with a text that is no version is never lack of memory.
+-- What is wrong with a text that is no version is never an allocation failure.
 use Rattle.std.proofs.Common.{◌≡◌, ℕ, ◌+◌, ◌-◌, ◌*◌, ◌^◌, ◌==◌, ◌&&◌, Bool, true, false, nat_le, nat_lt, cond, List, [], ◌∷◌, length, Result, Ok, Err, refl, sym, ap, ◌∙◌, arith}
 use Rattle.std.proofs.lemmas.Bool.{true≢false, false≢true}
 use Rattle.std.proofs.lemmas.Bool.Decides.{nat_tests}
@@ -99,7 +99,7 @@ version_reads text =
 not_memory : {A : Type 0} (r : Result A Error) → Reads r → r ≡ Err memory_error → ⊥
 not_memory r reads e = true≢false (sym (ap wants e) ∙ reads)
 
--- no text reads to lack of memory
+-- the reading of no text is an allocation failure
 version_is_read : (text : List ℕ) → version_parts text ≡ Err memory_error → ⊥
 version_is_read text = not_memory (version_parts text) (version_reads text)
 
@@ -110,6 +110,6 @@ wants_of : (T : Type 0) (r : Result Parts Error) (e : Error) → (r ≡ Err memo
 wants_of T (Ok p) e never is refused plain = no_two (length p.3) (length p.4) (λ pre build. false≢true (plain pre build))
 wants_of T (Err x) e never is refused plain = let same : x ≡ e = cc in absurd (never (ap (λ y. Err y) (same ∙ is)))
 
--- what wants memory is a version with more than its numbers
+-- what allocates is a version with more than its numbers
 pub wants_memory : (T : Type 0) (text : List ℕ) (e : Error) → e ≡ memory_error → IsRefused {T = T} (version_parts text) (Err e) → IsPlain {T = T} (version_parts text) (Err e) → is_plain (version_parts text) ≡ false
 wants_memory T text e is refused plain = wants_of T (version_parts text) e (version_is_read text) is refused plain

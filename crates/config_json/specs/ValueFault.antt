@@ -50,11 +50,11 @@ value_fault d = first_of (
     ∷ cpu_fault d
     ∷ [])
 
--- the version of the specification is absent, or no text, or one that is read without memory
+-- the version of the specification is absent, or no text, or one that is read without an allocation
 abbrev pub has_plain_version : Data → Bool
 has_plain_version d = option_map_or (λ text. is_plain (version_parts text)) (option_and_then as_str (version_of d)) true
 
--- what is known to be wrong before memory is asked for: all of it, except for what comes behind a version that wants memory
+-- what is known to be wrong before the first allocation: all of it, except for what comes behind a version that allocates
 abbrev pub early_fault : Data → Option ConfigFault
 early_fault d =
     if has_plain_version d then value_fault d

@@ -19,7 +19,7 @@ abbrev pub version_fault_of : Option (List ℕ) → Option ConfigFault
 version_fault_of None = None
 version_fault_of (Some text) = version_fault text
 
--- a text that is read without memory: no version, or one with neither pre-release nor build metadata
+-- a text that is read without an allocation: no version, or one with neither pre-release nor build metadata
 abbrev pub is_plain : {E : Type 0} → Result Parts E → Bool
 is_plain (Ok p) = length p.3 == 0 && length p.4 == 0
 is_plain (Err e) = true

@@ -39,13 +39,13 @@ impl Config {
     /// number of 64 bits with a sign, a period one without, written with neither fraction nor exponent.
     ///
     /// # Errors
-    /// Lack of memory, or the first fault in this order: [`ConfigFault::TooLong`], `NotJson`, `NotObject`;
+    /// An allocation failure, or the first fault in this order: [`ConfigFault::TooLong`], `NotJson`, `NotObject`;
     /// then, for each of those members in turn, `Missing` where it is required and absent, `BadField` where it
     /// is of another kind, and for the version `BadVersion`.
     ///
-    /// Before memory is asked for, it is known whether there are too many bytes or none, and whether they
-    /// are UTF-8. Once the JSON value is there, only a version with pre-release or build metadata and the
-    /// texts of a value without fault take memory.
+    /// Before the first allocation it is known whether there are too many bytes or none, and whether they
+    /// are UTF-8. Once the JSON value is there, it allocates only for a version with pre-release or build
+    /// metadata and for the texts of a value without fault.
     #[tactic(auto, unfolding(crate::specs::ConfigOf::config_of))]
     pub fn read(alloc: Global, bytes: &[u8]) -> Result<Config, OrMemory<ConfigFault>>
         ensures value { Gives result (config_of bytes.now) }

@@ -1,4 +1,4 @@
-//! What holds of the definitions alone.
+//! The limit of a config, with its number. Nothing here runs.
 ghost use Rattle.std.specs.Prelude.{◌≡◌};
 
 use crate::MAX_BYTES;

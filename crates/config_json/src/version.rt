@@ -15,7 +15,7 @@ use serde_json::Value;
 use std::alloc::{AllocError, Global};
 
 /// Whether a text is a SemVer 2.0.0 version with major number 1. Only one with pre-release or build
-/// metadata takes memory.
+/// metadata allocates.
 fn is_major_one(alloc: Global, text: &str) -> Result<bool, AllocError>
     ensures ok { IfOk result (λ answer. answer ≡ is_major_one (version_parts text.now)) }
     ensures plain { IsErr result → is_plain (version_parts text.now) ≡ false }

@@ -1,4 +1,4 @@
-//! Laws over the definitions alone: nothing here runs.
+//! Which texts are lists of CPUs, and how a set is printed: laws over the definitions alone. Nothing here runs.
 ghost use Rattle.cpu_list.specs.CanonicalLaws.{TextIsCanonical, OneCanonicalText, CanonicalReadsAgain, TextIsPlain, TextLacks, TextIsEmpty};
 ghost use Rattle.cpu_list.specs.FirstFault.{NoneWhereList, FirstDecides};
 ghost use Rattle.cpu_list.specs.ListText.{ListIsBelow};

@@ -27,7 +27,7 @@ fn push_range(text: &mut String, first: u16, last: u16) -> Result<(), AllocError
 /// text.
 ///
 /// # Errors
-/// Lack of memory.
+/// An allocation failure.
 pub fn print(alloc: Global, set: &IdSet) -> Result<String, AllocError>
     ensures { IfOk result (λ text. string_bytes text ≡ list_text set.now) }
 {

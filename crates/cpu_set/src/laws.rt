@@ -1,4 +1,4 @@
-//! What holds of the definitions alone.
+//! How sets, their least CPUs and their counts hang together: laws over the definitions alone. Nothing here runs.
 ghost use Rattle.std.specs.Prelude.{◌≡◌};
 ghost use Rattle.cpu_set.specs.LeastLaws.{LeastIsLeast, LeastPasses, NoneWhereNone, LeastIsFirst, LeastOfDifference, LeastOfBoth};
 ghost use Rattle.cpu_set.specs.SetLaws.{EmptyWhereNone, DisjointWhereMeetIsEmpty, SubsetWhereNoneIsLeft, MembersAreCounted};

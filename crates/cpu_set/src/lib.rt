@@ -1,7 +1,7 @@
 //! A set of CPU or NUMA node numbers, as a cpuset has them, and its algebra.
 //!
 //! A contract sees an [`IdSet`] as a finite set of numbers, and each call as the set operation of its name.
-//! No call takes memory.
+//! No call allocates.
 #![tactic(auto)]
 
 mod id_set;

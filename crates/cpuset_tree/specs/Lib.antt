@@ -11,4 +11,3 @@ pub mod GrantedLemmas
 pub mod WellFormedLemmas
 pub mod TreeLemmas
 pub mod Kept
-pub mod Near

@@ -1,9 +1,13 @@
+//! What changes of a tree of groups leave and keep: laws over the definitions alone. Nothing here runs.
 ghost use Rattle.std.specs.Prelude.{◌≡◌};
-ghost use Rattle.cpuset_tree.specs.TreeLaws.{SameIsEqual, EntryIsOwn, RootIsThere, ParentIsThere, NoParentNoChildren, GrantsAll, GrantsWithin, TwoBelowRoot, SerialIsGiven, WritesLeavePlaces, SerialsGivenOnce, CpusWritten, MemsWritten, WritesRequest, AddedLeaves, RemovedLeaves, FoundIsChild, ChangesStayWellFormed, FirstIsWellFormed, WellFormedRunsUp};
+ghost use Rattle.cpuset_tree.specs.TreeLaws.{SameIsEqual, EntryIsOwn, RootIsThere, ParentIsThere, NoParentNoChildren, GrantsAll};
+ghost use Rattle.cpuset_tree.specs.TreeLaws.{GrantsWithin, TwoBelowRoot, SerialIsGiven, WritesLeavePlaces, SerialsGivenOnce};
+ghost use Rattle.cpuset_tree.specs.TreeLaws.{CpusWritten, MemsWritten, WritesRequest, AddedLeaves, RemovedLeaves, FoundIsChild};
+ghost use Rattle.cpuset_tree.specs.TreeLaws.{ChangesStayWellFormed, FirstIsWellFormed, WellFormedRunsUp};
 
 use crate::SERIAL_LIMIT;
 
-/// What each change leaves of a tree; nothing runs.
+/// What each change leaves of a tree.
 pub fn changes()
     ensures cpus { CpusWritten }
     ensures mems { MemsWritten }
@@ -15,7 +19,7 @@ pub fn changes()
     ensures serials { SerialsGivenOnce }
 {}
 
-/// What holds of each tree that calls can make; nothing runs.
+/// What holds of each tree that calls can make.
 pub fn well_formed()
     ensures first { FirstIsWellFormed }
     ensures stays { ChangesStayWellFormed }
@@ -27,7 +31,7 @@ pub fn well_formed()
     ensures below { TwoBelowRoot }
 {}
 
-/// What holds of all groups, entries and sets; nothing runs.
+/// What holds of all groups, entries and sets.
 pub fn words()
     ensures same { SameIsEqual }
     ensures own { EntryIsOwn }

@@ -100,6 +100,9 @@ pinned_cores m limit period allowed None is all = all
 pinned_cores m None period allowed (Some n) is all = absurd is
 pinned_cores m (Some limit) period allowed (Some n) is all = is.0.whole
 
+pub count_at : (a b : ℕ) (limit : Option ℕ) (period : ℕ) (count : Option ℕ) → a ≡ b → IsCount a limit period count → IsCount b limit period count
+count_at a b limit period count same is = rw (sym same) is
+
 -- a pinned container's demand fits the machine
 pub pinned_fits :
     (m : Layout) (limit : Option ℕ) (period : ℕ) (cpus allowed homes : Ids) (count : Option ℕ) (asked : ℕ)

@@ -5,7 +5,7 @@ use Rattle.std.proofs.lemmas.Bool.Decides.{nat_tests}
 use Rattle.std.specs.FinSet as set
 use Rattle.cpu_set.specs.Ids.{Ids, is_empty}
 use Rattle.cpu_set.specs.Members.{InRange}
-use Rattle.cpu_set.specs.Pointwise.{same_members, contains-intersection, contains-difference, is_subset-contains}
+use Rattle.cpu_set.specs.Pointwise.{same_members, contains-intersection, contains-difference, is_subset-contains, contains-is_subset}
 use Rattle.machine.specs.Layout.{Layout}
 use Rattle.machine.specs.Present.{present, IsPresent}
 use Rattle.cpu_set.specs.declared.TheConstants.{CPU_LIMIT}
@@ -116,4 +116,7 @@ pub allowed_in_cores : (m : Layout) (cpus homes : Ids) → AreCores m → InRang
 unfolding allowed_by
 allowed_in_cores m cpus homes are in_range =
     let named_so = those (is_allowed m cpus homes) CPU_LIMIT in
-    (set.len (cores_in m named_so), len-whole_in m named_so are in_range)
+    let within : set.is_subset named_so (present m) ≡ true =
+    contains-is_subset named_so (present m) (λ c has.
+    (given m cpus homes c (and_parts _ _ (sym (contains-those (is_allowed m cpus homes) CPU_LIMIT c) ∙ has)).1).present) in
+    (set.len (cores_in m named_so), len-whole_in m named_so are in_range within)

@@ -1,7 +1,5 @@
 ghost use Rattle.std.specs.Prelude.{◌≡◌, ℕ};
 ghost use Rattle.std.specs.FinSet as set;
-ghost use Rattle.cpu_set.specs.Members.{InRange};
-ghost use Rattle.machine.specs.Present.{present};
 ghost use Rattle.machine.specs.Weight.{AreHomes};
 ghost use Rattle.demand.specs.Allowed.{is_free, allowed_by};
 
@@ -24,12 +22,9 @@ fn free(machine: &Machine, named: &IdSet) -> IdSet
 #[tactic(auto, using(crate::proofs::FreeCpus::allowed_meet))]
 pub fn allowed(machine: &Machine, named: &IdSet, homes: &IdSet) -> IdSet
     requires { AreHomes machine.now homes.now }
-    ensures is { result ≡ allowed_by machine.now named.now homes.now }
-    ensures in_range { InRange (present machine.now) }
+    ensures { result ≡ allowed_by machine.now named.now homes.now }
 {
     let free = free(machine, named);
     free.stays_below_the_limit();
-    let present = machine.present();
-    present.stays_below_the_limit();
-    machine.whole_in(&free.meet(&machine.in_reach(homes)))
+    machine.whole_in(free.meet(&machine.in_reach(homes)))
 }

@@ -1,21 +1,21 @@
--- How an answer stands to the fault or the value that it should be, where memory may run out.
+-- How an answer stands to the fault or the value that it should be, where an allocation may fail.
 use Rattle.std.specs.Prelude.{◌≡◌, Option, Some, None, Result, Ok, Err}
 use Rattle.faults.specs.declared.or_memory.OrMemory.{OrMemory}
 use Rattle.faults.specs.declared.or_memory.OrMemory.TheVariants.{Memory, Fault}
 
--- this fault is answered, and a value where there is none, unless memory ran out
+-- this fault is answered, and a value where there is none, unless an allocation failed
 abbrev pub Reports : {T F : Type 0} → Result T (OrMemory F) → Option F → Type 0
 Reports (Ok x) fault = fault ≡ None
 Reports (Err Memory) fault = Unit {0}
 Reports (Err (Fault e)) fault = fault ≡ Some e
 
--- this is the answer, unless memory ran out
+-- this is the answer, unless an allocation failed
 abbrev pub Gives : {T F : Type 0} → Result T (OrMemory F) → Result T F → Type 0
 Gives (Ok x) expected = expected ≡ Ok x
 Gives (Err Memory) expected = Unit {0}
 Gives (Err (Fault e)) expected = expected ≡ Err e
 
--- the checks for this fault stand before the first growth: where there is one, lack of memory is no answer, nor is a value
+-- the checks for this fault stand before the first allocation: where there is one, an allocation failure is no answer, nor is a value
 abbrev pub ChecksFirst : {T F : Type 0} → Result T (OrMemory F) → Option F → Type 0
 ChecksFirst (Ok x) fault = fault ≡ None
 ChecksFirst (Err Memory) fault = fault ≡ None

@@ -9,7 +9,7 @@ module _ {S A F : Type 0} (refusal : Option F) (Does : A → S → Type 0) (old 
   Decides (Ok value) new = (refusal ≡ None) × Does value new
   Decides (Err fault) new = (refusal ≡ Some fault) × (new ≡ old)
 
-  -- the same of a call that needs memory, which is asked for only once nothing stands against the call
+  -- the same of a call that allocates, which it does only once nothing stands against it
   abbrev pub Grows : Result A (OrMemory F) → S → Type 0
   Grows (Ok value) new = (refusal ≡ None) × Does value new
   Grows (Err Memory) new = (refusal ≡ None) × (new ≡ old)

@@ -1,4 +1,4 @@
--- What is printed as the cause of a refusal for lack of memory: its number and its name.
+-- What is printed as the cause of a refusal for an allocation failure: its number and its name.
 use Rattle.std.specs.Prelude.{ℕ, List, codes}
 
 abbrev pub memory_title : List ℕ

@@ -1,5 +1,5 @@
 //! What the crates above share: the words with which definitions say which of several faults decides, the
-//! first in a written order, and the error of a call in which an allocation may fail (lack of memory).
+//! first in a written order, and the error of a call that may meet an allocation failure.
 //!
 //! The readers' definitions are lists of checks made of these words, and the laws below say in plain
 //! terms what the word for a loop of checks means.

@@ -3,10 +3,10 @@ use std::alloc::{AllocError, AllocFailed};
 /// What a call is refused for; `?` makes an [`OrMemory`] of it.
 pub trait Fault {}
 
-/// Why a call was refused: for a fault, or since there was no memory for what it was to make.
+/// Why a call was refused: for a fault, or since an allocation for what it was to make failed.
 #[derive(Clone, Copy, Debug, PartialEq, Eq, Drop)]
 pub enum OrMemory<F> {
-    /// E1: a growth was refused.
+    /// E1: an allocation failed.
     Memory,
     /// The first fault in the order of the call's checks, or a write that failed.
     Fault(F),

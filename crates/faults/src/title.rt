@@ -1,7 +1,7 @@
 ghost use Rattle.std.specs.Prelude.{◌≡◌};
 ghost use Rattle.faults.specs.FaultTitle.{memory_title};
 
-/// The number and the name that the line of a refusal for lack of memory has.
+/// The number and the name that the line of a refusal for an allocation failure has.
 pub fn memory_title() -> &'static str
     ensures { result.now ≡ memory_title }
 {

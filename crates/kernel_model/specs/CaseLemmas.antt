@@ -25,7 +25,7 @@ module _ {A : Type 0} (refusal : Option KernelFault) (Does : A → KernelState �
     Decides-answers (Ok value) new h = does value new h.0 h.1
     Decides-answers (Err fault) new h = subst (λ (k : KernelState). P (Err fault) k) (sym h.1) (kept fault h.0)
 
-  -- the same where memory is asked for, and of want of it
+  -- the same where it allocates, and of an allocation failure
   module _ (P : Result A (OrMemory KernelFault) → KernelState → Type 0)
       (does : (value : A) (new : KernelState) → refusal ≡ None → Does value new → P (Ok value) new) (wants : P (Err Memory) old)
       (kept : (fault : KernelFault) → refusal ≡ Some fault → P (Err (Fault fault)) old) where

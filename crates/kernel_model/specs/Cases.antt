@@ -42,7 +42,7 @@ module _ {A : Type 0} (refusal : Option KernelFault) (Does : A → KernelState �
   Writes (Err Failed) new = new ≡ failed old
   Writes (Err fault) new = Decides refusal Does (counted old) (Err fault) new
 
-  -- a write that needs memory
+  -- a write that allocates
   abbrev pub GrowingWrites : Result A (OrMemory KernelFault) → KernelState → Type 0
   GrowingWrites (Ok value) new = Grows refusal Does (counted old) (Ok value) new
   GrowingWrites (Err Memory) new = Grows refusal Does (counted old) (Err Memory) new

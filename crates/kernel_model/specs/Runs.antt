@@ -19,7 +19,7 @@ abbrev pub reply_of : {A : Type 0} → (A → Reply) → Result A (OrMemory Kern
 reply_of as_reply (Ok value) = Ok (as_reply value)
 reply_of as_reply (Err error) = Err error
 
--- the same of an answer that is no lack of memory
+-- the same of an answer that is no allocation failure
 abbrev pub reply_at_once : {A : Type 0} → (A → Reply) → Result A KernelFault → Result Reply (OrMemory KernelFault)
 reply_at_once as_reply (Ok value) = Ok (as_reply value)
 reply_at_once as_reply (Err fault) = Err (Fault fault)

@@ -4,7 +4,7 @@ ghost use Rattle.std.specs.Borrow.{ftrue};
 
 use std::marker::Model;
 
-/// How many writes were made. It takes no memory, and nothing of it runs.
+/// How many writes were made. It allocates nothing, and nothing of it runs.
 #[derive(Drop)]
 pub struct WriteCount {
     pub ghost writes: { ℕ },

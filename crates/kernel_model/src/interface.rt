@@ -4,7 +4,8 @@ ghost use Rattle.cpuset_tree.specs.Groups.{root_of, has_group, child_of, request
 ghost use Rattle.cpuset_tree.specs.Effective.{effective_cpus, effective_mems};
 ghost use Rattle.proctable.specs.Processes.{is_alive};
 ghost use Rattle.kernel_model.specs.KernelState.{KernelState};
-ghost use Rattle.kernel_model.specs.Cases.{MakesGroup, RemovesGroup, WritesCpus, WritesMems, Spawns, EndsGroup, Forks, Exits, GoesOffline, ComesOnline, read_of};
+ghost use Rattle.kernel_model.specs.Cases.{MakesGroup, RemovesGroup, WritesCpus, WritesMems, Spawns, EndsGroup, Forks, Exits};
+ghost use Rattle.kernel_model.specs.Cases.{GoesOffline, ComesOnline, read_of};
 ghost use Rattle.kernel_model.specs.WellFormed.{IsWellFormed};
 
 use crate::KernelFault;
@@ -91,8 +92,8 @@ pub trait Kernel {
     ///
     /// # Errors
     /// `NoGroup`.
-    fn effective_cpus(&self, group: Group) -> Result<&IdSet, KernelFault>
-        ensures { behind result ≡ read_of (state self.now) group (effective_cpus (state self.now).tree group) };
+    fn effective_cpus(&self, group: Group) -> Result<IdSet, KernelFault>
+        ensures { result ≡ read_of (state self.now) group (effective_cpus (state self.now).tree group) };
 
     /// The memory nodes that a group requests.
     ///
@@ -105,8 +106,8 @@ pub trait Kernel {
     ///
     /// # Errors
     /// `NoGroup`.
-    fn effective_mems(&self, group: Group) -> Result<&IdSet, KernelFault>
-        ensures { behind result ≡ read_of (state self.now) group (effective_mems (state self.now).tree group) };
+    fn effective_mems(&self, group: Group) -> Result<IdSet, KernelFault>
+        ensures { result ≡ read_of (state self.now) group (effective_mems (state self.now).tree group) };
 
     /// The CPUs that are online.
     fn online(&self) -> IdSet

@@ -1,11 +1,14 @@
+//! What the calls of a modelled kernel keep, and when they are refused: laws over the definitions alone. Nothing here runs.
 ghost use Rattle.std.specs.Prelude.{◌≡◌};
 ghost use Rattle.kernel_model.specs.Fuse.{FusesCountWrites};
-ghost use Rattle.kernel_model.specs.Laws.{EventsKeepGroups, WritesKeepProcesses, WritesKeepTree, WritesLeaveGroups, CallsLeaveProcesses, WritesCount, CountsEachWrite, CallsAreFree, RefusalsHaveCauses, EachCaseKeeps, StepsKeep, RunsKeep, EmptyWhereNoGroup, FirstIsWellFormed};
+ghost use Rattle.kernel_model.specs.Laws.{EventsKeepGroups, WritesKeepProcesses, WritesKeepTree, WritesLeaveGroups};
+ghost use Rattle.kernel_model.specs.Laws.{CallsLeaveProcesses, WritesCount, CountsEachWrite, CallsAreFree, RefusalsHaveCauses};
+ghost use Rattle.kernel_model.specs.Laws.{EachCaseKeeps, StepsKeep, RunsKeep, EmptyWhereNoGroup, FirstIsWellFormed};
 ghost use Rattle.kernel_model.specs.Names.{FirstHasOwnNames, StepsKeepNames, RunsKeepNames};
 
 use crate::LAST_PID;
 
-/// What each call leaves of groups and processes, and that each write is counted, whatever it returns; nothing runs.
+/// What each call leaves of groups and processes, and that each write is counted, whatever it returns.
 pub fn cases()
     ensures events { EventsKeepGroups }
     ensures writes { WritesKeepProcesses }
@@ -16,13 +19,13 @@ pub fn cases()
     ensures each { CountsEachWrite }
 {}
 
-/// When a call is not refused, and why it is where it is; nothing runs.
+/// When a call is not refused, and why it is where it is.
 pub fn refusals()
     ensures free { CallsAreFree }
     ensures causes { RefusalsHaveCauses }
 {}
 
-/// What each call and each list of calls keeps; nothing runs.
+/// What each call and each list of calls keeps.
 pub fn runs()
     ensures first { FirstIsWellFormed }
     ensures empty { EmptyWhereNoGroup }
@@ -31,14 +34,14 @@ pub fn runs()
     ensures run { RunsKeep }
 {}
 
-/// No two children of a group have one name, in a new kernel and after any list of calls; nothing runs.
+/// No two children of a group have one name, in a new kernel and after any list of calls.
 pub fn names()
     ensures first { FirstHasOwnNames }
     ensures step { StepsKeepNames }
     ensures run { RunsKeepNames }
 {}
 
-/// Each fuse counts writes; nothing runs.
+/// Each fuse counts writes.
 pub fn fuse()
     ensures { FusesCountWrites }
 {}

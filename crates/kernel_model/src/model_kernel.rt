@@ -58,7 +58,7 @@ impl ModelKernel {
     /// A kernel with its root group alone and no process, whose first process gets this pid.
     ///
     /// # Errors
-    /// Lack of memory.
+    /// An allocation failure.
     pub fn new(
         alloc: Global,
         present: IdSet,
@@ -88,7 +88,8 @@ impl ModelKernel {
     /// # Errors
     /// In this order: `NoGroup`, `Exists`, `NoSerials`.
     pub fn makable(&self, parent: Group, name: &str) -> Result<(), KernelFault>
-        ensures { MatchResult result (λ _. make_refusal self.now parent name.now ≡ None) (λ fault. make_refusal self.now parent name.now ≡ Some fault) }
+        ensures { MatchResult result (λ _. make_refusal self.now parent name.now ≡ None)
+            (λ fault. make_refusal self.now parent name.now ≡ Some fault) }
     {
         Ok(self.tree.makable(parent, name)?)
     }
@@ -189,7 +190,7 @@ impl Kernel for ModelKernel {
         Ok(self.tree.cpus(group)?)
     }
 
-    fn effective_cpus(&self, group: Group) -> Result<&IdSet, KernelFault> {
+    fn effective_cpus(&self, group: Group) -> Result<IdSet, KernelFault> {
         Ok(self.tree.effective_cpus(group)?)
     }
 
@@ -197,7 +198,7 @@ impl Kernel for ModelKernel {
         Ok(self.tree.mems(group)?)
     }
 
-    fn effective_mems(&self, group: Group) -> Result<&IdSet, KernelFault> {
+    fn effective_mems(&self, group: Group) -> Result<IdSet, KernelFault> {
         Ok(self.tree.effective_mems(group)?)
     }
 

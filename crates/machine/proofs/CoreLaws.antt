@@ -29,7 +29,7 @@ use Rattle.machine.specs.Layout.{Layout}
 use Rattle.machine.specs.Nodes.{IsOfNode}
 use Rattle.machine.specs.Present.{union_of, present, IsPresent}
 use Rattle.machine.specs.WholeLaws.{contains-kept, both_true, and_true, one_way, number_test, same_number}
-use Rattle.machine.proofs.NodeLaws.{IsOfNode-IsPresent, of_one_node, union_of-at, found_in}
+use Rattle.machine.specs.NodeLaws.{IsOfNode-IsPresent, of_one_node, union_of-at, found_in}
 
 or_none : {A : Type 0} (a b : Option A) → option_or a b ≡ None → (a ≡ None) × (b ≡ None)
 or_none None b e = (refl, e)
@@ -152,7 +152,7 @@ not_true false e = refl
 
 pub left_and : (left reserved core : Ids) → ((set.is_subset core (set.difference left reserved) ≡ true) ⊎ (set.is_subset core (set.intersection left reserved) ≡ true))
     → (((c : ℕ) → set.contains core c ≡ true → set.contains left c ≡ true)
-      × (((c : ℕ) → set.contains core c ≡ true → set.contains reserved c ≡ true) ⊎ ((c : ℕ) → set.contains core c ≡ true → set.contains reserved c ≡ false)))
+    × (((c : ℕ) → set.contains core c ≡ true → set.contains reserved c ≡ true) ⊎ ((c : ℕ) → set.contains core c ≡ true → set.contains reserved c ≡ false)))
 left_and left reserved core (inl outside) =
     let each : (c : ℕ) → set.contains core c ≡ true → (set.contains left c ≡ true) × (not (set.contains reserved c) ≡ true) =
     λ c has. both_true _ _ (sym (contains-difference left reserved c) ∙ is_subset-contains core _ outside c has) in
@@ -243,16 +243,32 @@ core_is m cores shared is c k at =
         let here : found.0 ≡ k = one_core cores (core_of m c) found.0 k shared.apart found.1.lt at.lt
         (ap (set.contains (get_or cores found.0 set.empty)) (sym same) ∙ found.1.least) at.least in
         ap (λ j. set.contains (get_or cores j set.empty) q) (sym here) ∙ found.1.has
+
     is_kept : (q : ℕ) → set.contains (get_or cores k set.empty) q ≡ true → (set.contains (present m) q && (core_of m q == core_of m c)) ≡ true
     is_kept q has =
         let other = in_core m cores shared is q k at.lt has in
         and_true _ _ (shared.within k at.lt q has) (number_test _ _ (other.lowest ∙ sym at.lowest))
 
-below_itself : (m : Layout) (cores : List Ids) → m.lowest ≡ lowest_of cores → (c : ℕ) → core_of m c ≤ c
-below_itself m cores is c =
+-- what is in no core stands for itself
+pub lowest_in-absent : (cores : List Ids) (c : ℕ) → ((k : ℕ) → k < length cores → set.contains (get_or cores k set.empty) c ≡ false) → lowest_in cores c ≡ c
+unfolding lowest_in
+lowest_in-absent cores c none = fold_unless cores c c none
+
+stands_for_itself :
+    (m : Layout) (cores : List Ids) → AreShared m.nodes cores → m.lowest ≡ lowest_of cores → (c : ℕ) → set.contains (present m) c ≡ false → core_of m c ≡ c
+stands_for_itself m cores shared is c absent =
+    elim (cases_lt c CPU_LIMIT) [
+      | inl lt ↦
+          ap (λ xs. get_or xs c c) is ∙ lowest_of-at cores c c lt
+          ∙ lowest_in-absent cores c (λ k within. false_where_not _ (λ has. false≢true (sym absent ∙ shared.within k within c has)))
+      | inr past ↦ let room : length m.lowest ≤ c = omega (arith, ap length is, lowest_of-long cores) in get_or_past m.lowest c c room
+    ]
+
+pub lowest_of-low : (cores : List Ids) (lowest : List ℕ) → lowest ≡ lowest_of cores → (c : ℕ) → get_or lowest c c ≤ c
+lowest_of-low cores lowest is c =
     elim (cases_lt c CPU_LIMIT) [
       | inl lt ↦ rw (ap (λ xs. get_or xs c c) is ∙ lowest_of-at cores c c lt) (lowest_in-below cores c lt)
-      | inr past ↦ let room : length m.lowest ≤ c = omega (arith, ap length is, lowest_of-long cores) in rw (get_or_past m.lowest c c room) (omega arith)
+      | inr past ↦ let room : length lowest ≤ c = omega (arith, ap length is, lowest_of-long cores) in rw (get_or_past lowest c c room) (omega arith)
     ]
 
 size_some : (core : Ids) (size : ℕ) → is_empty core ≡ false → set.len core ≡ size → 1 ≤ size
@@ -270,9 +286,10 @@ AreCores-listed m cores listed is threads =
     let at : (q : ℕ) → IsPresent m q → (k : ℕ) × IsAt m cores q k = find_core m cores listed.shared is in
     record {
       room = ap length is ∙ lowest_of-long cores;
-      lowest = below_itself m cores is;
+      lowest = lowest_of-low cores m.lowest is;
       is_present = λ q p. let f = at q p in (listed.fit f.0 f.1.lt).within _ f.1.least;
       same = λ q p. let f = at q p in (in_core m cores listed.shared is (core_of m q) f.0 f.1.lt f.1.least).lowest ∙ sym f.1.lowest;
+      absent = stands_for_itself m cores listed.shared is;
       one_node = λ q i of_node.
           let f = at q (IsOfNode-IsPresent m q i of_node) in
           let node = (listed.fit f.0 f.1.lt).node in
@@ -314,9 +331,10 @@ alone m is c there =
 pub AreCores-none : (m : Layout) → m.lowest ≡ lowest_of [] → m.threads ≡ 1 → AreCores m
 AreCores-none m is threads = record {
   room = ap length is ∙ lowest_of-long [];
-  lowest = below_itself m [] is;
+  lowest = lowest_of-low [] m.lowest is;
   is_present = λ c p. ap (set.contains (present m)) (own m is c) ∙ p;
   same = λ c p. own m is (core_of m c);
+  absent = λ c p. own m is c;
   one_node = λ c i of_node. record { is_node = of_node.is_node; has_cpu = ap (set.contains (get_or m.nodes i set.empty)) (own m is c) ∙ of_node.has_cpu };
   reserved = λ c p. ap (set.contains m.reserved) (own m is c);
   some = omega (arith, threads);
@@ -338,7 +356,7 @@ AreListed-no_fault nodes reserved cores in_range apart none all =
     let each : (k : ℕ) → k < length cores → IsFit nodes reserved (size_of cores) (left_by nodes (take k cores)) (get_or cores k set.empty) =
     λ k lt. is_core-fit _ _ _ _ _ (when_none _ _ (each_none (length cores) _ none k lt)) in
     let parts : (k : ℕ) → k < length cores → (c : ℕ) → set.contains (get_or cores k set.empty) c ≡ true
-        → (set.contains (union_of nodes) c ≡ true) × (not (set.contains (union_of (take k cores)) c) ≡ true) =
+    → (set.contains (union_of nodes) c ≡ true) × (not (set.contains (union_of (take k cores)) c) ≡ true) =
     λ k lt c has. both_true _ _ (sym (contains-difference (union_of nodes) (union_of (take k cores)) c) ∙ (each k lt).within c has) in
     record {
       nodes_apart = apart;
@@ -350,13 +368,13 @@ AreListed-no_fault nodes reserved cores in_range apart none all =
         node = (each k lt).node;
       };
       shared = record {
-      in_range = in_range;
-      within = λ k lt c has. (parts k lt c has).0;
-      apart = λ j k d before lt c in_j in_k.
-          let in_j_too : set.contains (get_or cores j set.empty) c ≡ true = ap (λ s. set.contains s c) (get_or_default cores j set.empty d (omega arith)) ∙ in_j in
-          let in_k_too : set.contains (get_or cores k set.empty) c ≡ true = ap (λ s. set.contains s c) (get_or_default cores k set.empty d lt) ∙ in_k in
-          true≢false (sym (union_of-at cores j k before lt c in_j_too) ∙ not_true _ (parts k lt c in_k_too).1);
-      all = λ c there. found_in cores c (all c there);
+        in_range = in_range;
+        within = λ k lt c has. (parts k lt c has).0;
+        apart = λ j k d before lt c in_j in_k.
+            let in_j_too : set.contains (get_or cores j set.empty) c ≡ true = ap (λ s. set.contains s c) (get_or_default cores j set.empty d (omega arith)) ∙ in_j in
+            let in_k_too : set.contains (get_or cores k set.empty) c ≡ true = ap (λ s. set.contains s c) (get_or_default cores k set.empty d lt) ∙ in_k in
+            true≢false (sym (union_of-at cores j k before lt c in_j_too) ∙ not_true _ (parts k lt c in_k_too).1);
+        all = λ c there. found_in cores c (all c there);
       };
     }
 

@@ -2,10 +2,10 @@ pub mod BootLaws
 pub mod CoreLaws
 pub mod CoreSteps
 pub mod CoreSets
+pub mod Siblings
 pub mod ItemLaws
 pub mod Marking
 pub mod NoFaultLaws
-pub mod NodeLaws
 pub mod NodeSteps
 pub mod PlaceLaws
 pub mod Reaching

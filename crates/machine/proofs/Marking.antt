@@ -36,16 +36,16 @@ pub record IsMarked (s : Ids) (node : ℕ) (old new : List ℕ) (next : Option �
   pub member : IfSome next (λ n. set.contains s n ≡ true)
   pub in_range : IfSome next (λ n. IsCpu n)
 
-next_is_member : (s : Ids) (from : ℕ) (next : Option ℕ) → IsNext s from next → IfSome next (λ n. set.contains s n ≡ true)
+pub next_is_member : (s : Ids) (from : ℕ) (next : Option ℕ) → IsNext s from next → IfSome next (λ n. set.contains s n ≡ true)
 next_is_member s from None is = tt
 next_is_member s from (Some n) is = is.0.member
 
 -- between a number and the walk's next place there is no member
-nothing_between : (s : Ids) (from c : ℕ) (next : Option ℕ) → IsNext s from next → from ≤ c → IsPassed next c → set.contains s c ≡ false
+pub nothing_between : (s : Ids) (from c : ℕ) (next : Option ℕ) → IsNext s from next → from ≤ c → IsPassed next c → set.contains s c ≡ false
 nothing_between s from c None is above passed = is.0 c above
 nothing_between s from c (Some n) is above passed = is.0.least c above passed
 
-is_ahead : (s : Ids) (from c : ℕ) (next : Option ℕ) → IsNext s from next → IsAhead next c → from ≤ c
+pub is_ahead : (s : Ids) (from c : ℕ) (next : Option ℕ) → IsNext s from next → IsAhead next c → from ≤ c
 is_ahead s from c None is ahead = absurd ahead
 is_ahead s from c (Some n) is ahead = let above : from ≤ n = is.0.above in omega arith
 

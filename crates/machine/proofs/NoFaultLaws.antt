@@ -46,7 +46,7 @@ use Rattle.machine.specs.SoundIsRead.{SoundIsRead}
 use Rattle.machine.specs.WholeLaws.{and_true, number_test}
 use Rattle.machine.proofs.BootLaws.{reserved_fault-none}
 use Rattle.machine.proofs.CoreLaws.{AreShared, in_core, core_is}
-use Rattle.machine.proofs.NodeLaws.{IsPresent-IsOfNode, of_one_node, union_of-has, found_in}
+use Rattle.machine.specs.NodeLaws.{IsPresent-IsOfNode, of_one_node, union_of-has, found_in}
 use Rattle.machine.proofs.PlaceLaws.{is_core-all}
 use Rattle.machine.proofs.RowSteps.{entry_at}
 use Rattle.machine.proofs.SubsetLaws.{is_empty-some, is_subset-trans, is_subset-left}

@@ -17,7 +17,7 @@ use Rattle.machine.specs.KindFaults.{list_fault, AreLists}
 use Rattle.machine.specs.Listed.{listed}
 use Rattle.machine.specs.NodesFault.{twice_fault, node_fault, first_node_fault}
 use Rattle.machine.specs.Present.{union_of}
-use Rattle.machine.proofs.NodeLaws.{apart_from_each}
+use Rattle.machine.specs.NodeLaws.{apart_from_each}
 
 -- the fault of node i, after the nodes before it
 abbrev pub fault_at : List Data → ℕ → Option MachineFault

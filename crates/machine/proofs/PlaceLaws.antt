@@ -18,7 +18,7 @@ use Rattle.machine.proofs.SubsetLaws.{is_empty-some}
 use Rattle.machine.specs.CoresFault.{least_of, is_within, is_core}
 use Rattle.machine.specs.Index.{ArePlaces}
 use Rattle.machine.specs.Present.{union_of}
-use Rattle.machine.proofs.NodeLaws.{found_in}
+use Rattle.machine.specs.NodeLaws.{found_in}
 
 of_one :
     (nodes : List Ids) (places : List ℕ) (core : Ids) (least : ℕ) → ArePlaces nodes places → set.is_subset core (union_of nodes) ≡ true
@@ -49,11 +49,11 @@ pub one_node_test :
     → set.contains core least ≡ true
     → (IsTrue b ↔ ((c : ℕ) → set.contains core c ≡ true → get_or places c 0 ≡ get_or places least 0))
     → list_any (λ node. set.is_subset core node) nodes ≡ b
-one_node_test nodes places core least true are within has says = of_one nodes places core least are within has (says.0 tt)
+one_node_test nodes places core least true are within has says = of_one nodes places core least are within has (says.0 refl)
 one_node_test nodes places core least false are within has says = by_any (list_any (λ node. set.is_subset core node) nodes) refl
   where
     by_any : (b : Bool) → list_any (λ node. set.is_subset core node) nodes ≡ b → b ≡ false
-    by_any true is = absurd (says.1 (one_place nodes places core least are has is))
+    by_any true is = absurd (false≢true (says.1 (one_place nodes places core least are has is)))
     by_any false is = refl
 
 -- ---- the test of a core, part by part

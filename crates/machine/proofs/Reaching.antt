@@ -14,7 +14,7 @@ use Rattle.machine.specs.Nodes.{node_of}
 use Rattle.machine.specs.Present.{present}
 use Rattle.machine.specs.Lowered.{AreLocal, AreLowered}
 use Rattle.machine.specs.Weight.{AreHomes, IsLeast, weight, AreWeights}
-use Rattle.machine.proofs.NodeLaws.{IsPresent-IsOfNode, IsOfNode-IsPresent, node_found}
+use Rattle.machine.specs.NodeLaws.{IsPresent-IsOfNode, IsOfNode-IsPresent, node_found}
 use Rattle.machine.proofs.WeightLaws.{least_below, least_below-IsLeast, weight-least_below}
 
 pub AreLowered-more :

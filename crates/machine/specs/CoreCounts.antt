@@ -9,18 +9,14 @@ use Rattle.std.proofs.Math.Numerals.{add-one}
 use Rattle.std.specs.FinSet as set
 use Rattle.cpu_set.specs.Ids.{Ids, IsDisjoint}
 use Rattle.cpu_set.specs.Members.{IsCpu, InRange}
-use Rattle.cpu_set.specs.Pointwise.{same_members, contains-empty, contains-remove, contains-intersection, is_subset-contains, contains-is_subset}
+use Rattle.cpu_set.specs.Pointwise.{same_members, contains-empty, contains-remove, is_subset-contains, contains-is_subset}
 use Rattle.cpu_set.specs.SetLaws.{len-those_more, len-those_none, those-contains}
 use Rattle.cpu_set.specs.Those.{those, contains-those}
 use Rattle.cpu_set.specs.declared.TheConstants.{CPU_LIMIT}
 use Rattle.machine.specs.Cores.{core_of, cpus_of_core, cores_in, cpus_of_cores, whole_in, AreCores}
 use Rattle.machine.specs.Layout.{Layout}
 use Rattle.machine.specs.Present.{present, IsPresent}
-use Rattle.machine.specs.WholeLaws.{both_true, and_true, one_way, number_test, same_number, contains-cpus_of_core, contains-cores_in, contains-cpus_of_cores, in_own_core, whole_in-whole, cpus_of_cores-cores_in}
-
--- each is the lowest CPU of a core
-abbrev pub AreLowest : Layout → Ids → Type 0
-AreLowest m cores = (c : ℕ) → set.contains cores c ≡ true → IsPresent m c × (core_of m c ≡ c)
+use Rattle.machine.specs.WholeLaws.{AreLowest, both_true, and_true, one_way, number_test, same_number, below_test, contains-cpus_of_core, contains-cores_in, contains-cpus_of_cores, in_own_core, present_sibling, whole_in-whole, cpus_of_cores-cores_in, cores_in-lowest}
 
 -- each core has as many CPUs as there are to a core, so cores have that many times as many
 abbrev pub CoresAreAlike : Type 0
@@ -64,11 +60,14 @@ len-apart s t u in_s in_t in_u apart is =
 
 -- ---- cores one by one
 
-core_in_range : (m : Layout) (core : ℕ) → InRange (present m) → InRange (cpus_of_core m core)
+pub core_in_range : (m : Layout) (core : ℕ) → InRange (present m) → InRange (cpus_of_core m core)
 core_in_range m core in_range c has = in_range c (both_true _ _ (sym (contains-cpus_of_core m core c) ∙ has)).0
 
-pub cores_in_range : (m : Layout) (cores : Ids) → InRange (present m) → InRange (cpus_of_cores m cores)
-cores_in_range m cores in_range c has = in_range c (both_true _ _ (sym (contains-cpus_of_cores m cores c) ∙ has)).0
+below_limit : (c n : ℕ) → nat_lt c n ≡ true → c < n
+below_limit c n lt = grind (arith, nat_tests)
+
+pub cores_in_range : (m : Layout) (cores : Ids) → InRange (cpus_of_cores m cores)
+cores_in_range m cores c has = below_limit c CPU_LIMIT (both_true _ _ (sym (contains-cpus_of_cores m cores c) ∙ has)).0
 
 spread : (p e s : Bool) → (p && (e || s)) ≡ ((p && s) || (p && e))
 spread true true true = refl
@@ -77,37 +76,55 @@ spread true false true = refl
 spread true false false = refl
 spread false e s = refl
 
--- the CPUs of one core more
+-- a number in range that has this core is a CPU of it
+of_core : (m : Layout) (core c : ℕ) → AreCores m → InRange (present m) → IsPresent m core → (nat_lt c CPU_LIMIT && (core_of m c == core)) ≡ set.contains (cpus_of_core m core) c
+of_core m core c are in_range there =
+    one_way _ _
+    (λ has.
+    let p = both_true (nat_lt c CPU_LIMIT) (core_of m c == core) has in
+    and_true _ _ (present_sibling m c are (ap (set.contains (present m)) (same_number _ _ p.1) ∙ there)) p.1)
+    (λ has. let p = both_true (set.contains (present m) c) (core_of m c == core) has in and_true _ _ (below_test _ _ (in_range c p.0)) p.1)
+    ∙ sym (contains-cpus_of_core m core c)
+
+-- the CPUs of one core more are those of the others, and its own
+pub more_cpus :
+    (m : Layout) (cores more : Ids) (core : ℕ) → AreCores m → InRange (present m) → IsPresent m core
+    → ((c : ℕ) → set.contains more c ≡ ((c == core) || set.contains cores c))
+    → (c : ℕ) → set.contains (cpus_of_cores m more) c ≡ (set.contains (cpus_of_cores m cores) c || set.contains (cpus_of_core m core) c)
+more_cpus m cores more core are in_range there is c =
+    contains-cpus_of_cores m more c
+    ∙ ap (λ b. nat_lt c CPU_LIMIT && b) (is (core_of m c))
+    ∙ spread (nat_lt c CPU_LIMIT) (core_of m c == core) (set.contains cores (core_of m c))
+    ∙ ap (λ b. b || (nat_lt c CPU_LIMIT && (core_of m c == core))) (sym (contains-cpus_of_cores m cores c))
+    ∙ ap (λ b. set.contains (cpus_of_cores m cores) c || b) (of_core m core c are in_range there)
+
+pub more_apart : (m : Layout) (cores : Ids) (core : ℕ) → set.contains cores core ≡ false → IsDisjoint (cpus_of_cores m cores) (cpus_of_core m core)
+more_apart m cores core new c in_cores in_core =
+    let p = both_true _ _ (sym (contains-cpus_of_cores m cores c) ∙ in_cores) in
+    let q = both_true _ _ (sym (contains-cpus_of_core m core c) ∙ in_core) in
+    true≢false (sym p.1 ∙ ap (set.contains cores) (same_number _ _ q.1) ∙ new)
+
 one_more :
     (m : Layout) (cores more : Ids) (core : ℕ) → AreCores m → InRange (present m) → IsPresent m core → core_of m core ≡ core
     → set.contains cores core ≡ false → ((c : ℕ) → set.contains more c ≡ ((c == core) || set.contains cores c))
     → set.len (cpus_of_cores m more) ≡ set.len (cpus_of_cores m cores) + m.threads
 one_more m cores more core are in_range there own new is =
     len-apart (cpus_of_cores m cores) (cpus_of_core m core) (cpus_of_cores m more)
-    (cores_in_range m cores in_range) (core_in_range m core in_range) (cores_in_range m more in_range)
-    (λ c in_cores in_core.
-    let p = both_true _ _ (sym (contains-cpus_of_cores m cores c) ∙ in_cores) in
-    let q = both_true _ _ (sym (contains-cpus_of_core m core c) ∙ in_core) in
-    true≢false (sym p.1 ∙ ap (set.contains cores) (same_number _ _ q.1) ∙ new))
-    (λ c.
-    contains-cpus_of_cores m more c
-    ∙ ap (λ b. set.contains (present m) c && b) (is (core_of m c))
-    ∙ spread (set.contains (present m) c) (core_of m c == core) (set.contains cores (core_of m c))
-    ∙ ap (λ b. b || (set.contains (present m) c && (core_of m c == core))) (sym (contains-cpus_of_cores m cores c))
-    ∙ ap (λ b. set.contains (cpus_of_cores m cores) c || b) (sym (contains-cpus_of_core m core c)))
+    (cores_in_range m cores) (core_in_range m core in_range) (cores_in_range m more)
+    (more_apart m cores core new) (more_cpus m cores more core are in_range there is)
     ∙ ap (λ n. set.len (cpus_of_cores m cores) + n) (ap (λ k. set.len (cpus_of_core m k)) (sym own) ∙ are.threads core there)
 
-not_below_itself : (n : ℕ) (b : Bool) → (nat_lt n n && b) ≡ false
+pub not_below_itself : (n : ℕ) (b : Bool) → (nat_lt n n && b) ≡ false
 not_below_itself n b = grind (arith, nat_tests)
 
 below_more : (q n m : ℕ) (b v : Bool) → m ≡ n + 1 → (q ≡ n → b ≡ v) → (nat_lt q m && b) ≡ (((q == n) && v) || (nat_lt q n && b))
 below_more q n m b v next f = grind (arith, nat_tests)
 
-and_one : (a : Bool) → (a && true) ≡ a
+pub and_one : (a : Bool) → (a && true) ≡ a
 and_one true = refl
 and_one false = refl
 
-and_none : (a b : Bool) → ((a && false) || b) ≡ b
+pub and_none : (a b : Bool) → ((a && false) || b) ≡ b
 and_none true b = refl
 and_none false b = refl
 
@@ -127,9 +144,9 @@ no_cores m none zero_ =
     let same : cpus_of_cores m none ≡ none =
     same_members (cpus_of_cores m none) none (λ c.
     contains-cpus_of_cores m none c
-    ∙ ap (λ s. set.contains (present m) c && set.contains s (core_of m c)) empty
-    ∙ ap (λ b. set.contains (present m) c && b) (contains-empty (core_of m c))
-    ∙ and_no (set.contains (present m) c)
+    ∙ ap (λ s. nat_lt c CPU_LIMIT && set.contains s (core_of m c)) empty
+    ∙ ap (λ b. nat_lt c CPU_LIMIT && b) (contains-empty (core_of m c))
+    ∙ and_no (nat_lt c CPU_LIMIT)
     ∙ sym (contains-empty c) ∙ ap (λ s. set.contains s c) (sym empty)) in
     ap set.len same ∙ zero_ ∙ nothing (set.len none) m.threads zero_
 
@@ -146,7 +163,7 @@ counted_more m old new n false are in_range lowest apart each more before =
     let same : new ≡ old = same_members new old (λ c. each c ∙ and_none (c == n) (set.contains old c)) in
     rw same before
 
-those_more : (p : ℕ → Bool) (n c : ℕ) → set.contains (those p (suc n)) c ≡ (((c == n) && p n) || set.contains (those p n) c)
+pub those_more : (p : ℕ → Bool) (n c : ℕ) → set.contains (those p (suc n)) c ≡ (((c == n) && p n) || set.contains (those p n) c)
 those_more p n c =
     contains-those p (suc n) c
     ∙ below_more c n (suc n) (p c) (p n) (omega arith) (λ e. ap p e)
@@ -169,16 +186,16 @@ cores_are_alike m cores are in_range lowest =
     let all : those (set.contains cores) CPU_LIMIT ≡ cores = those-contains cores CPU_LIMIT (within_all m cores in_range lowest) in
     rw all at (counted_below m cores CPU_LIMIT are in_range lowest)
 
--- the cores in a set are by their lowest CPUs
-pub cores_in-lowest : (m : Layout) (s : Ids) → AreLowest m (cores_in m s)
-cores_in-lowest m s c has =
-    let p = both_true _ _ (sym (contains-cores_in m s c) ∙ has) in
-    (p.0, same_number _ _ (both_true _ _ p.1).0)
+-- what is whole in a set of present CPUs has the CPUs of so many cores
+abbrev pub WholeIsCounted : Type 0
+WholeIsCounted =
+    (m : Layout) (s : Ids) → AreCores m → InRange (present m) → set.is_subset s (present m) ≡ true
+    → set.len (whole_in m s) ≡ set.len (cores_in m s) * m.threads
 
--- what is whole in a set has the CPUs of so many cores
-pub len-whole_in : (m : Layout) (s : Ids) → AreCores m → InRange (present m) → set.len (whole_in m s) ≡ set.len (cores_in m s) * m.threads
-len-whole_in m s are in_range =
-    ap set.len (sym (cpus_of_cores-cores_in m s are)) ∙ cores_are_alike m (cores_in m s) are in_range (cores_in-lowest m s)
+pub len-whole_in : WholeIsCounted
+len-whole_in m s are in_range within =
+    ap set.len (sym (cpus_of_cores-cores_in m s are (λ c has. in_range c (is_subset-contains s (present m) within c has))))
+    ∙ cores_are_alike m (cores_in m s) are in_range (cores_in-lowest m s within)
 
 -- ---- one CPU to a core
 
@@ -198,50 +215,47 @@ one_member s a b one has_a has_b =
     ]
 
 -- where a core has one CPU, each CPU is a core of its own
-pub own_core : (m : Layout) (c : ℕ) → AreCores m → m.threads ≡ 1 → IsPresent m c → core_of m c ≡ c
-own_core m c are one there =
+own_by : (m : Layout) (c : ℕ) (b : Bool) → AreCores m → m.threads ≡ 1 → set.contains (present m) c ≡ b → core_of m c ≡ c
+own_by m c true are one there =
     one_member (cpus_of_core m (core_of m c)) (core_of m c) c (are.threads c there ∙ one)
     (contains-cpus_of_core m (core_of m c) (core_of m c) ∙ and_true _ _ (are.is_present c there) (number_test _ _ (are.same c there)))
     (in_own_core m c there)
+own_by m c false are one absent = are.absent c absent
 
--- and each set of present CPUs is whole
+pub own_core : (m : Layout) (c : ℕ) → AreCores m → m.threads ≡ 1 → core_of m c ≡ c
+own_core m c are one = own_by m c (set.contains (present m) c) are one refl
+
+-- so each set is whole, its CPUs are its cores, and they are the CPUs of these
 abbrev pub AllAreWhole : Type 0
-AllAreWhole = (m : Layout) (s : Ids) → AreCores m → m.threads ≡ 1 → set.is_subset s (present m) ≡ true → whole_in m s ≡ s
+AllAreWhole = (m : Layout) (s : Ids) → AreCores m → m.threads ≡ 1 → whole_in m s ≡ s
+
+abbrev pub CpusAreCores : Type 0
+CpusAreCores = (m : Layout) (s : Ids) → AreCores m → m.threads ≡ 1 → cores_in m s ≡ s
+
+abbrev pub CoresAreCpus : Type 0
+CoresAreCpus = (m : Layout) (s : Ids) → AreCores m → m.threads ≡ 1 → InRange s → cpus_of_cores m s ≡ s
 
 pub all_are_whole : AllAreWhole
-all_are_whole m s are one within =
-    whole_in-whole m s
-    (λ a b there_a there_b same. ap (set.contains s) (sym (own_core m a are one there_a) ∙ same ∙ own_core m b are one there_b)) within
+all_are_whole m s are one =
+    whole_in-whole m s are (λ a b there_a there_b same. ap (set.contains s) (sym (own_core m a are one) ∙ same ∙ own_core m b are one))
 
-own_number : (m : Layout) (c q : ℕ) → AreCores m → m.threads ≡ 1 → IsPresent m c → IsPresent m q → core_of m q ≡ core_of m c → q ≡ c
-own_number m c q are one there_c there_q same = sym (own_core m q are one there_q) ∙ same ∙ own_core m c are one there_c
-
--- then a core is a present CPU
-pub single_cores_in : (m : Layout) (s : Ids) → AreCores m → m.threads ≡ 1 → cores_in m s ≡ set.intersection (present m) s
+pub single_cores_in : CpusAreCores
 single_cores_in m s are one =
-    same_members _ _ (λ c.
+    same_members (cores_in m s) s (λ c.
     contains-cores_in m s c
-    ∙ one_way _ _ (λ has.
-    let p = both_true _ _ has in
-    let q = both_true _ _ p.1 in
-    and_true _ _ p.0
-    (is_subset-contains (cpus_of_core m c) s q.1 c
-    (contains-cpus_of_core m c c ∙ and_true _ _ p.0 q.0)))
+    ∙ one_way _ _ (λ has. (both_true (set.contains s c) _ has).0)
     (λ has.
-    let p = both_true _ _ has in
-    let own : core_of m c ≡ c = own_core m c are one p.0 in
-    and_true _ _ p.0
+    let own : core_of m c ≡ c = own_core m c are one in
+    and_true _ _ has
     (and_true _ _ (number_test _ _ own)
     (contains-is_subset (cpus_of_core m c) s (λ q in_core.
     let r = both_true _ _ (sym (contains-cpus_of_core m c q) ∙ in_core) in
-    ap (set.contains s) (own_number m c q are one p.0 r.0 (same_number _ _ r.1 ∙ sym own)) ∙ p.1))))
-    ∙ sym (contains-intersection (present m) s c))
+    ap (set.contains s) (sym (own_core m q are one) ∙ same_number _ _ r.1) ∙ has)))))
 
-pub single_cpus_of_cores : (m : Layout) (cores : Ids) → AreCores m → m.threads ≡ 1 → cpus_of_cores m cores ≡ set.intersection (present m) cores
-single_cpus_of_cores m cores are one =
-    same_members _ _ (λ c.
-    contains-cpus_of_cores m cores c
+pub single_cpus_of_cores : CoresAreCpus
+single_cpus_of_cores m s are one in_range =
+    same_members (cpus_of_cores m s) s (λ c.
+    contains-cpus_of_cores m s c
     ∙ one_way _ _
-    (λ has. let p = both_true _ _ has in and_true _ _ p.0 (ap (set.contains cores) (sym (own_core m c are one p.0)) ∙ p.1))
-    (λ has. let p = both_true _ _ has in and_true _ _ p.0 (ap (set.contains cores) (own_core m c are one p.0) ∙ p.1))
-    ∙ sym (contains-intersection (present m) cores c))
+    (λ has. ap (set.contains s) (sym (own_core m c are one)) ∙ (both_true (nat_lt c CPU_LIMIT) _ has).1)
+    (λ has. and_true _ _ (below_test _ _ (in_range c has)) (ap (set.contains s) (own_core m c are one) ∙ has)))

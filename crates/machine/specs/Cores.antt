@@ -1,13 +1,14 @@
 -- Physical cores: CPUs of one core are hyperthreads (SMT siblings) of one another. A core is named by its lowest CPU.
-use Rattle.std.specs.Prelude.{◌≡◌, ℕ, ◌≤◌, Bool, ◌==◌, ◌&&◌, length, slice_index_or}
+use Rattle.std.specs.Prelude.{◌≡◌, ℕ, ◌≤◌, Bool, false, ◌==◌, ◌&&◌, length, slice_index_or}
 use Rattle.std.specs.FinSet as set
 use Rattle.cpu_set.specs.Ids.{Ids}
+use Rattle.cpu_set.specs.Those.{those}
 use Rattle.cpu_set.specs.declared.TheConstants.{CPU_LIMIT}
 use Rattle.machine.specs.Layout.{Layout}
 use Rattle.machine.specs.Nodes.{IsOfNode}
 use Rattle.machine.specs.Present.{present, IsPresent}
 
--- the lowest CPU of the core that has this CPU
+-- the lowest CPU of the core that has this CPU; a number of no core stands for itself
 abbrev pub core_of : Layout → ℕ → ℕ
 core_of m cpu = slice_index_or m.lowest cpu cpu
 
@@ -21,27 +22,29 @@ is_core_in m cpus core = (core_of m core == core) && set.is_subset (cpus_of_core
 
 -- the lowest CPUs of the cores of which a set has all CPUs
 unfoldable pub cores_in : Layout → Ids → Ids
-cores_in m cpus = set.retain (present m) (is_core_in m cpus)
+cores_in m cpus = set.retain cpus (is_core_in m cpus)
 
 -- the CPUs of the cores with these lowest CPUs
 unfoldable pub cpus_of_cores : Layout → Ids → Ids
-cpus_of_cores m cores = set.retain (present m) (λ cpu. set.contains cores (core_of m cpu))
+cpus_of_cores m cores = those (λ cpu. set.contains cores (core_of m cpu)) CPU_LIMIT
 
 -- the CPUs of those cores of which a set has all CPUs
 unfoldable pub whole_in : Layout → Ids → Ids
-whole_in m cpus = set.retain (present m) (λ cpu. set.is_subset (cpus_of_core m (core_of m cpu)) cpus)
+whole_in m cpus = set.retain cpus (λ cpu. set.is_subset (cpus_of_core m (core_of m cpu)) cpus)
 
 -- Whole: of each core a set has all CPUs or none.
 abbrev pub IsWhole : Layout → Ids → Type 0
 IsWhole m cpus =
     (a b : ℕ) → IsPresent m a → IsPresent m b → core_of m a ≡ core_of m b → set.contains cpus a ≡ set.contains cpus b
 
--- What holds of the cores of each machine: each is within a node and has as many CPUs as each other; all CPUs of it are reserved, or none.
+-- What holds of the cores of each machine: each is within a node and has as many CPUs as each other; all CPUs of it are reserved, or none; and a
+-- number that is no CPU of the machine is of none.
 pub record AreCores (m : Layout) : Type 0 where
   pub room : length m.lowest ≡ CPU_LIMIT
   pub lowest : (cpu : ℕ) → core_of m cpu ≤ cpu
   pub is_present : (cpu : ℕ) → IsPresent m cpu → IsPresent m (core_of m cpu)
   pub same : (cpu : ℕ) → IsPresent m cpu → core_of m (core_of m cpu) ≡ core_of m cpu
+  pub absent : (cpu : ℕ) → set.contains (present m) cpu ≡ false → core_of m cpu ≡ cpu
   pub one_node : (cpu i : ℕ) → IsOfNode m cpu i → IsOfNode m (core_of m cpu) i
   pub reserved : (cpu : ℕ) → IsPresent m cpu → set.contains m.reserved (core_of m cpu) ≡ set.contains m.reserved cpu
   pub some : 1 ≤ m.threads

@@ -5,9 +5,10 @@ pub mod Nodes
 pub mod Weight
 pub mod Lowered
 pub mod Cores
-pub mod CoresOf
 pub mod WholeLaws
+pub mod NodeLaws
 pub mod CoreCounts
+pub mod CoreSums
 pub mod IsSound
 pub mod Index
 pub mod FieldName

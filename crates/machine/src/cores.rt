@@ -1,5 +1,5 @@
 //! The cores, as the member `cores` lists their CPUs.
-ghost use Rattle.std.specs.Prelude.{◌≡◌, ◌≤◌, ℕ, ◌<◌, ◌&&◌, ◌||◌, ◌==◌, true, IsTrue, IfOk, IfSome, OnOk, AllPairs, is_some, length, map, slice_index_or, ◌↔◌, List, [], ◌∷◌};
+ghost use Rattle.std.specs.Prelude.{◌≡◌, ◌≤◌, ℕ, ◌<◌, ◌&&◌, ◌||◌, ◌==◌, true, IsTrue, IfOk, IfSome, OnOk, AllPairs, is_some, length, map, slice_index_or, ◌↔◌, List, [], ◌∷◌, Some};
 ghost use Rattle.std.specs.List.{list_all};
 ghost use Rattle.std.specs.Result.{result_err};
 ghost use Rattle.std.specs.FinSet as set;
@@ -10,10 +10,10 @@ ghost use Rattle.cpu_set.specs.declared.TheConstants.{CPU_LIMIT};
 ghost use Rattle.machine.specs.declared.TheConstants.{NODE_LIMIT};
 ghost use Rattle.machine.specs.declared.field.Field.TheVariants.{Nodes, Cores as CoresField};
 ghost use Rattle.machine.specs.CoresFault.{cores_fault, lists_fault, first_core_fault, left_fault, least_of, lowest_of, size_of, is_within, is_core};
-ghost use Rattle.machine.specs.Index.{ArePlaces};
+ghost use Rattle.machine.specs.Index.{ArePlaces, AreSiblings};
 ghost use Rattle.machine.specs.KindFaults.{AreLists};
 ghost use Rattle.machine.specs.Listed.{is_list, listed};
-ghost use Rattle.machine.specs.Members.{items_in};
+ghost use Rattle.machine.specs.Members.{items_in, items_of};
 ghost use Rattle.machine.specs.Present.{union_of};
 ghost use Rattle.faults.specs.First.{first_of};
 
@@ -35,7 +35,6 @@ pub(crate) struct Cores {
 }
 
 /// The cores that the member lists, of a machine with these nodes; where it is absent, each CPU is a core of its own.
-#[tactic(auto, unfolding(crate::specs::CoresFault::cores_fault))]
 pub(crate) fn read_cores(
     found: Option<&Value>,
     nodes: &[Value],
@@ -50,12 +49,31 @@ pub(crate) fn read_cores(
     ensures lowest { IfOk result (λ c. c.lowest ≡ lowest_of (map listed (items_in (seen found.entry)))) }
     ensures threads { IfOk result (λ c. c.threads ≡ size_of (map listed (items_in (seen found.entry)))) }
 {
-    let Some(value) = found else {
-        return Ok(Cores {
+    match found {
+        Some(value) => read_listed(value, nodes, present, reserved),
+        None => Ok(Cores {
             lowest: each_cpu(),
             threads: 1,
-        });
-    };
+        }),
+    }
+}
+
+/// The cores that a value lists.
+#[tactic(auto, unfolding(crate::specs::CoresFault::cores_fault))]
+fn read_listed(
+    value: &Value,
+    nodes: &[Value],
+    present: &IdSet,
+    reserved: &IdSet,
+) -> Result<Cores, MachineFault>
+    requires lists { AreLists Nodes (map view nodes.now) }
+    requires few { length nodes.now ≤ NODE_LIMIT }
+    requires apart { AllPairs IsDisjoint (map listed (map view nodes.now)) }
+    requires present { present.now ≡ union_of (map listed (map view nodes.now)) }
+    ensures fault { cores_fault (map listed (map view nodes.now)) reserved.now (Some (view value.now)) ≡ result_err result }
+    ensures lowest { IfOk result (λ c. c.lowest ≡ lowest_of (map listed (items_of (view value.now)))) }
+    ensures threads { IfOk result (λ c. c.threads ≡ size_of (map listed (items_of (view value.now)))) }
+{
     let items = array(Some(value), Field::Cores)?;
     check_lists(items)?;
     read_each(items, nodes, present, reserved)
@@ -156,7 +174,9 @@ fn core_of(
     ensures fits { (nodes : List Ids) → ArePlaces nodes places.now → set.is_subset left.now (union_of nodes) ≡ true → is_some result ≡ is_core nodes reserved.now threads left.now core.now }
     ensures least { IfSome result (λ n. n ≡ least_of core.now) }
 {
-    let least = core.first()?;
+    let Some(least) = core.first() else {
+        return None;
+    };
     if !is_within(core, left, reserved, threads) {
         return None;
     }
@@ -187,4 +207,22 @@ fn are_of_node(cpus: &IdSet, places: &Numbers, node: u16) -> bool
         next = cpus.next_after(cpu);
     }
     true
+}
+
+/// For each CPU number the next one of its core, [`CPU_LIMIT`] where there is none, given the lowest of its core.
+pub(crate) fn siblings_of(lowest: &Numbers) -> Numbers
+    requires room { length lowest.now ≡ CPU_LIMIT }
+    requires low { (c : ℕ) → slice_index_or lowest.now c c ≤ c }
+    ensures { AreSiblings lowest.now result }
+{
+    let mut firsts = [CPU_LIMIT; CPU_LIMIT as usize];
+    let mut next = [CPU_LIMIT; CPU_LIMIT as usize];
+    let mut cpu = CPU_LIMIT;
+    while cpu > 0 {
+        cpu -= 1;
+        let core = lowest[cpu as usize] as usize;
+        next[cpu as usize] = firsts[core];
+        firsts[core] = cpu;
+    }
+    next
 }

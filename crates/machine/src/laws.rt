@@ -1,7 +1,8 @@
-//! Laws over the definitions alone: nothing here runs.
+//! Cores and whole sets, and which texts are read: laws over the definitions alone. Nothing here runs.
 ghost use Rattle.std.specs.Prelude.{◌≡◌};
-ghost use Rattle.machine.specs.CoreCounts.{CoresAreAlike, AllAreWhole};
-ghost use Rattle.machine.specs.WholeLaws.{WholeIsWithin, WholeIsAll, WholeIsOfCores, CoresAreWhole, CoresStayApart};
+ghost use Rattle.machine.specs.CoreCounts.{CoresAreAlike, WholeIsCounted, AllAreWhole, CpusAreCores, CoresAreCpus};
+ghost use Rattle.machine.specs.CoreSums.{CoresWeighAlike, CoresAreNear};
+ghost use Rattle.machine.specs.WholeLaws.{WholeIsWithin, WholeIsAll, WholeIsOfCores, CoresAreWhole, CoresStayApart, CoresComeBack, CoresAreWithin, CoresAreLowest, CoresRise, CoresFillWithin};
 ghost use Rattle.machine.specs.SoundIsRead.{SoundIsRead};
 
 use crate::{MAX_BYTES, NODE_LIMIT};
@@ -14,16 +15,39 @@ pub fn sound_machines_are_read()
 {}
 
 /// What is whole in a set of CPUs is within the set, is all of it where it is whole, and is the CPUs of the cores of which the
-/// set has all; the CPUs of cores are whole, those of cores that share none share none, and n cores have n times as many as
-/// one. Where a core has one CPU, each set of present CPUs is whole.
+/// set has all; the CPUs of cores are whole, and those of cores that share none share none.
 pub fn whole_laws()
     ensures within { WholeIsWithin }
     ensures all { WholeIsAll }
     ensures cores { WholeIsOfCores }
     ensures whole { CoresAreWhole }
     ensures apart { CoresStayApart }
-    ensures counted { CoresAreAlike }
-    ensures single { AllAreWhole }
+{}
+
+/// The cores in a set are CPUs of the set, each the lowest of its core; a set within another has no core that the other has not;
+/// cores are in the CPUs of those cores alone, and the CPUs of cores that are in a set are in the set.
+pub fn core_laws()
+    ensures within { CoresAreWithin }
+    ensures lowest { CoresAreLowest }
+    ensures rise { CoresRise }
+    ensures back { CoresComeBack }
+    ensures filled { CoresFillWithin }
+{}
+
+/// n cores have n times as many CPUs as one, and so has what is whole in a set; and what is the same of all CPUs of a core, as
+/// their distance to a container's homes is, sums up to so many times that of the cores.
+pub fn core_counts()
+    ensures cores { CoresAreAlike }
+    ensures whole { WholeIsCounted }
+    ensures sums { CoresWeighAlike }
+    ensures near { CoresAreNear }
+{}
+
+/// Where a core has one CPU, each set is whole, and is the set of its cores and of their CPUs.
+pub fn single_cores()
+    ensures whole { AllAreWhole }
+    ensures cores { CpusAreCores }
+    ensures cpus { CoresAreCpus }
 {}
 
 /// A machine has at most 128 nodes, and a machine file at most 1,048,576 bytes.

@@ -1,4 +1,4 @@
-ghost use Rattle.std.specs.Prelude.{◌≡◌, ◌≢◌, ℕ, ◌<◌, ◌≤◌, ◌↔◌, ◌&&◌, ◌==◌, true, nat_lt, length, option_map, IfOk};
+ghost use Rattle.std.specs.Prelude.{◌≡◌, ◌≢◌, ℕ, ◌+◌, ◌<◌, ◌≤◌, ◌↔◌, ◌&&◌, ◌||◌, ◌==◌, true, nat_lt, length, option_map, IfOk};
 ghost use Rattle.serde_json.specs.View.{view};
 ghost use Rattle.std.specs.FinSet as set;
 ghost use Rattle.machine.specs.Layout.{Layout, node_count, cpus_of, distance};
@@ -6,15 +6,15 @@ ghost use Rattle.machine.specs.Present.{present, IsPresent};
 ghost use Rattle.machine.specs.Nodes.{nodes_of, node_of, IsOfNode};
 ghost use Rattle.machine.specs.Weight.{weight, IsWeight, AreHomes, AreWeights, HaveOneWeight};
 ghost use Rattle.machine.specs.Lowered.{AreLocal, AreLowered};
-ghost use Rattle.machine.specs.Cores.{core_of, cpus_of_core, cores_in, cpus_of_cores, whole_in, IsWhole};
-ghost use Rattle.machine.specs.CoresOf.{AreCoresOf};
+ghost use Rattle.machine.specs.Cores.{core_of, cpus_of_core, is_core_in, cores_in, cpus_of_cores, whole_in, IsWhole};
+ghost use Rattle.machine.specs.Index.{IsFirstOf};
 ghost use Rattle.machine.specs.declared.TheConstants.{NODE_LIMIT};
 ghost use Rattle.cpu_set.specs.declared.TheConstants.{CPU_LIMIT};
 ghost use Rattle.cpu_set.specs.Members.{IsCpu, InRange};
 ghost use Rattle.faults.specs.Answers.{Reports, Gives, ChecksFirst};
 
 use crate::boot::{read_offline, read_reserved};
-use crate::cores::read_cores;
+use crate::cores::{read_cores, siblings_of};
 use crate::fault::MachineFault;
 use crate::field::Field;
 use crate::index::places_of;
@@ -44,6 +44,7 @@ pub struct Machine {
     present: IdSet,
     places: Vec<u16>,
     lowest: Vec<u16>,
+    siblings: Vec<u16>,
     threads: u32,
 }
 
@@ -71,7 +72,7 @@ impl Model for Machine {
       online = m.online;
       lowest = m.lowest.items;
       threads = m.threads;
-    }) m.present m.places.items };
+    }) m.present m.places.items m.siblings.items };
 }
 
 impl Machine {
@@ -88,14 +89,14 @@ impl Machine {
     /// counts as absent, of one that is given twice the last counts, and all others are ignored.
     ///
     /// # Errors
-    /// Lack of memory, or the first fault in this order. [`MachineFault::NotJson`]; of `nodes` `BadField` and `NodeCount`,
+    /// An allocation failure, or the first fault in this order. [`MachineFault::NotJson`]; of `nodes` `BadField` and `NodeCount`,
     /// and node by node `BadField` and `CpuTwice`; `BothDistances` and `NoDistances`; of a SLIT
     /// `WrongSize`; of `distances` `BadField` where it or a row is no array, `WrongSize`, and entry by
     /// entry in rows `BadField` and `BadDistance`; of `reserved` `BadField` and `BadReserved`; of
     /// `offline` `BadField` and `BadOffline`; of `cores` `BadField`, core by core `BadCore`, and `NoCore`.
     ///
-    /// Before memory is asked for, it is known whether there are too many bytes or none, and whether they
-    /// are UTF-8. Once the JSON value is there, no memory is asked for where it has a fault.
+    /// Before the first allocation it is known whether there are too many bytes or none, and whether they
+    /// are UTF-8. Once the JSON value is there, it allocates nothing where that has a fault.
     #[tactic(auto, unfolding(crate::specs::MachineOf::machine_of))]
     pub fn read(
         alloc: Global,
@@ -144,6 +145,7 @@ impl Machine {
             present,
             places: Vec::from_slice(alloc, &places)?,
             lowest: Vec::from_slice(alloc, &cores.lowest)?,
+            siblings: Vec::from_slice(alloc, &siblings_of(&cores.lowest))?,
             threads: cores.threads,
         })
     }
@@ -224,85 +226,123 @@ impl Machine {
         ensures is { result ≡ self.now.threads }
         ensures some { 1 ≤ result }
         ensures each { (cpu : ℕ) → IsPresent self.now cpu → set.len (cpus_of_core self.now (core_of self.now cpu)) ≡ result }
+        ensures sound { IsSound self.now }
+        ensures in_range { InRange (present self.now) }
     {
         self.threads
     }
 
     /// Whether each CPU is a core of its own.
     fn is_single(&self) -> bool
-        ensures { result ≡ (self.now.threads == 1) }
+        ensures is { result ≡ (self.now.threads == 1) }
+        ensures in_range { InRange (present self.now) }
+        ensures sound { IsSound self.now }
     {
         self.threads == 1
     }
 
-    /// The cores of which the set has all CPUs, each by its lowest CPU. O(c) of c CPU numbers, and a few steps where each CPU is
-    /// a core of its own.
+    /// The cores of which the set has all CPUs, each by its lowest CPU; the set itself where each CPU is a core of its own. O(c)
+    /// of c CPUs in the set.
     pub fn cores_in(&self, cpus: &IdSet) -> IdSet
         ensures is { result ≡ cores_in self.now cpus.now }
         ensures sound { IsSound self.now }
     {
-        let present = self.union();
         if self.is_single() {
-            return present.meet(cpus);
+            return *cpus;
         }
-        let broken = self.cores_of(&present.minus(cpus));
-        self.cores_of(&present).minus(&broken)
-    }
-
-    /// The cores that have one of the CPUs, each by its lowest CPU.
-    fn cores_of(&self, cpus: &IdSet) -> IdSet
-        ensures { AreCoresOf self.now cpus.now result CPU_LIMIT }
-    {
         let mut cores = IdSet::empty();
-        for cpu in 0..CPU_LIMIT {
-            if cpus.contains(cpu) {
-                cores.insert(self.core_at(cpu));
+        let mut next = cpus.first();
+        while let Some(cpu) = next {
+            if self.has_core(cpu, cpus) {
+                cores.insert(cpu);
             }
+            next = cpus.next_after(cpu);
         }
         cores
+    }
+
+    /// Whether the CPU, which the set has, is the lowest of a core of which the set has all CPUs.
+    fn has_core(&self, core: u16, cpus: &IdSet) -> bool
+        requires in_range { IsCpu core }
+        requires member { set.contains cpus.now core ≡ true }
+        ensures { result ≡ is_core_in self.now cpus.now core }
+    {
+        if self.core_at(core) != core {
+            return false;
+        }
+        let mut next = self.sibling_of(core);
+        while next < CPU_LIMIT {
+            if !cpus.contains(next) {
+                return false;
+            }
+            next = self.sibling_of(next);
+        }
+        true
     }
 
     /// The lowest CPU of the CPU's core.
     fn core_at(&self, cpu: u16) -> u16
         requires { IsCpu cpu }
         ensures is { result ≡ core_of self.now cpu }
+        ensures in_range { InRange (present self.now) }
         ensures sound { IsSound self.now }
     {
         self.lowest[cpu as usize]
     }
 
-    /// Whether the CPU is present, and of one of the cores with these lowest CPUs.
-    fn is_of(&self, cpu: u16, cores: &IdSet) -> bool
+    /// The next CPU of the CPU's core, the limit where there is none.
+    fn sibling_of(&self, cpu: u16) -> u16
         requires { IsCpu cpu }
-        ensures { result ≡ (set.contains (present self.now) cpu && set.contains cores.now (core_of self.now cpu)) }
+        ensures { IsFirstOf self.now.lowest (core_of self.now cpu) (cpu + 1) result }
     {
-        self.present.contains(cpu) && cores.contains(self.core_at(cpu))
+        self.siblings[cpu as usize]
     }
 
-    /// The CPUs of the cores with these lowest CPUs. O(c) of c CPU numbers, and a few steps where each CPU is a core of its own.
+    /// The CPUs of the cores with these lowest CPUs; the set itself where each CPU is a core of its own. O(c) of c CPUs.
     pub fn cpus_of_cores(&self, cores: &IdSet) -> IdSet
-        ensures { result ≡ cpus_of_cores self.now cores.now }
+        ensures is { result ≡ cpus_of_cores self.now cores.now }
+        ensures sound { IsSound self.now }
     {
-        let present = self.union();
         if self.is_single() {
-            return present.meet(cores);
+            cores.stays_below_the_limit();
+            return *cores;
         }
         let mut cpus = IdSet::empty();
-        for cpu in 0..CPU_LIMIT {
-            if self.is_of(cpu, cores) {
-                cpus.insert(cpu);
-            }
+        let mut next = cores.first();
+        while let Some(core) = next {
+            self.add_core(core, &mut cpus);
+            next = cores.next_after(core);
         }
         cpus
     }
 
-    /// The CPUs of those cores of which the set has all CPUs. O(c) of c CPU numbers, and a few steps where each CPU is a core of
-    /// its own.
-    pub fn whole_in(&self, cpus: &IdSet) -> IdSet
-        ensures is { result ≡ whole_in self.now cpus.now }
-        ensures whole { IsWhole self.now result }
+    /// Adds the CPUs of the core with this lowest CPU, and none where no core has it.
+    fn add_core(&self, core: u16, cpus: &mut IdSet)
+        requires { IsCpu core }
+        ensures { (q : ℕ) → set.contains cpus.new q ≡ (set.contains cpus.old q || (nat_lt q CPU_LIMIT && (core_of self.now q == core))) }
     {
-        self.cpus_of_cores(&self.cores_in(cpus))
+        if self.core_at(core) != core {
+            return;
+        }
+        let mut next = core;
+        while next < CPU_LIMIT {
+            cpus.insert(next);
+            next = self.sibling_of(next);
+        }
+    }
+
+    /// The CPUs of those cores of which the set has all CPUs; the set itself where each CPU is a core of its own. O(c) of c CPUs
+    /// in the set.
+    pub fn whole_in(&self, cpus: IdSet) -> IdSet
+        ensures is { result ≡ whole_in self.now cpus }
+        ensures whole { IsWhole self.now result }
+        ensures sound { IsSound self.now }
+    {
+        if self.is_single() {
+            return cpus;
+        }
+        cpus.stays_below_the_limit();
+        self.cpus_of_cores(&self.cores_in(&cpus))
     }
 
     /// The node that has the CPU.

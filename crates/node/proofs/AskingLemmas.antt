@@ -1,6 +1,7 @@
 -- The rows of the live pinned containers: what holds of each, and whose it is.
-use Rattle.std.proofs.Common.{◌≡◌, ◌≢◌, ℕ, zero, suc, ◌+◌, ◌*◌, ◌<◌, ◌≤◌, Bool, true, false, cond, ◌&&◌, nat_lt, nat_le, List, [], ◌∷◌, ◌++◌, length, map, Option, Some, None, is_some, option_map, refl, sym, ap, ◌∙◌, subst, sum_by, arith}
-use Rattle.std.proofs.lemmas.Bool.{true≢false, false≢true, and_from}
+use Rattle.std.proofs.Common.{◌≡◌, ◌≢◌, ℕ, zero, suc, ◌+◌, ◌*◌, ◌/◌, ◌<◌, ◌≤◌, Bool, true, false, cond, ◌&&◌, ◌||◌, nat_lt, nat_le, List, [], ◌∷◌, ◌++◌, length, map, Option, Some, None, is_some, option_map, refl, sym, ap, ◌∙◌, subst, sum_by, arith}
+use Rattle.std.proofs.Math.Nat.{mul-div_cancel, mul-le-mul_right}
+use Rattle.std.proofs.lemmas.Bool.{true≢false, false≢true, and_from, and_parts}
 use Rattle.std.proofs.lemmas.Bool.Decides.{nat_tests}
 use Rattle.std.proofs.lemmas.List.{append-nil}
 use Rattle.std.proofs.lemmas.List.Concat.{flat_map-cons}
@@ -15,18 +16,25 @@ use Rattle.std.specs.List.{All, AllPairs, AllByRecursion, AllZip, cons_option, f
 use Rattle.std.specs.FinSet as set
 use Rattle.cpu_set.specs.Ids.{Ids}
 use Rattle.cpu_set.specs.Members.{InRange, cpus}
+use Rattle.cpu_set.specs.Pointwise.{contains-intersection, contains-is_subset}
 use Rattle.cpu_set.specs.SetLaws.{length-members}
+use Rattle.cpu_set.specs.declared.TheConstants.{CPU_LIMIT}
 use Rattle.cpuset_tree.specs.Groups.{has_group}
 use Rattle.kernel_model.specs.KernelState.{KernelState}
+use Rattle.machine.specs.Cores.{core_of, cores_in, cpus_of_cores}
+use Rattle.machine.specs.CoreCounts.{cores_are_alike}
 use Rattle.machine.specs.Layout.{Layout}
+use Rattle.machine.specs.Present.{present, IsPresent}
 use Rattle.machine.specs.Weight.{weight as distance_home}
+use Rattle.machine.specs.WholeLaws.{contains-cpus_of_cores, cores_in-lowest, cpus_of_cores-cores_in}
 use Rattle.demand.specs.declared.Kind.{Kind}
 use Rattle.demand.specs.declared.Kind.TheVariants.{Pinned, Shared}
 use Rattle.demand.specs.declared.Demand.{Demand}
-use Rattle.demand.specs.FitsMachine.{FitsMachine}
+use Rattle.demand.specs.FitsMachine.{AsksForCores, FitsMachine}
 use Rattle.certificate.specs.declared.Offer.{Offer}
 use Rattle.certificate.specs.declared.limits.TheConstants.{MAX_ROWS}
 use Rattle.certificate.specs.Packed.{packed}
+use Rattle.certificate.specs.Sums.{sum_by_times}
 use Rattle.certificate.specs.RowView.{RowView}
 use Rattle.certificate.specs.Weight.{weight}
 use Rattle.certificate.specs.Limits.{row_fits, rows_fit}
@@ -35,7 +43,7 @@ use Rattle.certificate_text.specs.CertificateText.{HaveOwnIds}
 use Rattle.certificate_text.specs.IdWord.{IsId}
 use Rattle.certificate_text.specs.Written.{CanWriteRow}
 use Rattle.rows.specs.Offers.{has_some}
-use Rattle.rows.specs.RowOf.{row_of, row_of_kind}
+use Rattle.rows.specs.RowOf.{available, row_of, row_of_kind}
 use Rattle.rows.specs.Scaled.{kept, moved, parted, scaled, ScaledRowsWeigh}
 use Rattle.rows.specs.Weighs.{RowsWeigh}
 use Rattle.apply_plan.specs.Holders.{Pairwise}
@@ -44,14 +52,14 @@ use Rattle.node.specs.declared.container.Container.{Container as TheContainer}
 use Rattle.node.specs.NodeState.{ContainerState, NodeState}
 use Rattle.node.specs.Owners.{is_pinned, owner_of, owners_of}
 use Rattle.node.specs.Status.{is_live}
-use Rattle.node.specs.IsNode.{HaveOtherIds, IsAsked, IsPlaced, IsNode}
-use Rattle.node.specs.Rows.{row_of_container, rows_in, rows_of, requested_by, scaled_row_of_container, scaled_rows_in, scaled_rows_of, lacking}
+use Rattle.node.specs.IsNode.{HaveOtherIds, IsAsked, IsMachine, IsPlaced, IsNode}
+use Rattle.node.specs.Rows.{as_cores, as_cpus, row_of_container, rows_in, rows_of, requested_by, scaled_row_of_container, scaled_rows_in, scaled_rows_of, lacking}
 use Rattle.node.specs.Rebalance.{Lacks}
 use Rattle.node.specs.Best.{is_asking, asking, wanted_by, CouldHave}
 use Rattle.node.specs.Headline.{is_allowed, IsShort}
-use Rattle.node.specs.Asking.{IsRowOf, IsScaledRowOf, moving_weight}
+use Rattle.node.specs.Asking.{is_open, IsRowOf, IsScaledRowOf, moving_weight}
 use Rattle.node.specs.Viewed.{all_seen}
-use Rattle.node.proofs.DistanceLemmas.{Container, IsWeighed, offers, could_plan, plan_could}
+use Rattle.node.proofs.DistanceLemmas.{Container, IsWeighed, offers, online_there, could_plan, plan_could}
 use Rattle.node.proofs.LaunchLemmas.{is_there}
 use Rattle.node.proofs.ListLemmas.{all_append, all_map, of_all_map, of_pairs_map}
 
@@ -160,18 +168,28 @@ parts_some held (o ∷ offers) =
 -- the row of a demand, where there is one
 record IsMade (m : Layout) (online : Ids) (id : List ℕ) (d : Demand) (row : RowView) : Type 0 where
   id_is : row.id ≡ id
-  demand_is : d.kind ≡ Pinned row.demand
 
 made : (m : Layout) (online : Ids) (id : List ℕ) (d : Demand) (row : RowView) → row_of m online id d ≡ Some row → IsMade m online id d row
-made m online id d row is = by d.kind refl is where
-  by : (kind : Kind) → d.kind ≡ kind → row_of_kind m online id d kind ≡ Some row → IsMade m online id d row
-  by (Pinned count) same e =
-      let row_is = same_Some _ _ e in
-      record {
-        id_is = ap (λ (r : RowView). r.id) (sym row_is);
-        demand_is = same ∙ ap (λ (r : RowView). Pinned r.demand) row_is;
-      }
-  by Shared same e = absurd (none-some row e)
+made m online id d row is = by d.kind is where
+  by : (kind : Kind) → row_of_kind m online id d kind ≡ Some row → IsMade m online id d row
+  by (Pinned count) e = record { id_is = ap (λ (r : RowView). r.id) (sym (same_Some _ _ e)) }
+  by Shared e = absurd (none-some row e)
+
+-- it asks for the cores that make as many CPUs as the demand does
+cores_asked : (m : Layout) (online : Ids) (id : List ℕ) (d : Demand) (row : RowView) → IsMachine m → FitsMachine m d → row_of m online id d ≡ Some row
+    → wanted_by d.kind ≡ row.demand * m.threads
+cores_asked m online id d row h fits is = by d.kind fits.cores is where
+  by : (kind : Kind) → AsksForCores m.threads kind → row_of_kind m online id d kind ≡ Some row → wanted_by kind ≡ row.demand * m.threads
+  by (Pinned count) cores e =
+      let some : 1 ≤ m.threads = h.sound.cores.some in
+      let positive : 0 < m.threads = omega (arith, some) in
+      let whole : count / m.threads ≡ cores.0 = ap (λ n. n / m.threads) cores.1 ∙ mul-div_cancel cores.0 positive in
+      cores.1 ∙ ap (λ n. n * m.threads) (sym whole) ∙ ap (λ (r : RowView). r.demand * m.threads) (same_Some _ _ e)
+  by Shared cores e = absurd (none-some row e)
+
+-- the cores that a container's group requests as a whole
+abbrev pub held_by : KernelState → Layout → Container → Ids
+held_by k m e = cores_in m (requested_by k e)
 
 module _ (k : KernelState) (m : Layout) where
   -- a container with a row is live, and the row is that of its demand
@@ -189,11 +207,11 @@ module _ (k : KernelState) (m : Layout) where
   pub record IsParted (e : List ℕ × ContainerState) (row : RowView) : Type 0 where
     pub plain : RowView
     pub there : row_of_container k m e ≡ Some plain
-    pub row_is : scaled (requested_by k e) plain ≡ row
+    pub row_is : scaled (held_by k m e) plain ≡ row
 
   pub of_parts : (e : List ℕ × ContainerState) (row : RowView) → scaled_row_of_container k m e ≡ Some row → IsParted e row
   of_parts e row is = by (row_of_container k m e) refl is where
-    by : (o : Option RowView) → row_of_container k m e ≡ o → option_map (scaled (requested_by k e)) o ≡ Some row → IsParted e row
+    by : (o : Option RowView) → row_of_container k m e ≡ o → option_map (scaled (held_by k m e)) o ≡ Some row → IsParted e row
     by (Some plain) same e = record { plain = plain; there = same; row_is = same_Some _ _ e }
     by None same e = absurd (none-some row e)
 
@@ -208,7 +226,7 @@ module _ (k : KernelState) (m : Layout) where
       record {
         id_is = subst IsId (sym (id_of e row is)) a.id;
         offers_some = subst (λ (r : RowView). All (λ o. o.cpus ≢ set.empty) r.offers) p.row_is
-            (All-from_recursion (λ o. o.cpus ≢ set.empty) (scaled (requested_by k e) p.plain).offers (parts_some (requested_by k e) p.plain.offers));
+            (All-from_recursion (λ o. o.cpus ≢ set.empty) (scaled (held_by k m e) p.plain).offers (parts_some (held_by k m e) p.plain.offers));
       }
 
   other_ids : (a b : List ℕ × ContainerState) (r s : RowView) → HaveOtherIds (owner_of a) (owner_of b) → scaled_row_of_container k m a ≡ Some r
@@ -264,12 +282,12 @@ all_made k m all left rows asked few distinct so_far none =
       apart = subst HaveOwnIds (sym rows_are) (rows_apart k m (all_seen all) distinct);
     }
 
--- how far a CPU is from a container's homes, and 1 where its group does not request the CPU
+-- how far a core is from a container's homes, and 1 where its group does not request all of the core
 abbrev pub home : Layout → Container → ℕ → ℕ
-home m e cpu = distance_home m e.1.demand.homes cpu
+home m e core = distance_home m e.1.demand.homes core
 
-abbrev pub unheld : KernelState → Container → ℕ → ℕ
-unheld k e cpu = cond (set.contains (requested_by k e) cpu) 0 1
+abbrev pub unheld : KernelState → Layout → Container → ℕ → ℕ
+unheld k m e core = cond (set.contains (held_by k m e) core) 0 1
 
 match_map : {A B : Type 0} (g : A → B) (P : Type 0) (Q : B → Type 0) (o : Option A) → MatchOption o P (λ x. Q (g x)) → MatchOption (option_map g o) P Q
 match_map g P Q None h = h
@@ -300,103 +318,175 @@ module _ (k : KernelState) (m : Layout) where
       zip_given (row_of_container k m) (is_asking k) (IsAsked m) R (λ e a. asking_row R each e a.fits) containers asked
 
   -- and so are the scaled ones
-  pub scaled_with_asking : (R : RowView → Container → Type 0) → Each (λ row e. R (scaled (requested_by k e) row) e) → (containers : List Container)
+  pub scaled_with_asking : (R : RowView → Container → Type 0) → Each (λ row e. R (scaled (held_by k m e) row) e) → (containers : List Container)
       → AllByRecursion (IsAsked m) containers → AllZip R (scaled_rows_in k m containers) (filter (is_asking k) containers)
   scaled_with_asking R each containers asked =
       zip_given (scaled_row_of_container k m) (is_asking k) (IsAsked m) R
-      (λ e a. match_map (scaled (requested_by k e)) (is_asking k e ≡ false) (λ row. (is_asking k e ≡ true) × R row e) (row_of_container k m e)
-      (asking_row (λ row e. R (scaled (requested_by k e) row) e) each e a.fits)) containers asked
+      (λ e a. match_map (scaled (held_by k m e)) (is_asking k e ≡ false) (λ row. (is_asking k e ≡ true) × R row e) (row_of_container k m e)
+      (asking_row (λ row e. R (scaled (held_by k m e) row) e) each e a.fits)) containers asked
 
-  module _ (weigh : RowsWeigh) where
-    pub weighed : Each (IsWeighed k (home m))
+  module _ (h : IsMachine m) (weigh : RowsWeigh) where
+    pub weighed : Each (IsWeighed k m (home m))
     weighed e row fits is = record {
-      demand = sym (ap wanted_by (made m k.tree.online e.0 e.1.demand row is).demand_is);
+      demand = cores_asked m k.tree.online e.0 e.1.demand row h fits is;
       weights = weigh m k.tree.online e.0 e.1.demand row fits is;
     }
 
     is_row_of : Each (IsRowOf k m)
     is_row_of e row fits is =
-        let w : IsWeighed k (home m) row e = weighed e row fits is in
+        let w : IsWeighed k m (home m) row e = weighed e row fits is in
         record {
           row_is = is;
           id = (made m k.tree.online e.0 e.1.demand row is).id_is;
           demand = w.demand;
-          offers = offers k (home m) row e w;
+          offers = offers k m (home m) row e w;
         }
 
-    is_scaled_row_of : ScaledRowsWeigh → Each (λ row e. IsScaledRowOf k m (scaled (requested_by k e) row) e)
+    is_scaled_row_of : ScaledRowsWeigh → Each (λ row e. IsScaledRowOf k m (scaled (held_by k m e) row) e)
     is_scaled_row_of parts e row fits is =
-        let w : IsWeighed k (home m) row e = weighed e row fits is in
+        let w : IsWeighed k m (home m) row e = weighed e row fits is in
         record {
           id = (made m k.tree.online e.0 e.1.demand row is).id_is;
           demand = w.demand;
-          weights = λ cpu.
-              parts (requested_by k e) row cpu ∙ ap (option_map (λ w. packed w (unheld k e cpu))) (w.weights cpu)
-              ∙ map_where (λ w. packed w (unheld k e cpu)) (is_allowed k cpu e) (home m e cpu);
+          weights = λ core.
+              parts (held_by k m e) row core ∙ ap (option_map (λ w. packed w (unheld k m e core))) (w.weights core)
+              ∙ map_where (λ w. packed w (unheld k m e core)) (is_open k m core e) (home m e core);
         }
 
 module _ (n : NodeState) (h : IsNode n) (weigh : RowsWeigh) where
   pub rows_are_asking : AllZip (IsRowOf n.kernel n.machine) (rows_of n) (asking n)
-  rows_are_asking = rows_with_asking n.kernel n.machine (IsRowOf n.kernel n.machine) (is_row_of n.kernel n.machine weigh) n.containers h.asked
+  rows_are_asking = rows_with_asking n.kernel n.machine (IsRowOf n.kernel n.machine) (is_row_of n.kernel n.machine h.layout weigh) n.containers h.asked
 
-  pub rows_are_weighed : AllZip (IsWeighed n.kernel (home n.machine)) (rows_of n) (asking n)
-  rows_are_weighed = rows_with_asking n.kernel n.machine (IsWeighed n.kernel (home n.machine)) (weighed n.kernel n.machine weigh) n.containers h.asked
+  pub rows_are_weighed : AllZip (IsWeighed n.kernel n.machine (home n.machine)) (rows_of n) (asking n)
+  rows_are_weighed =
+      rows_with_asking n.kernel n.machine (IsWeighed n.kernel n.machine (home n.machine)) (weighed n.kernel n.machine h.layout weigh) n.containers h.asked
 
   module _ (parts : ScaledRowsWeigh) where
     pub scaled_are_asking : AllZip (IsScaledRowOf n.kernel n.machine) (scaled_rows_of n) (asking n)
     scaled_are_asking =
-        scaled_with_asking n.kernel n.machine (IsScaledRowOf n.kernel n.machine) (is_scaled_row_of n.kernel n.machine weigh parts) n.containers h.asked
+        scaled_with_asking n.kernel n.machine (IsScaledRowOf n.kernel n.machine) (is_scaled_row_of n.kernel n.machine h.layout weigh parts) n.containers h.asked
 
-    of_scaled : (row : RowView) (e : Container) → IsScaledRowOf n.kernel n.machine row e → IsWeighed n.kernel (moving_weight n.kernel n.machine) row e
+    of_scaled : (row : RowView) (e : Container) → IsScaledRowOf n.kernel n.machine row e → IsWeighed n.kernel n.machine (moving_weight n.kernel n.machine) row e
     of_scaled row e is = record { demand = is.demand; weights = is.weights }
 
-    pub scaled_are_weighed : AllZip (IsWeighed n.kernel (moving_weight n.kernel n.machine)) (scaled_rows_of n) (asking n)
+    pub scaled_are_weighed : AllZip (IsWeighed n.kernel n.machine (moving_weight n.kernel n.machine)) (scaled_rows_of n) (asking n)
     scaled_are_weighed =
-        scaled_with_asking n.kernel n.machine (IsWeighed n.kernel (moving_weight n.kernel n.machine))
-        (λ e row fits is. of_scaled (scaled (requested_by n.kernel e) row) e (is_scaled_row_of n.kernel n.machine weigh parts e row fits is)) n.containers h.asked
+        scaled_with_asking n.kernel n.machine (IsWeighed n.kernel n.machine (moving_weight n.kernel n.machine))
+        (λ e row fits is. of_scaled (scaled (held_by n.kernel n.machine e) row) e (is_scaled_row_of n.kernel n.machine h.layout weigh parts e row fits is)) n.containers h.asked
 
     -- so are those of some numbers
     pub chosen_are_asking : (ks : List ℕ) → AllZip (IsScaledRowOf n.kernel n.machine) (chosen (scaled_rows_of n) ks) (filter_map (slice_get (asking n)) ks)
     chosen_are_asking ks = zip_chosen (IsScaledRowOf n.kernel n.machine) (scaled_rows_of n) (asking n) scaled_are_asking ks
 
-    -- which ask together for what these containers ask for, and offer what one of them is allowed
-    pub asked_by_chosen : (ks : List ℕ) → asked (chosen (scaled_rows_of n) ks) ≡ sum_by (λ e. wanted_by e.1.demand.kind) (filter_map (slice_get (asking n)) ks)
+    -- which ask together for the cores that make what these containers ask for, and offer the cores that one of them may have
+    pub asked_by_chosen : (ks : List ℕ) → asked (chosen (scaled_rows_of n) ks) * n.machine.threads ≡ sum_by (λ e. wanted_by e.1.demand.kind) (filter_map (slice_get (asking n)) ks)
     asked_by_chosen ks =
-        zip_sum (IsScaledRowOf n.kernel n.machine) (λ row. row.demand) (λ e. wanted_by e.1.demand.kind) (λ row e is. is.demand)
+        sym (sum_by_times (λ (row : RowView). row.demand) n.machine.threads (chosen (scaled_rows_of n) ks))
+        ∙ zip_sum (IsScaledRowOf n.kernel n.machine) (λ row. row.demand * n.machine.threads) (λ e. wanted_by e.1.demand.kind) (λ row e is. sym is.demand)
         (chosen (scaled_rows_of n) ks) (filter_map (slice_get (asking n)) ks) (chosen_are_asking ks)
 
-    pub offered_by_chosen : (ks : List ℕ) (cpu : ℕ) → is_offered (chosen (scaled_rows_of n) ks) cpu ≡ list_any (is_allowed n.kernel cpu) (filter_map (slice_get (asking n)) ks)
-    offered_by_chosen ks cpu =
-        zip_any (IsScaledRowOf n.kernel n.machine) (λ row. is_some (weight row cpu)) (is_allowed n.kernel cpu)
-        (λ row e is. offers n.kernel (moving_weight n.kernel n.machine) row e (of_scaled row e is) cpu)
+    pub offered_by_chosen : (ks : List ℕ) (core : ℕ)
+        → is_offered (chosen (scaled_rows_of n) ks) core ≡ list_any (is_open n.kernel n.machine core) (filter_map (slice_get (asking n)) ks)
+    offered_by_chosen ks core =
+        zip_any (IsScaledRowOf n.kernel n.machine) (λ row. is_some (weight row core)) (is_open n.kernel n.machine core)
+        (λ row e is. offers n.kernel n.machine (moving_weight n.kernel n.machine) row e (of_scaled row e is) core)
         (chosen (scaled_rows_of n) ks) (filter_map (slice_get (asking n)) ks) (chosen_are_asking ks)
+
+-- a CPU that a container may have is one of a core that it may have
+any_where : {X : Type 0} (b : Bool) (p : X → Bool) (xs : List X) → (b && list_any p xs) ≡ list_any (λ x. b && p x) xs
+any_where true p xs = refl
+any_where false p [] = refl
+any_where false p (x ∷ xs) = any_where false p xs
+
+any_alike : {X : Type 0} (p q : X → Bool) → ((x : X) → p x ≡ q x) → (xs : List X) → list_any p xs ≡ list_any q xs
+any_alike p q same [] = refl
+any_alike p q same (x ∷ xs) = rw (same x, any_alike p q same xs) refl
+
+module _ (n : NodeState) (h : IsNode n) where
+  may_have : (cpu : ℕ) (e : Container)
+      → (nat_lt cpu CPU_LIMIT && is_open n.kernel n.machine (core_of n.machine cpu) e) ≡ is_allowed n.kernel n.machine cpu e
+  may_have cpu e =
+      let s : Ids = available n.kernel.tree.online e.1.demand in
+      let there : InRange s = λ c has. h.layout.in_range c (online_there n h c (and_parts (set.contains e.1.demand.allowed c) (set.contains n.kernel.tree.online c) (sym (contains-intersection e.1.demand.allowed n.kernel.tree.online c) ∙ has)).1) in
+      sym (contains-cpus_of_cores n.machine (cores_in n.machine s) cpu)
+      ∙ ap (λ t. set.contains t cpu) (cpus_of_cores-cores_in n.machine s h.layout.sound.cores there)
+
+  allowed_to_any : (cores : Ids) (es : List Container) → ((core : ℕ) → set.contains cores core ≡ list_any (is_open n.kernel n.machine core) es) → (cpu : ℕ)
+      → set.contains (cpus_of_cores n.machine cores) cpu ≡ list_any (is_allowed n.kernel n.machine cpu) es
+  allowed_to_any cores es has cpu =
+      contains-cpus_of_cores n.machine cores cpu
+      ∙ ap (λ b. nat_lt cpu CPU_LIMIT && b) (has (core_of n.machine cpu))
+      ∙ any_where (nat_lt cpu CPU_LIMIT) (is_open n.kernel n.machine (core_of n.machine cpu)) es
+      ∙ any_alike (λ e. nat_lt cpu CPU_LIMIT && is_open n.kernel n.machine (core_of n.machine cpu) e) (is_allowed n.kernel n.machine cpu) (may_have cpu) es
+
+  -- the lowest CPUs of cores that one of some containers may have are the lowest of their cores
+  open_lowest : (core : ℕ) (es : List Container) → list_any (is_open n.kernel n.machine core) es ≡ true → IsPresent n.machine core × (core_of n.machine core ≡ core)
+  open_lowest core [] none = absurd (false≢true none)
+  open_lowest core (e ∷ es) some = by (is_open n.kernel n.machine core e) refl (open_lowest core es) some where
+    by : (b : Bool) → is_open n.kernel n.machine core e ≡ b
+        → (list_any (is_open n.kernel n.machine core) es ≡ true → IsPresent n.machine core × (core_of n.machine core ≡ core))
+        → (b || list_any (is_open n.kernel n.machine core) es) ≡ true → IsPresent n.machine core × (core_of n.machine core ≡ core)
+    by true here later some =
+        let s : Ids = available n.kernel.tree.online e.1.demand in
+        cores_in-lowest n.machine s
+        (contains-is_subset s (present n.machine) (λ c has.
+        online_there n h c (and_parts (set.contains e.1.demand.allowed c) (set.contains n.kernel.tree.online c) (sym (contains-intersection e.1.demand.allowed n.kernel.tree.online c) ∙ has)).1)) core here
+    by false here later some = later some
+
+  open_counted : (cores : Ids) (es : List Container) → ((core : ℕ) → set.contains cores core ≡ list_any (is_open n.kernel n.machine core) es)
+      → set.len (cpus_of_cores n.machine cores) ≡ set.len cores * n.machine.threads
+  open_counted cores es has =
+      cores_are_alike n.machine cores h.layout.sound.cores h.layout.in_range (λ core there. open_lowest core es (sym (has core) ∙ there))
 
 -- the set of what rows offer has as many CPUs as they offer
 pub offered_len : (allowed : Ids) (rows : List RowView) → InRange allowed → ((cpu : ℕ) → set.contains allowed cpu ≡ is_offered rows cpu) → set.len allowed ≡ length (offered rows)
 offered_len allowed rows in_range has = sym (length-members allowed in_range) ∙ ap length (filter_agree (set.contains allowed) (is_offered rows) has cpus)
+
+-- what is answered of a shortage, beside what its certificate counts
+module _ (old : NodeState) (h : IsNode old) (weigh : RowsWeigh) (parts : ScaledRowsWeigh) (wanted : ℕ) (allowed : Ids) (new : NodeState) (l : Lacks old wanted allowed new) where
+  abbrev named_rows : List RowView
+  named_rows = chosen (scaled_rows_of old) l.members
+
+  abbrev named : List Container
+  named = filter_map (slice_get (asking old)) l.members
+
+  open_to_named : (core : ℕ) → set.contains l.need.cores core ≡ list_any (is_open old.kernel old.machine core) named
+  open_to_named core = l.need.has core ∙ offered_by_chosen old h weigh parts l.members core
+
+  pub there_counted : set.len allowed ≡ length (offered named_rows) * old.machine.threads
+  there_counted =
+      ap set.len l.need.is ∙ open_counted old h l.need.cores named open_to_named
+      ∙ ap (λ n. n * old.machine.threads) (offered_len l.need.cores named_rows l.need.in_range l.need.has)
+
+  more_wanted : set.len allowed < wanted
+  more_wanted =
+      let short : length (offered named_rows) < asked named_rows = l.decides.shortage.short in
+      let some : 1 ≤ old.machine.threads = h.layout.sound.cores.some in
+      let most : (length (offered named_rows) + 1) * old.machine.threads ≤ asked named_rows * old.machine.threads = mul-le-mul_right old.machine.threads (omega (arith, short)) in
+      let asks : wanted ≡ asked named_rows * old.machine.threads = l.need.asks in
+      let counted : set.len allowed ≡ length (offered named_rows) * old.machine.threads = there_counted in
+      omega (arith, most, asks, counted, some)
 
 -- a shortage of the rows is one of the live pinned containers
 pub short_stands : (old : NodeState) → IsNode old → RowsWeigh → ScaledRowsWeigh → (wanted : ℕ) (allowed : Ids) (new : NodeState) → Lacks old wanted allowed new
     → IsShort old wanted allowed new
 short_stands old h weigh parts wanted allowed new l =
     let named : new.last ≡ Some (lacking old l.members) = ap (λ (n : NodeState). n.last) l.is in
-    let members = chosen (scaled_rows_of old) l.members in
-    let as_many : set.len allowed ≡ length (offered members) = offered_len allowed members l.need.in_range l.need.has in
-    let short : length (offered members) < asked members = l.decides.shortage.short in
-    let asks : wanted ≡ asked members = l.need.asks in
     let could_not : (sets : List Ids) → CouldHave old sets → ⊥ =
-    λ sets could. l.decides.none sets
-    (could_plan old (moving_weight old.kernel old.machine) (scaled_rows_of old) (scaled_are_weighed old h weigh parts) sets could) in
+    λ sets could. l.decides.none (as_cores old.machine sets)
+    (could_plan old h (moving_weight old.kernel old.machine) (scaled_rows_of old) (scaled_are_weighed old h weigh parts) sets could) in
     record {
       members = l.members;
       named = named;
-      asks = asks ∙ asked_by_chosen old h weigh parts l.members;
-      has = λ cpu. l.need.has cpu ∙ offered_by_chosen old h weigh parts l.members cpu;
-      more = omega (arith, as_many, short, asks);
+      asks = l.need.asks ∙ asked_by_chosen old h weigh parts l.members;
+      has = λ cpu.
+          ap (λ s. set.contains s cpu) l.need.is
+          ∙ allowed_to_any old h l.need.cores (filter_map (slice_get (asking old)) l.members) (open_to_named old h weigh parts wanted allowed new l) cpu;
+      more = more_wanted old h weigh parts wanted allowed new l;
       rising = l.decides.shortage.rising;
       there = subst (λ count. All (λ k. k < count) l.members)
           (zip_length (IsScaledRowOf old.kernel old.machine) (scaled_rows_of old) (asking old) (scaled_are_asking old h weigh parts)) l.decides.shortage.there;
-      none = λ sets plan. could_not sets (plan_could old (home old.machine) (rows_of old) (rows_are_weighed old h weigh) sets plan);
+      none = λ plan is. could_not (as_cpus old.machine plan) (plan_could old h (home old.machine) (rows_of old) (rows_are_weighed old h weigh) plan is);
       could_not = could_not;
       same = l.is ∙ ap (λ last. record old { last = last }) (sym named);
     }

@@ -14,7 +14,6 @@ use Rattle.kernel_model.specs.declared.Reply.TheVariants as reply
 use Rattle.kernel_model.specs.KernelState.{KernelState}
 use Rattle.kernel_model.specs.Runs.{reply_of, reply_at_once}
 use Rattle.kernel_model.specs.Runs as kernel
-use Rattle.rows.specs.Weighs.{RowsWeigh}
 use Rattle.apply_plan.specs.declared.Progress.{Progress}
 use Rattle.apply_plan.specs.declared.Progress.TheVariants.{More, Done}
 use Rattle.apply_plan.specs.declared.scan.Write.{Write}
@@ -170,25 +169,25 @@ module _ (law : StepsLeave) (ends : EndsWithin) (o : Ongoing) (old : NodeState) 
   last_ends few (Err NoHandover) after s = absurd (false≢true (sym s.0 ∙ underway))
   last_ends few (Err fault) after s = absurd s
 
-module _ (weigh : RowsWeigh) (law : StepsLeave) (ends : EndsWithin) (o : Ongoing) where
+module _ (law : StepsLeave) (ends : EndsWithin) (o : Ongoing) where
   lasts : (old : NodeState) (events : List Event) (new : NodeState) → IsNode old → old.ongoing ≡ Some o → Run old events new → AllByRecursion IsMore events
       → Lasts o old (steps_in events) new
   lasts old [] new h was r more = unchanged law ends o old h was new r
   lasts old (event ∷ later) new h was (mid, step, run) more =
       let first = goes law ends o old h was mid event step more.0 in
-      let rest = lasts mid later new (runs_keep weigh law old (event ∷ []) mid h (mid, step, refl)) first.still run more.1 in
+      let rest = lasts mid later new (runs_keep law old (event ∷ []) mid h (mid, step, refl)) first.still run more.1 in
       let a : step_in event + writes_to_come o.targets mid.kernel ≤ writes_to_come o.targets old.kernel = first.falls in
       let b : steps_in later + writes_to_come o.targets new.kernel ≤ writes_to_come o.targets mid.kernel = rest.falls in
       record { still = rest.still; falls = omega (arith, a, b) }
 
-pub handovers_end : RowsWeigh → StepsLeave → EndsWithin → FewToCome → HandoversEnd
-handovers_end weigh law ends few old o events new h was run more =
-    let last = lasts weigh law ends o old events new h was run more in
+pub handovers_end : StepsLeave → EndsWithin → FewToCome → HandoversEnd
+handovers_end law ends few old o events new h was run more =
+    let last = lasts law ends o old events new h was run more in
     let falls : steps_in events + writes_to_come o.targets new.kernel ≤ writes_to_come o.targets old.kernel = last.falls in
     let at_most : writes_to_come o.targets old.kernel ≤ 2 * length o.targets.entries = few o.targets old.kernel in
     record {
       still = last.still;
       falls = falls;
       few = at_most;
-      ends = λ all. last_ends law ends o new (runs_keep weigh law old events new h run) last.still (omega (arith, falls, at_most, all));
+      ends = λ all. last_ends law ends o new (runs_keep law old events new h run) last.still (omega (arith, falls, at_most, all));
     }

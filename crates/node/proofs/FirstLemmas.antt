@@ -22,7 +22,7 @@ use Rattle.machine.specs.Layout.{Layout}
 use Rattle.node.specs.declared.phase.Phase.TheVariants.{Settled}
 use Rattle.node.specs.NodeState.{ContainerState, NodeState}
 use Rattle.node.specs.Owners.{owners_of}
-use Rattle.node.specs.IsNode.{IsOfMachine, Holds, IsAsked, IsNode}
+use Rattle.node.specs.IsNode.{IsMachine, IsOfMachine, Holds, IsAsked, IsNode}
 use Rattle.node.specs.Unused.{IsUnused}
 use Rattle.node.specs.Launch.{FindsOr, FindsOrMakes}
 use Rattle.node.specs.Machine.{FirstIsNode}
@@ -105,13 +105,14 @@ module _ (old new : KernelState) (unused : IsUnused old) (well : IsWellFormed ol
   opened : (g : Group) → FindsOrMakes old root name (Ok g) new → Stays old new g []
   opened g f = opened_by (child_of old.tree root name) refl g f
 
-  pub first_node : (machine : Layout) → IsOfMachine old machine → (g : Group) (pool : Ids) (containers : List (List ℕ × ContainerState)) → containers ≡ []
+  pub first_node : (machine : Layout) → IsMachine machine → IsOfMachine old machine → (g : Group) (pool : Ids) (containers : List (List ℕ × ContainerState)) → containers ≡ []
       → FindsOrMakes old root name (Ok g) new
       → IsNode (record { kernel = new; machine = machine; parent = g; containers = containers; pool = pool; phase = Settled; ongoing = None; last = None })
-  first_node machine fits g pool containers none f =
+  first_node machine layout fits g pool containers none f =
       let s = opened g f in
       let few : length containers ≡ 0 = ap length none in
       record {
+        layout = layout;
         machine = record { present = s.machine.present ∙ fits.present; reserved = s.machine.reserved ∙ fits.reserved; nodes = s.machine.nodes ∙ fits.nodes };
         holds = subst (λ (cs : List (List ℕ × ContainerState)). Holds new g (owners_of cs)) (sym none) s.holds;
         few = omega (arith, few);
@@ -121,5 +122,5 @@ module _ (old new : KernelState) (unused : IsUnused old) (well : IsWellFormed ol
       }
 
 pub first_is_node : FirstIsNode
-first_is_node k m n well fits unused o =
-    subst (λ (x : NodeState). IsNode x) (sym o.3) (first_node k n.kernel unused well o.0 o.1 m fits n.parent m.reserved [] refl o.2)
+first_is_node k m n well layout fits unused o =
+    subst (λ (x : NodeState). IsNode x) (sym o.3) (first_node k n.kernel unused well o.0 o.1 m layout fits n.parent m.reserved [] refl o.2)

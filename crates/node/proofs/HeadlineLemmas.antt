@@ -13,7 +13,7 @@ use Rattle.kernel_model.specs.KernelState.{KernelState}
 use Rattle.demand.specs.declared.Kind.{Kind}
 use Rattle.demand.specs.declared.Kind.TheVariants.{Pinned, Shared}
 use Rattle.demand.specs.declared.Demand.{Demand}
-use Rattle.certificate.specs.IsPlan.{IsPlan}
+use Rattle.machine.specs.Layout.{Layout}
 use Rattle.certificate.specs.IsLeast.{IsLeast}
 use Rattle.certificate.specs.Cost.{cost}
 use Rattle.certificate.specs.declared.certificates.Certificate.{Certificate}
@@ -36,14 +36,15 @@ use Rattle.node.specs.NodeState.{ContainerState, NodeState}
 use Rattle.node.specs.Owners.{Owner, is_pinned, owner_of, owners_of}
 use Rattle.node.specs.Status.{is_live}
 use Rattle.node.specs.IsNode.{IsHome, IsPlaced, Holds, IsKept, IsNode}
-use Rattle.node.specs.Rows.{rows_of, planned}
+use Rattle.node.specs.Rows.{as_cores, as_cpus, rows_of, planned}
 use Rattle.node.specs.Best.{is_asking, CouldHave, total_distance, moved, IsBest, IsTold}
 use Rattle.node.specs.Entries.{Target, entry_of, plan_pool, plan_targets, plan_entries, opened}
 use Rattle.node.specs.Rebalance.{Begun, Lacks, Begins, Moves, Finishes, Rebalances}
 use Rattle.node.specs.Leaves.{fault_rise, rise_or_memory}
 use Rattle.node.specs.Headline.{effective, HasItsCpus, IsServed, AreAlone, effective_sets, is_in_any, IsRebalanced, IsBrokenOff, Headline}
 use Rattle.node.proofs.ListLemmas.{all_map, all_map2, pairs_map, all_of_map, of_all_map}
-use Rattle.node.proofs.AskingLemmas.{short_stands}
+use Rattle.node.proofs.AskingLemmas.{home, rows_are_weighed, short_stands}
+use Rattle.node.proofs.DistanceLemmas.{plan_back}
 use Rattle.node.specs.Written.{live_count, RebalanceWrites}
 use Rattle.node.proofs.EntryCount.{entries_live}
 use Rattle.node.proofs.BestLemmas.{best_costs, best_least}
@@ -74,17 +75,21 @@ pub free_parents : (k : KernelState) (parent : Group) (owners : List Owner) → 
 free_parents k parent owners h = all_map (IsPlaced k.tree parent) (λ o. HasFreeParent k o.holder.group) (free_parent k parent h.home) owners h.placed
 
 -- what a container has while the same CPUs are online
-still_its : (k new : KernelState) → new.tree.online ≡ k.tree.online → (pool : Ids) (d : Demand) (kind : Kind) (cpus : Ids) → HasItsCpus k pool d kind cpus
-    → HasItsCpus new pool d kind cpus
-still_its k new same pool d (Pinned count) cpus h = (h.0, λ cpu c. ((h.1 cpu c).0, ap (λ s. set.contains s cpu) same ∙ (h.1 cpu c).1))
-still_its k new same pool d Shared cpus h = h
+still_its : (k new : KernelState) → new.tree.online ≡ k.tree.online → (m : Layout) (pool : Ids) (d : Demand) (kind : Kind) (cpus : Ids)
+    → HasItsCpus k m pool d kind cpus → HasItsCpus new m pool d kind cpus
+still_its k new same m pool d (Pinned count) cpus h = record {
+  size = h.size;
+  each = λ cpu c. ((h.each cpu c).0, ap (λ s. set.contains s cpu) same ∙ (h.each cpu c).1);
+  whole = h.whole;
+}
+still_its k new same m pool d Shared cpus h = h
 
 -- once the hand-over to a plan is open
 abbrev underway : NodeState → List Ids → Option Certificate → NodeState
 underway old sets last = record old { pool = plan_pool old sets; phase = Underway; ongoing = Some (opened old sets); last = last }
 
 -- and once it has ended
-module _ (old : NodeState) (h : IsNode old) (weigh : RowsWeigh) (effects : TargetsTakeEffect) (sets : List Ids) (plan : IsPlan (rows_of old) sets)
+module _ (old : NodeState) (h : IsNode old) (effects : TargetsTakeEffect) (sets : List Ids) (plan_could : CouldHave old sets)
     (last : Option Certificate) (new : NodeState) (s : Settles (opened old sets) (underway old sets last) new) where
   still_live : (c : ContainerState) → is_live new.kernel c ≡ is_live old.kernel c
   still_live c = ap (λ t. is_alive t c.pid) s.table
@@ -97,7 +102,7 @@ module _ (old : NodeState) (h : IsNode old) (weigh : RowsWeigh) (effects : Targe
       → ((e : Container) (later : List Container) (c : Ids) (ss : List Ids) (ts : List Target) → IsDealt old.kernel old.machine e c → P later ss ts
       → P (e ∷ later) (c ∷ ss) ((e, c) ∷ ts)) → P old.containers sets (plan_targets old sets)
   over_plan P none dead shared pinned =
-      over_targets old.kernel old.machine (plan_pool old sets) weigh P none dead shared pinned old.containers h.asked sets plan.met
+      over_targets old.kernel old.machine (plan_pool old sets) P none dead shared pinned old.containers h.asked sets plan_could.own
 
   -- what holds of each container holds of those that get something
   targets_all : (P : Container → Type 0) → AllByRecursion P old.containers → AllByRecursion (λ p. P p.0) (plan_targets old sets)
@@ -125,7 +130,7 @@ module _ (old : NodeState) (h : IsNode old) (weigh : RowsWeigh) (effects : Targe
   take_effect =
       effects new.kernel (plan_entries old sets) s.node.holds.kernel
       (all_of_map entry_of (λ e. HasFreeParent new.kernel e.group) (plan_targets old sets) (targets_all (λ e. HasFreeParent new.kernel e.1.group) parents))
-      (effects_later old.kernel new.kernel s.online (plan_entries old sets) (plan_effects old h weigh sets plan)) s.targets
+      (effects_later old.kernel new.kernel s.online (plan_entries old sets) (plan_effects old h sets plan_could)) s.targets
 
   abbrev HasIt : Target → Type 0
   HasIt p = effective new.kernel p.0 ≡ p.1
@@ -138,18 +143,18 @@ module _ (old : NodeState) (h : IsNode old) (weigh : RowsWeigh) (effects : Targe
 
   -- which is what it asked for
   abbrev HasIts : Container → Type 0
-  HasIts e = HasItsCpus new.kernel new.pool e.1.demand e.1.demand.kind (effective new.kernel e)
+  HasIts e = HasItsCpus new.kernel old.machine new.pool e.1.demand e.1.demand.kind (effective new.kernel e)
 
-  its : (p : Target) → HasIt p → HasItsCpus old.kernel (plan_pool old sets) p.0.1.demand p.0.1.demand.kind p.1 → HasIts p.0
+  its : (p : Target) → HasIt p → HasItsCpus old.kernel old.machine (plan_pool old sets) p.0.1.demand p.0.1.demand.kind p.1 → HasIts p.0
   its p is has =
-      subst (λ cpus. HasItsCpus new.kernel new.pool p.0.1.demand p.0.1.demand.kind cpus) (sym is)
-      (subst (λ pool. HasItsCpus new.kernel pool p.0.1.demand p.0.1.demand.kind p.1) (sym s.pool)
-      (still_its old.kernel new.kernel s.online (plan_pool old sets) p.0.1.demand p.0.1.demand.kind p.1 has))
+      subst (λ cpus. HasItsCpus new.kernel old.machine new.pool p.0.1.demand p.0.1.demand.kind cpus) (sym is)
+      (subst (λ pool. HasItsCpus new.kernel old.machine pool p.0.1.demand p.0.1.demand.kind p.1) (sym s.pool)
+      (still_its old.kernel new.kernel s.online old.machine (plan_pool old sets) p.0.1.demand p.0.1.demand.kind p.1 has))
 
-  served : AllByRecursion (IsServed new.kernel new.pool) old.containers
+  served : AllByRecursion (IsServed new.kernel old.machine new.pool) old.containers
   served = live_all HasIts
-      (all_map2 HasIt (λ p. HasItsCpus old.kernel (plan_pool old sets) p.0.1.demand p.0.1.demand.kind p.1) (λ p. HasIts p.0) its (plan_targets old sets) in_effect
-      (plan_serves old h weigh sets plan))
+      (all_map2 HasIt (λ p. HasItsCpus old.kernel old.machine (plan_pool old sets) p.0.1.demand p.0.1.demand.kind p.1) (λ p. HasIts p.0) its (plan_targets old sets) in_effect
+      (plan_serves old h sets plan_could))
 
   -- and nobody else has
   abbrev AreDisjoint : Container → Container → Type 0
@@ -160,7 +165,7 @@ module _ (old : NodeState) (h : IsNode old) (weigh : RowsWeigh) (effects : Targe
       pairs_map HasIt (λ p q. (is_pinned p.0.1.demand.kind || is_pinned q.0.1.demand.kind) ≡ true → IsDisjoint p.1 q.1) (λ p q. AreDisjoint p.0 q.0)
       (λ p q p_is q_is apart pinned cpu in_p in_q.
       apart pinned cpu (ap (λ t. set.contains t cpu) (sym p_is) ∙ in_p) (ap (λ t. set.contains t cpu) (sym q_is) ∙ in_q))
-      (plan_targets old sets) in_effect (plan_parts old h weigh sets plan)
+      (plan_targets old sets) in_effect (plan_parts old h sets plan_could)
 
   -- what holds of each of those that get something with this one holds of each live container with it
   record Beside (es : List Container) (ts : List Target) : Type 0 where
@@ -219,42 +224,49 @@ module _ (old : NodeState) (h : IsNode old) (weigh : RowsWeigh) (effects : Targe
       ∙ ap (λ ss. set.contains new.kernel.tree.online cpu && not (is_in_any ss cpu)) (sym same_sets)
 
   -- which is the best that they could have
-  pub settled : (total : ℕ) → IsBest old total sets → IsTold old sets total last → IsRebalanced old total new
-  settled total best told = record {
-    served = subst (λ (es : List Container). AllByRecursion (IsServed new.kernel new.pool) es) (sym s.containers) served;
+  pub settled : RowsWeigh → (total : ℕ) → IsBest old total sets → IsTold old sets total last → IsRebalanced old total new
+  settled weigh total best told = record {
+    served = subst (λ (m : Layout). AllByRecursion (IsServed new.kernel m new.pool) new.containers) (sym s.machine)
+        (subst (λ (es : List Container). AllByRecursion (IsServed new.kernel old.machine new.pool) es) (sym s.containers) served);
     alone = subst (λ (es : List Container). Pairwise (AreAlone new.kernel) es) (sym s.containers) alone;
     could = subst (λ (ss : List Ids). CouldHave old ss) (sym same_sets) best.could;
     far = best.far ∙ ap (total_distance old) (sym same_sets);
     nearest = best.nearest;
     fewest = λ others could same. subst (λ (ss : List Ids). moved old ss ≤ moved old others) (sym same_sets) (best.fewest others could same);
     told = subst (λ (ss : List Ids). IsTold old ss total new.last) (sym same_sets) (subst (λ (c : Option Certificate). IsTold old sets total c) (sym s.last) told);
-    least = subst (λ (ss : List Ids). IsLeast (rows_of old) ss) (sym same_sets) (best_least old h weigh total sets best);
-    costs = best_costs old h weigh total sets best ∙ ap (cost (rows_of old)) (sym same_sets);
+    least = subst (λ (ss : List Ids). IsLeast (rows_of old) (as_cores old.machine ss)) (sym same_sets) (best_least old h weigh total sets best);
+    costs = best_costs old h weigh total sets best ∙ ap (λ (ss : List Ids). cost (rows_of old) (as_cores old.machine ss) * old.machine.threads) (sym same_sets);
     pool = pool_rest;
     same = s.containers;
     lives = s.table;
   }
 
 -- after each of the calls, whatever it answers
-module _ (old : NodeState) (h : IsNode old) (weigh : RowsWeigh) where
-  begun_as : (sets : List Ids) → IsPlan (rows_of old) sets → (c : Certificate) → IsKept c → IsNode (underway old sets (Some c))
-  begun_as sets plan c kept = record {
+module _ (old : NodeState) (h : IsNode old) where
+  -- the CPUs that a plan gives
+  abbrev begun_sets : {total : ℕ} {mid : NodeState} → Begun old total mid → List Ids
+  begun_sets b = as_cpus old.machine b.plan
+
+  begun_as : (sets : List Ids) → CouldHave old sets → (c : Certificate) → IsKept c → IsNode (underway old sets (Some c))
+  begun_as sets could c kept = record {
+    layout = h.layout;
     machine = h.machine;
     holds = h.holds;
     few = h.few;
     asked = h.asked;
-    stands = (refl, opened_ongoing old h weigh sets plan);
+    stands = (refl, opened_ongoing old h sets could);
     proved = kept;
   }
 
-  begun_is : (total : ℕ) (mid : NodeState) (b : Begun old total mid) → IsNode (underway old b.sets (Some (planned old b.sets b.prices b.whole)))
-  begun_is total mid b = begun_as b.sets b.least.plan (planned old b.sets b.prices b.whole) b.kept
+  begun_is : (total : ℕ) (mid : NodeState) (b : Begun old total mid) → IsNode (underway old (begun_sets b) (Some (planned old b.plan b.prices b.whole)))
+  begun_is total mid b = begun_as (begun_sets b) b.best.could (planned old b.plan b.prices b.whole) b.kept
 
   pub begun_node : (total : ℕ) (new : NodeState) → Begun old total new → IsNode new
   begun_node total new b = subst (λ (n : NodeState). IsNode n) (sym b.is) (begun_is total new b)
 
   pub lacks_node : (wanted : ℕ) (allowed : Ids) (new : NodeState) → Lacks old wanted allowed new → IsNode new
   lacks_node wanted allowed new l = subst (λ (n : NodeState). IsNode n) (sym l.is) (record {
+    layout = h.layout;
     machine = h.machine;
     holds = h.holds;
     few = h.few;
@@ -273,19 +285,19 @@ module _ (old : NodeState) (h : IsNode old) (weigh : RowsWeigh) where
   -- and after its steps
   module _ (law : StepsLeave) where
     abbrev after_begin : (total : ℕ) (mid : NodeState) → Begun old total mid → NodeState
-    after_begin total mid b = underway old b.sets (Some (planned old b.sets b.prices b.whole))
+    after_begin total mid b = underway old (begun_sets b) (Some (planned old b.plan b.prices b.whole))
 
-    moved_settles : (total : ℕ) (new : NodeState) (m : Moves old total (Ok tt) new) → Settles (opened old m.begun.sets) (after_begin total m.mid m.begun) new
+    moved_settles : (total : ℕ) (new : NodeState) (m : Moves old total (Ok tt) new) → Settles (opened old (begun_sets m.begun)) (after_begin total m.mid m.begun) new
     moved_settles total new m =
         let b = m.begun in
-        settles law (opened old b.sets) (after_begin total m.mid b) new (begun_is total m.mid b) refl
+        settles law (opened old (begun_sets b)) (after_begin total m.mid b) new (begun_is total m.mid b) refl
         (subst (λ (n : NodeState). Finishes n (Ok tt) new) b.is m.finishes)
 
     moved_breaks : (total : ℕ) (fault : KernelFault) (new : NodeState) (m : Moves old total (Err fault) new)
-        → Breaks (opened old m.begun.sets) fault (after_begin total m.mid m.begun) new
+        → Breaks (opened old (begun_sets m.begun)) fault (after_begin total m.mid m.begun) new
     moved_breaks total fault new m =
         let b = m.begun in
-        breaks law (opened old b.sets) fault (after_begin total m.mid b) new (begun_is total m.mid b) refl
+        breaks law (opened old (begun_sets b)) fault (after_begin total m.mid b) new (begun_is total m.mid b) refl
         (subst (λ (n : NodeState). Finishes n (Err fault) new) b.is m.finishes)
 
     pub rebalances_node : (r : Result Outcome (OrMemory NodeFault)) (new : NodeState) → Rebalances old r new → IsNode new
@@ -296,15 +308,27 @@ module _ (old : NodeState) (h : IsNode old) (weigh : RowsWeigh) where
     rebalances_node (Err (Fault Busy)) new e = begins_node (Err (Fault Busy)) new e
     rebalances_node (Err (Fault fault)) new e = absurd e
 
-    pub broken_off : (total : ℕ) (fault : KernelFault) (new : NodeState) → Moves old total (Err fault) new → IsBrokenOff old fault new
-    broken_off total fault new m =
+    -- what it told of the cores
+    begun_told : RowsWeigh → (total : ℕ) (mid : NodeState) (b : Begun old total mid) → IsTold old (begun_sets b) total (Some (planned old b.plan b.prices b.whole))
+    begun_told weigh total mid b = record {
+      prices = b.prices;
+      whole = b.whole;
+      distance = b.distance;
+      parts = b.parts;
+      counts = b.counts;
+      is = ap (λ (cs : List Ids). Some (planned old cs b.prices b.whole))
+          (sym (plan_back old h (home old.machine) (rows_of old) (rows_are_weighed old h weigh) b.plan b.least.plan));
+    }
+
+    pub broken_off : RowsWeigh → (total : ℕ) (fault : KernelFault) (new : NodeState) → Moves old total (Err fault) new → IsBrokenOff old fault new
+    broken_off weigh total fault new m =
         let b = moved_breaks total fault new m in
         record {
-          sets = m.begun.sets;
+          sets = begun_sets m.begun;
           total = total;
-          least = m.begun.least;
+          least = best_least old h weigh total (begun_sets m.begun) m.begun.best;
           best = m.begun.best;
-          told = record { prices = m.begun.prices; whole = m.begun.whole; parts = m.begun.parts; is = b.last };
+          told = subst (λ (c : Option Certificate). IsTold old (begun_sets m.begun) total c) (sym b.last) (begun_told weigh total m.mid m.begun);
           broken = b.broken;
           failed = b.failed;
           counted = b.failures;
@@ -337,31 +361,31 @@ module _ (old : NodeState) (h : IsNode old) (weigh : RowsWeigh) where
       rebalance_makes (Ok (Plan total)) new m =
           let b = m.begun in
           let s = moved_settles total new m in
-          let made : new.kernel.writes ≡ old.kernel.writes + writes_to_come (opened old b.sets).targets old.kernel = s.made in
+          let made : new.kernel.writes ≡ old.kernel.writes + writes_to_come (opened old (begun_sets b)).targets old.kernel = s.made in
           record {
             exact = made ∙ ap (λ (ss : List Ids). old.kernel.writes + writes_to_come (opened old ss).targets old.kernel)
-                (sym (same_sets old h weigh effects b.sets b.least.plan (Some (planned old b.sets b.prices b.whole)) new s));
-            few = omega (arith, made, opened_few b.sets);
+                (sym (same_sets old h effects (begun_sets b) b.best.could (Some (planned old b.plan b.prices b.whole)) new s));
+            few = omega (arith, made, opened_few (begun_sets b));
           }
       rebalance_makes (Ok (Short wanted allowed)) new l = ap (λ (n : NodeState). n.kernel.writes) l.is
       rebalance_makes (Err Memory) new e = ap (λ (n : NodeState). n.kernel.writes) e.1
       rebalance_makes (Err (Fault (Kernel fault))) new m =
-          let spends : Spends (opened old m.1.begun.sets).targets old.kernel 1 new.kernel = (moved_breaks m.0 fault new m.1).spends in
-          omega (arith, spends, opened_few m.1.begun.sets)
+          let spends : Spends (opened old (begun_sets m.1.begun)).targets old.kernel 1 new.kernel = (moved_breaks m.0 fault new m.1).spends in
+          omega (arith, spends, opened_few (begun_sets m.1.begun))
       rebalance_makes (Err (Fault Busy)) new e = ap (λ (n : NodeState). n.kernel.writes) e.1
       rebalance_makes (Err (Fault fault)) new e = absurd e
 
     module _ (effects : TargetsTakeEffect) where
-      pub rebalanced : (total : ℕ) (new : NodeState) → Moves old total (Ok tt) new → IsRebalanced old total new
-      rebalanced total new m =
+      pub rebalanced : RowsWeigh → (total : ℕ) (new : NodeState) → Moves old total (Ok tt) new → IsRebalanced old total new
+      rebalanced weigh total new m =
           let b = m.begun in
-          settled old h weigh effects b.sets b.least.plan (Some (planned old b.sets b.prices b.whole)) new (moved_settles total new m) total b.best
-          (record { prices = b.prices; whole = b.whole; parts = b.parts; is = refl })
+          settled old h effects (begun_sets b) b.best.could (Some (planned old b.plan b.prices b.whole)) new (moved_settles total new m) weigh total b.best
+          (begun_told weigh total m.mid b)
 
-      pub headline : ScaledRowsWeigh → (r : Result Outcome (OrMemory NodeFault)) (new : NodeState) → Rebalances old r new → Headline old r new
-      headline parts (Ok (Plan total)) new m = rebalanced total new m
-      headline parts (Ok (Short wanted allowed)) new l = short_stands old h weigh parts wanted allowed new l
-      headline parts (Err (Fault (Kernel fault))) new m = broken_off m.0 fault new m.1
-      headline parts (Err (Fault Busy)) new e = e
-      headline parts (Err (Fault fault)) new e = absurd e
-      headline parts (Err Memory) new e = e.1
+      pub headline : RowsWeigh → ScaledRowsWeigh → (r : Result Outcome (OrMemory NodeFault)) (new : NodeState) → Rebalances old r new → Headline old r new
+      headline weigh parts (Ok (Plan total)) new m = rebalanced weigh total new m
+      headline weigh parts (Ok (Short wanted allowed)) new l = short_stands old h weigh parts wanted allowed new l
+      headline weigh parts (Err (Fault (Kernel fault))) new m = broken_off weigh m.0 fault new m.1
+      headline weigh parts (Err (Fault Busy)) new e = e
+      headline weigh parts (Err (Fault fault)) new e = absurd e
+      headline weigh parts (Err Memory) new e = e.1

@@ -21,8 +21,11 @@ pub mod DistanceLemmas
 pub mod EntryCount
 pub mod DecidingLemmas
 pub mod BestLemmas
+pub mod NeedLemmas
+pub mod OpeningLemmas
 pub mod HeadlineLemmas
 pub mod ProvedLemmas
+pub mod WithoutLemmas
 pub mod RebalanceLemmas
 pub mod MachineLemmas
 pub mod SaidLemmas

@@ -117,31 +117,31 @@ module _ (old : NodeState) (h : IsNode old) (new : NodeState) where
   stepped law (Err NoHandover) s = unchanged s.1
   stepped law (Err fault) s = absurd s
 
-  step_keeps : RowsWeigh → StepsLeave → (event : Event) → Step old event new → IsNode new
-  step_keeps weigh law (Create id bundle config answer) s = place_keeps old.machine.reserved id bundle config answer s
-  step_keeps weigh law (Adopt id bundle config cpus answer) s = place_keeps cpus id bundle config answer s
-  step_keeps weigh law (Update id bundle config answer) s = update_keeps id bundle config answer s
-  step_keeps weigh law (Start id answer) s = start_keeps id answer s
-  step_keeps weigh law (Kill id signal answer) s = kill_keeps id signal answer s
-  step_keeps weigh law (Delete id answer) s = delete_keeps id answer s
-  step_keeps weigh law (Rebalance answer) s = rebalances_node old h weigh law answer new s
-  step_keeps weigh law (Begin answer) s = begins_node old h weigh answer new s
-  step_keeps weigh law (StepOn answer) s = stepped law answer s
-  step_keeps weigh law (State id answer) s = unchanged s.1
-  step_keeps weigh law (ListAll answer) s = unchanged s.1
-  step_keeps weigh law (SetsOf id answer) s = unchanged s.1
-  step_keeps weigh law (Pool answer) s = unchanged s.1
-  step_keeps weigh law (PhaseIs answer) s = unchanged s.1
-  step_keeps weigh law (ShowCertificate answer) s = unchanged s.1
-  step_keeps weigh law (Fork parent answer) s = moved (record old { kernel = new.kernel }) s.1 (fork_node old h new.kernel parent answer s.0)
-  step_keeps weigh law (Exit pid answer) s = moved (record old { kernel = new.kernel }) s.1 (exit_node old h new.kernel pid answer s.0)
-  step_keeps weigh law (Offline cpu answer) s = moved (record old { kernel = new.kernel }) s.1 (offline_node old h new.kernel cpu answer s.0)
-  step_keeps weigh law (Online cpu answer) s = moved (record old { kernel = new.kernel }) s.1 (online_node old h new.kernel cpu answer s.0)
+  step_keeps : StepsLeave → (event : Event) → Step old event new → IsNode new
+  step_keeps law (Create id bundle config answer) s = place_keeps old.machine.reserved id bundle config answer s
+  step_keeps law (Adopt id bundle config cpus answer) s = place_keeps cpus id bundle config answer s
+  step_keeps law (Update id bundle config answer) s = update_keeps id bundle config answer s
+  step_keeps law (Start id answer) s = start_keeps id answer s
+  step_keeps law (Kill id signal answer) s = kill_keeps id signal answer s
+  step_keeps law (Delete id answer) s = delete_keeps id answer s
+  step_keeps law (Rebalance answer) s = rebalances_node old h law answer new s
+  step_keeps law (Begin answer) s = begins_node old h answer new s
+  step_keeps law (StepOn answer) s = stepped law answer s
+  step_keeps law (State id answer) s = unchanged s.1
+  step_keeps law (ListAll answer) s = unchanged s.1
+  step_keeps law (SetsOf id answer) s = unchanged s.1
+  step_keeps law (Pool answer) s = unchanged s.1
+  step_keeps law (PhaseIs answer) s = unchanged s.1
+  step_keeps law (ShowCertificate answer) s = unchanged s.1
+  step_keeps law (Fork parent answer) s = moved (record old { kernel = new.kernel }) s.1 (fork_node old h new.kernel parent answer s.0)
+  step_keeps law (Exit pid answer) s = moved (record old { kernel = new.kernel }) s.1 (exit_node old h new.kernel pid answer s.0)
+  step_keeps law (Offline cpu answer) s = moved (record old { kernel = new.kernel }) s.1 (offline_node old h new.kernel cpu answer s.0)
+  step_keeps law (Online cpu answer) s = moved (record old { kernel = new.kernel }) s.1 (online_node old h new.kernel cpu answer s.0)
 
-module _ (weigh : RowsWeigh) (law : StepsLeave) where
+module _ (law : StepsLeave) where
   pub runs_keep : RunsKeep
   runs_keep old [] new h r = subst (λ (n : NodeState). IsNode n) (sym r) h
-  runs_keep old (event ∷ later) new h r = runs_keep r.0 later new (step_keeps old h r.0 weigh law event r.1) r.2
+  runs_keep old (event ∷ later) new h r = runs_keep r.0 later new (step_keeps old h r.0 law event r.1) r.2
 
   pub runs_stay_safe : RunsStaySafe
   runs_stay_safe old events new h r = (runs_keep old events new h r).holds.safe
@@ -153,8 +153,8 @@ module _ (weigh : RowsWeigh) (law : StepsLeave) where
       in_effect new.kernel new.kernel.reserved (map (λ o. o.holder) owners) holds.kernel
       (all_of_map (λ o. o.holder) (λ a. HasFreeParent new.kernel a.group) owners (free_parents new.kernel new.parent owners holds)) online holds.safe
 
-  pub runs_rebalance : TargetsTakeEffect → ScaledRowsWeigh → RunsRebalance
-  runs_rebalance effects parts first events old answer new h r b = headline old (runs_keep first events old h r) weigh law effects parts answer new b
+  pub runs_rebalance : TargetsTakeEffect → RowsWeigh → ScaledRowsWeigh → RunsRebalance
+  runs_rebalance effects weigh parts first events old answer new h r b = headline old (runs_keep first events old h r) law effects weigh parts answer new b
 
 -- the steps to the end of a hand-over, as events
 steps_run : (count : ℕ) (old mid new : NodeState) (answer : Result (Unit {0}) KernelFault) → StepsMore count old mid → Ends mid answer new

@@ -45,6 +45,7 @@ module _ (n : NodeState) (h : IsNode n) (new : KernelState) where
   pub kernel_node : Stays n.kernel new n.parent (owners_of n.containers) → Stands new (owners_of n.containers) (is_underway n.phase) n.ongoing
       → IsNode (record n { kernel = new })
   kernel_node s stands = record {
+    layout = h.layout;
     machine = still_of_machine n.kernel new n.machine h.machine s.machine;
     holds = s.holds;
     few = h.few;
@@ -86,6 +87,7 @@ module _ (n : NodeState) (h : IsNode n) (new : KernelState) where
       let room : length n.containers < CONTAINER_LIMIT = free.room in
       let more : length (n.containers ++ (id, new_container bundle said asked g pid) ∷ []) ≡ length n.containers + 1 = length-append n.containers ((id, new_container bundle said asked g pid) ∷ []) in
       record {
+        layout = h.layout;
         machine = still_of_machine n.kernel new n.machine h.machine s.machine;
         holds = subst (λ os. Holds new n.parent os) (sym same) s.holds;
         few = omega (arith, room, more);
@@ -115,6 +117,7 @@ module _ (n : NodeState) (h : IsNode n) (new : KernelState) where
       let few : length n.containers ≤ CONTAINER_LIMIT = h.few in
       let less : length (remove_entry (bytes_eq id) n.containers) ≤ length n.containers = length_left id n.containers in
       record {
+        layout = h.layout;
         machine = still_of_machine n.kernel new n.machine h.machine s.machine;
         holds = s.holds;
         few = omega (arith, few, less);
@@ -134,6 +137,7 @@ module _ (n : NodeState) (h : IsNode n) (new : KernelState) (id : List ℕ) (c :
       let few : length n.containers ≤ CONTAINER_LIMIT = h.few in
       let left = rewritten n.machine.reserved c n.parent id n.containers may.there n.kernel h.holds reserve bundle asked new (Ok tt) w in
       record {
+        layout = h.layout;
         machine = still_of_machine n.kernel new n.machine h.machine left.machine;
         holds = changed_holds n.machine.reserved c n.parent id n.containers may.there n.kernel h.holds reserve bundle asked new left
             (as_written n.machine.reserved c n.parent id n.containers may.there n.kernel h.holds reserve bundle asked new w);
@@ -158,6 +162,7 @@ pub started_node : (n : NodeState) → IsNode n → (id : List ℕ) (c : Contain
 started_node n h id c found =
     let few : length n.containers ≤ CONTAINER_LIMIT = h.few in
     record {
+      layout = h.layout;
       machine = h.machine;
       holds = subst (λ os. Holds n.kernel n.parent os) (sym (owners_started id n.containers c found)) h.holds;
       few = omega (arith, few, length-set_value (bytes_eq id) n.containers (record c { started = true }));

@@ -1,9 +1,8 @@
 -- What a plan gives to the live containers, and the hand-over to it.
-use Rattle.std.proofs.Common.{◌≡◌, inl, inr, ℕ, suc, ◌≤◌, Bool, true, false, cond, not, ◌&&◌, ◌||◌, List, [], ◌∷◌, Option, Some, None, refl, sym, ap, ◌∙◌, subst, arith}
+use Rattle.std.proofs.Common.{◌≡◌, inl, inr, ℕ, ◌≤◌, Bool, true, false, cond, not, ◌&&◌, ◌||◌, List, [], ◌∷◌, refl, sym, ap, ◌∙◌, subst, arith}
 use Rattle.std.proofs.lemmas.Bool.{false≢true, ne_eqb, eqb-true}
-use Rattle.std.proofs.lemmas.List.Elements.{recursion_from_All}
-use Rattle.std.specs.Prelude.{map, drop, slice_index_or, is_some, is_none, IsSome, AllPairs}
-use Rattle.std.specs.List.{AllByRecursion, AllZip, cons_option}
+use Rattle.std.specs.Prelude.{map, drop, filter, slice_index_or, is_none}
+use Rattle.std.specs.List.{AllByRecursion, AllZip}
 use Rattle.std.specs.FinSet as set
 use Rattle.cpu_set.specs.Ids.{Ids, IsDisjoint, is_empty}
 use Rattle.cpu_set.specs.Pointwise.{contains-difference, is_subset-contains, contains-is_subset}
@@ -11,17 +10,11 @@ use Rattle.cpu_set.specs.SetLaws.{empty_of_none, none_of_empty}
 use Rattle.cpuset_tree.specs.declared.Group.{Group}
 use Rattle.cpuset_tree.specs.Groups.{same_group, is_root_entry}
 use Rattle.kernel_model.specs.KernelState.{KernelState}
+use Rattle.machine.specs.Cores.{IsWhole}
 use Rattle.machine.specs.Layout.{Layout}
-use Rattle.machine.specs.Weight.{weight as distance_home}
 use Rattle.demand.specs.declared.Kind.{Kind}
 use Rattle.demand.specs.declared.Kind.TheVariants.{Pinned, Shared}
 use Rattle.demand.specs.FitsMachine.{FitsKind}
-use Rattle.certificate.specs.RowView.{RowView}
-use Rattle.certificate.specs.Weight.{weight}
-use Rattle.certificate.specs.IsPlan.{Meets, IsPlan}
-use Rattle.rows.specs.Offers.{offers_of}
-use Rattle.rows.specs.RowOf.{available, row_of, row_of_kind}
-use Rattle.rows.specs.Weighs.{RowsWeigh}
 use Rattle.apply_plan.specs.declared.Entry.{Entry}
 use Rattle.apply_plan.specs.Holders.{Pairwise}
 use Rattle.apply_plan.specs.KeptLemmas.{is_empty-empty, is_empty-some}
@@ -31,18 +24,19 @@ use Rattle.apply_plan.specs.Effects.{CanTakeEffect}
 use Rattle.node.specs.NodeState.{ContainerState, Ongoing, NodeState}
 use Rattle.node.specs.Owners.{Owner, is_pinned, owner_of, owners_of}
 use Rattle.node.specs.Status.{is_live}
-use Rattle.node.specs.Rows.{rows_in, rows_of}
+use Rattle.node.specs.Best.{AreOwn, CouldHave, is_asking, wanted_by}
 use Rattle.node.specs.Entries.{pool_of, Target, targets_in, entry_of, entries_in, plan_pool, plan_targets, plan_entries, opened}
 use Rattle.node.specs.Headline.{HasItsCpus, is_in_any}
 use Rattle.node.specs.IsNode.{IsAsked, IsNode, HaveOtherIds, IsPlaced}
 use Rattle.node.specs.Ongoing.{AreOf, IsSince, IsOngoing}
+use Rattle.node.proofs.DistanceLemmas.{pairs_by_recursion}
 use Rattle.node.proofs.ListLemmas.{all_map, all_of, pairs_map, all_of_map, of_all_map, pairs_of_map, of_pairs_map}
 use Rattle.node.proofs.LaunchLemmas.{names_apart, is_there}
 
 abbrev Container : Type 0
 Container = List ℕ × ContainerState
 
--- what a pinned container gets: as many CPUs as it asks for, each allowed, online and not reserved
+-- what a pinned container gets: as many CPUs as it asks for, of whole cores, each allowed, online and not reserved
 pub record IsDealt (k : KernelState) (m : Layout) (e : Container) (s : Ids) : Type 0 where
   pub count : ℕ
   pub live : is_live k e.1 ≡ true
@@ -50,37 +44,30 @@ pub record IsDealt (k : KernelState) (m : Layout) (e : Container) (s : Ids) : Ty
   pub some : 1 ≤ count
   pub size : set.len s ≡ count
   pub cpus : (cpu : ℕ) → set.contains s cpu ≡ true → (set.contains e.1.demand.allowed cpu ≡ true) × (set.contains k.tree.online cpu ≡ true)
+  pub whole : IsWhole m s
   pub unreserved : IsDisjoint s m.reserved
 
-both_of : (a b : Bool) (w : ℕ) (o : Option ℕ) → o ≡ cond (a && b) (Some w) None → IsSome o → (a ≡ true) × (b ≡ true)
-both_of true true w o e some = (refl, refl)
-both_of true false w o e some = absurd (false≢true (ap is_some (sym e) ∙ some))
-both_of false b w o e some = absurd (false≢true (ap is_some (sym e) ∙ some))
+-- a set that a pinned container could have
+abbrev Own : KernelState → Layout → Container → Ids → Type 0
+Own k m e s = AreOwn k m e.1.demand (wanted_by e.1.demand.kind) s
 
--- a set that meets the row of a pinned container
-abbrev asked_row : KernelState → Layout → Container → ℕ → RowView
-asked_row k m e count = record { id = e.0; demand = count; offers = offers_of m e.1.demand.homes (available k.tree.online e.1.demand) }
-
-dealt : (k : KernelState) (m : Layout) → RowsWeigh → (e : Container) → IsAsked m e → (count : ℕ) → is_live k e.1 ≡ true → e.1.demand.kind ≡ Pinned count
-    → (s : Ids) → Meets (asked_row k m e count) s → IsDealt k m e s
-dealt k m weigh e asked count live kind s meets =
-    let there : row_of m k.tree.online e.0 e.1.demand ≡ Some (asked_row k m e count) = ap (row_of_kind m k.tree.online e.0 e.1.demand) kind in
+dealt : (k : KernelState) (m : Layout) (e : Container) → IsAsked m e → (count : ℕ) → is_live k e.1 ≡ true → e.1.demand.kind ≡ Pinned count
+    → (s : Ids) → Own k m e s → IsDealt k m e s
+dealt k m e asked count live kind s own =
     let some_of : FitsKind (Pinned count) e.1.demand.allowed = subst (λ x. FitsKind x e.1.demand.allowed) kind asked.fits.kind in
-    let each : (cpu : ℕ) → set.contains s cpu ≡ true → (set.contains e.1.demand.allowed cpu ≡ true) × (set.contains k.tree.online cpu ≡ true) =
-    λ cpu has. both_of (set.contains e.1.demand.allowed cpu) (set.contains k.tree.online cpu) (distance_home m e.1.demand.homes cpu) (weight (asked_row k m e count) cpu)
-    (weigh m k.tree.online e.0 e.1.demand (asked_row k m e count) asked.fits there cpu) (meets.allowed cpu has) in
     record {
       count = count;
       live = live;
       kind = kind;
       some = some_of.0;
-      size = meets.size;
-      cpus = each;
-      unreserved = λ cpu has reserved. asked.fits.unreserved cpu (each cpu has).0 reserved;
+      size = own.size ∙ ap wanted_by kind;
+      cpus = own.each;
+      whole = own.whole;
+      unreserved = λ cpu has reserved. asked.fits.unreserved cpu (own.each cpu has).0 reserved;
     }
 
 -- what holds of containers, sets and targets side by side, if it holds of none and of one more of each case
-module _ (k : KernelState) (m : Layout) (pool : Ids) (weigh : RowsWeigh) (P : List Container → List Ids → List Target → Type 0)
+module _ (k : KernelState) (m : Layout) (pool : Ids) (P : List Container → List Ids → List Target → Type 0)
     (start : P [] [] [])
     (dead : (e : Container) (later : List Container) (sets : List Ids) (ts : List Target) → is_live k e.1 ≡ false → P later sets ts → P (e ∷ later) sets ts)
     (shared : (e : Container) (later : List Container) (sets : List Ids) (ts : List Target) → is_live k e.1 ≡ true → e.1.demand.kind ≡ Shared
@@ -88,18 +75,18 @@ module _ (k : KernelState) (m : Layout) (pool : Ids) (weigh : RowsWeigh) (P : Li
     (pinned : (e : Container) (later : List Container) (s : Ids) (sets : List Ids) (ts : List Target) → IsDealt k m e s
     → P later sets ts → P (e ∷ later) (s ∷ sets) ((e, s) ∷ ts)) where
   over : (e : Container) (later : List Container) → IsAsked m e
-      → ((sets : List Ids) → AllZip Meets (rows_in k m later) sets → P later sets (targets_in k pool later sets))
+      → ((sets : List Ids) → AllZip (Own k m) (filter (is_asking k) later) sets → P later sets (targets_in k pool later sets))
       → (live : Bool) (kind : Kind) → is_live k e.1 ≡ live → e.1.demand.kind ≡ kind → (sets : List Ids)
-      → AllZip Meets (cons_option (cond live (row_of_kind m k.tree.online e.0 e.1.demand kind) None) (rows_in k m later)) sets
+      → AllZip (Own k m) (cond (live && is_pinned kind) (e ∷ filter (is_asking k) later) (filter (is_asking k) later)) sets
       → P (e ∷ later) sets (cond live (cond (is_pinned kind) ((e, slice_index_or sets 0 set.empty) ∷ targets_in k pool later (drop 1 sets)) ((e, pool) ∷ targets_in k pool later sets)) (targets_in k pool later sets))
   over e later asked on false kind l q sets zip = dead e later sets _ l (on sets zip)
   over e later asked on true Shared l q sets zip = shared e later sets _ l q (on sets zip)
   over e later asked on true (Pinned count) l q [] zip = absurd zip
   over e later asked on true (Pinned count) l q (s ∷ sets) zip =
-      pinned e later s sets _ (dealt k m weigh e asked count l q s zip.0) (on sets zip.1)
+      pinned e later s sets _ (dealt k m e asked count l q s zip.0) (on sets zip.1)
 
-  pub over_targets : (containers : List Container) → AllByRecursion (IsAsked m) containers → (sets : List Ids) → AllZip Meets (rows_in k m containers) sets
-      → P containers sets (targets_in k pool containers sets)
+  pub over_targets : (containers : List Container) → AllByRecursion (IsAsked m) containers → (sets : List Ids)
+      → AllZip (Own k m) (filter (is_asking k) containers) sets → P containers sets (targets_in k pool containers sets)
   over_targets [] asked [] zip = start
   over_targets [] asked (s ∷ sets) zip = absurd zip
   over_targets (e ∷ later) asked sets zip = over e later asked.0 (over_targets later asked.1) (is_live k e.1) e.1.demand.kind refl refl sets zip
@@ -108,13 +95,6 @@ module _ (k : KernelState) (m : Layout) (pool : Ids) (weigh : RowsWeigh) (P : Li
 swapped : {X : Type 0} (C : ℕ → Type 0) (P : ℕ → X → Type 0) (xs : List X) → ((c : ℕ) → C c → AllByRecursion (P c) xs) → AllByRecursion (λ x. (c : ℕ) → C c → P c x) xs
 swapped C P [] h = tt
 swapped C P (x ∷ xs) h = (λ c in_c. (h c in_c).0, swapped C P xs (λ c in_c. (h c in_c).1))
-
-pairs_by_recursion : {X : Type 0} (R : X → X → Type 0) (xs : List X) → AllPairs R xs → Pairwise R xs
-pairs_by_recursion R [] h = tt
-pairs_by_recursion R (x ∷ xs) h = (
-  recursion_from_All (R x) xs (λ k d within. h 0 (suc k) d (omega arith) (omega arith)),
-  pairs_by_recursion R xs (λ i j d lt within. h (suc i) (suc j) d (omega arith) (omega arith)),
-)
 
 -- the pool: the online CPUs without those of all sets
 left_without : (a b : Bool) → (a && not b) ≡ true → (a ≡ true) × (b ≡ false)
@@ -175,7 +155,7 @@ not_empty_above s t some within = by (is_empty t) refl where
       let nothing : s ≡ set.empty = empty_of_none s (λ c _. none is c (set.contains s c) refl) in
       absurd (false≢true (sym some ∙ is_empty-empty s nothing))
 
--- what holds of a plan of a node's rows
+-- what holds of sets that a node's containers could have
 module _ (n : NodeState) (h : IsNode n) where
   abbrev AreOther : Container → Container → Type 0
   AreOther a b = same_group a.1.group b.1.group ≡ false
@@ -186,7 +166,7 @@ module _ (n : NodeState) (h : IsNode n) where
       (pairs_map (IsPlaced n.kernel.tree n.parent) HaveOtherIds (λ a b. same_group a.holder.group b.holder.group ≡ false)
       (λ a b pa pb other. names_apart n.kernel.tree n.parent a.id a.holder.group pa b other pb) (owners_of n.containers) h.holds.placed h.holds.distinct)
 
-  module _ (weigh : RowsWeigh) (sets : List Ids) (plan : IsPlan (rows_of n) sets) where
+  module _ (sets : List Ids) (could : CouldHave n sets) where
     abbrev k : KernelState
     k = n.kernel
 
@@ -195,8 +175,8 @@ module _ (n : NodeState) (h : IsNode n) where
 
     -- no set of the plan has a reserved CPU, so that the pool has all of them
     unreserved : AllByRecursion (λ s. IsDisjoint s n.machine.reserved) sets
-    unreserved = over_targets k n.machine pool weigh (λ es ss ts. AllByRecursion (λ s. IsDisjoint s n.machine.reserved) ss) tt
-        (λ e later ss ts live on. on) (λ e later ss ts live kind on. on) (λ e later s ss ts d on. (d.unreserved, on)) n.containers h.asked sets plan.met
+    unreserved = over_targets k n.machine pool (λ es ss ts. AllByRecursion (λ s. IsDisjoint s n.machine.reserved) ss) tt
+        (λ e later ss ts live on. on) (λ e later ss ts live kind on. on) (λ e later s ss ts d on. (d.unreserved, on)) n.containers h.asked sets could.own
 
     reserved_in_pool : (c : ℕ) → set.contains n.machine.reserved c ≡ true → set.contains pool c ≡ true
     reserved_in_pool c r =
@@ -219,13 +199,13 @@ module _ (n : NodeState) (h : IsNode n) where
 
     -- each live container gets what it asks for
     abbrev Serves : Target → Type 0
-    Serves p = HasItsCpus k pool p.0.1.demand p.0.1.demand.kind p.1
+    Serves p = HasItsCpus k n.machine pool p.0.1.demand p.0.1.demand.kind p.1
 
     pub plan_serves : AllByRecursion Serves (plan_targets n sets)
-    plan_serves = over_targets k n.machine pool weigh (λ es ss ts. AllByRecursion Serves ts) tt
+    plan_serves = over_targets k n.machine pool (λ es ss ts. AllByRecursion Serves ts) tt
         (λ e later ss ts live on. on)
-        (λ e later ss ts live kind on. (subst (λ x. HasItsCpus k pool e.1.demand x pool) (sym kind) (refl, plan_pool_some), on))
-        (λ e later s ss ts d on. (subst (λ x. HasItsCpus k pool e.1.demand x s) (sym d.kind) (d.size, d.cpus), on)) n.containers h.asked sets plan.met
+        (λ e later ss ts live kind on. (subst (λ x. HasItsCpus k n.machine pool e.1.demand x pool) (sym kind) (refl, plan_pool_some), on))
+        (λ e later s ss ts d on. (subst (λ x. HasItsCpus k n.machine pool e.1.demand x s) (sym d.kind) (record { size = d.size; each = d.cpus; whole = d.whole }), on)) n.containers h.asked sets could.own
 
     -- two of which one is pinned have no CPU in common
     abbrev AreParted : Target → Target → Type 0
@@ -273,8 +253,8 @@ module _ (n : NodeState) (h : IsNode n) where
     pub plan_parts : Pairwise AreParted (plan_targets n sets)
     plan_parts =
         let parts : Parts sets (plan_targets n sets) =
-        over_targets k n.machine pool weigh Parted parts_none (λ e later ss ts live on. on) parts_shared parts_pinned n.containers h.asked sets plan.met
-        (pool_disjoint k.tree.online sets) (pairs_by_recursion IsDisjoint sets plan.apart) in
+        over_targets k n.machine pool Parted parts_none (λ e later ss ts live on. on) parts_shared parts_pinned n.containers h.asked sets could.own
+        (pool_disjoint k.tree.online sets) (pairs_by_recursion IsDisjoint sets could.apart) in
         parts.pairs
 
     -- each target can take effect
@@ -289,10 +269,10 @@ module _ (n : NodeState) (h : IsNode n) where
 
     pub plan_effects : AllByRecursion (CanTakeEffect k) (plan_entries n sets)
     plan_effects = all_of_map entry_of (CanTakeEffect k) (plan_targets n sets)
-        (over_targets k n.machine pool weigh (λ es ss ts. AllByRecursion TakesEffect ts) tt
+        (over_targets k n.machine pool (λ es ss ts. AllByRecursion TakesEffect ts) tt
         (λ e later ss ts live on. on)
         (λ e later ss ts live kind on. (record { some = plan_pool_some; online = plan_pool_online }, on))
-        (λ e later s ss ts d on. (pinned_takes e s d, on)) n.containers h.asked sets plan.met)
+        (λ e later s ss ts d on. (pinned_takes e s d, on)) n.containers h.asked sets could.own)
 
     -- the entries' groups are two by two others, and each is the group of a container
     record Groups (es : List Container) (ts : List Target) : Type 0 where
@@ -314,9 +294,9 @@ module _ (n : NodeState) (h : IsNode n) where
         record { pairs = (rest.from (same_group e.1.group) apart.0, rest.pairs); from = λ P all. (all.0, rest.from P all.1) }
 
     plan_groups : Groups n.containers (plan_targets n sets)
-    plan_groups = over_targets k n.machine pool weigh Grouped (λ apart. record { pairs = tt; from = λ P all. tt }) groups_dead
+    plan_groups = over_targets k n.machine pool Grouped (λ apart. record { pairs = tt; from = λ P all. tt }) groups_dead
         (λ e later ss ts live kind on. groups_more e later pool ts on) (λ e later s ss ts d on. groups_more e later s ts on)
-        n.containers h.asked sets plan.met groups_apart
+        n.containers h.asked sets could.own groups_apart
 
     -- each entry's group is in the tree, and is not the root
     placed_in : (o : Owner) → IsPlaced k.tree n.parent o → IsPlacedIn k o.holder.group
@@ -324,19 +304,19 @@ module _ (n : NodeState) (h : IsNode n) where
 
     pub plan_placed : ArePlaced k (plan_entries n sets)
     plan_placed = all_of_map entry_of (λ e. IsPlacedIn k e.group) (plan_targets n sets)
-        (over_targets k n.machine pool weigh (λ es ss ts. AllByRecursion (λ e. IsPlacedIn k e.1.group) es → AllByRecursion (λ p. IsPlacedIn k p.0.1.group) ts) (λ all. tt)
+        (over_targets k n.machine pool (λ es ss ts. AllByRecursion (λ e. IsPlacedIn k e.1.group) es → AllByRecursion (λ p. IsPlacedIn k p.0.1.group) ts) (λ all. tt)
         (λ e later ss ts live on all. on all.1) (λ e later ss ts live kind on all. (all.0, on all.1)) (λ e later s ss ts d on all. (all.0, on all.1))
-        n.containers h.asked sets plan.met
+        n.containers h.asked sets could.own
         (of_all_map owner_of (λ o. IsPlacedIn k o.holder.group) n.containers
         (all_map (IsPlaced k.tree n.parent) (λ o. IsPlacedIn k o.holder.group) placed_in (owners_of n.containers) h.holds.placed)))
 
     -- each container that lives has its entry
     plan_of : AreOf k (plan_entries n sets) (owners_of n.containers)
-    plan_of = over_targets k n.machine pool weigh (λ es ss ts. AreOf k (map entry_of ts) (owners_of es)) refl
+    plan_of = over_targets k n.machine pool (λ es ss ts. AreOf k (map entry_of ts) (owners_of es)) refl
         (λ e later ss ts live on. inr (live, on))
         (λ e later ss ts live kind on. inl (record { entry = entry_of (e, pool); later = map entry_of ts; is = refl; of = refl; rest = on }))
         (λ e later s ss ts d on. inl (record { entry = entry_of (e, s); later = map entry_of ts; is = refl; of = refl; rest = on }))
-        n.containers h.asked sets plan.met
+        n.containers h.asked sets could.own
 
     plan_handover : IsHandover (opened n sets).targets
     plan_handover = record {
@@ -360,24 +340,24 @@ effects_later old new same es h =
     all_map (CanTakeEffect old) (CanTakeEffect new) (λ e c. record { some = c.some; online = ap (λ s. set.is_subset e.target s) same ∙ c.online }) es h
 
 -- the same of the values that the program has
-module _ (n now : NodeState) (is : n ≡ now) (h : IsNode n) (weigh : RowsWeigh) (sets : List Ids) (plan : IsPlan (rows_of now) sets) (pool : Ids)
+module _ (n now : NodeState) (is : n ≡ now) (h : IsNode n) (sets : List Ids) (could : CouldHave now sets) (pool : Ids)
     (pool_is : pool ≡ plan_pool n sets) (es : List Entry) (es_are : es ≡ entries_in n.kernel pool n.containers sets) where
-  plan_before : IsPlan (rows_of n) sets
-  plan_before = subst (λ (m : NodeState). IsPlan (rows_of m) sets) (sym is) plan
+  could_before : CouldHave n sets
+  could_before = subst (λ (m : NodeState). CouldHave m sets) (sym is) could
 
   entries_are : es ≡ plan_entries n sets
   entries_are = es_are ∙ ap (λ s. entries_in n.kernel s n.containers sets) pool_is
 
   pub entries_placed : ArePlaced n.kernel es
-  entries_placed = subst (ArePlaced n.kernel) (sym entries_are) (plan_placed n h weigh sets plan_before)
+  entries_placed = subst (ArePlaced n.kernel) (sym entries_are) (plan_placed n h sets could_before)
 
   pub entries_handed : (reserved : Ids) → reserved ≡ n.machine.reserved → IsHandover (record { entries = es; reserved = reserved })
   entries_handed reserved same =
       subst (λ (s : Ids). IsHandover (record { entries = es; reserved = s })) (sym same)
-      (subst (λ (xs : List Entry). IsHandover (record { entries = xs; reserved = n.machine.reserved })) (sym entries_are) (plan_handover n h weigh sets plan_before))
+      (subst (λ (xs : List Entry). IsHandover (record { entries = xs; reserved = n.machine.reserved })) (sym entries_are) (plan_handover n h sets could_before))
 
-pub opened_stands : (n now : NodeState) → n ≡ now → IsNode n → RowsWeigh → (sets : List Ids) → IsPlan (rows_of now) sets → (o : Ongoing) → o ≡ opened now sets
+pub opened_stands : (n now : NodeState) → n ≡ now → IsNode n → (sets : List Ids) → CouldHave now sets → (o : Ongoing) → o ≡ opened now sets
     → IsOngoing now.kernel (owners_of now.containers) o
-opened_stands n now is h weigh sets plan o o_is =
+opened_stands n now is h sets could o o_is =
     let there : IsNode now = subst (λ (m : NodeState). IsNode m) is h in
-    subst (λ (x : Ongoing). IsOngoing now.kernel (owners_of now.containers) x) (sym o_is) (opened_ongoing now there weigh sets plan)
+    subst (λ (x : Ongoing). IsOngoing now.kernel (owners_of now.containers) x) (sym o_is) (opened_ongoing now there sets could)

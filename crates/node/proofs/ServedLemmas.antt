@@ -1,7 +1,6 @@
 -- What a container has in effect is what its config asks for.
-use Rattle.std.proofs.Common.{◌≡◌, ℕ, Bool, true, false, not, ◌||◌, List, [], ◌∷◌, Option, Some, None, refl, sym, ap, ◌∙◌, subst}
+use Rattle.std.proofs.Common.{◌≡◌, ℕ, Bool, true, false, not, ◌||◌, List, Option, Some, None, refl, sym, ap, ◌∙◌, subst}
 use Rattle.std.specs.Prelude.{is_some, if◌then◌else◌, Ok}
-use Rattle.std.specs.List.{AllByRecursion}
 use Rattle.std.specs.FinSet as set
 use Rattle.cpu_set.specs.Ids.{Ids, is_empty}
 use Rattle.kernel_model.specs.KernelState.{KernelState}
@@ -20,7 +19,7 @@ use Rattle.demand.specs.Allowed.{allowed_of}
 use Rattle.demand.specs.DemandFaultOf.{is_pinned}
 use Rattle.demand.specs.IsDemand.{IsKind, IsDemand}
 use Rattle.node.specs.declared.outcome.Outcome.TheVariants.{Plan}
-use Rattle.node.specs.NodeState.{ContainerState, NodeState}
+use Rattle.node.specs.NodeState.{ContainerState}
 use Rattle.node.specs.Headline.{effective, HasItsCpus, IsServed, IsRebalanced}
 use Rattle.node.specs.Machine.{Event}
 use Rattle.node.specs.Said.{IsSaid}
@@ -43,20 +42,21 @@ module _ (m : Layout) (k : KernelState) (pool : Ids) (s : Section) (d : Demand) 
   abbrev Kinds : Kind → Type 0
   Kinds = IsKind m.threads (limit_of s.quota) (period_of s.period) (allowed_of m s) s
 
-  are_asked : (kind : Kind) → d.kind ≡ kind → HasItsCpus k pool d kind cpus → AreAsked m k pool s cpus (is_pinned s)
+  are_asked : (kind : Kind) → d.kind ≡ kind → HasItsCpus k m pool d kind cpus → AreAsked m k pool s cpus (is_pinned s)
   are_asked (Pinned count) is has =
       let kind : Kinds (Pinned count) = subst Kinds is asked.kind in
       let pinned : is_pinned s ≡ true = pinned_by m.threads (limit_of s.quota) (period_of s.period) (allowed_of m s) s count refl kind in
       let allowed : d.allowed ≡ allowed_of m s = asked.allowed ∙ ap (λ (b : Bool). if b then allowed_of m s else set.empty) pinned in
       subst (AreAsked m k pool s cpus) (sym pinned) (
-        subst (λ (n : ℕ). Kinds (Pinned n)) (sym has.0) kind,
-        λ cpu there. (ap (λ (x : Ids). set.contains x cpu) (sym allowed) ∙ (has.1 cpu there).0, (has.1 cpu there).1),
+        subst (λ (n : ℕ). Kinds (Pinned n)) (sym has.size) kind,
+        has.whole,
+        λ cpu there. (ap (λ (x : Ids). set.contains x cpu) (sym allowed) ∙ (has.each cpu there).0, (has.each cpu there).1),
       )
   are_asked Shared is has =
       let kind : Kinds Shared = subst Kinds is asked.kind in
       subst (AreAsked m k pool s cpus) (sym (shared_by m.threads (limit_of s.quota) (period_of s.period) (allowed_of m s) s kind)) has
 
-has_asked : (events : List Event) (m : Layout) (k : KernelState) (pool : Ids) (e : List ℕ × ContainerState) → IsSaid events m e → IsServed k pool e
+has_asked : (events : List Event) (m : Layout) (k : KernelState) (pool : Ids) (e : List ℕ × ContainerState) → IsSaid events m e → IsServed k m pool e
     → HasAsked events m k pool e
 has_asked events m k pool e said served = record {
   config = said.config;
@@ -68,7 +68,7 @@ has_asked events m k pool e said served = record {
 
 pub runs_serve_configs : RowsWeigh → StepsLeave → TargetsTakeEffect → ScaledRowsWeigh → RunsServeConfigs
 runs_serve_configs weigh law effects parts first events old total new node none run rebalances =
-    let headline : IsRebalanced old total new = runs_rebalance weigh law effects parts first events old (Ok (Plan total)) new node run rebalances in
+    let headline : IsRebalanced old total new = runs_rebalance law effects weigh parts first events old (Ok (Plan total)) new node run rebalances in
     let said : AreSaid events new = rebalance_said events old new (Ok (Plan total)) rebalances (containers_are_said first events old none run) in
-    all_map2 (IsSaid events new.machine) (IsServed new.kernel new.pool) (HasAsked events new.machine new.kernel new.pool)
+    all_map2 (IsSaid events new.machine) (IsServed new.kernel new.machine new.pool) (HasAsked events new.machine new.kernel new.pool)
     (has_asked events new.machine new.kernel new.pool) new.containers said headline.served

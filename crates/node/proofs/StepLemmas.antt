@@ -180,6 +180,7 @@ module _ (law : StepsLeave) (n : NodeState) (h : IsNode n) (o : Ongoing) (was : 
 
     pub ended_node : (phase : Phase) → is_underway phase ≡ false → IsNode (record n { kernel = new; phase = phase; ongoing = None })
     ended_node phase settled = record {
+      layout = more_node.layout;
       machine = more_node.machine;
       holds = more_node.holds;
       few = more_node.few;

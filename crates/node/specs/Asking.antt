@@ -1,41 +1,46 @@
 -- Whose the rows of a problem are.
-use Rattle.std.specs.Prelude.{◌≡◌, ℕ, cond, List, Some, None, is_some}
+use Rattle.std.specs.Prelude.{◌≡◌, ◌*◌, ℕ, Bool, cond, List, Some, None, is_some}
 use Rattle.std.specs.List.{AllZip}
 use Rattle.std.specs.FinSet as set
 use Rattle.cpu_set.specs.Ids.{Ids}
 use Rattle.kernel_model.specs.KernelState.{KernelState}
+use Rattle.machine.specs.Cores.{cores_in}
 use Rattle.machine.specs.Layout.{Layout}
 use Rattle.machine.specs.Weight.{weight as distance_home}
 use Rattle.certificate.specs.RowView.{RowView}
 use Rattle.certificate.specs.Weight.{weight}
 use Rattle.certificate.specs.Packed.{packed}
-use Rattle.rows.specs.RowOf.{row_of}
+use Rattle.rows.specs.RowOf.{offered, row_of}
 use Rattle.node.specs.NodeState.{ContainerState, NodeState}
 use Rattle.node.specs.IsNode.{IsNode}
 use Rattle.node.specs.Rows.{rows_of, requested_by, scaled_rows_of}
 use Rattle.node.specs.Best.{asking, wanted_by}
 use Rattle.node.specs.Rebalance.{Lacks}
-use Rattle.node.specs.Headline.{is_allowed, IsShort}
+use Rattle.node.specs.Headline.{IsShort}
 
--- a row is a container's: it has its id and asks for what it asks for, and the CPUs that have a weight in it are those that
--- the container is allowed and that are online
+-- whether a container may have the core with this lowest CPU: it is allowed all CPUs of the core, and they are online
+abbrev pub is_open : KernelState → Layout → ℕ → List ℕ × ContainerState → Bool
+is_open k m core e = set.contains (offered m k.tree.online e.1.demand) core
+
+-- a row is a container's: it has its id and asks for the cores that make as many CPUs as it asks for, and what has a weight in
+-- it are the cores that the container may have
 pub record IsRowOf (k : KernelState) (m : Layout) (row : RowView) (e : List ℕ × ContainerState) : Type 0 where
   pub row_is : row_of m k.tree.online e.0 e.1.demand ≡ Some row
   pub id : row.id ≡ e.0
-  pub demand : row.demand ≡ wanted_by e.1.demand.kind
-  pub offers : (cpu : ℕ) → is_some (weight row cpu) ≡ is_allowed k cpu e
+  pub demand : wanted_by e.1.demand.kind ≡ row.demand * m.threads
+  pub offers : (core : ℕ) → is_some (weight row core) ≡ is_open k m core e
 
--- what a CPU is to cost a container: its distance to the nearest home, and a move where the container's group does not
--- request it
+-- what a core is to cost a container: its distance to the nearest home, and a move where the container's group does not
+-- request all of it
 abbrev pub moving_weight : KernelState → Layout → List ℕ × ContainerState → ℕ → ℕ
-moving_weight k m e cpu = packed (distance_home m e.1.demand.homes cpu) (cond (set.contains (requested_by k e) cpu) 0 1)
+moving_weight k m e core = packed (distance_home m e.1.demand.homes core) (cond (set.contains (cores_in m (requested_by k e)) core) 0 1)
 
--- a scaled row is a container's: it has its id and asks for what it asks for; each CPU that the container is allowed and that
--- is online weighs so much in it, and no other CPU is offered
+-- a scaled row is a container's: it has its id and asks for the cores that make as many CPUs as it asks for; each core that the
+-- container may have weighs so much in it, and no other is offered
 pub record IsScaledRowOf (k : KernelState) (m : Layout) (row : RowView) (e : List ℕ × ContainerState) : Type 0 where
   pub id : row.id ≡ e.0
-  pub demand : row.demand ≡ wanted_by e.1.demand.kind
-  pub weights : (cpu : ℕ) → weight row cpu ≡ cond (is_allowed k cpu e) (Some (moving_weight k m e cpu)) None
+  pub demand : wanted_by e.1.demand.kind ≡ row.demand * m.threads
+  pub weights : (core : ℕ) → weight row core ≡ cond (is_open k m core e) (Some (moving_weight k m e core)) None
 
 -- the rows are the live pinned containers', one after another
 abbrev pub RowsAreAsking : Type 0

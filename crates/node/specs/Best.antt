@@ -1,11 +1,12 @@
 -- The sets that the live pinned containers could have, and which of them are best: the nearest, and of these those that move
--- the fewest CPUs.
-use Rattle.std.specs.Prelude.{◌≡◌, ◌≤◌, ℕ, Bool, true, ◌&&◌, List, Option, Some, AllPairs, filter, zip}
+-- the fewest cores.
+use Rattle.std.specs.Prelude.{◌≡◌, ◌≤◌, ◌*◌, ℕ, Bool, true, ◌&&◌, List, Option, Some, AllPairs, filter, zip}
 use Rattle.std.specs.List.{AllByRecursion, AllZip, sum_by}
 use Rattle.std.specs.FinSet as set
 use Rattle.cpu_set.specs.Ids.{Ids, IsDisjoint}
 use Rattle.cpu_set.specs.Members.{InRange, members}
 use Rattle.kernel_model.specs.KernelState.{KernelState}
+use Rattle.machine.specs.Cores.{cores_in, IsWhole}
 use Rattle.machine.specs.Layout.{Layout}
 use Rattle.machine.specs.Weight.{weight}
 use Rattle.demand.specs.declared.Kind.{Kind}
@@ -17,12 +18,13 @@ use Rattle.certificate.specs.declared.certificates.Certificate.{Certificate}
 use Rattle.node.specs.NodeState.{ContainerState, NodeState}
 use Rattle.node.specs.Owners.{is_pinned}
 use Rattle.node.specs.Status.{is_live}
-use Rattle.node.specs.Rows.{requested_by, planned}
+use Rattle.node.specs.Rows.{as_cores, requested_by, planned}
 
--- exactly so many CPUs, all allowed and online
-abbrev pub AreOwn : KernelState → Demand → ℕ → Ids → Type 0
-AreOwn k d count cpus =
-    (set.len cpus ≡ count) × ((cpu : ℕ) → set.contains cpus cpu ≡ true → (set.contains d.allowed cpu ≡ true) × (set.contains k.tree.online cpu ≡ true))
+-- exactly so many CPUs, all allowed and online, and of each core all or none
+pub record AreOwn (k : KernelState) (m : Layout) (d : Demand) (count : ℕ) (cpus : Ids) : Type 0 where
+  pub size : set.len cpus ≡ count
+  pub each : (cpu : ℕ) → set.contains cpus cpu ≡ true → (set.contains d.allowed cpu ≡ true) × (set.contains k.tree.online cpu ≡ true)
+  pub whole : IsWhole m cpus
 
 -- the live pinned containers, in the order in which they were created
 abbrev pub is_asking : KernelState → List ℕ × ContainerState → Bool
@@ -36,10 +38,11 @@ abbrev pub wanted_by : Kind → ℕ
 wanted_by (Pinned count) = count
 wanted_by Shared = 0
 
--- sets that the live pinned containers could have: for each exactly as many CPUs as it asks for, all allowed and none shared
+-- sets that the live pinned containers could have: for each exactly as many CPUs as it asks for, of whole cores, all allowed and
+-- none shared
 pub record CouldHave (n : NodeState) (sets : List Ids) : Type 0 where
   pub numbers : AllByRecursion InRange sets
-  pub own : AllZip (λ e cpus. AreOwn n.kernel e.1.demand (wanted_by e.1.demand.kind) cpus) (asking n) sets
+  pub own : AllZip (λ e cpus. AreOwn n.kernel n.machine e.1.demand (wanted_by e.1.demand.kind) cpus) (asking n) sets
   pub apart : AllPairs IsDisjoint sets
 
 -- how far these CPUs are from the nearest of a container's homes, all together; and the sets of all
@@ -49,23 +52,26 @@ distance m e cpus = sum_by (λ cpu. weight m e.1.demand.homes cpu) (members cpus
 abbrev pub total_distance : NodeState → List Ids → ℕ
 total_distance n sets = sum_by (λ p. distance n.machine p.0 p.1) (zip (asking n) sets)
 
--- how many of these CPUs the container's group does not request yet; and how many move in all
-abbrev pub moved_by : KernelState → List ℕ × ContainerState → Ids → ℕ
-moved_by k e cpus = set.len (set.difference cpus (requested_by k e))
+-- how many of the cores of these CPUs the container's group does not request as a whole yet; and how many move in all
+abbrev pub moved_by : KernelState → Layout → List ℕ × ContainerState → Ids → ℕ
+moved_by k m e cpus = set.len (set.difference (cores_in m cpus) (cores_in m (requested_by k e)))
 
 abbrev pub moved : NodeState → List Ids → ℕ
-moved n sets = sum_by (λ p. moved_by n.kernel p.0 p.1) (zip (asking n) sets)
+moved n sets = sum_by (λ p. moved_by n.kernel n.machine p.0 p.1) (zip (asking n) sets)
 
--- sets that the containers could have, at this distance; none are nearer, and of those that are as near none move fewer CPUs
+-- sets that the containers could have, at this distance; none are nearer, and of those that are as near none move fewer cores
 pub record IsBest (n : NodeState) (total : ℕ) (sets : List Ids) : Type 0 where
   pub could : CouldHave n sets
   pub far : total ≡ total_distance n sets
   pub nearest : (others : List Ids) → CouldHave n others → total ≤ total_distance n others
   pub fewest : (others : List Ids) → CouldHave n others → total_distance n others ≡ total → moved n sets ≤ moved n others
 
--- what was worked out last is this plan: its total is this distance and how many CPUs move, packed
+-- what was worked out last is this plan, told by its cores: its total is the distance of these and how many move, packed, and
+-- the CPUs are that far for each CPU that a core has
 pub record IsTold (n : NodeState) (sets : List Ids) (total : ℕ) (last : Option Certificate) : Type 0 where
   pub prices : PricesView
   pub whole : ℕ
-  pub parts : AreParts whole total (moved n sets)
-  pub is : last ≡ Some (planned n sets prices whole)
+  pub distance : ℕ
+  pub parts : AreParts whole distance (moved n sets)
+  pub counts : total ≡ distance * n.machine.threads
+  pub is : last ≡ Some (planned n (as_cores n.machine sets) prices whole)

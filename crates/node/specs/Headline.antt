@@ -1,11 +1,13 @@
 -- What a rebalance leaves, in the subject's own words.
-use Rattle.std.specs.Prelude.{◌≡◌, ◌+◌, ◌<◌, ◌≤◌, ℕ, Bool, true, false, not, ◌&&◌, ◌||◌, cond, List, [], ◌∷◌, Some, None, Result, Ok, Err, All, filter_map, length, map, slice_get}
+use Rattle.std.specs.Prelude.{◌≡◌, ◌+◌, ◌*◌, ◌<◌, ◌≤◌, ℕ, Bool, true, false, not, ◌&&◌, ◌||◌, cond, List, [], ◌∷◌, Some, None, Result, Ok, Err, All, filter_map, length, map, slice_get}
 use Rattle.std.specs.List.{AllByRecursion, list_any, sum_by}
 use Rattle.std.specs.List.Sorted.{IsStrictlyIncreasing}
 use Rattle.std.specs.FinSet as set
 use Rattle.cpu_set.specs.Ids.{Ids, IsDisjoint, is_empty}
 use Rattle.cpuset_tree.specs.Effective.{effective_cpus}
 use Rattle.kernel_model.specs.KernelState.{KernelState}
+use Rattle.machine.specs.Cores.{whole_in}
+use Rattle.machine.specs.Layout.{Layout}
 use Rattle.certificate.specs.IsLeast.{IsLeast}
 use Rattle.certificate.specs.IsShortage.{HasNoPlan}
 use Rattle.certificate.specs.Cost.{cost}
@@ -26,7 +28,8 @@ use Rattle.node.specs.NodeState.{ContainerState, NodeState, is_underway}
 use Rattle.node.specs.Owners.{is_pinned, owners_of}
 use Rattle.node.specs.Status.{is_live}
 use Rattle.node.specs.Ongoing.{IsBroken}
-use Rattle.node.specs.Rows.{rows_of, lacking}
+use Rattle.rows.specs.RowOf.{available}
+use Rattle.node.specs.Rows.{as_cores, rows_of, lacking}
 use Rattle.node.specs.Best.{AreOwn, asking, wanted_by, CouldHave, total_distance, is_asking, moved, IsBest, IsTold}
 use Rattle.node.specs.Entries.{opened}
 
@@ -34,14 +37,14 @@ use Rattle.node.specs.Entries.{opened}
 abbrev pub effective : KernelState → List ℕ × ContainerState → Ids
 effective k e = effective_cpus k.tree e.1.group
 
--- as many as it asks for; a shared one has the pool, which is not empty
-abbrev pub HasItsCpus : KernelState → Ids → Demand → Kind → Ids → Type 0
-HasItsCpus k pool d (Pinned count) cpus = AreOwn k d count cpus
-HasItsCpus k pool d Shared cpus = (cpus ≡ pool) × (is_empty pool ≡ false)
+-- as many as it asks for, of each core all or none; a shared one has the pool, which is not empty
+abbrev pub HasItsCpus : KernelState → Layout → Ids → Demand → Kind → Ids → Type 0
+HasItsCpus k m pool d (Pinned count) cpus = AreOwn k m d count cpus
+HasItsCpus k m pool d Shared cpus = (cpus ≡ pool) × (is_empty pool ≡ false)
 
 -- so has each live container in effect
-abbrev pub IsServed : KernelState → Ids → List ℕ × ContainerState → Type 0
-IsServed k pool e = is_live k e.1 ≡ true → HasItsCpus k pool e.1.demand e.1.demand.kind (effective k e)
+abbrev pub IsServed : KernelState → Layout → Ids → List ℕ × ContainerState → Type 0
+IsServed k m pool e = is_live k e.1 ≡ true → HasItsCpus k m pool e.1.demand e.1.demand.kind (effective k e)
 
 -- none shared: no CPU is in effect for two live containers of which one is pinned
 abbrev pub AreAlone : KernelState → List ℕ × ContainerState → List ℕ × ContainerState → Type 0
@@ -58,12 +61,13 @@ effective_sets k (e ∷ later) = cond (is_asking k e) (effective k e ∷ effecti
 abbrev pub is_in_any : List Ids → ℕ → Bool
 is_in_any sets cpu = list_any (λ cpus. set.contains cpus cpu) sets
 
--- after a plan of this total: each live container has exactly the CPUs that it asked for, all allowed and none shared; the
--- total is their distance to the home nodes, and no sets that the containers could have are nearer; among all such sets of
--- that total none move fewer CPUs; the certificate tells these very sets, which are a plan of least cost of the rows; the pool
--- is the online CPUs that are in none of these sets; and the same containers live as before
+-- after a plan of this total: each live container has exactly the CPUs that it asked for, all allowed and none shared, and a
+-- pinned one of each core all or none; the total is their distance to the home nodes, and no sets that the containers could
+-- have are nearer; among all such sets of that total none move fewer cores; the certificate tells the cores of these very sets,
+-- which are a plan of least cost of the rows; the pool is the online CPUs that are in none of these sets; and the same
+-- containers live as before
 pub record IsRebalanced (old : NodeState) (total : ℕ) (new : NodeState) : Type 0 where
-  pub served : AllByRecursion (IsServed new.kernel new.pool) new.containers
+  pub served : AllByRecursion (IsServed new.kernel new.machine new.pool) new.containers
   pub alone : Pairwise (AreAlone new.kernel) new.containers
   pub could : CouldHave old (effective_sets new.kernel new.containers)
   pub far : total ≡ total_distance old (effective_sets new.kernel new.containers)
@@ -71,17 +75,17 @@ pub record IsRebalanced (old : NodeState) (total : ℕ) (new : NodeState) : Type
   pub fewest : (others : List Ids) → CouldHave old others → total_distance old others ≡ total
       → moved old (effective_sets new.kernel new.containers) ≤ moved old others
   pub told : IsTold old (effective_sets new.kernel new.containers) total new.last
-  pub least : IsLeast (rows_of old) (effective_sets new.kernel new.containers)
-  pub costs : total ≡ cost (rows_of old) (effective_sets new.kernel new.containers)
+  pub least : IsLeast (rows_of old) (as_cores old.machine (effective_sets new.kernel new.containers))
+  pub costs : total ≡ cost (rows_of old) (as_cores old.machine (effective_sets new.kernel new.containers)) * old.machine.threads
   pub pool : (cpu : ℕ) → set.contains new.pool cpu ≡ (set.contains new.kernel.tree.online cpu && not (is_in_any (effective_sets new.kernel new.containers) cpu))
   pub same : new.containers ≡ old.containers
   pub lives : new.kernel.table ≡ old.kernel.table
 
--- whether a container is allowed this CPU, which is online
-abbrev pub is_allowed : KernelState → ℕ → List ℕ × ContainerState → Bool
-is_allowed k cpu e = set.contains e.1.demand.allowed cpu && set.contains k.tree.online cpu
+-- whether a container may have this CPU: it is allowed all CPUs of its core, and they are online
+abbrev pub is_allowed : KernelState → Layout → ℕ → List ℕ × ContainerState → Bool
+is_allowed k m cpu e = set.contains (whole_in m (available k.tree.online e.1.demand)) cpu
 
--- after a shortage: live pinned containers, each named once, that together ask for more CPUs than they are allowed, so that
+-- after a shortage: live pinned containers, each named once, that together ask for more CPUs than they may have, so that
 -- no sets at all would do for the live pinned containers; and the kernel is as before
 pub record IsShort (old : NodeState) (wanted : ℕ) (allowed : Ids) (new : NodeState) : Type 0 where
   pub members : List ℕ
@@ -89,7 +93,7 @@ pub record IsShort (old : NodeState) (wanted : ℕ) (allowed : Ids) (new : NodeS
   pub rising : IsStrictlyIncreasing members
   pub there : All (λ k. k < length (asking old)) members
   pub asks : wanted ≡ sum_by (λ e. wanted_by e.1.demand.kind) (filter_map (slice_get (asking old)) members)
-  pub has : (cpu : ℕ) → set.contains allowed cpu ≡ list_any (is_allowed old.kernel cpu) (filter_map (slice_get (asking old)) members)
+  pub has : (cpu : ℕ) → set.contains allowed cpu ≡ list_any (is_allowed old.kernel old.machine cpu) (filter_map (slice_get (asking old)) members)
   pub more : set.len allowed < wanted
   pub none : HasNoPlan (rows_of old)
   pub could_not : (sets : List Ids) → CouldHave old sets → ⊥
@@ -101,7 +105,7 @@ pub record IsShort (old : NodeState) (wanted : ℕ) (allowed : Ids) (new : NodeS
 pub record IsBrokenOff (old : NodeState) (fault : KernelFault) (new : NodeState) : Type 0 where
   pub sets : List Ids
   pub total : ℕ
-  pub least : IsLeast (rows_of old) sets
+  pub least : IsLeast (rows_of old) (as_cores old.machine sets)
   pub best : IsBest old total sets
   pub told : IsTold old sets total new.last
   pub broken : IsBroken (opened old sets) old.kernel new.kernel

@@ -12,6 +12,8 @@ use Rattle.proctable.specs.TableState.{TableState}
 use Rattle.proctable.specs.Processes.{process_of}
 use Rattle.kernel_model.specs.KernelState.{KernelState}
 use Rattle.kernel_model.specs.WellFormed.{IsWellFormed}
+use Rattle.cpu_set.specs.Members.{InRange}
+use Rattle.machine.specs.IsSound.{IsSound}
 use Rattle.machine.specs.Layout.{Layout}
 use Rattle.machine.specs.Present.{present}
 use Rattle.machine.specs.Nodes.{nodes_of}
@@ -30,6 +32,11 @@ use Rattle.certificate_text.specs.Written.{CanWrite}
 use Rattle.node.specs.NodeState.{ContainerState, NodeState, is_underway}
 use Rattle.node.specs.Owners.{Owner, owners_of}
 use Rattle.node.specs.Ongoing.{Stands}
+
+-- what holds of each machine: it is sound, and its CPUs are such as a set may have
+pub record IsMachine (m : Layout) : Type 0 where
+  pub sound : IsSound m
+  pub in_range : InRange (present m)
 
 -- the kernel runs on the machine
 pub record IsOfMachine (k : KernelState) (m : Layout) : Type 0 where
@@ -104,6 +111,7 @@ IsKept c = CanWrite c × ProvesItself c
 -- and the kernel runs on the machine, with no more containers than there may be; a hand-over that is open is theirs; and what
 -- was worked out last can be written and proves itself
 pub record IsNode (n : NodeState) : Type 0 where
+  pub layout : IsMachine n.machine
   pub machine : IsOfMachine n.kernel n.machine
   pub holds : Holds n.kernel n.parent (owners_of n.containers)
   pub few : length n.containers ≤ CONTAINER_LIMIT

@@ -22,7 +22,7 @@ use Rattle.node.specs.declared.phase.Phase.{Phase}
 use Rattle.node.specs.declared.sets.Sets.{Sets}
 use Rattle.node.specs.NodeState.{NodeState}
 use Rattle.node.specs.Owners.{owners_of}
-use Rattle.node.specs.IsNode.{IsOfMachine, IsNode}
+use Rattle.node.specs.IsNode.{IsMachine, IsOfMachine, IsNode}
 use Rattle.node.specs.Unused.{IsUnused}
 use Rattle.node.specs.Updates.{Updates}
 use Rattle.node.specs.Calls.{Opens, Creates, Adopts, Starts, Kills, Deletes}
@@ -88,7 +88,7 @@ Run old (event ∷ later) new = (mid : NodeState) × Step old event mid × Run m
 
 -- what `new` makes of a kernel that no node has used is a node
 abbrev pub FirstIsNode : Type 0
-FirstIsNode = (k : KernelState) (m : Layout) (n : NodeState) → IsWellFormed k → IsOfMachine k m → IsUnused k → Opens k m n → IsNode n
+FirstIsNode = (k : KernelState) (m : Layout) (n : NodeState) → IsWellFormed k → IsMachine m → IsOfMachine k m → IsUnused k → Opens k m n → IsNode n
 
 -- what holds of a node holds after any list of calls and events, with all their refusals
 abbrev pub RunsKeep : Type 0

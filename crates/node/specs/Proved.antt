@@ -1,5 +1,5 @@
 -- What the text of a node's certificate proves to whoever checks it.
-use Rattle.std.specs.Prelude.{◌≡◌, ℕ, Some, length}
+use Rattle.std.specs.Prelude.{◌≡◌, ◌*◌, ℕ, Some, length}
 use Rattle.std.specs.FinSet as set
 use Rattle.cpu_set.specs.Ids.{Ids}
 use Rattle.certificate.specs.IsShortage.{asked, chosen, offered}
@@ -25,13 +25,16 @@ verdict_of (certificate.Short rows members weights) = Short (asked (chosen rows 
 abbrev pub LastIsProved : Type 0
 LastIsProved = (n : NodeState) → IsNode n → (c : Certificate) → n.last ≡ Some c → IsHeld c → IsVerdict (text_of c) (verdict_of c)
 
--- and after a rebalance that plans it proves the very total that was answered as the distance, and as the moves how many CPUs
--- the sets in effect moved
+-- and after a rebalance that plans it proves a distance and as the moves how many cores the sets in effect moved; the total that
+-- was answered is that distance, for each CPU that a core has
 abbrev pub TotalIsProved : Type 0
 TotalIsProved = (old n : NodeState) (total : ℕ) → IsNode n → IsRebalanced old total n → (c : Certificate) → n.last ≡ Some c → IsHeld c
-    → IsVerdict (text_of c) (Moves total (moved old (effective_sets n.kernel n.containers)))
+    → (distance : ℕ) × (total ≡ distance * old.machine.threads)
+    × IsVerdict (text_of c) (Moves distance (moved old (effective_sets n.kernel n.containers)))
 
--- after one that answers a shortage it proves how many CPUs are asked for and how many are allowed, as they were answered
+-- after one that answers a shortage it proves how many cores are asked for and how many there are; what was answered is so many
+-- CPUs for each CPU that a core has
 abbrev pub ShortIsProved : Type 0
 ShortIsProved = (old n : NodeState) (wanted : ℕ) (allowed : Ids) → IsNode n → Lacks old wanted allowed n → (c : Certificate) → n.last ≡ Some c → IsHeld c
-    → IsVerdict (text_of c) (Short wanted (set.len allowed))
+    → (cores : ℕ) × (there : ℕ) × (wanted ≡ cores * old.machine.threads) × (set.len allowed ≡ there * old.machine.threads)
+    × IsVerdict (text_of c) (Short cores there)

@@ -1,8 +1,10 @@
 -- Plans and the hand-overs to them, each call a relation by cases on what it answers.
-use Rattle.std.specs.Prelude.{◌≡◌, ℕ, suc, zero, true, false, List, Option, Some, None, Result, Ok, Err}
+use Rattle.std.specs.Prelude.{◌≡◌, ◌*◌, ℕ, suc, zero, true, false, List, Option, Some, None, Result, Ok, Err}
 use Rattle.std.specs.FinSet as set
 use Rattle.cpu_set.specs.Ids.{Ids}
 use Rattle.cpu_set.specs.Members.{InRange}
+use Rattle.machine.specs.Cores.{cpus_of_cores}
+use Rattle.machine.specs.Layout.{Layout}
 use Rattle.certificate.specs.RowView.{RowView}
 use Rattle.certificate.specs.PricesView.{PricesView}
 use Rattle.certificate.specs.IsLeast.{IsLeast}
@@ -27,47 +29,52 @@ use Rattle.node.specs.declared.phase.Phase.{Phase}
 use Rattle.node.specs.declared.phase.Phase.TheVariants.{Settled, Underway, Unsettled}
 use Rattle.node.specs.NodeState.{Ongoing, NodeState, is_underway}
 use Rattle.node.specs.IsNode.{IsKept}
-use Rattle.node.specs.Rows.{rows_of, scaled_rows_of, planned, lacking}
+use Rattle.node.specs.Rows.{as_cpus, rows_of, scaled_rows_of, planned, lacking}
 use Rattle.node.specs.Best.{moved, IsBest}
 use Rattle.node.specs.Entries.{plan_pool, opened}
 
--- what a node's scaled rows come to: the best sets that the containers could have, as a least plan of these rows, with their
--- distance and their moves as its total; or a shortage of them
-pub record IsAnswer (n : NodeState) (rows : List RowView) (sets : List Ids) (prices : PricesView) (whole : ℕ) : Type 0 where
+-- what a node's scaled rows come to: a plan of cores whose CPUs are the best sets that the containers could have, as a least plan
+-- of these rows, with the cores' distance and their moves as its total; or a shortage of them
+pub record IsAnswer (n : NodeState) (rows : List RowView) (plan : List Ids) (prices : PricesView) (whole : ℕ) : Type 0 where
   pub rows_are : rows ≡ scaled_rows_of n
-  pub decides : DecidesPlan rows sets prices whole
-  pub least : IsLeast (rows_of n) sets
-  pub best : IsBest n (distance_of whole) sets
-  pub parts : AreParts whole (distance_of whole) (moved n sets)
+  pub decides : DecidesPlan rows plan prices whole
+  pub least : IsLeast (rows_of n) plan
+  pub best : IsBest n (distance_of whole * n.machine.threads) (as_cpus n.machine plan)
+  pub parts : AreParts whole (distance_of whole) (moved n (as_cpus n.machine plan))
 
 abbrev pub ComesTo : NodeState → Certificate → Type 0
-ComesTo n (certificate.Plan rows sets prices whole weights) = (weights ≡ WithMoves) × IsAnswer n rows sets prices whole
+ComesTo n (certificate.Plan rows plan prices whole weights) = (weights ≡ WithMoves) × IsAnswer n rows plan prices whole
 ComesTo n (certificate.Short rows members weights) = (weights ≡ WithMoves) × (rows ≡ scaled_rows_of n) × DecidesShort rows members
 
--- the best sets that the containers could have, as a least plan of the rows and of the scaled rows, whose certificate can be
--- written and proves itself; its hand-over is open, and nothing is written yet
+-- a plan of cores whose CPUs are the best sets that the containers could have, as a least plan of the rows and of the scaled
+-- rows, whose certificate can be written and proves itself; the total is the cores' distance, for each CPU that a core has; the
+-- hand-over to the CPUs is open, and nothing is written yet
 pub record Begun (old : NodeState) (total : ℕ) (new : NodeState) : Type 0 where
-  pub sets : List Ids
+  pub plan : List Ids
   pub prices : PricesView
   pub whole : ℕ
+  pub distance : ℕ
   pub settled : is_underway old.phase ≡ false
-  pub best : IsBest old total sets
-  pub least : IsLeast (rows_of old) sets
-  pub decides : DecidesPlan (scaled_rows_of old) sets prices whole
-  pub parts : AreParts whole total (moved old sets)
-  pub kept : IsKept (planned old sets prices whole)
+  pub best : IsBest old total (as_cpus old.machine plan)
+  pub least : IsLeast (rows_of old) plan
+  pub decides : DecidesPlan (scaled_rows_of old) plan prices whole
+  pub parts : AreParts whole distance (moved old (as_cpus old.machine plan))
+  pub counts : total ≡ distance * old.machine.threads
+  pub kept : IsKept (planned old plan prices whole)
   pub is : new ≡ record old {
-    pool = plan_pool old sets;
+    pool = plan_pool old (as_cpus old.machine plan);
     phase = Underway;
-    ongoing = Some (opened old sets);
-    last = Some (planned old sets prices whole);
+    ongoing = Some (opened old (as_cpus old.machine plan));
+    last = Some (planned old plan prices whole);
   }
 
--- how many CPUs the members of a shortage ask for together, and those that one of them may get
-pub record IsNeed (rows : List RowView) (members : List ℕ) (wanted : ℕ) (allowed : Ids) : Type 0 where
-  pub asks : wanted ≡ asked (chosen rows members)
-  pub has : (cpu : ℕ) → set.contains allowed cpu ≡ is_offered (chosen rows members) cpu
-  pub in_range : InRange allowed
+-- how many CPUs the members of a shortage ask for together, and those of the cores that one of them may get
+pub record IsNeed (m : Layout) (rows : List RowView) (members : List ℕ) (wanted : ℕ) (allowed : Ids) : Type 0 where
+  pub cores : Ids
+  pub asks : wanted ≡ asked (chosen rows members) * m.threads
+  pub has : (core : ℕ) → set.contains cores core ≡ is_offered (chosen rows members) core
+  pub in_range : InRange cores
+  pub is : allowed ≡ cpus_of_cores m cores
 
 -- a shortage of the rows: what its members ask for, and what they are allowed; nothing else changes
 pub record Lacks (old : NodeState) (wanted : ℕ) (allowed : Ids) (new : NodeState) : Type 0 where
@@ -75,7 +82,7 @@ pub record Lacks (old : NodeState) (wanted : ℕ) (allowed : Ids) (new : NodeSta
   pub settled : is_underway old.phase ≡ false
   pub decides : DecidesShort (scaled_rows_of old) members
   pub kept : IsKept (lacking old members)
-  pub need : IsNeed (scaled_rows_of old) members wanted allowed
+  pub need : IsNeed old.machine (scaled_rows_of old) members wanted allowed
   pub is : new ≡ record old { last = Some (lacking old members) }
 
 -- `begin`

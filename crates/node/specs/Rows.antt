@@ -1,8 +1,9 @@
 -- The containers that ask for CPUs of their own, as rows of a problem.
-use Rattle.std.specs.Prelude.{ℕ, cond, List, Option, None, filter_map, option_map}
+use Rattle.std.specs.Prelude.{ℕ, cond, List, Option, None, filter_map, map, option_map}
 use Rattle.cpu_set.specs.Ids.{Ids}
 use Rattle.cpuset_tree.specs.Groups.{requested_cpus}
 use Rattle.kernel_model.specs.KernelState.{KernelState}
+use Rattle.machine.specs.Cores.{cores_in, cpus_of_cores}
 use Rattle.machine.specs.Layout.{Layout}
 use Rattle.certificate.specs.RowView.{RowView}
 use Rattle.certificate.specs.PricesView.{PricesView}
@@ -14,7 +15,14 @@ use Rattle.rows.specs.Scaled.{scaled}
 use Rattle.node.specs.NodeState.{ContainerState, NodeState}
 use Rattle.node.specs.Status.{is_live}
 
--- a live container's row over the CPUs that are online, if it is pinned
+-- the cores of which each of these sets has all CPUs, and the CPUs of the cores of each; a core is named by its lowest CPU
+abbrev pub as_cores : Layout → List Ids → List Ids
+as_cores m sets = map (cores_in m) sets
+
+abbrev pub as_cpus : Layout → List Ids → List Ids
+as_cpus m plan = map (cpus_of_cores m) plan
+
+-- a live container's row over the cores whose CPUs are all online, if it is pinned
 abbrev pub row_of_container : KernelState → Layout → List ℕ × ContainerState → Option RowView
 row_of_container k m e = cond (is_live k e.1) (row_of m k.tree.online e.0 e.1.demand) None
 
@@ -29,9 +37,9 @@ rows_of n = rows_in n.kernel n.machine n.containers
 abbrev pub requested_by : KernelState → List ℕ × ContainerState → Ids
 requested_by k e = requested_cpus k.tree e.1.group
 
--- the same rows with weights that count moves besides the distance: each CPU that the group does not request is one
+-- the same rows with weights that count moves besides the distance: each core that the group does not request as a whole is one
 abbrev pub scaled_row_of_container : KernelState → Layout → List ℕ × ContainerState → Option RowView
-scaled_row_of_container k m e = option_map (scaled (requested_by k e)) (row_of_container k m e)
+scaled_row_of_container k m e = option_map (scaled (cores_in m (requested_by k e))) (row_of_container k m e)
 
 abbrev pub scaled_rows_in : KernelState → Layout → List (List ℕ × ContainerState) → List RowView
 scaled_rows_in k m containers = filter_map (scaled_row_of_container k m) containers
@@ -39,9 +47,9 @@ scaled_rows_in k m containers = filter_map (scaled_row_of_container k m) contain
 abbrev pub scaled_rows_of : NodeState → List RowView
 scaled_rows_of n = scaled_rows_in n.kernel n.machine n.containers
 
--- the certificates of a plan and of a shortage of these rows
+-- the certificates of a plan of cores and of a shortage of these rows
 abbrev pub planned : NodeState → List Ids → PricesView → ℕ → Certificate
-planned n sets prices whole = certificate.Plan (scaled_rows_of n) sets prices whole WithMoves
+planned n plan prices whole = certificate.Plan (scaled_rows_of n) plan prices whole WithMoves
 
 abbrev pub lacking : NodeState → List ℕ → Certificate
 lacking n members = certificate.Short (scaled_rows_of n) members WithMoves

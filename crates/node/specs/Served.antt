@@ -1,9 +1,10 @@
 -- What the container of a config has once a plan is in effect.
-use Rattle.std.specs.Prelude.{◌≡◌, ℕ, Bool, true, false, List, [], Result, Ok}
+use Rattle.std.specs.Prelude.{◌≡◌, ℕ, Bool, true, false, List, [], Ok}
 use Rattle.std.specs.List.{AllByRecursion}
 use Rattle.std.specs.FinSet as set
 use Rattle.cpu_set.specs.Ids.{Ids, is_empty}
 use Rattle.kernel_model.specs.KernelState.{KernelState}
+use Rattle.machine.specs.Cores.{IsWhole}
 use Rattle.machine.specs.Layout.{Layout}
 use Rattle.config_json.specs.declared.Config.{Config as Said}
 use Rattle.config_json.specs.SectionOf.{Section}
@@ -22,11 +23,11 @@ use Rattle.node.specs.Headline.{effective}
 use Rattle.node.specs.Machine.{Event, Run}
 use Rattle.node.specs.Said.{IsAskedIn}
 
--- these are as many CPUs as the CPU section of a config asks for, all of those that it allows and online; of one that asks for
--- none of its own they are the pool, which is not empty
+-- these are as many CPUs as the CPU section of a config asks for, of whole cores, all of those that it allows and online; of one
+-- that asks for none of its own they are the pool, which is not empty
 abbrev pub AreAsked : Layout → KernelState → Ids → Section → Ids → Bool → Type 0
 AreAsked m k pool s cpus true =
-    IsKind m.threads (limit_of s.quota) (period_of s.period) (allowed_of m s) s (Pinned (set.len cpus))
+    IsKind m.threads (limit_of s.quota) (period_of s.period) (allowed_of m s) s (Pinned (set.len cpus)) × IsWhole m cpus
     × ((cpu : ℕ) → set.contains cpus cpu ≡ true → (set.contains (allowed_of m s) cpu ≡ true) × (set.contains k.tree.online cpu ≡ true))
 AreAsked m k pool s cpus false = (cpus ≡ pool) × (is_empty pool ≡ false)
 

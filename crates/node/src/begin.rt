@@ -1,4 +1,4 @@
-//! From the sets of a plan to the hand-over to them.
+//! From the cores of a plan to the hand-over to their CPUs.
 ghost use Rattle.std.specs.Prelude.{◌≡◌, ◌++◌, ◌∷◌, List, ℕ, true, drop, map, slice_index_or, option_to_list, IfOk};
 ghost use Rattle.std.specs.FinSet as set;
 ghost use Rattle.std.specs.Slice.Iter.{iter_rest};
@@ -6,6 +6,7 @@ ghost use Rattle.apply_plan.specs.Targets.{ArePlaced};
 ghost use Rattle.apply_plan.specs.DueWrite.{held};
 ghost use Rattle.node.specs.NodeState.{ContainerState};
 ghost use Rattle.node.specs.Entries.{pool_of, entries_in};
+ghost use Rattle.node.specs.Rows.{as_cpus};
 ghost use Rattle.node.specs.Viewed.{seen, all_seen};
 
 use crate::Node;
@@ -16,6 +17,7 @@ use cpu_set::IdSet;
 use demand::Kind;
 use indexmap::IndexMap;
 use kernel_model::{Kernel, requested};
+use machine::Machine;
 use std::alloc::{AllocError, Global};
 use std::slice::Iter;
 
@@ -24,6 +26,17 @@ pub fn pool_of(online: &IdSet, sets: &[IdSet]) -> IdSet
     ensures { result ≡ pool_of online.now sets.now }
 {
     sets.iter().fold(*online, |pool, set| pool.minus(set))
+}
+
+/// The CPUs of the cores of each set.
+fn as_cpus(alloc: Global, machine: &Machine, plan: &[IdSet]) -> Result<Vec<IdSet>, AllocError>
+    ensures { IfOk result (λ sets. sets.items ≡ as_cpus machine.now plan.now) }
+{
+    let mut sets = Vec::with_capacity(alloc, plan.len())?;
+    for cores in plan {
+        sets.push(machine.cpus_of_cores(cores))?;
+    }
+    Ok(sets)
 }
 
 /// The next of the sets; the empty one where none is left.
@@ -101,15 +114,30 @@ fn requests_of<K: Kernel>(
 
 impl<K: Kernel + Drop> Node<K> {
     ghost use Rattle.certificate.specs.IsPlan.{IsPlan};
+    ghost use Rattle.node.specs.Best.{CouldHave};
     ghost use Rattle.node.specs.Owners.{owners_of};
     ghost use Rattle.node.specs.Rows.{rows_of};
     ghost use Rattle.node.specs.Entries.{plan_pool, opened};
     ghost use Rattle.node.specs.Ongoing.{IsOngoing};
     ghost use Rattle.node.specs.Viewed.{seen_ongoing};
 
-    /// The pool that a plan leaves, and the hand-over to it.
-    pub(crate) fn opening(&self, sets: &[IdSet]) -> Result<(IdSet, Ongoing), AllocError>
-        requires { IsPlan (rows_of self.now) sets.now }
+    /// The pool that a plan of cores leaves, and the hand-over to their CPUs.
+    pub(crate) fn opening(&self, plan: &[IdSet]) -> Result<(IdSet, Ongoing), AllocError>
+        requires { IsPlan (rows_of self.now) plan.now }
+        ensures pool { IfOk result (λ p. p.0 ≡ plan_pool self.now (as_cpus self.now.machine plan.now)) }
+        ensures ongoing { IfOk result (λ p. seen_ongoing p.1 ≡ opened self.now (as_cpus self.now.machine plan.now)) }
+        ensures stands { IfOk result (λ p. IsOngoing self.now.kernel (owners_of self.now.containers) (seen_ongoing p.1)) }
+    {
+        if self.machine.threads() == 1 {
+            return self.opening_to(plan);
+        }
+        let sets = as_cpus(self.alloc, &self.machine, plan)?;
+        self.opening_to(sets.as_slice())
+    }
+
+    /// The pool that these sets of CPUs leave, and the hand-over to them.
+    fn opening_to(&self, sets: &[IdSet]) -> Result<(IdSet, Ongoing), AllocError>
+        requires { CouldHave self.now sets.now }
         ensures pool { IfOk result (λ p. p.0 ≡ plan_pool self.now sets.now) }
         ensures ongoing { IfOk result (λ p. seen_ongoing p.1 ≡ opened self.now sets.now) }
         ensures stands { IfOk result (λ p. IsOngoing self.now.kernel (owners_of self.now.containers) (seen_ongoing p.1)) }

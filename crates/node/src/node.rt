@@ -1,5 +1,6 @@
 ghost use Rattle.std.specs.Prelude.{◌≡◌, ◌+◌, IfOk, IfErr, MatchResult};
 ghost use Rattle.faults.specs.declared.OrMemory.TheVariants.{Fault};
+ghost use Rattle.machine.specs.Cores.{cpus_of_cores};
 ghost use Rattle.node.specs.IsNode.{IsOfMachine};
 ghost use Rattle.node.specs.Unused.{IsUnused};
 
@@ -107,6 +108,7 @@ impl<K: Kernel + Drop> Node<K> {
         // A refusal of the kernel has one of these causes.
         ensures late { IfErr result (λ r. (fault : KernelFault) → r.error ≡ Fault fault → OpenCause (K.state kernel) fault (K.state r.kernel)) }
     {
+        let _ = machine.threads();
         let mut kernel = kernel;
         let root = kernel.root();
         match find_or_make(&mut kernel, root, GROUP_NAME) {
@@ -145,6 +147,13 @@ impl<K: Kernel + Drop> Node<K> {
         ensures { result ≡ self.now.pool }
     {
         self.pool
+    }
+
+    /// The CPUs of the cores with these lowest CPUs, by which a certificate names cores.
+    pub fn cpus_of(&self, cores: &IdSet) -> IdSet
+        ensures { result ≡ cpus_of_cores self.now.machine cores.now }
+    {
+        self.machine.cpus_of_cores(cores)
     }
 
     /// How far the last hand-over has come.

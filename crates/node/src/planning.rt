@@ -1,7 +1,8 @@
 //! Plans, and the hand-overs to them.
-ghost use Rattle.std.specs.Prelude.{◌≡◌, ◌+◌, true, false, Some, IsTrue, IfOk};
+ghost use Rattle.std.specs.Prelude.{◌≡◌, ◌+◌, ◌*◌, ◌<◌, ◌≤◌, ◌^◌, true, false, Some, IsTrue, IfOk};
 ghost use Rattle.std.specs.Result.{result_map_both};
 ghost use Rattle.certificate.specs.Limits.{rows_fit};
+ghost use Rattle.cpu_set.specs.declared.TheConstants.{CPU_LIMIT};
 ghost use Rattle.certificate.specs.IsShortage.{IsShortage};
 ghost use Rattle.certificate_text.specs.Written.{CanWrite};
 ghost use Rattle.node.specs.IsNode.{ProvesItself, IsKept};
@@ -22,21 +23,35 @@ use certificate::{Certificate, Cost, Problem, check_shortage, offered_to};
 use cpu_set::IdSet;
 use faults::OrMemory;
 use kernel_model::{Kernel, KernelFault};
+use machine::Machine;
 use std::alloc::AllocError;
 
-/// How many CPUs the members of a shortage ask for together, and those that one of them may get.
-fn need_of(problem: &Problem, members: &[usize]) -> (u64, IdSet)
+/// So many cores as a count of CPUs.
+fn in_cpus(cores: u64, threads: u32) -> u64
+    requires cores { cores < 2 ^ 48 }
+    requires threads { threads ≤ CPU_LIMIT }
+    ensures { result ≡ cores * threads }
+{
+    cores * u64::from(threads)
+}
+
+/// How many CPUs the members of a shortage ask for together, and those of the cores that one of them may get.
+fn need_of(machine: &Machine, problem: &Problem, members: &[usize]) -> (u64, IdSet)
+    requires threads { machine.now.threads ≤ CPU_LIMIT }
     requires fit { IsTrue (rows_fit problem.now) }
     requires short { IsShortage problem.now members.now }
-    ensures { IsNeed problem.now members.now result.0 result.1 }
+    ensures { IsNeed machine.now problem.now members.now result.0 result.1 }
 {
     let Ok((asked, there)) = check_shortage(problem, members) else {
         unreachable!()
     };
-    let allowed = offered_to(problem.rows.as_slice(), members);
-    let count = allowed.count();
+    let cores = offered_to(problem.rows.as_slice(), members);
+    let count = cores.count();
     prove!(count == there);
-    (asked, allowed)
+    (
+        in_cpus(asked, machine.threads()),
+        machine.cpus_of_cores(&cores),
+    )
 }
 
 impl<K: Kernel + Drop> Node<K> {
@@ -48,6 +63,14 @@ impl<K: Kernel + Drop> Node<K> {
         self.pool = pool;
         self.phase = Phase::Underway;
         self.ongoing = Some(ongoing);
+    }
+
+    /// How many CPUs each core has.
+    fn threads(&self) -> u32
+        ensures is { result ≡ self.now.machine.threads }
+        ensures few { result ≤ CPU_LIMIT }
+    {
+        self.machine.threads()
     }
 
     /// Keeps the certificate of what was worked out.
@@ -77,14 +100,16 @@ impl<K: Kernel + Drop> Node<K> {
             Certificate::Plan { plan, total, .. } => {
                 let (pool, ongoing) = self.opening(plan.sets.as_slice())?;
                 self.open_to(pool, ongoing);
-                Outcome::Plan(Cost::unpack(*total).distance)
+                let distance = Cost::unpack(*total).distance;
+                Outcome::Plan(in_cpus(distance, self.threads()))
             }
             Certificate::Short {
                 problem,
                 members,
                 ..
             } => {
-                let (asked, allowed) = need_of(problem, members.rows.as_slice());
+                let _ = self.threads();
+                let (asked, allowed) = need_of(&self.machine, problem, members.rows.as_slice());
                 Outcome::Short { asked, allowed }
             }
         };
@@ -93,7 +118,7 @@ impl<K: Kernel + Drop> Node<K> {
     }
 
     /// Works out a plan of the live containers of least total distance to the home nodes, which among all plans of that total
-    /// moves the fewest CPUs, and opens the hand-over to it: [`step`](Node::step) makes its writes one by one. Where there is
+    /// moves the fewest cores, and opens the hand-over to it: [`step`](Node::step) makes its writes one by one. Where there is
     /// no plan, a shortage shows why. In the kernel nothing is written.
     ///
     /// # Errors
@@ -141,9 +166,10 @@ impl<K: Kernel + Drop> Node<K> {
     }
 
     /// Works out a plan of the live containers and moves them onto it, so that each one that asks for CPUs of its own has
-    /// as many as it asks for, all allowed, online and in nobody else's set, at a total distance to the home nodes that no
-    /// plan undercuts; among all plans of that total none moves fewer CPUs; the others share the pool. Where there is no
-    /// plan, a shortage names containers that together ask for more CPUs than they are allowed, and nothing is written.
+    /// as many as it asks for, of whole cores, all allowed, online and in nobody else's set, at a total distance to the home
+    /// nodes that no plan undercuts; among all plans of that total none moves fewer cores; the others share the pool. Where
+    /// there is no plan, a shortage names containers that together ask for more CPUs than the whole cores that they may have
+    /// offer, and nothing is written.
     ///
     /// All memory is taken before the first write.
     ///

@@ -1,9 +1,12 @@
+//! What changes of a table of processes leave and keep: laws over the definitions alone. Nothing here runs.
 ghost use Rattle.std.specs.Prelude.{◌≡◌};
-ghost use Rattle.proctable.specs.TableLaws.{AddedLeaves, ExitedLeaves, EndedLeaves, EndedIsEmpty, FoundHasPid, PidIsGiven, NoneWhereNoneCounted, NoneCountedWhereNone, LiveBelong, EmptyOnceFirstEnded, ChangesStayWellFormed, FirstIsWellFormed};
+ghost use Rattle.proctable.specs.TableLaws.{AddedLeaves, ExitedLeaves, EndedLeaves, EndedIsEmpty, FoundHasPid, PidIsGiven};
+ghost use Rattle.proctable.specs.TableLaws.{NoneWhereNoneCounted, NoneCountedWhereNone, LiveBelong, EmptyOnceFirstEnded};
+ghost use Rattle.proctable.specs.TableLaws.{ChangesStayWellFormed, FirstIsWellFormed};
 
 use crate::LAST_PID;
 
-/// What each change leaves of a table; nothing runs.
+/// What each change leaves of a table.
 pub fn changes()
     ensures added { AddedLeaves }
     ensures exited { ExitedLeaves }
@@ -11,7 +14,7 @@ pub fn changes()
     ensures ended_empty { EndedIsEmpty }
 {}
 
-/// What holds of each table that calls can make; nothing runs.
+/// What holds of each table that calls can make.
 pub fn well_formed()
     ensures first { FirstIsWellFormed }
     ensures stays { ChangesStayWellFormed }

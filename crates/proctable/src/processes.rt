@@ -57,7 +57,7 @@ impl Model for ProcTable {
 }
 
 impl ProcTable {
-    /// A table with no process, whose first process gets this pid. Takes no memory.
+    /// A table with no process, whose first process gets this pid. Allocates nothing.
     pub fn new(alloc: Global, first_pid: u32) -> ProcTable
         requires low { 2 ≤ first_pid }
         requires high { first_pid ≤ LAST_PID }

@@ -4,6 +4,7 @@ use Rattle.std.specs.List.{flat_map}
 use Rattle.std.proofs.lemmas.List.Elements.{All-get_or}
 use Rattle.cpu_set.specs.Ids.{Ids, is_same}
 use Rattle.cpu_set.specs.Pointwise.{same_subsets}
+use Rattle.machine.specs.Cores.{cores_in}
 use Rattle.machine.specs.Layout.{Layout}
 use Rattle.rows.specs.declared.cache.CachedOffers.{CachedOffers}
 use Rattle.rows.specs.declared.cache.CachedParts.{CachedParts}
@@ -20,12 +21,12 @@ found m cache i w homes cpus within at same_homes same_cpus all = record {
   same_cpus = same_subsets w.cpus cpus same_cpus;
 }
 
-pub offers_are : (m : Layout) (homes cpus : Ids) (w : CachedOffers) → IsCachedFor m homes cpus w → w.offers ≡ offers_of m homes cpus
-offers_are m homes cpus w h = h.entry.offers ∙ ap (λ s. offers_of m s w.cpus) h.same_homes ∙ ap (offers_of m homes) h.same_cpus
+pub offers_are : (m : Layout) (homes cpus : Ids) (w : CachedOffers) → IsCachedFor m homes cpus w → w.offers ≡ offers_of m homes (cores_in m cpus)
+offers_are m homes cpus w h = h.entry.offers ∙ ap (λ s. offers_of m s (cores_in m w.cpus)) h.same_homes ∙ ap (λ s. offers_of m homes (cores_in m s)) h.same_cpus
 
 -- parts that are kept are those of whoever holds the same
 pub kept_parts : (m : Layout) (w : CachedOffers) (kept : CachedParts) (held : Ids) → IsCached m w → w.parts ≡ Some kept → is_same kept.held held ≡ true
-    → kept.offers ≡ flat_map (parted held) w.offers
+    → kept.offers ≡ flat_map (parted (cores_in m held)) w.offers
 kept_parts m w kept held h is same =
-    subst (λ p. IfSome p (λ (q : CachedParts). q.offers ≡ flat_map (parted q.held) w.offers)) is h.parts
-    ∙ ap (λ s. flat_map (parted s) w.offers) (same_subsets kept.held held same)
+    subst (λ p. IfSome p (λ (q : CachedParts). q.offers ≡ flat_map (parted (cores_in m q.held)) w.offers)) is h.parts
+    ∙ ap (λ s. flat_map (parted (cores_in m s)) w.offers) (same_subsets kept.held held same)

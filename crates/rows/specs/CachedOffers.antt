@@ -2,15 +2,16 @@
 use Rattle.std.specs.Prelude.{◌≡◌, IfSome}
 use Rattle.std.specs.List.{flat_map}
 use Rattle.cpu_set.specs.Ids.{Ids}
+use Rattle.machine.specs.Cores.{cores_in}
 use Rattle.machine.specs.Layout.{Layout}
 use Rattle.rows.specs.declared.cache.CachedOffers.{CachedOffers}
 use Rattle.rows.specs.Offers.{offers_of}
 use Rattle.rows.specs.Scaled.{parted}
 
--- they are those of the CPUs for the homes, and parts that are kept are those for what is held
+-- they are those of the cores in the CPUs for the homes, and parts that are kept are those for the cores in what is held
 pub record IsCached (m : Layout) (w : CachedOffers) : Type 0 where
-  pub offers : w.offers ≡ offers_of m w.homes w.cpus
-  pub parts : IfSome w.parts (λ p. p.offers ≡ flat_map (parted p.held) w.offers)
+  pub offers : w.offers ≡ offers_of m w.homes (cores_in m w.cpus)
+  pub parts : IfSome w.parts (λ p. p.offers ≡ flat_map (parted (cores_in m p.held)) w.offers)
 
 -- they are those of these CPUs for these homes
 pub record IsCachedFor (m : Layout) (homes cpus : Ids) (w : CachedOffers) : Type 0 where

@@ -1,17 +1,20 @@
 -- The offers of a row fit the limits, and what a CPU weighs among them.
-use Rattle.std.proofs.Common.{◌≡◌, ℕ, zero, suc, ◌+◌, ◌<◌, ◌≤◌, Bool, true, false, cond, ◌&&◌, ◌==◌, nat_le, Some, None, List, ◌∷◌, map, filter, refl, sym, ap, ◌∙◌, inl, inr, arith}
+use Rattle.std.proofs.Common.{◌≡◌, ℕ, zero, suc, ◌+◌, ◌*◌, ◌/◌, ◌<◌, ◌≤◌, Bool, true, false, cond, ◌&&◌, ◌==◌, nat_le, Some, None, List, ◌∷◌, map, filter, refl, sym, ap, ◌∙◌, inl, inr, arith}
 use Rattle.std.specs.List.{range_with_len, list_all}
 use Rattle.std.proofs.lemmas.Bool.{cases_eq, false≢true, and_from}
 use Rattle.std.proofs.lemmas.Bool.Decides.{nat_tests}
+use Rattle.std.proofs.Math.Nat.{mul-div_cancel, suc-mul}
 use Rattle.std.specs.FinSet as set
 use Rattle.cpu_set.specs.Ids.{Ids}
-use Rattle.cpu_set.specs.Pointwise.{same_members, contains-empty, contains-intersection}
+use Rattle.cpu_set.specs.Pointwise.{same_members, contains-empty, contains-intersection, is_subset-contains}
+use Rattle.machine.specs.Cores.{cores_in}
 use Rattle.machine.specs.Layout.{Layout}
 use Rattle.machine.specs.Weight.{weight}
+use Rattle.machine.specs.WholeLaws.{cores_in-within}
 use Rattle.demand.specs.declared.Kind.{Kind}
 use Rattle.demand.specs.declared.Kind.TheVariants.{Pinned, Shared}
 use Rattle.demand.specs.declared.Demand.{Demand}
-use Rattle.demand.specs.FitsMachine.{FitsKind, FitsMachine}
+use Rattle.demand.specs.FitsMachine.{FitsKind, AsksForCores, FitsMachine}
 use Rattle.cpu_set.specs.declared.TheConstants.{CPU_LIMIT}
 use Rattle.certificate.specs.declared.Offer.{Offer}
 use Rattle.certificate.specs.declared.limits.TheConstants.{MAX_DEMAND, MAX_WEIGHT}
@@ -19,7 +22,7 @@ use Rattle.certificate.specs.RowView.{RowView}
 use Rattle.certificate.specs.Weight.{weight as weight_in_row, weight_in}
 use Rattle.certificate.specs.Limits.{is_disjoint, are_apart, offers_fit, row_fits}
 use Rattle.rows.specs.Offers.{of_weight, offer_at, has_some, offers_of}
-use Rattle.rows.specs.RowOf.{available, row_of_kind}
+use Rattle.rows.specs.RowOf.{available, offered, row_of_kind}
 use Rattle.rows.specs.Weighs.{RowsWeigh}
 use Rattle.rows.specs.Scaled.{are_distances}
 use Rattle.rows.specs.OfferSets.{contains-of_weight, offers_some}
@@ -123,14 +126,20 @@ left_part false b is = absurd (false≢true is)
 pub allowed_part : (allowed online cpus : Ids) (c : ℕ) → cpus ≡ set.intersection allowed online → set.contains cpus c ≡ true → set.contains allowed c ≡ true
 allowed_part allowed online cpus c is has = left_part _ _ (sym (contains-intersection allowed online c) ∙ ap (λ s. set.contains s c) (sym is) ∙ has)
 
+-- the cores of what is available are CPUs of it
+pub offered_part : (m : Layout) (allowed online : Ids) (c : ℕ) → set.contains (cores_in m (set.intersection allowed online)) c ≡ true → set.contains allowed c ≡ true
+offered_part m allowed online c has =
+    let both = set.intersection allowed online in
+    allowed_part allowed online both c refl (is_subset-contains (cores_in m both) both (cores_in-within m both) c has)
+
 by_kind : (m : Layout) (online : Ids) (id : List ℕ) (d : Demand) (kind : Kind) (row : RowView) → FitsMachine m d → row_of_kind m online id d kind ≡ Some row
-    → (c : ℕ) → weight_in_row row c ≡ cond (set.contains d.allowed c && set.contains online c) (Some (weight m d.homes c)) None
+    → (c : ℕ) → weight_in_row row c ≡ cond (set.contains (offered m online d) c) (Some (weight m d.homes c)) None
 by_kind m online id d Shared row fits is c = absurd (cc)
 by_kind m online id d (Pinned count) row fits is c =
-    let same : record { id = id; demand = count; offers = offers_of m d.homes (available online d) } ≡ row = cc in
+    let same : record { id = id; demand = count / m.threads; offers = offers_of m d.homes (offered m online d) } ≡ row = cc in
     ap (λ (r : RowView). weight_in_row r c) (sym same)
-    ∙ weighs m d.homes (available online d) c (set.contains d.allowed c && set.contains online c) (contains-intersection d.allowed online c)
-    (λ has. fits.in_reach c (left_part _ _ has))
+    ∙ weighs m d.homes (offered m online d) c (set.contains (offered m online d) c) refl
+    (λ has. fits.in_reach c (offered_part m d.allowed online c has))
 
 pub rows_weigh : RowsWeigh
 rows_weigh m online id d row fits is c = by_kind m online id d d.kind row fits is c
@@ -149,7 +158,42 @@ asked : (kind : Kind) (allowed : Ids) (count : ℕ) → kind ≡ Pinned count �
 asked (Pinned n) allowed count is fits = let same : n ≡ count = cc in (rw (← same) fits.0, rw (← same) fits.1)
 asked Shared allowed count is fits = absurd (cc)
 
-pub pinned_row_fits : (m : Layout) (id : List ℕ) (d : Demand) (count : ℕ) (cpus : Ids) (offers : List Offer) → FitsMachine m d → d.kind ≡ Pinned count
-    → offers ≡ offers_of m d.homes cpus → row_fits (record { id = id; demand = count; offers = offers }) ≡ true
-pinned_row_fits m id d count cpus offers fits is are =
-    let few = asked d.kind d.allowed count is fits.kind in rw are (row_of_fits m d.homes cpus id count few.0 few.1)
+-- a count of CPUs of whole cores is that of so many cores
+pub record AreCoresOf (count threads cores : ℕ) : Type 0 where
+  pub is : count ≡ cores * threads
+  pub some : 1 ≤ cores
+  pub few : cores ≤ count
+  pub wide : 1 ≤ threads
+
+wide_of : (cores threads : ℕ) → 1 ≤ cores * threads → (1 ≤ cores) × (1 ≤ threads)
+wide_of zero threads some = absurd (omega arith)
+wide_of (suc cores) zero some = absurd (let none : suc cores * zero ≡ 0 = omega arith in omega (arith, none, some))
+wide_of (suc cores) (suc threads) some = (omega arith, omega arith)
+
+at_least : (cores threads : ℕ) → 1 ≤ threads → cores ≤ cores * threads
+at_least zero threads wide = omega arith
+at_least (suc cores) threads wide = omega (arith, suc-mul cores threads, at_least cores threads wide)
+
+in_cores : (count threads cores : ℕ) → 1 ≤ count → count ≡ cores * threads → AreCoresOf count threads (count / threads)
+in_cores count threads cores some is =
+    let both = wide_of cores threads (omega (arith, some, is)) in
+    let quotient : count / threads ≡ cores = ap (λ n. n / threads) is ∙ mul-div_cancel cores (omega (arith, both.1)) in
+    rw quotient (record { is = is; some = both.0; few = omega (arith, is, at_least cores threads both.1); wide = both.1 })
+
+by_cores : (threads : ℕ) (kind : Kind) (allowed : Ids) (count : ℕ) → kind ≡ Pinned count → FitsKind kind allowed → AsksForCores threads kind → AreCoresOf count threads (count / threads)
+by_cores threads (Pinned n) allowed count is fits whole =
+    let same : n ≡ count = cc in
+    in_cores count threads whole.0 (rw (← same) fits.0) (sym same ∙ whole.1)
+by_cores threads Shared allowed count is fits whole = absurd (cc)
+
+-- so a demand is one of so many cores
+pub asked_cores : (m : Layout) (d : Demand) (count : ℕ) → FitsMachine m d → d.kind ≡ Pinned count → AreCoresOf count m.threads (count / m.threads)
+asked_cores m d count fits is = by_cores m.threads d.kind d.allowed count is fits.kind fits.cores
+
+pub pinned_row_fits : (m : Layout) (id : List ℕ) (d : Demand) (count asks : ℕ) (cpus : Ids) (offers : List Offer) → FitsMachine m d → d.kind ≡ Pinned count
+    → asks ≡ count / m.threads → offers ≡ offers_of m d.homes cpus → row_fits (record { id = id; demand = asks; offers = offers }) ≡ true
+pinned_row_fits m id d count asks cpus offers fits is asks_for are =
+    let few = asked d.kind d.allowed count is fits.kind in
+    let cores = asked_cores m d count fits is in
+    let most : count ≤ CPU_LIMIT = few.1 in
+    rw (are, asks_for) (row_of_fits m d.homes cpus id (count / m.threads) cores.some (omega (arith, cores.few, most)))

@@ -1,4 +1,4 @@
--- The row of a container that holds CPUs already: its weights count moves besides the distance.
+-- The row of a container that holds some of its CPUs, cores by their lowest, already: its weights count moves besides the distance.
 use Rattle.certificate.specs.Limits.{row_fits}
 use Rattle.std.specs.Prelude.{◌≡◌, ℕ, Bool, true, nat_le, cond, List, [], ◌∷◌, filter, option_map}
 use Rattle.std.specs.List.{flat_map, list_all}

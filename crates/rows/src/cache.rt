@@ -1,11 +1,12 @@
 //! Offers that were worked out, for containers that have their homes and CPUs in common.
-ghost use Rattle.std.specs.Prelude.{◌≡◌, All, IfOk, IfSome};
-ghost use Rattle.std.specs.List.{flat_map};
+ghost use Rattle.std.specs.Prelude.{◌≡◌, All, IsTrue, IfOk, IfSome};
+ghost use Rattle.std.specs.List.{flat_map, list_all};
+ghost use Rattle.machine.specs.Cores.{cores_in};
 ghost use Rattle.machine.specs.Layout.{Layout};
 ghost use Rattle.machine.specs.Weight.{AreHomes};
 ghost use Rattle.rows.specs.Reach.{AreInReach};
-ghost use Rattle.rows.specs.Offers.{offers_of};
-ghost use Rattle.rows.specs.Scaled.{parted};
+ghost use Rattle.rows.specs.Offers.{has_some, offers_of};
+ghost use Rattle.rows.specs.Scaled.{are_distances, parted};
 ghost use Rattle.rows.specs.CachedOffers.{IsCached, IsCachedFor};
 
 use crate::offers::offers_of;
@@ -59,8 +60,8 @@ fn has(ids: &IdSet, id: Option<u16>) -> bool {
     }
 }
 
-/// The offers of these CPUs for these homes in parts, for a container that holds some CPUs. They are worked out once
-/// for containers that hold the same, as all do that no plan has met.
+/// The offers of the cores in these CPUs for these homes in parts, for a container that holds some CPUs. They are worked out
+/// once for containers that hold the same, as all do that no plan has met.
 pub(crate) fn parts_among(
     alloc: Global,
     machine: &Machine,
@@ -72,14 +73,14 @@ pub(crate) fn parts_among(
     requires reach { AreInReach machine.now homes.now cpus.now }
     requires homes { AreHomes machine.now homes.now }
     requires cache { All (IsCached machine.now) cache.old.items }
-    ensures parts { IfOk result (λ parts. parts ≡ flat_map (parted held.now) (offers_of machine.now homes.now cpus.now)) }
+    ensures parts { IfOk result (λ parts. parts ≡ flat_map (parted (cores_in machine.now held.now)) (offers_of machine.now homes.now (cores_in machine.now cpus.now))) }
     ensures cache { All (IsCached machine.now) cache.new.items }
 {
     if let Some(cached) = find(cache.as_slice(), homes, cpus) {
-        return parts_for(alloc, cached, held);
+        return parts_for(alloc, machine, cached, held);
     }
-    let offers = offers_of(alloc, machine, homes, cpus)?;
-    let parts = parts_of(alloc, &offers, held)?;
+    let offers = core_offers(alloc, machine, homes, cpus)?;
+    let parts = core_parts(alloc, machine, &offers, held)?;
     let kept = CachedParts {
         held: *held,
         offers: parts.copy(alloc)?,
@@ -93,13 +94,52 @@ pub(crate) fn parts_among(
     Ok(parts)
 }
 
+/// The offers of the cores in these CPUs for these homes.
+fn core_offers(
+    alloc: Global,
+    machine: &Machine,
+    homes: &IdSet,
+    cpus: &IdSet,
+) -> Result<Offers, AllocError>
+    requires reach { AreInReach machine.now homes.now cpus.now }
+    requires homes { AreHomes machine.now homes.now }
+    ensures { IfOk result (λ offers. offers ≡ offers_of machine.now homes.now (cores_in machine.now cpus.now)) }
+{
+    if machine.threads() == 1 {
+        return offers_of(alloc, machine, homes, cpus);
+    }
+    offers_of(alloc, machine, homes, &machine.cores_in(cpus))
+}
+
+/// Offers in parts, for a container that holds these CPUs.
+fn core_parts(
+    alloc: Global,
+    machine: &Machine,
+    offers: &Offers,
+    held: &IdSet,
+) -> Result<Offers, AllocError>
+    requires distances { IsTrue (are_distances offers.now) }
+    requires some { IsTrue (list_all has_some offers.now) }
+    ensures { IfOk result (λ parts. parts ≡ flat_map (parted (cores_in machine.now held.now)) offers.now) }
+{
+    if machine.threads() == 1 {
+        return parts_of(alloc, offers, held);
+    }
+    parts_of(alloc, offers, &machine.cores_in(held))
+}
+
 /// The offers of an entry in parts, for a container that holds these CPUs.
-fn parts_for(alloc: Global, cached: &CachedOffers, held: &IdSet) -> Result<Offers, AllocError>
-    requires { (m : Layout) × IsCached m cached.now }
-    ensures { IfOk result (λ parts. parts ≡ flat_map (parted held.now) cached.now.offers) }
+fn parts_for(
+    alloc: Global,
+    machine: &Machine,
+    cached: &CachedOffers,
+    held: &IdSet,
+) -> Result<Offers, AllocError>
+    requires { IsCached machine.now cached.now }
+    ensures { IfOk result (λ parts. parts ≡ flat_map (parted (cores_in machine.now held.now)) cached.now.offers) }
 {
     match &cached.parts {
         Some(kept) if kept.held == *held => kept.offers.copy(alloc),
-        _ => parts_of(alloc, &cached.offers, held),
+        _ => core_parts(alloc, machine, &cached.offers, held),
     }
 }

@@ -1,9 +1,9 @@
-//! Laws over the definitions alone: nothing here runs.
+//! What cores weigh in the rows of containers: laws over the definitions alone. Nothing here runs.
 ghost use Rattle.rows.specs.Scaled.{ScaledRowsWeigh, ScaledRowsFit, PartsRise, PartsAreScaled, DistancesStay, MovesAreUnheld};
 ghost use Rattle.rows.specs.Weighs.{RowsWeigh};
 
-/// What a CPU weighs in a row: its distance to the nearest home where the container may get it and it is online; no
-/// other CPU has a weight.
+/// What a CPU weighs in a row: its distance to the nearest home where it is the lowest of a core of which the container may get
+/// all CPUs and all are online; no other CPU has a weight.
 pub fn rows_weigh()
     ensures { RowsWeigh }
 {}

@@ -1,6 +1,7 @@
 ghost use Rattle.std.specs.Prelude.{◌≡◌, option_map, All, IsTrue, IfOk, IfSome};
 ghost use Rattle.certificate.specs.Limits.{row_fits};
 ghost use Rattle.demand.specs.FitsMachine.{FitsMachine};
+ghost use Rattle.machine.specs.Cores.{cores_in};
 ghost use Rattle.rows.specs.RowOf.{available, row_of};
 ghost use Rattle.rows.specs.CachedOffers.{IsCached};
 ghost use Rattle.rows.specs.Scaled.{scaled};
@@ -15,13 +16,13 @@ use std::alloc::{AllocError, Global};
 /// The row of a container that asks for CPUs of its own while these CPUs are online, and that holds some already; a shared one has
 /// none.
 ///
-/// It offers the CPUs that the container may get and that are online. Each weighs as much as the distance from its node
-/// to the nearest home, and one move where the container does not hold it, as one [`Cost`](certificate::Cost).
-/// There is one offer for each weight, the least weight first. Offers that are cached are taken from there, and new ones
-/// are added. O(c + n * h) of c cached offers, n nodes and h homes.
+/// It asks for cores, and offers those of which the container may get all CPUs and all are online, each by its lowest CPU. Each
+/// weighs as much as the distance from its node to the nearest home, and one move where the container does not hold all of its
+/// CPUs, as one [`Cost`](certificate::Cost). There is one offer for each weight, the least weight first. Offers that are cached
+/// are taken from there, and new ones are added. O(c + n * h) of c cached offers, n nodes and h homes.
 ///
 /// # Errors
-/// Lack of memory.
+/// An allocation failure.
 pub fn scaled_row_of(
     alloc: Global,
     machine: &Machine,
@@ -33,7 +34,7 @@ pub fn scaled_row_of(
 ) -> Result<Option<Row>, AllocError>
     requires fits { FitsMachine machine.now demand.now }
     requires cache { All (IsCached machine.now) cache.old.items }
-    ensures row { IfOk result (λ row. row ≡ option_map (scaled held.now) (row_of machine.now online.now id.now demand.now)) }
+    ensures row { IfOk result (λ row. row ≡ option_map (scaled (cores_in machine.now held.now)) (row_of machine.now online.now id.now demand.now)) }
     ensures fits { IfOk result (λ row. IfSome row (λ r. IsTrue (row_fits r))) }
     ensures cache { All (IsCached machine.now) cache.new.items }
 {
@@ -43,7 +44,7 @@ pub fn scaled_row_of(
     let cpus = available(demand, online);
     Ok(Some(Row {
         id: String::from_str(alloc, id)?,
-        demand: count,
+        demand: count / machine.threads(),
         offers: parts_among(alloc, machine, &demand.homes, &cpus, held, cache)?,
     }))
 }

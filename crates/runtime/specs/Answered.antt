@@ -41,7 +41,7 @@ AnswersFound old id bundle None text new = (text ≡ refusal_line NoBundle) × (
 AnswersFound old id bundle (Some config) text new =
     (r : Result ℕ (OrMemory NodeFault)) × Creates old id bundle config r new × CreateWrites old id r new × (text ≡ answer_text pid_line of_either r)
 
--- memory for the bundle's config was wanted
+-- an allocation for the bundle's config failed
 abbrev pub WantsMemory : NodeState → List ℕ → NodeState → Type 0
 WantsMemory old text new = (text ≡ refusal_line Memory) × (new ≡ old)
 

@@ -2,6 +2,8 @@
 use Rattle.std.specs.Prelude.{ℕ, List, [], ◌++◌, Option, Some, None, codes, decimal, zip}
 use Rattle.std.specs.List.{flat_map}
 use Rattle.cpu_set.specs.Ids.{Ids}
+use Rattle.machine.specs.Layout.{Layout}
+use Rattle.machine.specs.Cores.{cpus_of_cores}
 use Rattle.certificate.specs.RowView.{RowView}
 use Rattle.certificate.specs.declared.certificates.Certificate.{Certificate}
 use Rattle.certificate.specs.declared.certificates.Certificate.TheVariants as certificate
@@ -17,18 +19,22 @@ use Rattle.runtime.specs.AnswerTexts.{set_text}
 abbrev pub hold_line : RowView × Ids → List ℕ
 hold_line p = (codes "hold " ++ (p.0.id ++ codes " ")) ++ (set_text p.1 ++ codes "\n")
 
+-- the same of a certificate's row, which has cores by their lowest CPUs
+abbrev pub core_line : Layout → RowView × Ids → List ℕ
+core_line m p = hold_line (p.0, cpus_of_cores m p.1)
+
 -- a container that is short
 abbrev pub member_line : List RowView → ℕ → List ℕ
 member_line rows k = codes "member " ++ (id_at rows k ++ codes "\n")
 
 -- a line for each container that a certificate names
-abbrev pub container_lines : Certificate → List ℕ
-container_lines (certificate.Plan rows sets prices total weights) = flat_map hold_line (zip rows sets)
-container_lines (certificate.Short rows members weights) = flat_map (member_line rows) members
+abbrev pub container_lines : Layout → Certificate → List ℕ
+container_lines m (certificate.Plan rows sets prices total weights) = flat_map (core_line m) (zip rows sets)
+container_lines m (certificate.Short rows members weights) = flat_map (member_line rows) members
 
-abbrev pub last_lines : Option Certificate → List ℕ
-last_lines (Some c) = container_lines c
-last_lines None = []
+abbrev pub last_lines : Layout → Option Certificate → List ℕ
+last_lines m (Some c) = container_lines m c
+last_lines m None = []
 
 -- the total; or what is asked for, and what is allowed
 abbrev pub total_line : ℕ → List ℕ
@@ -51,7 +57,7 @@ end_lines pool (Short wanted allowed) = codes "end\n"
 
 -- an outcome, with the containers of the last certificate and the pool
 abbrev pub outcome_text : NodeState → Outcome → List ℕ
-outcome_text n outcome = first_line outcome ++ (last_lines n.last ++ end_lines n.pool outcome)
+outcome_text n outcome = first_line outcome ++ (last_lines n.machine n.last ++ end_lines n.pool outcome)
 
 abbrev pub progress_line : Progress → List ℕ
 progress_line More = codes "more\n"

@@ -90,7 +90,7 @@ pub record IsCall (told : Told) (command : Asked) (old : NodeState) (text : List
   pub step : Step old event new
   pub answer : text ≡ event_text new event
 
--- memory for the bundle's config was wanted, or no such bundle is found
+-- an allocation for the bundle's config failed, or no such bundle is found
 abbrev pub FindsNone : Told → List ℕ → List ℕ → Type 0
 FindsNone told bundle text = (text ≡ refusal_line Memory) ⊎ ((text ≡ refusal_line NoBundle) × IsFound told bundle None)
 

@@ -30,7 +30,7 @@ pub fn kernel_of(alloc: Global, machine: &Machine) -> Result<ModelKernel, AllocE
 /// A node with no container, over a modelled kernel that has the machine's CPUs and nodes.
 ///
 /// # Errors
-/// Lack of memory: of a kernel that is new, and of which no write fails, nothing else refuses the
+/// An allocation failure: of a kernel that is new, and of which no write fails, nothing else refuses the
 /// node's group.
 pub fn boot(alloc: Global, machine: Machine) -> Result<Node<ModelKernel>, AllocError>
     ensures { IfOk result (Boots machine) }
@@ -53,7 +53,7 @@ pub fn boot(alloc: Global, machine: Machine) -> Result<Node<ModelKernel>, AllocE
 /// root too, where these nodes have memory.
 ///
 /// # Errors
-/// Lack of memory, or `Failed` where the folder of the node's group can't be made.
+/// An allocation failure, or `Failed` where the folder of the node's group can't be made.
 pub fn boot_mirrored<F: GroupFiles + Drop>(
     alloc: Global,
     machine: Machine,

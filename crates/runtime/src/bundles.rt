@@ -12,7 +12,7 @@ pub trait Bundles {
     /// The bytes of the bundle's config, or none where there is no such bundle or its config can't be read.
     ///
     /// # Errors
-    /// Lack of memory.
+    /// An allocation failure.
     fn config(&mut self, bundle: &str) -> Result<Option<Vec<u8>>, AllocError>
         ensures found { IfOk result (λ found. IsFound (told self.old) bundle.now (option_map (λ config. config.items) found)) }
         ensures same { told self.new ≡ told self.old };

@@ -1,4 +1,4 @@
-//! Laws over the definitions alone: nothing here runs.
+//! What a script's answers say of the node: laws over the definitions alone. Nothing here runs.
 ghost use Rattle.std.specs.Prelude.{◌≡◌};
 ghost use Rattle.runtime.specs.Boots.{BootsNodes};
 ghost use Rattle.runtime.specs.CertificatesTold.{CertificatesAreTold};
@@ -8,7 +8,8 @@ ghost use Rattle.runtime.specs.ScriptLaws.{BegunAreTold, BegunShortAreTold, Comm
 use crate::FIRST_PID;
 
 /// Each command of a script is answered by the text of the call or event that it asks for, also where it only reads; but a
-/// `create`, an `adopt` or an `update` for which no config was found makes no call, nor an `adopt` whose list names no CPUs. So answered lines are at most one call or event each.
+/// `create`, an `adopt` or an `update` for which no config was found makes no call, nor an `adopt` whose list names no
+/// CPUs. So answered lines are at most one call or event each.
 pub fn lines_are_calls()
     ensures commands { CommandsAreCalls }
     ensures lines { LinesAreCalls }
@@ -33,7 +34,6 @@ pub fn rebalances_are_told()
 
 /// What a script plans for the containers of its bundles, from a node of no container on: the headline holds of each line that
 /// asks for a rebalance, and after a plan each container that lives has in effect what the bytes of its bundle's config ask for.
-/// Nothing runs.
 pub fn scripts_serve_configs()
     ensures { ScriptsServeConfigs }
 {
@@ -42,7 +42,7 @@ pub fn scripts_serve_configs()
 }
 
 /// The text that answers `certificate` proves the verdict on what was told last to whoever checks it: of a plan its total, and
-/// how many CPUs it moves. Nothing runs.
+/// how many CPUs it moves.
 pub fn certificates_are_told()
     ensures { CertificatesAreTold }
 {
@@ -51,7 +51,7 @@ pub fn certificates_are_told()
     node::laws::certificates_prove();
 }
 
-/// A node from the beginning, on a sound machine, is one of which all holds that the laws of nodes ask for. Nothing runs.
+/// A node from the beginning, on a sound machine, is one of which all holds that the laws of nodes ask for.
 pub fn booted_nodes()
     ensures { BootsNodes }
 {

@@ -3,7 +3,7 @@ ghost use Rattle.std.specs.Prelude.{◌≡◌, ◌<◌, ◌++◌, All, codes, le
 ghost use Rattle.std.specs.List.{flat_map};
 ghost use Rattle.byte_output.specs.Output.{Writes};
 ghost use Rattle.certificate_text.specs.Written.{CanWrite};
-ghost use Rattle.runtime.specs.OutcomeTexts.{container_lines, end_lines, first_line, hold_line, last_lines, member_line, need_line, outcome_text, pool_lines, progress_line, total_line};
+ghost use Rattle.runtime.specs.OutcomeTexts.{container_lines, core_line, end_lines, first_line, hold_line, last_lines, member_line, need_line, outcome_text, pool_lines, progress_line, total_line};
 
 use crate::answers::{put_labelled, put_set};
 use byte_output::{put, put_all, put_number};
@@ -25,12 +25,18 @@ fn put_hold<W: Write>(row: &Row, cpus: &IdSet, w: &mut W) -> io::Result<()>
     put(b"\n", w)
 }
 
-fn put_holds<W: Write>(rows: &[Row], sets: &[IdSet], w: &mut W) -> io::Result<()>
+/// Writes a line for each row of a plan, with the CPUs of its cores.
+fn put_holds<K: Kernel + Drop, W: Write>(
+    node: &Node<K>,
+    rows: &[Row],
+    sets: &[IdSet],
+    w: &mut W,
+) -> io::Result<()>
     requires { length sets.now ≡ length rows.now }
-    ensures { Writes (W.contents w.old) (W.contents w.new) result (flat_map hold_line (zip rows.now sets.now)) }
+    ensures { Writes (W.contents w.old) (W.contents w.new) result (flat_map (core_line node.now.machine) (zip rows.now sets.now)) }
 {
     for (k, row) in rows.iter().enumerate() {
-        put_hold(row, &sets[k], w)?;
+        put_hold(row, &node.cpus_of(&sets[k]), w)?;
     }
     Ok(())
 }
@@ -55,13 +61,17 @@ fn put_members<W: Write>(rows: &[Row], members: &[usize], w: &mut W) -> io::Resu
 }
 
 /// Writes a line for each container that the certificate names.
-fn put_containers<W: Write>(certificate: &Certificate, w: &mut W) -> io::Result<()>
+fn put_containers<K: Kernel + Drop, W: Write>(
+    node: &Node<K>,
+    certificate: &Certificate,
+    w: &mut W,
+) -> io::Result<()>
     requires { CanWrite certificate.now }
-    ensures { Writes (W.contents w.old) (W.contents w.new) result (container_lines certificate.now) }
+    ensures { Writes (W.contents w.old) (W.contents w.new) result (container_lines node.now.machine certificate.now) }
 {
     match certificate {
         Certificate::Plan { problem, plan, .. } => {
-            put_holds(problem.rows.as_slice(), plan.sets.as_slice(), w)
+            put_holds(node, problem.rows.as_slice(), plan.sets.as_slice(), w)
         }
         Certificate::Short {
             problem,
@@ -112,10 +122,10 @@ fn put_last<W: Write>(outcome: &Outcome, pool: &IdSet, w: &mut W) -> io::Result<
 
 /// Writes a line for each container that the last certificate names.
 fn put_named<K: Kernel + Drop, W: Write>(node: &Node<K>, w: &mut W) -> io::Result<()>
-    ensures { Writes (W.contents w.old) (W.contents w.new) result (last_lines node.now.last) }
+    ensures { Writes (W.contents w.old) (W.contents w.new) result (last_lines node.now.machine node.now.last) }
 {
     match node.certificate() {
-        Ok(certificate) => put_containers(certificate, w),
+        Ok(certificate) => put_containers(node, certificate, w),
         Err(_) => Ok(()),
     }
 }

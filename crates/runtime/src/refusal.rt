@@ -17,7 +17,7 @@ use std::io::Write;
 /// Why a command is refused.
 #[derive(Clone, Copy, Debug, PartialEq, Eq)]
 pub enum Refusal {
-    /// E1: there was no memory.
+    /// E1: an allocation failed.
     Memory,
     /// E40 to E67, E90 to E101 and E104: the node or the kernel refuses the call, or a write of the kernel failed in it.
     Node(NodeFault),

@@ -1,4 +1,4 @@
-//! Laws over the definitions alone: nothing here runs.
+//! Which lines are refused, and the limits of a script: laws over the definitions alone. Nothing here runs.
 ghost use Rattle.std.specs.Prelude.{◌≡◌};
 ghost use Rattle.script.specs.TextLaws.{NoTextIsBad};
 

@@ -7,7 +7,7 @@ use std::marker::Model;
 /// The most bytes of a line, without its line feed.
 pub const MOST_LINE_BYTES: usize = 8_192;
 
-/// A line that comes piece by piece, or none where it is too long. It takes no memory.
+/// A line that comes piece by piece, or none where it is too long. It allocates nothing.
 #[derive(Drop)]
 pub struct LineBuffer {
     bytes: [u8; MOST_LINE_BYTES],

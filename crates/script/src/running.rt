@@ -37,7 +37,7 @@ pub fn run_script<T: Target, R: Read, W: Write>(
 }
 
 /// Runs a script over the target: the reader's lines are carried out one after another, and answered to the writer.
-/// Bytes are read as they come, by so many reads at most, and the writer is flushed behind each answer. It takes no memory of
+/// Bytes are read as they come, by so many reads at most, and the writer is flushed behind each answer. It allocates nothing of
 /// its own.
 ///
 /// A line feed ends a line. What follows the last one is a line too, where the input ends there.

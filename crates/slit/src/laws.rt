@@ -1,4 +1,4 @@
-//! What holds of the definitions alone.
+//! The limits of a table, with their numbers. Nothing here runs.
 ghost use Rattle.std.specs.Prelude.{◌≡◌};
 
 use crate::{LOCAL, MAX_LOCALITIES, UNREACHABLE};

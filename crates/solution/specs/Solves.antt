@@ -53,7 +53,7 @@ HasRows text fit = (rows : List RowView) × IsProblemText text rows × (rows_fit
 abbrev pub Solves : List ℕ → List ℕ → Type 0
 Solves text written = (rows : List RowView) × (c : Certificate) × IsProblemText text rows × IsText written c × IsSolution rows c
 
--- the text stands for no rows, or for rows past the limits; memory ran out at a line that can follow those before it, or with
+-- the text stands for no rows, or for rows past the limits; an allocation failed at a line that can follow those before it, or with
 -- rows that are within the limits
 abbrev pub IsUnsolved : List ℕ → OrMemory VerdictFault → Type 0
 IsUnsolved text Memory = ProblemAsksForMemory text ⊎ HasRows text true

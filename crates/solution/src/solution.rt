@@ -34,7 +34,7 @@ impl Solution {
         Solution { certificate }
     }
 
-    /// Writes the certificate's text. It takes no memory.
+    /// Writes the certificate's text. It allocates nothing.
     ///
     /// # Errors
     /// As [`write_text`]: a prefix of the text then went out.

@@ -18,14 +18,14 @@ use transport::{Answer, solve};
 /// there is no plan.
 ///
 /// # Errors
-/// Those of [`read_problem`], then `BadProblem` (E70) where the rows are past the limits of a check, then lack of memory.
+/// Those of [`read_problem`], then `BadProblem` (E70) where the rows are past the limits of a check, then an allocation failure.
 pub fn solve_text(alloc: Global, text: &[u8]) -> Result<Solution, OrMemory<VerdictFault>>
     // What is written of it stands, in the grammar of certificates, for a certificate of the very rows that the text stands
     // for. The check accepts that one: no plan of the rows costs less than its plan, or they have none.
     ensures solved { IfOk result (Solves text.now) }
-    // One wherever the text stands for rows within the limits, unless memory runs out.
+    // One wherever the text stands for rows within the limits, unless an allocation failed.
     ensures complete { HasRows text.now true → IfErr result (λ e. e ≡ Memory) }
-    // The first bad line; or rows past the limits; or memory ran out at a line that can follow, or with rows within the limits.
+    // The first bad line; or rows past the limits; or an allocation failed at a line that can follow, or with rows within the limits.
     ensures fault { IfErr result (λ e. IsUnsolved text.now e) }
 {
     certificate_text::laws::problem_texts();

@@ -43,7 +43,7 @@ impl<T: Copy> Model for TaggedSets<T> {
 }
 
 impl<T: Copy> TaggedSets<T> {
-    /// No sets. Takes no memory.
+    /// No sets. Allocates nothing.
     pub fn new(alloc: Global) -> TaggedSets<T>
         ensures { result ≡ [] }
     {
@@ -56,7 +56,7 @@ impl<T: Copy> TaggedSets<T> {
     /// Adds a set with its tag behind the others.
     ///
     /// # Errors
-    /// Lack of memory, which changes nothing.
+    /// An allocation failure, which changes nothing.
     pub fn push(&mut self, tag: T, cpus: &IdSet) -> Result<(), AllocError>
         ensures ok { OnOk result (self.new ≡ self.old ++ (tag, cpus.now) ∷ []) }
         ensures err { OnErr result (self.new ≡ self.old) }
@@ -72,7 +72,7 @@ impl<T: Copy> TaggedSets<T> {
     /// set is made of them. O(r) of its r ranges.
     ///
     /// # Errors
-    /// Lack of memory, which changes nothing.
+    /// An allocation failure, which changes nothing.
     pub fn push_from(&mut self, tag: T, other: &TaggedSets<T>, at: usize) -> Result<(), AllocError>
         requires { at < length other.now }
         ensures ok { (d : T × Ids) → OnOk result (self.new ≡ self.old ++ (tag, (slice_index_or other.now at d).1) ∷ []) }
@@ -92,7 +92,7 @@ impl<T: Copy> TaggedSets<T> {
     /// The same sets once more.
     ///
     /// # Errors
-    /// Lack of memory.
+    /// An allocation failure.
     pub fn copy(&self, alloc: Global) -> Result<TaggedSets<T>, AllocError>
         ensures { IfOk result (λ same. same ≡ self.now) }
     {
@@ -189,7 +189,7 @@ fn part_of(ranges: &[(u16, u16)], start: usize, end: usize) -> &[(u16, u16)]
     &ranges[start..end]
 }
 
-/// Adds the ranges of a set, each up to the next number that the set lacks; lack of memory changes nothing.
+/// Adds the ranges of a set, each up to the next number that the set lacks; an allocation failure changes nothing.
 fn add_ranges(ranges: &mut Vec<(u16, u16)>, cpus: &IdSet) -> Result<(), AllocError>
     ensures ok { OnOk result (ranges.new.items ≡ ranges.old.items ++ ranges_of_set cpus.now) }
     ensures err { OnErr result (ranges.new.items ≡ ranges.old.items) }

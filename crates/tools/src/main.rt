@@ -5,8 +5,10 @@
 //! - `tools ask MACHINE CONFIG..` prints what bundles ask for on a machine.
 //! - `tools list LIMIT`: what a list names, where the limit is at most that of a set.
 //! - `tools write WHAT WIDTH FAULT`: what a writer that fails has of a text.
-//! - `tools twins`: the kinds of the rows of certificates, and the classes of their CPUs; `tools solve`: what comes of them.
+//! - `tools twins`: which rows of certificates have the same offers, and the classes of their CPUs; `tools solve`: what
+//!   comes of them.
 //! - `tools kernel FAIL`: what a modelled kernel answers to calls.
+//! - `tools mirror FAIL MEMORY`: the same, and what is asked of files that fail, where a kernel's writes are made in them first.
 //! - `tools run FAIL MOST READ WIDTH WRITES WRITE MACHINE BUNDLE..`: a script over a kernel and streams that fail.
 //!
 //! Else it is the name of a benchmark, and the second word how often its work is done: what is printed is a sum over all
@@ -21,6 +23,7 @@ mod hand_over;
 mod kernel;
 mod lent;
 mod lists;
+mod mirror;
 mod pieces;
 mod problems;
 mod runs;
@@ -33,7 +36,7 @@ use std::env;
 use std::io::Read;
 
 const WORDS: &str =
-    "tools ask, list, write, twins, solve, kernel or run, or the name of a benchmark and a count";
+    "tools ask, list, write, twins, solve, kernel, mirror or run, or the name of a benchmark and a count";
 
 fn main(rt: HostRuntime) -> Result<()> {
     let words: Vec<String> = env::args(&rt)?.skip(1).collect(rt.alloc())?;
@@ -44,6 +47,7 @@ fn main(rt: HostRuntime) -> Result<()> {
         "write" => writes::each_fault(&rt, words, &input(&rt)?),
         "twins" => alike::each(&rt, &input(&rt)?),
         "kernel" => calls::over_new(&rt, words, &input(&rt)?),
+        "mirror" => mirror::over_files(&rt, words, &input(&rt)?),
         "run" => runs::over_files(&rt, words, &input(&rt)?),
         "solve" if words.is_empty() => solving::each(&rt, &input(&rt)?),
         name => {

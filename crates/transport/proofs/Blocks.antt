@@ -13,9 +13,9 @@ use Rattle.transport.specs.Numbers.{number, IsIn, IsListing}
 use Rattle.transport.specs.ReachedRows.{is_reached}
 use Rattle.transport.specs.Searches.{is_taken, IsCovered}
 use Rattle.transport.specs.States.{IsRunning}
-use Rattle.transport.specs.Scans.{arc_at, IsPast, IsLimit, IsBoundOf, AreRising, CanLabelArc, IsArcLabelled, HasLabelled}
+use Rattle.transport.specs.Scans.{arc_at, IsPast, IsLimit, IsBoundOf, AreRising, IsBetter, CanLabelArc, IsArcLabelled, HasLabelled}
 use Rattle.transport.specs.SortedArcs.{IsSortedArcs, IsScanned}
-use Rattle.transport.specs.Blocks.{IsFirstOf, InBlocks, IsArcOf, block_at, IsWeightOfArc, AreWeightsAdded, AreBlocks, AreFirstsOfTaken, AreTakenFirsts, AreNoted, CanLabelBlock, HasLabelledBlock, HasLabelledBlocks, IsFirstIn}
+use Rattle.transport.specs.Blocks.{IsFirstOf, InBlocks, IsArcOf, block_at, IsWeightOfArc, AreWeightsAdded, AreBlocks, AreFirstsOfTaken, AreTakenFirsts, ArePassed, IsPassedToo, AreNoted, CanLabelBlock, HasLabelledBlock, HasLabelledBlocks, IsFirstIn}
 use Rattle.transport.specs.declared.arcs.Arc.{Arc}
 use Rattle.transport.specs.declared.arcs.Block.{Block}
 use Rattle.transport.specs.declared.arcs.SortedArcs.{SortedArcs}
@@ -277,7 +277,7 @@ left_fewer before left cpu less on = omega (arith, fewer, some)
 
 -- a class of a block can be labelled
 pub block_arc : (ws : ℕ → ℕ → Option ℕ) (s : Assignment) (t mid : SearchTree) (k : ℕ) (firsts : List ℕ) (block : Block) (taken left : Ids) (cpu g : ℕ) → CanLabelBlock (ws k) s.residual.items firsts block → set.contains block.firsts cpu ≡ true
-    → AreTakenFirsts firsts taken t.tree_classes → set.contains taken cpu ≡ false → ((h : ℕ) → h < length firsts → number firsts h ≡ cpu → g ≡ h) → is_reached t.reached_rows k ≡ true → HasLabelledBlock ws s k t mid firsts block left
+    → ArePassed ws s t firsts taken → set.contains taken cpu ≡ false → ((h : ℕ) → h < length firsts → number firsts h ≡ cpu → g ≡ h) → is_reached t.reached_rows k ≡ true → HasLabelledBlock ws s k t mid firsts block left
     → CanLabelArc ws s mid k (record { weight = block.weight; class = g })
 block_arc ws s t mid k firsts block taken left cpu g can has marks off own on h =
     let c = can cpu has in
@@ -296,6 +296,69 @@ block_arc ws s t mid k firsts block taken left cpu g can has marks off own on h 
       | inl up ↦ absurd (not_both _ (subst (λ n. set.contains taken n ≡ true) f.is (marks.all g f.within up)) off)
       | inr not ↦ not
     ]
+
+-- ---- what is passed over
+
+both : (a b : Bool) → a ≡ true → b ≡ false → (a && not b) ≡ true
+both true true on off = absurd (not_both _ refl off)
+both true false on off = refl
+both false b on off = absurd (not_both _ on refl)
+
+-- what of a block is passed over is covered, before any of it is labelled
+pub block_start : (ws : ℕ → ℕ → Option ℕ) (s : Assignment) (t : SearchTree) (k : ℕ) (firsts : List ℕ) (block : Block) (passed left : Ids) → IsRunning ws s t → CanLabelBlock (ws k) s.residual.items firsts block → ArePassed ws s t firsts passed
+    → is_reached t.reached_rows k ≡ true → ((q : ℕ) → set.contains left q ≡ (set.contains block.firsts q && not (set.contains passed q))) → HasLabelledBlock ws s k t t firsts block left
+block_start ws s t k firsts block passed left run can h there is = record {
+  better = better_same ws s t run;
+  free_end = refl;
+  each = λ cpu g has lt e off. elim (cases_Bool (set.contains passed cpu)) [
+    | inl on ↦ inr (h.only cpu g k block.weight on lt e off there ((can cpu has).1 g lt e).0)
+    | inr out ↦ inl (is cpu ∙ both _ _ has out)
+  ];
+}
+
+-- what is passed over before a scan: no more than what is taken up
+pub passed_start : (ws : ℕ → ℕ → Option ℕ) (s : Assignment) (t : SearchTree) (firsts : List ℕ) (cpus : Ids) → AreTakenFirsts firsts cpus t.tree_classes → ArePassed ws s t firsts cpus
+passed_start ws s t firsts cpus h = record {
+  only = λ cpu g k w on lt is off there weighs. absurd (not_both _ (h.only cpu g on lt is) off);
+  all = h.all;
+}
+
+pub passed_better : (ws : ℕ → ℕ → Option ℕ) (s : Assignment) (old new : SearchTree) (firsts : List ℕ) (cpus : Ids) → IsBetter ws s old new → ArePassed ws s old firsts cpus → ArePassed ws s new firsts cpus
+passed_better ws s old new firsts cpus b h = record {
+  only = λ cpu g k w on lt is off there weighs. b.covers k g w (h.only cpu g k w on lt is (subst (λ ts. is_taken ts g ≡ false) b.tree_classes off) (subst (λ q. is_reached q k ≡ true) b.reached_rows there) weighs);
+  all = λ g lt on. h.all g lt (subst (λ ts. is_taken ts g ≡ true) b.tree_classes on);
+}
+
+pub passed_inserted : (old new : Ids) (cpu value reach : ℕ) → new ≡ set.insert old cpu → value ≡ reach → IsPassedToo old new cpu value reach
+passed_inserted old new cpu value reach grown e = record {
+  only = λ q on. elim (or_cases _ _ (sym (contains-insert old cpu q) ∙ subst (λ s. set.contains s q ≡ true) grown on)) [
+    | inl is ↦ inr (equal q cpu is, e)
+    | inr was ↦ inl was
+  ];
+  kept = λ q on. rw grown (contains-insert old cpu q ∙ or_right (q == cpu) _ on);
+}
+
+-- no row is nearer to a class than one from which it is at slack 0: where it is covered from that one, it is from all
+covered_at_0 : (ws : ℕ → ℕ → Option ℕ) (s : Assignment) (t : SearchTree) (k g w : ℕ) → IsRunning ws s t → number s.values.items k ≡ w + number s.prices.items g → IsCovered s.values.items s.prices.items t.labels k g w
+    → (j v : ℕ) → ws j g ≡ Some v → IsCovered s.values.items s.prices.items t.labels j g v
+covered_at_0 ws s t k g w run e c j v weighs = elim c [
+  | inl n ↦ inl (record { label = n.label; its = n.its; least = omega (arith, n.least, e, run.search.dual.below j g v weighs) })
+  | inr p ↦ inr (record { free_end = p.free_end; its = p.its; least = omega (arith, p.least, e, run.search.dual.below j g v weighs) })
+]
+
+-- a class more is passed over once it is labelled, where it is at slack 0
+pub passed_more : (ws : ℕ → ℕ → Option ℕ) (s : Assignment) (t new : SearchTree) (firsts : List ℕ) (before after : Ids) (cpu k g w : ℕ) → ArePassed ws s t firsts before → IsPassedToo before after cpu (number s.values.items k) (w + number s.prices.items g)
+    → ((h : ℕ) → h < length firsts → number firsts h ≡ cpu → g ≡ h) → IsArcLabelled ws s k t new (record { weight = w; class = g }) → ArePassed ws s new firsts after
+passed_more ws s t new firsts before after cpu k g w h n own labelled = record {
+  only = λ q j i v on lt is off there weighs. elim (n.only q on) [
+    | inl was ↦ still.only q j i v was lt is off there weighs
+    | inr here ↦ subst (λ y. ws i y ≡ Some v → IsCovered s.values.items s.prices.items new.labels i y v) (own j lt (is ∙ here.0)) (covered_at_0 ws s new k g w labelled.better.running here.1 labelled.own i v) weighs
+  ];
+  all = λ j lt on. n.kept _ (still.all j lt on);
+}
+  where
+    still : ArePassed ws s new firsts before
+    still = passed_better ws s t new firsts before labelled.better h
 
 -- ---- block by block
 

@@ -4,6 +4,7 @@ use Rattle.std.specs.FinSet as set
 use Rattle.cpu_set.specs.Ids.{Ids}
 use Rattle.transport.specs.Numbers.{number, IsIn}
 use Rattle.transport.specs.Scans.{arc_at, IsBetter}
+use Rattle.transport.specs.ReachedRows.{is_reached}
 use Rattle.transport.specs.Searches.{is_taken, IsCovered}
 use Rattle.transport.specs.declared.assignment.Assignment.{Assignment}
 use Rattle.transport.specs.declared.tree.SearchTree.{SearchTree}
@@ -65,6 +66,18 @@ AreFirstsOfTaken firsts cpus ts = (cpu g : ℕ) → set.contains cpus cpu ≡ tr
 pub record AreTakenFirsts (firsts : List ℕ) (cpus : Ids) (ts : TreeClasses) : Type 0 where
   pub only : AreFirstsOfTaken firsts cpus ts
   pub all : (g : ℕ) → g < length firsts → is_taken ts g ≡ true → set.contains cpus (number firsts g) ≡ true
+
+-- these CPUs are the first ones of classes that are taken up, or covered from each reached row that has a weight for them; and
+-- those of all that are taken up are there
+pub record ArePassed (ws : ℕ → ℕ → Option ℕ) (s : Assignment) (t : SearchTree) (firsts : List ℕ) (cpus : Ids) : Type 0 where
+  pub only : (cpu g k w : ℕ) → set.contains cpus cpu ≡ true → g < length firsts → number firsts g ≡ cpu → is_taken t.tree_classes g ≡ false
+      → is_reached t.reached_rows k ≡ true → ws k g ≡ Some w → IsCovered s.values.items s.prices.items t.labels k g w
+  pub all : (g : ℕ) → g < length firsts → is_taken t.tree_classes g ≡ true → set.contains cpus (number firsts g) ≡ true
+
+-- a CPU more at most, where a row's value is the weight with the price
+pub record IsPassedToo (old new : Ids) (cpu value reach : ℕ) : Type 0 where
+  pub only : (q : ℕ) → set.contains new q ≡ true → (set.contains old q ≡ true) ⊎ ((q ≡ cpu) × (value ≡ reach))
+  pub kept : (q : ℕ) → set.contains old q ≡ true → set.contains new q ≡ true
 
 -- among these CPUs are the first ones of the classes that are listed up to a place
 abbrev pub AreNoted : List ℕ → Ids → List ℕ → ℕ → Type 0

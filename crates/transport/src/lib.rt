@@ -3,7 +3,7 @@
 //!
 //! This is Kuhn's Hungarian method for a transportation problem ("The Hungarian method for the assignment problem", 1955),
 //! with the dual variables as in the primal-dual form of Ford and Fulkerson (1957): a row's value and a class's price.
-//! CPUs that are alike to all rows are one class, and only their number counts until a plan is dealt. Rows with the same
+//! CPUs alike to all rows are twins, one equivalence class: only their number counts until a plan is dealt. Rows with the same
 //! offers share one list of the classes by weight. The rows are assigned one after another. A search for a row grows a tree
 //! of the rows that it reaches and of the classes that they hold; it raises the values of these rows and the prices of
 //! these classes by the least slack, until a class with a free CPU is at slack 0, and CPUs then move along the path there.
@@ -23,7 +23,7 @@
 //! ```
 //!
 //! A search looks at no more than each row's weights for each class, and there is at most one for each CPU that is asked
-//! for: O(demands * rows * classes) steps at worst. Memory is taken for each CPU, row and class, each row that holds CPUs
+//! for: O(demands * rows * classes) steps at worst. Memory is allocated for each CPU, row and class, each row that holds CPUs
 //! of a class, each offer of rows whose offers do not rise, and each class of the offers that a search has come to.
 #![tactic(auto)]
 

@@ -1,13 +1,15 @@
 //! The search for an augmenting path: rows are scanned, duals are updated, until a class with a free CPU is at slack 0.
 ghost use Rattle.std.specs.Prelude.{◌≡◌, ℕ, ◌+◌, ◌<◌, ◌≤◌, ◌^◌, ◌⊎◌, Option, None, [], ◌∷◌, length, OnOk, IfOk, true, IfSome, MatchOption};
 ghost use Rattle.transport.specs.Numbers.{number, IsRaised, IsEachOnce};
+ghost use Rattle.transport.specs.Searches.{top};
 ghost use Rattle.transport.specs.States.{IsRunning, HasTaken, IsSameRoot, HasScanned, AreStruckOrSame};
 ghost use Rattle.transport.specs.Weights.{weights, AreSortedArcs};
 ghost use Rattle.transport.specs.Answers.{IsAnswer, IsSameRest, IsNoFreeEndAt0, IsFreeEndAt0};
 ghost use Rattle.transport.specs.ReachedRows.{is_reached, row_at};
 ghost use Rattle.transport.specs.SortedArcs.{IsSortedArcs, IsFoundFreeEnd, IsScanned};
-ghost use Rattle.transport.specs.Blocks.{AreNoted, AreTakenFirsts, CanLabelBlock, HasLabelledBlock, IsFirstIn};
+ghost use Rattle.transport.specs.Blocks.{AreNoted, AreTakenFirsts, ArePassed, IsPassedToo, CanLabelBlock, HasLabelledBlock, IsFirstIn};
 ghost use Rattle.std.specs.FinSet as set;
+ghost use Rattle.cpu_set.specs.Members.{IsCpu};
 ghost use Rattle.twins.specs.Kinds.{offers_of};
 ghost use Rattle.transport.specs.Scans.{IsScan, IsLimit, IsBoundOf, CanLabelArc, IsArcLabelled, HasLabelled, IsBetter, IsSeen, CanLimit, IsFreeEndLabelled};
 
@@ -167,6 +169,8 @@ fn take_if_nearest(
 }
 
 /// Scans the rows that are reached, from a place in their order on.
+///
+/// A class that is at slack 0 from one of them is passed over for the others, as those taken up are: none is nearer.
 pub(crate) fn scan_rows(
     instance: &Instance,
     assignment: &Assignment,
@@ -185,6 +189,7 @@ pub(crate) fn scan_rows(
     ensures better { OnOk result (IsBetter (weights instance.now) assignment.now tree.old tree.new) }
     ensures scanned { OnOk result (HasScanned (weights instance.now) assignment.now tree.new (length tree.new.reached_rows.order.items)) }
 {
+    let mut passed = *taken_firsts;
     for at in from..tree.reached_rows.order.len() {
         let row = tree.reached_rows.order[at];
         let kind = instance.kinds[row];
@@ -192,7 +197,7 @@ pub(crate) fn scan_rows(
             instance,
             assignment,
             &mut arcs_by_kind[kind],
-            taken_firsts,
+            &mut passed,
             tree,
             row,
         )?;
@@ -205,7 +210,7 @@ pub(crate) fn scan_row(
     instance: &Instance,
     assignment: &Assignment,
     sorted_arcs: &mut SortedArcs,
-    taken_firsts: &IdSet,
+    passed: &mut IdSet,
     tree: &mut SearchTree,
     row: usize,
 ) -> Result<(), AllocError>
@@ -213,22 +218,15 @@ pub(crate) fn scan_row(
     requires row { row < length instance.now.rows.now }
     requires there { is_reached tree.old.reached_rows row ≡ true }
     requires sorted_arcs { IsSortedArcs (weights instance.now row) (offers_of instance.now.rows.now row) instance.now.firsts assignment.now.residual.items sorted_arcs.old }
-    requires taken { AreTakenFirsts instance.now.firsts taken_firsts.now tree.old.tree_classes }
+    requires passed { ArePassed (weights instance.now) assignment.now tree.old instance.now.firsts passed.old }
     ensures sorted_arcs { OnOk result (IsSortedArcs (weights instance.now row) (offers_of instance.now.rows.now row) instance.now.firsts assignment.now.residual.items sorted_arcs.new) }
+    ensures passed { OnOk result (ArePassed (weights instance.now) assignment.now tree.new instance.now.firsts passed.new) }
     ensures seen { OnOk result (IsSeen (weights instance.now) assignment.now row tree.old tree.new) }
 {
     find_free_class_of(instance, assignment, sorted_arcs, tree, row)?;
     sorted_arcs.block_arcs(&instance.firsts)?;
     let limit = limit_of(&assignment.values, tree.labels.free_end, row);
-    label_arcs(
-        instance,
-        assignment,
-        sorted_arcs,
-        taken_firsts,
-        tree,
-        row,
-        limit,
-    )
+    label_arcs(instance, assignment, sorted_arcs, passed, tree, row, limit)
 }
 
 /// Labels the classes of a row's arcs that are nearer than the free end, block by block, and ends at the first block past the
@@ -238,7 +236,7 @@ pub(crate) fn label_arcs(
     instance: &Instance,
     assignment: &Assignment,
     sorted_arcs: &SortedArcs,
-    taken_firsts: &IdSet,
+    passed: &mut IdSet,
     tree: &mut SearchTree,
     row: usize,
     limit: Option<u64>,
@@ -249,8 +247,9 @@ pub(crate) fn label_arcs(
     requires limit { IsLimit assignment.now.values.items row tree.old.labels.free_end limit }
     requires scanned { IsScanned (weights instance.now row) sorted_arcs.now limit }
     requires blocked { sorted_arcs.now.cursor ≤ sorted_arcs.now.blocked }
-    requires taken { AreTakenFirsts instance.now.firsts taken_firsts.now tree.old.tree_classes }
-    ensures { OnOk result (HasLabelled (weights instance.now) assignment.now row tree.old tree.new sorted_arcs.now.arcs.items sorted_arcs.now.cursor) }
+    requires passed { ArePassed (weights instance.now) assignment.now tree.old instance.now.firsts passed.old }
+    ensures passed { OnOk result (ArePassed (weights instance.now) assignment.now tree.new instance.now.firsts passed.new) }
+    ensures labelled { OnOk result (HasLabelled (weights instance.now) assignment.now row tree.old tree.new sorted_arcs.now.arcs.items sorted_arcs.now.cursor) }
 {
     let scan = scan_of(assignment, &tree.reached_rows, row, limit);
     for at in 0..sorted_arcs.blocks.len() {
@@ -258,7 +257,7 @@ pub(crate) fn label_arcs(
         if block.weight as u64 >= scan.bound {
             return Ok(());
         }
-        label_block(instance, assignment, block, taken_firsts, tree, scan)?;
+        label_block(instance, assignment, block, passed, tree, scan)?;
     }
     Ok(())
 }
@@ -285,12 +284,12 @@ fn scan_of(
     }
 }
 
-/// Labels the classes of a block, but for those taken up, unless they lie past the free end.
+/// Labels the classes of a block, but for those that are passed over, unless they lie past the free end.
 fn label_block(
     instance: &Instance,
     assignment: &Assignment,
     block: &Block,
-    taken_firsts: &IdSet,
+    passed: &mut IdSet,
     tree: &mut SearchTree,
     scan: Scan,
 ) -> Result<(), AllocError>
@@ -299,18 +298,32 @@ fn label_block(
     requires running { IsRunning (weights instance.now) assignment.now tree.old }
     requires there { is_reached tree.old.reached_rows scan.row ≡ true }
     requires block { CanLabelBlock (weights instance.now scan.row) assignment.now.residual.items instance.now.firsts block.now }
-    requires taken { AreTakenFirsts instance.now.firsts taken_firsts.now tree.old.tree_classes }
-    ensures { OnOk result (HasLabelledBlock (weights instance.now) assignment.now scan.row tree.old tree.new instance.now.firsts block.now set.empty) }
+    requires passed { ArePassed (weights instance.now) assignment.now tree.old instance.now.firsts passed.old }
+    ensures passed { OnOk result (ArePassed (weights instance.now) assignment.now tree.new instance.now.firsts passed.new) }
+    ensures labelled { OnOk result (HasLabelledBlock (weights instance.now) assignment.now scan.row tree.old tree.new instance.now.firsts block.now set.empty) }
 {
-    let mut left = block.firsts.minus(taken_firsts);
+    let mut left = block.firsts.minus(passed);
     while let Some(cpu) = left.take_first() {
         let arc = Arc {
             weight: block.weight,
             class: instance.firsts.class_of(cpu),
         };
+        pass_if_at_0(passed, cpu, assignment, arc, scan);
         label_arc(assignment, tree, arc, scan)?;
     }
     Ok(())
+}
+
+/// Adds the first CPU of the class of a row's arc to those that are passed over, if the class is at slack 0 from the row.
+fn pass_if_at_0(passed: &mut IdSet, cpu: u16, assignment: &Assignment, arc: Arc, scan: Scan)
+    requires cpu { IsCpu cpu }
+    requires class { arc.class < length assignment.now.prices.items }
+    requires fits { number assignment.now.prices.items arc.class ≤ top }
+    ensures { IsPassedToo passed.old passed.new cpu scan.row_value (arc.weight + number assignment.now.prices.items arc.class) }
+{
+    if arc.weight as u64 + assignment.prices[arc.class] == scan.row_value {
+        passed.insert(cpu);
+    }
 }
 
 /// Labels the class of a row's arc, unless it lies past the free end.

@@ -22,7 +22,7 @@ use twins::{Classes, deal, group, kinds_of, prices_of};
 /// `turns` counts the rows and the classes of twins that the searches take up.
 ///
 /// # Errors
-/// Lack of memory; no problem is refused.
+/// An allocation failure; no problem is refused.
 pub fn solve(alloc: Global, problem: &Problem) -> Result<Answer, AllocError>
     requires { IsTrue (rows_fit problem.now) }
 

@@ -14,3 +14,4 @@ pub mod Few
 pub mod SameOffers
 pub mod Ends
 pub mod Placed
+pub mod SettledCpus

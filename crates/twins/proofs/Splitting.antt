@@ -32,7 +32,7 @@ pub twins_more :
 twins_more rows k a b row lt is twins same =
     All-more (λ (r : RowView). weight r a ≡ weight r b) rows k row lt twins (subst (λ (r : RowView). weight r a ≡ weight r b) is same)
 
-twins_at :
+pub twins_at :
     (rows : List RowView) (k a b : ℕ) (row : RowView) → k < length rows → row ≡ get_or rows k row
     → AreTwins (take (k + 1) rows) a b → weight row a ≡ weight row b
 twins_at rows k a b row lt is twins =
@@ -85,7 +85,7 @@ in_piece row cpu rest piece alike q has =
     let e = sym (alike q) ∙ has in
     (and_left _ _ e, same_says _ _ (and_right _ _ e))
 
-to_piece : (row : RowView) (cpu : ℕ) (rest piece : Ids) → IsAlike row cpu rest piece → (q : ℕ) → set.contains rest q ≡ true → weight row cpu ≡ weight row q
+pub to_piece : (row : RowView) (cpu : ℕ) (rest piece : Ids) → IsAlike row cpu rest piece → (q : ℕ) → set.contains rest q ≡ true → weight row cpu ≡ weight row q
     → set.contains piece q ≡ true
 to_piece row cpu rest piece alike q has same =
     alike q ∙ and_from _ _ has (subst (λ w. is_same_weight (weight row cpu) w ≡ true) same (same_itself (weight row cpu)))

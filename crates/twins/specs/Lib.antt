@@ -10,3 +10,4 @@ pub mod Kinds
 pub mod Edges
 pub mod AreSpans
 pub mod PartsView
+pub mod Settled

@@ -50,7 +50,7 @@ fn lie_in_weight(spans: &Spans, cpus: &IdSet, span: Span) -> bool
 /// Those of some CPUs that have the weight of one of them, or that have none as it has none.
 ///
 /// # Errors
-/// Lack of memory.
+/// An allocation failure.
 pub(crate) fn alike(
     offers: &Offers,
     spans: &mut Spans,

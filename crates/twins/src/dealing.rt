@@ -20,7 +20,7 @@ use std::alloc::{AllocError, Global};
 /// share and CPU dealt.
 ///
 /// # Errors
-/// Lack of memory.
+/// An allocation failure.
 pub fn deal(
     alloc: Global,
     rows: usize,

@@ -9,12 +9,14 @@ ghost use Rattle.twins.specs.IsGrouping.{IsGrouping};
 ghost use Rattle.twins.specs.Kinds.{AreKinds};
 ghost use Rattle.twins.specs.Edges.{AreEdges};
 ghost use Rattle.twins.specs.AreSpans.{AreSpans};
+ghost use Rattle.twins.specs.Settled.{IsSettling};
 ghost use Rattle.twins.specs.IsPart.{IsPart, IsUnsplit, ArePieces, IsSplit, IsPutTo};
 
 use crate::Classes;
 use crate::alike::{alike, are_alike};
 use crate::edges::{are_in_one_run, edges_of};
 use crate::parts::Parts;
+use crate::settling::{Settling, once_offered};
 use crate::spans::Spans;
 use certificate::{Offers, Problem, Row};
 use cpu_set::{CPU_LIMIT, IdSet};
@@ -27,7 +29,7 @@ use std::alloc::{AllocError, Global};
 /// at offers, of r rows with at most o offers each and g classes: each offer's set is made at most once for a row.
 ///
 /// # Errors
-/// Lack of memory.
+/// An allocation failure.
 pub fn group(alloc: Global, problem: &Problem, kinds: &[usize]) -> Result<Classes, AllocError>
     requires fit { IsTrue (list_all row_fits problem.now) }
     requires kinds { AreKinds problem.now (length problem.now) kinds.now }
@@ -49,9 +51,18 @@ fn group_body(alloc: Global, rows: &[Row], kinds: &[usize]) -> Result<Vec<IdSet>
     let mut alone = Vec::with_capacity(alloc, runs as usize)?;
     let mut parts = unsplit(alloc, &offered)?;
     let mut spans = Spans::new(alloc)?;
+    let mut settling = Settling::new(once_offered(rows, kinds, offered.count(), runs));
     for k in 0..rows.len() {
         if kinds[k] == k {
-            split_all(rows, k, &mut parts, &mut spans, &edges, &mut alone)?;
+            split_all(
+                rows,
+                k,
+                &mut parts,
+                &mut spans,
+                &edges,
+                &mut settling,
+                &mut alone,
+            )?;
         }
     }
     add_open(&parts, &mut alone)?;
@@ -105,16 +116,19 @@ fn split_all(
     parts: &mut Parts,
     spans: &mut Spans,
     edges: &IdSet,
+    settling: &mut Settling,
     alone: &mut Vec<IdSet>,
 ) -> Result<(), AllocError>
     requires fit { IsTrue (list_all row_fits rows.now) }
     requires there { k < length rows.now }
+    requires settling { IsSettling rows.now k settling.old }
     requires edges { AreEdges rows.now edges.now }
     requires parts { All (IsPart rows.now k) parts.old.waiting }
     requires done { parts.old.done ≡ [] }
     requires alone { All (IsPart rows.now (length rows.now)) alone.old.items }
     ensures pieces { OnOk result (ArePieces rows.now (k + 1) parts.old.waiting alone.old.items parts.new.waiting alone.new.items) }
     ensures done { OnOk result (parts.new.done ≡ []) }
+    ensures settling { OnOk result (IsSettling rows.now (k + 1) settling.new) }
 {
     if parts.len() == 0 {
         return Ok(());
@@ -122,19 +136,31 @@ fn split_all(
     let row = &rows[k];
     spans.note(&row.offers)?;
     for at in 0..parts.len() {
-        split(rows, k, &row.offers, spans, edges, at, parts, alone)?;
+        split(
+            rows,
+            k,
+            &row.offers,
+            spans,
+            edges,
+            settling,
+            at,
+            parts,
+            alone,
+        )?;
     }
     parts.turn();
+    settling.turn();
     Ok(())
 }
 
-/// One part, split by the weights that its CPUs have in row `k`. One that is seen to have one weight stays whole.
+/// One part, split by the weights that its CPUs have in row `k`. One that is settled or is seen to have one weight stays whole.
 fn split(
     rows: &[Row],
     k: usize,
     offers: &Offers,
     spans: &mut Spans,
     edges: &IdSet,
+    settling: &mut Settling,
     at: usize,
     parts: &mut Parts,
     alone: &mut Vec<IdSet>,
@@ -144,6 +170,7 @@ fn split(
     requires offers { (d : RowView) → offers.now ≡ (slice_index_or rows.now k d).offers }
     requires spans { AreSpans offers.now spans.old }
     requires edges { AreEdges rows.now edges.now }
+    requires settling { IsSettling rows.now k settling.old }
     requires at { at < length parts.old.waiting }
     requires part { IsPart rows.now k (slice_index_or parts.old.waiting at set.empty) }
     requires parts { All (IsPart rows.now (k + 1)) parts.old.done }
@@ -151,13 +178,18 @@ fn split(
     ensures waiting { OnOk result (parts.new.waiting ≡ parts.old.waiting) }
     ensures split { OnOk result (IsSplit rows.now (k + 1) (slice_index_or parts.old.waiting at set.empty) parts.old.done alone.old.items parts.new.done alone.new.items) }
     ensures spans { OnOk result (AreSpans offers.now spans.new) }
+    ensures settling { OnOk result (IsSettling rows.now k settling.new) }
 {
     let (first, last) = parts.bounds(at);
+    if settling.has(spans, parts.cpus(at), first) {
+        parts.keep(at)?;
+        return Ok(());
+    }
     if are_alike(spans, parts.cpus(at), first, last) {
         parts.keep(at)?;
         return Ok(());
     }
-    split_apart(rows, k, offers, spans, edges, at, parts, alone)
+    split_apart(rows, k, offers, spans, edges, settling, at, parts, alone)
 }
 
 /// One part, split by the weights that its CPUs have in row `k`.
@@ -169,6 +201,7 @@ fn split_apart(
     offers: &Offers,
     spans: &mut Spans,
     edges: &IdSet,
+    settling: &mut Settling,
     at: usize,
     parts: &mut Parts,
     alone: &mut Vec<IdSet>,
@@ -178,6 +211,7 @@ fn split_apart(
     requires offers { (d : RowView) → offers.now ≡ (slice_index_or rows.now k d).offers }
     requires spans { AreSpans offers.now spans.old }
     requires edges { AreEdges rows.now edges.now }
+    requires settling { IsSettling rows.now k settling.old }
     requires at { at < length parts.old.waiting }
     requires part { IsPart rows.now k (slice_index_or parts.old.waiting at set.empty) }
     requires parts { All (IsPart rows.now (k + 1)) parts.old.done }
@@ -185,11 +219,13 @@ fn split_apart(
     ensures waiting { OnOk result (parts.new.waiting ≡ parts.old.waiting) }
     ensures split { OnOk result (IsSplit rows.now (k + 1) (slice_index_or parts.old.waiting at set.empty) parts.old.done alone.old.items parts.new.done alone.new.items) }
     ensures spans { OnOk result (AreSpans offers.now spans.new) }
+    ensures settling { OnOk result (IsSettling rows.now k settling.new) }
 {
     let mut rest = *parts.cpus(at);
     while let Some(cpu) = rest.first() {
         let piece = alike(offers, spans, cpu, &rest)?;
         put(&piece, edges, parts, alone)?;
+        settling.note(spans, cpu, &piece);
         rest = rest.minus(&piece);
     }
     Ok(())

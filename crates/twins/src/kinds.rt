@@ -11,7 +11,7 @@ use std::alloc::{AllocError, Global};
 /// Each row is compared with one earlier row alone: the latest whose first offer has a first range with the same end.
 ///
 /// # Errors
-/// Lack of memory.
+/// An allocation failure.
 pub fn kinds_of(alloc: Global, rows: &[Row]) -> Result<Vec<usize>, AllocError>
     ensures { IfOk result (λ kinds. AreKinds rows.now (length rows.now) kinds.items) }
 {

@@ -1,4 +1,4 @@
-//! Laws over the definitions alone: nothing here runs.
+//! What plans of classes of twins say of plans of CPUs: laws over the definitions alone. Nothing here runs.
 ghost use Rattle.twins.specs.ClassWeight.{MembersWeighTheSame};
 ghost use Rattle.twins.specs.IsDeal.{DealOfTwinsIsDealt};
 ghost use Rattle.twins.specs.IsPriced.{ClassesProvePlans};

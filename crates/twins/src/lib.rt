@@ -1,7 +1,7 @@
 //! CPUs that are alike to all rows of a problem, in equivalence classes; and the CPUs of the classes dealt to the
-//! rows by a fixed tie-break. And rows that are alike, in kinds: those with identical offers.
+//! rows by a fixed tie-break. And rows that are alike: those with identical offers, each by the first of its kind.
 //!
-//! Two CPUs are twins where in each row both have the same weight, or both have none. Whoever seeks a
+//! Two CPUs are twins where in each row both have the same weight (cost), or both have none. Whoever seeks a
 //! plan needs to know only how many CPUs of each class of twins a row holds: [`group`] makes the classes,
 //! and [`deal`] the rows' sets.
 #![tactic(auto)]
@@ -16,6 +16,7 @@ mod kinds;
 pub mod laws;
 mod parts;
 mod pricing;
+mod settling;
 mod spans;
 
 pub use classes::Classes;

@@ -40,7 +40,7 @@ impl Model for Parts {
 }
 
 impl Parts {
-    /// No parts. Takes no memory.
+    /// No parts. Allocates nothing.
     pub(crate) fn new(alloc: Global) -> Parts
         ensures waiting { result.waiting ≡ [] }
         ensures done { result.done ≡ [] }
@@ -80,7 +80,7 @@ impl Parts {
     /// Leaves a part whole.
     ///
     /// # Errors
-    /// Lack of memory.
+    /// An allocation failure.
     pub(crate) fn keep(&mut self, at: usize) -> Result<(), AllocError>
         requires { at < length self.old.waiting }
         ensures { OnOk result ((d : Ids) → IsAdded (slice_index_or self.old.waiting at d) self.old self.new) }
@@ -93,7 +93,7 @@ impl Parts {
     /// Adds a set that was split off.
     ///
     /// # Errors
-    /// Lack of memory.
+    /// An allocation failure.
     pub(crate) fn add(&mut self, cpus: &IdSet) -> Result<(), AllocError>
         ensures { OnOk result (IsAdded cpus.now self.old self.new) }
     {

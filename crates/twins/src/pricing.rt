@@ -10,7 +10,7 @@ use std::alloc::{AllocError, Global};
 /// A price for each class whose price is not 0. For a class of the price 0 none is written.
 ///
 /// # Errors
-/// Lack of memory.
+/// An allocation failure.
 pub fn prices_of(alloc: Global, classes: &Classes, prices: &[u64]) -> Result<PriceList, AllocError>
     requires { length prices.now ≡ length classes.now }
     ensures { IfOk result (λ of_cpu. of_cpu ≡ class_prices classes.now prices.now) }

@@ -1,4 +1,4 @@
-use Rattle.std.proofs.Common.{◌≡◌, ◌∷◌, not, sym, ap, subst, ◌∙◌}
+use Rattle.std.proofs.Common.{not, sym, ap, subst, ◌∙◌}
 use Rattle.std.proofs.lemmas.Bool.{false≢true}
 use Rattle.apply_plan.specs.Holders.{Pairwise}
 use Rattle.apply_plan.specs.Targets.{HaveOtherGroups}

@@ -1,4 +1,4 @@
-use Rattle.std.proofs.Common.{◌≡◌, ◌∷◌, ◌-◌, length, take, drop, sym, subst, ◌∙◌}
+use Rattle.std.proofs.Common.{sym, subst, ◌∙◌}
 use Rattle.std.proofs.lemmas.Bool.{false≢true}
 use Rattle.apply_plan.specs.Targets.{HaveSomeTarget}
 use Rattle.apply_plan.proofs.ConditionLemmas.{cut_first, some_by_test, none_by_test}

@@ -5,8 +5,8 @@ use Rattle.apply_plan.specs.DueWrite.{must_release, must_move}
 use Rattle.apply_plan.proofs.scan.due.Given as goal
 
 -- what is due is due among the entries not looked at yet, unless one to move was found
-abbrev pub invariant-loop-entry : goal.invariant-loop-entry
-invariant-loop-entry g l = record {
-  releases : find (must_release (g.K.Kernel.state l.kernel) l.reserved) (drop l.entry-index l.entries) ≡ find (must_release (g.K.Kernel.state l.kernel) l.reserved) l.entries;
-  moves : option_or (option_copied l.moving) (find (must_move (g.K.Kernel.state l.kernel)) (drop l.entry-index l.entries)) ≡ find (must_move (g.K.Kernel.state l.kernel)) l.entries;
+abbrev pub invariant-loop-place : goal.invariant-loop-place
+invariant-loop-place g l = record {
+  releases : find (must_release (g.K.Kernel.state l.kernel) l.reserved) (drop l.place l.entries) ≡ find (must_release (g.K.Kernel.state l.kernel) l.reserved) l.entries;
+  moves : option_or (option_copied l.moving) (find (must_move (g.K.Kernel.state l.kernel)) (drop l.place l.entries)) ≡ find (must_move (g.K.Kernel.state l.kernel)) l.entries;
 }

@@ -1,4 +1,4 @@
--- What is no text is told, and is no want of memory.
+-- What is no text is told, and is no allocation failure.
 use Rattle.std.proofs.Common.{◌≢◌, refl, rules}
 use Rattle.std.specs.IoError.{error_kind}
 use Rattle.std.specs.declared.io.ErrorKind.TheVariants.{OutOfMemory}

@@ -1,6 +1,6 @@
 -- The input that a check names, and the script on standard input.
 use Rattle.std.proofs.Common.{◌≡◌, ◌∙◌, ℕ, Bor, List, ap, option_map, refl, subst}
-use Rattle.inputs.specs.Readings.{Reads}
+use Rattle.program_io.specs.Readings.{Reads}
 use Rattle.cli.proofs.Named.{name_of-or_hyphen}
 use Rattle.cli.specs.Asked.{word_bytes}
 use Rattle.cli.specs.Named.{name_of, reads_named}

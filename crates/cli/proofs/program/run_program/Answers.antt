@@ -1,4 +1,4 @@
--- The words are explained, or memory is short.
+-- The words are explained, or an allocation failed.
 use Rattle.std.proofs.Common.{inl, inr}
 use Rattle.clap.specs.Words.{kind_of}
 use Rattle.cli.proofs.program.run_program.Goals as goal

@@ -1,6 +1,6 @@
 -- What the text and the table lead to.
 use Rattle.std.proofs.Common.{ℕ, Bor, List, Option, Result, Err, inl, inr, option_map, subst}
-use Rattle.inputs.specs.declared.refusal.Refusal.{Refusal}
+use Rattle.program_io.specs.declared.refusal.Refusal.{Refusal}
 use Rattle.machine.specs.Layout.{Layout}
 use Rattle.slit.specs.Table.{Table}
 use Rattle.cli.specs.Ready.{IsReady}

@@ -1,4 +1,5 @@
-use Rattle.std.proofs.Common.{◌≡◌, ◌<◌, ℕ, Option, length, subst, sym, ap, ◌∙◌, arith}
+use Rattle.std.proofs.Common.{◌≡◌, ◌<◌, ℕ, Option, length, subst, refl, sym, ap, ◌∙◌, arith}
+use Rattle.std.proofs.lemmas.Bool.{false≢true}
 use Rattle.cpu_set.specs.Members.{IsCpu}
 use Rattle.machine.proofs.Marking.{AreOfNode, AreOfNode-none, AreOfNode-more, AreOfNode-all, place, place_rises}
 use Rattle.machine.proofs.cores.are_of_node.Goals as goal
@@ -16,7 +17,7 @@ pub returns-then-places-cpu : goal.returns-then-places-cpu
 returns-then-places-cpu c =
     let OfNode : Option ℕ → Type 0 = λ next. AreOfNode c.args.cpus.now c.args.places.now c.args.node next in
     let member = (subst OfNode c.in-Some.is c.loop-next.invariant).member in
-    (λ is. absurd is, λ all. let same = all c.in-Some.cpu member in absurd (omega (arith, same, c.if-places-cpu.true)))
+    (λ is. absurd (false≢true is), λ all. let same = all c.in-Some.cpu member in absurd (omega (arith, same, c.if-places-cpu.true)))
 
 pub loop-next-preserved : goal.loop-next-preserved
 loop-next-preserved c =
@@ -34,4 +35,4 @@ loop-next-smaller c =
     omega arith
 
 pub returns : goal.returns
-returns c = (λ _. AreOfNode-all _ _ _ c.loop-next.next c.loop-next.invariant c.in_default.not-Some, λ _. tt)
+returns c = (λ _. AreOfNode-all _ _ _ c.loop-next.next c.loop-next.invariant c.in_default.not-Some, λ _. refl)

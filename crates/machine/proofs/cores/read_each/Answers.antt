@@ -1,4 +1,4 @@
-use Rattle.std.proofs.Common.{◌≡◌, map, refl, sym, ap, ◌∙◌, arith, true, get_or, Some, None}
+use Rattle.std.proofs.Common.{◌≡◌, map, take, refl, sym, ap, ◌∙◌, arith, true, get_or, Some, None}
 use Rattle.std.specs.FinSet as set
 use Rattle.serde_json.specs.View.{view}
 use Rattle.machine.specs.Listed.{listed}
@@ -21,13 +21,13 @@ returns-in_default-clause-fault c =
     let lt = item_within c.args.items.now c.loop-i.i c.loop-i-test.true in
     let nodes = map listed (map view c.args.nodes.now) in
     let cores = map listed (map view c.args.items.now) in
-    let fits = c.core_of.ensures.fits nodes c.places_of-places.ensures (left_within nodes _ _ c.loop-i.invariant.left_is) in
+    let fits = c.core_of.ensures.fits nodes c.places_of-places.ensures (left_within nodes (take c.loop-i.i cores) c.loop-i.left c.loop-i.invariant.left_is) in
     rw (AreCoresRead-fault nodes c.args.reserved.now cores c.loop-i.i c.loop-i.left c.loop-i.lowest c.cpus_of-core.result _ c.loop-i.invariant (listed_within _ _ lt)
     (c.cpus_of-core.ensures ∙ ap listed is ∙ listed_at c.args.items.now c.loop-i.i lt)
     (fault_some nodes _ _ _ _ _ _ c.size_of-threads.ensures (sym fits ∙ not_some _ c.in_default.not-Some))) refl
 
 pub mark-requires : goal.mark-requires
-mark-requires c = c.loop-i.invariant.room
+mark-requires c = record { room = c.loop-i.invariant.room }
 
 pub loop-i-preserved : goal.loop-i-preserved
 loop-i-preserved c =
@@ -35,20 +35,24 @@ loop-i-preserved c =
     let lt = item_within c.args.items.now c.loop-i.i c.loop-i-test.true in
     let nodes = map listed (map view c.args.nodes.now) in
     let cores = map listed (map view c.args.items.now) in
-    let fits = rw c.in-Some.is at (c.core_of.ensures.fits nodes c.places_of-places.ensures (left_within nodes _ _ c.loop-i.invariant.left_is)) in
+    let fits = rw c.in-Some.is at (c.core_of.ensures.fits nodes c.places_of-places.ensures (left_within nodes (take c.loop-i.i cores) c.loop-i.left c.loop-i.invariant.left_is)) in
     AreCoresRead-more nodes c.args.reserved.now cores c.loop-i.i c.loop-i.left c.loop-i.lowest c.cpus_of-core.result c.in-Some.least _ _ c.loop-i.invariant (listed_within _ _ lt)
     (c.cpus_of-core.ensures ∙ ap listed is ∙ listed_at c.args.items.now c.loop-i.i lt)
     (fault_none nodes _ _ _ _ _ _ c.size_of-threads.ensures (sym fits)) (rw c.in-Some.is at c.core_of.ensures.least) c.minus-left.ensures c.mark.ensures.room c.mark.ensures.each
 
 pub returns-in-Some-first-clause-fault : goal.returns-in-Some-first-clause-fault
 returns-in-Some-first-clause-fault c =
-    let all = AreCoresRead-all _ _ _ c.loop-i.i _ _ c.loop-i.invariant (listed_last _ _ (item_last _ _ c.loop-i-test.false c.loop-i.auto.i-end)) in
-    rw (all.none, left_fault-first _ _ _ (Some c.in-Some-first.cpu) all.left_is (c.in-Some-first.ensures.first, c.in-Some-first.ensures.in_range)) refl
+    let nodes = map listed (map view c.args.nodes.now) in
+    let cores = map listed (map view c.args.items.now) in
+    let all = AreCoresRead-all nodes c.args.reserved.now cores c.loop-i.i c.loop-i.left c.loop-i.lowest c.loop-i.invariant (listed_last _ _ (item_last _ _ c.loop-i-test.false c.loop-i.auto.i-end)) in
+    rw (all.none, left_fault-first nodes cores c.loop-i.left (Some c.in-Some-first.cpu) all.left_is (c.in-Some-first.ensures.first, c.in-Some-first.ensures.in_range)) refl
 
 pub returns-in-None-clause-fault : goal.returns-in-None-clause-fault
 returns-in-None-clause-fault c =
-    let all = AreCoresRead-all _ _ _ c.loop-i.i _ _ c.loop-i.invariant (listed_last _ _ (item_last _ _ c.loop-i-test.false c.loop-i.auto.i-end)) in
-    rw (all.none, left_fault-first _ _ _ None all.left_is (c.in-None.ensures.first, tt)) refl
+    let nodes = map listed (map view c.args.nodes.now) in
+    let cores = map listed (map view c.args.items.now) in
+    let all = AreCoresRead-all nodes c.args.reserved.now cores c.loop-i.i c.loop-i.left c.loop-i.lowest c.loop-i.invariant (listed_last _ _ (item_last _ _ c.loop-i-test.false c.loop-i.auto.i-end)) in
+    rw (all.none, left_fault-first nodes cores c.loop-i.left None all.left_is (c.in-None.ensures.first, tt)) refl
 
 pub returns-in-None-clause-lowest : goal.returns-in-None-clause-lowest
 returns-in-None-clause-lowest c =

@@ -1,4 +1,3 @@
-use Rattle.machine.specs.CoreCounts.{cores_are_alike, all_are_whole}
 use Rattle.machine.specs.WholeLaws.{whole_in-within, whole_in-whole, cpus_of_cores-cores_in, cpus_of_cores-IsWhole, cpus_of_cores-apart}
 use Rattle.machine.proofs.laws.whole_laws.Goals as goal
 
@@ -16,9 +15,3 @@ returns-clause-whole c = cpus_of_cores-IsWhole
 
 pub returns-clause-apart : goal.returns-clause-apart
 returns-clause-apart c = cpus_of_cores-apart
-
-pub returns-clause-counted : goal.returns-clause-counted
-returns-clause-counted c = cores_are_alike
-
-pub returns-clause-single : goal.returns-clause-single
-returns-clause-single c = all_are_whole

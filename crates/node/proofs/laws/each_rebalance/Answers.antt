@@ -6,4 +6,4 @@ use Rattle.node.proofs.MachineLemmas.{runs_rebalance}
 use Rattle.node.proofs.laws.each_rebalance.Goals as goal
 
 pub returns : goal.returns
-returns c = runs_rebalance rows_weigh steps_leave targets_take_effect scaled_rows_weigh
+returns c = runs_rebalance steps_leave targets_take_effect rows_weigh scaled_rows_weigh

@@ -1,4 +1,3 @@
-use Rattle.rows.specs.LimitLemmas.{rows_weigh}
 use Rattle.apply_plan.specs.RunLemmas.{steps_leave}
 use Rattle.apply_plan.specs.EffectLemmas.{safe_in_effect}
 use Rattle.node.proofs.FirstLemmas.{first_is_node}
@@ -9,9 +8,9 @@ use Rattle.node.proofs.laws.runs.Goals as goal
 pub returns : goal.returns
 returns c = record {
   first = first_is_node;
-  keep = runs_keep rows_weigh steps_leave;
-  safe = runs_stay_safe rows_weigh steps_leave;
-  apart = runs_stay_apart rows_weigh steps_leave safe_in_effect;
+  keep = runs_keep steps_leave;
+  safe = runs_stay_safe steps_leave;
+  apart = runs_stay_apart steps_leave safe_in_effect;
   single = rebalances_are_steps;
   said = containers_are_said;
 }

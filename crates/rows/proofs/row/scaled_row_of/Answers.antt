@@ -1,4 +1,5 @@
-use Rattle.std.proofs.Common.{refl}
+use Rattle.std.proofs.Common.{◌/◌, refl, ap}
+use Rattle.machine.specs.Cores.{cores_in}
 use Rattle.rows.specs.LimitLemmas.{allowed_part, pinned_row_fits, offers_of_distances}
 use Rattle.rows.specs.PartLimits.{scaled_row_fits}
 use Rattle.rows.proofs.row.scaled_row_of.Goals as goal
@@ -9,6 +10,6 @@ parts_among-requires-clause-reach c = λ cpu has.
 
 pub returns-clause-fits : goal.returns-clause-fits
 returns-clause-fits c =
-    scaled_row_fits c.args.held.now _ _ _ _ _ refl
-    (pinned_row_fits c.args.machine.now _ c.args.demand.now c.in-Pinned.count _ _ c.requires.fits c.in-Pinned.is refl)
+    scaled_row_fits (cores_in c.args.machine.now c.args.held.now) _ _ _ _ _ refl
+    (pinned_row_fits c.args.machine.now _ c.args.demand.now c.in-Pinned.count _ _ _ c.requires.fits c.in-Pinned.is (ap (λ t. c.in-Pinned.count / t) c.threads.ensures.is) refl)
     (offers_of_distances _ _ _) c.in_ok-parts_among.ensures.parts

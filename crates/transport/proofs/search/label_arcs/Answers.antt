@@ -7,7 +7,7 @@ use Rattle.transport.proofs.Blocks.{blocks_start, blocks_labelled, blocks_past, 
 use Rattle.transport.proofs.search.label_arcs.Goals as goal
 
 pub loop-at-init : goal.loop-at-init
-loop-at-init c = record { labelled = blocks_start _ _ _ _ _ _ c.requires.running; limit = c.requires.limit }
+loop-at-init c = record { labelled = blocks_start _ _ _ _ _ _ c.requires.running; passed = c.requires.passed; limit = c.requires.limit }
 
 pub label_block-requires-clause-block : goal.label_block-requires-clause-block
 label_block-requires-clause-block c =
@@ -18,20 +18,27 @@ label_block-requires-clause-block c =
 
 pub loop-at-preserved : goal.loop-at-preserved
 loop-at-preserved c =
-    let n = subst (λ k. HasLabelledBlock (weights c.args.instance.now) c.args.assignment.now k c.loop-at.tree c.label_block.new.tree c.args.instance.now.firsts c.index-block.result.now set.empty) c.scan_of-scan.ensures.row c.in_ok-label_block.ensures in
+    let n = subst (λ k. HasLabelledBlock (weights c.args.instance.now) c.args.assignment.now k c.loop-at.tree c.label_block.new.tree c.args.instance.now.firsts c.index-block.result.now set.empty) c.scan_of-scan.ensures.row c.in_ok-label_block.ensures.labelled in
     record {
       labelled = blocks_labelled _ _ _ _ _ _ _ _ c.loop-at.at c.index-block.result.now c.index-block.ensures c.loop-at.invariant.labelled n;
+      passed = c.in_ok-label_block.ensures.passed;
       limit = limit_same _ _ _ _ _ n.free_end c.loop-at.invariant.limit;
     }
 
 pub returns-then-block-scan : goal.returns-then-block-scan
 returns-then-block-scan c =
     let at_in : c.loop-at.at < length c.args.sorted_arcs.now.blocks.items = omega (arith, c.loop-at-test.true, c.len-at-end.ensures, c.args.sorted_arcs.now.blocks.ok.0) in
-    blocks_past _ _ _ _ _ _ _ _ _ c.loop-at.at _ c.index-block.result.now c.args.limit c.requires.sorted_arcs.blocks at_in c.index-block.ensures c.requires.blocked
-    c.loop-at.invariant.labelled c.loop-at.invariant.limit
-    (past_of c.args.limit c.scan_of-scan.result.bound _ c.scan_of-scan.ensures.bound (omega arith) (omega (arith, c.if-block-scan.true)))
+    record {
+      passed = c.loop-at.invariant.passed;
+      labelled = blocks_past _ _ _ _ _ _ _ _ _ c.loop-at.at _ c.index-block.result.now c.args.limit c.requires.sorted_arcs.blocks at_in c.index-block.ensures c.requires.blocked
+          c.loop-at.invariant.labelled c.loop-at.invariant.limit
+          (past_of c.args.limit c.scan_of-scan.result.bound _ c.scan_of-scan.ensures.bound (omega arith) (omega (arith, c.if-block-scan.true)));
+    }
 
 pub returns : goal.returns
 returns c =
-    blocks_all _ _ _ _ _ _ _ _ _ c.loop-at.at _ c.requires.sorted_arcs.blocks (omega (arith, c.loop-at-test.false, c.len-at-end.ensures, c.args.sorted_arcs.now.blocks.ok.0)) c.requires.blocked
-    c.loop-at.invariant.labelled
+    record {
+      passed = c.loop-at.invariant.passed;
+      labelled = blocks_all _ _ _ _ _ _ _ _ _ c.loop-at.at _ c.requires.sorted_arcs.blocks (omega (arith, c.loop-at-test.false, c.len-at-end.ensures, c.args.sorted_arcs.now.blocks.ok.0)) c.requires.blocked
+          c.loop-at.invariant.labelled;
+    }

@@ -1,11 +1,11 @@
-use Rattle.std.proofs.Common.{sym, subst}
+use Rattle.std.proofs.Common.{subst, sym}
 use Rattle.std.proofs.lemmas.Result.{on_ok_weaker}
 use Rattle.transport.specs.Weights.{weights}
 use Rattle.transport.specs.Scans.{CanLimit, IsLimit}
-use Rattle.transport.specs.Blocks.{AreTakenFirsts}
 use Rattle.transport.specs.SortedArcs.{IsSortedArcs, IsScanned}
 use Rattle.twins.specs.Kinds.{offers_of}
 use Rattle.transport.proofs.SortedArcsLemmas.{scanned_same}
+use Rattle.transport.proofs.Blocks.{passed_better}
 use Rattle.transport.proofs.Scanning.{can_limit, reached_still, seen}
 use Rattle.transport.proofs.search.scan_row.Goals as goal
 use Rattle.transport.proofs.search.scan_row.Goals.{After-limit_of-limit}
@@ -38,16 +38,17 @@ label_arcs-requires c =
       limit = limit i;
       scanned = scanned i;
       blocked = c.in_ok-block_arcs.ensures.blocked;
-      taken = subst (AreTakenFirsts c.args.instance.now.firsts c.args.taken_firsts.now) (sym b.tree_classes) c.requires.taken;
+      passed = passed_better (weights c.args.instance.now) _ _ _ _ _ b c.requires.passed;
     }
 
 pub returns : goal.returns
 returns c =
     let i = (goal.at.returns c).After-limit_of-limit in
     record {
-      sorted_arcs = on_ok_weaker c.label_arcs.result (λ _. sorted_arcs i) c.label_arcs.ensures;
+      sorted_arcs = on_ok_weaker c.label_arcs.result (λ _. sorted_arcs i) c.label_arcs.ensures.passed;
+      passed = c.label_arcs.ensures.passed;
       seen = on_ok_weaker c.label_arcs.result
           (λ n. seen (weights c.args.instance.now) c.args.assignment.now c.args.tree.now c.find_free_class_of.new.tree c.label_arcs.new.tree c.args.row c.block_arcs.new.self c.limit_of-limit.result
           c.in_ok-find_free_class_of.ensures.better (scanned i) (limit i) n)
-          c.label_arcs.ensures;
+          c.label_arcs.ensures.labelled;
     }

@@ -1,16 +1,16 @@
-use Rattle.std.proofs.Common.{◌≡◌, ◌<◌, true, length, sym, ap, subst, arith}
-use Rattle.transport.specs.Blocks.{AreTakenFirsts}
+use Rattle.std.proofs.Common.{◌≡◌, ◌<◌, true, length, ap, subst, arith}
 use Rattle.transport.specs.ReachedRows.{is_reached, row_at}
 use Rattle.transport.specs.Weights.{weights}
 use Rattle.transport.specs.States.{HasScanned}
 use Rattle.transport.specs.declared.tree.ReachedRows.{ReachedRows}
 use Rattle.transport.proofs.Labelling.{better_same, better_more}
+use Rattle.transport.proofs.Blocks.{passed_start}
 use Rattle.transport.proofs.Scanning.{scanned_more, row_read, row_in, arcs_of_kind, kind_in, all_sorted_set}
 use Rattle.transport.proofs.search.scan_rows.Goals as goal
 use Rattle.transport.proofs.search.scan_rows.Goals.{After-index-row}
 
 pub loop-at-init : goal.loop-at-init
-loop-at-init c = record { arcs_by_kind = c.requires.arcs_by_kind; better = better_same _ _ _ c.requires.running; scanned = c.requires.scanned }
+loop-at-init c = record { arcs_by_kind = c.requires.arcs_by_kind; better = better_same _ _ _ c.requires.running; passed = passed_start _ _ _ _ _ c.requires.taken; scanned = c.requires.scanned }
 
 in_order : (c : After-index-row) → c.loop-at.at < length c.loop-at.tree.reached_rows.order.items
 in_order c = omega (arith, c.loop-at-test.true, c.len-at-end.ensures, c.args.tree.now.reached_rows.order.ok.0, ap (λ (q : ReachedRows). length q.order.items) c.loop-at.invariant.better.reached_rows)
@@ -50,7 +50,7 @@ scan_row-requires c =
       row = omega (arith, in_arcs i, c.loop-at.invariant.arcs_by_kind.long);
       there = (read i).1;
       sorted_arcs = arcs_of_kind _ _ _ _ _ c.loop-at.invariant.arcs_by_kind (in_arcs i);
-      taken = subst (AreTakenFirsts c.args.instance.now.firsts c.args.taken_firsts.now) (sym c.loop-at.invariant.better.tree_classes) c.requires.taken;
+      passed = c.loop-at.invariant.passed;
     }
 
 pub loop-at-preserved : goal.loop-at-preserved
@@ -60,6 +60,7 @@ loop-at-preserved c =
     record {
       arcs_by_kind = all_sorted_set _ _ _ _ _ c.loop-at.invariant.arcs_by_kind (in_arcs i) c.in_ok-scan_row.ensures.sorted_arcs;
       better = better_more _ _ _ _ _ c.loop-at.invariant.better seen.better;
+      passed = c.in_ok-scan_row.ensures.passed;
       scanned = scanned_more _ _ _ _ _ c.loop-at.at c.loop-at.invariant.better.running (read i).0 seen c.loop-at.invariant.scanned;
     }
 

@@ -3,6 +3,7 @@ use Rattle.std.proofs.lemmas.List.{get_or_default}
 use Rattle.certificate.specs.OfferLaws.{passes_at, row_offers_fit}
 use Rattle.certificate.specs.Limits.{row_fits, offers_fit}
 use Rattle.certificate.specs.RowView.{RowView}
+use Rattle.twins.proofs.SettledCpus.{settling_next, settling_turned}
 use Rattle.twins.proofs.grouping.split_all.Goals as goal
 
 pub note-requires : goal.note-requires
@@ -13,3 +14,9 @@ note-requires c =
 pub split-requires-clause-offers : goal.split-requires-clause-offers
 split-requires-clause-offers c = λ d.
     ap (λ (r : RowView). r.offers) (c.row.view_is ∙ c.index-rows-k.is ∙ get_or_default c.args.rows.now c.args.k _ d c.requires.there)
+
+pub returns-then-len-eq0-clause-settling : goal.returns-then-len-eq0-clause-settling
+returns-then-len-eq0-clause-settling c = settling_next _ _ _ c.requires.settling
+
+pub returns-clause-settling : goal.returns-clause-settling
+returns-clause-settling c = settling_turned _ _ _ _ c.loop-at.invariant.settling c.turn-2.ensures

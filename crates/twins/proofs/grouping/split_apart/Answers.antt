@@ -6,7 +6,9 @@ use Rattle.certificate.specs.declared.rows.Offer.{Offer}
 use Rattle.std.proofs.Common.{List, [], get_or, length, refl, subst, sym, true, ℕ, ◌&&◌, ◌<◌, ◌≡◌, ◌∙◌}
 use Rattle.std.proofs.lemmas.List.{get_or_default}
 use Rattle.std.specs.List.{list_all}
-use Rattle.twins.proofs.Splitting.{IsAlike, less_left, splitting_end, splitting_more, splitting_start}
+use Rattle.twins.proofs.Splitting.{IsAlike, less_left, piece_is_part, to_piece, splitting_end, splitting_more, splitting_start}
+use Rattle.twins.proofs.SettledCpus.{settling_noted}
+use Rattle.twins.specs.AreSpans.{AreSpans}
 use Rattle.twins.specs.IsPart.{is_same_weight}
 use Rattle.std.specs.FinSet as set
 use Rattle.twins.proofs.grouping.split_apart.Goals as goal
@@ -14,6 +16,7 @@ use Rattle.twins.proofs.grouping.split_apart.Goals as goal
 pub loop-cpu-init : goal.loop-cpu-init
 loop-cpu-init c = record {
   spans = c.requires.spans;
+  settling = c.requires.settling;
   waiting = refl;
   splitting = rw (c.cpus.ensures set.empty) (splitting_start _ _ _ _ _ c.requires.part c.requires.parts c.requires.alone);
 }
@@ -42,6 +45,10 @@ alike-requires-clause-fit c = fit c.args.rows.now c.args.k c.args.offers.now c.r
 pub loop-cpu-preserved : goal.loop-cpu-preserved
 loop-cpu-preserved c = record {
   spans = c.in_ok-piece.ensures.spans;
+  settling = settling_noted c.args.rows.now c.args.k (row_at c.args.rows.now c.args.k) _ c.in_ok-piece.piece c.in-Some.cpu _ _ c.requires.there (is_row c.args.rows.now c.args.k c.requires.there)
+      (piece_is_part _ _ _ _ _ _ _ _ _ _ _ c.requires.there (is_row c.args.rows.now c.args.k c.requires.there) c.requires.part c.loop-cpu.invariant.splitting c.in-Some.ensures.first.member (alike c))
+      (to_piece (row_at c.args.rows.now c.args.k) _ _ _ (alike c) c.in-Some.cpu c.in-Some.ensures.first.member refl)
+      (subst (λ (o : List Offer). AreSpans o c.alike.new.spans) (c.requires.offers none) c.in_ok-piece.ensures.spans) c.loop-cpu.invariant.settling c.note.ensures;
   waiting = c.in_ok-put.ensures.waiting ∙ c.loop-cpu.invariant.waiting;
   splitting = splitting_more c.args.rows.now c.args.k c.in-Some.cpu (row_at c.args.rows.now c.args.k) c.args.edges.now (get_or c.args.parts.now.waiting c.args.at set.empty) c.loop-cpu.rest c.in_ok-piece.piece c.minus-rest.result _ _ _ _ _ _
       c.requires.there (is_row c.args.rows.now c.args.k c.requires.there) c.requires.edges c.requires.part c.loop-cpu.invariant.splitting c.in-Some.ensures.first.member (alike c) c.in_ok-put.ensures.put c.minus-rest.ensures;

@@ -11,4 +11,4 @@ returns-then-all_arrived-clause-step g c =
     let none = nothing_is_due (g.K.Kernel.state c.make_due.new.kernel) c.args.self.now.reserved c.args.self.now.entries all.valid.some
     (ap (λ (entries : List Entry). is_none (find (must_move (g.K.Kernel.state c.make_due.new.kernel)) entries)) (sym all.entries) ∙ sym c.all_arrived.ensures ∙ c.if-all_arrived.true) in
     let old = g.K.Kernel.state c.args.kernel.now in
-    (c.in_ok-make_due.ensures.made ∙ (λ i. written old (due_write old (c.self.view_is i).reserved (all.entries i))), sym (ap progress_of none))
+    (c.in_ok-place.ensures.made ∙ (λ i. written old (due_write old (c.self.view_is i).reserved (all.entries i))), sym (ap progress_of none))

@@ -1,16 +1,29 @@
-use Rattle.std.proofs.Common.{sym, ◌∙◌}
+use Rattle.std.proofs.Common.{◌≡◌, ◌<◌, ◌+◌, ℕ, Option, subst, sym, ap, ◌∙◌, arith}
+use Rattle.cpu_set.specs.Members.{IsCpu}
+use Rattle.machine.specs.Cores.{is_core_in}
 use Rattle.machine.specs.CoreCounts.{single_cores_in}
 use Rattle.machine.specs.WholeLaws.{same_number}
-use Rattle.machine.proofs.CoreSets.{cores_in-without}
+use Rattle.machine.proofs.CoreSets.{IsPicked, IsPicked-none, IsPicked-more, added_one, left_out, cores_in-picked}
+use Rattle.machine.proofs.machine.Machine.cores_in.Goals.{then-has_core, else-has_core}
 use Rattle.machine.proofs.machine.Machine.cores_in.Goals as goal
-
-pub returns-clause-is : goal.returns-clause-is
-returns-clause-is c =
-    cores_in-without c.args.self.now c.args.cpus.now c.minus.result c.cores_of.result c.cores_of-broken.result _
-    c.union-present.ensures.sound.cores (rw c.union-present.ensures.is at c.union-present.ensures.in_range)
-    (rw c.union-present.ensures.is at c.minus.ensures) (rw c.union-present.ensures.is at c.cores_of.ensures) c.cores_of-broken.ensures c.minus-2.ensures
 
 pub returns-then-is_single-clause-is : goal.returns-then-is_single-clause-is
 returns-then-is_single-clause-is c =
-    rw c.union-present.ensures.is at c.meet.ensures
-    ∙ sym (single_cores_in c.args.self.now c.args.cpus.now c.union-present.ensures.sound.cores (same_number _ _ (sym c.is_single.ensures ∙ c.if-is_single.true)))
+    sym (single_cores_in c.args.self.now c.args.cpus.now c.is_single.ensures.sound.cores (same_number _ _ (sym c.is_single.ensures.is ∙ c.if-is_single.true)))
+
+pub loop-next-init : goal.loop-next-init
+loop-next-init c = IsPicked-none _ _ _ _ c.empty-cores.ensures (c.first-next.ensures.first, c.first-next.ensures.in_range)
+
+pub loop-next-preserved : goal.loop-next-preserved
+loop-next-preserved c =
+    let Picked : Option ℕ → Type 0 = λ next. IsPicked c.args.cpus.now (is_core_in c.args.self.now c.args.cpus.now) c.loop-next.cores next in
+    IsPicked-more c.args.cpus.now (is_core_in c.args.self.now c.args.cpus.now) c.loop-next.cores c.if-has_core.cores c.in-Some.cpu c.next_after-next.result
+    (subst Picked c.in-Some.is c.loop-next.invariant)
+    (elim c.if-has_core.branch [
+      | then-has_core w ↦ added_one c.loop-next.cores c.if-has_core.cores c.in-Some.cpu _ (sym c.has_core.ensures ∙ w.if-has_core.true) (w.cores-is ∙ w.insert.ensures)
+      | else-has_core w ↦ left_out c.loop-next.cores c.if-has_core.cores c.in-Some.cpu _ (sym c.has_core.ensures ∙ w.if-has_core.false) w.cores-is
+    ])
+    (c.next_after-next.ensures.first, c.next_after-next.ensures.in_range)
+
+pub returns-clause-is : goal.returns-clause-is
+returns-clause-is c = cores_in-picked c.args.self.now c.args.cpus.now _ c.loop-next.next c.loop-next.invariant c.in_default.not-Some

@@ -1,6 +1,6 @@
 use Rattle.std.proofs.Common.{ap, ◌∙◌}
 use Rattle.std.specs.FinSet as set
-use Rattle.machine.proofs.NodeLaws.{of_one_weight}
+use Rattle.machine.specs.NodeLaws.{of_one_weight}
 use Rattle.machine.proofs.Reaching.{contains-cpus_of}
 use Rattle.machine.proofs.machine.Machine.cpus_of.Goals as goal
 

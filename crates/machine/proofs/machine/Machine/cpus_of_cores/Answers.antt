@@ -1,25 +1,16 @@
-use Rattle.std.proofs.Common.{◌+◌, sym, ◌∙◌, arith}
+use Rattle.std.proofs.Common.{◌≡◌, ◌<◌, ℕ, Option, subst, sym, ap, ◌∙◌, arith}
+use Rattle.cpu_set.specs.Members.{IsCpu}
 use Rattle.machine.specs.CoreCounts.{single_cpus_of_cores}
 use Rattle.machine.specs.WholeLaws.{same_number}
-use Rattle.machine.proofs.CoreSets.{AreCpusOf, AreCpusOf-none, AreCpusOf-more, AreCpusOf-kept, AreCpusOf-all}
-use Rattle.machine.proofs.machine.Machine.cpus_of_cores.Goals.{then-is_of, else-is_of}
+use Rattle.machine.proofs.CoreSets.{AreFilled-none, AreFilled-more, AreFilled-all}
 use Rattle.machine.proofs.machine.Machine.cpus_of_cores.Goals as goal
 
-pub loop-cpu-init : goal.loop-cpu-init
-loop-cpu-init c = AreCpusOf-none _ _ _ c.empty-cpus.ensures
+pub returns-then-is_single-clause-is : goal.returns-then-is_single-clause-is
+returns-then-is_single-clause-is c =
+    sym (single_cpus_of_cores c.args.self.now c.args.cores.now c.is_single.ensures.sound.cores (same_number _ _ (sym c.is_single.ensures.is ∙ c.if-is_single.true)) c.stays_below_the_limit.ensures)
 
-pub loop-cpu-preserved : goal.loop-cpu-preserved
-loop-cpu-preserved c =
-    elim c.if-is_of.branch as (λ _. AreCpusOf c.args.self.now c.args.cores.now c.if-is_of.cpus (c.loop-cpu.cpu + 1)) [
-      | then-is_of w ↦ AreCpusOf-more _ _ _ _ _ c.loop-cpu.invariant (sym c.is_of.ensures ∙ w.if-is_of.true) (w.cpus-is ∙ w.insert.ensures)
-      | else-is_of w ↦ rw w.cpus-is (AreCpusOf-kept _ _ _ _ c.loop-cpu.invariant (sym c.is_of.ensures ∙ w.if-is_of.false))
-    ]
+pub loop-next-init : goal.loop-next-init
+loop-next-init c = AreFilled-none _ _ _ _ c.empty-cpus.ensures (c.first-next.ensures.first, c.first-next.ensures.in_range)
 
-pub returns : goal.returns
-returns c =
-    AreCpusOf-all _ _ _ c.loop-cpu.cpu (rw c.union-present.ensures.is at c.union-present.ensures.in_range) c.loop-cpu.invariant (omega (arith, c.loop-cpu-test.false))
-
-pub returns-then-is_single : goal.returns-then-is_single
-returns-then-is_single c =
-    rw c.union-present.ensures.is at c.meet.ensures
-    ∙ sym (single_cpus_of_cores c.args.self.now c.args.cores.now c.union-present.ensures.sound.cores (same_number _ _ (sym c.is_single.ensures ∙ c.if-is_single.true)))
+pub returns-clause-is : goal.returns-clause-is
+returns-clause-is c = AreFilled-all c.args.self.now c.args.cores.now _ c.loop-next.next c.loop-next.invariant c.in_default.not-Some

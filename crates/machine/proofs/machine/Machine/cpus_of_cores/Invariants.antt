@@ -1,6 +1,12 @@
-use Rattle.machine.proofs.CoreSets.{AreCpusOf}
+use Rattle.std.proofs.Common.{◌-◌}
+use Rattle.cpu_set.specs.declared.TheConstants.{CPU_LIMIT}
+use Rattle.machine.proofs.CoreSets.{AreFilled}
+use Rattle.machine.proofs.Marking.{place}
 use Rattle.machine.proofs.machine.Machine.cpus_of_cores.Given as goal
 
--- the CPUs before this one that are in one of the cores
-abbrev pub invariant-loop-cpu : goal.invariant-loop-cpu
-invariant-loop-cpu l = AreCpusOf l.self l.fn.cores l.cpus l.cpu
+-- the CPUs of the cores before the next one
+abbrev pub invariant-loop-next : goal.invariant-loop-next
+invariant-loop-next l = AreFilled l.self l.fn.cores l.cpus l.next
+
+abbrev pub decreases-loop-next : goal.decreases-loop-next
+decreases-loop-next l = CPU_LIMIT - place l.next

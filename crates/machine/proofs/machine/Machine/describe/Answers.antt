@@ -3,9 +3,12 @@ use Rattle.std.proofs.lemmas.List.{length-map}
 use Rattle.serde_json.specs.View.{view}
 use Rattle.machine.specs.Listed.{listed}
 use Rattle.machine.specs.Present.{union_of}
-use Rattle.machine.proofs.CoreLaws.{AreCores-read}
+use Rattle.machine.proofs.CoreLaws.{AreCores-read, lowest_of-long, lowest_of-low}
 use Rattle.machine.proofs.SoundLaws.{IsSound-parts}
 use Rattle.machine.proofs.machine.Machine.describe.Goals as goal
+
+pub siblings_of-requires : goal.siblings_of-requires
+siblings_of-requires c = record { room = ap length c.in_ok-cores.ensures.lowest ∙ lowest_of-long _; low = lowest_of-low _ _ c.in_ok-cores.ensures.lowest }
 
 pub invariant_of-result : goal.invariant_of-result
 invariant_of-result c =
@@ -27,6 +30,7 @@ invariant_of-result c =
       all = all;
       in_range = c.stays_below_the_limit.ensures;
       places = rw (same, c.in_ok-from_slice-2.ensures.items) c.places_of-places.ensures;
+      siblings = rw (c.in_ok-from_slice-3.ensures.items, c.in_ok-from_slice-4.ensures.items) c.siblings_of.ensures;
     }
 
 pub returns-clause-sound : goal.returns-clause-sound

@@ -1,5 +1,5 @@
 use Rattle.std.proofs.Common.{sym, ◌∙◌}
-use Rattle.machine.proofs.NodeLaws.{IsPresent-IsOfNode, node_found}
+use Rattle.machine.specs.NodeLaws.{IsPresent-IsOfNode, node_found}
 use Rattle.machine.proofs.machine.Machine.node_of.Goals as goal
 
 pub returns-clause-is : goal.returns-clause-is

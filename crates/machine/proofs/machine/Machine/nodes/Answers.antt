@@ -1,6 +1,6 @@
 use Rattle.std.proofs.Common.{ap, ◌∙◌, arith}
 use Rattle.std.specs.FinSet as set
-use Rattle.machine.proofs.NodeLaws.{contains-nodes_of, nodes_of-range}
+use Rattle.machine.specs.NodeLaws.{contains-nodes_of, nodes_of-range}
 use Rattle.machine.proofs.machine.Machine.nodes.Goals as goal
 
 pub returns-clause-nodes : goal.returns-clause-nodes

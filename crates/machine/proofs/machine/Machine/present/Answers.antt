@@ -1,6 +1,6 @@
 use Rattle.std.proofs.Common.{ap, sym, ◌∙◌}
 use Rattle.std.specs.FinSet as set
-use Rattle.machine.proofs.NodeLaws.{IsPresent-IsOfNode, IsOfNode-IsPresent}
+use Rattle.machine.specs.NodeLaws.{IsPresent-IsOfNode, IsOfNode-IsPresent}
 use Rattle.machine.proofs.machine.Machine.present.Goals as goal
 
 pub returns-clause-each : goal.returns-clause-each

@@ -10,8 +10,8 @@ pub returns : goal.returns
 returns g c =
     let done = c.rebalance_body.ensures in
     record {
-      headline = headline c.args.self.now c.holds.ensures rows_weigh steps_leave targets_take_effect scaled_rows_weigh c.rebalance_body.result c.rebalance_body.new.self done;
+      headline = headline c.args.self.now c.holds.ensures steps_leave targets_take_effect rows_weigh scaled_rows_weigh c.rebalance_body.result c.rebalance_body.new.self done;
       rebalances = done;
-      counted = rebalance_counts c.args.self.now c.holds.ensures rows_weigh steps_leave c.rebalance_body.result c.rebalance_body.new.self done;
-      made = rebalance_makes c.args.self.now c.holds.ensures rows_weigh steps_leave targets_take_effect at_most_two c.rebalance_body.result c.rebalance_body.new.self done;
+      counted = rebalance_counts c.args.self.now c.holds.ensures steps_leave c.rebalance_body.result c.rebalance_body.new.self done;
+      made = rebalance_makes c.args.self.now c.holds.ensures steps_leave targets_take_effect at_most_two c.rebalance_body.result c.rebalance_body.new.self done;
     }

@@ -1,4 +1,0 @@
-use Rattle.inputs.proofs.output.put_number_line.Goals as goal
-
-pub returns : goal.returns
-returns g c = c.put_number.ensures

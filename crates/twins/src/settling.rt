@@ -1,0 +1,87 @@
+//! CPUs whose classes are known before all rows have been looked at.
+ghost use Rattle.std.specs.Prelude.{◌≡◌, ℕ, ◌<◌, IsTrue, List, length, true};
+ghost use Rattle.std.specs.FinSet as set;
+ghost use Rattle.cpu_set.specs.Members.{IsCpu};
+ghost use Rattle.certificate.specs.RowView.{RowView};
+ghost use Rattle.twins.specs.Kinds.{AreKinds};
+ghost use Rattle.twins.specs.Settled.{AreOnce, IsSettling, IsNoted, IsTurned};
+
+use crate::spans::Spans;
+use certificate::Row;
+use cpu_set::IdSet;
+
+/// How many CPUs a run has where it is long, as a mean.
+const LONG_RUN: u32 = 3;
+
+/// CPUs whose classes no row to come splits.
+///
+/// Of a list that no other container names, the CPUs are one class as soon as its own row has been looked at.
+#[derive(Drop)]
+pub(crate) struct Settling {
+    // CPUs that rows of one kind alone have a weight for.
+    once: IdSet,
+    // CPUs whose twins to the rows before are their twins to all rows.
+    settled: IdSet,
+    // These, and those that the row at hand has settled.
+    found: IdSet,
+}
+
+impl Settling {
+    /// No CPUs yet.
+    pub(crate) fn new(once: IdSet) -> Settling
+        ensures { (rows : List RowView) → AreOnce rows once → IsSettling rows 0 result }
+    {
+        Settling {
+            once,
+            settled: IdSet::empty(),
+            found: IdSet::empty(),
+        }
+    }
+
+    /// Whether some CPUs, of which none is below a first one, are known for a class by that one. Where the row has a weight
+    /// for it they are not, since other tests take less.
+    pub(crate) fn has(&self, spans: &Spans, cpus: &IdSet, first: u16) -> bool
+        ensures settled { IsTrue result → set.contains self.now.settled first ≡ true }
+        ensures member { IsTrue result → set.contains cpus.now first ≡ true }
+    {
+        spans.span_at(first).is_none() && self.settled.contains(first) && cpus.contains(first)
+    }
+
+    /// Notes a CPU of a piece that the row at hand has split off, if no row of another kind has a weight for one of them.
+    pub(crate) fn note(&mut self, spans: &Spans, cpu: u16, piece: &IdSet)
+        requires { IsCpu cpu }
+        ensures { IsNoted spans.now cpu piece.now self.old self.new }
+    {
+        if self.once.contains(cpu) && spans.cpus().contains(cpu) && piece.is_subset(&self.once) {
+            self.found.insert(cpu);
+        }
+    }
+
+    /// Goes on to the next row.
+    pub(crate) fn turn(&mut self)
+        ensures { IsTurned self.old self.new }
+    {
+        self.settled = self.found;
+    }
+}
+
+/// The CPUs that rows of one kind alone have a weight for, or none where runs are long: sets of one run are soon alone.
+pub(crate) fn once_offered(rows: &[Row], kinds: &[usize], count: u32, runs: u32) -> IdSet
+    requires { AreKinds rows.now (length rows.now) kinds.now }
+    ensures { AreOnce rows.now result }
+{
+    if runs < count / LONG_RUN {
+        return IdSet::empty();
+    }
+    let mut offered = IdSet::empty();
+    let mut twice = IdSet::empty();
+    for k in 0..rows.len() {
+        if kinds[k] == k {
+            let row = &rows[k];
+            let cpus = row.offers.cpus();
+            twice = twice.union(&offered.meet(&cpus));
+            offered = offered.union(&cpus);
+        }
+    }
+    offered.minus(&twice)
+}
