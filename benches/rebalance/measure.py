@@ -11,7 +11,6 @@ own; with few CPUs of their own each names 4 that no other one names, and asks f
 that has the same demands and no cores, they ask for 2, 4 or 6 CPUs. The last line of each machine has the thousands of
 instructions that a `create` takes, with homes on one node, and on all nodes where the config names none."""
 
-import json
 import os
 import random
 import re
@@ -20,25 +19,10 @@ import subprocess
 import sys
 import tempfile
 import time
-from typing import NamedTuple
+
+from places import Job, place
 
 ROUNDS, TIMES, RUNS = 5, 200, 40
-
-
-class Job(NamedTuple):
-    nodes: int
-    cpus: int
-    containers: int
-    lists: str = ""        # "half" of the CPUs by chance, or the "few" of its own
-    ring: bool = False     # a distance for each number of steps round a ring, in place of three
-    whole: bool = False    # demands of whole cores of two CPUs
-    threads: int = 1       # CPUs a core; more than one are listed in the machine file
-
-    def about(self):
-        lists = {"": "", "half": ", lists of their own", "few": ", few CPUs of their own"}[self.lists]
-        ring = ", the distances of a ring" if self.ring else ""
-        cores = f", {self.cpus // self.threads} cores" if self.threads > 1 else ", the same demands without cores" if self.whole else ""
-        return f"{self.cpus} CPUs, {self.containers} containers{lists}{ring}{cores}"
 
 
 # The last eight are as large as may be.
@@ -76,48 +60,6 @@ class Shell:
     def close(self):
         self.shell.stdin.close()
         self.shell.wait()
-
-
-def write_bundle(name, section):
-    os.makedirs(name, exist_ok=True)
-    told = {"ociVersion": "1.0.2", "root": {"path": "rootfs"}, "linux": {"resources": {"cpu": section}}}
-    json.dump(told, open(f"{name}/config.json", "w"))
-
-
-def listed(cpus):
-    return ",".join(map(str, sorted(cpus)))
-
-
-def distance(job, i, j):
-    if job.ring:
-        return min(10 + 10 * min((i - j) % job.nodes, (j - i) % job.nodes), 254)
-    return 10 if i == j else 16 if i // 2 == j // 2 else 32
-
-
-def machine(job):
-    """The machine file. With demands of whole cores the CPUs k and k + half of all are one core's, whether cores are listed or not."""
-    half = job.cpus // 2
-    cores = [{k, k + half} for k in range(half)] if job.whole else [{k} for k in range(job.cpus)]
-    per = len(cores) // job.nodes
-    nodes = [listed(set().union(*cores[per * k : per * k + per])) for k in range(job.nodes)]
-    told = {"nodes": nodes, "distances": [[distance(job, i, j) for j in range(job.nodes)] for i in range(job.nodes)], "reserved": listed(cores[0])}
-    return {**told, "cores": [listed(core) for core in cores]} if job.threads > 1 else told
-
-
-def place(job):
-    """Writes the machine, and the bundle of each container."""
-    json.dump(machine(job), open("machine.json", "w"))
-    for k in range(job.containers):
-        section = {"mems": str(k % job.nodes)}
-        if job.lists == "few":
-            section["cpus"] = listed(set(range(4 * k, 4 * k + 4)) - {0})
-        elif k % 8 != 7:
-            section["quota"] = 100000 * (2 * random.randint(1, 3) if job.whole else random.randint(1, 7))
-            if job.lists:
-                section["cpus"] = listed(random.sample(range(1, job.cpus), job.cpus // 2))
-        write_bundle(f"b{k}", section)
-        if k % 2:
-            write_bundle(f"any{k}", {"quota": 100000})
 
 
 def typed(program, before):

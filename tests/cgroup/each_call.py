@@ -76,9 +76,9 @@ def check_apart(calls, what, stands=None, alive=None):
     stands, alive = stands or {}, set(alive or ())
     states = 0
     for line in calls:
-        if "!" in line:
-            continue
         call, path, *rest = line.split(" ")
+        if "!" in line or call in ("open", "read", "absent"):
+            continue
         name = path.split("/")[2] if path.count("/") > 1 else None
         if call == "rmdir":
             stands.pop(name, None)
@@ -103,7 +103,7 @@ def check_files(ran, what):
     last = {}
     for line in ran.calls:
         call, path, *rest = line.split(" ")
-        if "!" not in line and path.endswith("/cpuset.cpus"):
+        if "!" not in line and call == "write" and path.endswith("/cpuset.cpus"):
             last[path.split("/")[2]] = rest[0]
         if "!" not in line and call == "mkdir" and path.count("/") > 1:
             last[path.split("/")[2]] = ""
@@ -115,31 +115,62 @@ whole = Run()
 assert whole.done.returncode == 0, whole.err
 plain = run([program, "run", machine], open(script, "rb").read())
 assert whole.out == plain.stdout.decode(), "the answers are those of a run without the tree"
-for line in whole.calls:
+ASKED = [line for line in whole.calls if line.split(" ")[0] in ("mkdir", "rmdir", "write")]
+for line in ASKED:
     assert re.fullmatch(r"write (/numarun)?/cgroup.subtree_control \+cpuset|mkdir /numarun(/\S+)?|rmdir /numarun/\S+"
                         r"|write /numarun/\S+/(cpuset.cpus \S+|cpuset.mems \S+|cgroup.kill 1)", line), line
+# A write is one open and one write, behind which what is in effect is read once where it was one of CPUs.
+for at, line in enumerate(whole.calls):
+    call, path, *rest = line.split(" ")
+    if call == "write":
+        assert whole.calls[at - 1] == f"open {path}", whole.calls[at - 1 : at + 1]
+        if path.endswith("/cpuset.cpus"):
+            assert whole.calls[at + 1] == f"read {path}.effective", whole.calls[at : at + 2]
+assert sum(line.startswith("read ") for line in whole.calls) == sum("/cpuset.cpus " in line for line in ASKED), whole.calls
+assert [line.split(" ")[:2] for line in whole.calls[:3]] == [
+    ["absent", "/cgroup.controllers"], ["absent", "/cpuset.cpus.effective"], ["absent", "/cpuset.mems.effective"]], whole.calls[:3]
 states, runs = check_apart(whole.calls, "whole"), 1
 check_files(whole, "whole")
 whole.remove()
-for number in (errno.EBUSY, errno.EINVAL, errno.EACCES, errno.ENOENT, errno.ENOSPC):
+REFUSALS = (errno.EBUSY, errno.EINVAL, errno.EACCES, errno.ENOENT, errno.ENOSPC, errno.EAGAIN, errno.EOPNOTSUPP)
+
+
+def refused_at(n, number, what):
+    """The run in which this call is refused, by this error."""
+    ran = Run(fail=n, errno=number)
+    refused = [line for line in ran.calls if " !" in line]
+    assert len(refused) == 1 and ran.done.returncode in (0, 1), (what, refused)
+    call, path = refused[0].split(" ")[:2]
+    notes = [line for line in ran.err.splitlines() if line.startswith(f"error: {ran.folder}/root{path}: ") and "os error" in line]
+    if call == "read" and path.startswith("/numarun/"):
+        assert ran.out == whole.out and len(notes) == 1, (what, ran.out, ran.err)
+    elif call == "read" and number == errno.ENOENT:
+        assert ran.out == whole.out and not ran.err, (what, ran.out, ran.err)
+    elif call == "read":
+        assert (ran.done.returncode, ran.out) == (1, "refused E113 ReadFault\n"), (what, ran.out)
+        assert ran.err.startswith(f"error: {ran.folder}/root: "), (what, ran.err)
+    elif call == "rmdir" and number == errno.EBUSY:
+        assert ran.out == whole.out and not ran.err, (what, ran.out, ran.err)
+    elif call == "rmdir" and number == errno.ENOENT:
+        assert "E50" not in ran.out and len(notes) == 1, (what, ran.out, ran.err)
+    else:
+        assert ran.out.count("refused E50 KernelFault\n") >= 1 and len(notes) == 1, (what, ran.out, ran.err)
+    apart = check_apart(ran.calls, what)
+    check_files(ran, what)
+    ran.remove()
+    return apart
+
+
+for number in REFUSALS:
     for n in range(1, len(whole.calls) + 1):
-        what = f"call {n} refused by {errno.errorcode[number]}"
-        ran = Run(fail=n, errno=number)
-        refused = [line for line in ran.calls if " !" in line]
-        assert len(refused) == 1, (what, refused)
-        path = ran.folder + "/root" + refused[0].split(" ")[1]
-        notes = [line for line in ran.err.splitlines() if line.startswith(f"error: {path}: ") and "os error" in line]
-        if refused[0].startswith("rmdir") and number == errno.EBUSY:
-            assert "E50" not in ran.out and not notes, (what, ran.out, ran.err)
-        elif refused[0].startswith("rmdir") and number == errno.ENOENT:
-            assert "E50" not in ran.out and len(notes) == 1, (what, ran.out, ran.err)
-        else:
-            assert ran.out.count("refused E50 KernelFault\n") >= 1 and len(notes) == 1, (what, ran.out, ran.err)
-        assert ran.done.returncode in (0, 1), what
-        states += check_apart(ran.calls, what)
+        states += refused_at(n, number, f"call {n} refused by {errno.errorcode[number]}")
         runs += 1
-        check_files(ran, what)
-        ran.remove()
+for n in (at for at, line in enumerate(whole.calls, 1) if line.startswith("write ")):
+    ran = Run(fail=n, errno=errno.EINTR)
+    assert ran.out == whole.out and not ran.err and ran.done.returncode == 0, (n, ran.out, ran.err)
+    check_files(ran, f"call {n} behind a signal")
+    ran.remove()
+    runs += 1
 print(f"cgroup: {len(whole.calls)} calls, {runs} runs with each refused in turn, {states} states that are apart")
 
 for n in range(1, len(whole.calls) + 1):

@@ -1,7 +1,8 @@
 // Lets a plain folder stand for a cgroup v2 tree: below FOLDERS_ROOT a folder that is made gets the files of a group, a write
 // replaces a file's text, one of `cpuset.cpus` that of `cpuset.cpus.effective` too (or puts FOLDERS_OTHER there, if that is
 // set), and a folder that is removed takes its files with it. The call whose number, from 1, stands in FOLDERS_FAIL fails with
-// the number in FOLDERS_ERRNO; the process ends behind the call in FOLDERS_KILL. Each call is a line of the file FOLDERS_LOG.
+// the number in FOLDERS_ERRNO; the process ends behind the call in FOLDERS_KILL. Each call is a line of the file FOLDERS_LOG: a
+// file that is opened to be written (open) or to be read (read), or is not there (absent), a write, a folder.
 #define _GNU_SOURCE
 #include <dlfcn.h>
 #include <errno.h>
@@ -25,7 +26,7 @@ static int below(const char *path) {
 
 static void tell(const char *what, const char *path, const char *text, size_t length, int error) {
     char line[8192];
-    int size = snprintf(line, sizeof line, "%s %s %.*s%s%s\n", what, path + strlen(getenv("FOLDERS_ROOT")), (int)length, text,
+    int size = snprintf(line, sizeof line, "%s %s%s%.*s%s%s\n", what, path + strlen(getenv("FOLDERS_ROOT")), length ? " " : "", (int)length, text,
                         error ? " !" : "", error ? strerror(error) : "");
     static ssize_t (*real)(int, const void *, size_t);
     if (!real) real = dlsym(RTLD_NEXT, "write");
@@ -100,7 +101,11 @@ int open(const char *path, int flags, ...) {
     int mode = va_arg(rest, int);
     va_end(rest);
     if (!real) real = dlsym(RTLD_NEXT, "open");
-    int file = real(path, flags, mode);
+    const char *what = (flags & O_ACCMODE) == O_RDONLY ? "read" : "open";
+    if (below(path) && fails(what, path, "", 0)) return -1;
+    int file = real(path, flags, mode), error = errno;
+    if (below(path)) done(file < 0 ? "absent" : what, path, "", 0, 0);
+    errno = error;
     if (file >= 0 && file < 1024) snprintf(opened[file], sizeof *opened, "%s", below(path) && (flags & O_ACCMODE) == O_WRONLY ? path : "");
     return file;
 }

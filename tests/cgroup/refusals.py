@@ -3,6 +3,7 @@
 import os
 import pathlib
 import shutil
+import subprocess
 import sys
 import tempfile
 
@@ -63,6 +64,9 @@ TABLE = [
     ("the machine's nodes", folder(cpuset_mems_effective="0-1\n"), (), NONE),
     ("a node without memory", folder(cpuset_mems_effective="1\n"), (), NONE),
     ("a node that the machine has not", folder(cpuset_mems_effective="0-2\n"), (), OTHER),
+    ("no list of nodes", folder(cpuset_mems_effective="none\n"), (), OTHER),
+    ("a node past the limit", folder(cpuset_mems_effective="0,4096\n"), (), OTHER),
+    ("controllers that are a folder", folder(cgroup_controllers=None), (), (1, "refused E113 ReadFault\n", "error: ROOT: a directory\n")),
     ("both, the first", folder(cgroup_controllers="cpu\n", cpuset_cpus_effective="0\n"), (), (1, "refused E115 NoCpuset\n", "")),
     ("a run before", folder(numarun=None), (), (1, "refused E50 KernelFault\n", "error: ROOT/numarun: File exists (os error 17)\n")),
     ("a run before, adopted", folder(numarun=None), ("--adopt",), NONE),
@@ -87,6 +91,76 @@ def links(root):
 
 status, out, err = played(links, ("--adopt",), b"create web examples/bundles/web\nsets web\n")
 assert (status, out.splitlines()[0], err) == (0, "pid 2", "note: ROOT/numarun/web is there and has to be adopted\n"), (status, out, err)
+
+
+def lived(script, make=folder(), words=()):
+    """The answers and notes of a script over a root that this makes, and its lines that are functions are called with the root."""
+    folder = tempfile.mkdtemp()
+    root = folder + "/root"
+    make(root)
+    started = subprocess.Popen([program, "run", machine, "--cgroup", root, *words], stdin=subprocess.PIPE, stdout=subprocess.PIPE,
+                               stderr=subprocess.PIPE)
+    answers = []
+    for line in script:
+        if callable(line):
+            line(root)
+            continue
+        started.stdin.write(line.encode() + b"\n")
+        started.stdin.flush()
+        answers.append(started.stdout.readline().decode())
+        while answers[-1].startswith("plan "):
+            while not answers[-1].endswith("end\n"):
+                answers[-1] += started.stdout.readline().decode()
+            break
+    out, err = started.communicate()
+    shutil.rmtree(folder)
+    assert started.returncode == 0 and not out, (script, started.returncode, out)
+    return answers, err.decode().replace(root, "ROOT")
+
+
+FILES = ("cpuset.cpus", "cpuset.mems", "cpuset.cpus.effective", "cgroup.kill", "cgroup.subtree_control")
+
+
+def grouped(*names):
+    """A root in which these groups are there, with their files."""
+
+    def make(root):
+        for group in ("", "/numarun", *(f"/numarun/{name}" for name in names)):
+            os.mkdir(root + group)
+            for name in FILES if group.count("/") == 2 else ("cgroup.subtree_control",):
+                pathlib.Path(f"{root}{group}/{name}").write_text("")
+
+    return make
+
+
+def gone(path):
+    return lambda root: shutil.rmtree(root + path)
+
+
+E50 = "refused E50 KernelFault\n"
+GONE = "No such file or directory (os error 2)"
+web, database = "create web examples/bundles/web", "create database examples/bundles/database"
+
+answers, err = lived([web, database, gone("/numarun/database"), "rebalance", "kill database KILL", "delete database", "rebalance", "list"],
+                     grouped("web", "database"), ("--adopt",))
+assert answers[2].startswith("plan ") and answers[3:5] == ["ok\n", "ok\n"] and answers[5].startswith("plan "), answers
+for file in ("cpuset.cpus", "cpuset.cpus.effective", "cgroup.kill"):
+    assert f"error: ROOT/numarun/database/{file}: {GONE}\n" in err, err
+assert f"error: ROOT/numarun/database: {GONE}\n" in err, err
+
+answers, err = lived([web, gone(""), "rebalance", database, "kill web KILL", "delete web", "list"], grouped("web", "database"), ("--adopt",))
+assert answers[1].startswith("plan ") and answers[2:5] == [E50, "ok\n", "ok\n"], answers
+assert f"error: ROOT/numarun/database: {GONE}\n" in err, err
+
+
+def a_file(root):
+    shutil.rmtree(root + "/numarun/database")
+    pathlib.Path(root + "/numarun/database").write_text("")
+
+
+answers, err = lived([web, database, a_file, "rebalance", "kill database KILL", "delete database"], grouped("web", "database"), ("--adopt",))
+assert answers[2:] == [E50, E50, E50][: len(answers) - 2] and "error: ROOT/numarun/database" in err, (answers, err)
+print("cgroup: folders that vanish")
 
 
 def ids(root):

@@ -71,6 +71,9 @@ def machines():
         "unreserved": machine(reserved='"reserved":""'), "elsewhere": machine(reserved='"reserved":"8"'),
         "no-reserved": machine(reserved='"reserved":7'), "off": machine(reserved='"reserved":"0","offline":"0"'),
         "off-elsewhere": machine(reserved='"reserved":"0","offline":"9"'), "no-off": machine(reserved='"reserved":"0","offline":"x"'),
+        "halved": machine(reserved='"reserved":"0","cores":["0,4"]'), "no-core": machine(reserved='"reserved":"0,1","cores":["0,1","2,3","4,5"]'),
+        "no-cores": machine(reserved='"reserved":"0","cores":7'),
+        "cores": machine(reserved='"reserved":"0-1","cores":["0,1","2-3","4-5","6,7"]'),
     }
 
 

@@ -101,7 +101,8 @@ impl Handover {
         // One writing call of the kernel is made where a write is due, and else none.
         ensures made { (K.state kernel.new).writes ≡ (K.state kernel.old).writes + made_by_step self.old (K.state kernel.old) }
         // Each container requests what it did at first, or what it keeps of that, or its target.
-        ensures between { (first : KernelState) → Between self.old first (K.state kernel.old) → Between self.old first (K.state kernel.new) }
+        ensures between { (first : KernelState) → Between self.old first (K.state kernel.old)
+            → Between self.old first (K.state kernel.new) }
         // A failure is counted, and nothing else in the kernel changes.
         ensures counted { (K.state kernel.new).failures ≡ (K.state kernel.old).failures + rise result }
         ensures rest { KeepsRest self.old (K.state kernel.old) (K.state kernel.new) }
@@ -140,11 +141,13 @@ impl Handover {
         // One writing call of the kernel is made for each write that is less to come, and one for a failure.
         ensures made { Spends self.old (K.state kernel.old) (rise result) (K.state kernel.new) }
         // At the end these are all that were to come.
-        ensures all { IsOk result → (K.state kernel.new).writes ≡ (K.state kernel.old).writes + writes_to_come self.old (K.state kernel.old) }
+        ensures all { IsOk result → (K.state kernel.new).writes ≡ (K.state kernel.old).writes
+            + writes_to_come self.old (K.state kernel.old) }
         // At most two for each entry, and the one that failed.
         ensures few { (K.state kernel.new).writes ≤ (K.state kernel.old).writes + 2 * length self.old.entries + rise result }
         // Each container requests what it did at first, or what it keeps of that, or its target.
-        ensures between { (first : KernelState) → Between self.old first (K.state kernel.old) → Between self.old first (K.state kernel.new) }
+        ensures between { (first : KernelState) → Between self.old first (K.state kernel.old)
+            → Between self.old first (K.state kernel.new) }
         // A failure is counted, and nothing else in the kernel changes.
         ensures counted { (K.state kernel.new).failures ≡ (K.state kernel.old).failures + rise result }
         ensures rest { KeepsRest self.old (K.state kernel.old) (K.state kernel.new) }

@@ -191,7 +191,8 @@ pub fn make_due<K: Kernel>(
 ) -> Result<usize, KernelFault>
     requires placed { ArePlaced (K.state kernel.old) entries.now }
     requires some { HaveSomeTarget entries.now }
-    ensures made { IsMadeIfAny (due_write (K.state kernel.old) reserved.now entries.now) (K.state kernel.old) (done_of result) (K.state kernel.new) }
+    ensures made { IsMadeIfAny (due_write (K.state kernel.old) reserved.now entries.now) (K.state kernel.old) (done_of result)
+        (K.state kernel.new) }
     ensures placed { ArePlaced (K.state kernel.new) entries.now }
 {
     let (write, place) = due(&*kernel, reserved, entries);

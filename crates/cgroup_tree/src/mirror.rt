@@ -76,7 +76,7 @@ impl<F: GroupFiles> Mirror<F> {
         KernelFault::Failed
     }
 
-    /// Makes a group, once the files have made its folder; that is removed again where the model has no memory for it.
+    /// Makes a group, once the files have made its folder; that is removed again where its allocation in the model fails.
     pub fn make_group(&mut self, parent: Group, name: &str) -> Result<Group, OrMemory<KernelFault>>
         ensures case { MakesGroup (mirrored self.old.failed.writes self.old.inner) parent name.now result (mirrored self.new.failed.writes self.new.inner) }
         ensures asks { MirrorsBoth F.asked self.old.folders

@@ -10,7 +10,7 @@ use Rattle.cpuset_tree.specs.declared.groups.Cgroup.{Cgroup}
 use Rattle.cpuset_tree.specs.TreeState.{TreeState}
 use Rattle.cpuset_tree.specs.Groups.{same_group, entry_among, is_root_entry}
 use Rattle.cpuset_tree.specs.TreeWellFormed.{IsWellFormed}
-use Rattle.cpuset_tree.specs.Kept.{listed, IsSound, IsKeptOf, entry_of_kept}
+use Rattle.cpuset_tree.specs.Kept.{listed, IsSound, IsKeptOf}
 use Rattle.cpuset_tree.proofs.KeptLemmas.{IsFalling-listed}
 use Rattle.cpuset_tree.proofs.ChangeLemmas.{found, not_found}
 

@@ -1,7 +1,7 @@
 -- A tree stays sound through each of its changes.
 use Rattle.std.proofs.Common.{◌≡◌, ℕ, ◌+◌, true, false, not, List, ◌∷◌, refl, sym, ap, ◌∙◌, subst, eq-eqb, arith, filter}
 use Rattle.std.proofs.lemmas.Bool.{or_left, or_right, both_ways}
-use Rattle.std.proofs.lemmas.Option.{same_Some, none-some}
+use Rattle.std.proofs.lemmas.Option.{none-some}
 use Rattle.std.specs.Prelude.{Option, Some, None, is_some, is_none, ◌==◌}
 use Rattle.std.specs.List.{list_any}
 use Rattle.slab.specs.Slab.{Slab, get, Updates}

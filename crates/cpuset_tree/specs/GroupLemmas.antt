@@ -1,11 +1,11 @@
 -- Groups that are one or not, and look-ups among entries.
 use Rattle.std.proofs.Common.{◌≡◌, true, false, not, List, [], ◌∷◌, refl, sym, ap, ◌∙◌, eq-eqb, eqb-true, filter}
-use Rattle.std.proofs.lemmas.Bool.{and_parts, and_left, and_right, and_from, or_parts, ne_eqb, cond-true, cond-false, both_ways}
+use Rattle.std.proofs.lemmas.Bool.{and_parts, and_left, and_right, and_from, ne_eqb, cond-true, cond-false, both_ways}
 use Rattle.std.specs.Prelude.{Option, Some, None, ◌==◌}
 use Rattle.cpu_set.specs.Ids.{Ids}
 use Rattle.cpuset_tree.specs.declared.groups.Group.{Group}
 use Rattle.cpuset_tree.specs.TreeState.{GroupEntry}
-use Rattle.cpuset_tree.specs.Groups.{same_group, entry_among, is_parent, has_child_among}
+use Rattle.cpuset_tree.specs.Groups.{same_group, entry_among}
 use Rattle.cpuset_tree.specs.Effective.{granted, standing, effective}
 
 pub same_group-key : (a b : Group) → same_group a b ≡ true → a.key ≡ b.key

@@ -1,6 +1,9 @@
 //! What changes of a tree of groups leave and keep: laws over the definitions alone. Nothing here runs.
 ghost use Rattle.std.specs.Prelude.{◌≡◌};
-ghost use Rattle.cpuset_tree.specs.TreeLaws.{SameIsEqual, EntryIsOwn, RootIsThere, ParentIsThere, NoParentNoChildren, GrantsAll, GrantsWithin, TwoBelowRoot, SerialIsGiven, WritesLeavePlaces, SerialsGivenOnce, CpusWritten, MemsWritten, WritesRequest, AddedLeaves, RemovedLeaves, FoundIsChild, ChangesStayWellFormed, FirstIsWellFormed, WellFormedRunsUp};
+ghost use Rattle.cpuset_tree.specs.TreeLaws.{SameIsEqual, EntryIsOwn, RootIsThere, ParentIsThere, NoParentNoChildren, GrantsAll};
+ghost use Rattle.cpuset_tree.specs.TreeLaws.{GrantsWithin, TwoBelowRoot, SerialIsGiven, WritesLeavePlaces, SerialsGivenOnce};
+ghost use Rattle.cpuset_tree.specs.TreeLaws.{CpusWritten, MemsWritten, WritesRequest, AddedLeaves, RemovedLeaves, FoundIsChild};
+ghost use Rattle.cpuset_tree.specs.TreeLaws.{ChangesStayWellFormed, FirstIsWellFormed, WellFormedRunsUp};
 
 use crate::SERIAL_LIMIT;
 

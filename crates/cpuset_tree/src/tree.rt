@@ -190,7 +190,8 @@ impl Tree {
     /// # Errors
     /// In this order: [`TreeFault::NoGroup`], [`TreeFault::Exists`], [`TreeFault::NoSerials`].
     pub fn makable(&self, parent: Group, name: &str) -> Result<(), TreeFault>
-        ensures { MatchResult result (λ _. make_refusal self.now parent name.now ≡ None) (λ fault. make_refusal self.now parent name.now ≡ Some fault) }
+        ensures { MatchResult result (λ _. make_refusal self.now parent name.now ≡ None)
+            (λ fault. make_refusal self.now parent name.now ≡ Some fault) }
     {
         if !self.contains(parent) {
             return Err(TreeFault::NoGroup);

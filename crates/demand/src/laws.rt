@@ -1,4 +1,4 @@
-//! Laws over the definitions alone: nothing here runs.
+//! How many CPUs a quota asks for: laws over the definitions alone. Nothing here runs.
 ghost use Rattle.std.specs.Prelude.{◌≡◌};
 ghost use Rattle.demand.specs.AsksFor.{IsOneCount};
 

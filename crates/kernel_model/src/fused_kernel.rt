@@ -3,7 +3,8 @@ ghost use Rattle.kernel_model.specs.declared.fault.KernelFault.TheVariants.{Fail
 ghost use Rattle.faults.specs.declared.or_memory.OrMemory.TheVariants.{Fault};
 ghost use Rattle.kernel_model.specs.Fuse.{fuse_after, fused, FollowsTheCount, FailsAtTheNth};
 ghost use Rattle.kernel_model.specs.Burning.{burnt, is_due};
-ghost use Rattle.kernel_model.specs.Cases.{MakesGroup, RemovesGroup, WritesCpus, WritesMems, Spawns, EndsGroup, Forks, Exits, GoesOffline, ComesOnline};
+ghost use Rattle.kernel_model.specs.Cases.{MakesGroup, RemovesGroup, WritesCpus, WritesMems, Spawns, EndsGroup, Forks, Exits};
+ghost use Rattle.kernel_model.specs.Cases.{GoesOffline, ComesOnline};
 
 use crate::{Kernel, KernelFault};
 use cpu_set::IdSet;
@@ -80,36 +81,48 @@ impl<K: Kernel> Kernel for FusedKernel<K> {
     ghost state = { λ k. fused k.fuse (K.state k.inner) };
 
     fn make_group(&mut self, parent: Group, name: &str) -> Result<Group, OrMemory<KernelFault>>
-        ensures case { MakesGroup (fused self.old.fuse (K.state self.old.inner)) parent name.now result (fused self.new.fuse (K.state self.new.inner)) }
-        ensures fuse { FollowsTheCount self.old.fuse (fused self.old.fuse (K.state self.old.inner)) self.new.fuse (fused self.new.fuse (K.state self.new.inner)) }
-        ensures inner { FailsAtTheNth (Fault Failed) self.old.fuse (fused self.old.fuse (K.state self.old.inner)) (K.state self.old.inner) (MakesGroup (K.state self.old.inner) parent name.now) result (K.state self.new.inner) }
+        ensures case { MakesGroup (fused self.old.fuse (K.state self.old.inner)) parent name.now result
+            (fused self.new.fuse (K.state self.new.inner)) }
+        ensures fuse { FollowsTheCount self.old.fuse (fused self.old.fuse (K.state self.old.inner)) self.new.fuse
+            (fused self.new.fuse (K.state self.new.inner)) }
+        ensures inner { FailsAtTheNth (Fault Failed) self.old.fuse (fused self.old.fuse (K.state self.old.inner))
+            (K.state self.old.inner) (MakesGroup (K.state self.old.inner) parent name.now) result (K.state self.new.inner) }
     {
         self.burn()?;
         self.inner.make_group(parent, name)
     }
 
     fn remove_group(&mut self, group: Group) -> Result<(), KernelFault>
-        ensures case { RemovesGroup (fused self.old.fuse (K.state self.old.inner)) group result (fused self.new.fuse (K.state self.new.inner)) }
-        ensures fuse { FollowsTheCount self.old.fuse (fused self.old.fuse (K.state self.old.inner)) self.new.fuse (fused self.new.fuse (K.state self.new.inner)) }
-        ensures inner { FailsAtTheNth Failed self.old.fuse (fused self.old.fuse (K.state self.old.inner)) (K.state self.old.inner) (RemovesGroup (K.state self.old.inner) group) result (K.state self.new.inner) }
+        ensures case { RemovesGroup (fused self.old.fuse (K.state self.old.inner)) group result
+            (fused self.new.fuse (K.state self.new.inner)) }
+        ensures fuse { FollowsTheCount self.old.fuse (fused self.old.fuse (K.state self.old.inner)) self.new.fuse
+            (fused self.new.fuse (K.state self.new.inner)) }
+        ensures inner { FailsAtTheNth Failed self.old.fuse (fused self.old.fuse (K.state self.old.inner)) (K.state self.old.inner)
+            (RemovesGroup (K.state self.old.inner) group) result (K.state self.new.inner) }
     {
         self.burn()?;
         self.inner.remove_group(group)
     }
 
     fn write_cpus(&mut self, group: Group, cpus: IdSet) -> Result<(), KernelFault>
-        ensures case { WritesCpus (fused self.old.fuse (K.state self.old.inner)) group cpus result (fused self.new.fuse (K.state self.new.inner)) }
-        ensures fuse { FollowsTheCount self.old.fuse (fused self.old.fuse (K.state self.old.inner)) self.new.fuse (fused self.new.fuse (K.state self.new.inner)) }
-        ensures inner { FailsAtTheNth Failed self.old.fuse (fused self.old.fuse (K.state self.old.inner)) (K.state self.old.inner) (WritesCpus (K.state self.old.inner) group cpus) result (K.state self.new.inner) }
+        ensures case { WritesCpus (fused self.old.fuse (K.state self.old.inner)) group cpus result
+            (fused self.new.fuse (K.state self.new.inner)) }
+        ensures fuse { FollowsTheCount self.old.fuse (fused self.old.fuse (K.state self.old.inner)) self.new.fuse
+            (fused self.new.fuse (K.state self.new.inner)) }
+        ensures inner { FailsAtTheNth Failed self.old.fuse (fused self.old.fuse (K.state self.old.inner)) (K.state self.old.inner)
+            (WritesCpus (K.state self.old.inner) group cpus) result (K.state self.new.inner) }
     {
         self.burn()?;
         self.inner.write_cpus(group, cpus)
     }
 
     fn write_mems(&mut self, group: Group, mems: IdSet) -> Result<(), KernelFault>
-        ensures case { WritesMems (fused self.old.fuse (K.state self.old.inner)) group mems result (fused self.new.fuse (K.state self.new.inner)) }
-        ensures fuse { FollowsTheCount self.old.fuse (fused self.old.fuse (K.state self.old.inner)) self.new.fuse (fused self.new.fuse (K.state self.new.inner)) }
-        ensures inner { FailsAtTheNth Failed self.old.fuse (fused self.old.fuse (K.state self.old.inner)) (K.state self.old.inner) (WritesMems (K.state self.old.inner) group mems) result (K.state self.new.inner) }
+        ensures case { WritesMems (fused self.old.fuse (K.state self.old.inner)) group mems result
+            (fused self.new.fuse (K.state self.new.inner)) }
+        ensures fuse { FollowsTheCount self.old.fuse (fused self.old.fuse (K.state self.old.inner)) self.new.fuse
+            (fused self.new.fuse (K.state self.new.inner)) }
+        ensures inner { FailsAtTheNth Failed self.old.fuse (fused self.old.fuse (K.state self.old.inner)) (K.state self.old.inner)
+            (WritesMems (K.state self.old.inner) group mems) result (K.state self.new.inner) }
     {
         self.burn()?;
         self.inner.write_mems(group, mems)
@@ -117,17 +130,22 @@ impl<K: Kernel> Kernel for FusedKernel<K> {
 
     fn spawn(&mut self, group: Group) -> Result<u32, OrMemory<KernelFault>>
         ensures case { Spawns (fused self.old.fuse (K.state self.old.inner)) group result (fused self.new.fuse (K.state self.new.inner)) }
-        ensures fuse { FollowsTheCount self.old.fuse (fused self.old.fuse (K.state self.old.inner)) self.new.fuse (fused self.new.fuse (K.state self.new.inner)) }
-        ensures inner { FailsAtTheNth (Fault Failed) self.old.fuse (fused self.old.fuse (K.state self.old.inner)) (K.state self.old.inner) (Spawns (K.state self.old.inner) group) result (K.state self.new.inner) }
+        ensures fuse { FollowsTheCount self.old.fuse (fused self.old.fuse (K.state self.old.inner)) self.new.fuse
+            (fused self.new.fuse (K.state self.new.inner)) }
+        ensures inner { FailsAtTheNth (Fault Failed) self.old.fuse (fused self.old.fuse (K.state self.old.inner))
+            (K.state self.old.inner) (Spawns (K.state self.old.inner) group) result (K.state self.new.inner) }
     {
         self.burn()?;
         self.inner.spawn(group)
     }
 
     fn end_group(&mut self, group: Group) -> Result<(), KernelFault>
-        ensures case { EndsGroup (fused self.old.fuse (K.state self.old.inner)) group result (fused self.new.fuse (K.state self.new.inner)) }
-        ensures fuse { FollowsTheCount self.old.fuse (fused self.old.fuse (K.state self.old.inner)) self.new.fuse (fused self.new.fuse (K.state self.new.inner)) }
-        ensures inner { FailsAtTheNth Failed self.old.fuse (fused self.old.fuse (K.state self.old.inner)) (K.state self.old.inner) (EndsGroup (K.state self.old.inner) group) result (K.state self.new.inner) }
+        ensures case { EndsGroup (fused self.old.fuse (K.state self.old.inner)) group result
+            (fused self.new.fuse (K.state self.new.inner)) }
+        ensures fuse { FollowsTheCount self.old.fuse (fused self.old.fuse (K.state self.old.inner)) self.new.fuse
+            (fused self.new.fuse (K.state self.new.inner)) }
+        ensures inner { FailsAtTheNth Failed self.old.fuse (fused self.old.fuse (K.state self.old.inner)) (K.state self.old.inner)
+            (EndsGroup (K.state self.old.inner) group) result (K.state self.new.inner) }
     {
         self.burn()?;
         self.inner.end_group(group)
@@ -171,7 +189,8 @@ impl<K: Kernel> Kernel for FusedKernel<K> {
 
     fn fork(&mut self, parent: u32) -> Result<u32, OrMemory<KernelFault>>
         ensures case { Forks (fused self.old.fuse (K.state self.old.inner)) parent result (fused self.new.fuse (K.state self.new.inner)) }
-        ensures fuse { FollowsTheCount self.old.fuse (fused self.old.fuse (K.state self.old.inner)) self.new.fuse (fused self.new.fuse (K.state self.new.inner)) }
+        ensures fuse { FollowsTheCount self.old.fuse (fused self.old.fuse (K.state self.old.inner)) self.new.fuse
+            (fused self.new.fuse (K.state self.new.inner)) }
         ensures unburnt { self.new.fuse ≡ self.old.fuse }
         ensures inner { Forks (K.state self.old.inner) parent result (K.state self.new.inner) }
     {
@@ -180,7 +199,8 @@ impl<K: Kernel> Kernel for FusedKernel<K> {
 
     fn exit(&mut self, pid: u32) -> Result<(), KernelFault>
         ensures case { Exits (fused self.old.fuse (K.state self.old.inner)) pid result (fused self.new.fuse (K.state self.new.inner)) }
-        ensures fuse { FollowsTheCount self.old.fuse (fused self.old.fuse (K.state self.old.inner)) self.new.fuse (fused self.new.fuse (K.state self.new.inner)) }
+        ensures fuse { FollowsTheCount self.old.fuse (fused self.old.fuse (K.state self.old.inner)) self.new.fuse
+            (fused self.new.fuse (K.state self.new.inner)) }
         ensures unburnt { self.new.fuse ≡ self.old.fuse }
         ensures inner { Exits (K.state self.old.inner) pid result (K.state self.new.inner) }
     {
@@ -188,8 +208,10 @@ impl<K: Kernel> Kernel for FusedKernel<K> {
     }
 
     fn offline(&mut self, cpu: u32) -> Result<(), KernelFault>
-        ensures case { GoesOffline (fused self.old.fuse (K.state self.old.inner)) cpu result (fused self.new.fuse (K.state self.new.inner)) }
-        ensures fuse { FollowsTheCount self.old.fuse (fused self.old.fuse (K.state self.old.inner)) self.new.fuse (fused self.new.fuse (K.state self.new.inner)) }
+        ensures case { GoesOffline (fused self.old.fuse (K.state self.old.inner)) cpu result
+            (fused self.new.fuse (K.state self.new.inner)) }
+        ensures fuse { FollowsTheCount self.old.fuse (fused self.old.fuse (K.state self.old.inner)) self.new.fuse
+            (fused self.new.fuse (K.state self.new.inner)) }
         ensures unburnt { self.new.fuse ≡ self.old.fuse }
         ensures inner { GoesOffline (K.state self.old.inner) cpu result (K.state self.new.inner) }
     {
@@ -197,8 +219,10 @@ impl<K: Kernel> Kernel for FusedKernel<K> {
     }
 
     fn online_cpu(&mut self, cpu: u32) -> Result<(), KernelFault>
-        ensures case { ComesOnline (fused self.old.fuse (K.state self.old.inner)) cpu result (fused self.new.fuse (K.state self.new.inner)) }
-        ensures fuse { FollowsTheCount self.old.fuse (fused self.old.fuse (K.state self.old.inner)) self.new.fuse (fused self.new.fuse (K.state self.new.inner)) }
+        ensures case { ComesOnline (fused self.old.fuse (K.state self.old.inner)) cpu result
+            (fused self.new.fuse (K.state self.new.inner)) }
+        ensures fuse { FollowsTheCount self.old.fuse (fused self.old.fuse (K.state self.old.inner)) self.new.fuse
+            (fused self.new.fuse (K.state self.new.inner)) }
         ensures unburnt { self.new.fuse ≡ self.old.fuse }
         ensures inner { ComesOnline (K.state self.old.inner) cpu result (K.state self.new.inner) }
     {

@@ -1,7 +1,9 @@
 //! What the calls of a modelled kernel keep, and when they are refused: laws over the definitions alone. Nothing here runs.
 ghost use Rattle.std.specs.Prelude.{◌≡◌};
 ghost use Rattle.kernel_model.specs.Fuse.{FusesCountWrites};
-ghost use Rattle.kernel_model.specs.Laws.{EventsKeepGroups, WritesKeepProcesses, WritesKeepTree, WritesLeaveGroups, CallsLeaveProcesses, WritesCount, CountsEachWrite, CallsAreFree, RefusalsHaveCauses, EachCaseKeeps, StepsKeep, RunsKeep, EmptyWhereNoGroup, FirstIsWellFormed};
+ghost use Rattle.kernel_model.specs.Laws.{EventsKeepGroups, WritesKeepProcesses, WritesKeepTree, WritesLeaveGroups};
+ghost use Rattle.kernel_model.specs.Laws.{CallsLeaveProcesses, WritesCount, CountsEachWrite, CallsAreFree, RefusalsHaveCauses};
+ghost use Rattle.kernel_model.specs.Laws.{EachCaseKeeps, StepsKeep, RunsKeep, EmptyWhereNoGroup, FirstIsWellFormed};
 ghost use Rattle.kernel_model.specs.Names.{FirstHasOwnNames, StepsKeepNames, RunsKeepNames};
 
 use crate::LAST_PID;

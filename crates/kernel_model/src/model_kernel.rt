@@ -88,7 +88,8 @@ impl ModelKernel {
     /// # Errors
     /// In this order: `NoGroup`, `Exists`, `NoSerials`.
     pub fn makable(&self, parent: Group, name: &str) -> Result<(), KernelFault>
-        ensures { MatchResult result (λ _. make_refusal self.now parent name.now ≡ None) (λ fault. make_refusal self.now parent name.now ≡ Some fault) }
+        ensures { MatchResult result (λ _. make_refusal self.now parent name.now ≡ None)
+            (λ fault. make_refusal self.now parent name.now ≡ Some fault) }
     {
         Ok(self.tree.makable(parent, name)?)
     }

@@ -1,4 +1,4 @@
-//! Laws over the definitions alone: nothing here runs.
+//! Cores and whole sets, and which texts are read: laws over the definitions alone. Nothing here runs.
 ghost use Rattle.std.specs.Prelude.{◌≡◌};
 ghost use Rattle.machine.specs.CoreCounts.{CoresAreAlike, WholeIsCounted, AllAreWhole, CpusAreCores, CoresAreCpus};
 ghost use Rattle.machine.specs.CoreSums.{CoresWeighAlike, CoresAreNear};

@@ -89,14 +89,14 @@ impl Machine {
     /// counts as absent, of one that is given twice the last counts, and all others are ignored.
     ///
     /// # Errors
-    /// Lack of memory, or the first fault in this order. [`MachineFault::NotJson`]; of `nodes` `BadField` and `NodeCount`,
+    /// An allocation failure, or the first fault in this order. [`MachineFault::NotJson`]; of `nodes` `BadField` and `NodeCount`,
     /// and node by node `BadField` and `CpuTwice`; `BothDistances` and `NoDistances`; of a SLIT
     /// `WrongSize`; of `distances` `BadField` where it or a row is no array, `WrongSize`, and entry by
     /// entry in rows `BadField` and `BadDistance`; of `reserved` `BadField` and `BadReserved`; of
     /// `offline` `BadField` and `BadOffline`; of `cores` `BadField`, core by core `BadCore`, and `NoCore`.
     ///
-    /// Before memory is asked for, it is known whether there are too many bytes or none, and whether they
-    /// are UTF-8. Once the JSON value is there, no memory is asked for where it has a fault.
+    /// Before the first allocation it is known whether there are too many bytes or none, and whether they
+    /// are UTF-8. Once the JSON value is there, it allocates nothing where that has a fault.
     #[tactic(auto, unfolding(crate::specs::MachineOf::machine_of))]
     pub fn read(
         alloc: Global,

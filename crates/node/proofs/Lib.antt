@@ -22,6 +22,7 @@ pub mod EntryCount
 pub mod DecidingLemmas
 pub mod BestLemmas
 pub mod NeedLemmas
+pub mod OpeningLemmas
 pub mod HeadlineLemmas
 pub mod ProvedLemmas
 pub mod RebalanceLemmas

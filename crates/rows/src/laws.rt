@@ -1,4 +1,4 @@
-//! Laws over the definitions alone: nothing here runs.
+//! What cores weigh in the rows of containers: laws over the definitions alone. Nothing here runs.
 ghost use Rattle.rows.specs.Scaled.{ScaledRowsWeigh, ScaledRowsFit, PartsRise, PartsAreScaled, DistancesStay, MovesAreUnheld};
 ghost use Rattle.rows.specs.Weighs.{RowsWeigh};
 

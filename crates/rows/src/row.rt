@@ -22,7 +22,7 @@ use std::alloc::{AllocError, Global};
 /// are taken from there, and new ones are added. O(c + n * h) of c cached offers, n nodes and h homes.
 ///
 /// # Errors
-/// Lack of memory.
+/// An allocation failure.
 pub fn scaled_row_of(
     alloc: Global,
     machine: &Machine,

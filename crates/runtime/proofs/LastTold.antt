@@ -1,6 +1,8 @@
 -- The outcome that was told last stays what the node keeps.
-use Rattle.std.proofs.Common.{◌≡◌, ◌⊎◌, ℕ, zero, suc, true, List, [], ◌∷◌, Option, Some, None, Result, Ok, Err, inl, inr, refl, sym, ap, ap₂, subst, ◌∙◌, arith}
+use Rattle.std.proofs.Common.{◌≡◌, ◌⊎◌, ℕ, zero, suc, ◌*◌, ◌/◌, ◌<◌, ◌≤◌, true, List, [], ◌∷◌, Option, Some, None, Result, Ok, Err, inl, inr, refl, sym, ap, ap₂, subst, ◌∙◌, arith}
+use Rattle.std.proofs.Math.Nat.{mul-div_cancel}
 use Rattle.std.proofs.lemmas.Option.{none-some, same_Some}
+use Rattle.std.specs.FinSet as set
 use Rattle.faults.specs.declared.or_memory.OrMemory.{OrMemory}
 use Rattle.faults.specs.declared.or_memory.OrMemory.TheVariants.{Memory, Fault}
 use Rattle.cpu_set.specs.Ids.{Ids}
@@ -20,7 +22,9 @@ use Rattle.node.specs.declared.outcome.Outcome.{Outcome}
 use Rattle.node.specs.declared.outcome.Outcome.TheVariants.{Plan, Short}
 use Rattle.node.specs.IsNode.{IsNode}
 use Rattle.node.specs.NodeState.{NodeState}
-use Rattle.node.specs.Rows.{planned, lacking}
+use Rattle.node.specs.Best.{moved}
+use Rattle.node.specs.Headline.{effective_sets}
+use Rattle.node.specs.Rows.{as_cpus, planned, lacking}
 use Rattle.node.specs.Updates.{Updates}
 use Rattle.node.specs.Calls.{Places, Starts, Kills, Deletes}
 use Rattle.node.specs.Rebalance.{Begins, StepsOn, Rebalances, ShowsCertificate}
@@ -49,6 +53,26 @@ of_parts whole total moves parts =
     let far : distance_of whole ≡ total = omega (arith, parts.moves_fit, parts.whole) in
     let few : moves_of whole ≡ moves = omega (arith, parts.moves_fit, parts.whole) in
     ap₂ proves.Moves far few
+
+-- so many CPUs are so many cores
+by_core : (old : NodeState) → IsNode old → (cpus cores : ℕ) → cpus ≡ cores * old.machine.threads → cpus / old.machine.threads ≡ cores
+by_core old node cpus cores is =
+    let some : 1 ≤ old.machine.threads = node.layout.sound.cores.some in
+    let positive : 0 < old.machine.threads = omega (arith, some) in
+    ap (λ n. n / old.machine.threads) is ∙ mul-div_cancel cores positive
+
+total_told : (old new : NodeState) (total : ℕ) → IsNode old → (c : Certificate)
+    → (distance : ℕ) × (total ≡ distance * old.machine.threads) × IsVerdict (text_of c) (proves.Moves distance (moved old (effective_sets new.kernel new.containers)))
+    → IsVerdict (text_of c) (proves.Moves (total / old.machine.threads) (moved old (effective_sets new.kernel new.containers)))
+total_told old new total node c (distance, is, proved) =
+    subst (λ d. IsVerdict (text_of c) (proves.Moves d (moved old (effective_sets new.kernel new.containers)))) (sym (by_core old node total distance is)) proved
+
+short_told : (old new : NodeState) (wanted : ℕ) (allowed : Ids) → IsNode old → (c : Certificate)
+    → (cores : ℕ) × (there : ℕ) × (wanted ≡ cores * old.machine.threads) × (set.len allowed ≡ there * old.machine.threads) × IsVerdict (text_of c) (proves.Short cores there)
+    → IsVerdict (text_of c) (proves.Short (wanted / old.machine.threads) (set.len allowed / old.machine.threads))
+short_told old new wanted allowed node c (cores, there, asks, has, proved) =
+    subst (λ n. IsVerdict (text_of c) (proves.Short n (set.len allowed / old.machine.threads))) (sym (by_core old node wanted cores asks))
+    (subst (λ n. IsVerdict (text_of c) (proves.Short cores n)) (sym (by_core old node (set.len allowed) there has)) proved)
 
 place_last : (cpus : Ids) (old new : NodeState) (id bundle config : List ℕ) (r : Result ℕ (OrMemory NodeFault)) → Places cpus old id bundle config r new → new.last ≡ old.last
 place_last cpus old new id bundle config (Ok pid) c = ap (λ (n : NodeState). n.last) c.is
@@ -88,13 +112,15 @@ module _ (keep : RunsKeep) (leaves : RunsRebalance) (last_proved : LastIsProved)
   begin_told : (told : Option Verdict) (old new : NodeState) (r : Result Outcome (OrMemory NodeFault)) → IsNode old → IsNode new → (s : Begins old r new) → IsLastTold told old
       → IsLastTold (told_with told old (Begin r) new s) new
   begin_told told old new (Ok (Plan total)) node after b h =
-      let c : Certificate = planned old b.sets b.prices b.whole in
+      let c : Certificate = planned old b.plan b.prices b.whole in
       let is : new.last ≡ Some c = ap (λ (n : NodeState). n.last) b.is in
-      now_told new _ c is (λ held. subst (λ v. IsVerdict (text_of c) v) (of_parts b.whole total _ b.parts) (last_proved new after c is held))
+      now_told new _ c is (λ held. subst (λ v. IsVerdict (text_of c) v)
+      (of_parts b.whole b.distance _ b.parts ∙ ap (λ d. proves.Moves d (moved old (as_cpus old.machine b.plan))) (sym (by_core old node total b.distance b.counts)))
+      (last_proved new after c is held))
   begin_told told old new (Ok (Short wanted allowed)) node after l h =
       let c : Certificate = lacking old l.members in
       let is : new.last ≡ Some c = ap (λ (n : NodeState). n.last) l.is in
-      now_told new _ c is (short_proved old new wanted allowed after l c is)
+      now_told new _ c is (λ held. short_told old new wanted allowed node c (short_proved old new wanted allowed after l c is held))
   begin_told told old new (Err Memory) node after b h = still_told told old new (ap (λ (n : NodeState). n.last) b.1) h
   begin_told told old new (Err (Fault Busy)) node after b h = still_told told old new (ap (λ (n : NodeState). n.last) b.1) h
   begin_told told old new (Err (Fault fault)) node after b h = absurd b
@@ -103,11 +129,11 @@ module _ (keep : RunsKeep) (leaves : RunsRebalance) (last_proved : LastIsProved)
       → IsLastTold (told_with told old (Rebalance r) new s) new
   rebalance_told told old new (Ok (Plan total)) node after m h =
       let b = leaves old [] old (Ok (Plan total)) new node refl m in
-      now_told new _ _ b.told.is (total_proved old new total after b _ b.told.is)
+      now_told new _ _ b.told.is (λ held. total_told old new total node _ (total_proved old new total after b _ b.told.is held))
   rebalance_told told old new (Ok (Short wanted allowed)) node after l h =
       let c : Certificate = lacking old l.members in
       let is : new.last ≡ Some c = ap (λ (n : NodeState). n.last) l.is in
-      now_told new _ c is (short_proved old new wanted allowed after l c is)
+      now_told new _ c is (λ held. short_told old new wanted allowed node c (short_proved old new wanted allowed after l c is held))
   rebalance_told told old new (Err Memory) node after b h = still_told told old new (ap (λ (n : NodeState). n.last) b.1) h
   rebalance_told told old new (Err (Fault (Kernel fault))) node after m h = nothing_told new
   rebalance_told told old new (Err (Fault Busy)) node after b h = still_told told old new (ap (λ (n : NodeState). n.last) b.1) h

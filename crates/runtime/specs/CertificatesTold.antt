@@ -1,5 +1,5 @@
 -- What the certificate proves that a script prints.
-use Rattle.std.specs.Prelude.{◌≡◌, ℕ, List, [], ◌∷◌, Option, Some, None, Ok, Err}
+use Rattle.std.specs.Prelude.{◌≡◌, ◌/◌, ℕ, List, [], ◌∷◌, Option, Some, None, Ok, Err}
 use Rattle.std.specs.FinSet as set
 use Rattle.faults.specs.declared.or_memory.OrMemory.TheVariants.{Fault}
 use Rattle.certificate.specs.declared.certificates.Certificate.{Certificate}
@@ -14,21 +14,22 @@ use Rattle.node.specs.Headline.{effective_sets}
 use Rattle.node.specs.IsNode.{IsNode}
 use Rattle.node.specs.Machine.{Event, Rebalance, Begin, Step, Run}
 use Rattle.node.specs.NodeState.{NodeState}
+use Rattle.node.specs.Rows.{as_cpus}
 use Rattle.script.specs.Commands as ask
 use Rattle.script.specs.Runs.{Runs}
 use Rattle.runtime.specs.Answered.{Answered}
 use Rattle.runtime.specs.RuntimeState.{RuntimeState}
 use Rattle.runtime.specs.ScriptLaws.{AreCalls}
 
--- the verdict on what was told last, with one call or event more: of a plan the total, and how many CPUs move from what was
--- requested before to the sets that are then in effect, or that a `begin` is to bring about; of a shortage how many CPUs are
+-- the verdict on what was told last, with one call or event more, by cores: of a plan the total, and how many cores move from
+-- what was requested before to the sets that are then in effect, or that a `begin` is to bring about; of a shortage how many are
 -- asked for and how many are allowed; a rebalance whose write failed has worked out another and told none
 abbrev pub told_with : Option Verdict → (old : NodeState) (event : Event) (new : NodeState) → Step old event new → Option Verdict
-told_with told old (Rebalance (Ok (Plan total))) new step = Some (proves.Moves total (moved old (effective_sets new.kernel new.containers)))
-told_with told old (Rebalance (Ok (Short wanted allowed))) new step = Some (proves.Short wanted (set.len allowed))
+told_with told old (Rebalance (Ok (Plan total))) new step = Some (proves.Moves (total / old.machine.threads) (moved old (effective_sets new.kernel new.containers)))
+told_with told old (Rebalance (Ok (Short wanted allowed))) new step = Some (proves.Short (wanted / old.machine.threads) (set.len allowed / old.machine.threads))
 told_with told old (Rebalance (Err (Fault (Kernel fault)))) new step = None
-told_with told old (Begin (Ok (Plan total))) new step = Some (proves.Moves total (moved old step.sets))
-told_with told old (Begin (Ok (Short wanted allowed))) new step = Some (proves.Short wanted (set.len allowed))
+told_with told old (Begin (Ok (Plan total))) new step = Some (proves.Moves (total / old.machine.threads) (moved old (as_cpus old.machine step.plan)))
+told_with told old (Begin (Ok (Short wanted allowed))) new step = Some (proves.Short (wanted / old.machine.threads) (set.len allowed / old.machine.threads))
 told_with told old event new step = told
 
 -- and with many

@@ -1,4 +1,6 @@
 //! Calls of a kernel, a line each.
+ghost use Rattle.std.specs.Prelude.{IfOk};
+ghost use Rattle.cgroup_tree.specs.Events.{IsAlone};
 
 use anyhow::{Context, Result, bail};
 use cpu_set::{CPU_LIMIT, IdSet};
@@ -18,7 +20,10 @@ pub fn over_new<R: AllocGlobal + Print>(rt: &R, words: &[String], text: &[u8]) -
     each(rt, &mut kernel, calls)
 }
 
-fn new_kernel(alloc: Global, line: &str) -> Result<ModelKernel> {
+/// The kernel of such a line; it has the root group alone.
+pub fn new_kernel(alloc: Global, line: &str) -> Result<ModelKernel>
+    ensures { IfOk result (λ k. IsAlone k.tree) }
+{
     let words: Vec<&str> = line.split(' ').collect(alloc)?;
     let [present, reserved, online, nodes, pid] = words.as_slice() else {
         bail!("{line} is no kernel");
@@ -56,6 +61,21 @@ pub fn each<R: AllocGlobal + Print, K: Kernel>(rt: &R, kernel: &mut K, calls: &s
         waiting.push(call)?;
     }
     make(rt, kernel, waiting.as_slice(), &mut seen)
+}
+
+/// Makes each call, and prints what it answers before the next is made. A group is named by its serial.
+pub fn one_by_one<R: AllocGlobal + Print, K: Kernel>(
+    rt: &R,
+    kernel: &mut K,
+    lines: &str,
+) -> Result<()> {
+    let mut seen = Vec::new(rt.alloc());
+    seen.push(kernel.root())?;
+    for line in lines.lines() {
+        let call = call_in(rt.alloc(), seen.as_slice(), line)?;
+        make(rt, kernel, &[call], &mut seen)?;
+    }
+    Ok(())
 }
 
 /// Makes the calls, one after another, and prints what each answers.
@@ -182,7 +202,7 @@ fn group_of(seen: &[Group], serial: u64) -> Result<Group> {
 }
 
 /// The set of a list; `-` is the empty one.
-fn ids(text: &str) -> Result<IdSet> {
+pub fn ids(text: &str) -> Result<IdSet> {
     let list = if text == "-" { "" } else { text };
     match cpu_list::read(list.as_bytes(), CPU_LIMIT) {
         Ok(set) => Ok(set),

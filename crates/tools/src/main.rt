@@ -8,6 +8,7 @@
 //! - `tools twins`: which rows of certificates have the same offers, and the classes of their CPUs; `tools solve`: what
 //!   comes of them.
 //! - `tools kernel FAIL`: what a modelled kernel answers to calls.
+//! - `tools mirror FAIL MEMORY`: the same, and what is asked of files that fail, where a kernel's writes are made in them first.
 //! - `tools run FAIL MOST READ WIDTH WRITES WRITE MACHINE BUNDLE..`: a script over a kernel and streams that fail.
 //!
 //! Else it is the name of a benchmark, and the second word how often its work is done: what is printed is a sum over all
@@ -22,6 +23,7 @@ mod hand_over;
 mod kernel;
 mod lent;
 mod lists;
+mod mirror;
 mod pieces;
 mod problems;
 mod runs;
@@ -34,7 +36,7 @@ use std::env;
 use std::io::Read;
 
 const WORDS: &str =
-    "tools ask, list, write, twins, solve, kernel or run, or the name of a benchmark and a count";
+    "tools ask, list, write, twins, solve, kernel, mirror or run, or the name of a benchmark and a count";
 
 fn main(rt: HostRuntime) -> Result<()> {
     let words: Vec<String> = env::args(&rt)?.skip(1).collect(rt.alloc())?;
@@ -45,6 +47,7 @@ fn main(rt: HostRuntime) -> Result<()> {
         "write" => writes::each_fault(&rt, words, &input(&rt)?),
         "twins" => alike::each(&rt, &input(&rt)?),
         "kernel" => calls::over_new(&rt, words, &input(&rt)?),
+        "mirror" => mirror::over_files(&rt, words, &input(&rt)?),
         "run" => runs::over_files(&rt, words, &input(&rt)?),
         "solve" if words.is_empty() => solving::each(&rt, &input(&rt)?),
         name => {

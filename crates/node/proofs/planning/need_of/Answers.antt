@@ -1,8 +1,9 @@
-use Rattle.std.proofs.Common.{◌≡◌, ℕ, length, refl, sym, ◌∙◌}
+use Rattle.std.proofs.Common.{◌≡◌, ℕ, ◌*◌, ◌<◌, ◌^◌, length, refl, sym, ap, ◌∙◌, arith}
 use Rattle.std.specs.FinSet as set
 use Rattle.certificate.specs.IsShortage.{asked, chosen, offered, is_offered}
 use Rattle.certificate.specs.IsShown.{IsShown}
 use Rattle.node.proofs.AskingLemmas.{offered_len}
+use Rattle.node.proofs.NeedLemmas.{asked_small}
 use Rattle.node.proofs.planning.need_of.Goals as goal
 
 pub unreachable-requires : goal.unreachable-requires
@@ -14,14 +15,22 @@ unreachable-requires c =
 pub prove-unreachable-requires : goal.prove-unreachable-requires
 prove-unreachable-requires c =
     let rows : c.as_slice.result.now ≡ c.args.problem.now = c.as_slice.ensures.value ∙ c.problem.view_is in
-    let has : (cpu : ℕ) → set.contains c.offered_to-allowed.result cpu ≡ is_offered (chosen c.args.problem.now c.args.members.now) cpu = rw (← rows) c.offered_to-allowed.ensures in
-    c.if-prove.true (c.count-count.ensures.is_len ∙ offered_len c.offered_to-allowed.result (chosen c.args.problem.now c.args.members.now) c.count-count.ensures.in_range has ∙ c.in-Ok.ensures.shown.has)
+    let has : (core : ℕ) → set.contains c.offered_to-cores.result core ≡ is_offered (chosen c.args.problem.now c.args.members.now) core = rw (← rows) c.offered_to-cores.ensures in
+    c.if-prove.true (c.count-count.ensures.is_len ∙ offered_len c.offered_to-cores.result (chosen c.args.problem.now c.args.members.now) c.count-count.ensures.in_range has ∙ c.in-Ok.ensures.shown.has)
+
+pub in_cpus-requires-clause-cores : goal.in_cpus-requires-clause-cores
+in_cpus-requires-clause-cores c =
+    let small : asked (chosen c.args.problem.now c.args.members.now) < 2 ^ 48 = asked_small c.args.problem.now c.args.members.now c.requires.fit c.requires.short in
+    omega (arith, small, c.in-Ok.ensures.shown.asks)
 
 pub returns : goal.returns
 returns c =
     let rows : c.as_slice.result.now ≡ c.args.problem.now = c.as_slice.ensures.value ∙ c.problem.view_is in
     record {
-      asks = sym c.in-Ok.ensures.shown.asks;
-      has = rw (← rows) c.offered_to-allowed.ensures;
+      cores = c.offered_to-cores.result;
+      asks = c.in_cpus.ensures ∙ ap (λ n. n * c.threads.result) (sym c.in-Ok.ensures.shown.asks)
+          ∙ ap (λ t. asked (chosen c.args.problem.now c.args.members.now) * t) c.threads.ensures.is;
+      has = rw (← rows) c.offered_to-cores.ensures;
       in_range = c.count-count.ensures.in_range;
+      is = c.cpus_of_cores.ensures.is;
     }

@@ -1,9 +1,9 @@
-use Rattle.std.proofs.Common.{◌≡◌, ℕ, ◌+◌, List, ◌∷◌, sym, ap, ◌∙◌, refl, subst, arith}
+use Rattle.std.proofs.Common.{◌≡◌, ℕ, ◌+◌, List, ◌∷◌, sym, ap, ◌∙◌, refl, subst}
 use Rattle.std.specs.Prelude.{Some, None, is_some, string_bytes}
 use Rattle.slab.specs.Slab.{Slab, get, Updates}
 use Rattle.cpuset_tree.specs.declared.groups.Group.{Group}
 use Rattle.cpuset_tree.specs.declared.groups.Cgroup.{Cgroup}
-use Rattle.cpuset_tree.specs.TreeState.{GroupEntry, TreeState}
+use Rattle.cpuset_tree.specs.TreeState.{TreeState}
 use Rattle.cpuset_tree.specs.Groups.{has_group}
 use Rattle.cpuset_tree.specs.TreeChanges.{new_entry}
 use Rattle.cpuset_tree.specs.TreeAnswers.{AddsGroup}

@@ -1,7 +1,6 @@
 use Rattle.std.proofs.Common.{◌≡◌, ℕ, ◌+◌, List, [], ◌∷◌, true, false, sym, ap, ◌∙◌, refl, subst, eq-eqb, arith}
 use Rattle.std.proofs.lemmas.Bool.{or_left, cases_eq, both_ways}
 use Rattle.std.proofs.Common.{⊎_elim}
-use Rattle.std.proofs.lemmas.Option.{same_Some}
 use Rattle.std.specs.Prelude.{Option, Some, None, is_some, ◌==◌, slice_index_or}
 use Rattle.slab.specs.Slab.{Slab, get, Updates}
 use Rattle.cpuset_tree.specs.declared.groups.Group.{Group}
