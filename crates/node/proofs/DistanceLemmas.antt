@@ -1,5 +1,5 @@
 -- The sets that the live pinned containers could have, as plans of cores of rows that are theirs, and what they cost in these.
-use Rattle.std.proofs.Common.{◌≡◌, ℕ, suc, ◌+◌, ◌*◌, ◌/◌, ◌<◌, ◌≤◌, true, false, Bool, cond, List, [], ◌∷◌, Some, None, is_some, refl, sym, ap, ◌∙◌, subst, sum_by, arith}
+use Rattle.std.proofs.Common.{◌≡◌, ℕ, suc, ◌*◌, ◌/◌, ◌<◌, ◌≤◌, true, false, Bool, cond, List, [], ◌∷◌, Some, None, is_some, refl, sym, ap, ◌∙◌, sum_by, arith}
 use Rattle.std.proofs.Math.Nat.{mul-div_cancel}
 use Rattle.std.proofs.lemmas.Bool.{cond-true, and_from, and_parts}
 use Rattle.std.proofs.lemmas.List.Elements.{All-from_recursion, recursion_from_All, filter_passes}
@@ -12,7 +12,7 @@ use Rattle.cpu_set.specs.Ids.{Ids, IsDisjoint}
 use Rattle.cpu_set.specs.Members.{InRange, cpus, members}
 use Rattle.cpu_set.specs.Pointwise.{contains-intersection, is_subset-contains, contains-is_subset}
 use Rattle.kernel_model.specs.KernelState.{KernelState}
-use Rattle.machine.specs.Cores.{core_of, cores_in, cpus_of_cores, whole_in, IsWhole}
+use Rattle.machine.specs.Cores.{cores_in, cpus_of_cores, IsWhole}
 use Rattle.machine.specs.CoreCounts.{cores_are_alike, cores_in_range, len-whole_in, single_cpus_of_cores}
 use Rattle.machine.specs.CoreSums.{cores_weigh_alike, cores_are_near}
 use Rattle.machine.specs.Layout.{Layout}
@@ -23,7 +23,7 @@ use Rattle.certificate.specs.RowView.{RowView}
 use Rattle.certificate.specs.Weight.{weight}
 use Rattle.certificate.specs.IsPlan.{Meets, IsPlan}
 use Rattle.certificate.specs.Cost.{row_cost, cost}
-use Rattle.rows.specs.RowOf.{available, offered}
+use Rattle.rows.specs.RowOf.{available}
 use Rattle.apply_plan.specs.Holders.{Pairwise}
 use Rattle.node.specs.NodeState.{ContainerState, NodeState}
 use Rattle.node.specs.IsNode.{IsMachine, IsNode}

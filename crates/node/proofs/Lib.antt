@@ -25,6 +25,7 @@ pub mod NeedLemmas
 pub mod OpeningLemmas
 pub mod HeadlineLemmas
 pub mod ProvedLemmas
+pub mod WithoutLemmas
 pub mod RebalanceLemmas
 pub mod MachineLemmas
 pub mod SaidLemmas

@@ -1,6 +1,6 @@
 -- What is asked for and told of cores fits the numbers of CPUs.
-use Rattle.std.proofs.Common.{◌≡◌, ℕ, zero, suc, ◌+◌, ◌*◌, ◌^◌, ◌<◌, ◌≤◌, Bool, true, false, cond, ◌&&◌, List, [], ◌∷◌, length, filter, get_or, inl, inr, Option, Some, None, refl, sym, ap, ◌∙◌, subst, sum_by, arith}
-use Rattle.std.proofs.lemmas.Bool.{cases_lt, and_parts, leb-true, false≢true}
+use Rattle.std.proofs.Common.{◌≡◌, ℕ, zero, suc, ◌*◌, ◌^◌, ◌<◌, ◌≤◌, Bool, true, false, cond, List, [], ◌∷◌, length, filter, get_or, inl, inr, Some, refl, subst, arith}
+use Rattle.std.proofs.lemmas.Bool.{cases_lt, and_parts, leb-true}
 use Rattle.std.proofs.lemmas.List.Sums.{sum_by-cons}
 use Rattle.std.proofs.Math.Numerals.{add-one}
 use Rattle.std.proofs.lemmas.Nat.{mul-le}
@@ -21,12 +21,10 @@ use Rattle.certificate.specs.RowView.{RowView}
 use Rattle.certificate.specs.declared.limits.TheConstants.{MAX_DEMAND, MAX_ROWS}
 use Rattle.machine.specs.Cores.{core_of, cpus_of_core}
 use Rattle.machine.specs.CoreCounts.{core_in_range}
-use Rattle.machine.specs.Layout.{Layout}
 use Rattle.machine.specs.Present.{IsPresent}
 use Rattle.node.specs.NodeState.{NodeState}
-use Rattle.node.specs.IsNode.{IsMachine, IsNode}
+use Rattle.node.specs.IsNode.{IsNode}
 use Rattle.node.proofs.AskingLemmas.{all_given, fewer_given}
-use Rattle.node.proofs.DistanceLemmas.{online_there}
 use Rattle.node.proofs.ListLemmas.{all_of}
 
 -- a set has at most as many members as there may be

@@ -1,6 +1,5 @@
 -- From the cores of a plan to the sets that the hand-over gives.
-use Rattle.std.proofs.Common.{◌≡◌, ℕ, List, refl, sym, ap, ◌∙◌, subst}
-use Rattle.std.specs.List.{AllZip}
+use Rattle.std.proofs.Common.{◌≡◌, List, sym, subst}
 use Rattle.cpu_set.specs.Ids.{Ids}
 use Rattle.certificate.specs.IsPlan.{IsPlan}
 use Rattle.rows.specs.Weighs.{RowsWeigh}

@@ -1,7 +1,6 @@
 -- What a container has in effect is what its config asks for.
-use Rattle.std.proofs.Common.{◌≡◌, ℕ, Bool, true, false, not, ◌||◌, List, [], ◌∷◌, Option, Some, None, refl, sym, ap, ◌∙◌, subst}
+use Rattle.std.proofs.Common.{◌≡◌, ℕ, Bool, true, false, not, ◌||◌, List, Option, Some, None, refl, sym, ap, ◌∙◌, subst}
 use Rattle.std.specs.Prelude.{is_some, if◌then◌else◌, Ok}
-use Rattle.std.specs.List.{AllByRecursion}
 use Rattle.std.specs.FinSet as set
 use Rattle.cpu_set.specs.Ids.{Ids, is_empty}
 use Rattle.kernel_model.specs.KernelState.{KernelState}
@@ -20,7 +19,7 @@ use Rattle.demand.specs.Allowed.{allowed_of}
 use Rattle.demand.specs.DemandFaultOf.{is_pinned}
 use Rattle.demand.specs.IsDemand.{IsKind, IsDemand}
 use Rattle.node.specs.declared.outcome.Outcome.TheVariants.{Plan}
-use Rattle.node.specs.NodeState.{ContainerState, NodeState}
+use Rattle.node.specs.NodeState.{ContainerState}
 use Rattle.node.specs.Headline.{effective, HasItsCpus, IsServed, IsRebalanced}
 use Rattle.node.specs.Machine.{Event}
 use Rattle.node.specs.Said.{IsSaid}

@@ -22,6 +22,7 @@ pub mod Rebalance
 pub mod Headline
 pub mod Written
 pub mod Asking
+pub mod WithoutCores
 pub mod Proved
 pub mod Machine
 pub mod Said

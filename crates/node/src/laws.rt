@@ -7,6 +7,7 @@ ghost use Rattle.node.specs.Making.{PlacesAreCalls, PlacesFailLate, PlacesStaySa
 ghost use Rattle.node.specs.Proved.{LastIsProved, TotalIsProved, ShortIsProved};
 ghost use Rattle.node.specs.Said.{ContainersAreSaid};
 ghost use Rattle.node.specs.Served.{RunsServeConfigs};
+ghost use Rattle.node.specs.WithoutCores.{WithoutCores};
 ghost use Rattle.node.specs.UnusedLemmas.{FirstIsUnused, FirstIsOfMachine, FirstWantsMemory};
 
 use crate::{CONTAINER_LIMIT, GROUP_NAME};
@@ -76,10 +77,10 @@ pub fn each_update()
 
 /// The headline: what a rebalance leaves, after any list of calls and events; nothing runs.
 ///
-/// After a plan each live container has exactly the CPUs that it asked for, all allowed and none shared, at a total
-/// distance to the home nodes that no plan undercuts, and what the kernel has in effect is that plan; among all plans of
-/// that total none moves fewer CPUs; the pool is the online CPUs that it leaves. A shortage names containers that
-/// together ask for more CPUs than they are allowed.
+/// After a plan each live container has exactly the CPUs that it asked for, of whole cores, all allowed and none shared, at a
+/// total distance to the home nodes that no plan undercuts, and what the kernel has in effect is that plan; among all plans
+/// of that total none moves fewer cores; the pool is the online CPUs that it leaves. A shortage names containers that
+/// together ask for more CPUs than the whole cores that they may have offer.
 pub fn each_rebalance()
     ensures { RunsRebalance }
 {}
@@ -87,13 +88,13 @@ pub fn each_rebalance()
 /// What a plan gives to the container of a config, after any list of calls and events from a node of no container on; nothing
 /// runs.
 ///
-/// Where the config asks for CPUs of its own, its container has in effect as many as it asks for, all of those that it allows
-/// and online; else it has the pool, which is not empty.
+/// Where the config asks for CPUs of its own, its container has in effect as many as it asks for, of whole cores, all of those
+/// that it allows and online; else it has the pool, which is not empty.
 pub fn what_configs_get()
     ensures { RunsServeConfigs }
 {}
 
-/// Whose the rows of a node's problem are: each is a live pinned container's, in their order, and says for each CPU how far it
+/// Whose the rows of a node's problem are: each is a live pinned container's, in their order, and says for each core how far it
 /// is and whether it moves, so that a shortage of the rows is one of these containers; nothing runs.
 pub fn whose_rows()
     ensures rows { RowsAreAsking }
@@ -101,8 +102,15 @@ pub fn whose_rows()
     ensures short { ShortStands }
 {}
 
-/// The text of what a node worked out last proves its verdict to whoever checks it; after a rebalance that is the total that
-/// was answered and how many CPUs moved, or how many CPUs are asked for and how many are allowed. Nothing runs.
+/// Where each core has one CPU, as on a machine that tells no cores, cores say nothing: each set is whole, plans of cores are plans
+/// of CPUs, and what moves is CPUs. Nothing runs.
+pub fn without_cores()
+    ensures { WithoutCores }
+{}
+
+/// The text of what a node worked out last proves its verdict to whoever checks it; after a rebalance that is a distance and how
+/// many cores moved, or how many cores are asked for and how many there are, and what was answered is that for each CPU that a
+/// core has. Nothing runs.
 pub fn certificates_prove()
     ensures last { LastIsProved }
     ensures total { TotalIsProved }

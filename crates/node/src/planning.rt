@@ -118,7 +118,7 @@ impl<K: Kernel + Drop> Node<K> {
     }
 
     /// Works out a plan of the live containers of least total distance to the home nodes, which among all plans of that total
-    /// moves the fewest CPUs, and opens the hand-over to it: [`step`](Node::step) makes its writes one by one. Where there is
+    /// moves the fewest cores, and opens the hand-over to it: [`step`](Node::step) makes its writes one by one. Where there is
     /// no plan, a shortage shows why. In the kernel nothing is written.
     ///
     /// # Errors
@@ -166,9 +166,10 @@ impl<K: Kernel + Drop> Node<K> {
     }
 
     /// Works out a plan of the live containers and moves them onto it, so that each one that asks for CPUs of its own has
-    /// as many as it asks for, all allowed, online and in nobody else's set, at a total distance to the home nodes that no
-    /// plan undercuts; among all plans of that total none moves fewer CPUs; the others share the pool. Where there is no
-    /// plan, a shortage names containers that together ask for more CPUs than they are allowed, and nothing is written.
+    /// as many as it asks for, of whole cores, all allowed, online and in nobody else's set, at a total distance to the home
+    /// nodes that no plan undercuts; among all plans of that total none moves fewer cores; the others share the pool. Where
+    /// there is no plan, a shortage names containers that together ask for more CPUs than the whole cores that they may have
+    /// offer, and nothing is written.
     ///
     /// All memory is taken before the first write.
     ///

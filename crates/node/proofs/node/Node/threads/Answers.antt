@@ -1,5 +1,4 @@
-use Rattle.std.proofs.Common.{◌≤◌, arith}
-use Rattle.cpu_set.specs.declared.TheConstants.{CPU_LIMIT}
+use Rattle.std.proofs.Common.{arith}
 use Rattle.node.proofs.NeedLemmas.{threads_few}
 use Rattle.node.proofs.node.Node.threads.Goals as goal
 
