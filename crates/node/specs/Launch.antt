@@ -16,7 +16,7 @@ abbrev pub Then : {A B F : Type 0} → (Result A F → KernelState → Type 0) �
 Then {A} {B} {F} First Second r new =
     ((fault : F) × First (Err fault) new × (r ≡ Err fault)) ⊎ ((value : A) × (mid : KernelState) × First (Ok value) mid × Second value mid r new)
 
--- a call that wants no memory, among those that may
+-- a call that allocates nothing, among those that may
 abbrev pub AtOnce : {A : Type 0} → (Result A KernelFault → KernelState → Type 0) → Result A (OrMemory KernelFault) → KernelState → Type 0
 AtOnce Call (Ok value) new = Call (Ok value) new
 AtOnce Call (Err Memory) new = ⊥

@@ -31,7 +31,7 @@ FirstIsUnused = (present reserved online nodes : Ids) (first_pid : ℕ) (k : Ker
 abbrev pub FirstIsOfMachine : Type 0
 FirstIsOfMachine = (m : Layout) (online : Ids) (first_pid : ℕ) (k : KernelState) → IsFirstKernel (present m) m.reserved online (nodes_of m) first_pid k → IsOfMachine k m
 
--- where none of its writes failed, lack of memory is all that can stand against a node over it
+-- where none of its writes failed, an allocation failure is all that can stand against a node over it
 abbrev pub FirstWantsMemory : Type 0
 FirstWantsMemory =
     (present reserved online nodes : Ids) (first_pid : ℕ) (k : KernelState) (error : OrMemory KernelFault) (new : KernelState)

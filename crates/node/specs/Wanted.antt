@@ -39,7 +39,7 @@ Wants m (Ok said) (Err or.Memory) = ⊥
 Wants m (Err or.Memory) answer = answer ≡ Err or.Memory
 Wants m (Err (or.Fault fault)) answer = answer ≡ Err (or.Fault (Config fault))
 
--- the same of the bytes: lack of memory is no answer where a fault shows in them
+-- the same of the bytes: an allocation failure is no answer where a fault shows in them
 abbrev pub Reads : Layout → List ℕ → Result (Bool × Asked) (OrMemory NodeFault) → Type 0
 Reads m config (Ok wanted) = (said : Said) × (wanted.0 ≡ said.runnable) × Says m config said wanted.1 × (bytes_fault config ≡ None)
 Reads m config (Err or.Memory) = bytes_fault config ≡ None

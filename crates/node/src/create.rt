@@ -140,8 +140,8 @@ impl<K: Kernel + Drop> Node<K> {
     ///
     /// # Errors
     /// In this order: `Busy`, `BadId`, `IdInUse`, `TooManyContainers`, `Config`, `Demand`; and then of the kernel
-    /// `NoSerials`, `NoPids` or `Failed`. Before memory is asked for, it is known whether the config has too many bytes or
-    /// none, and whether they are UTF-8. Lack of memory or a refusal of the kernel leaves at most an empty group of this
+    /// `NoSerials`, `NoPids` or `Failed`. Before the first allocation it is known whether the config has too many bytes or
+    /// none, and whether they are UTF-8. An allocation failure or a refusal of the kernel leaves at most an empty group of this
     /// id, which a later `create` uses.
     pub fn create(
         &mut self,

@@ -14,7 +14,7 @@ use transport::{Answer, solve};
 /// The certificate says that weights count moves besides the distance.
 ///
 /// # Errors
-/// Lack of memory; no problem is refused.
+/// An allocation failure; no problem is refused.
 pub(crate) fn decide(alloc: Global, problem: Problem) -> Result<Certificate, AllocError>
     requires fit { IsTrue (rows_fit problem) }
     requires rows { All CanWriteRow problem }

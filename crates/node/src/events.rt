@@ -10,7 +10,7 @@ impl<K: Kernel + Drop> Node<K> {
     /// A process forks.
     ///
     /// # Errors
-    /// `NoProcess`, `NoPids`, or lack of memory.
+    /// `NoProcess`, `NoPids`, or an allocation failure.
     pub fn fork(&mut self, parent: u32) -> Result<u32, OrMemory<KernelFault>>
         ensures event { Forks self.old.kernel parent result self.new.kernel }
         ensures rest { self.new ≡ record self.old { kernel = self.new.kernel } }

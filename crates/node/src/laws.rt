@@ -1,4 +1,4 @@
-//! Laws over the definitions alone: nothing here runs.
+//! What holds over all runs of a node, the headline first of all: laws over the definitions alone. Nothing here runs.
 ghost use Rattle.std.specs.Prelude.{◌≡◌, codes};
 ghost use Rattle.node.specs.Asking.{RowsAreAsking, ScaledRowsAreAsking, ShortStands};
 ghost use Rattle.node.specs.Ending.{HandoversEnd};
@@ -13,7 +13,7 @@ ghost use Rattle.node.specs.UnusedLemmas.{FirstIsUnused, FirstIsOfMachine, First
 use crate::{CONTAINER_LIMIT, GROUP_NAME};
 
 /// Which kernels a node can be made over: those of which nothing was asked yet, and which have the machine's CPUs and nodes.
-/// Where no write of such a kernel fails, lack of memory is the only error of making a node over it.
+/// Where no write of such a kernel fails, an allocation failure is the only error of making a node over it.
 pub fn first_kernels()
     ensures unused { FirstIsUnused }
     ensures machine { FirstIsOfMachine }
@@ -22,7 +22,7 @@ pub fn first_kernels()
 
 /// What holds of a node holds of a new one, and after any list of its calls and of the kernel's events, with all their
 /// refusals. So after each of them no CPU but reserved ones is requested for a live pinned container and for another live
-/// one. Nothing runs.
+/// one.
 ///
 /// A rebalance that hands over leaves what `begin` and single steps leave, each of which makes at most one write; this holds
 /// after each of them, and so of what is left wherever a write fails. After each write of `create` and
@@ -42,7 +42,7 @@ pub fn runs()
     ensures said { ContainersAreSaid }
 {}
 
-/// How long a hand-over lasts that is stepped, whatever calls and events fall between its steps: nothing runs.
+/// How long a hand-over lasts that is stepped, whatever calls and events fall between its steps.
 ///
 /// It stays open while they return that more are to come, and it ends within two steps for each of its containers; one that
 /// has none ends with its first step.
@@ -50,7 +50,7 @@ pub fn each_handover()
     ensures { HandoversEnd }
 {}
 
-/// The kernel in the midst of `create` and of `adopt`, whatever these return: nothing runs. Both make a container on CPUs
+/// The kernel in the midst of `create` and of `adopt`, whatever these return. Both make a container on CPUs
 /// that it may request, `create` on the reserved ones.
 ///
 /// From the kernel before it to the one that it leaves there are single calls alone, and after each of them no CPU but
@@ -63,7 +63,7 @@ pub fn each_create()
     ensures late { PlacesFailLate }
 {}
 
-/// The kernel in the midst of `update`, whatever that returns: nothing runs.
+/// The kernel in the midst of `update`, whatever that returns.
 ///
 /// From the kernel before it to the one that it leaves there are single calls alone, two at most, and after each of them no CPU
 /// but reserved ones is requested for a live pinned container and for another live one, and each live one requests some.
@@ -75,7 +75,7 @@ pub fn each_update()
     ensures fails { UpdatesFail }
 {}
 
-/// The headline: what a rebalance leaves, after any list of calls and events; nothing runs.
+/// The headline: what a rebalance leaves, after any list of calls and events.
 ///
 /// After a plan each live container has exactly the CPUs that it asked for, of whole cores, all allowed and none shared, at a
 /// total distance to the home nodes that no plan undercuts, and what the kernel has in effect is that plan; among all plans
@@ -85,8 +85,7 @@ pub fn each_rebalance()
     ensures { RunsRebalance }
 {}
 
-/// What a plan gives to the container of a config, after any list of calls and events from a node of no container on; nothing
-/// runs.
+/// What a plan gives to the container of a config, after any list of calls and events from a node of no container on.
 ///
 /// Where the config asks for CPUs of its own, its container has in effect as many as it asks for, of whole cores, all of those
 /// that it allows and online; else it has the pool, which is not empty.
@@ -95,7 +94,7 @@ pub fn what_configs_get()
 {}
 
 /// Whose the rows of a node's problem are: each is a live pinned container's, in their order, and says for each core how far it
-/// is and whether it moves, so that a shortage of the rows is one of these containers; nothing runs.
+/// is and whether it moves, so that a shortage of the rows is one of these containers.
 pub fn whose_rows()
     ensures rows { RowsAreAsking }
     ensures scaled { ScaledRowsAreAsking }
@@ -103,14 +102,14 @@ pub fn whose_rows()
 {}
 
 /// Where each core has one CPU, as on a machine that tells no cores, cores say nothing: each set is whole, plans of cores are plans
-/// of CPUs, and what moves is CPUs. Nothing runs.
+/// of CPUs, and what moves is CPUs.
 pub fn without_cores()
     ensures { WithoutCores }
 {}
 
 /// The text of what a node worked out last proves its verdict to whoever checks it; after a rebalance that is a distance and how
 /// many cores moved, or how many cores are asked for and how many there are, and what was answered is that for each CPU that a
-/// core has. Nothing runs.
+/// core has.
 pub fn certificates_prove()
     ensures last { LastIsProved }
     ensures total { TotalIsProved }

@@ -122,7 +122,7 @@ impl<K: Kernel + Drop> Node<K> {
     /// no plan, a shortage shows why. In the kernel nothing is written.
     ///
     /// # Errors
-    /// `Busy`, or lack of memory; then all is as before.
+    /// `Busy`, or an allocation failure; then all is as before.
     pub fn begin(&mut self) -> Result<Outcome, OrMemory<NodeFault>>
         ensures { Begins self.old result self.new }
     {
@@ -174,7 +174,7 @@ impl<K: Kernel + Drop> Node<K> {
     /// All memory is taken before the first write.
     ///
     /// # Errors
-    /// In this order: `Busy`; lack of memory; `Failed` of the kernel: the hand-over is over, each container requests what
+    /// In this order: `Busy`; an allocation failure; `Failed` of the kernel: the hand-over is over, each container requests what
     /// it did before, or what it keeps of that, or its target, and the next call starts from there.
     pub fn rebalance(&mut self) -> Result<Outcome, OrMemory<NodeFault>>
         ensures headline { Headline self.old result self.new }

@@ -77,7 +77,7 @@ impl<K: Kernel + Drop> Node<K> {
     /// The state of a container as compact JSON: `bundle`, `id`, `ociVersion`, `pid` unless it is stopped, and `status`.
     ///
     /// # Errors
-    /// `NoContainer`, or lack of memory.
+    /// `NoContainer`, or an allocation failure.
     pub fn state(&self, id: &str) -> Result<String, OrMemory<NodeFault>>
         ensures { Shows self.now id.now result }
     {

@@ -36,7 +36,7 @@ impl<K: Kernel + Drop> Node<K> {
 
     /// Makes the write of the open hand-over that is due and no other, or none where none is due, and tells whether more
     /// are to come. Where none is, the hand-over has ended, and each of its live containers has what the plan gave it.
-    /// Takes no memory.
+    /// Allocates nothing.
     ///
     /// # Errors
     /// `NoHandover`; or `Failed` of the kernel, which ends the hand-over: it is not tried again, and each container
