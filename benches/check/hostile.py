@@ -1,6 +1,10 @@
-"""Writes a text that takes `numarun check` as long, or as much memory, as was found: `hostile.py NAME`.
+"""Texts that take `numarun check` as long, or as much memory, as was found.
 
-Each is refused in the end, and has as many lines as fit the most bytes of an input:
+hostile.py NAME               writes one
+hostile.py --measure PROGRAM  prints for each, and for the certificate of `singles.py 1024`, its bytes, the processor seconds that
+                              the program takes to check it, and the most memory that it holds
+
+Each has as many lines as fit the most bytes of an input, and is refused at its end:
 
 - `random-ids`: rows with no offers, their ids in random order.
 - `rising-ids`: the same with rising ids.
@@ -10,8 +14,11 @@ Each is refused in the end, and has as many lines as fit the most bytes of an in
 - `members`: rows, and a shortage that names each.
 """
 
+import os
 import random
+import subprocess
 import sys
+import tempfile
 
 BYTES = 67_108_864
 LETTERS = "0123456789ABCDEFGHIJKLMNOPQRSTUVWXYZabcdefghijklmnopqrstuvwxyz"
@@ -51,13 +58,37 @@ def text_of(name):
         return rows(names) + "".join(f"short {name}\n" for name in names)
     if name == "offers":
         return "row a 1" + " 0:1" * ((BYTES - len(FIRST) - 8) // 4) + "\n"
-    if name == "prices":
-        return "row a 1\nhold a 0 0\n" + "price 0 1\n" * ((BYTES - len(FIRST) - 19) // 10)
-    sys.exit(f"hostile.py: there is no {name}")
+    return "row a 1\nhold a 0 0\n" + "price 0 1\n" * ((BYTES - len(FIRST) - 19) // 10)
 
 
-if len(sys.argv) != 2:
+NAMES = ("random-ids", "rising-ids", "holds", "offers", "prices", "members")
+
+
+def written(name):
+    text = FIRST + text_of(name)
+    assert len(text) <= BYTES
+    return text.encode()
+
+
+def singles():
+    beside = os.path.join(os.path.dirname(os.path.abspath(__file__)), "singles.py")
+    return subprocess.run([sys.executable, "-B", beside, "1024"], capture_output=True, check=True).stdout
+
+
+def measure(program):
+    for name in (*NAMES, "singles"):
+        with tempfile.NamedTemporaryFile() as file:
+            file.write(singles() if name == "singles" else written(name))
+            file.flush()
+            started = subprocess.Popen([program, "check", file.name], stdout=subprocess.PIPE)
+            answer = started.stdout.readline().decode().strip()
+            _, _, used = os.wait4(started.pid, 0)
+            print(f"{name:12} {os.path.getsize(file.name):10} bytes {used.ru_utime + used.ru_stime:6.2f} s {used.ru_maxrss / 2**20:5.2f} GiB  {answer}")
+
+
+if len(sys.argv) == 3 and sys.argv[1] == "--measure":
+    measure(sys.argv[2])
+elif len(sys.argv) == 2 and sys.argv[1] in NAMES:
+    sys.stdout.buffer.write(written(sys.argv[1]))
+else:
     sys.exit(__doc__)
-text = FIRST + text_of(sys.argv[1])
-assert len(text) <= BYTES
-sys.stdout.write(text)
