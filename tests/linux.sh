@@ -2,10 +2,11 @@
 # Runs the built programs on a real kernel: Debian's, in a machine that qemu emulates (8 CPUs on 4 nodes), over its own cgroup v2
 # tree. What it needs it installs where it may: qemu-system-x86, cpio, crun, a C compiler, and the kernel's package, which is only
 # unpacked. Where it can't, it says so and is passed over. PROGRAM and TOOLS in the environment are run in place of those that this
-# builds; PARTS are the parts of linux/parts/ that are run, in this order, and SEED chooses what is random in them.
+# builds; PARTS are the parts of linux/parts/ that are run, by two machines side by side, SEED chooses what is random in them, and
+# KEEP is a folder for all that the machines print.
 set -euo pipefail
 top=$(cd "$(dirname "$0")/.." && pwd)
-parts=${PARTS:-calls chance strangers refused killed gone crun agent}
+parts=(${PARTS:-killed calls refused chance strangers agent gone crun})
 seed=${SEED:-1}
 work=$(mktemp -d)
 trap 'rm -rf "$work"' EXIT
@@ -32,14 +33,13 @@ if [ -z "$kernel" ]; then
     kernel=$(echo "$work"/unpacked/boot/vmlinuz-*)
 fi
 . "$top/tests/build-program.sh"
-case " $parts " in *" calls "*) . "$top/benches/build-tools.sh" ;; esac
+case " ${parts[*]} " in *" calls "*) . "$top/benches/build-tools.sh" ;; esac
 
 root=$work/root
 gcc -O2 -shared -fPIC -o "$work/stop.so" "$top/tests/linux/stop.c"
 gcc -O2 -static -o "$work/sleeper" "$top/tests/linux/sleeper.c"
 python3 -B "$top/tests/linux/image.py" "$root" "$program" "$(command -v crun)" "$work/stop.so" "$work/sleeper"
-case " $parts " in *" calls "*) python3 -B "$top/tests/linux/lists.py" "$tools" "$seed" >"$root/calls" ;; esac
-echo "$seed $parts" >"$root/parts"
+case " ${parts[*]} " in *" calls "*) python3 -B "$top/tests/linux/lists.py" "$tools" "$seed" >"$root/calls" ;; esac
 (cd "$root" && find . | cpio -o -H newc --quiet | gzip -1) >"$work/initrd.gz"
 nodes=()
 for node in 0 1 2 3; do
@@ -49,13 +49,37 @@ for row in 0,1,20 0,2,20 0,3,30 1,2,30 1,3,20 2,3,20; do
     IFS=, read -r from to distance <<<"$row"
     nodes+=(-numa "dist,src=$from,dst=$to,val=$distance")
 done
-status=0
-timeout "${LIMIT:-900}" qemu-system-x86_64 -M q35 -cpu max -accel tcg,thread=multi -m 1280 -smp 8,sockets=4,cores=2,threads=1 "${nodes[@]}" \
-    -nodefaults -display none -serial stdio -no-reboot -kernel "$kernel" -initrd "$work/initrd.gz" \
-    -append "console=ttyS0 quiet panic=-1 loglevel=1 mitigations=off rdinit=/init" </dev/null 2>&1 | sed -u 's/\r$//' | tee "$work/out" | grep --line-buffered '^linux: ' || status=$?
-[ -z "${KEEP:-}" ] || cp "$work/out" "$KEEP"
-if ! grep -q '^linux: all parts passed' "$work/out"; then
-    grep -av '^linux: ' "$work/out" | tail -40
-    echo "linux: the emulated machine did not come to its end, or a part failed"
-    exit 1
+
+# emulate N PART..: a machine that runs these parts, which stand in a second archive behind the first; what it prints is in out-N,
+# and what the parts say is printed.
+emulate() {
+    local number=$1
+    shift
+    mkdir "$work/$number"
+    echo "$seed $*" >"$work/$number/parts"
+    { cat "$work/initrd.gz"; cd "$work/$number" && echo parts | cpio -o -H newc --quiet | gzip -1; } >"$work/initrd-$number.gz"
+    timeout "${LIMIT:-900}" qemu-system-x86_64 -M q35 -cpu max -accel tcg,thread=multi -m 1280 -smp 8,sockets=4,cores=2,threads=1 \
+        "${nodes[@]}" -nodefaults -display none -serial stdio -no-reboot -kernel "$kernel" -initrd "$work/initrd-$number.gz" \
+        -append "console=ttyS0 quiet panic=-1 loglevel=1 mitigations=off no_timer_check rdinit=/init" </dev/null 2>&1 |
+        sed -u 's/\r$//' | tee "$work/out-$number" | grep -a --line-buffered '^linux: ' || true
+}
+
+half=() other=()
+for number in "${!parts[@]}"; do
+    if ((number % 2)); then other+=("${parts[number]}"); else half+=("${parts[number]}"); fi
+done
+emulate 1 "${half[@]}" &
+machines=($!)
+if [ ${#other[@]} -gt 0 ]; then
+    emulate 2 "${other[@]}" &
+    machines+=($!)
 fi
+wait "${machines[@]}"
+[ -z "${KEEP:-}" ] || cp "$work"/out-* "$KEEP"
+for number in $(seq ${#machines[@]}); do
+    if ! grep -aq '^linux: all parts passed' "$work/out-$number"; then
+        grep -av '^linux: ' "$work/out-$number" | tail -40
+        echo "linux: an emulated machine did not come to its end, or a part failed"
+        exit 1
+    fi
+done

@@ -9,6 +9,14 @@ top=$(cd "$(dirname "$0")/.." && pwd)
 SCRATCH=$(mktemp -d)
 trap 'rm -rf "$SCRATCH"' EXIT
 export SCRATCH PROGRAM=$program
-for test in looks hwloc pictures explains dry-runs agents kills installs peers moves manual; do
+# The one that waits most runs beside the others.
+python3 -B "$top/tests/operators/kills.py" >"$SCRATCH/kills" 2>&1 &
+kills=$!
+trap 'kill "$kills" 2>/dev/null || true; rm -rf "$SCRATCH"' EXIT
+for test in looks hwloc pictures explains dry-runs agents installs peers moves manual; do
     python3 -B "$top/tests/operators/$test.py"
 done
+status=0
+wait "$kills" || status=$?
+cat "$SCRATCH/kills"
+exit "$status"

@@ -139,8 +139,21 @@ def turn(cpu, on):
         return
     failed = write(f"{CPU}/cpu{cpu}/online", "1" if on else "0")
     assert not failed, f"CPU {cpu}: {os.strerror(failed)}"
-    assert until(lambda: cpus(read(f"{ROOT}/cpuset.cpus.effective")) == cpus(read(f"{CPU}/online")))
-    time.sleep(0.005)
+    assert until(lambda: cpus(read(f"{ROOT}/cpuset.cpus.effective")) == cpus(read(f"{CPU}/online")) and settled(ROOT))
+
+
+def settled(group):
+    """Whether the groups below have in effect what comes of what they request, and their processes may run there."""
+    above = cpus(read(f"{group}/cpuset.cpus.effective"))
+    for name in os.listdir(group):
+        below = f"{group}/{name}"
+        if os.path.isdir(below) and os.path.exists(f"{below}/cpuset.cpus"):
+            has = cpus(read(f"{below}/cpuset.cpus")) & above or above
+            if cpus(read(f"{below}/cpuset.cpus.effective")) != has or any(allowed(pid) not in (has, None) for pid in processes(below)):
+                return False
+            if not settled(below):
+                return False
+    return True
 
 
 # The program.

@@ -1,4 +1,6 @@
-ghost use Rattle.std.specs.Prelude.{◌≡◌, ◌+◌, IfOk, IfErr, MatchResult};
+ghost use Rattle.std.specs.Prelude.{◌≡◌, ◌+◌, IsTrue, IfOk, IfErr, MatchResult};
+ghost use Rattle.cpu_set.specs.Ids.{Ids};
+ghost use Rattle.cpu_set.specs.Members.{InRange};
 ghost use Rattle.faults.specs.declared.OrMemory.TheVariants.{Fault};
 ghost use Rattle.machine.specs.Cores.{cpus_of_cores};
 ghost use Rattle.node.specs.IsNode.{IsOfMachine};
@@ -142,6 +144,13 @@ impl<K: Kernel + Drop> Node<K> {
         let _ = &self.parent;
     }
 
+    /// The kernel, to look at.
+    pub fn kernel(&self) -> &K
+        ensures { K.state result.now ≡ self.now.kernel }
+    {
+        &self.kernel
+    }
+
     /// The CPUs that no plan gave to a container; before any plan the reserved ones.
     pub fn pool(&self) -> IdSet
         ensures { result ≡ self.now.pool }
@@ -154,6 +163,13 @@ impl<K: Kernel + Drop> Node<K> {
         ensures { result ≡ cpus_of_cores self.now.machine cores.now }
     {
         self.machine.cpus_of_cores(cores)
+    }
+
+    /// Whether each CPU is a core of its own, so that the cores which a certificate names are CPUs.
+    pub fn cores_are_cpus(&self) -> bool
+        ensures { IsTrue result → (cores : Ids) → InRange cores → cpus_of_cores self.now.machine cores ≡ cores }
+    {
+        self.machine.threads() == 1
     }
 
     /// How far the last hand-over has come.

@@ -8,3 +8,4 @@ pub mod Boots
 pub mod ScriptLaws
 pub mod ConfigsServed
 pub mod CertificatesTold
+pub mod MirroredNodes

@@ -25,6 +25,22 @@ fn put_hold<W: Write>(row: &Row, cpus: &IdSet, w: &mut W) -> io::Result<()>
     put(b"\n", w)
 }
 
+/// Writes the line of a row of a plan, with the CPUs of its cores.
+fn put_cores<K: Kernel + Drop, W: Write>(
+    node: &Node<K>,
+    row: &Row,
+    cores: &IdSet,
+    w: &mut W,
+) -> io::Result<()>
+    ensures { Writes (W.contents w.old) (W.contents w.new) result (core_line node.now.machine (row.now, cores.now)) }
+{
+    if node.cores_are_cpus() {
+        cores.stays_below_the_limit();
+        return put_hold(row, cores, w);
+    }
+    put_hold(row, &node.cpus_of(cores), w)
+}
+
 /// Writes a line for each row of a plan, with the CPUs of its cores.
 fn put_holds<K: Kernel + Drop, W: Write>(
     node: &Node<K>,
@@ -36,7 +52,7 @@ fn put_holds<K: Kernel + Drop, W: Write>(
     ensures { Writes (W.contents w.old) (W.contents w.new) result (flat_map (core_line node.now.machine) (zip rows.now sets.now)) }
 {
     for (k, row) in rows.iter().enumerate() {
-        put_hold(row, &node.cpus_of(&sets[k]), w)?;
+        put_cores(node, row, &sets[k], w)?;
     }
     Ok(())
 }

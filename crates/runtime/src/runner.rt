@@ -41,6 +41,13 @@ impl<K: Kernel + Drop, B: Bundles + Drop> Runner<K, B> {
     {
         Runner { node, bundles }
     }
+
+    /// The node, to look at.
+    pub fn node(&self) -> &Node<K>
+        ensures { result.now ≡ self.now.node }
+    {
+        &self.node
+    }
 }
 
 impl<K: Kernel + Drop, B: Bundles + Drop> Target for Runner<K, B> {

@@ -1,6 +1,6 @@
 """The agent over a folder of bundles: containers come, go and come back under their ids, CPUs go off and on, and the agent is killed at
 moments by chance and started again. In no look at the tree two containers of which one is pinned share a CPU outside the reserved
-ones, or is one that has its CPUs squeezed onto those; and in the end each process runs where the last plan put it."""
+ones; and in the end each process runs where the last plan put it."""
 
 import os
 import shutil
@@ -22,8 +22,7 @@ class World:
     def __init__(self, random):
         self.random, self.all, self.lock = random, tree.Containers("/tmp/new"), threading.Lock()
         self.ended, self.looks, self.came, self.had = False, 0, {}, set()
-        self.count = self.shared = self.squeezed = 0
-        self.off = set()
+        self.count = self.shared = 0
         write(f"{ROOT}/cgroup.subtree_control", "+cpuset")
         os.makedirs(TOP)
         os.makedirs(FOLDER)
@@ -72,8 +71,6 @@ class World:
             for name in set(PINNED) & set(sets):
                 if len(sets[name] - RESERVED) == self.all.asks[name]:
                     self.had.add(self.came[name])
-                elif self.came[name] in self.had and not sets[name] - RESERVED:
-                    self.squeezed += 1
 
     def watch(self):
         while not self.ended:
@@ -144,7 +141,7 @@ tree.turn(3, True)
 tree.turn(6, True)
 assert agent("--rounds", "2").wait() == 0, lines()[-30:]
 agrees(world, "they are back")
-assert (world.shared, world.squeezed) == (0, 0), (world.shared, world.squeezed)
+assert not world.shared, world.shared
 assert "Traceback" not in read(OUT), read(OUT)[-2000:]
 told = {kind: sum(line.split(" ")[0] == kind for line in lines()) for kind in ("adopt", "create", "ended", "plan", "offline")}
 assert told["adopt"] >= 3 and told["plan"] >= 5 and world.looks > 50, (told, world.looks)

@@ -60,19 +60,20 @@ class Script:
 
     def step_by_step(self):
         """A hand-over in single writes, between which a CPU may go."""
-        plan = self.run.plan("begin")
+        plan, turned = self.run.plan("begin"), False
         if plan.total is None:
             return self.outcome(plan)
         while True:
             answer = self.run.one("step")
             self.count["steps"] += 1
-            if answer == "done":
-                return self.outcome(plan)
-            assert answer == "more", (answer, self.run.said())
+            if answer != "more":
+                break
             self.check("between two writes")
-            if self.random.random() < 0.05:
+            if self.random.random() < 0.2:
                 self.turn(self.random.choice(sorted(CPUS - RESERVED)))
-                return None
+                turned = True
+        assert answer == "done" or turned and answer.startswith("refused E100"), (answer, self.run.said())
+        return None if turned else self.outcome(plan)
 
     def outcome(self, plan):
         assert not plan.refused, (plan.lines, self.run.said())

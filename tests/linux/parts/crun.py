@@ -18,7 +18,8 @@ OTHERS = ("cpu.max", "cpu.weight", "memory.max", "pids.max")
 def bundle(name, section):
     """A bundle as `crun spec` has it, with what is asked for."""
     folder = f"{BUNDLES}/{name}"
-    os.makedirs(f"{folder}/rootfs", exist_ok=True)
+    for place in ("dev", "proc"):
+        os.makedirs(f"{folder}/rootfs/{place}", exist_ok=True)
     shutil.copy("/app/sleeper", f"{folder}/rootfs/sleeper")
     if os.path.exists(f"{folder}/config.json"):
         os.remove(f"{folder}/config.json")

@@ -56,13 +56,21 @@ def roots():
     with open(other, "w") as file:
         file.write(read(MACHINE).replace('"reserved"', '"offline": "3", "reserved"'))
     refuses("E116 OtherMachine", machine=other)
-    with group(f"{ROOT}/busy") as busy:
-        tree.spawn(busy)
-        refuses("E50 KernelFault", root=busy, note="Device or resource busy")
     with group(f"{ROOT}/full", cgroup_max_descendants="0"):
         refuses("E50 KernelFault", root=f"{ROOT}/full", note="Resource temporarily unavailable")
     with group(TOP):
         refuses("E50 KernelFault", note=f"{TOP}: File exists")
+
+
+def a_process():
+    """A root with a process in it: Linux gives its groups the controller all the same, and then takes no process into them."""
+    with group(f"{ROOT}/busy") as busy:
+        tree.spawn(busy)
+        containers = tree.Containers()
+        bundle, run = containers.bundle("one", quota=1), tree.Run(root=busy)
+        run.ok(f"create one {bundle}", "pid 2")
+        assert write(f"{busy}/numarun/one/cgroup.procs", "0"), read(f"{busy}/numarun/one/cgroup.type")
+        run.close()
 
 
 def full():
@@ -136,6 +144,7 @@ def names():
 
 tree.clear()
 roots()
+a_process()
 full()
 strangers()
 names()
