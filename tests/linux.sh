@@ -2,11 +2,11 @@
 # Runs the built programs on a real kernel: Debian's, in a machine that qemu emulates (8 CPUs on 4 nodes), over its own cgroup v2
 # tree. What it needs it installs where it may: qemu-system-x86, cpio, crun, a C compiler, and the kernel's package, which is only
 # unpacked. Where it can't, it says so and is passed over. PROGRAM and TOOLS in the environment are run in place of those that this
-# builds; PARTS are the parts of linux/parts/ that are run, by two machines side by side, SEED chooses what is random in them, and
-# KEEP is a folder for all that the machines print.
+# builds; PARTS are the parts of linux/parts/ that are run, by two machines side by side (killed calls refused chance strangers agent
+# gone crun are all), SEED chooses what is random in them, and KEEP is a folder for all that the machines print.
 set -euo pipefail
 top=$(cd "$(dirname "$0")/.." && pwd)
-parts=(${PARTS:-killed calls refused chance strangers agent gone crun})
+parts=(${PARTS:-killed gone})
 seed=${SEED:-1}
 work=$(mktemp -d)
 trap 'rm -rf "$work"' EXIT
