@@ -3,7 +3,6 @@ Each is answered within 2 GiB of memory, as SECURITY.md says, and as is counted 
 a row past the 1,024th, make a bad problem; a list may name a CPU again. What each takes is printed, for the table of SECURITY.md."""
 
 import os
-import random
 import resource
 import subprocess
 import sys
@@ -27,13 +26,6 @@ def of_rows(lines_of, ids, behind):
     return b"numarun-certificate 1\n" + rows + b"".join(lines_of(k) for k in ids) + behind
 
 
-def by_chance(count):
-    ids = list(range(count))
-    random.seed(1)
-    random.shuffle(ids)
-    return ids
-
-
 ROW = b"numarun-certificate 1\nrow a 1"
 HELD = ROW + b" 0:1\nhold a 1 0\n"
 TEXTS = {
@@ -41,7 +33,7 @@ TEXTS = {
     "offers of all CPUs": lambda: (filled(ROW, b" 0:0-4095", b"\nshort a\nend\n"), BAD),
     "a list": lambda: (filled(ROW + b" 0:", b"0-4095,", b"1\nshort a\nend\n"), b"refused E76 NoShortage\n"),
     "prices": lambda: (filled(HELD, b"price 1 2\n", b"total 0\nend\n"), BAD),
-    "rows": lambda: (of_rows(lambda k: b"", by_chance(5_200_000), b"short 0\nend\n"), BAD),
+    "rows": lambda: (of_rows(lambda k: b"", range(5_200_000), b"short 0\nend\n"), BAD),
     "holds": lambda: (of_rows(lambda k: b"hold %x 1 0\n" % k, range(2_380_000), b"total 0\nend\n"), BAD),
     "members": lambda: (of_rows(lambda k: b"short %x\n" % k, range(2_660_000), b"end\n"), BAD),
 }
