@@ -66,7 +66,7 @@ TABLE = [
     ("a node that the machine has not", folder(cpuset_mems_effective="0-2\n"), (), OTHER),
     ("no list of nodes", folder(cpuset_mems_effective="none\n"), (), OTHER),
     ("a node past the limit", folder(cpuset_mems_effective="0,4096\n"), (), OTHER),
-    ("controllers that are a folder", folder(cgroup_controllers=None), (), (1, "refused E113 ReadFault\n", "error: ROOT: a directory\n")),
+    ("controllers that are a folder", folder(cgroup_controllers=None), (), (1, "refused E113 ReadFault\n", "error: ROOT: is a directory\n")),
     ("both, the first", folder(cgroup_controllers="cpu\n", cpuset_cpus_effective="0\n"), (), (1, "refused E115 NoCpuset\n", "")),
     ("a run before", folder(numarun=None), (), (1, "refused E50 KernelFault\n", "error: ROOT/numarun: File exists (os error 17)\n")),
     ("a run before, adopted", folder(numarun=None), ("--adopt",), NONE),
@@ -159,7 +159,9 @@ def a_file(root):
 
 
 answers, err = lived([web, database, a_file, "rebalance", "kill database KILL", "delete database"], grouped("web", "database"), ("--adopt",))
-assert answers[2:] == [E50, E50, E50][: len(answers) - 2] and "error: ROOT/numarun/database" in err, (answers, err)
+assert answers[2:] == [E50, E50, "refused E99 NotStopped\n"], answers
+for file in ("cpuset.cpus", "cgroup.kill"):
+    assert f"error: ROOT/numarun/database/{file}: Not a directory (os error 20)\n" in err, err
 print("cgroup: folders that vanish")
 
 
