@@ -15,6 +15,7 @@ export PROGRAM=$PWD/crates/numarun/out/numarun TOOLS=$PWD/crates/tools/out/tools
 bash tests/describe-host.sh
 bash tests/inputs.sh
 bash tests/kernel.sh
+bash tests/kernel-costs.sh
 bash tests/command-line.sh
 bash tests/certificates.sh
 bash tests/solve.sh

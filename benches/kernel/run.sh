@@ -9,4 +9,5 @@ timed 'the same with all effective sets worked out anew' "$tools" plain-leaf-wri
 timed '100,000 changes of the online CPUs' "$tools" online-changes 100000
 timed 'the same by the plain recursion' "$tools" plain-online-changes 100000
 timed '1,000,000 forks and exits with 10,000 children alive' "$tools" forks 1000000
+timed '100,000 forks, and then 100,000 exits, the oldest first' "$tools" forks-and-exits 100000
 timed '25 hand-overs of 1,024 containers, 51,200 writes' "$tools" hand-overs 25

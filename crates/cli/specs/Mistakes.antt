@@ -1,17 +1,32 @@
 -- Which mistakes the words have.
-use Rattle.std.specs.Prelude.{◌≡◌, List, [], ◌∷◌}
-use Rattle.clap.specs.Words.{IsAmong, Kinds, Text, fault_of, kind_of}
+use Rattle.std.specs.Prelude.{◌≡◌, Bool, false, if◌then◌else◌, List, [], ◌∷◌, None}
+use Rattle.clap.specs.Kinds.{or_else}
+use Rattle.clap.specs.Words.{IsAmong, Kinds, Text, fault_of, kind_of, subcommand_of}
 use Rattle.clap.specs.declared.error.Error.{Error}
 use Rattle.clap.specs.declared.error.kind.ErrorKind.{ErrorKind}
 use Rattle.clap.specs.declared.error.kind.ErrorKind.TheVariants as kind
+use Rattle.cli.specs.Asked.{Asked, asked_in, run}
 use Rattle.cli.specs.CommandLine.{numarun}
 use Rattle.faults.specs.declared.or_memory.OrMemory.{OrMemory}
 use Rattle.faults.specs.declared.or_memory.OrMemory.TheVariants.{Memory, Fault}
 
--- the kinds of mistake in the words, or of request for the help
+-- `--adopt` is given without `--cgroup`
+abbrev pub lacks_root : Asked → Bool
+lacks_root (run machine table None adopt) = adopt
+lacks_root asks = false
+
+-- why words are refused that are taken by the builder's rules: an argument is wanting
+abbrev pub lacking : Asked → Kinds
+lacking asks = if lacks_root asks then kind.MissingRequiredArgument ∷ [] else []
+
+-- why words are refused, or their request for the help
+abbrev pub refusals : List Text → Kinds
+refusals words = or_else (fault_of numarun words) (lacking (asked_in (subcommand_of numarun words)))
+
+-- the kinds of mistake in the words, or of request for the help; no words have none
 abbrev pub mistakes : List Text → Kinds
 mistakes [] = []
-mistakes (word ∷ rest) = fault_of numarun (word ∷ rest)
+mistakes (word ∷ rest) = refusals (word ∷ rest)
 
 -- the words failed by an error of a kind that they may fail by: an allocation failed, or they have a mistake of this kind
 abbrev pub HasCause : (ErrorKind → Type 0) → List Text → OrMemory Error → Type 0

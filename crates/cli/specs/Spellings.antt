@@ -2,8 +2,9 @@
 use Rattle.std.specs.Prelude.{◌≡◌, List, [], ◌∷◌, Some, None, codes, true, false}
 use Rattle.clap.specs.Lexer.{strip_byte}
 use Rattle.clap.specs.Words.{Text}
+use Rattle.clap.specs.declared.error.kind.ErrorKind.TheVariants.{MissingRequiredArgument}
 use Rattle.cli.specs.Asked.{Asked, asked_for, check, list, run, slit, solve}
-use Rattle.cli.specs.Mistakes.{mistakes}
+use Rattle.cli.specs.Mistakes.{lacking, mistakes}
 
 -- the word doesn't begin with a hyphen
 abbrev pub IsPlain : Text → Type 0
@@ -32,15 +33,23 @@ pub record SlitSpellings : Type 0 where
   pub file : (word : Text) → IsPlain word → Spells (codes "slit" ∷ word ∷ []) (slit word)
   pub escaped : (word : Text) → Spells (codes "slit" ∷ codes "--" ∷ word ∷ []) (slit word)
 
--- numarun run MACHINE; with --slit FILE, behind the machine or before it; and with --cgroup ROOT behind it, and --adopt
+-- numarun run MACHINE; with --slit FILE, with --cgroup ROOT, and with --adopt beside that, behind the machine or before it. Beside no
+-- ROOT --adopt is a mistake, in whatever words.
 pub record RunSpellings : Type 0 where
   pub machine : (word : Text) → IsPlain word → Spells (codes "run" ∷ word ∷ []) (run word None None false)
   pub escaped : (word : Text) → Spells (codes "run" ∷ codes "--" ∷ word ∷ []) (run word None None false)
   pub slit_behind : (word table : Text) → IsPlain word → IsPlain table → Spells (codes "run" ∷ word ∷ codes "--slit" ∷ table ∷ []) (run word (Some table) None false)
   pub slit_before : (word table : Text) → IsPlain word → IsPlain table → Spells (codes "run" ∷ codes "--slit" ∷ table ∷ word ∷ []) (run word (Some table) None false)
-  pub cgroup : (word root : Text) → IsPlain word → IsPlain root → Spells (codes "run" ∷ word ∷ codes "--cgroup" ∷ root ∷ []) (run word None (Some root) false)
-  pub adopt : (word root : Text) → IsPlain word → IsPlain root
+  pub cgroup_behind : (word root : Text) → IsPlain word → IsPlain root → Spells (codes "run" ∷ word ∷ codes "--cgroup" ∷ root ∷ []) (run word None (Some root) false)
+  pub cgroup_before : (word root : Text) → IsPlain word → IsPlain root → Spells (codes "run" ∷ codes "--cgroup" ∷ root ∷ word ∷ []) (run word None (Some root) false)
+  pub adopt_behind : (word root : Text) → IsPlain word → IsPlain root
       → Spells (codes "run" ∷ word ∷ codes "--cgroup" ∷ root ∷ codes "--adopt" ∷ []) (run word None (Some root) true)
+  pub adopt_before : (word root : Text) → IsPlain word → IsPlain root
+      → Spells (codes "run" ∷ codes "--adopt" ∷ codes "--cgroup" ∷ root ∷ word ∷ []) (run word None (Some root) true)
+  pub all : (word table root : Text) → IsPlain word → IsPlain table → IsPlain root
+      → Spells (codes "run" ∷ word ∷ codes "--slit" ∷ table ∷ codes "--cgroup" ∷ root ∷ codes "--adopt" ∷ []) (run word (Some table) (Some root) true)
+  pub adopt_alone : (word : Text) → IsPlain word → mistakes (codes "run" ∷ word ∷ codes "--adopt" ∷ []) ≡ MissingRequiredArgument ∷ []
+  pub adopt_beside : (words : List Text) → mistakes words ≡ [] → lacking (asked_for words) ≡ []
 
 -- numarun solve; numarun solve FILE; and behind `--` any word is a file
 pub record SolveSpellings : Type 0 where

@@ -1,10 +1,13 @@
 //! What numarun can be told, in the builder's terms.
-ghost use Rattle.std.specs.Prelude.{◌≡◌, ◌⊎◌, ⊤, IfOk, codes, false};
-ghost use Rattle.clap.specs.Words.{IsAmong, app_of, fault_of, rule_of};
-ghost use Rattle.clap.specs.declared.error.kind.ErrorKind.TheVariants.{OutOfMemory};
+ghost use Rattle.std.specs.Prelude.{◌≡◌, ◌⊎◌, ⊤, IfOk, codes, false, map, string_bytes};
+ghost use Rattle.clap.specs.Words.{FailsBy, IsAmong, app_of, fault_of, kind_of, rule_of, subcommand_of, subcommand_rows_of};
+ghost use Rattle.clap.specs.declared.error.kind.ErrorKind.TheVariants.{MissingRequiredArgument, OutOfMemory};
+ghost use Rattle.cli.specs.Asked.{asked_in};
 ghost use Rattle.cli.specs.CommandLine.{IsLeaf, bare, check_command, flag, list_command, numarun, option, required, run_command, slit_command, solve_command};
+ghost use Rattle.cli.specs.Mistakes.{lacks_root, refusals};
 
-use crate::words::Grammar;
+use crate::words::{Grammar, Words, asked_words};
+use clap::error::ErrorKind;
 use clap::{Arg, ArgAction, ArgMatches, Command, Error};
 use std::alloc::{AllocError, Global};
 
@@ -56,6 +59,9 @@ const SOLVE_HELP: &str =
     are parsed.\n\n\
     Format: docs/formats.md, \"Problems\".\n\n\
     Example: numarun solve examples/caches.problem | numarun check";
+
+/// Said where `--adopt` is given without `--cgroup`.
+const LACKING: &str = "the following required arguments were not provided:\n  --cgroup <ROOT>";
 
 fn check<'a>(alloc: Global) -> Result<Command<'a>, AllocError>
     ensures { IfOk result (IsLeaf check_command) }
@@ -187,17 +193,54 @@ fn command_line<'a>(alloc: Global) -> Result<Command<'a>, AllocError>
         .subcommand(solve(alloc)?)
 }
 
+/// The matches of the words, by clap's rules alone.
+fn matched<'a>(alloc: Global, words: &'a [String]) -> Result<ArgMatches<'a>, Error>
+    ensures matches { IfOk result (λ m. subcommand_rows_of m ≡ subcommand_of numarun (map string_bytes words.entry.now)) }
+    ensures kinds { FailsBy (fault_of numarun (map string_bytes words.entry.now)) result }
+{
+    command_line(alloc)?.try_get_matches_from(words)
+}
+
+/// Whether `--adopt` was given without `--cgroup`, a rule on two arguments.
+fn lacks_root(matches: &ArgMatches<'_>) -> bool
+    ensures { result ≡ lacks_root (asked_in (subcommand_rows_of matches.now)) }
+{
+    match asked_words(matches) {
+        Words::Run {
+            cgroup: None,
+            adopt,
+            ..
+        } => adopt,
+        _ => false,
+    }
+}
+
+/// The error where an argument is wanting, in clap's words.
+fn lacking(alloc: Global) -> Result<Error, AllocError>
+    ensures { IfOk result (λ error. kind_of error ≡ MissingRequiredArgument) }
+{
+    let mut command = run(alloc)?;
+    command.error(ErrorKind::MissingRequiredArgument, LACKING)
+}
+
 /// The command line of numarun, taken apart by clap.
 #[derive(Clone, Copy)]
 pub struct CommandLine;
 
 impl Grammar for CommandLine {
-    ghost fails = { λ _ words kind. (kind ≡ OutOfMemory) ⊎ IsAmong kind (fault_of numarun words) };
+    ghost fails = { λ _ words kind. (kind ≡ OutOfMemory) ⊎ IsAmong kind (refusals words) };
 
     ghost lacks = { λ _. ⊤ };
 
     fn matches<'a>(&self, alloc: Global, words: &'a [String]) -> Result<ArgMatches<'a>, Error> {
-        command_line(alloc)?.try_get_matches_from(words)
+        let matches = match matched(alloc, words) {
+            Ok(matches) => matches,
+            Err(error) => return Err(error),
+        };
+        if lacks_root(&matches) {
+            return Err(lacking(alloc)?);
+        }
+        Ok(matches)
     }
 
     fn text(&self, alloc: Global, error: &Error) -> Result<String, AllocError> {

@@ -1,9 +1,9 @@
 ghost use Rattle.std.specs.Prelude.{◌≡◌, ℕ, List, [], IfOk, IfErr, OnErr, OnOk, map, option_map, string_bytes};
-ghost use Rattle.clap.specs.Words.{FailsBy, fault_of, first_of, found_of, kind_of, rows_of, subcommand_of, subcommand_rows_of};
+ghost use Rattle.clap.specs.Words.{FailsBy, first_of, found_of, kind_of, rows_of, subcommand_of, subcommand_rows_of};
 ghost use Rattle.clap.specs.declared.error.kind.ErrorKind.{ErrorKind};
 ghost use Rattle.cli.specs.Asked.{asked, asked_by, asked_for, asked_in, is_set, value};
 ghost use Rattle.cli.specs.CommandLine.{numarun};
-ghost use Rattle.cli.specs.Mistakes.{HasCause, mistakes, IsFaultOf};
+ghost use Rattle.cli.specs.Mistakes.{HasCause, IsFaultOf, mistakes, refusals};
 
 use clap::error::ErrorKind;
 use clap::{ArgMatches, Error};
@@ -24,7 +24,7 @@ pub trait Grammar {
     /// A mistake in the words, their request for the help, or an allocation failure.
     fn matches<'a>(&self, alloc: Global, words: &'a [String]) -> Result<ArgMatches<'a>, Error>
         ensures matches { IfOk result (λ m. subcommand_rows_of m ≡ subcommand_of numarun (map string_bytes words.entry.now)) }
-        ensures kinds { FailsBy (fault_of numarun (map string_bytes words.entry.now)) result }
+        ensures kinds { FailsBy (refusals (map string_bytes words.entry.now)) result }
         ensures fails { IfErr result (λ error. fails self.now (map string_bytes words.entry.now) (kind_of error)) };
 
     /// The text of an error.
@@ -94,7 +94,8 @@ fn fault(error: Error) -> OrMemory<Error>
     }
 }
 
-fn asked_words<'a>(matches: &ArgMatches<'a>) -> Words<'a>
+/// What the subcommand that was matched asks for.
+pub fn asked_words<'a>(matches: &ArgMatches<'a>) -> Words<'a>
     ensures { asked result ≡ asked_in (subcommand_rows_of matches.now) }
 {
     match matches.subcommand() {

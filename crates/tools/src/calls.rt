@@ -37,7 +37,8 @@ pub fn new_kernel(alloc: Global, line: &str) -> Result<ModelKernel>
     if pid < 2 || pid > LAST_PID {
         bail!("{pid} is no first pid");
     }
-    Ok(ModelKernel::new(alloc, present, reserved, online, nodes, pid)?)
+    let kernel = ModelKernel::new(alloc, present, reserved, online, nodes, pid)?;
+    Ok(kernel)
 }
 
 /// Makes each call, and prints what it answers. A group is named by its serial. As many calls as possible are made as one

@@ -121,3 +121,18 @@ pub fn forks(alloc: Global, count: u32) -> Option<u64> {
     }
     Some(sum)
 }
+
+/// A process forks so often, and then all that it forked end, the oldest first.
+pub fn forks_and_exits(alloc: Global, count: u32) -> Option<u64> {
+    let (tree, _) = tree(alloc)?;
+    let mut table = ProcTable::new(alloc, 2);
+    let first = table.spawn(tree.root()).ok()?;
+    let mut sum: u64 = 0;
+    for _ in 0..count {
+        sum = sum.wrapping_add(u64::from(table.fork(first).ok()?));
+    }
+    for n in 0..count {
+        table.exit(first.checked_add(1)?.checked_add(n)?).ok()?;
+    }
+    Some(sum)
+}

@@ -79,6 +79,7 @@ fn at_once(alloc: Global, name: &str, count: u32) -> Option<u64> {
         "plain-online-changes" => kernel::plain_online_changes(alloc, count),
         "hand-overs" => hand_over::hand_overs(alloc, count),
         "forks" => kernel::forks(alloc, count),
+        "forks-and-exits" => kernel::forks_and_exits(alloc, count),
         _ => None,
     }
 }

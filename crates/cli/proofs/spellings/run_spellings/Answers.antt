@@ -1,4 +1,4 @@
-use Rattle.cli.proofs.PlainWords.{run_spelled}
+use Rattle.cli.proofs.RunWords.{run_spelled}
 use Rattle.cli.proofs.spellings.run_spellings.Goals as goal
 
 pub returns : goal.returns

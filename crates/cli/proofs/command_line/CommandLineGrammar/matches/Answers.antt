@@ -1,14 +1,27 @@
--- No argument has a rule on another.
-use Rattle.std.proofs.Common.{◌≡◌, refl, map, string_bytes, subst, sym, true}
-use Rattle.clap.specs.Words.{App, FailsBy, app_of, fault_of, is_simple_and_free}
+-- What fails by clap's rules fails.
+use Rattle.std.proofs.Common.{map, string_bytes, [], ◌∷◌, inl, inr}
+use Rattle.clap.specs.Kinds.{HasKind, Kinds, or_else}
+use Rattle.clap.specs.Words.{IsAmong, fault_of, subcommand_of}
+use Rattle.clap.specs.declared.error.Error.{Error}
+use Rattle.clap.specs.declared.error.kind.ErrorKind.{ErrorKind}
+use Rattle.cli.specs.Asked.{asked_in}
 use Rattle.cli.specs.CommandLine.{numarun}
+use Rattle.cli.specs.Mistakes.{lacking}
 use Rattle.cli.proofs.command_line.CommandLineGrammar.matches.Goals as goal
 
-free : is_simple_and_free numarun ≡ true
-free = refl
+among_first : (kind : ErrorKind) (first then : Kinds) → IsAmong kind first → IsAmong kind (or_else first then)
+among_first kind [] then among = absurd among
+among_first kind (k ∷ ks) then among = among
 
-pub returns-clause-kinds : goal.returns-clause-kinds
-returns-clause-kinds c =
-    let app : app_of c.in_ok-command_line.field-0 ≡ numarun = c.in_ok-command_line.ensures in
-    let simple : is_simple_and_free (app_of c.in_ok-command_line.field-0) ≡ true = subst (λ (a : App). is_simple_and_free a ≡ true) (sym app) free in
-    subst (λ (a : App). FailsBy (fault_of a (map string_bytes c.args.words.now)) c.try_get_matches_from.result) app (c.try_get_matches_from.ensures.kinds simple)
+has_first : (error : Error) (first then : Kinds) → HasKind first error → HasKind (or_else first then) error
+has_first error first then has = elim has [ inl memory ↦ inl memory | inr among ↦ inr (among_first _ first then among) ]
+
+pub returns-in-Err-clause-kinds : goal.returns-in-Err-clause-kinds
+returns-in-Err-clause-kinds c =
+    let words = map string_bytes c.args.words.now in
+    has_first c.in-Err.error (fault_of numarun words) (lacking (asked_in (subcommand_of numarun words))) c.in-Err.ensures.kinds
+
+pub returns-in-Err-clause-fails : goal.returns-in-Err-clause-fails
+returns-in-Err-clause-fails c =
+    let words = map string_bytes c.args.words.now in
+    has_first c.in-Err.error (fault_of numarun words) (lacking (asked_in (subcommand_of numarun words))) c.in-Err.ensures.kinds

@@ -1,0 +1,14 @@
+-- No argument has a rule on another.
+use Rattle.std.proofs.Common.{◌≡◌, refl, map, string_bytes, subst, sym, true}
+use Rattle.clap.specs.Words.{App, FailsBy, app_of, fault_of, is_simple_and_free}
+use Rattle.cli.specs.CommandLine.{numarun}
+use Rattle.cli.proofs.command_line.matched.Goals as goal
+
+free : is_simple_and_free numarun ≡ true
+free = refl
+
+pub returns-clause-kinds : goal.returns-clause-kinds
+returns-clause-kinds c =
+    let app : app_of c.in_ok-command_line.field-0 ≡ numarun = c.in_ok-command_line.ensures in
+    let simple : is_simple_and_free (app_of c.in_ok-command_line.field-0) ≡ true = subst (λ (a : App). is_simple_and_free a ≡ true) (sym app) free in
+    subst (λ (a : App). FailsBy (fault_of a (map string_bytes c.args.words.now)) c.try_get_matches_from.result) app (c.try_get_matches_from.ensures.kinds simple)
