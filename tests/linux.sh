@@ -6,7 +6,7 @@
 # gone crun are all), SEED chooses what is random in them, and KEEP is a folder for all that the machines print.
 set -euo pipefail
 top=$(cd "$(dirname "$0")/.." && pwd)
-parts=(${PARTS:-killed gone})
+parts=(${PARTS:-gone})
 seed=${SEED:-1}
 work=$(mktemp -d)
 trap 'rm -rf "$work"' EXIT
