@@ -1,6 +1,6 @@
 """Checks texts as long as an input may be, each with one kind of line or word as often as it goes in: `largest_texts.py PROGRAM`.
-Each is answered within 2 GiB of memory, as SECURITY.md says, and as is counted by hand: a CPU of two offers or of two prices, and
-a row past the 1,024th, make a bad problem; a list may name a CPU again. What each takes is printed, for the table of SECURITY.md."""
+Each is answered within 4 GiB of memory, most of it for `hold` lines, and as is counted by hand: a CPU of two offers or of two prices,
+and a row past the 1,024th, make a bad problem; a list may name a CPU again. What each takes is printed, for the table of SECURITY.md."""
 
 import os
 import resource
@@ -9,8 +9,8 @@ import sys
 import tempfile
 
 LONGEST = 67_108_864
-SECONDS = 60
-MEMORY = 2 << 30
+SECONDS = 120
+MEMORY = 4 << 30
 BAD = b"refused E70 BadProblem\n"
 
 
