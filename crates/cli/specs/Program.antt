@@ -1,6 +1,7 @@
 -- What the program does: which bytes go to which stream, and its exit status.
 use Rattle.std.specs.Prelude.{◌≡◌, ◌⊎◌, ℕ, ◌-◌, ◌^◌, List, [], Bool, true, false, Option, Some, None, Result, Ok, Err, bytes_eq, codes, unwrap_or}
 use Rattle.std.specs.declared.io.ErrorKind.{ErrorKind as SystemKind}
+use Rattle.cgroup_tree.specs.Asked.{Asked as FileCall}
 use Rattle.clap.specs.Words.{IsAmong, Text}
 use Rattle.clap.specs.declared.error.kind.ErrorKind.{ErrorKind}
 use Rattle.clap.specs.declared.error.kind.ErrorKind.TheVariants.{DisplayHelp, DisplayVersion, OutOfMemory}
@@ -19,7 +20,7 @@ use Rattle.program_io.specs.Readings.{Reading, Reads}
 use Rattle.cli.specs.Ready.{SetsUp, refusal_of}
 use Rattle.cli.specs.Roots.{root_line, root_note}
 use Rattle.program_io.specs.RefusalLine.{refusal_line}
-use Rattle.cli.specs.RunAnswer.{Plays, is_unread}
+use Rattle.cli.specs.RunAnswer.{Plays, PlaysIn, is_unread}
 use Rattle.cli.specs.Says.{Complains, Says}
 use Rattle.cli.specs.Tells.{Checks, Lists, Solves, Tabulates}
 use Rattle.cli.specs.declared.console.Console.{Console}
@@ -55,6 +56,11 @@ module _ {W E : Type 0} (out : W → Option (List ℕ)) (err : E → Option (Lis
   Performs most n told script script' = (mid : Console W E) × (end : Result (Unit {0}) ScriptFault)
       × Plays most n told script script' (contents_of out old.out) (contents_of out mid.out) end × (mid.err ≡ old.err) × Finishes out err mid new status end
 
+  -- the same over a node whose kernel writes are made in files too
+  abbrev pub PerformsIn : {F : Type 0} → (F → List FileCall → Type 0) → ℕ → NodeState → Told → Option (List ℕ) → Option (List ℕ) → Type 0
+  PerformsIn asked most n told script script' = (mid : Console W E) × (end : Result (Unit {0}) ScriptFault)
+      × PlaysIn asked most n told script script' (contents_of out old.out) (contents_of out mid.out) end × (mid.err ≡ old.err) × Finishes out err mid new status end
+
   -- one of the two files is refused
   abbrev pub Refuses : Text → Option Text → Unready → Type 0
   Refuses machine table why = Says out err old new status (refusal_line (refusal_of why)) 1 (note_of (name_in machine table why) (refusal_of why))
@@ -76,21 +82,23 @@ module _ {W E : Type 0} (out : W → Option (List ℕ)) (err : E → Option (Lis
         × (((n : NodeState) × Boots m n × Performs MOST_READS n told script script') ⊎ LacksRoom))
         ⊎ ((why : Unready) × SetsUp opens fails gives machine table (Err why) × Refuses machine table why)
 
-    -- the same where its kernel writes are made below the root of a cgroup tree too: the root may be refused
-    abbrev pub Pins : Told → Option (List ℕ) → Option (List ℕ) → Text → Option Text → Text → Type 0
-    Pins told script script' machine table root =
-        ((m : Layout) × SetsUp opens fails gives machine table (Ok m)
-        × (((n : NodeState) × Boots m n × Performs (2 ^ 64 - 1) n told script script') ⊎ ((why : Unrooted) × RefusesRoot root why)))
-        ⊎ ((why : Unready) × SetsUp opens fails gives machine table (Err why) × Refuses machine table why)
+    -- what files below a root were asked for
+    module _ {F : Type 0} (asked : F → List FileCall → Type 0) where
+      -- the same where its kernel writes are made below the root of a cgroup tree too: the root may be refused
+      abbrev pub Pins : Told → Option (List ℕ) → Option (List ℕ) → Text → Option Text → Text → Type 0
+      Pins told script script' machine table root =
+          ((m : Layout) × SetsUp opens fails gives machine table (Ok m)
+          × (((n : NodeState) × Boots m n × PerformsIn asked (2 ^ 64 - 1) n told script script') ⊎ ((why : Unrooted) × RefusesRoot root why)))
+          ⊎ ((why : Unready) × SetsUp opens fails gives machine table (Err why) × Refuses machine table why)
 
-    -- what is asked for is done, over these files, and over what the reading of standard input may answer and its bytes
-    abbrev pub Does : (Reading → Type 0) → Option (List ℕ) → Asked → Type 0
-    Does input script (check file) = Checks out err old new status (reads_named (Reads opens fails gives) input (name_of file)) (shown (name_of file))
-    Does input script (list text) = Lists out err old new status text
-    Does input script (slit file) = Tabulates out err old new status (reads_named (Reads opens fails gives) input file) (shown file)
-    Does input script (run machine table None adopt) = (script' : Option (List ℕ)) × Scripts None script script' machine table
-    Does input script (run machine table (Some root) adopt) = (script' : Option (List ℕ)) × Pins None script script' machine table root
-    Does input script (solve file) = Solves out err old new status (reads_named (Reads opens fails gives) input (name_of file)) (shown (name_of file))
+      -- what is asked for is done, over these files, and over what the reading of standard input may answer and its bytes
+      abbrev pub Does : (Reading → Type 0) → Option (List ℕ) → Asked → Type 0
+      Does input script (check file) = Checks out err old new status (reads_named (Reads opens fails gives) input (name_of file)) (shown (name_of file))
+      Does input script (list text) = Lists out err old new status text
+      Does input script (slit file) = Tabulates out err old new status (reads_named (Reads opens fails gives) input file) (shown file)
+      Does input script (run machine table None adopt) = (script' : Option (List ℕ)) × Scripts None script script' machine table
+      Does input script (run machine table (Some root) adopt) = (script' : Option (List ℕ)) × Pins None script script' machine table root
+      Does input script (solve file) = Solves out err old new status (reads_named (Reads opens fails gives) input (name_of file)) (shown (name_of file))
 
   -- the help or the version goes to standard output with status 0, and what a mistake is to standard error with
   -- status 2; clap's contracts don't tell the text

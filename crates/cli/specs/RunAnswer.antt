@@ -1,7 +1,9 @@
 -- What is run of a script, and how its end is told.
 use Rattle.std.specs.Prelude.{◌≡◌, ℕ, List, Option, Some, None, Result}
+use Rattle.cgroup_tree.specs.Asked.{Asked}
 use Rattle.node.specs.NodeState.{NodeState}
 use Rattle.runtime.specs.Answered.{Answered}
+use Rattle.runtime.specs.MirroredNodes.{IsMirroredNode}
 use Rattle.runtime.specs.RuntimeState.{RuntimeState, Told}
 use Rattle.script.specs.Ends.{EndsBy}
 use Rattle.script.specs.declared.script_fault.ScriptFault.{ScriptFault}
@@ -20,3 +22,9 @@ is_unread fault.Write why = why ≡ None
 abbrev pub Plays : ℕ → NodeState → Told → Option (List ℕ) → Option (List ℕ) → Option (List ℕ) → Option (List ℕ) → Result (Unit {0}) ScriptFault → Type 0
 Plays most n told read read' out out' end =
     (final : RuntimeState) × EndsBy most Answered read read' out out' (record { node = n; told = told }) end final
+
+-- the same over a node whose kernel writes are made in files too; at the end all that these were asked for is what the calls of
+-- the node's kernel stand for, in their order
+abbrev pub PlaysIn : {F : Type 0} → (F → List Asked → Type 0) → ℕ → NodeState → Told → Option (List ℕ) → Option (List ℕ) → Option (List ℕ) → Option (List ℕ) → Result (Unit {0}) ScriptFault → Type 0
+PlaysIn asked most n told read read' out out' end =
+    (final : RuntimeState) × EndsBy most Answered read read' out out' (record { node = n; told = told }) end final × IsMirroredNode asked final.node

@@ -28,7 +28,7 @@ pub fn start<G: Grammar, F: Opens + GroupTrees, R: Read + Input, W: Write, E: Wr
 ) -> u8
     ensures { MatchResult arguments
         (λ given. Runs W.contents E.contents console.old console.new result (G.fails grammar.now) (G.lacks grammar.now)
-        (Does W.contents E.contents console.old console.new result (F.opens files.now) (F.fails files.now) F.File.gives
+        (Does W.contents E.contents console.old console.new result (F.opens files.now) (F.fails files.now) F.File.gives F.Files.asked
         (R.Input.gives input) (R.Read.remaining input)) (map string_bytes (drop 1 given.items)))
         (Stops W.contents E.contents console.old console.new result) }
 {

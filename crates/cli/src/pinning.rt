@@ -3,18 +3,20 @@ ghost use Rattle.std.specs.Prelude.{◌≡◌, IfOk, option_map};
 ghost use Rattle.runtime.specs.Boots.{Boots};
 ghost use Rattle.cli.specs.Program.{Pins};
 ghost use Rattle.cli.specs.Roots.{root_note};
+ghost use Rattle.cli.specs.RunAnswer.{PlaysIn};
 ghost use Rattle.cli.specs.declared.note.Note.{Note};
 ghost use Rattle.cli.specs.Notes.{note_text};
 
 use crate::console::{Console, REFUSED, print_then_note};
 use crate::note::Note;
 use crate::opens::Opens;
-use crate::run::{finish, play, refuse, set_up};
+use crate::run::{finish, refuse, set_up};
 use crate::unrooted::Unrooted;
-use cgroup_tree::{GroupTrees, MirroredKernel, memory_of};
+use cgroup_tree::{GroupFiles, GroupTrees, MirroredKernel, memory_of};
 use machine::Machine;
 use node::Node;
-use runtime::{Bundles, boot_mirrored};
+use runtime::{Bundles, Runner, boot_mirrored, run_mirrored};
+use script::ScriptFault;
 use std::alloc::{AllocError, Global};
 use std::io::{Read, Write};
 
@@ -39,14 +41,14 @@ pub fn do_pin<F: Opens + GroupTrees, B: Bundles + Drop, R: Read, W: Write, E: Wr
     script: &mut R,
     console: &mut Console<W, E>,
 ) -> u8
-    ensures { Pins W.contents E.contents console.old console.new result (F.opens files.now) (F.fails files.now) F.File.gives
+    ensures { Pins W.contents E.contents console.old console.new result (F.opens files.now) (F.fails files.now) F.File.gives F.Files.asked
         (B.told bundles) (R.remaining script.old) (R.remaining script.new)
         machine.now (option_map (λ name. name.now) table.entry) root.entry.path.now }
 {
     match set_up(alloc, machine, table, files) {
         Ok(found) => match node_below(alloc, found, root, files) {
             Ok(node) => {
-                let end = play(node, bundles, script, &mut console.out, u64::MAX);
+                let end = play_below(node, bundles, script, &mut console.out, u64::MAX);
                 finish(end, console)
             }
             Err(why) => print_then_note(&why, REFUSED, &note_of(root.path, why), console),
@@ -73,6 +75,21 @@ fn node_below<T: GroupTrees>(
         Ok(node) => Ok(node),
         Err(error) => Err(Unrooted::from(error)),
     }
+}
+
+/// Runs the script that the reader has left over a node whose kernel writes are made in files too, by so many reads at most, and
+/// writes its answers.
+fn play_below<F: GroupFiles + Drop, B: Bundles + Drop, R: Read, W: Write>(
+    node: Node<MirroredKernel<F>>,
+    bundles: B,
+    script: &mut R,
+    w: &mut W,
+    most_reads: u64,
+) -> Result<(), ScriptFault>
+    ensures { PlaysIn F.asked most_reads node (B.told bundles) (R.remaining script.old) (R.remaining script.new) (W.contents w.old) (W.contents w.new) result }
+{
+    let mut runner = Runner::new(node, bundles);
+    run_mirrored(&mut runner, script, w, most_reads)
 }
 
 /// The note beside a refusal of the root, where it can't be read.

@@ -33,7 +33,7 @@ pub fn run_program<G: Grammar, F: Opens + GroupTrees, R: Read + Input, W: Write,
     console: &mut Console<W, E>,
 ) -> u8
     ensures { Runs W.contents E.contents console.old console.new result (G.fails grammar.now) (G.lacks grammar.now)
-        (Does W.contents E.contents console.old console.new result (F.opens files.now) (F.fails files.now) F.File.gives
+        (Does W.contents E.contents console.old console.new result (F.opens files.now) (F.fails files.now) F.File.gives F.Files.asked
         (R.Input.gives input) (R.Read.remaining input)) (map string_bytes words.now) }
 {
     match parse(alloc, grammar, words) {
@@ -50,7 +50,7 @@ fn dispatch<F: Opens + GroupTrees, R: Read + Input, W: Write, E: Write>(
     input: R,
     console: &mut Console<W, E>,
 ) -> u8
-    ensures { Does W.contents E.contents console.old console.new result (F.opens files.now) (F.fails files.now) F.File.gives
+    ensures { Does W.contents E.contents console.old console.new result (F.opens files.now) (F.fails files.now) F.File.gives F.Files.asked
         (R.Input.gives input) (R.Read.remaining input) (asked words.entry) }
 {
     match words {
@@ -78,7 +78,7 @@ fn run_in<F: Opens + GroupTrees, R: Read + Input, W: Write, E: Write>(
     input: R,
     console: &mut Console<W, E>,
 ) -> u8
-    ensures { Does W.contents E.contents console.old console.new result (F.opens files.now) (F.fails files.now) F.File.gives
+    ensures { Does W.contents E.contents console.old console.new result (F.opens files.now) (F.fails files.now) F.File.gives F.Files.asked
         (R.Input.gives input) (R.Read.remaining input)
         (run machine.now (option_map word_bytes table.entry) (option_map word_bytes root.entry) adopt) }
 {

@@ -132,7 +132,7 @@ fn described(alloc: Global, text: &[u8], table: Option<&Slit>) -> Result<Machine
 }
 
 /// Runs the script that the reader has left over a node and bundles, by so many reads at most, and writes its answers.
-pub fn play<K: Kernel + Drop, B: Bundles + Drop, R: Read, W: Write>(
+fn play<K: Kernel + Drop, B: Bundles + Drop, R: Read, W: Write>(
     node: Node<K>,
     bundles: B,
     script: &mut R,

@@ -9,7 +9,7 @@ returns-in-Ok-node_below g c = inl (
   inl (
     c.in-Ok-node_below.node,
     c.in-Ok-node_below.ensures,
-    (record c.args.console.now { out = c.play-end.new.w }, c.play-end.result, c.play-end.ensures, refl, c.finish.ensures),
+    (record c.args.console.now { out = c.play_below-end.new.w }, c.play_below-end.result, c.play_below-end.ensures, refl, c.finish.ensures),
   ),
 )
 
