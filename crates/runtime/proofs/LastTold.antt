@@ -24,7 +24,7 @@ use Rattle.node.specs.IsNode.{IsNode}
 use Rattle.node.specs.NodeState.{NodeState}
 use Rattle.node.specs.Best.{moved}
 use Rattle.node.specs.Headline.{effective_sets}
-use Rattle.node.specs.Rows.{as_cpus, planned, lacking}
+use Rattle.node.specs.Rows.{as_cores, as_cpus, planned, lacking}
 use Rattle.node.specs.Updates.{Updates}
 use Rattle.node.specs.Calls.{Places, Starts, Kills, Deletes}
 use Rattle.node.specs.Rebalance.{Begins, StepsOn, Rebalances, ShowsCertificate}
@@ -129,7 +129,8 @@ module _ (keep : RunsKeep) (leaves : RunsRebalance) (last_proved : LastIsProved)
       → IsLastTold (told_with told old (Rebalance r) new s) new
   rebalance_told told old new (Ok (Plan total)) node after m h =
       let b = leaves old [] old (Ok (Plan total)) new node refl m in
-      now_told new _ _ b.told.is (λ held. total_told old new total node _ (total_proved old new total after b _ b.told.is held))
+      let c : Certificate = planned old (as_cores old.machine (effective_sets new.kernel new.containers)) b.told.prices b.told.whole in
+      now_told new _ c b.told.is (λ held. total_told old new total node c (total_proved old new total after b c b.told.is held))
   rebalance_told told old new (Ok (Short wanted allowed)) node after l h =
       let c : Certificate = lacking old l.members in
       let is : new.last ≡ Some c = ap (λ (n : NodeState). n.last) l.is in

@@ -1,11 +1,10 @@
 -- A node from the beginning.
 use Rattle.kernel_model.specs.KernelState.{KernelState, IsFirstKernel}
 use Rattle.machine.specs.Layout.{Layout}
-use Rattle.machine.specs.IsSound.{IsSound}
 use Rattle.machine.specs.Present.{present}
 use Rattle.machine.specs.Nodes.{nodes_of}
 use Rattle.node.specs.NodeState.{NodeState}
-use Rattle.node.specs.IsNode.{IsNode}
+use Rattle.node.specs.IsNode.{IsMachine, IsNode}
 use Rattle.node.specs.Calls.{Opens}
 use Rattle.runtime.specs.declared.booting.TheConstants.{FIRST_PID}
 
@@ -17,6 +16,6 @@ IsKernelOf m = IsFirstKernel (present m) m.reserved m.online (nodes_of m) FIRST_
 abbrev pub Boots : Layout → NodeState → Type 0
 Boots m n = (k : KernelState) × IsKernelOf m k × Opens k m n
 
--- on a sound machine that is a node, of which all the laws of nodes hold
+-- on a machine that is a node, of which all the laws of nodes hold
 abbrev pub BootsNodes : Type 0
-BootsNodes = (m : Layout) (n : NodeState) → IsSound m → Boots m n → IsNode n
+BootsNodes = (m : Layout) (n : NodeState) → IsMachine m → Boots m n → IsNode n
