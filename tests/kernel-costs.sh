@@ -27,5 +27,5 @@ takes 'a write of a leaf, and what it has in effect' leaf-writes 100 1100 8000
 takes 'a CPU that goes or comes, and what a leaf has in effect' online-changes 100 1100 20000
 takes 'a fork and an exit with 10,000 children alive' forks 20000 30000 3000
 takes 'a fork, and an exit once all have forked' forks-and-exits 10000 40000 3000
-takes 'a hand-over of 1,024 containers, 2,048 writes' hand-overs 0 1 500000000
+takes 'a hand-over of 1,024 containers, 2,048 writes' hand-overs 0 1 560000000
 exit "$failed"
