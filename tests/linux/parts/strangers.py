@@ -63,13 +63,12 @@ def roots():
 
 
 def a_process():
-    """A root with a process in it: Linux gives its groups the controller all the same, and then takes no process into them."""
+    """A root with a process in it: Linux gives no controller to the group of the containers, which is threaded, so none is created."""
     with group(f"{ROOT}/busy") as busy:
         tree.spawn(busy)
-        containers = tree.Containers()
-        bundle, run = containers.bundle("one", quota=1), tree.Run(root=busy)
-        run.ok(f"create one {bundle}", "pid 2")
-        assert write(f"{busy}/numarun/one/cgroup.procs", "0"), read(f"{busy}/numarun/one/cgroup.type")
+        bundle, run = tree.Containers().bundle("one", quota=1), tree.Run(root=busy)
+        run.ok(f"create one {bundle}", "refused E50 KernelFault")
+        assert "numarun/cgroup.subtree_control: Operation not supported" in run.said()[-1]
         run.close()
 
 
