@@ -12,3 +12,4 @@ pub mod WordSets
 pub mod Ranges
 pub mod RangesFrom
 pub mod RangeLaws
+pub mod SetRanges
