@@ -68,7 +68,7 @@ put() {
 put_all() {
     local name script
     put 755 "$program" bin/numarun
-    for name in common.py answers.py events.py groups.py records.py; do
+    for name in common.py answers.py demands.py events.py groups.py homes.py pauses.py records.py release.py room.py slices.py taken.py waiters.py; do
         put 644 "$top/examples/$name" "lib/numarun/$name"
     done
     for script in "${scripts[@]}"; do
