@@ -330,30 +330,6 @@ def recorded():
     refuses("agent.py", *PLAIN, "--certificates", "/proc/no/where", says="/proc/no/where: No such file")
 
 
-def hooked():
-    """A runtime's hook tells of a container, in the group that its process is in, and that it is gone."""
-    site = Site()
-    site.come("a", 2, group=False)
-    os.mkdir(site.at("told"))
-    os.rename(site.at("g/a"), site.at("bundle"))
-    state = {"ociVersion": "1.0.2", "id": "a", "status": "created", "pid": os.getpid(), "bundle": site.at("bundle")}
-    check("a container", told("hook.py", site.at("told"), text=json.dumps(state)), (0, "", ""))
-    group = json.load(open(site.at("told/a/status")))["cgroup-path"] if os.path.exists(site.at("told/a/status")) else "/numarun/a"
-    site.make_group("a", group=group.strip("/"))
-    status, lines = site.run("--watch", site.at("told"))
-    check("it is told", (status, lines[0]), (0, f"create a {site.at('told/a')}"))
-    first = os.stat(site.at("told/a")).st_ino
-    check("told again", told("hook.py", site.at("told"), text=json.dumps({**state, "status": "creating"})), (0, "", ""))
-    check("as another one", os.stat(site.at("told/a")).st_ino != first, True)
-    for _ in range(2):
-        check("gone", told("hook.py", site.at("told"), text=json.dumps({**state, "status": "stopped", "pid": 0})), (0, "", ""))
-        check("nothing is left", os.listdir(site.at("told")), [])
-    for text, says in [("", "not JSON"), ("[]", "no JSON object"), ("{}", "no id in the"), (json.dumps({**state, "id": "../x"}), "'../x' is no id"),
-                       (json.dumps({**state, "bundle": "/no"}), "/no/config.json: no such file"), ("x" * (1 << 20 | 1), "more than 1048576 bytes")]:
-        refuses("hook.py", site.at("told"), text=text, says=says)
-    words_and_help("hook.py", "/usr/local/bin/numarun-hook")
-
-
 def one_agent():
     """The second one is refused; after a kill -9 the next one waits for the run of the one before."""
     site = Site()
@@ -444,7 +420,7 @@ def refusals():
 
 
 for part in (plain, restart, under_its_id, refused_writes, admission, fewer, who_is_pinned, refused_sections, pool_hook, flapping, storm,
-             rest, recorded, hooked, one_agent, told_by_lines, places, refusals):
+             rest, recorded, one_agent, told_by_lines, places, refusals):
     if not sys.argv[1:] or part.__name__ in sys.argv[1:]:
         part()
 end("agent.py")
