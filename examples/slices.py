@@ -2,7 +2,6 @@
 that has a pinned container below it can't be, since the kernel gives a group no more than those above it have. Of such a one the
 groups below it are told that are on the way to no pinned container; it is let go itself, and has all CPUs."""
 
-import hashlib
 import json
 import os
 import re
@@ -18,7 +17,10 @@ def id_of(group):
     name = re.sub(r"[^A-Za-z0-9_.+-]", "_", group.replace("/", "+"))
     if name == group.replace("/", "+") and len(name) <= MOST_SIGNS and name not in (".", ".."):
         return name
-    return f"{name[:MOST_SIGNS - 9]}-{hashlib.sha1(group.encode(errors='surrogateescape')).hexdigest()[:8]}"
+    digest = 2166136261
+    for byte in group.encode(errors="surrogateescape"):
+        digest = (digest ^ byte) * 16777619 & 0xFFFFFFFF  # FNV-1a
+    return f"{name[:MOST_SIGNS - 9]}-{digest:08x}"
 
 
 def is_below(path, above):
