@@ -1,7 +1,6 @@
 """Tries the agent where something changes under it: limits, CPUs that go, configs that can't be seen for a while, what others write
 into a group, and a machine that is another one than the machine file's."""
 
-import json
 import os
 import sys
 import time

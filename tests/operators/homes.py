@@ -1,7 +1,6 @@
 """Tries the homes that the agent and dry-run.py give to containers which name no nodes of memory, and containers that are never moved."""
 
 import importlib
-import json
 import os
 import sys
 

@@ -7,8 +7,8 @@ import os
 import shutil
 import sys
 
-from sites import STAND_IN, Open, Site, untimed
-from trial import EXAMPLES, check, end, refuses, told
+from sites import Open, Site
+from trial import check, end, refuses, told
 
 common, slices = importlib.import_module("common"), importlib.import_module("slices")
 REST = ("--rest", "system.slice,user.slice,init.scope", "--rest", "machine.slice")
