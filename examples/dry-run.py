@@ -48,8 +48,8 @@ def asked_for(words, folder):
 def with_home(words, machine, before, bundle, folder):
     """The bundle with a home, where the agent would give it one; and that home. A shared container has reserved CPUs, so that the
     others are those of pinned ones."""
-    config = parse_text(read_text(os.path.join(bundle, "config.json"), BYTES), bundle)
     try:
+        config = parse_text(read_text(os.path.join(bundle, "config.json"), BYTES), bundle)
         count = asked(config, "all", machine.threads)
     except (Refused, AttributeError, TypeError):
         return bundle, None  # numarun refuses it
@@ -60,10 +60,10 @@ def with_home(words, machine, before, bundle, folder):
     home = home_of(machine, config, count, free, words.nodes)
     if not home or home == set(machine.node_of.values()):
         return bundle, None
-    os.makedirs(os.path.join(folder, "housed"))
-    with open(os.path.join(folder, "housed", "config.json"), "w") as file:
+    made = tempfile.mkdtemp(dir=folder)
+    with open(os.path.join(made, "config.json"), "w") as file:
         json.dump(housed(config, home), file)
-    return os.path.join(folder, "housed"), home
+    return made, home
 
 
 def tell_all(numarun, script):
@@ -77,21 +77,24 @@ def tell_all(numarun, script):
         numarun.ask("step")
 
 
-def create_all(numarun, folder):
-    """Makes the containers of a folder of bundles, and moves them onto a plan."""
+def create_all(numarun, words, machine, folder):
+    """Makes the containers of a folder of bundles, each with a home if it names none."""
     try:
-        names = sorted(os.listdir(folder))
+        names = sorted(os.listdir(words.running))
     except OSError as why:
-        raise Refused(f"{folder}: {why.strerror}") from None
+        raise Refused(f"{words.running}: {why.strerror}") from None
     for name in names:
-        bundle = os.path.join(folder, name)
+        bundle = os.path.join(words.running, name)
         if name.split() == [name] and os.path.isfile(os.path.join(bundle, "config.json")):
-            answer = numarun.ask(f"create {name} {bundle}")[0]
+            told, _ = with_home(words, machine, requested(numarun), bundle, folder)
+            answer = numarun.ask(f"create {name} {told}")[0]
             if answer.startswith("refused"):
                 print(f"dry-run.py: passed over: {bundle}: {answer}", file=sys.stderr)
+            elif words.home != "none":
+                numarun.ask("rebalance")  # the home of the next one is by what this one has
 
 
-def set_up(numarun, words, machine):
+def set_up(numarun, words, machine, folder):
     words.there = machine.present - machine.offline
     if words.online is not None:
         online = read_list(read_text(words.online), words.online)
@@ -101,7 +104,7 @@ def set_up(numarun, words, machine):
     if words.after is not None:
         tell_all(numarun, words.after)
     if words.running is not None:
-        create_all(numarun, words.running)
+        create_all(numarun, words, machine, folder)
         outcome = numarun.ask("rebalance")
         if outcome[0].startswith("short"):
             raise Refused(f"{words.running}: these have no plan themselves: {' '.join(outcome[:-1])}")
@@ -134,9 +137,9 @@ def where(name, plan, before, home):
 
 
 def try_it(words, machine, numarun, bundle, folder):
-    set_up(numarun, words, machine)
+    set_up(numarun, words, machine, folder)
     before = requested(numarun)
-    bundle, home = with_home(words, machine, before, bundle, folder) if os.path.exists(os.path.join(bundle, "config.json")) else (bundle, None)
+    bundle, home = with_home(words, machine, before, bundle, folder)
     name = words.id or next(name for name in ["new"] + [f"new-{k}" for k in range(2, 9999)] if name not in before)
     answer = numarun.ask(f"create {name} {bundle}")[0]
     if answer.startswith("refused"):

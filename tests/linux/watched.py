@@ -11,7 +11,7 @@ import tree
 from tree import ROOT, read, write
 
 FOLDER, WORK, OUT = "/tmp/watched", "/run/numarun", "/tmp/watched-out"
-SECONDS = 120  # that the agent has for what it is waited for; an emulated machine may have little of a processor
+SECONDS = 600  # that the agent has for what it is waited for; an emulated machine may have little of a processor
 
 
 def begin():

@@ -4,12 +4,14 @@ into a group, and a machine that is another one than the machine file's."""
 import os
 import sys
 import time
+from types import SimpleNamespace
 
 from sites import QUOTA, Open, Site
 from trial import EXAMPLES, check, end
 
 sys.path.insert(0, EXAMPLES)
 from common import read_list
+from sight import Sight
 
 LEAST, STAY = "numarun.least", "numarun.stay"
 
@@ -332,17 +334,17 @@ def least_room():
 
 
 def not_yet():
-    """What a runtime is in the midst of making is not called absent."""
+    """What a runtime is in the midst of making is called absent at the second look, and not at the first; or else at the end."""
+    lines, left = [], {}
+    looker = Sight(SimpleNamespace(tree=None, machine=None, words=None, open=left, say_once=lambda of, line: lines.append(line)))
+    looker.say_absent("a", "no such group")
+    check("at the first look", (lines, ("container", "a") in left), ([], True))
+    looker.say_absent("a", "no such group")
+    check("at the second", lines, ["absent a: no such group"])
     site = Site()
-    site.come("a", 1, group=False)
-    agent = Open(site)
-    time.sleep(0.05)
-    site.make_group("a")
-    lines = agent.until("done")
-    check("no line", of(lines, "absent"), [])
-    agent.end()
     site.come("ghost", 1, group=False)
-    check("at the end it is said", of(site.run()[1], "absent"), [f"absent ghost: {site.at('root/numarun/ghost')}: no such group"])
+    status, said = site.run()
+    check("at the end", (status, of(said, "absent")), (1, [f"absent ghost: {site.at('root/numarun/ghost')}: no such group"]))
 
 
 def bounded_certificates():

@@ -117,6 +117,10 @@ def shown():
     check("the other node", (status, out.splitlines()), (0, ["new would have 4-6: 3 CPUs, distance 30", "its home would be node 1", "total distance: 60; 0 CPUs of the others would move"]))
     status, out, _ = told("dry-run.py", *words, "--cpus", "2", "--nodes", site.at("nodes"))
     check("on an empty machine", out.splitlines()[1], "its home would be node 0")
+    site.come("b", 3)
+    status, out, _ = told("dry-run.py", *words[:3], "--running", site.at("g"), "--nodes", site.at("nodes"), "--cpus", "1")
+    check("beside others, which have homes too", out.splitlines(), ["new would have 7: 1 CPU, distance 10", "its home would be node 1",
+                                                                   "total distance: 70; 0 CPUs of the others would move"])
     status, out, _ = told("dry-run.py", *words, "--cpus", "5", "--home", "none", text=script)
     check("without homes", "home" in out, False)
 
