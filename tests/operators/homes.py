@@ -125,17 +125,22 @@ def shown():
     check("without homes", "home" in out, False)
 
 
-def staying():
-    """One with the annotation is never moved, though it would be nearer elsewhere; where its CPU goes it gets another one."""
+def far_site():
+    """Two containers that are far from home, since a third one has the near CPUs; one of the two is never to be moved."""
     site = Site(TWO)
     site.online("0-7")
     for name, cpus, stay in (("near", "1-3", {}), ("db", 0, {"numarun.stay": "true"}), ("other", 0, {})):
         section = {"cpu": {"cpus": cpus} if cpus else {"quota": 2 * QUOTA, "period": QUOTA, "mems": "0"}}
         site.come(name, linux={"resources": section}, annotations=stay)
-    status, lines = site.run()
-    check("both are far", (status, site.has("near", "db", "other")), (0, ["1-3", "4-5", "6-7"]))
+    return site
+
+
+def staying():
+    """One with the annotation is never moved, though it would be nearer elsewhere; where its CPU goes it gets another one."""
+    site = far_site()
     agent = Open(site)
     agent.until("done")
+    check("both are far", site.has("near", "db", "other"), ["1-3", "4-5", "6-7"])
     site.go("near")
     agent.until("ended near")
     agent.until("done")
@@ -153,7 +158,14 @@ def staying():
     check("its CPU goes", (site.has("db")[0] != "4", len(common.read_list(site.has("db")[0], "db")), agent.end()[0]), (True, 1, 0))
 
 
-for part in (chosen, kept, none, later, shown, staying):
+def staying_over_restarts():
+    site = far_site()
+    check("both are far", (site.run()[0], site.has("db", "other")), (0, ["4-5", "6-7"]))
+    site.go("near")
+    check("the other one comes home while no agent ran", (site.run()[0], site.has("db", "other")), (0, ["4-5", "1-2"]))
+
+
+for part in (chosen, kept, none, later, shown, staying, staying_over_restarts):
     if not sys.argv[1:] or part.__name__ in sys.argv[1:]:
         part()
 end("homes")
