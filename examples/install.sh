@@ -14,8 +14,8 @@
 # --deb makes FOLDER/numarun_VERSION_ARCHITECTURE.deb by dpkg-deb, with the same below /usr, and the folder /etc/numarun. It is
 # installed by dpkg -i and taken away by dpkg -r.
 #
-# Examples: examples/install.sh /usr/local
-#           examples/install.sh --deb . && dpkg -i numarun_*.deb
+# Example: examples/install.sh /usr/local
+#          examples/install.sh --deb . && dpkg -i numarun_*.deb
 set -euo pipefail
 export LC_ALL=C
 top=$(cd "$(dirname "$(realpath "$0")")/.." && pwd)

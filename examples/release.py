@@ -3,7 +3,7 @@ list of a group that has processes. `agent.py --release` does it; no agent may r
 
 import os
 
-from groups import Tree
+from groups import EFFECTIVE, Tree
 from taken import Taken
 
 
@@ -11,8 +11,8 @@ def release(words):
     """Says what was given back; 1 where a write was refused."""
     tree = Tree(words.cgroup, words.work, words.group)
     taken = Taken(words.work)
-    if not taken.all:
-        taken.all = [",".join(text.split()) for text in (tree.read(tree.root, f"{file}.effective") or "" for file in ("cpuset.cpus", "cpuset.mems"))]
+    if not all(text not in (None, "-") for text in taken.all):
+        taken.all = [tree.read(tree.root, file) or "" for file in EFFECTIVE]
     more = [os.path.join(tree.root, name) for name in words.groups]
     status = 0
     for path in sorted({*taken.groups, *(path for path in more if os.path.isdir(path))}):

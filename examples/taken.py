@@ -33,8 +33,16 @@ class Taken:
             told = parse_text(read_text(self.path, RECORD_BYTES), self.path)
         except Refused:
             return
-        self.all = self.all if cpus else told.get("all")
-        self.groups = {path: entry for path, entry in told.get("groups", {}).items() if self.inode(path) == entry[0]}
+        self.all = self.all if cpus or not self.are_texts(told.get("all")) else told["all"]
+        groups = told.get("groups") if isinstance(told.get("groups"), dict) else {}
+        self.groups = {path: entry for path, entry in groups.items() if self.is_entry(entry) and self.inode(path) == entry[0]}
+
+    @staticmethod
+    def are_texts(told):
+        return isinstance(told, list) and len(told) == 2 and all(text is None or isinstance(text, str) for text in told)
+
+    def is_entry(self, told):
+        return isinstance(told, list) and len(told) == 4 and self.are_texts(told[1:3])
 
     @staticmethod
     def inode(path):

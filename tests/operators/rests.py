@@ -155,6 +155,10 @@ def released():
     entry = json.load(open(site.at("work/taken.json")))["groups"][site.at("root/system.slice")]
     check("what is kept", entry[1:], ["", "", True])
     check("without a tree", told("agent.py", "--release")[0], 2)
+    for text in ("{", "[]", '{"groups": 5}', '{"all": 5, "groups": {"/": [1]}}', '{"groups": {"/x": 5}}'):
+        with open(site.at("work/taken.json"), "w") as file:
+            file.write(text)
+        check(f"a record that is none: {text}", (told("agent.py", *words), site.run(*REST)[0]), ((0, "", ""), 0))
 
 
 for part in (slices_with_containers, comes_later, held_before, cannot_be, squeezed, ids, released):
