@@ -20,6 +20,7 @@ import time
 
 from common import Refused, read_text, run
 from groups import at, parse_text
+from waiters import near
 
 STATE_BYTES = 1 << 20
 ID = re.compile(r"[A-Za-z0-9_.+-]{1,64}")  # what the agent tells of
@@ -69,7 +70,8 @@ def answer_of(path, name, seconds):
         try:
             with socket.socket(socket.AF_UNIX, socket.SOCK_STREAM) as door:
                 door.settimeout(max(until - time.monotonic(), PAUSE))
-                door.connect(path)
+                with near(path) as near_by:
+                    door.connect(near_by)
                 door.sendall(f"{name}\n".encode())
                 line = door.makefile("rb").readline(LINE).decode(errors="replace")
                 if line.endswith("\n"):

@@ -13,6 +13,16 @@ LINE = 256      # bytes of what is told
 MOST = 1024     # hooks at once
 
 
+@contextlib.contextmanager
+def near(path):
+    """A shorter name of a socket, since one may have some 100 bytes: by its folder, which is open meanwhile."""
+    folder = os.open(os.path.dirname(path) or ".", os.O_RDONLY | os.O_DIRECTORY)
+    try:
+        yield f"/proc/self/fd/{folder}/{os.path.basename(path)}"
+    finally:
+        os.close(folder)
+
+
 class Waiters:
     def __init__(self, path):
         self.path, self.waiting = path, {}  # by its connection the bytes that one told, and until when it waits
@@ -20,7 +30,8 @@ class Waiters:
         with contextlib.suppress(FileNotFoundError):
             os.unlink(path)
         try:
-            self.door.bind(path)
+            with near(path) as name:
+                self.door.bind(name)
         except OSError as why:
             raise Refused(f"{path}: {why.strerror or why}") from None
         self.door.listen(64)

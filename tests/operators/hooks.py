@@ -111,7 +111,17 @@ def in_time():
     agent.end(signal.SIGTERM)
 
 
-for part in (hooked, answered, in_time):
+def far_away():
+    """A folder of the agent's with a longer name than a socket may have."""
+    site = Site()
+    prepared(site, "a", 2)
+    work = site.at("w" * 120)
+    agent = Open(site, "--watch", site.at("told"), "--work", work)
+    check("a long name", ended(begun(site, "a", "--agent", f"{work}/hooks", "--wait", "60")), (0, "pinned a 1-2\n", ""))
+    agent.end(signal.SIGTERM)
+
+
+for part in (hooked, answered, in_time, far_away):
     if not sys.argv[1:] or part.__name__ in sys.argv[1:]:
         part()
 end("hook.py")
