@@ -9,14 +9,14 @@ ghost use Rattle.twins.specs.IsGrouping.{IsGrouping};
 ghost use Rattle.twins.specs.Kinds.{AreKinds};
 ghost use Rattle.twins.specs.Edges.{AreEdges};
 ghost use Rattle.twins.specs.AreSpans.{AreSpans};
-ghost use Rattle.twins.specs.Settled.{IsSettling};
+ghost use Rattle.twins.specs.Settled.{AreOnce, IsSettling};
 ghost use Rattle.twins.specs.IsPart.{IsPart, IsUnsplit, ArePieces, IsSplit, IsPutTo};
 
 use crate::Classes;
 use crate::alike::{alike, are_alike};
 use crate::edges::{are_in_one_run, edges_of};
 use crate::parts::Parts;
-use crate::settling::{Settling, once_offered};
+use crate::settling::Settling;
 use crate::spans::Spans;
 use certificate::{Offers, Problem, Row};
 use cpu_set::{CPU_LIMIT, IdSet};
@@ -25,8 +25,9 @@ use std::alloc::{AllocError, Global};
 /// The CPUs with a weight in some row, in classes of twins. A CPU with none is in no class.
 ///
 /// Each row splits the sets that are left of the rows before it; a set that is one run of twins needs no more
-/// looks. A row of the kind of an earlier one splits none. At worst O(r * (g + o)) operations on sets and O(r * g * o) looks
-/// at offers, of r rows with at most o offers each and g classes: each offer's set is made at most once for a row.
+/// looks. A row of the kind of an earlier one splits none. At worst O(r * (g + o)) operations on sets, O(r * g * o) looks
+/// at offers and O(r * p) at ranges, of r rows with at most o offers and p ranges each and g classes: a set is looked up in a
+/// few ranges alone, and each offer's set is made at most once for a row.
 ///
 /// # Errors
 /// An allocation failure.
@@ -45,13 +46,13 @@ fn group_body(alloc: Global, rows: &[Row], kinds: &[usize]) -> Result<Vec<IdSet>
     requires kinds { AreKinds rows.now (length rows.now) kinds.now }
     ensures { IfOk result (λ sets. IsGrouping rows.now sets.items) }
 {
-    let offered = offered_cpus(rows, kinds);
+    let (offered, once) = offered_cpus(rows, kinds);
     let edges = edges_of(rows, kinds, &offered);
     let runs = edges.meet(&offered).count();
     let mut alone = Vec::with_capacity(alloc, runs as usize)?;
     let mut parts = unsplit(alloc, &offered)?;
     let mut spans = Spans::new(alloc)?;
-    let mut settling = Settling::new(once_offered(rows, kinds, offered.count(), runs));
+    let mut settling = Settling::new(once, offered.count(), runs);
     for k in 0..rows.len() {
         if kinds[k] == k {
             split_all(
@@ -93,19 +94,24 @@ fn unsplit(alloc: Global, all: &IdSet) -> Result<Parts, AllocError>
     Ok(parts)
 }
 
-/// The CPUs with a weight in some row. A row of the kind of an earlier one adds none.
-fn offered_cpus(rows: &[Row], kinds: &[usize]) -> IdSet
+/// The CPUs with a weight in some row, and those for which rows of one kind alone have one. A row of the kind of an earlier
+/// one adds none.
+fn offered_cpus(rows: &[Row], kinds: &[usize]) -> (IdSet, IdSet)
     requires { AreKinds rows.now (length rows.now) kinds.now }
-    ensures { (cpu : ℕ) → set.contains result cpu ≡ is_offered rows.now cpu }
+    ensures offered { (cpu : ℕ) → set.contains result.0 cpu ≡ is_offered rows.now cpu }
+    ensures once { AreOnce rows.now result.1 }
 {
     let mut offered = IdSet::empty();
+    let mut twice = IdSet::empty();
     for k in 0..rows.len() {
         if kinds[k] == k {
             let row = &rows[k];
-            offered = offered.union(&row.offers.cpus());
+            let cpus = row.offers.cpus();
+            twice = twice.union(&offered.meet(&cpus));
+            offered = offered.union(&cpus);
         }
     }
-    offered
+    (offered, offered.minus(&twice))
 }
 
 /// Parts that agree on the rows before row `k`, split so that they agree on it too.
@@ -185,7 +191,8 @@ fn split(
         parts.keep(at)?;
         return Ok(());
     }
-    if are_alike(spans, parts.cpus(at), first, last) {
+    let whole = are_alike(offers, spans, parts.cpus(at), first, last)?;
+    if whole {
         parts.keep(at)?;
         return Ok(());
     }

@@ -73,6 +73,14 @@ impl Spans {
         }
     }
 
+    /// Whether the CPU is seen to have this weight.
+    pub(crate) fn weighs(&self, cpu: u16, weight: u32) -> bool {
+        match self.span_at(cpu) {
+            Some(span) => span.weight == weight,
+            None => false,
+        }
+    }
+
     /// The CPUs that are in one of the offers.
     pub(crate) fn cpus(&self) -> &IdSet
         ensures { (offers : List Offer) (cpu : ℕ) → AreSpans offers self.now → set.contains result.now cpu ≡ is_some (weight_in offers cpu) }
@@ -111,6 +119,12 @@ fn note_hint(hints: &mut [u16], first: u16, last: u16, place: usize)
     ensures { length hints.new ≡ length hints.old }
 {
     let hint = place.min(u16::MAX as usize) as u16;
+    if first == last {
+        if let Some(own) = hints.get_mut(first as usize) {
+            *own = hint;
+        }
+        return;
+    }
     if let Some(own) = hints.get_mut(first as usize..last as usize + 1) {
         for one in own {
             *one = hint;
