@@ -138,6 +138,7 @@ fn weight_of(offers: &Offers, spans: &Spans, cpu: u16) -> Option<u32>
 }
 
 /// The weight of a CPU, by a look at each offer. Where none has it, none is looked at.
+// Each CPU of an offer is noted with its range, so no valid problem comes to the loop: it stands for what is not proved of hints.
 fn weight_among(offers: &Offers, spans: &Spans, cpu: u16) -> Option<u32>
     requires fit { IsTrue (offers_fit offers.now) }
     requires spans { AreSpans offers.now spans.now }

@@ -7,6 +7,7 @@ ghost use Rattle.certificate.specs.Limits.{row_fits};
 ghost use Rattle.certificate.specs.IsShortage.{is_offered};
 ghost use Rattle.twins.specs.IsGrouping.{IsGrouping};
 ghost use Rattle.twins.specs.Kinds.{AreKinds};
+ghost use Rattle.twins.specs.RowCpus.{AreCpusOf, AreRowCpus};
 ghost use Rattle.twins.specs.Edges.{AreEdges};
 ghost use Rattle.twins.specs.AreSpans.{AreSpans};
 ghost use Rattle.twins.specs.Settled.{AreOnce, IsSettling};
@@ -27,7 +28,7 @@ use std::alloc::{AllocError, Global};
 /// Each row splits the sets that are left of the rows before it; a set that is one run of twins needs no more
 /// looks. A row of the kind of an earlier one splits none. At worst O(r * (g + o)) operations on sets, O(r * g * o) looks
 /// at offers and O(r * p) at ranges, of r rows with at most o offers and p ranges each and g classes: a set is looked up in a
-/// few ranges alone, and each offer's set is made at most once for a row.
+/// few ranges alone, and each offer's set is made at most once for a row. The set of each row's CPUs is kept until the end.
 ///
 /// # Errors
 /// An allocation failure.
@@ -46,7 +47,8 @@ fn group_body(alloc: Global, rows: &[Row], kinds: &[usize]) -> Result<Vec<IdSet>
     requires kinds { AreKinds rows.now (length rows.now) kinds.now }
     ensures { IfOk result (λ sets. IsGrouping rows.now sets.items) }
 {
-    let (offered, once) = offered_cpus(rows, kinds);
+    let mut sets = Vec::with_capacity(alloc, rows.len())?;
+    let (offered, once) = offered_cpus(rows, kinds, &mut sets)?;
     let edges = edges_of(rows, kinds, &offered);
     let runs = edges.meet(&offered).count();
     let mut alone = Vec::with_capacity(alloc, runs as usize)?;
@@ -58,6 +60,7 @@ fn group_body(alloc: Global, rows: &[Row], kinds: &[usize]) -> Result<Vec<IdSet>
             split_all(
                 rows,
                 k,
+                &sets[k],
                 &mut parts,
                 &mut spans,
                 &edges,
@@ -95,23 +98,31 @@ fn unsplit(alloc: Global, all: &IdSet) -> Result<Parts, AllocError>
 }
 
 /// The CPUs with a weight in some row, and those for which rows of one kind alone have one. A row of the kind of an earlier
-/// one adds none.
-fn offered_cpus(rows: &[Row], kinds: &[usize]) -> (IdSet, IdSet)
-    requires { AreKinds rows.now (length rows.now) kinds.now }
-    ensures offered { (cpu : ℕ) → set.contains result.0 cpu ≡ is_offered rows.now cpu }
-    ensures once { AreOnce rows.now result.1 }
+/// one adds none. The CPUs of each other row are put into the list of sets, since they are asked for again.
+fn offered_cpus(
+    rows: &[Row],
+    kinds: &[usize],
+    sets: &mut Vec<IdSet>,
+) -> Result<(IdSet, IdSet), AllocError>
+    requires kinds { AreKinds rows.now (length rows.now) kinds.now }
+    requires sets { sets.old.items ≡ [] }
+    ensures offered { IfOk result (λ both. (cpu : ℕ) → set.contains both.0 cpu ≡ is_offered rows.now cpu) }
+    ensures once { IfOk result (λ both. AreOnce rows.now both.1) }
+    ensures sets { OnOk result (AreRowCpus rows.now kinds.now (length rows.now) sets.new.items) }
 {
     let mut offered = IdSet::empty();
     let mut twice = IdSet::empty();
     for k in 0..rows.len() {
+        let mut cpus = IdSet::empty();
         if kinds[k] == k {
             let row = &rows[k];
-            let cpus = row.offers.cpus();
+            cpus = row.offers.cpus();
             twice = twice.union(&offered.meet(&cpus));
             offered = offered.union(&cpus);
         }
+        sets.push(cpus)?;
     }
-    (offered, offered.minus(&twice))
+    Ok((offered, offered.minus(&twice)))
 }
 
 /// Parts that agree on the rows before row `k`, split so that they agree on it too.
@@ -119,6 +130,7 @@ fn offered_cpus(rows: &[Row], kinds: &[usize]) -> (IdSet, IdSet)
 fn split_all(
     rows: &[Row],
     k: usize,
+    cpus: &IdSet,
     parts: &mut Parts,
     spans: &mut Spans,
     edges: &IdSet,
@@ -127,6 +139,7 @@ fn split_all(
 ) -> Result<(), AllocError>
     requires fit { IsTrue (list_all row_fits rows.now) }
     requires there { k < length rows.now }
+    requires cpus { AreCpusOf rows.now k cpus.now }
     requires settling { IsSettling rows.now k settling.old }
     requires edges { AreEdges rows.now edges.now }
     requires parts { All (IsPart rows.now k) parts.old.waiting }
@@ -140,7 +153,7 @@ fn split_all(
         return Ok(());
     }
     let row = &rows[k];
-    spans.note(&row.offers)?;
+    spans.note(&row.offers, cpus)?;
     for at in 0..parts.len() {
         split(
             rows,

@@ -43,9 +43,10 @@ impl Spans {
         })
     }
 
-    /// These offers, in place of those before.
-    pub(crate) fn note(&mut self, offers: &Offers) -> Result<(), AllocError>
-        requires { IsTrue (offers_fit offers.now) }
+    /// These offers, with the CPUs that are in one of them, in place of those before.
+    pub(crate) fn note(&mut self, offers: &Offers, cpus: &IdSet) -> Result<(), AllocError>
+        requires fit { IsTrue (offers_fit offers.now) }
+        requires cpus { (cpu : ℕ) → set.contains cpus.now cpu ≡ is_some (weight_in offers.now cpu) }
         ensures { OnOk result (AreSpans offers.now self.new) }
     {
         self.items.clear();
@@ -55,7 +56,7 @@ impl Spans {
             note_ranges(&mut self.items, &mut self.hints, offers, at)?;
             self.places.push(None)?;
         }
-        self.cpus = offers.cpus();
+        self.cpus = *cpus;
         Ok(())
     }
 

@@ -1,7 +1,7 @@
 use Rattle.certificate.specs.RowView.{RowView}
 use Rattle.certificate.specs.Weight.{weight_in}
 use Rattle.certificate.specs.declared.rows.Offer.{Offer}
-use Rattle.std.proofs.Common.{List, [], get_or, length, refl, subst, sym, true, ℕ, ◌&&◌, ◌<◌, ◌≡◌, ◌∙◌}
+use Rattle.std.proofs.Common.{List, [], get_or, length, refl, subst, ℕ, ◌&&◌, ◌<◌, ◌≡◌, ◌∙◌}
 use Rattle.std.proofs.lemmas.List.{get_or_default}
 use Rattle.twins.proofs.SameOffers.{offers_fit_at}
 use Rattle.twins.proofs.Splitting.{IsAlike, less_left, piece_is_part, to_piece, splitting_end, splitting_more, splitting_start}
