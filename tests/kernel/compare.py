@@ -100,14 +100,16 @@ def largest():
 def nested():
     """Groups, each below the one before, and what the deepest has in effect while groups above it and CPUs change."""
     case = Case(0, "0-63 0 0-63 0-1 2")
-    answered = [(f"make {k} deep", f"group {k + 1}") for k in range(DEPTH)]
+    # Names of many lengths: a new one is looked for among all groups.
+    names = ["d" * (k % 100 + 1) for k in range(DEPTH)]
+    answered = [(f"make {k} {names[k]}", f"group {k + 1}") for k in range(DEPTH)]
     last, half = DEPTH, DEPTH // 2
     answered += [(f"cpus.effective {last}", "ids 0-63"), (f"mems.effective {last}", "ids 0-1")]
     answered += [(f"cpus {half} 8-15", "ok"), (f"cpus.effective {last}", "ids 8-15"), (f"cpus.effective {half - 1}", "ids 0-63")]
     answered += [(f"cpus {last - 1} 12-20", "ok"), (f"cpus.effective {last}", "ids 12-15"), (f"cpus {last}", "ids -")]
     answered += [("offline 13", "ok"), (f"cpus.effective {last}", "ids 12,14-15"), (f"cpus {last - 1}", "ids 12-20")]
     answered += [("mems 5 1", "ok"), (f"mems.effective {last}", "ids 1"), (f"mems.effective {last - 1}", "ids 1")]
-    answered += [("online 13", "ok"), (f"cpus.effective {last}", "ids 12-15"), (f"find {last - 1} deep", f"group {last}")]
+    answered += [("online 13", "ok"), (f"cpus.effective {last}", "ids 12-15"), (f"find {last - 1} {names[-1]}", f"group {last}")]
     case.calls, case.expected = map(list, zip(*answered))
     return case
 
