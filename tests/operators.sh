@@ -13,7 +13,7 @@ export SCRATCH PROGRAM=$program
 python3 -B "$top/tests/operators/kills.py" >"$SCRATCH/kills" 2>&1 &
 kills=$!
 trap 'kill "$kills" 2>/dev/null || true; rm -rf "$SCRATCH"' EXIT
-for test in looks hwloc pictures explains dry-runs agents installs peers moves manual; do
+for test in looks hwloc pictures explains dry-runs agents rests changes homes hooks installs peers moves manual; do
     python3 -B "$top/tests/operators/$test.py"
 done
 status=0
