@@ -24,6 +24,9 @@ MADE = {
     "many-words": (25, 1500, 120, 3),
     "one-weight": (25, 1500, 120, 1),
 }
+# How often a CPU has the weight of the one below it, on both sides of where a row's arcs are put in blocks, and how many problems
+# of each there are.
+ALIKE = [(0, 4), (0.1, 6), (0.2, 8), (0.25, 12), (0.3, 8), (0.5, 6), (0.9, 6), (0.95, 8), (0.97, 12), (0.98, 8), (1, 4)]
 # The sizes of the families of benches/solver, as the last CPU and the rows.
 SIZES = [(40, 9), (255, 64)]
 
@@ -69,6 +72,22 @@ def made(most_cpus, most_rows, weights):
     return rows
 
 
+def alike(share):
+    """Rows that ask for nearly all CPUs there are, and that have the weight of the CPU below for such a share of them. Some want
+    most of theirs cheaply, so that they are looked at again and again; some have no weight for the last CPUs."""
+    count, size = random.randint(40, 300), random.randint(4, 30)
+    rows = []
+    for k in range(size):
+        by_weight, weight = {}, random.randint(1, 10**5)
+        upto = count if random.random() < 0.7 else random.randint(count // 2, count)
+        for cpu in range(upto):
+            if random.random() >= share:
+                weight = random.randint(1, 10**5) if random.random() < 0.9 else cpu * (k + 1)
+            by_weight.setdefault(weight, []).append(cpu)
+        rows.append((max(1, count // size - random.randint(0, 1)), sorted(by_weight.items())))
+    return rows
+
+
 def problem(rows):
     lines = ["numarun-certificate 1"]
     for k, (demand, offers) in enumerate(rows):
@@ -80,6 +99,8 @@ def write(folder):
     for name, (count, cpus, rows, weights) in MADE.items():
         random.seed(name)
         Path(folder, name).write_text("".join(problem(made(cpus, rows, weights)) for _ in range(count)))
+    random.seed("alike")
+    Path(folder, "alike").write_text("".join(problem(alike(share)) for share, count in ALIKE for _ in range(count)))
     for name, family in (FAMILIES | HARD).items():
         random.seed(name)
         sized = [list(family(range(1, last + 1), rows)) for last, rows in SIZES]
@@ -89,7 +110,7 @@ def write(folder):
 def see(folder):
     """Of each made file, how many answers are plans and shortages; and that there are many of both in all."""
     seen = Counter()
-    for name in MADE:
+    for name in [*MADE, "alike"]:
         answers = Path(folder, name + ".stdout").read_text().split("turns ")
         for answer in answers[:-1]:
             seen["shortages" if "short " in answer else "plans"] += 1
