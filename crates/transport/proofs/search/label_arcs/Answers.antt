@@ -24,6 +24,6 @@ returns-clause-labelled c =
     let s = c.args.assignment.now in
     on_ok_weaker c.label_others.result
     (λ n. subst (λ k. HasLabelled ws s k c.args.tree.now c.label_others.new.tree c.args.sorted_arcs.now.arcs.items c.args.sorted_arcs.now.cursor) c.scan_of-scan.ensures.row
-        (labelled_all ws s _ c.label_blocks.new.tree _ _ _ _ _ c.in_ok-label_blocks.ensures.labelled
-        (subst (λ xs. HasLabelledFrom ws s c.scan_of-scan.result.row c.label_blocks.new.tree c.label_others.new.tree xs c.args.sorted_arcs.now.blocked c.args.sorted_arcs.now.cursor) c.deref.ensures.value (n ws (can c)))))
+    (labelled_all ws s _ c.label_blocks.new.tree _ _ _ _ _ c.in_ok-label_blocks.ensures.labelled
+    (subst (λ xs. HasLabelledFrom ws s c.scan_of-scan.result.row c.label_blocks.new.tree c.label_others.new.tree xs c.args.sorted_arcs.now.blocked c.args.sorted_arcs.now.cursor) c.deref.ensures.value (n ws (can c)))))
     c.label_others.ensures
