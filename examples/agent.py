@@ -19,27 +19,27 @@ back what was taken.
 The status is 1 where something is left undone: a line that is no event, a refusal, a shortage, a failed write."""
 
 import argparse
-import collections
 import json
 import os
 import re
 import select
-import shlex
 import signal
-import subprocess
-import sys
 import tempfile
 import time
 
 from common import Machine, Refused, Run, check_program, find_program, print_list, read_list, run
-from demands import CPU, PIN, Demand, asked, fewer, homes_of, limited, other_limit, shared, staying, stays
+from demands import PIN, Demand, asked, limited, shared, stays
 from events import Folders, Input, Online
-from groups import Absent, NoTree, Tree, at, parse
-from homes import home_of, housed
+from groups import NoTree, Tree
+from homes import Homes, housed
+from mending import Mending
+from newcomers import Newcomers
 from pauses import Pauses
+from plans import Plans
 from records import KEPT, Records
 from release import release
 from room import Room
+from sight import Sight
 from slices import Slices
 from taken import Taken
 from waiters import Waiters
@@ -48,51 +48,26 @@ EXAMPLE = """examples, from the top of the repository:
   echo "created database examples/bundles/database" | examples/agent.py examples/machines/two-socket.json
   examples/agent.py host.json --cgroup /sys/fs/cgroup --watch /run/crun
   examples/agent.py --release --cgroup /sys/fs/cgroup"""
-HOOK = 30  # seconds that --pool's command has
-ID = re.compile(r"[A-Za-z0-9_.+-]{1,64}")
 EFFECTIVE_NOTE = re.compile(r"\S+/cpuset\.cpus\.effective: ")  # the agent compares these itself
-
-# What is there of a container: the stamp of its config, its group's inode, what its group has of limits and nodes that its config has
-# not, its age, how it was told, its config, and its group's path.
-Seen = collections.namedtuple("Seen", "stamp inode limit nodes age told config path")
-
-
-class Held:
-    """A container that numarun was told of."""
-
-    def __init__(self, seen, demand, given, waits):
-        self.seen, self.stays = seen, stays(seen.config)
-        self.demand, self.given = demand, given  # what it asks for, and what is asked for it now
-        self.wanted, self.waits = None, waits    # what it asks for by now, if there is no room yet; and whether it is to be pinned then
-        self.nodes, self.home = seen.nodes, None
-        self.admitted = False                    # whether a plan gave it CPUs
-        self.cpus = self.mems = None             # what it requests
-
-    @property
-    def pinned(self):
-        return self.given.count is not None
 
 
 class Agent:
     def __init__(self, words, machine, tree, work, online, waiters):
         self.words, self.machine, self.tree, self.work, self.online, self.waiters = words, machine, tree, work, online, waiters
         self.records = Records(words.textfile, words.certificates, words.keep)
-        self.room, self.pauses = Room(self), Pauses(words.pause)
         nodes = set(range(len(machine.nodes)))
         effective = tree.effective(tree.root, 1)
         self.memory = nodes if effective is None else nodes & effective or nodes
         self.taken = Taken(work, machine.present, self.memory) if tree.root else None
         self.slices = Slices(tree.root, words.groups, work) if tree.root else None
+        self.sight, self.newcomers, self.homes, self.room = Sight(self), Newcomers(self), Homes(self), Room(self)
+        self.plans, self.mending, self.pauses = Plans(self), Mending(self), Pauses(words.pause)
         self.threads, self.numarun = machine.threads, None
         self.held = {}          # by id, in the order in which numarun was told of them
-        self.refused = {}       # what was seen of one that was refused, by the id
-        self.blocking = set()   # who runs on CPUs, and can't be adopted
-        self.absent = {}        # how often one was not there, and why, by the id
         self.open = {}          # what was said of what is left undone, by what it is of
         self.off = {}           # `offline` or `online`, by the CPU, as it was told last
         self.due = False        # whether a plan is to be worked out though nothing happened
-        self.pool = self.spare = None
-        self.tried = None       # what a plan that a write kept from its end was to change
+        self.unmade = False     # whether an update was not made, since a write failed
         self.notes = []         # what was said of the machine
         self.wrong = False      # whether there was an event that was refused
         self.ending = False
@@ -119,7 +94,7 @@ class Agent:
         """Leaves the figures, where that is asked for."""
         waiting = sum(one.waits for one in self.held.values())
         pinned = sum(one.pinned for one in self.held.values())
-        undone = len(self.open) + len([name for name in self.refused if ("container", name) not in self.open])
+        undone = len(self.open) + len([name for name in self.newcomers.refused if ("container", name) not in self.open])
         squeezed = sum(of[0] in ("drift", "squeezed") and of[1] in self.held and self.held[of[1]].pinned for of in self.open)
         self.records.set(containers_pinned=pinned, containers_waiting=waiting, containers_shared=len(self.held) - pinned - waiting,
                          containers_squeezed=squeezed, undone=undone)
@@ -179,7 +154,10 @@ class Agent:
             one.cpus, one.mems = self.requested(name)
             if not quiet:
                 self.say(f"update {name} {bundle}")
+            self.pauses.forget("update")
         elif answer.startswith("refused E50"):
+            self.unmade = True
+            self.pauses.begin("update")
             self.say_once(("container", name), f"failed {self.failed}")
         else:
             self.say_once(("container", name), f"{answer}: {name} {one.seen.told.bundle}: it stays as it was")
@@ -224,7 +202,7 @@ class Agent:
     def start_anew(self):
         """Takes up all that is there in a new run, since other CPUs are reserved by now."""
         self.numarun.close()
-        self.held, self.refused, self.off, self.pool, self.tried, self.due = {}, {}, {}, None, None, True
+        self.held, self.newcomers.refused, self.off, self.plans.pool, self.plans.tried, self.due = {}, {}, {}, None, None, True
         self.start()
 
     # A look: what is there is told, and then one plan is worked out.
@@ -234,22 +212,25 @@ class Agent:
             self.event(event)
         if events:
             self.say_notes()
-        there = self.all_there(told)
-        gone = [name for name, one in self.held.items() if name not in there or not self.is_same(one, there[name])]
+        there = self.sight.all_there(told)
+        gone = [name for name, one in self.held.items() if name not in there or not self.sight.is_same(one, there[name])]
         for name in gone:
             self.end(name)
         followed = [name for name, one in self.held.items() if self.follow(name, one, there[name])]
-        taken = self.take_all({name: seen for name, seen in there.items() if name not in self.held})
+        taken = self.newcomers.take_all({name: seen for name, seen in there.items() if name not in self.held})
         if self.ending:
             self.due = True
             return
-        self.let_go({seen.path for seen in there.values()})
+        if self.slices:
+            self.slices.let_go(self, {seen.path for seen in there.values()})
         if gone or followed or taken or events:
             self.due = True
             self.pauses.forget("plan")
-        if self.due and self.pauses.over("plan") and not self.blocking & there.keys():
-            self.arrange()
-        self.compare()
+        if self.unmade and self.pauses.over("update"):
+            self.due, self.unmade = True, False
+        if self.due and self.pauses.over("plan") and not self.newcomers.blocking & there.keys():
+            self.plans.arrange()
+        self.mending.compare()
 
     def event(self, event):
         kind, *words = event.split()
@@ -261,138 +242,13 @@ class Agent:
                 self.off[words[0]] = kind
                 (self.running.add if kind == "online" else self.running.discard)(int(words[0]))
 
-    # What is there.
-
-    def all_there(self, told):
-        """What is there of each container, and of the groups of the system itself."""
-        found = {name: self.see(name, one) for name, one in told.items()}
-        there = {name: seen for name, seen in found.items() if seen}
-        for name, one in self.held.items():
-            if name not in told and one.seen.told.folder is not None and self.lives(one):
-                there[name] = one.seen
-                self.say_stays(name, "it is told of no more")
-        for name, one in self.rest(there).items():
-            found[name] = name not in there and self.see(name, one)
-            there.update({name: found[name]} if found[name] else {})
-        for name in [of[1] for of in self.open if of[0] in ("container", "stays") and of[1] not in found and of[1] not in there]:
-            self.forget(name)
-        return there
-
-    def rest(self, there):
-        """The groups of the system itself that are to be on the pool."""
-        if not self.slices or not self.slices.groups:
-            return {}
-        ways = {seen.path: name for name, seen in there.items() if self.asks(name, seen)}
-        return self.slices.told(ways, {seen.path for seen in there.values()})
-
-    def asks(self, name, seen):
-        """Whether a container asks for CPUs of its own, and may have some."""
-        one = self.held.get(name)
-        if one:
-            return one.demand.count is not None
-        try:
-            return asked(limited(seen.config, seen.limit, None), self.words.pin, 1) is not None
-        except (Refused, AttributeError, TypeError):
-            return False
-
-    def see(self, name, told):
-        """What is there of a container, or nothing. One that has a process has not ended."""
-        one = self.held.get(name)
-        try:
-            seen = self.seen(one, name, told)
-        except Absent as why:
-            if one and self.lives(one):
-                self.say_stays(name, why)
-                return one.seen
-            self.say_absent(name, why)
-            return None
-        self.open.pop(("stays", name), None)
-        self.absent.pop(name, None)
-        self.settle(("container", name), "absent", "None")
-        return seen
-
-    def seen(self, one, name, told):
-        file = os.path.join(told.bundle, "config.json")
-        try:
-            found = os.stat(file)
-        except (OSError, ValueError):
-            raise Absent(f"{file}: can't be read") from None
-        stamp = (told, found.st_dev, found.st_ino, found.st_mtime_ns, found.st_size)
-        if one and one.seen.stamp == stamp:
-            config, path = one.seen.config, one.seen.path
-        else:
-            config = self.parsed(file, one)
-            if config is None:
-                return one.seen
-            path = self.tree.group(name, told.folder, config, told.group)
-        inode = self.tree.inode(path)
-        return Seen(stamp, inode, *self.limits(one, told, config, path), found.st_mtime_ns, told, config, path)
-
-    def parsed(self, file, one):
-        """A config; or nothing where it is that of a container that runs, and can't be read yet."""
-        try:
-            return parse(file)
-        except Absent:
-            if one is None:
-                raise
-            return None
-
-    def limits(self, one, told, config, path):
-        """The limit and the nodes of a container's group, where somebody gave it others than its config has."""
-        if told.folder is None or not self.tree.root:
-            return None, None
-        nodes = self.tree.memory(path)
-        written = self.written(one.mems if one else homes_of(config))
-        if not nodes or nodes == written or not self.are_known(nodes):
-            nodes = one.nodes if one else None
-        return other_limit(config, self.tree.limit(path)), nodes
-
-    def written(self, nodes):
-        """What stands in a group's file where it requests these nodes."""
-        return (nodes or set()) & self.memory or self.memory
-
-    def are_known(self, nodes):
-        return max(nodes) < len(self.machine.nodes)
-
-    def lives(self, one):
-        """Whether there is a process in the container's group."""
-        try:
-            return self.tree.root is not None and self.tree.inode(one.seen.path) == one.seen.inode and self.tree.populated(one.seen.path)
-        except Absent:
-            return False
-
-    def is_same(self, one, seen):
-        """Whether it is the container that numarun was told of: its group is the same, and was not made anew since."""
-        if (seen.stamp, seen.inode) == (one.seen.stamp, one.seen.inode):
-            return True
-        same = (seen.path, seen.inode, seen.told.turn) == (one.seen.path, one.seen.inode, one.seen.told.turn)
-        return same and (not self.tree.root or bool(self.tree.listed(seen.path)) or not one.cpus)
-
-    def say_stays(self, name, why):
-        self.say_once(("stays", name), f"stays {name}: {why}; there is a process in its group")
-
-    def say_absent(self, name, why):
-        """Says that one is not there when it was not there twice, for its runtime may be in the midst of making it."""
-        count, _ = self.absent.get(name, (0, None))
-        self.absent[name] = count + 1, f"absent {name}: {why}"
-        if count or str(self.open.get(("container", name))).startswith("absent"):
-            self.say_once(("container", name), f"absent {name}: {why}")
-        else:
-            self.open.setdefault(("container", name))
-
-    def say_unsaid(self):
-        """Says at the end what would have been said at the next look."""
-        for name, (_, line) in self.absent.items():
-            if self.open.get(("container", name), line) is None:
-                self.say_once(("container", name), line)
-
     def forget(self, name):
         """Nothing is there of a container any more, and nothing is left to be said of it."""
         for kind in ("container", "stays", "drift", "squeezed"):
             self.open.pop((kind, name), None)
-        self.absent.pop(name, None)
-        self.refused.pop(name, None)
-        self.blocking.discard(name)
+        self.sight.absent.pop(name, None)
+        self.newcomers.refused.pop(name, None)
+        self.newcomers.blocking.discard(name)
         self.pauses.forget(("container", name))
 
     # Those that end, and those whose configs or limits are others.
@@ -419,6 +275,9 @@ class Agent:
         before, one.seen, one.stays = one.seen, seen, stays(seen.config)
         if before[:4] == seen[:4] or seen.told.folder is None:
             return False
+        if not self.pauses.over("update"):
+            one.seen = before
+            return False
         demand = self.demand(name, seen, one)
         one.demand, one.given = one.demand._replace(own=None), one.given._replace(own=None)  # the bundle has another config by now
         if demand.config == (one.wanted or one.demand).config:
@@ -431,90 +290,11 @@ class Agent:
     def follow_shared(self, name, one, demand):
         """The same of one that is on the pool, or is to be; it waits there where it is to be pinned."""
         if not self.tell_update(name, one, demand if demand.count is None else shared(demand.config), quiet=demand.count is not None):
+            one.seen = one.seen._replace(stamp=None) if self.unmade else one.seen  # it is told again
             return False
         one.demand, one.waits, one.wanted, one.nodes = demand, demand.count is not None, None, one.seen.nodes
         self.settle(("container", name), "refused", "waits", "fewer", "keeps")
         return True
-
-    # Those that come.
-
-    def take_all(self, come):
-        """Tells of those that are there and were not told of yet; whether there was one. The system's own groups come last."""
-        names = [name for name, seen in come.items() if self.refused.get(name) != seen and self.pauses.over(("container", name))]
-        places = {path: place for place, path in enumerate(self.taken.groups)} if self.taken else {}
-        names.sort(key=lambda name: (come[name].told.folder is None, places.get(come[name].path, len(places)), come[name].age, name))
-        if names and self.taken:
-            system = {seen.path for seen in come.values() if seen.told.folder is None}
-            self.taken.take([come[name].path for name in names], system)
-        self.users, self.spare, taken = None, None, False
-        for name in names:
-            if self.ending:
-                break
-            taken = self.take_up(name, come[name], come) or taken
-        return taken
-
-    def take_up(self, name, seen, come):
-        """Tells of a container that is there; whether it was taken."""
-        owner = next((other for other, one in self.held.items() if one.seen.path == seen.path), None) if self.tree.root else None
-        if not ID.fullmatch(name) or name in (".", ".."):
-            return self.refuse(name, seen, "refused E91 BadId", set())
-        if owner:
-            return self.refuse(name, seen, f"refused: its group is that of {owner}", set())
-        cpus = self.tree.listed(seen.path) & self.machine.present
-        demand = self.demand(name, seen)
-        self.tree.link(name, seen.path)
-        fault = None
-        for given, waits, first in self.ways(seen, demand, cpus, come):
-            answer = self.tell(name, given, first)
-            if not re.match("refused E(104|6[2-7]) ?", answer):
-                break
-            fault = fault if answer.startswith("refused E104") else answer
-        if answer.startswith("refused"):
-            return self.refuse(name, seen, answer, cpus)
-        self.hold(name, seen, demand, given, waits, cpus, fault)
-        return True
-
-    def ways(self, seen, demand, cpus, come):
-        """How a container may be told, the best way first: what is told of it, whether it waits then, and the CPUs that it begins on."""
-        none = frozenset()
-        if demand.count is None:
-            return [(demand, False, cpus or (self.free() if seen.told.folder is None else none)), (demand, False, none)]
-        less, alone = shared(demand.config), self.is_alone(seen, cpus, come)
-        if not alone and (cpus & self.reserved or len(cpus) > demand.count):
-            ways = [(less, True, cpus), (demand, False, none)]
-        else:
-            ways = [*self.ways_to_keep(seen, demand, cpus, alone), (demand, False, cpus), (demand, False, none)]
-        return [*ways, (less, False, cpus), (less, False, none)]
-
-    def ways_to_keep(self, seen, demand, cpus, alone):
-        """The same of one that has CPUs of its own, and is never moved, or has fewer than it asks for."""
-        if not alone or not cpus or cpus & self.reserved:
-            return []
-        less = demand if len(cpus) >= demand.count else fewer(demand, len(cpus))
-        if stays(seen.config) and len(cpus) <= demand.count:
-            return [(staying(less, cpus), False, cpus)]
-        return [(less, False, cpus)] if less != demand else []
-
-    def is_alone(self, seen, cpus, come):
-        """Whether no other group that is told of requests one of these CPUs, outside the reserved ones."""
-        if self.users is None:
-            paths = {one.path for one in come.values()} | {one.seen.path for one in self.held.values()}
-            self.users = collections.Counter(cpu for path in paths for cpu in self.tree.listed(path))
-        return all(self.users[cpu] <= (cpu in self.tree.listed(seen.path)) for cpu in cpus - self.reserved)
-
-    def hold(self, name, seen, demand, given, waits, cpus, fault):
-        """A container that was told is one of those that are held."""
-        refused = given.count is None and demand.count is not None and not waits
-        one = self.held[name] = Held(seen, shared(demand.config) if refused else demand, given, waits)
-        one.cpus, one.mems = self.requested(name)
-        count = given.count or 0
-        one.admitted = len(cpus & one.cpus - self.reserved) >= count > 0
-        self.forget(name)
-        if not waits:
-            self.say_home(name, one)
-        self.promise(one)
-        if refused:
-            self.say_once(("container", name), f"{fault}: {name} {seen.told.bundle}: it runs on the pool")
 
     def demand(self, name, seen, one=None):
         """What a container asks for."""
@@ -526,263 +306,10 @@ class Agent:
         if count is None and rather is not None:
             config = shared(config).config
         elif count is not None:
-            home = one.home if one and one.home else self.choose_home(seen, config, count)
+            home = one.home if one and one.home else self.homes.choose_home(seen, config, count)
             config = housed(config, home) if home else config
         own = seen.told.bundle if config is seen.config and seen.told.bundle.split() == [seen.told.bundle] else None
         return Demand(config, count, own)
-
-    def tell(self, name, demand, cpus):
-        """Adopts a container on these CPUs, or makes it on the reserved ones."""
-        bundle = self.bundle(name, demand)
-        command = f"adopt {name} {bundle} {print_list(cpus)}" if cpus else f"create {name} {bundle}"
-        answer = self.ask(command)[0]
-        if not answer.startswith("refused"):
-            self.say(command)
-        return answer
-
-    def refuse(self, name, seen, answer, cpus):
-        """A container that is not told. One that runs on CPUs where nothing can be written lets no plan be safe."""
-        self.tree.unlink(name)
-        if answer.startswith("refused E50"):
-            self.say_once(("container", name), f"failed {self.failed}")
-            self.pauses.begin(("container", name))
-            self.blocking.update([name] if cpus else [])
-            return False
-        self.refused[name] = seen
-        self.say_once(("container", name), f"{answer}: {name} {seen.told.bundle}")
-        return False
-
-    # Homes.
-
-    def free(self):
-        """The CPUs that no pinned container requests, the reserved ones among them."""
-        return self.running.difference(*(one.cpus or () for one in self.held.values() if one.pinned)) | self.reserved
-
-    def spare_cpus(self):
-        """Those of them that are promised to nobody."""
-        if self.spare is None:
-            self.spare = self.free() - self.reserved
-            for one in self.held.values():
-                self.promise(one)
-        return self.spare
-
-    def promise(self, one):
-        """Leaves out as many cores at its home as one has yet to get."""
-        lacking = (one.given.count or 0) - len((one.cpus or set()) - self.reserved)
-        if self.spare is None or lacking <= 0:
-            return
-        homes = homes_of(one.given.config)
-        near = {cpu for cpu in self.spare if not homes or self.machine.node_of[cpu] in homes}
-        for core in sorted(self.machine.cores_in(near))[:lacking // self.threads]:
-            self.spare -= self.machine.cores[core]
-
-    def choose_home(self, seen, config, count):
-        """A home for one that names none: where its own CPUs are if it has some, or else where there is room."""
-        if self.words.home == "none" or len(self.machine.nodes) < 2 or homes_of(config):
-            return None
-        own = self.tree.listed(seen.path) & self.machine.present
-        if len(own) == count and not own & self.reserved:
-            home = {self.machine.node_of[cpu] for cpu in own}
-        else:
-            free = self.spare_cpus() & self.allowed(config)
-            home = home_of(self.machine, config, count, free, self.words.nodes if self.tree.root else None)
-        return home if home and home != {node for node, cpus in enumerate(self.machine.nodes) if cpus} else None
-
-    def say_home(self, name, one):
-        """Says which home a container was given, once."""
-        before, one.home = one.home, homes_of(one.demand.config) if not one.nodes and not homes_of(one.seen.config) else None
-        if one.home and one.home != before:
-            self.say(f"home {name} {print_list(one.home)}")
-
-    def allowed(self, config):
-        """The CPUs that a config names, or all."""
-        told = at(config, *CPU, "cpus")
-        return read_list(told, "cpus") if isinstance(told, str) and told.strip(" ,\t\n") else self.machine.present
-
-    def with_home(self, name, one):
-        """The demand of one that waits, with a home if there is room for one by now."""
-        self.spare = None
-        return self.demand(name, one.seen, one) if one.waits and not one.home else one.demand
-
-    # The groups of the system itself.
-
-    def let_go(self, held):
-        """Gives all CPUs to groups of the system that were on the pool and are no more, as those above a pinned container."""
-        if not self.slices:
-            return
-        ways = self.slices.on_the_way
-        paths = {path for path, entry in self.taken.groups.items() if entry[3]} | {self.slices.path(name) for name in self.slices.groups} & ways.keys()
-        for path in sorted(paths - held):
-            listed = self.tree.listed(path)
-            if not listed or listed >= self.running:
-                self.open.pop(("rest", path), None)
-                continue
-            why = self.taken.give_back(path, whole=True)
-            if why and path in ways:
-                self.say_once(("rest", path), f"refused {path}: {ways[path]} is below it, and gets no CPUs: {why}")
-            elif not why:
-                self.say(f"all CPUs for {path}" + (f": {ways[path]} is below it" if path in ways else ""))
-        self.say_processes()
-
-    def say_processes(self):
-        """Says which groups on the way have processes of their own, which nobody keeps off a container's CPUs."""
-        found = {("processes", path): f"refused {path}: it can't be on the pool, since {pinned} is below it; its own processes run on all CPUs"
-                 for path, pinned in self.slices.with_processes()}
-        for of in [of for of in self.open if of[0] == "processes" and of not in found]:
-            del self.open[of]
-        for of, line in found.items():
-            self.say_once(of, line)
-
-    # Plans.
-
-    def arrange(self):
-        """Gives more to those who want it and have room, and works out a plan."""
-        tried = self.room.make()
-        self.plan()
-        if not tried and not self.due:
-            self.room.make()
-            if self.due:
-                self.plan()
-
-    def plan(self):
-        """Works out a plan, and hands over to it."""
-        outcome = self.ask("begin")
-        while outcome[0].startswith("short") and self.room.ease(outcome):
-            outcome = self.ask("begin")
-        self.room.say_fewer()
-        if self.words.certificates:
-            self.leave(self.words.certificates, self.records.keep, self.ask("certificate"))
-        if not outcome[0].startswith("plan"):
-            self.records.count("shortages_total", int(outcome[0].startswith("short")))
-            self.due = outcome[0].startswith("refused")
-            self.pauses.begin("plan")
-            self.say_once("plan", " ".join(outcome[:-1] or outcome))
-            return
-        self.due = True
-        targets, pool = {}, set()
-        for kind, *words in (line.split(" ") for line in outcome[1:-1]):
-            if kind == "pool":
-                pool = read_list(words[0], kind)
-            else:
-                targets[words[0]] = read_list(words[1], kind)
-        changes = [f"hold {name} {print_list(cpus)}" for name, cpus in targets.items() if cpus != self.held[name].cpus]
-        changes += [f"pool {print_list(pool)}"] if pool != self.pool else []
-        for line in [outcome[0], *changes] if changes != self.tried else []:
-            self.say(line)
-        self.tried = changes
-        moves = sum(len(cpus - (self.held[name].cpus or set())) for name, cpus in targets.items())
-        if self.hand_over(targets, pool):
-            self.records.plan(int(outcome[0].split(" ")[2]), sum(map(len, targets.values())), moves)
-
-    def hand_over(self, targets, pool):
-        """Makes the writes of a plan, one after another; whether all were made."""
-        answer = "more"
-        while answer == "more":
-            if self.ending:
-                return False
-            answer = self.ask("step")[0]
-        if answer != "done":
-            self.say_once("plan", f"failed {self.failed}")
-            self.pauses.begin("plan")
-            for name, one in self.held.items():
-                one.cpus, one.mems = self.requested(name)
-            return False
-        self.due, self.tried = False, None
-        self.open.pop("plan", None)
-        self.pauses.forget("plan")
-        for name, one in self.held.items():
-            one.cpus = targets.get(name, pool)
-            one.admitted = one.admitted or name in targets
-        self.say("done")
-        self.stay_put()
-        if pool != self.pool:
-            self.pool = pool
-            self.tell_pool()
-        return True
-
-    def stay_put(self):
-        """Tells of those that are never moved that they ask for just what they have."""
-        for name, one in self.held.items():
-            if one.stays and one.pinned:
-                demand = staying(one.given, one.cpus)
-                if demand.config != one.given.config:
-                    self.tell_update(name, one, demand, quiet=True)
-
-    def tell_pool(self):
-        """Runs the command that moves the rest of the machine onto the pool."""
-        if not self.words.pool:
-            return
-        command = shlex.split(self.words.pool) + [print_list(self.pool)]
-        try:
-            done = subprocess.run(command, stdin=subprocess.DEVNULL, stdout=sys.stderr, timeout=HOOK)
-            why = f"status {done.returncode}" if done.returncode else None
-        except (OSError, subprocess.TimeoutExpired) as fault:
-            why = getattr(fault, "strerror", None) or str(fault)
-        self.open.pop("hook", None)
-        if why:
-            self.say_once("hook", f"failed {shlex.join(command)}: {why}")
-
-    # What others wrote.
-
-    def compare(self):
-        """Looks whether each group requests what it was given, and has that in effect."""
-        for name, one in list(self.held.items()) if self.tree.root else []:
-            if one.cpus is None:
-                continue
-            cpus, nodes = self.tree.listed(one.seen.path), self.tree.memory(one.seen.path)
-            if cpus != one.cpus or self.nodes_drifted(one, nodes):
-                self.mend(name, one, cpus, nodes)
-            else:
-                self.open.pop(("drift", name), None)
-            if name in self.held:
-                self.compare_effective(name, one)
-
-    def nodes_drifted(self, one, nodes):
-        """Whether somebody wrote nodes that are no limit which the container follows."""
-        if nodes is None or nodes == self.written(one.mems):
-            return False
-        return not nodes or one.seen.told.folder is None or one.seen.nodes == nodes or not self.are_known(nodes)
-
-    def mend(self, name, one, cpus, nodes):
-        """Writes again what a group was given, by telling of it anew. At a container's own end, or restart, there is nothing to mend."""
-        try:
-            if self.tree.inode(one.seen.path) != one.seen.inode or (not cpus and not self.lives(one)):
-                return
-        except Absent:
-            return
-        if not self.pauses.over(("container", name)):
-            return
-        has, given = (cpus, one.cpus) if cpus != one.cpus else (nodes or set(), self.written(one.mems))
-        what = "" if cpus != one.cpus else "nodes "
-        self.say(f"drift {name} has {what}{print_list(has)} in place of {print_list(given)}: that is written again")
-        self.untell(name)
-        self.tree.link(name, one.seen.path)
-        bundle = self.bundle(name, one.given)
-        answer = self.ask(f"adopt {name} {bundle} {print_list(one.cpus)}")[0]
-        if not answer.startswith("refused"):
-            one.seen = one.seen._replace(nodes=one.nodes)
-            self.open.pop(("drift", name), None)
-            return
-        del self.held[name]
-        self.refuse(name, one.seen._replace(stamp=None), answer, cpus)
-        self.say_once(("drift", name), f"drift {name}: that can't be written again")
-
-    def compare_effective(self, name, one):
-        """Says where a pinned container has not in effect what it was given, as in a group that has fewer CPUs."""
-        given = (one.cpus or set()) & self.running
-        has = self.tree.effective(one.seen.path)
-        if one.pinned and one.admitted and given and has is not None and has != given:
-            self.say_once(("squeezed", name), f"squeezed {name}: {print_list(has)} in effect in place of {print_list(given)}")
-        else:
-            self.open.pop(("squeezed", name), None)
-
-    # What others work with.
-
-    def counted(self, text):
-        return len(read_list(text, "allowed"))
-
-    def cpus_of(self, text):
-        return read_list(text, "hold")
 
 
 def look_at(agent, source, turn):
@@ -833,7 +360,7 @@ def work(agent, source, words):
             agent.waiters.answer(agent.told_of)
         if turn == words.rounds or source.ended:
             break
-    agent.say_unsaid()
+    agent.sight.say_unsaid()
 
 
 def words_of():
@@ -892,7 +419,7 @@ def main():
         finally:
             if agent.numarun:
                 agent.numarun.close()
-    return 1 if agent.wrong or agent.open or agent.refused or agent.due else 0
+    return 1 if agent.wrong or agent.open or agent.newcomers.refused or agent.due else 0
 
 
 if __name__ == "__main__":

@@ -17,10 +17,10 @@ import tempfile
 
 from answers import Answers, Plan, counted
 from common import BYTES, Machine, Refused, Run, check_program, find_program, print_list, read_list, read_text, run
-from demands import CPU, asked
+from demands import asked
 from explain import explain, laid_out
-from groups import at, parse_text
-from homes import home_of, housed
+from groups import parse_text
+from homes import allowed, home_of, housed
 
 EXAMPLE = """examples, from the top of the repository:
   examples/dry-run.py examples/machines/two-socket.json examples/bundles/real-time --after examples/scripts/a-cpu-goes
@@ -56,9 +56,8 @@ def with_home(words, machine, before, bundle, folder):
     if words.home == "none" or not count:
         return bundle, None
     taken = [cpus for cpus in before.values() if not cpus & machine.reserved]
-    named = at(config, *CPU, "cpus")
-    allowed = read_list(named, "cpus") if isinstance(named, str) and named.strip(" ,\t\n") else machine.present
-    home = home_of(machine, config, count, (words.there - machine.reserved).difference(*taken) & allowed, words.nodes)
+    free = (words.there - machine.reserved).difference(*taken) & allowed(config, machine.present)
+    home = home_of(machine, config, count, free, words.nodes)
     if not home or home == set(machine.node_of.values()):
         return bundle, None
     os.makedirs(os.path.join(folder, "housed"))

@@ -4,8 +4,8 @@ and enough free memory."""
 import os
 import re
 
-from common import Refused, print_list, read_text
-from demands import homes_of, of_section
+from common import Refused, print_list, read_list, read_text
+from demands import CPU, homes_of, of_section
 from groups import at
 
 FAR = 20  # between two nodes where no distances are told
@@ -73,3 +73,62 @@ def home_of(machine, config, count, free, folder=None):
 def housed(config, nodes):
     """The same config with these nodes of memory."""
     return of_section(config, mems=print_list(nodes))
+
+
+def allowed(config, present):
+    """The CPUs that a config names, or all."""
+    told = at(config, *CPU, "cpus")
+    return read_list(told, "cpus") if isinstance(told, str) and told.strip(" ,\t\n") else present
+
+
+class Homes:
+    """The homes that the agent gives."""
+
+    def __init__(self, agent):
+        self.agent, self.tree, self.machine, self.words = agent, agent.tree, agent.machine, agent.words
+        self.spare = None  # the CPUs that are promised to nobody, in a look
+
+    def free(self):
+        """The CPUs that no pinned container requests, the reserved ones among them."""
+        return self.agent.running.difference(*(one.cpus or () for one in self.agent.held.values() if one.pinned)) | self.agent.reserved
+
+    def spare_cpus(self):
+        """Those of them that are promised to nobody."""
+        if self.spare is None:
+            self.spare = self.free() - self.agent.reserved
+            for one in self.agent.held.values():
+                self.promise(one)
+        return self.spare
+
+    def promise(self, one):
+        """Leaves out as many cores at its home as one has yet to get."""
+        lacking = (one.given.count or 0) - len((one.cpus or set()) - self.agent.reserved)
+        if self.spare is None or lacking <= 0:
+            return
+        homes = homes_of(one.given.config)
+        near = {cpu for cpu in self.spare if not homes or self.machine.node_of[cpu] in homes}
+        for core in sorted(self.machine.cores_in(near))[:lacking // self.agent.threads]:
+            self.spare -= self.machine.cores[core]
+
+    def choose_home(self, seen, config, count):
+        """A home for one that names none: where its own CPUs are if it has some, or else where there is room."""
+        if self.words.home == "none" or len(self.machine.nodes) < 2 or homes_of(config):
+            return None
+        own = self.tree.listed(seen.path) & self.machine.present
+        if len(own) == count and not own & self.agent.reserved:
+            home = {self.machine.node_of[cpu] for cpu in own}
+        else:
+            free = self.spare_cpus() & allowed(config, self.machine.present)
+            home = home_of(self.machine, config, count, free, self.words.nodes if self.tree.root else None)
+        return home if home and home != {node for node, cpus in enumerate(self.machine.nodes) if cpus} else None
+
+    def say_home(self, name, one):
+        """Says which home a container was given, once."""
+        before, one.home = one.home, homes_of(one.demand.config) if not one.nodes and not homes_of(one.seen.config) else None
+        if one.home and one.home != before:
+            self.agent.say(f"home {name} {print_list(one.home)}")
+
+    def with_home(self, name, one):
+        """The demand of one that waits, with a home if there is room for one by now."""
+        self.spare = None
+        return self.agent.demand(name, one.seen, one) if one.waits and not one.home else one.demand

@@ -19,6 +19,8 @@
 set -euo pipefail
 export LC_ALL=C
 top=$(cd "$(dirname "$(realpath "$0")")/.." && pwd)
+modules=(common answers demands events groups homes mending newcomers pauses plans records release room sight slices taken waiters)
+modules=("${modules[@]/%/.py}")
 scripts=(agent.py draw-plan.py dry-run.py explain.py hook.py describe-host.sh describe-hwloc.py)
 
 say() { echo "install.sh: $1" >&2; }
@@ -75,7 +77,7 @@ put() {
 put_all() {
     local name script
     put 755 "$program" bin/numarun
-    for name in common.py answers.py demands.py events.py groups.py homes.py pauses.py records.py release.py room.py slices.py taken.py waiters.py; do
+    for name in "${modules[@]}"; do
         put 644 "$top/examples/$name" "lib/numarun/$name"
     done
     for script in "${scripts[@]}"; do

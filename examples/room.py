@@ -3,7 +3,7 @@ by now, get it where a trial finds a plan with it; and in a shortage somebody ta
 
 import os
 
-from common import Run, print_list
+from common import Run, print_list, read_list
 from demands import fewer, least_of, shared
 
 
@@ -82,7 +82,7 @@ class Room:
         return True
 
     def try_one(self, trial, name, one):
-        wanted = one.wanted or self.agent.with_home(name, one)
+        wanted = one.wanted or self.agent.homes.with_home(name, one)
         given, why = self.most(trial, name, one, wanted)
         if why and why[0] == "refused":
             one.demand = one.demand if one.wanted else one.given
@@ -104,7 +104,7 @@ class Room:
         count, least = wanted.count, least_of(wanted) if why and why[0] == "short" else wanted.count
         given = None
         while holds is None and why[0] == "short" and count > max(least, 1):
-            missing = max(1, int(why[2]) - self.agent.counted(why[4]))
+            missing = max(1, int(why[2]) - len(read_list(why[4], "allowed")))
             count = max(least, (count - missing) // self.agent.threads * self.agent.threads)
             given = fewer(wanted, count)
             if not one.waits and count <= one.given.count:
@@ -119,7 +119,7 @@ class Room:
 
     def may_be(self, one, name, holds):
         """Whether one that is never moved keeps its CPUs, or is left some of them."""
-        cpus = self.agent.cpus_of(holds.get(name, "-"))
+        cpus = read_list(holds.get(name, "-"), name)
         return one.waits or not one.stays or cpus >= one.cpus or cpus <= one.cpus
 
     def give(self, name, one, given, wanted):
@@ -128,7 +128,7 @@ class Room:
         one.demand, one.wanted, one.waits, one.admitted, one.nodes = wanted, None, False, True, one.seen.nodes
         self.agent.due = True
         self.agent.open.pop(("container", name), None)
-        self.agent.say_home(name, one)
+        self.agent.homes.say_home(name, one)
 
     # Fewer.
 
@@ -138,7 +138,7 @@ class Room:
         words, *lines = (line.split(" ") for line in outcome[:-1])
         short = {line[1] for line in lines}
         members = [name for name in reversed(list(self.agent.held)) if name in short]
-        missing = int(words[2]) - self.agent.counted(words[4])
+        missing = int(words[2]) - len(read_list(words[4], "allowed"))
         for name in [name for name in members if not self.agent.held[name].admitted][:1]:
             return self.shrink(name, missing) or self.make_wait(name, outcome[0])
         ways = [self.loosen, lambda name: self.shrink(name, missing), lambda name: self.make_wait(name, outcome[0])]

@@ -75,3 +75,28 @@ class Slices:
             except Refused:
                 continue
         return found
+
+    def let_go(self, agent, held):
+        """Gives all CPUs to groups of the system that were on the pool and are no more, as those above a pinned container."""
+        ways = self.on_the_way
+        paths = {path for path, entry in agent.taken.groups.items() if entry[3]} | {self.path(name) for name in self.groups} & ways.keys()
+        for path in sorted(paths - held):
+            listed = agent.tree.listed(path)
+            if not listed or listed >= agent.running:
+                agent.open.pop(("rest", path), None)
+                continue
+            why = agent.taken.give_back(path, whole=True)
+            if why and path in ways:
+                agent.say_once(("rest", path), f"refused {path}: {ways[path]} is below it, and gets no CPUs: {why}")
+            elif not why:
+                agent.say(f"all CPUs for {path}" + (f": {ways[path]} is below it" if path in ways else ""))
+        self.say_processes(agent)
+
+    def say_processes(self, agent):
+        """Says which groups on the way have processes of their own, which nobody keeps off a container's CPUs."""
+        found = {("processes", path): f"refused {path}: it can't be on the pool, since {pinned} is below it; its own processes run on all CPUs"
+                 for path, pinned in self.with_processes()}
+        for of in [of for of in agent.open if of[0] == "processes" and of not in found]:
+            del agent.open[of]
+        for of, line in found.items():
+            agent.say_once(of, line)

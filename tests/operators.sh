@@ -9,14 +9,17 @@ top=$(cd "$(dirname "$0")/.." && pwd)
 SCRATCH=$(mktemp -d)
 trap 'rm -rf "$SCRATCH"' EXIT
 export SCRATCH PROGRAM=$program
-# The one that waits most runs beside the others.
+# Those that wait most run beside the others.
 python3 -B "$top/tests/operators/kills.py" >"$SCRATCH/kills" 2>&1 &
 kills=$!
-trap 'kill "$kills" 2>/dev/null || true; rm -rf "$SCRATCH"' EXIT
-for test in looks hwloc pictures explains dry-runs agents rests changes homes hooks installs peers moves manual; do
+python3 -B "$top/tests/operators/troubles.py" >"$SCRATCH/troubles" 2>&1 &
+troubles=$!
+trap 'kill "$kills" "$troubles" 2>/dev/null || true; rm -rf "$SCRATCH"' EXIT
+for test in looks hwloc pictures explains dry-runs agents rests changes homes hooks installs packages peers moves manual; do
     python3 -B "$top/tests/operators/$test.py"
 done
 status=0
 wait "$kills" || status=$?
-cat "$SCRATCH/kills"
+wait "$troubles" || status=$?
+cat "$SCRATCH/kills" "$SCRATCH/troubles"
 exit "$status"

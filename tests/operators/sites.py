@@ -31,7 +31,7 @@ class Site:
 
     def __init__(self, machine=None, root=True):
         Site.count += 1
-        self.folder = os.path.join(SCRATCH, f"site-{Site.count}")
+        self.folder = os.path.join(SCRATCH, f"site-{os.getpid()}-{Site.count}")
         shutil.rmtree(self.folder, ignore_errors=True)
         os.makedirs(os.path.join(self.folder, "g"))
         if root:
