@@ -26,7 +26,7 @@ if ! has_all >/dev/null; then
 fi
 kernel=${KERNEL:-}
 if [ -z "$kernel" ]; then
-    package=$(apt-cache depends linux-image-cloud-amd64 2>/dev/null | awk '/Depends: linux-image/ {print $2; exit}')
+    package=$({ apt-cache depends linux-image-cloud-amd64 2>/dev/null || true; } | awk '/Depends: linux-image/ {print $2; exit}')
     [ -n "$package" ] || pass_over "apt-cache knows no linux-image-cloud-amd64"
     echo "linux: downloading $package, to be unpacked" >&2
     (cd "$work" && apt-get -qq download "$package" && dpkg -x "$package"_*.deb unpacked) >/dev/null 2>&1 || pass_over "$package can't be had"

@@ -27,6 +27,9 @@ ROUNDS, TIMES, RUNS = 5, 200, 40
 
 # The last eight are as large as may be.
 JOBS = {
+    "2-nodes-in-turn": Job(2, 1024, 255, in_turn=True),
+    "8-nodes-in-turn": Job(8, 1024, 255, in_turn=True),
+    "64-nodes-in-turn": Job(64, 1024, 255, in_turn=True),
     "8-nodes": Job(8, 1024, 256),
     "64-nodes": Job(64, 1024, 256),
     "64-nodes-ring": Job(64, 1024, 255, ring=True),

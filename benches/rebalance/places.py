@@ -14,12 +14,14 @@ class Job(NamedTuple):
     ring: bool = False     # a distance for each number of steps round a ring, in place of three
     whole: bool = False    # demands of whole cores of two CPUs
     threads: int = 1       # CPUs a core; more than one are listed in the machine file
+    in_turn: bool = False  # cores numbered in turn over the nodes, in place of node by node
 
     def about(self):
         lists = {"": "", "half": ", lists of their own", "few": ", few CPUs of their own"}[self.lists]
         ring = ", the distances of a ring" if self.ring else ""
         cores = f", {self.cpus // self.threads} cores" if self.threads > 1 else ", the same demands without cores" if self.whole else ""
-        return f"{self.cpus} CPUs, {self.containers} containers{lists}{ring}{cores}"
+        turn = ", numbered in turn over the nodes" if self.in_turn else ""
+        return f"{self.cpus} CPUs{turn}, {self.containers} containers{lists}{ring}{cores}"
 
 
 def write_bundle(name, section):
@@ -43,7 +45,8 @@ def machine(job):
     half = job.cpus // 2
     cores = [{k, k + half} for k in range(half)] if job.whole else [{k} for k in range(job.cpus)]
     per = len(cores) // job.nodes
-    nodes = [listed(set().union(*cores[per * k : per * k + per])) for k in range(job.nodes)]
+    of_node = [cores[k :: job.nodes] if job.in_turn else cores[per * k : per * k + per] for k in range(job.nodes)]
+    nodes = [listed(set().union(*own)) for own in of_node]
     told = {"nodes": nodes, "distances": [[distance(job, i, j) for j in range(job.nodes)] for i in range(job.nodes)], "reserved": listed(cores[0])}
     return {**told, "cores": [listed(core) for core in cores]} if job.threads > 1 else told
 

@@ -26,13 +26,14 @@ def distance(i, j, nodes):
     return 10 + 10 * steps if steps < 24 else 254
 
 
-def machine(cpus, rows, nodes, full, own_list=False, crowded=False):
-    """Rows at home on the nodes in turn, or by chance; with lists of their own they may have half of the CPUs each."""
+def machine(cpus, rows, nodes, full, own_list=False, crowded=False, in_turn=False):
+    """Rows at home on the nodes in turn, or by chance; with lists of their own they may have half of the CPUs each. A node has
+    CPUs one after another, or, numbered in turn, each `nodes`th."""
     size = -(-len(cpus) // nodes)
     for k, demand in enumerate(demands(cpus, rows, full)):
         allowed = random.sample(cpus, len(cpus) // 2) if own_list else cpus
         home = random.randrange(nodes) if crowded else k % nodes
-        yield demand, {cpu: distance((cpu - 1) // size, home, nodes) for cpu in allowed}
+        yield demand, {cpu: distance((cpu - 1) % nodes if in_turn else (cpu - 1) // size, home, nodes) for cpu in allowed}
 
 
 def spread(cpus, rows, full, low, high):
@@ -47,6 +48,40 @@ def held(cpus, rows, nodes, full):
     for demand, weights in machine(cpus, rows, nodes, full):
         own, left = set(left[:demand]), left[demand:]
         yield demand, {cpu: 65536 * weight + (cpu not in own) for cpu, weight in weights.items()}
+
+
+def by_moves(rows, order_of):
+    """Rows that each hold the first CPUs of their order that are left, and 65,536 times the weight, and one more for a CPU that
+    they do not hold."""
+    taken = set()
+    for demand, weights in rows:
+        own = [cpu for cpu in order_of(weights) if cpu not in taken][:demand]
+        taken.update(own)
+        yield demand, {cpu: 65536 * weight + (cpu not in own) for cpu, weight in weights.items()}
+
+
+def held_in_turn(cpus, rows, nodes, full):
+    """CPUs numbered in turn over the nodes, behind a first plan: rows hold CPUs that are as near as may be."""
+    return by_moves(machine(cpus, rows, nodes, full, in_turn=True), lambda weights: sorted(weights, key=weights.get))
+
+
+def held_pairs(cpus, rows, nodes, full):
+    """Cores of two CPUs, k and k + half of all; each row holds whole ones, those next to it."""
+    half = len(cpus) // 2
+    cores = -(-half // nodes)
+    first = {cpu: (cpu - 1) % half for cpu in cpus[: 2 * half]}
+    asked = [(2 * max(1, demand // 2), k % nodes) for k, demand in enumerate(demands(cpus, rows, full))]
+    made = ((demand, {cpu: distance(core // cores, home, nodes) for cpu, core in first.items()}) for demand, home in asked)
+    return by_moves(made, lambda weights: sorted(weights, key=lambda cpu: (weights[cpu], first[cpu])))
+
+
+def stripes(cpus, rows):
+    """An eighth of the rows may have each 32nd CPU, each other ones; to all others stripes of 32 CPUs have two weights in turn."""
+    for k in range(rows):
+        if k < min(32, rows // 8):
+            yield 1, {cpu: 100 + k for cpu in cpus if cpu % 32 == k}
+        else:
+            yield 1, {cpu: 1000 + 2 * k + cpu // 32 % 2 for cpu in cpus}
 
 
 def no_plan(cpus, rows):
@@ -129,6 +164,7 @@ HARD = {
     "short-lists": lambda cpus, rows: hidden_plan(cpus, rows, 6, lambda: 10),
     "few-shift-many": few_shift_many,
     "own-few": own_few,
+    "stripes": stripes,
 }
 
 FAMILIES = {
@@ -147,6 +183,13 @@ FAMILIES = {
     "wide-95": lambda cpus, rows: spread(cpus, rows, 0.95, 10, 33_554_431),
     "held-8-nodes-95": lambda cpus, rows: held(cpus, rows, 8, 0.95),
     "no-plan-spread": no_plan,
+    "in-turn-8-nodes-95": lambda cpus, rows: machine(cpus, rows, 8, 0.95, in_turn=True),
+    "in-turn-64-nodes-95": lambda cpus, rows: machine(cpus, rows, 64, 0.95, in_turn=True),
+    "held-in-turn-2-nodes-95": lambda cpus, rows: held_in_turn(cpus, rows, 2, 0.95),
+    "held-in-turn-8-nodes-95": lambda cpus, rows: held_in_turn(cpus, rows, 8, 0.95),
+    "held-in-turn-64-nodes-95": lambda cpus, rows: held_in_turn(cpus, rows, 64, 0.95),
+    "held-pairs-2-nodes-95": lambda cpus, rows: held_pairs(cpus, rows, 2, 0.95),
+    "held-pairs-8-nodes-95": lambda cpus, rows: held_pairs(cpus, rows, 8, 0.95),
 }
 
 

@@ -1,10 +1,11 @@
 """Compares what `tools kernel` answers to calls with what is written, and with a second kernel: `compare.py TOOLS`. The worked calls
-are answered by both. Then come random calls, after each of which what each group has in effect is asked; and as many groups and
-processes as a full machine has, and more."""
+are answered by both. Then come random calls, after each of which what each group has in effect is asked; as many groups and
+processes as a full machine has, and more; and 20,000 groups, each below the one before."""
 
 import os
 import random
 import re
+import resource
 import sys
 
 HERE = os.path.dirname(os.path.abspath(__file__))
@@ -13,6 +14,12 @@ from program import run
 from second_kernel import Kernel
 
 SCRIPTS = 100
+DEPTH = 20_000
+
+
+def usual_stack():
+    """A stack of 8 MiB."""
+    resource.setrlimit(resource.RLIMIT_STACK, (8 << 20, resource.getrlimit(resource.RLIMIT_STACK)[1]))
 
 
 class Case:
@@ -25,7 +32,7 @@ class Case:
 
     def found(self, tools):
         text = "".join(line + "\n" for line in [self.machine] + self.calls)
-        done = run([tools, "kernel", str(self.fail)], text.encode())
+        done = run([tools, "kernel", str(self.fail)], text.encode(), preexec_fn=usual_stack)
         return [str(done)[:1000]] if done.returncode or done.stderr else done.stdout.decode().splitlines()
 
 
@@ -90,6 +97,23 @@ def largest():
     return case
 
 
+def nested():
+    """Groups, each below the one before, and what the deepest has in effect while groups above it and CPUs change."""
+    case = Case(0, "0-63 0 0-63 0-1 2")
+    # Names of many lengths: a new one is looked for among all groups.
+    names = ["d" * (k % 100 + 1) for k in range(DEPTH)]
+    answered = [(f"make {k} {names[k]}", f"group {k + 1}") for k in range(DEPTH)]
+    last, half = DEPTH, DEPTH // 2
+    answered += [(f"cpus.effective {last}", "ids 0-63"), (f"mems.effective {last}", "ids 0-1")]
+    answered += [(f"cpus {half} 8-15", "ok"), (f"cpus.effective {last}", "ids 8-15"), (f"cpus.effective {half - 1}", "ids 0-63")]
+    answered += [(f"cpus {last - 1} 12-20", "ok"), (f"cpus.effective {last}", "ids 12-15"), (f"cpus {last}", "ids -")]
+    answered += [("offline 13", "ok"), (f"cpus.effective {last}", "ids 12,14-15"), (f"cpus {last - 1}", "ids 12-20")]
+    answered += [("mems 5 1", "ok"), (f"mems.effective {last}", "ids 1"), (f"mems.effective {last - 1}", "ids 1")]
+    answered += [("online 13", "ok"), (f"cpus.effective {last}", "ids 12-15"), (f"find {last - 1} {names[-1]}", f"group {last}")]
+    case.calls, case.expected = map(list, zip(*answered))
+    return case
+
+
 def main(tools):
     random.seed(1)
     tools, cases = os.path.abspath(tools), worked()
@@ -98,6 +122,8 @@ def main(tools):
             wrong = next(it for it in zip(case.calls, case.by_second(), case.expected) if it[1] != it[2])
             sys.exit(f"kernel: the second kernel, {case.machine}: call, answer and what is written: {wrong}")
         compare("worked", case, tools, case.expected)
+    case = nested()
+    compare("nested", case, tools, case.expected)
     answers = []
     for case in [by_chance() for _ in range(SCRIPTS)] + [largest()]:
         expected = case.by_second()
@@ -106,7 +132,8 @@ def main(tools):
     for refusal in "NoGroup Exists HasChildren HasProcesses IsRoot NoProcess Failed Reserved NoCpu".split():
         if answers.count(f"refused {refusal}") < 5:
             sys.exit(f"kernel: {refusal} is hardly seen")
-    print(f"kernel: {sum(len(case.calls) for case in cases)} worked calls, and {len(answers)} others beside a second kernel")
+    calls = sum(len(case.calls) for case in cases)
+    print(f"kernel: {calls} worked calls, {DEPTH} nested groups, and {len(answers)} calls beside a second kernel")
 
 
 main(*sys.argv[1:])

@@ -1,5 +1,5 @@
 """What the pages name is there: links with their headings, paths, names of code, clauses behind claims, crates, the index of the
-decisions, transcripts, the version.
+decisions, transcripts, the version; and no crate cites the proofs of another.
 
 look_up.py          fails where something is not there
 look_up.py --write  makes the index of docs/DECISIONS.md anew
@@ -59,6 +59,16 @@ def crates(texts):
     mapped = re.findall(r"^\| `(\w+)` \|", texts[TOP / "docs/architecture.md"].split("\n## ")[0], re.MULTILINE)
     yield from (f"{name} is not in the table" for name in listed if name not in mapped)
     yield from (f"{name} is no crate" for name in mapped if name not in listed)
+
+
+def cited_proofs():
+    """Proofs of a crate here that another crate names."""
+    listed = re.findall(r"^(\w+):", (TOP / "crates.txt").read_text(encoding="utf-8"), re.MULTILINE)
+    for name in listed:
+        for path in sorted(path for kind in ("src/**/*.rt", "specs/**/*.antt", "proofs/**/*.antt") for path in TOP.glob(f"crates/{name}/{kind}")):
+            for of in set(re.findall(r"\b(\w+)(?:\.|::)proofs\b", path.read_text(encoding="utf-8"))):
+                if of in listed and of != name:
+                    yield f"{path.relative_to(TOP)} names the proofs of {of}"
 
 
 def index(text):
@@ -155,6 +165,7 @@ def main():
     for path, text in texts.items():
         wrong += [f"{path.relative_to(TOP)}: {what}" for what in [*links(path, text, texts), *paths(text)]]
     wrong += [f"docs/architecture.md: {what}" for what in crates(texts)]
+    wrong += [f"docs/architecture.md: {what}, and no crate cites lemmas in the proofs of another" for what in cited_proofs()]
     decisions = TOP / "docs/DECISIONS.md"
     if "--write" in sys.argv:
         decisions.write_text(with_index(texts[decisions]), encoding="utf-8")

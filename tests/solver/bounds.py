@@ -21,6 +21,10 @@ BOUNDS = {
     "short-lists": (1023, 256, 17),
     "nested": (1023, 256, 36),
     "held-8-nodes-95": (1023, 256, 6),
+    "in-turn-64-nodes-95": (1023, 256, 10),
+    "held-in-turn-2-nodes-95": (1023, 256, 40),
+    "held-pairs-8-nodes-95": (1023, 256, 15),
+    "stripes": (4095, 512, 40),
 }
 
 

@@ -3,7 +3,8 @@ use Rattle.std.proofs.Common.{◌≡◌, ℕ, ◌+◌, ◌<◌, Bool, true, fals
 use Rattle.std.proofs.lemmas.Bool.{false≢true}
 use Rattle.std.proofs.lemmas.List.{drop_more}
 use Rattle.std.proofs.lemmas.Option.{none-some}
-use Rattle.std.specs.Prelude.{cond, find, Option, Some, None, IfSome, is_none}
+use Rattle.std.specs.Prelude.{cond, find, Option, Some, None, IfSome, is_none, is_some, option_map}
+use Rattle.std.specs.Option.{option_or}
 use Rattle.cpu_set.specs.Ids.{Ids, is_empty, is_same}
 use Rattle.cpu_set.specs.Pointwise.{is_same_decides}
 use Rattle.proctable.specs.Processes.{is_alive}
@@ -57,7 +58,34 @@ keeps_its_target k reserved e some stays = by (is_alive k.table e.pid) (is_same 
       ap (λ s. is_alive k.table e.pid && not s) (is_kept ((is_same_decides _ _).0 is)) ∙ ap (λ a. a && false) lives
   by true false lives is = absurd (false≢true (sym stays ∙ (λ i. lives i && not (is i))))
 
+-- one that was asked first or last, and is not told to have ended, lives
+pub lives_if_asked : (first lives : Bool) → (first && not lives) ≡ false → (not first && not lives) ≡ false → lives ≡ true
+lives_if_asked first true a b = refl
+lives_if_asked true false a b = absurd (false≢true (sym a))
+lives_if_asked false false a b = absurd (false≢true (sym b))
+
+-- a live container that does not hold its target must move
+pub must_move_if_alive : (k : KernelState) (e : Entry) → is_alive k.table e.pid ≡ true → is_same (held k e) e.target ≡ false → must_move k e ≡ true
+must_move_if_alive k e lives other = ap (λ a. a && not (is_same (held k e) e.target)) lives ∙ ap not other
+
+-- and one that is told to let nothing go must not
+pub lets_go_nothing : (k : KernelState) (reserved : Ids) (e : Entry) → None ≡ release_from reserved e (held k e) → must_release k reserved e ≡ false
+lets_go_nothing k reserved e none = by (is_same (kept_of k reserved e) (held k e)) refl where
+  none_at : (lives : Bool) → (lives && false) ≡ false
+  none_at true = refl
+  none_at false = refl
+
+  by : (b : Bool) → is_same (kept_of k reserved e) (held k e) ≡ b → must_release k reserved e ≡ false
+  by true same = ap (λ b. is_alive k.table e.pid && not b) same ∙ none_at (is_alive k.table e.pid)
+  by false other = absurd (none-some (release_of k reserved e) (none ∙ ap (λ b. cond (not b) (Some (release_of k reserved e)) None) other))
+
 -- a container that keeps all that it requests has nothing to let go
+pub lets_none_go : (k : KernelState) (reserved : Ids) (e : Entry) → kept_of k reserved e ≡ held k e → must_release k reserved e ≡ false
+lets_none_go k reserved e keeps = ap (λ b. is_alive k.table e.pid && not b) ((is_same_decides _ _).1 keeps) ∙ none_at (is_alive k.table e.pid) where
+  none_at : (lives : Bool) → (lives && false) ≡ false
+  none_at true = refl
+  none_at false = refl
+
 pub keeps_all_of_it : (k : KernelState) (reserved : Ids) (e : Entry) → kept_of k reserved e ≡ held k e → its_release k reserved e ≡ None
 keeps_all_of_it k reserved e keeps =
     ap (λ b. cond (is_alive k.table e.pid && not b) (Some (release_of k reserved e)) None) ((is_same_decides _ _).1 keeps)
@@ -74,12 +102,29 @@ release_if_alive k reserved e lives = ap (λ a. cond (a && not (is_same (kept_of
 pub no_release_if_dead : (k : KernelState) (reserved : Ids) (e : Entry) → is_alive k.table e.pid ≡ false → its_release k reserved e ≡ None
 no_release_if_dead k reserved e dead = ap (λ a. cond (a && not (is_same (kept_of k reserved e) (held k e))) (Some (release_of k reserved e)) None) dead
 
+-- where there is one, there is one once it is mapped
+pub some_mapped : {A B : Type 0} (f : A → B) (o : Option A) → is_some o ≡ true → is_some (option_map f o) ≡ true
+some_mapped f (Some x) some = refl
+some_mapped f None some = absurd (false≢true some)
+
+-- where one was found, the others are not asked
+pub found_stays : (found : Option Entry) (a b : Option Entry) → is_some found ≡ true → option_or found a ≡ option_or found b
+found_stays (Some e) a b some = refl
+found_stays None a b some = absurd (false≢true some)
+
 -- an entry that does not pass is passed over
 pub passed_over : (test : Entry → Bool) (entries : List Entry) (i : ℕ) (e : Entry) → i < length entries → e ≡ get_or entries i e → test e ≡ false
     → find test (drop i entries) ≡ find test (drop (i + 1) entries)
 passed_over test entries i e within at fails =
     ap (find test) (drop_more entries i e within ∙ ap (λ x. x ∷ drop (i + 1) entries) (sym at))
     ∙ ap (λ b. cond b (Some e) (find test (drop (i + 1) entries))) fails
+
+-- and one that passes is found
+pub found_here : (test : Entry → Bool) (entries : List Entry) (i : ℕ) (e : Entry) → i < length entries → e ≡ get_or entries i e → test e ≡ true
+    → find test (drop i entries) ≡ Some e
+found_here test entries i e within at passes =
+    ap (find test) (drop_more entries i e within ∙ ap (λ x. x ∷ drop (i + 1) entries) (sym at))
+    ∙ ap (λ b. cond b (Some e) (find test (drop (i + 1) entries))) passes
 
 -- where each live container holds its target nothing is due
 pub nothing_is_due : (k : KernelState) (reserved : Ids) (entries : List Entry) → HaveSomeTarget entries → is_none (find (must_move k) entries) ≡ true

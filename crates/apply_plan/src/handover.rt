@@ -24,8 +24,8 @@ pub enum Progress {
 
 /// Containers on their way to the CPUs that they are to have.
 ///
-/// Of n entries a step looks at O(n) and `finish` at O(n) in all, each by four reads of the kernel at most, and most by one or
-/// two.
+/// Of n entries a step looks at O(n) and `finish` at O(n) in all, each time by two reads of the kernel at most: what the group
+/// requests, and whether the first process is alive.
 #[derive(Debug, Drop)]
 pub struct Handover {
     entries: Vec<Entry>,

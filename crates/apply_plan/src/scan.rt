@@ -1,12 +1,12 @@
 //! The entries looked through for the write that is due.
-ghost use Rattle.std.specs.Prelude.{◌≡◌, true, false, IsTrue, IfSome, is_none, find, option_copied};
+ghost use Rattle.std.specs.Prelude.{◌≡◌, ◌&&◌, not, true, Some, IsTrue, IfSome, is_none, find, option_copied};
 ghost use Rattle.std.specs.Option.{option_or};
 ghost use Rattle.cpuset_tree.specs.Groups.{has_group};
+ghost use Rattle.proctable.specs.Processes.{is_alive};
 ghost use Rattle.apply_plan.specs.Kept.{kept};
-ghost use Rattle.cpu_set.specs.Ids.{is_same};
 ghost use Rattle.apply_plan.specs.Targets.{IsPlaced, ArePlaced, HaveSomeTarget};
-ghost use Rattle.apply_plan.specs.DueWrite.{held as requested_by, must_move, due_write};
-ghost use Rattle.apply_plan.specs.Walks.{moving, release_from, its_release, its_move, IsMadeIfAny, done_of};
+ghost use Rattle.apply_plan.specs.DueWrite.{must_move, due_write};
+ghost use Rattle.apply_plan.specs.Walks.{release_from, its_release, its_move, IsMadeIfAny, done_of};
 
 use crate::Entry;
 use cpu_set::IdSet;
@@ -28,19 +28,28 @@ fn kept_of(reserved: &IdSet, target: &IdSet, cpus: &IdSet) -> IdSet
     if within.is_empty() { *reserved } else { within }
 }
 
-/// Whether a container that requests these CPUs keeps all of them on the way to its target: they are the reserved ones, or they
-/// are some, and each is in the target or reserved. So most entries are passed over without a set being made.
+/// Whether a container that requests these CPUs is seen to keep all of them on the way to its target with no set made: they are
+/// the reserved ones, or they are some, and each is in the target.
+fn keeps_at_sight(reserved: &IdSet, target: &IdSet, held: &IdSet) -> bool
+    ensures { IsTrue result → kept reserved.now target.now held.now ≡ held.now }
+{
+    held == reserved || held.is_subset(target) && !held.is_empty()
+}
+
+/// Whether a container that requests these CPUs keeps all of them: they are some, and each is in the target or reserved.
 fn keeps_all(reserved: &IdSet, target: &IdSet, held: &IdSet) -> bool
     ensures { IsTrue result → kept reserved.now target.now held.now ≡ held.now }
 {
-    held == reserved
-        || !held.is_empty() && (held.is_subset(target) || held.minus(target).is_subset(reserved))
+    !held.is_empty() && held.minus(target).is_subset(reserved)
 }
 
 /// The write by which a container that requests these CPUs lets go of what it is not to have, where that is any.
 fn release_from(reserved: &IdSet, entry: &Entry, held: &IdSet) -> Option<Write>
     ensures { result ≡ release_from reserved.now entry.now held.now }
 {
+    if keeps_all(reserved, &entry.target, held) {
+        return None;
+    }
     let kept = kept_of(reserved, &entry.target, held);
     if kept == *held {
         return None;
@@ -51,49 +60,68 @@ fn release_from(reserved: &IdSet, entry: &Entry, held: &IdSet) -> Option<Write>
     })
 }
 
-/// The write by which a live container that requests these CPUs lets go of what it is not to have, where it holds any of that.
-/// Most hold none of it, so that is tested before the process is looked up.
-fn release_held<K: Kernel>(
+/// Whether the container has ended, where that is asked.
+///
+/// Those that have ended often stand one behind another: behind one the next is asked first, and else only a container of which
+/// something may be due.
+fn has_ended<K: Kernel>(kernel: &K, entry: &Entry, asked: bool) -> bool
+    ensures { result ≡ (asked && not (is_alive (K.state kernel.now).table entry.now.pid)) }
+{
+    asked && !kernel.first_alive(entry.pid)
+}
+
+/// The write by which a live container lets go of what it is not to have, where it holds any of that. Whether the one before it
+/// has ended is told, and then whether this one was seen to have.
+pub fn release_of<K: Kernel>(
     kernel: &K,
     reserved: &IdSet,
     entry: &Entry,
-    held: &IdSet,
+    ended: &mut bool,
 ) -> Option<Write>
-    requires { held.now ≡ requested_by (K.state kernel.now) entry.now }
-    ensures { result ≡ its_release (K.state kernel.now) reserved.now entry.now }
-{
-    if keeps_all(reserved, &entry.target, held) {
-        return None;
-    }
-    if kernel.first_alive(entry.pid) {
-        release_from(reserved, entry, held)
-    } else {
-        None
-    }
-}
-
-/// The write by which a live container lets go of what it is not to have, where it holds any of that.
-pub fn release_of<K: Kernel>(kernel: &K, reserved: &IdSet, entry: &Entry) -> Option<Write>
     requires { has_group (K.state kernel.now).tree entry.now.group ≡ true }
     ensures { result ≡ its_release (K.state kernel.now) reserved.now entry.now }
 {
-    release_held(kernel, reserved, entry, requested(kernel, entry.group))
+    let first = *ended;
+    *ended = has_ended(kernel, entry, first);
+    if *ended {
+        return None;
+    }
+    let held = requested(kernel, entry.group);
+    if keeps_at_sight(reserved, &entry.target, held) {
+        return None;
+    }
+    *ended = has_ended(kernel, entry, !first);
+    if *ended {
+        return None;
+    }
+    release_from(reserved, entry, held)
 }
 
-/// Whether a live container does not hold its target.
-fn must_move<K: Kernel>(kernel: &K, entry: &Entry) -> bool
+/// Whether a live container does not hold its target. Whether the one before it has ended is told, and then whether this one was
+/// seen to have.
+fn must_move<K: Kernel>(kernel: &K, entry: &Entry, ended: &mut bool) -> bool
     requires { has_group (K.state kernel.now).tree entry.now.group ≡ true }
     ensures { result ≡ must_move (K.state kernel.now) entry.now }
 {
-    *requested(kernel, entry.group) != entry.target && kernel.first_alive(entry.pid)
+    let asked = *ended;
+    *ended = has_ended(kernel, entry, asked);
+    if *ended {
+        return false;
+    }
+    if *requested(kernel, entry.group) == entry.target {
+        return false;
+    }
+    *ended = has_ended(kernel, entry, !asked);
+    !*ended
 }
 
-/// The write by which a live container takes its target, where it does not hold that.
-pub fn move_of<K: Kernel>(kernel: &K, entry: &Entry) -> Option<Write>
+/// The write by which a live container takes its target, where it does not hold that. Whether the one before it has ended is
+/// told, and then whether this one was seen to have.
+pub fn move_of<K: Kernel>(kernel: &K, entry: &Entry, ended: &mut bool) -> Option<Write>
     requires { has_group (K.state kernel.now).tree entry.now.group ≡ true }
     ensures { result ≡ its_move (K.state kernel.now) entry.now }
 {
-    if must_move(kernel, entry) {
+    if must_move(kernel, entry, ended) {
         Some(Write {
             group: entry.group,
             cpus: entry.target,
@@ -103,25 +131,18 @@ pub fn move_of<K: Kernel>(kernel: &K, entry: &Entry) -> Option<Write>
     }
 }
 
-/// The first entry whose live container does not hold its target: the one that was found, or else this one, which does not hold
-/// its own, if its container lives.
-fn first_to_move<'a, K: Kernel>(
-    kernel: &K,
-    found: Option<&'a Entry>,
-    entry: &'a Entry,
-) -> Option<&'a Entry>
-    requires { is_same (requested_by (K.state kernel.now) entry.now) entry.now.target ≡ false }
-    ensures { option_copied result ≡ option_or (option_copied found.entry) (moving (K.state kernel.now) entry.now) }
+/// The entry that was found first: the one before, or else this one.
+fn first_of<'a>(found: Option<&'a Entry>, entry: &'a Entry) -> &'a Entry
+    ensures { Some result.now ≡ option_or (option_copied found.entry) (Some entry.now) }
 {
-    if found.is_none() && kernel.first_alive(entry.pid) {
-        Some(entry)
-    } else {
-        found
+    match found {
+        Some(earlier) => earlier,
+        None => entry,
     }
 }
 
 /// The write that is due, and the place of its entry: of the first live container that holds what it is to let go, else of the
-/// first that does not hold its target. Nothing is due of a container that holds its target, as most do.
+/// first that does not hold its target. Nothing is due of a container that holds its target, as most do, or that has ended.
 pub fn due<K: Kernel>(kernel: &K, reserved: &IdSet, entries: &[Entry]) -> (Option<Write>, usize)
     requires placed { ArePlaced (K.state kernel.now) entries.now }
     requires some { HaveSomeTarget entries.now }
@@ -129,18 +150,31 @@ pub fn due<K: Kernel>(kernel: &K, reserved: &IdSet, entries: &[Entry]) -> (Optio
 {
     let mut moving = None;
     let mut first = 0;
+    let mut ended = false;
     for (place, entry) in entries.iter().enumerate() {
+        let known = ended;
+        ended = has_ended(kernel, entry, known);
+        if ended {
+            continue;
+        }
         let held = requested(kernel, entry.group);
         if *held == entry.target {
             continue;
         }
-        if let Some(write) = release_held(kernel, reserved, entry, held) {
+        if moving.is_some() && keeps_at_sight(reserved, &entry.target, held) {
+            continue;
+        }
+        ended = has_ended(kernel, entry, !known);
+        if ended {
+            continue;
+        }
+        if let Some(write) = release_from(reserved, entry, held) {
             return (Some(write), place);
         }
         if moving.is_none() {
             first = place;
         }
-        moving = first_to_move(kernel, moving, entry);
+        moving = Some(first_of(moving, entry));
     }
     let write = moving.map(|entry| Write {
         group: entry.group,
@@ -154,8 +188,9 @@ fn have_arrived<K: Kernel>(kernel: &K, entries: &[Entry]) -> bool
     requires { ArePlaced (K.state kernel.now) entries.now }
     ensures { result ≡ is_none (find (must_move (K.state kernel.now)) entries.now) }
 {
+    let mut ended = false;
     for entry in entries {
-        if must_move(kernel, entry) {
+        if must_move(kernel, entry, &mut ended) {
             return false;
         }
     }

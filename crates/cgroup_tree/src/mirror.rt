@@ -157,7 +157,7 @@ impl<F: GroupFiles> Mirror<F> {
                 kernel,
                 group,
                 CPUS_IN_EFFECT,
-                &ids,
+                ids,
             );
         }
         answer

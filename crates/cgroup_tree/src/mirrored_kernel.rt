@@ -151,7 +151,7 @@ impl<F: GroupFiles> Kernel for MirroredKernel<F> {
         self.mirror.inner.requested_cpus(group)
     }
 
-    fn effective_cpus(&self, group: Group) -> Result<IdSet, KernelFault> {
+    fn effective_cpus(&self, group: Group) -> Result<&IdSet, KernelFault> {
         self.mirror.inner.effective_cpus(group)
     }
 
@@ -159,7 +159,7 @@ impl<F: GroupFiles> Kernel for MirroredKernel<F> {
         self.mirror.inner.requested_mems(group)
     }
 
-    fn effective_mems(&self, group: Group) -> Result<IdSet, KernelFault> {
+    fn effective_mems(&self, group: Group) -> Result<&IdSet, KernelFault> {
         self.mirror.inner.effective_mems(group)
     }
 

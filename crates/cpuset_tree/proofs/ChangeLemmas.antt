@@ -5,12 +5,14 @@ use Rattle.std.proofs.lemmas.Option.{same_Some}
 use Rattle.std.specs.Prelude.{Option, Some, None, is_some, is_none, option_map, find, ◌==◌}
 use Rattle.std.specs.List.{list_any}
 use Rattle.slab.specs.Slab.{Slab, get}
+use Rattle.cpu_set.specs.Ids.{Ids}
 use Rattle.cpuset_tree.specs.declared.groups.Group.{Group}
 use Rattle.cpuset_tree.specs.declared.groups.Cgroup.{Cgroup}
+use Rattle.cpuset_tree.specs.declared.groups.Resource.{Resource}
 use Rattle.cpuset_tree.specs.TreeState.{GroupEntry}
 use Rattle.cpuset_tree.specs.Groups.{same_group, is_parent, has_child_among, entry_among, root_among}
-use Rattle.cpuset_tree.specs.Kept.{entry_of_kept, listed, HasParentAmong, IsInOrder, ChangesAt}
-use Rattle.cpuset_tree.specs.GroupLemmas.{same_group-key, same_group_sym, other_key, entry_among-here, entry_among-there, entry_among-without}
+use Rattle.cpuset_tree.specs.Kept.{entry_of_kept, listed, HasParentAmong, IsInOrder, share_of, requested_of, KeepsEffective, AllKept, ChangesAt}
+use Rattle.cpuset_tree.specs.GroupLemmas.{same_group-key, same_group_sym, other_key, entry_among-here, entry_among-there, entry_among-without, effective-without, standing_alike}
 use Rattle.cpuset_tree.proofs.KeptLemmas.{listed_at, listed-others}
 
 -- a bound on the serials may be raised
@@ -155,6 +157,33 @@ module _ (old new : Slab Cgroup) (g : Group) (n : Cgroup) (at_g : get old g.key 
         | false ↦ λ e.
             subst (λ (l : List ℕ). IsInOrder new next l) (sym (keeps_key k older e))
             (m, kept_at k e ∙ at, knows, below, parent-removed m.parent m.group.serial older rest parts.0 parent, IsInOrder-removed m.group.serial older rest parts.1)
+      ] refl
+
+  kept-removed : (r : Resource) (top : Ids) (next : ℕ) (older : List ℕ) (m : Cgroup) → IsInOrder old next older → is_parent m.parent g ≡ false
+      → has_child_among (listed old older) g ≡ false → KeepsEffective r top (listed old older) m → KeepsEffective r top (listed new (kept_keys older)) m
+  kept-removed r top next older m rest none childless kept =
+      subst (λ (l : List GroupEntry). KeepsEffective r top l m) (sym (listed-removed next older rest))
+      (kept ∙ standing_alike (requested_of r) top m.parent (share_of r m).requested _ _ (λ p of. sym (effective-without (requested_of r) top g (listed old older) childless p (other p of))))
+    where
+      other : (p : Group) → m.parent ≡ Some p → same_group g p ≡ false
+      other p of = same_group_sym g p ∙ ap (λ (o : Option Group). is_parent o g) (sym of) ∙ none
+
+  pub AllKept-removed : (r : Resource) (top : Ids) (next : ℕ) (keys : List ℕ) → IsInOrder old next keys → has_child_among (listed old keys) g ≡ false
+      → AllKept r old top keys → AllKept r new top (kept_keys keys)
+  AllKept-removed r top next [] _ none kept = tt
+  AllKept-removed r top next (k ∷ older) (m, at, knows, below, parent, rest) none kept =
+      let parts : (is_parent m.parent g ≡ false) × (has_child_among (listed old older) g ≡ false) = parts_of k older m at none in
+      elim (k == g.key) as (λ t. (k == g.key) ≡ t → AllKept r new top (kept_keys (k ∷ older))) [
+        | true ↦ λ e.
+            subst (λ (l : List ℕ). AllKept r new top l) (sym (drops_key k older e)) (AllKept-removed r top m.group.serial older rest parts.1 kept.1)
+        | false ↦ λ e.
+            subst (λ (l : List ℕ). AllKept r new top l) (sym (keeps_key k older e)) (
+              (λ x is.
+                  let one : m ≡ x = same_Some m x (sym at ∙ sym (kept_at k e) ∙ is) in
+                  subst (λ (y : Cgroup). KeepsEffective r top (listed new (kept_keys older)) y) one
+                  (kept-removed r top m.group.serial older m rest parts.0 parts.1 (kept.0 m at))),
+              AllKept-removed r top m.group.serial older rest parts.1 kept.1,
+            )
       ] refl
 
   pub complete-removed : (keys : List ℕ) → get new g.key ≡ None → ((key : ℕ) → is_some (get old key) ≡ true → list_any (λ k. k == key) keys ≡ true)

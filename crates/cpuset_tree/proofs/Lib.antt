@@ -1,7 +1,12 @@
+pub mod NearLemmas
 pub mod KeptLemmas
 pub mod PlaceLemmas
+pub mod ShareLemmas
 pub mod ChangeLemmas
+pub mod ParentLemmas
+pub mod RefreshLemmas
+pub mod OneCpuLemmas
+pub mod LeafLemmas
 pub mod SoundLemmas
 pub mod CgroupLemmas
 pub mod WriteLemmas
-pub mod EffectLemmas

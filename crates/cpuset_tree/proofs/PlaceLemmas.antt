@@ -8,9 +8,11 @@ use Rattle.std.specs.List.{list_any}
 use Rattle.slab.specs.Slab.{Slab, get}
 use Rattle.cpuset_tree.specs.declared.groups.Group.{Group}
 use Rattle.cpuset_tree.specs.declared.groups.Cgroup.{Cgroup}
+use Rattle.cpuset_tree.specs.declared.groups.Resource.{Resource}
+use Rattle.cpuset_tree.specs.declared.groups.Resource.TheVariants.{Cpus, Mems}
 use Rattle.cpuset_tree.specs.TreeState.{GroupEntry}
 use Rattle.cpuset_tree.specs.Groups.{same_group, entry_among, root_among}
-use Rattle.cpuset_tree.specs.Kept.{before, listed, HasParentAmong, IsInOrder, ChangesAt}
+use Rattle.cpuset_tree.specs.Kept.{before, listed, HasParentAmong, IsInOrder, IsOrder, ChangesAt, bare, OnlyKeptDiffers}
 
 -- a group and its parent
 abbrev pub place : Cgroup → Group × Option Group
@@ -29,6 +31,14 @@ mapped_from f (Some x) y e = (x, refl, same_Some (f x) y e)
 is_some-option_map : {A B : Type 0} (f : A → B) (o : Option A) → is_some (option_map f o) ≡ is_some o
 is_some-option_map f None = refl
 is_some-option_map f (Some x) = refl
+
+bare_place : (r : Resource) (o : Option Cgroup) → option_map place o ≡ option_map place (option_map (bare r) o)
+bare_place r None = refl
+bare_place Cpus (Some n) = refl
+bare_place Mems (Some n) = refl
+
+pub SamePlaces-from_kept : (r : Resource) (old new : Slab Cgroup) → OnlyKeptDiffers r old new → SamePlaces old new
+SamePlaces-from_kept r old new same key = bare_place r (get new key) ∙ ap (option_map place) (same key) ∙ sym (bare_place r (get old key))
 
 -- a change at one key that f makes
 module _ (f : Cgroup → Cgroup) where
@@ -109,3 +119,6 @@ module _ (old new : Slab Cgroup) (same : SamePlaces old new) where
         parent-same moved.0.parent older (subst (λ (o : Option Group). HasParentAmong old o older) (sym up) parent),
         subst (λ (g : Group). IsInOrder new g.serial older) (sym group) (IsInOrder-same m.group.serial older rest),
       )
+
+  pub IsOrder-same : (keys : List ℕ) → IsOrder old keys → IsOrder new keys
+  IsOrder-same keys order = (order.0, IsInOrder-same order.0 keys order.1)

@@ -1,27 +1,32 @@
 -- A tree stays sound through each of its changes.
 use Rattle.std.proofs.Common.{◌≡◌, ℕ, ◌+◌, true, false, not, List, ◌∷◌, refl, sym, ap, ◌∙◌, subst, eq-eqb, arith, filter}
 use Rattle.std.proofs.lemmas.Bool.{or_left, or_right, both_ways}
-use Rattle.std.proofs.lemmas.Option.{none-some}
+use Rattle.std.proofs.lemmas.Option.{same_Some, none-some}
 use Rattle.std.specs.Prelude.{Option, Some, None, is_some, is_none, ◌==◌}
 use Rattle.std.specs.List.{list_any}
 use Rattle.slab.specs.Slab.{Slab, get, Updates}
+use Rattle.cpu_set.specs.Ids.{Ids}
 use Rattle.cpuset_tree.specs.declared.groups.Group.{Group}
 use Rattle.cpuset_tree.specs.declared.groups.Cgroup.{Cgroup}
+use Rattle.cpuset_tree.specs.declared.groups.Resource.{Resource}
+use Rattle.cpuset_tree.specs.declared.groups.Share.{Share}
 use Rattle.cpuset_tree.specs.TreeState.{GroupEntry}
 use Rattle.cpuset_tree.specs.Groups.{same_group, entry_among, root_among, has_child_among}
-use Rattle.cpuset_tree.specs.Kept.{entry_of_kept, listed, HasParentAmong, IsInOrder, IsSound}
-use Rattle.cpuset_tree.proofs.KeptLemmas.{listed_at, vacant_is_absent, listed-others}
+use Rattle.cpuset_tree.specs.Effective.{granted, standing, effective}
+use Rattle.cpuset_tree.specs.Kept.{entry_of_kept, listed, HasParentAmong, IsInOrder, share_of, unrequested, requested_of, top_of, AllKept, KeepsEffective, IsSound}
+use Rattle.cpuset_tree.specs.GrantedLemmas.{granted-empty}
+use Rattle.cpuset_tree.proofs.KeptLemmas.{listed_at, vacant_is_absent, listed-others, AllKept-others}
 use Rattle.cpuset_tree.proofs.PlaceLemmas.{SamePlaces, IsInOrder-same, complete-same, root-same}
-use Rattle.cpuset_tree.proofs.ChangeLemmas.{IsInOrder-others, IsInOrder-removed, complete-removed, root-removed}
+use Rattle.cpuset_tree.proofs.ChangeLemmas.{IsInOrder-others, IsInOrder-removed, AllKept-removed, complete-removed, root-removed}
 
 -- room for more groups changes none
-pub IsSound-room : (s : Slab Cgroup) (room : ℕ) (keys : List ℕ) (root : Group) (next : ℕ)
-    → IsSound s keys root next → IsSound (record s { capacity = room }) keys root next
-IsSound-room s room keys root next h = record { in_order = h.in_order; complete = h.complete; rooted = h.rooted }
+pub IsSound-room : (s : Slab Cgroup) (room : ℕ) (keys : List ℕ) (online nodes : Ids) (root : Group) (next : ℕ)
+    → IsSound s keys online nodes root next → IsSound (record s { capacity = room }) keys online nodes root next
+IsSound-room s room keys online nodes root next h = record { in_order = h.in_order; all_kept = h.all_kept; complete = h.complete; rooted = h.rooted }
 
 -- one group more
-module _ (old new : Slab Cgroup) (keys : List ℕ) (root : Group) (next key : ℕ) (n : Cgroup)
-    (sound : IsSound old keys root next) (updates : Updates old new key (Some n)) (vacant : get old key ≡ None) where
+module _ (old new : Slab Cgroup) (keys : List ℕ) (online nodes : Ids) (root : Group) (next key : ℕ) (n : Cgroup)
+    (sound : IsSound old keys online nodes root next) (updates : Updates old new key (Some n)) (vacant : get old key ≡ None) where
   absent : list_any (λ k. k == key) keys ≡ false
   absent = vacant_is_absent old next keys sound.in_order key vacant
 
@@ -32,8 +37,9 @@ module _ (old new : Slab Cgroup) (keys : List ℕ) (root : Group) (next key : �
   listed-added e is = listed_at new key keys n updates.changed ∙ ap (λ (x : GroupEntry). x ∷ listed new keys) is ∙ ap (λ (l : List GroupEntry). e ∷ l) same_older
 
   pub IsSound-added : (p : Group) → n.group.key ≡ key → n.group.serial ≡ next → n.parent ≡ Some p → is_some (entry_among (listed old keys) p) ≡ true
-      → IsSound new (key ∷ keys) root (next + 1)
-  IsSound-added p knows serial of there = record {
+      → ((r : Resource) → share_of r n ≡ unrequested (effective (requested_of r) (top_of r online nodes) (listed old keys) p))
+      → IsSound new (key ∷ keys) online nodes root (next + 1)
+  IsSound-added p knows serial of there shares = record {
     in_order = (
       n,
       updates.changed,
@@ -41,6 +47,10 @@ module _ (old new : Slab Cgroup) (keys : List ℕ) (root : Group) (next key : �
       omega arith,
       parent_is,
       subst (λ (m : ℕ). IsInOrder new m keys) (sym serial) (IsInOrder-others old new key updates.others next keys absent sound.in_order),
+    );
+    all_kept = λ r. (
+      (λ m at. subst (λ (x : Cgroup). KeepsEffective r (top_of r online nodes) (listed new keys) x) (same_Some n m (sym updates.changed ∙ at)) (here r)),
+      AllKept-others r old new (top_of r online nodes) key updates.others keys absent (sound.all_kept r),
     );
     complete = λ k at. elim (key == k) as (λ t. (key == k) ≡ t → list_any (λ j. j == k) (key ∷ keys) ≡ true) [
       | true ↦ λ e. or_left (key == k) (list_any (λ j. j == k) keys) e
@@ -58,24 +68,35 @@ module _ (old new : Slab Cgroup) (keys : List ℕ) (root : Group) (next key : �
       parent_is = subst (λ (o : Option Group). HasParentAmong new o keys) (sym of)
           (ap (λ (l : List GroupEntry). is_some (entry_among l p)) same_older ∙ there)
 
-      elder : (parent : Option Group) → parent ≡ Some p → root_among (record { group = n.group; parent = parent; name = (entry_of_kept n).name; cpus = n.requests.value.cpus; mems = n.requests.value.mems } ∷ listed new keys) ≡ root_among (listed new keys)
+      here : (r : Resource) → KeepsEffective r (top_of r online nodes) (listed new keys) n
+      here r =
+          let above : Ids = effective (requested_of r) (top_of r online nodes) (listed old keys) p in
+          subst (λ (l : List GroupEntry). KeepsEffective r (top_of r online nodes) l n) (sym same_older)
+          (ap (λ (x : Share). x.effective) (shares r) ∙ sym (granted-empty above)
+          ∙ ap (λ (x : Share). granted x.requested above) (sym (shares r))
+          ∙ ap (λ (o : Option Group). standing o (share_of r n).requested (top_of r online nodes) (effective (requested_of r) (top_of r online nodes) (listed old keys))) (sym of))
+
+      elder : (parent : Option Group) → parent ≡ Some p → root_among (record { group = n.group; parent = parent; name = (entry_of_kept n).name; cpus = n.shares.value.cpus.requested; mems = n.shares.value.mems.requested } ∷ listed new keys) ≡ root_among (listed new keys)
       elder None e = absurd (none-some p e)
       elder (Some q) e = refl
 
--- places stay
-pub IsSound-same : (old new : Slab Cgroup) (keys : List ℕ) (root : Group) (next : ℕ) → IsSound old keys root next → SamePlaces old new → IsSound new keys root next
-IsSound-same old new keys root next sound same = record {
+-- places stay, and what is kept is right again
+pub IsSound-same : (old new : Slab Cgroup) (keys : List ℕ) (online nodes online' nodes' : Ids) (root : Group) (next : ℕ) → IsSound old keys online nodes root next
+    → SamePlaces old new → ((r : Resource) → AllKept r new (top_of r online' nodes') keys) → IsSound new keys online' nodes' root next
+IsSound-same old new keys online nodes online' nodes' root next sound same kept = record {
   in_order = IsInOrder-same old new same next keys sound.in_order;
+  all_kept = kept;
   complete = complete-same old new same keys sound.complete;
   rooted = root-same old new same keys ∙ sound.rooted;
 }
 
 -- one group less
-pub IsSound-removed : (old new : Slab Cgroup) (g : Group) (n : Cgroup) (keys : List ℕ) (root : Group) (next : ℕ) → IsSound old keys root next
+pub IsSound-removed : (old new : Slab Cgroup) (g : Group) (n : Cgroup) (keys : List ℕ) (online nodes : Ids) (root : Group) (next : ℕ) → IsSound old keys online nodes root next
     → get old g.key ≡ Some n → same_group n.group g ≡ true → is_none n.parent ≡ false → has_child_among (listed old keys) g ≡ false
-    → Updates old new g.key None → IsSound new (filter (λ k. not (k == g.key)) keys) root next
-IsSound-removed old new g n keys root next sound at same child childless updates = record {
+    → Updates old new g.key None → IsSound new (filter (λ k. not (k == g.key)) keys) online nodes root next
+IsSound-removed old new g n keys online nodes root next sound at same child childless updates = record {
   in_order = IsInOrder-removed old new g n at same updates.others next keys sound.in_order childless;
+  all_kept = λ r. AllKept-removed old new g n at same updates.others r (top_of r online nodes) next keys sound.in_order childless (sound.all_kept r);
   complete = complete-removed old new g n at same updates.others keys updates.changed sound.complete;
   rooted = root-removed old new g n at same updates.others child next keys sound.in_order ∙ sound.rooted;
 }

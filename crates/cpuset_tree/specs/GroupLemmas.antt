@@ -1,11 +1,11 @@
 -- Groups that are one or not, and look-ups among entries.
 use Rattle.std.proofs.Common.{◌≡◌, true, false, not, List, [], ◌∷◌, refl, sym, ap, ◌∙◌, eq-eqb, eqb-true, filter}
-use Rattle.std.proofs.lemmas.Bool.{and_parts, and_left, and_right, and_from, ne_eqb, cond-true, cond-false, both_ways}
+use Rattle.std.proofs.lemmas.Bool.{and_parts, and_left, and_right, and_from, or_parts, ne_eqb, cond-true, cond-false, both_ways}
 use Rattle.std.specs.Prelude.{Option, Some, None, ◌==◌}
 use Rattle.cpu_set.specs.Ids.{Ids}
 use Rattle.cpuset_tree.specs.declared.groups.Group.{Group}
 use Rattle.cpuset_tree.specs.TreeState.{GroupEntry}
-use Rattle.cpuset_tree.specs.Groups.{same_group, entry_among}
+use Rattle.cpuset_tree.specs.Groups.{same_group, entry_among, is_parent, has_child_among}
 use Rattle.cpuset_tree.specs.Effective.{granted, standing, effective}
 
 pub same_group-key : (a b : Group) → same_group a b ≡ true → a.key ≡ b.key
@@ -92,3 +92,28 @@ module _ (requested : GroupEntry → Ids) (top : Ids) where
       → standing parent asked top f ≡ standing parent asked top h
   standing_alike None asked f h alike = refl
   standing_alike (Some p) asked f h alike = ap (granted asked) (alike p refl)
+
+  -- a group without children has no part in what others have
+  pub effective-without : (g : Group) (groups : List GroupEntry) → has_child_among groups g ≡ false → (p : Group) → same_group g p ≡ false
+      → effective requested top (filter (λ e. not (same_group e.group g)) groups) p ≡ effective requested top groups p
+  effective-without g [] none p other = refl
+  effective-without g (e ∷ older) none p other =
+      let parts : (is_parent e.parent g ≡ false) × (has_child_among older g ≡ false) = or_parts (is_parent e.parent g) (has_child_among older g) none in
+      elim (same_group e.group g) as (λ t. same_group e.group g ≡ t → effective requested top (filter (λ e. not (same_group e.group g)) (e ∷ older)) p ≡ effective requested top (e ∷ older) p) [
+        | true ↦ λ is.
+            ap (λ (l : List GroupEntry). effective requested top l p) (cond-false (not (same_group e.group g)) (e ∷ filter (λ e. not (same_group e.group g)) older) (filter (λ e. not (same_group e.group g)) older) (ap not is))
+            ∙ effective-without g older parts.1 p other
+            ∙ sym (effective-there e older p (ap (λ (h : Group). same_group h p) (same_group-equal e.group g is) ∙ other))
+        | false ↦ λ is.
+            ap (λ (l : List GroupEntry). effective requested top l p) (cond-true (not (same_group e.group g)) (e ∷ filter (λ e. not (same_group e.group g)) older) (filter (λ e. not (same_group e.group g)) older) (ap not is))
+            ∙ elim (same_group e.group p) as (λ t. same_group e.group p ≡ t → effective requested top (e ∷ filter (λ e. not (same_group e.group g)) older) p ≡ effective requested top (e ∷ older) p) [
+              | true ↦ λ at.
+                  effective-here e (filter (λ e. not (same_group e.group g)) older) p at
+                  ∙ standing_alike e.parent (requested e) _ _ (λ q of. effective-without g older parts.1 q (same_group_sym g q ∙ ap (λ (o : Option Group). is_parent o g) (sym of) ∙ parts.0))
+                  ∙ sym (effective-here e older p at)
+              | false ↦ λ at.
+                  effective-there e (filter (λ e. not (same_group e.group g)) older) p at
+                  ∙ effective-without g older parts.1 p other
+                  ∙ sym (effective-there e older p at)
+            ] refl
+      ] refl

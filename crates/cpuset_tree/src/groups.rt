@@ -2,7 +2,9 @@ ghost use Rattle.std.specs.Prelude.{◌≡◌, nat_eq, string_bytes};
 ghost use Rattle.std.specs.Cmp.Lexicographic.{pointwise};
 ghost use Rattle.cpuset_tree.specs.Groups.{is_parent};
 ghost use Rattle.cpuset_tree.specs.Effective.{granted};
-ghost use Rattle.cpuset_tree.specs.Kept.{ChangesAt, no_requests, requested_by, with_requested};
+ghost use Rattle.cpu_set.specs.Members.{IsCpu};
+ghost use Rattle.cpuset_tree.specs.Near.{having};
+ghost use Rattle.cpuset_tree.specs.Kept.{ChangesAt, share_of, unrequested, with_requested, with_effective, may_change};
 
 use cpu_set::IdSet;
 use slab::Slab;
@@ -16,7 +18,7 @@ pub struct Group {
     pub serial: u64,
 }
 
-/// What a group requests a part of.
+/// What a group has a share of.
 #[derive(Clone, Copy)]
 pub enum Resource {
     /// The CPUs that are online.
@@ -25,23 +27,42 @@ pub enum Resource {
     Mems,
 }
 
-/// What a group requests of each resource.
+/// What a group requests of a resource, and what it has in effect.
 #[derive(Clone, Copy)]
-pub struct Requests {
-    pub cpus: IdSet,
-    pub mems: IdSet,
+pub struct Share {
+    pub requested: IdSet,
+    pub effective: IdSet,
 }
 
-impl Requests {
-    /// Those of a new group: nothing.
-    pub fn none() -> Requests
-        ensures { result ≡ no_requests }
+impl Shares {
+    /// The shares of a group that requests nothing.
+    pub fn unrequested(cpus: IdSet, mems: IdSet) -> Shares
+        ensures { result ≡ record { cpus = unrequested cpus; mems = unrequested mems } }
     {
-        Requests {
-            cpus: IdSet::empty(),
-            mems: IdSet::empty(),
+        Shares {
+            cpus: Share::unrequested(cpus),
+            mems: Share::unrequested(mems),
         }
     }
+}
+
+impl Share {
+    /// The share of a group that requests nothing.
+    fn unrequested(effective: IdSet) -> Share
+        ensures { result ≡ unrequested effective }
+    {
+        Share {
+            requested: IdSet::empty(),
+            effective,
+        }
+    }
+}
+
+/// A group's share of each resource.
+#[derive(Clone, Copy)]
+pub struct Shares {
+    pub cpus: Share,
+    pub mems: Share,
 }
 
 /// What a tree keeps of one group. Its sets are kept apart, so that a search for a name does not walk past them.
@@ -50,7 +71,7 @@ pub struct Cgroup {
     pub group: Group,
     pub parent: Option<Group>,
     pub name: String,
-    pub requests: Box<Requests>,
+    pub shares: Box<Shares>,
 }
 
 impl Cgroup {
@@ -71,13 +92,13 @@ impl Cgroup {
         own.len() == other.len() && own.last() == other.last() && self.name.as_str() == name
     }
 
-    /// What the group requests of a resource.
-    pub fn requested(&self, resource: Resource) -> &IdSet
-        ensures { result.now ≡ requested_by resource self.now }
+    /// The group's share of a resource.
+    pub fn share(&self, resource: Resource) -> &Share
+        ensures { result.now ≡ share_of resource self.now }
     {
         match resource {
-            Resource::Cpus => &self.requests.cpus,
-            Resource::Mems => &self.requests.mems,
+            Resource::Cpus => &self.shares.cpus,
+            Resource::Mems => &self.shares.mems,
         }
     }
 
@@ -86,8 +107,43 @@ impl Cgroup {
         ensures { self.new ≡ with_requested resource ids self.old }
     {
         match resource {
-            Resource::Cpus => self.requests.cpus = ids,
-            Resource::Mems => self.requests.mems = ids,
+            Resource::Cpus => self.shares.cpus.requested = ids,
+            Resource::Mems => self.shares.mems.requested = ids,
+        }
+    }
+
+    /// Writes what the group has in effect of a resource.
+    #[inline(always)]
+    pub fn give(&mut self, resource: Resource, ids: IdSet)
+        ensures { self.new ≡ with_effective resource ids self.old }
+    {
+        match resource {
+            Resource::Cpus => self.shares.cpus.effective = ids,
+            Resource::Mems => self.shares.mems.effective = ids,
+        }
+    }
+
+    /// Puts a CPU among those in effect, or takes it out.
+    pub fn have(&mut self, cpu: u16, has: bool)
+        requires { IsCpu cpu }
+        ensures { self.new ≡ having cpu has self.old }
+    {
+        if has {
+            self.shares.cpus.effective.insert(cpu);
+        } else {
+            self.shares.cpus.effective.remove(cpu);
+        }
+    }
+
+    /// Whether a write of the group of this serial can change what this group has in effect.
+    ///
+    /// That can be where it is that group, or its parent is no older, since what is below a group is newer.
+    pub fn may_change(&self, written: u64) -> bool
+        ensures { result ≡ may_change written self.now }
+    {
+        match self.parent {
+            Some(parent) if parent.serial >= written => true,
+            _ => self.group.serial == written,
         }
     }
 }
@@ -99,6 +155,16 @@ pub fn granted_of(requested: &IdSet, above: &IdSet) -> IdSet
 {
     let granted = requested.meet(above);
     if granted.is_empty() { *above } else { granted }
+}
+
+/// Puts a CPU among those that the group under a key has in effect, or takes it out.
+pub fn have_at(groups: &mut Slab<Cgroup>, key: usize, cpu: u16, has: bool)
+    requires { IsCpu cpu }
+    ensures { ChangesAt groups.old groups.new key (having cpu has) }
+{
+    if let Some(kept) = groups.get_mut(key) {
+        kept.have(cpu, has);
+    }
 }
 
 /// Writes what the group under a key requests of a resource.

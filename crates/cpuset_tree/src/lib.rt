@@ -6,6 +6,8 @@
 mod fault;
 mod groups;
 pub mod laws;
+mod one_cpu;
+mod refresh;
 mod tree;
 
 pub use fault::TreeFault;

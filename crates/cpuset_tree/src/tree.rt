@@ -1,7 +1,7 @@
 ghost use Rattle.std.specs.Prelude.{◌≡◌, ◌<◌, IfOk, OnErr, MatchResult, Some, None, true, false, string_bytes};
 ghost use Rattle.std.specs.Option.{option_copied};
 ghost use Rattle.cpuset_tree.specs.Groups.{root_of, has_group, is_root, child_of, has_children, requested_cpus, requested_mems};
-ghost use Rattle.cpuset_tree.specs.Effective.{effective, effective_cpus, effective_mems};
+ghost use Rattle.cpuset_tree.specs.Effective.{effective_cpus, effective_mems};
 ghost use Rattle.cpuset_tree.specs.TreeChanges.{IsFirstTree, without_group, with_cpus, with_mems, with_online};
 ghost use Rattle.faults.specs.Calls.{Decides, behind};
 ghost use Rattle.cpuset_tree.specs.TreeAnswers.{Makes, AddsGroup, make_refusal, remove_refusal, write_refusal, read_of};
@@ -9,7 +9,9 @@ ghost use Rattle.cpuset_tree.specs.Places.{place_of, place_behind};
 ghost use Rattle.cpuset_tree.specs.TreeWellFormed.{IsWellFormed};
 ghost use Rattle.cpuset_tree.specs.TreeLaws.{RunsUpThePath};
 
-use crate::groups::{Cgroup, Requests, Resource, granted_of, request_at};
+use crate::groups::{Cgroup, Resource, Shares, request_at};
+use crate::one_cpu::refresh_online;
+use crate::refresh::refresh_written;
 use crate::{Group, SERIAL_LIMIT, TreeFault};
 use cpu_set::IdSet;
 use faults::OrMemory;
@@ -23,8 +25,9 @@ use std::marker::Model;
 /// At the root the online CPUs are in effect, and all nodes. In another group those of its parent's that it
 /// requests are, or all of its parent's where it requests none of them.
 ///
-/// What is in effect is worked out when it is read, in O(d) steps for a group d below the root, and as much stack. Writes, reads
-/// of what is requested and `set_online` take O(1) steps; of g groups `find`, `make` and `remove` take O(g).
+/// What is in effect is kept up to date by the writes, so that each read takes O(1) steps. Of g groups `find`, `make` and
+/// `remove` take O(g); `write_cpus` and `write_mems` O(1) where the group is newer than each group with children, else O(g);
+/// `set_online` O(g), and where one CPU goes or comes, for most groups by a few tests of single CPUs.
 #[derive(Drop)]
 pub struct Tree {
     alloc: Global,
@@ -32,6 +35,8 @@ pub struct Tree {
     // The keys of the groups, the newest first.
     order: VecDeque<usize>,
     root: Group,
+    // No group has a newer parent than the one of this serial.
+    newest_parent: u64,
     online: IdSet,
     nodes: IdSet,
     next_serial: u64,
@@ -44,7 +49,7 @@ impl Model for Tree {
 
     ghost coded = { tree_code };
 
-    ghost use Rattle.cpuset_tree.specs.Kept.{listed, IsSound};
+    ghost use Rattle.cpuset_tree.specs.Kept.{listed, IsSound, AreParentsUpTo};
 
     ghost view = { λ t. record {
       groups = listed t.groups t.order.items;
@@ -53,11 +58,11 @@ impl Model for Tree {
       next_serial = t.next_serial;
     } };
 
-    ghost invariant = { λ t. IsSound t.groups t.order.items t.root t.next_serial };
+    ghost invariant = { λ t. IsSound t.groups t.order.items t.online t.nodes t.root t.next_serial × AreParentsUpTo t.groups t.newest_parent };
 }
 
 impl Tree {
-    ghost use Rattle.cpuset_tree.specs.Kept.{IsKeptOf, top_of, requested_of, no_requests, with_request};
+    ghost use Rattle.cpuset_tree.specs.Kept.{IsKeptOf, top_of, unrequested, with_request};
 
     /// A tree of its root alone, which has the first serial and all of these CPUs and nodes in effect.
     ///
@@ -74,7 +79,7 @@ impl Tree {
     {
         let mut groups = Slab::new(alloc);
         let mut order = VecDeque::new(alloc);
-        let requests = Box::new(alloc, Requests::none())?;
+        let shares = Box::new(alloc, Shares::unrequested(online, nodes))?;
         groups.reserve(1)?;
         let key = groups.vacant_key();
         order.push_front(key)?;
@@ -86,13 +91,14 @@ impl Tree {
             group: root,
             parent: None,
             name: String::new(alloc),
-            requests,
+            shares,
         });
         Ok(Tree {
             alloc,
             groups,
             order,
             root,
+            newest_parent: 0,
             online,
             nodes,
             next_serial: first_serial + 1,
@@ -130,8 +136,7 @@ impl Tree {
     }
 
     fn cgroup(&self, group: Group) -> Option<&Cgroup>
-        ensures kept { IsKeptOf self.now group (option_copied result) }
-        ensures well_formed { IsWellFormed self.now }
+        ensures { IsKeptOf self.now group (option_copied result) }
     {
         match self.groups.get(group.key) {
             Some(kept) if kept.group == group => Some(kept),
@@ -172,9 +177,10 @@ impl Tree {
     pub fn make(&mut self, parent: Group, name: &str) -> Result<Group, OrMemory<TreeFault>>
         ensures { Makes self.old parent name.now result self.new }
     {
-        if !self.contains(parent) {
+        let Some(above) = self.cgroup(parent) else {
             return Err(OrMemory::Fault(TreeFault::NoGroup));
-        }
+        };
+        let shares = Shares::unrequested(above.shares.cpus.effective, above.shares.mems.effective);
         if self.child(parent, name).is_some() {
             return Err(OrMemory::Fault(TreeFault::Exists));
         }
@@ -182,7 +188,7 @@ impl Tree {
             return Err(OrMemory::Fault(TreeFault::NoSerials));
         }
         let name = String::from_str(self.alloc, name)?;
-        Ok(self.add(parent, name)?)
+        Ok(self.add(parent, name, shares)?)
     }
 
     /// Whether a group can be made, or why not.
@@ -214,14 +220,16 @@ impl Tree {
         Some((parent, kept.name.as_str()))
     }
 
-    /// Adds a group that requests nothing.
-    fn add(&mut self, parent: Group, name: String) -> Result<Group, AllocError>
+    /// Adds a group that has in effect what its parent has.
+    fn add(&mut self, parent: Group, name: String, shares: Shares) -> Result<Group, AllocError>
         requires serial { self.old.next_serial < SERIAL_LIMIT }
         requires parent { has_group self.old parent ≡ true }
+        requires cpus { shares.cpus ≡ unrequested (effective_cpus self.old parent) }
+        requires mems { shares.mems ≡ unrequested (effective_mems self.old parent) }
         ensures ok { IfOk result (λ g. AddsGroup self.old parent (string_bytes name) g self.new) }
         ensures err { OnErr result (self.new ≡ self.old) }
     {
-        let requests = Box::new(self.alloc, Requests::none())?;
+        let shares = Box::new(self.alloc, shares)?;
         self.groups.reserve(1)?;
         let group = Group {
             key: self.groups.vacant_key(),
@@ -232,8 +240,9 @@ impl Tree {
             group,
             parent: Some(parent),
             name,
-            requests,
+            shares,
         });
+        self.newest_parent = self.newest_parent.max(parent.serial);
         self.next_serial += 1;
         Ok(group)
     }
@@ -278,7 +287,7 @@ impl Tree {
         self.order.retain(|key| *key != group.key);
     }
 
-    /// Writes the CPUs that a group requests.
+    /// Writes the CPUs that a group requests, and brings it and what is below it up to date.
     ///
     /// # Errors
     /// In this order: [`TreeFault::NoGroup`], [`TreeFault::IsRoot`].
@@ -290,7 +299,7 @@ impl Tree {
         Ok(())
     }
 
-    /// Writes the memory nodes that a group requests.
+    /// Writes the memory nodes that a group requests, and brings it and what is below it up to date.
     ///
     /// # Errors
     /// In this order: [`TreeFault::NoGroup`], [`TreeFault::IsRoot`].
@@ -312,21 +321,6 @@ impl Tree {
         }
     }
 
-    /// Writes what a group requests of a resource.
-    fn request(&mut self, group: Group, resource: Resource, ids: IdSet)
-        requires { has_group self.old group ≡ true }
-        ensures { self.new ≡ with_request resource self.old group ids }
-    {
-        request_at(&mut self.groups, group.key, resource, ids);
-    }
-
-    /// Says which CPUs are online from now on; what the groups request stays.
-    pub fn set_online(&mut self, online: IdSet)
-        ensures { self.new ≡ with_online self.old online }
-    {
-        self.online = online;
-    }
-
     /// What the root has in effect of a resource.
     fn whole(&self, resource: Resource) -> IdSet
         ensures { result ≡ top_of resource self.now.online self.now.nodes }
@@ -337,19 +331,31 @@ impl Tree {
         }
     }
 
-    /// What a group has in effect of a resource: all of it at the root, and else what it is granted of its parent's.
-    fn in_effect(&self, group: Group, resource: Resource) -> IdSet
-        ensures { result ≡ effective (requested_of resource) (top_of resource self.now.online self.now.nodes) self.now.groups group }
+    /// Writes what a group requests of a resource, and brings the groups up to date that this can change.
+    fn request(&mut self, group: Group, resource: Resource, ids: IdSet)
+        requires { has_group self.old group ≡ true }
+        ensures { self.new ≡ with_request resource self.old group ids }
     {
-        let Some(kept) = self.cgroup(group) else {
-            return self.whole(resource);
-        };
-        match kept.parent {
-            None => self.whole(resource),
-            Some(parent) => {
-                granted_of(kept.requested(resource), &self.in_effect(parent, resource))
-            }
-        }
+        let top = self.whole(resource);
+        request_at(&mut self.groups, group.key, resource, ids);
+        refresh_written(
+            &mut self.groups,
+            &self.order,
+            self.newest_parent,
+            resource,
+            &top,
+            group,
+        );
+    }
+
+    /// Says which CPUs are online from now on, and brings all groups up to date; what they request stays.
+    pub fn set_online(&mut self, online: IdSet)
+        ensures { self.new ≡ with_online self.old online }
+    {
+        let was = self.online;
+        self.online = online;
+        let oldest = self.root.serial;
+        refresh_online(&mut self.groups, &self.order, &was, &self.online, oldest);
     }
 
     /// The CPUs that a group requests.
@@ -360,20 +366,18 @@ impl Tree {
         ensures { behind result ≡ read_of self.now group (requested_cpus self.now group) }
     {
         let kept = self.cgroup(group).ok_or(TreeFault::NoGroup)?;
-        Ok(&kept.requests.cpus)
+        Ok(&kept.shares.cpus.requested)
     }
 
     /// The CPUs that a group has in effect.
     ///
     /// # Errors
     /// [`TreeFault::NoGroup`].
-    pub fn effective_cpus(&self, group: Group) -> Result<IdSet, TreeFault>
-        ensures { result ≡ read_of self.now group (effective_cpus self.now group) }
+    pub fn effective_cpus(&self, group: Group) -> Result<&IdSet, TreeFault>
+        ensures { behind result ≡ read_of self.now group (effective_cpus self.now group) }
     {
-        if !self.contains(group) {
-            return Err(TreeFault::NoGroup);
-        }
-        Ok(self.in_effect(group, Resource::Cpus))
+        let kept = self.cgroup(group).ok_or(TreeFault::NoGroup)?;
+        Ok(&kept.shares.cpus.effective)
     }
 
     /// The memory nodes that a group requests.
@@ -384,20 +388,18 @@ impl Tree {
         ensures { behind result ≡ read_of self.now group (requested_mems self.now group) }
     {
         let kept = self.cgroup(group).ok_or(TreeFault::NoGroup)?;
-        Ok(&kept.requests.mems)
+        Ok(&kept.shares.mems.requested)
     }
 
     /// The memory nodes that a group has in effect.
     ///
     /// # Errors
     /// [`TreeFault::NoGroup`].
-    pub fn effective_mems(&self, group: Group) -> Result<IdSet, TreeFault>
-        ensures { result ≡ read_of self.now group (effective_mems self.now group) }
+    pub fn effective_mems(&self, group: Group) -> Result<&IdSet, TreeFault>
+        ensures { behind result ≡ read_of self.now group (effective_mems self.now group) }
     {
-        if !self.contains(group) {
-            return Err(TreeFault::NoGroup);
-        }
-        Ok(self.in_effect(group, Resource::Mems))
+        let kept = self.cgroup(group).ok_or(TreeFault::NoGroup)?;
+        Ok(&kept.shares.mems.effective)
     }
 
     /// The group's child of this name, if it has one.

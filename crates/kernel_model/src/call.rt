@@ -64,9 +64,9 @@ pub fn make_call<K: Kernel>(kernel: &mut K, call: &Call) -> Result<Reply, OrMemo
             .find_group(*parent, name.as_str())
             .map(Reply::Found)
             .map_err(OrMemory::Fault),
-        Call::RequestedCpus(group) => lent_ids(kernel.requested_cpus(*group)),
+        Call::RequestedCpus(group) => ids(kernel.requested_cpus(*group)),
         Call::EffectiveCpus(group) => ids(kernel.effective_cpus(*group)),
-        Call::RequestedMems(group) => lent_ids(kernel.requested_mems(*group)),
+        Call::RequestedMems(group) => ids(kernel.requested_mems(*group)),
         Call::EffectiveMems(group) => ids(kernel.effective_mems(*group)),
         Call::Online => Ok(Reply::Ids(kernel.online())),
         Call::Nodes => Ok(Reply::Ids(kernel.nodes())),
@@ -86,14 +86,7 @@ fn done(answer: Result<(), KernelFault>) -> Result<Reply, OrMemory<KernelFault>>
 }
 
 /// The reply of a call that returns a set.
-fn ids(answer: Result<IdSet, KernelFault>) -> Result<Reply, OrMemory<KernelFault>>
-    ensures { result ≡ reply_at_once Reply.Ids answer }
-{
-    answer.map(Reply::Ids).map_err(OrMemory::Fault)
-}
-
-/// The same of one that lends it.
-fn lent_ids(answer: Result<&IdSet, KernelFault>) -> Result<Reply, OrMemory<KernelFault>>
+fn ids(answer: Result<&IdSet, KernelFault>) -> Result<Reply, OrMemory<KernelFault>>
     ensures { result ≡ reply_at_once Reply.Ids (behind answer.entry) }
 {
     answer.map(|ids| Reply::Ids(*ids)).map_err(OrMemory::Fault)

@@ -163,7 +163,7 @@ impl<K: Kernel> Kernel for FusedKernel<K> {
         self.inner.requested_cpus(group)
     }
 
-    fn effective_cpus(&self, group: Group) -> Result<IdSet, KernelFault> {
+    fn effective_cpus(&self, group: Group) -> Result<&IdSet, KernelFault> {
         self.inner.effective_cpus(group)
     }
 
@@ -171,7 +171,7 @@ impl<K: Kernel> Kernel for FusedKernel<K> {
         self.inner.requested_mems(group)
     }
 
-    fn effective_mems(&self, group: Group) -> Result<IdSet, KernelFault> {
+    fn effective_mems(&self, group: Group) -> Result<&IdSet, KernelFault> {
         self.inner.effective_mems(group)
     }
 

@@ -92,8 +92,8 @@ pub trait Kernel {
     ///
     /// # Errors
     /// `NoGroup`.
-    fn effective_cpus(&self, group: Group) -> Result<IdSet, KernelFault>
-        ensures { result ≡ read_of (state self.now) group (effective_cpus (state self.now).tree group) };
+    fn effective_cpus(&self, group: Group) -> Result<&IdSet, KernelFault>
+        ensures { behind result ≡ read_of (state self.now) group (effective_cpus (state self.now).tree group) };
 
     /// The memory nodes that a group requests.
     ///
@@ -106,8 +106,8 @@ pub trait Kernel {
     ///
     /// # Errors
     /// `NoGroup`.
-    fn effective_mems(&self, group: Group) -> Result<IdSet, KernelFault>
-        ensures { result ≡ read_of (state self.now) group (effective_mems (state self.now).tree group) };
+    fn effective_mems(&self, group: Group) -> Result<&IdSet, KernelFault>
+        ensures { behind result ≡ read_of (state self.now) group (effective_mems (state self.now).tree group) };
 
     /// The CPUs that are online.
     fn online(&self) -> IdSet

@@ -190,7 +190,7 @@ impl Kernel for ModelKernel {
         Ok(self.tree.cpus(group)?)
     }
 
-    fn effective_cpus(&self, group: Group) -> Result<IdSet, KernelFault> {
+    fn effective_cpus(&self, group: Group) -> Result<&IdSet, KernelFault> {
         Ok(self.tree.effective_cpus(group)?)
     }
 
@@ -198,7 +198,7 @@ impl Kernel for ModelKernel {
         Ok(self.tree.mems(group)?)
     }
 
-    fn effective_mems(&self, group: Group) -> Result<IdSet, KernelFault> {
+    fn effective_mems(&self, group: Group) -> Result<&IdSet, KernelFault> {
         Ok(self.tree.effective_mems(group)?)
     }
 

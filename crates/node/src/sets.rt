@@ -51,9 +51,9 @@ fn sets_of<K: Kernel>(kernel: &K, group: Group) -> Sets
     match answers {
         (Ok(cpus), Ok(effective_cpus), Ok(mems), Ok(effective_mems)) => Sets {
             cpus: *cpus,
-            effective_cpus,
+            effective_cpus: *effective_cpus,
             mems: *mems,
-            effective_mems,
+            effective_mems: *effective_mems,
         },
         _ => unreachable!(),
     }

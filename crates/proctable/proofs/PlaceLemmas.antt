@@ -1,5 +1,5 @@
 -- Processes that are kept by rising pid, those that live among those that have ended.
-use Rattle.std.proofs.Common.{◌≡◌, ◌≢◌, ℕ, zero, suc, ◌+◌, ◌<◌, ◌≤◌, Bool, true, false, not, ◌&&◌, ◌||◌, List, [], ◌∷◌, ◌++◌, length, get_or, set, filter, refl, sym, ap, ◌∙◌, subst, arith, eq-eqb, zero-add}
+use Rattle.std.proofs.Common.{◌≡◌, ◌≢◌, ℕ, zero, suc, ◌+◌, ◌<◌, ◌≤◌, Bool, true, false, not, ◌&&◌, ◌||◌, List, [], ◌∷◌, ◌++◌, length, get_or, set, filter, refl, sym, ap, ◌∙◌, subst, arith, eq-eqb, zero-add, length-append}
 use Rattle.std.proofs.lemmas.Bool.{both_ways, ne_eqb, cond-true, cond-false, or_left}
 use Rattle.std.proofs.lemmas.Bool.Decides.{nat_tests}
 use Rattle.std.proofs.lemmas.Option.{same_Some, none-some}
@@ -14,7 +14,7 @@ use Rattle.proctable.specs.declared.slots.Slot.{Slot}
 use Rattle.proctable.specs.Processes.{process_among}
 use Rattle.proctable.specs.TableChanges.{ends_with}
 use Rattle.proctable.specs.TableWellFormed.{RisesBelow, Belongs, AllBelong}
-use Rattle.proctable.specs.Kept.{live_of, alive_in, over, PidsRise, nobody, pid_at, EndsAlone}
+use Rattle.proctable.specs.Kept.{live_of, alive_in, over, PidsRise, nobody, pid_at, AreEnded, EndsAlone}
 use Rattle.proctable.specs.ProcessLemmas.{process-here, process-there, process-below, process-pid, rises_from}
 
 -- one that has ended is passed over, and one that lives is not
@@ -227,3 +227,56 @@ pub pids_set : (low next : ℕ) (slots : List Slot) (i : ℕ) (s : Slot) → Pid
 pids_set low next [] i s h is lt = absurd (omega arith)
 pids_set low next (t ∷ later) zero s (le, rest) is lt = subst (λ (n : ℕ). (low ≤ n) × PidsRise (n + 1) next later) (sym is) (le, rest)
 pids_set low next (t ∷ later) (suc i) s (le, rest) is lt = (le, pids_set (t.process.pid + 1) next later i s rest is (omega arith))
+
+-- where all live, none has ended
+pub none_ended : (stays : Slot → Bool) (slots : List Slot) → ((s : Slot) → stays s ≡ true → s.ended ≡ false) → AreEnded (filter stays slots) 0
+none_ended stays [] alive = refl
+none_ended stays (s ∷ later) alive = elim (stays s) as (λ b. stays s ≡ b → AreEnded (filter stays (s ∷ later)) 0) [
+  | true ↦ λ e.
+      let rest : length (live_of (filter stays later)) ≡ length (filter stays later) = sym (zero-add _) ∙ none_ended stays later alive in
+      subst (λ (l : List Slot). AreEnded l 0) (sym (cond-true (stays s) (s ∷ filter stays later) (filter stays later) e))
+      (zero-add _ ∙ ap length (live_alive s (filter stays later) (alive s e)) ∙ ap suc rest)
+  | false ↦ λ e.
+      subst (λ (l : List Slot). AreEnded l 0) (sym (cond-false (stays s) (s ∷ filter stays later) (filter stays later) e)) (none_ended stays later alive)
+] refl
+
+pub alive_first : (a b : Bool) → (not a && b) ≡ true → a ≡ false
+alive_first false b e = refl
+alive_first true b e = sym e
+
+-- of the slots, one that lives fewer once it has ended, and as many in all
+one_fewer : (slots : List Slot) (i : ℕ) → i < length slots → (get_or slots i nobody).ended ≡ false
+    → (length (live_of (set slots i (over (get_or slots i nobody)))) + 1 ≡ length (live_of slots)) × (length (set slots i (over (get_or slots i nobody))) ≡ length slots)
+one_fewer [] i lt lives = absurd (omega (arith, lt))
+one_fewer (s ∷ later) zero lt lives = (
+  (let own : length (live_of (s ∷ later)) ≡ suc (length (live_of later)) = ap length (live_alive s later lives) in omega (arith, own)),
+  refl,
+)
+one_fewer (s ∷ later) (suc i) lt lives =
+    let deeper = one_fewer later i (omega (arith, lt)) lives in (
+      by_end s
+          (λ e. ap (λ n. n + 1) (ap length (live_ended s (set later i (over (get_or later i nobody))) e)) ∙ deeper.0 ∙ sym (ap length (live_ended s later e)))
+          (λ e.
+          let after : length (live_of (s ∷ set later i (over (get_or later i nobody)))) ≡ suc (length (live_of (set later i (over (get_or later i nobody))))) =
+          ap length (live_alive s (set later i (over (get_or later i nobody))) e) in
+          let before : length (live_of (s ∷ later)) ≡ suc (length (live_of later)) = ap length (live_alive s later e) in
+          omega (arith, after, before, deeper.0)),
+      ap suc deeper.1,
+    )
+
+-- one more has ended
+pub one_more_ended : (slots : List Slot) (pid i ended : ℕ) → EndsAlone slots pid → i < length slots → pid_at slots i ≡ pid → AreEnded slots ended
+    → AreEnded (set slots i (over (get_or slots i nobody))) (ended + 1)
+one_more_ended slots pid i ended alone within is h =
+    let s : Slot = get_or slots i nobody in
+    let found : process_among (live_of slots) pid ≡ alive_in s = found_at 0 alone.rising.0 slots alone.rising.1 pid i within is in
+    let lives : (s.ended ≡ false) × (alive_in s ≡ Some s.process) = lives_if_some s (ap is_some (sym found) ∙ alone.alive) in
+    let fewer = one_fewer slots i within lives.0 in
+    omega (arith, fewer.0, fewer.1, h)
+
+-- a process more that lives
+pub ended_push : (slots : List Slot) (p : Process) (ended : ℕ) → AreEnded slots ended → AreEnded (slots ++ record { process = p; ended = false } ∷ []) ended
+ended_push slots p ended h =
+    let live : length (live_of (slots ++ record { process = p; ended = false } ∷ [])) ≡ length (live_of slots) + 1 = ap length (live_push slots p) ∙ length-append _ _ in
+    let all : length (slots ++ record { process = p; ended = false } ∷ []) ≡ length slots + 1 = length-append _ _ in
+    omega (arith, live, all, h)

@@ -1,5 +1,5 @@
 -- How a `ProcTable` keeps its processes. No public clause cites this module.
-use Rattle.std.specs.Prelude.{◌≡◌, ◌≢◌, ℕ, ◌+◌, ◌≤◌, true, cond, List, [], ◌∷◌, slice_index_or, ◌⊎◌, Option, Some, None, is_some}
+use Rattle.std.specs.Prelude.{◌≡◌, ◌≢◌, ℕ, ◌+◌, ◌*◌, ◌≤◌, true, cond, List, [], ◌∷◌, length, slice_index_or, ◌⊎◌, Option, Some, None, is_some}
 use Rattle.cpuset_tree.specs.declared.Group.{Group}
 use Rattle.proctable.specs.declared.TheConstants.{LAST_PID}
 use Rattle.proctable.specs.declared.processes.Process.{Process}
@@ -29,11 +29,17 @@ PidsRise low next (s ∷ later) = (low ≤ s.process.pid) × PidsRise (s.process
 abbrev pub IsRising : List Slot → Type 0
 IsRising slots = (next : ℕ) × PidsRise 0 next slots
 
--- the table is well formed, and its next pid is at most one more than the last
-pub record IsSound (slots : List Slot) (next : ℕ) : Type 0 where
+-- so many of the slots have ended: all but those that live
+abbrev pub AreEnded : List Slot → ℕ → Type 0
+AreEnded slots ended = ended + length (live_of slots) ≡ length slots
+
+-- the table is well formed, its next pid is at most one more than the last, and of its slots at most half have ended
+pub record IsSound (slots : List Slot) (ended next : ℕ) : Type 0 where
   pub rising : PidsRise 0 next slots
   pub belong : AllBelong (live_of slots) (live_of slots)
   pub limit : next ≤ LAST_PID + 1
+  pub counted : AreEnded slots ended
+  pub few : 2 * ended ≤ length slots
 
 -- a process of the next pid would be a first one, or belong to a live one of the group
 abbrev pub BelongsNext : TableState → Group → ℕ → Type 0

@@ -7,7 +7,7 @@ ghost use Rattle.proctable.specs.TableWellFormed.{IsWellFormed};
 ghost use Rattle.proctable.specs.Kept.{BelongsNext};
 ghost use Rattle.proctable.specs.declared.processes.Process.{Process};
 
-use crate::slots::{Slot, count_of, end_one, pack, process_in};
+use crate::slots::{Slot, count_of, end_one, pack_where_half_ended, process_in};
 use crate::{LAST_PID, ProcFault};
 use cpuset_tree::Group;
 use faults::OrMemory;
@@ -34,7 +34,7 @@ pub struct Process {
 pub struct ProcTable {
     // By rising pid, with some that have ended.
     slots: Vec<Slot>,
-    // How many of them have ended.
+    // How many of them have ended: at most half.
     ended: usize,
     next_pid: u32,
 }
@@ -53,7 +53,7 @@ impl Model for ProcTable {
       next_pid = t.next_pid;
     } };
 
-    ghost invariant = { λ t. IsSound t.slots.items t.next_pid };
+    ghost invariant = { λ t. IsSound t.slots.items t.ended t.next_pid };
 }
 
 impl ProcTable {
@@ -183,19 +183,9 @@ impl ProcTable {
         requires alive { is_alive self.old pid ≡ true }
         ensures { self.new ≡ exited self.old pid }
     {
+        let ended = self.ended + 1;
         end_one(&mut self.slots, pid);
-        self.ended = self.ended.saturating_add(1);
-        self.pack_where_half_ended();
-    }
-
-    /// Takes out the processes that have ended, where they are more than the live ones.
-    fn pack_where_half_ended(&mut self)
-        ensures { self.new ≡ self.old }
-    {
-        if self.ended > self.slots.len() / 2 {
-            pack(&mut self.slots);
-            self.ended = 0;
-        }
+        self.ended = pack_where_half_ended(&mut self.slots, ended);
     }
 
     /// Ends all processes of a group.

@@ -1,9 +1,9 @@
 //! The processes as a table keeps them: by rising pid, and those that have ended among them until they are packed.
-ghost use Rattle.std.specs.Prelude.{◌≡◌, ◌≢◌, ◌<◌, ℕ, length, filter, not, count_by, IfOk, IfErr, None, Some, slice_index_or, slice_set};
+ghost use Rattle.std.specs.Prelude.{◌≡◌, ◌≢◌, ◌<◌, ◌≤◌, ◌+◌, ◌*◌, ℕ, length, filter, not, count_by, IfOk, IfErr, None, Some, slice_index_or, slice_set};
 ghost use Rattle.cpuset_tree.specs.Groups.{same_group};
 ghost use Rattle.proctable.specs.Processes.{process_among};
 ghost use Rattle.proctable.specs.TableChanges.{ends_with};
-ghost use Rattle.proctable.specs.Kept.{live_of, alive_in, pid_at, over, nobody, PidsRise, IsRising, EndsAlone};
+ghost use Rattle.proctable.specs.Kept.{live_of, alive_in, pid_at, over, nobody, PidsRise, IsRising, AreEnded, EndsAlone};
 
 use crate::Process;
 use cpuset_tree::Group;
@@ -68,6 +68,7 @@ pub fn end_one(slots: &mut Vec<Slot>, pid: u32)
     requires { EndsAlone slots.old.items pid }
     ensures live { live_of slots.new.items ≡ filter (λ p. not (ends_with pid p)) (live_of slots.old.items) }
     ensures rising { (next : ℕ) → PidsRise 0 next slots.old.items → PidsRise 0 next slots.new.items }
+    ensures ended { (ended : ℕ) → AreEnded slots.old.items ended → AreEnded slots.new.items (ended + 1) }
 {
     match place_of(slots.as_slice(), pid) {
         Ok(place) => end_at(slots, place),
@@ -76,9 +77,25 @@ pub fn end_one(slots: &mut Vec<Slot>, pid: u32)
 }
 
 /// Takes out those that have ended.
-pub fn pack(slots: &mut Vec<Slot>)
+fn pack(slots: &mut Vec<Slot>)
     ensures live { live_of slots.new.items ≡ live_of slots.old.items }
     ensures rising { (next : ℕ) → PidsRise 0 next slots.old.items → PidsRise 0 next slots.new.items }
+    ensures ended { AreEnded slots.new.items 0 }
 {
     slots.retain(|slot| !slot.ended);
+}
+
+/// Takes out those that have ended, where they are more than the live ones, and tells how many are left.
+pub fn pack_where_half_ended(slots: &mut Vec<Slot>, ended: usize) -> usize
+    requires { AreEnded slots.old.items ended }
+    ensures live { live_of slots.new.items ≡ live_of slots.old.items }
+    ensures rising { (next : ℕ) → PidsRise 0 next slots.old.items → PidsRise 0 next slots.new.items }
+    ensures ended { AreEnded slots.new.items result }
+    ensures few { 2 * result ≤ length slots.new.items }
+{
+    if ended <= slots.len() / 2 {
+        return ended;
+    }
+    pack(slots);
+    0
 }

@@ -1,8 +1,8 @@
 -- Offers with no CPU that is held.
-use Rattle.std.proofs.Common.{◌≡◌, ℕ, ◌+◌, ◌<◌, ◌≤◌, Bool, true, false, cond, not, ◌&&◌, nat_lt, nat_le, Option, Some, None, unwrap_or, MatchOption, IfSome, List, [], ◌∷◌, filter, length, map, take, get_or, ◌++◌, inl, inr, refl, sym, ap, ◌∙◌, arith}
+use Rattle.std.proofs.Common.{◌≡◌, ℕ, ◌+◌, ◌<◌, ◌≤◌, Bool, true, false, cond, not, ◌&&◌, nat_lt, nat_le, Option, Some, None, unwrap_or, MatchOption, List, [], ◌∷◌, filter, length, map, take, get_or, ◌++◌, inl, inr, refl, sym, ap, ◌∙◌, arith}
 use Rattle.std.specs.List.{flat_map, list_all, range_with_len}
 use Rattle.std.specs.FinSet as set
-use Rattle.std.proofs.lemmas.Bool.{cases_eq, cases_lt, false≢true}
+use Rattle.std.proofs.lemmas.Bool.{cases_lt, false≢true}
 use Rattle.std.proofs.lemmas.Bool.Decides.{nat_tests}
 use Rattle.std.proofs.lemmas.List.{flat_map_more, take_more}
 use Rattle.std.proofs.lemmas.List.Sums.{AllPass-from_list_all}
@@ -12,22 +12,8 @@ use Rattle.cpu_set.specs.declared.TheConstants.{CPU_LIMIT}
 use Rattle.machine.specs.Layout.{Layout}
 use Rattle.certificate.specs.declared.Offer.{Offer}
 use Rattle.certificate.specs.Packed.{packed}
-use Rattle.certificate.specs.declared.limits.TheConstants.{MAX_WEIGHT}
 use Rattle.rows.specs.Offers.{has_some, offer_at, offers_of}
 use Rattle.rows.specs.Scaled.{are_distances, kept, moved, parted}
-
--- none up to the last number where the first is not held, and the next one that is comes after the last
-pub none_up_to :
-    (held : Ids) (first last : ℕ) (next : Option ℕ) → set.contains held first ≡ false → MatchOption next (NoneFrom held (first + 1)) (IsFirstFrom held (first + 1))
-    → IfSome next (λ n. last < n) → (n : ℕ) → first ≤ n → n ≤ last → set.contains held n ≡ false
-none_up_to held first last None here none far n above below = elim (cases_eq n first) [
-  | inl is ↦ ap (set.contains held) is ∙ here
-  | inr other ↦ none n (omega arith)
-]
-none_up_to held first last (Some next) here is far n above below = elim (cases_eq n first) [
-  | inl same ↦ ap (set.contains held) same ∙ here
-  | inr other ↦ is.least n (omega arith) (omega arith)
-]
 
 -- the least number, or the limit where there is none, is above no number of the set
 pub least_first : (s : Ids) (next : Option ℕ) (first n : ℕ) → MatchOption next (NoneFrom s 0) (IsFirstFrom s 0) → first ≡ unwrap_or next CPU_LIMIT → set.contains s n ≡ true → first ≤ n
@@ -41,14 +27,6 @@ least_first s (Some next) first n least is has = elim (cases_lt n next) [
 pub last_most : (s : Ids) (found : Option ℕ) (last n : ℕ) → MatchOption found (NoneFrom s 0) (IsLast s) → last ≡ unwrap_or found 0 → set.contains s n ≡ true → n ≤ last
 last_most s None last n none is has = absurd (false≢true (sym (none n (omega arith)) ∙ has))
 last_most s (Some found) last n greatest is has = rw is (greatest.most n has)
-
--- a number outside of the span of a set is not in it
-pub outside : (s : Ids) (first last n : ℕ) → ((k : ℕ) → set.contains s k ≡ true → (first ≤ k) × (k ≤ last)) → (first ≤ n → n ≤ last → ⊥) → set.contains s n ≡ false
-outside s first last n span out = by_cases (set.contains s n) refl
-  where
-    by_cases : (b : Bool) → set.contains s n ≡ b → b ≡ false
-    by_cases false e = refl
-    by_cases true e = absurd (out (span n e).0 (span n e).1)
 
 one_of_two : (x y : Offer) → has_some x ≡ false → has_some y ≡ true → filter has_some (x ∷ y ∷ []) ≡ y ∷ []
 one_of_two x y none some = rw (none, some) refl

@@ -22,7 +22,7 @@ use Rattle.certificate.specs.RowView.{RowView}
 use Rattle.certificate.specs.Weight.{weight as weight_in_row, weight_in}
 use Rattle.certificate.specs.Limits.{is_disjoint, are_apart, offers_fit, row_fits}
 use Rattle.rows.specs.Offers.{of_weight, offer_at, has_some, offers_of}
-use Rattle.rows.specs.RowOf.{available, offered, row_of_kind}
+use Rattle.rows.specs.RowOf.{offered, row_of_kind}
 use Rattle.rows.specs.Weighs.{RowsWeigh}
 use Rattle.rows.specs.Scaled.{are_distances}
 use Rattle.rows.specs.OfferSets.{contains-of_weight, offers_some}

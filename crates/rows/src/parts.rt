@@ -1,5 +1,5 @@
 //! Offers in two parts: the CPUs that are held, and those that are not.
-ghost use Rattle.std.specs.Prelude.{◌≡◌, ℕ, ◌<◌, ◌≤◌, ◌++◌, [], ◌∷◌, filter, true, false, length, slice_index_or, IfOk, IsTrue, IsFalse, OnOk};
+ghost use Rattle.std.specs.Prelude.{◌≡◌, ℕ, ◌<◌, ◌≤◌, ◌++◌, [], ◌∷◌, filter, true, false, length, slice_index_or, IfOk, IsTrue, OnOk};
 ghost use Rattle.std.specs.List.{flat_map, list_all};
 ghost use Rattle.std.specs.FinSet as set;
 ghost use Rattle.cpu_set.specs.Ranges.{in_ranges};
@@ -11,8 +11,8 @@ use certificate::{Cost, Offer, Offers};
 use cpu_set::{CPU_LIMIT, IdSet};
 use std::alloc::{AllocError, Global};
 
-/// The offers by distance with the CPUs that are held apart from the others: each of these is a move. O(r) of the offers' r
-/// ranges, and a step for each number that there may be for an offer with a CPU that is held.
+/// The offers by distance with the CPUs that are held apart from the others: each of these is a move. O(r + o w) of o offers of
+/// r ranges, where a set has w words, and a step for each number that there may be for an offer with a CPU that is held.
 pub(crate) fn parts_of(alloc: Global, offers: &Offers, held: &IdSet) -> Result<Offers, AllocError>
     requires distances { IsTrue (are_distances offers.now) }
     requires some { IsTrue (list_all has_some offers.now) }
@@ -69,35 +69,49 @@ fn push_parts(
 }
 
 /// Whether no CPU of the ranges is held, where all that are held are in the span.
+///
+/// O(r + w) of r ranges, where a set has w words: ranges rise, so the next CPU that is held is kept from one to the next.
 fn have_none(ranges: &[(u16, u16)], held: &IdSet, span: Span) -> bool
     requires { (n : ℕ) → set.contains held.now n ≡ true → (span.first ≤ n) × (n ≤ span.last) }
     ensures { IsTrue result → (n : ℕ) → in_ranges ranges.now n ≡ true → set.contains held.now n ≡ false }
 {
+    let mut gap = Gap {
+        first: 0,
+        next: span.first,
+    };
     for range in ranges {
         let (first, last) = *range;
-        if has_one(first, last, held, span) {
+        if first < gap.first || gap.next <= last {
+            gap = gap_from(first, held, span);
+        }
+        if gap.next <= last {
             return false;
         }
     }
     true
 }
 
-/// Whether a CPU from a first up to a last is held, where all that are held are in the span.
-#[tactic(auto, using(crate::proofs::HeldLemmas::outside))]
-fn has_one(first: u16, last: u16, held: &IdSet, span: Span) -> bool
+/// The numbers from a first one to below a next one, none of which is held.
+#[derive(Clone, Copy)]
+struct Gap {
+    first: u16,
+    next: u16,
+}
+
+/// The numbers from a first one up to the next that is held, where all that are held are in the span.
+fn gap_from(first: u16, held: &IdSet, span: Span) -> Gap
     requires { (n : ℕ) → set.contains held.now n ≡ true → (span.first ≤ n) × (n ≤ span.last) }
-    ensures { IsFalse result → (n : ℕ) → first ≤ n → n ≤ last → set.contains held.now n ≡ false }
+    ensures first { result.first ≡ first }
+    ensures none { (n : ℕ) → first ≤ n → n < result.next → set.contains held.now n ≡ false }
 {
-    if last < span.first || span.last < first {
-        return false;
-    }
-    if held.contains(first) {
-        return true;
-    }
-    match held.next_after(first) {
-        Some(next) => next <= last,
-        None => false,
-    }
+    let next = if span.last < first {
+        CPU_LIMIT
+    } else if held.contains(first) {
+        first
+    } else {
+        held.next_after(first).unwrap_or(CPU_LIMIT)
+    };
+    Gap { first, next }
 }
 
 /// Adds an offer of these CPUs, if there are any.

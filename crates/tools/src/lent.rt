@@ -50,7 +50,7 @@ impl<K: Kernel> Kernel for Lent<'_, K> {
         self.kernel.requested_cpus(group)
     }
 
-    fn effective_cpus(&self, group: Group) -> Result<IdSet, KernelFault> {
+    fn effective_cpus(&self, group: Group) -> Result<&IdSet, KernelFault> {
         self.kernel.effective_cpus(group)
     }
 
@@ -58,7 +58,7 @@ impl<K: Kernel> Kernel for Lent<'_, K> {
         self.kernel.requested_mems(group)
     }
 
-    fn effective_mems(&self, group: Group) -> Result<IdSet, KernelFault> {
+    fn effective_mems(&self, group: Group) -> Result<&IdSet, KernelFault> {
         self.kernel.effective_mems(group)
     }
 

@@ -1,11 +1,11 @@
 -- A class is labelled, or the free end, and what a search knows stays true.
 use Rattle.std.proofs.Common.{◌≡◌, ℕ, ◌+◌, ◌-◌, ◌^◌, ◌<◌, ◌≤◌, true, false, List, length, get_or, Option, Some, None, Vec, Global, refl, sym, ap, ◌∙◌, subst, inl, inr, arith}
-use Rattle.std.proofs.lemmas.Bool.{cases_eq}
+use Rattle.std.proofs.lemmas.Bool.{cases_eq, cases_lt}
 use Rattle.transport.specs.Numbers.{number, IsIn}
 use Rattle.transport.specs.ReachedRows.{is_reached, row_at}
 use Rattle.transport.specs.Searches.{label_of, is_taken, AreNeverDue, HasLabel, IsLabelled, IsFreeEnd, IsSearch, IsCovered}
 use Rattle.transport.specs.States.{IsRunning, HasScanned, cell}
-use Rattle.transport.specs.Scans.{IsPast, IsLimit, IsBoundOf, IsLabelledNow, IsBetter, CanImprove, CanLabelArc, IsArcLabelled}
+use Rattle.transport.specs.Scans.{arc_at, IsPast, IsLimit, IsBoundOf, IsLabelledNow, IsBetter, CanImprove, CanLabelArc, CanLabelArcs, IsArcLabelled, HasLabelled, HasLabelledFrom}
 use Rattle.transport.specs.declared.labels.Label.{Label}
 use Rattle.transport.specs.declared.labels.FreeEnd.{FreeEnd}
 use Rattle.transport.specs.declared.labels.Labels.{Labels}
@@ -261,3 +261,72 @@ can_improve ws s t k arc due can is_due = record {
 
 pub limit_same : (values : List ℕ) (k : ℕ) (a b : Option FreeEnd) (limit : Option ℕ) → b ≡ a → IsLimit values k a limit → IsLimit values k b limit
 limit_same values k a b limit e h = subst (λ x. IsLimit values k x limit) (sym e) h
+
+-- ---- arc by arc
+
+pub others_start : (ws : ℕ → ℕ → Option ℕ) (s : Assignment) (t : SearchTree) (k : ℕ) (arcs : List Arc) (from : ℕ) → IsRunning ws s t → HasLabelledFrom ws s k t t arcs from from
+others_start ws s t k arcs from h = record { better = better_same ws s t h; free_end = refl; each = λ i above lt. absurd (omega (arith, above, lt)) }
+
+pub others_more : (ws : ℕ → ℕ → Option ℕ) (s : Assignment) (a b d : SearchTree) (k : ℕ) (arcs : List Arc) (from i : ℕ) → HasLabelledFrom ws s k a b arcs from i → IsArcLabelled ws s k b d (arc_at arcs i) → HasLabelledFrom ws s k a d arcs from (i + 1)
+others_more ws s a b d k arcs from i h n = record {
+  better = better_more ws s a b d h.better n.better;
+  free_end = n.free_end ∙ h.free_end;
+  each = λ j above lt off. elim (cases_lt j i) [
+    | inl before ↦ n.better.covers k _ _ (h.each j above before (subst (λ ts. is_taken ts (arc_at arcs j).class ≡ false) n.better.tree_classes off))
+    | inr after ↦ at_end j (omega (arith, lt, after))
+  ];
+}
+  where
+    at_end : (j : ℕ) → j ≡ i → IsCovered s.values.items s.prices.items d.labels k (arc_at arcs j).class (arc_at arcs j).weight
+    at_end j e = subst (λ x. IsCovered s.values.items s.prices.items d.labels k (arc_at arcs x).class (arc_at arcs x).weight) (sym e) n.own
+
+-- an arc more, whose class is taken up
+pub others_taken : (ws : ℕ → ℕ → Option ℕ) (s : Assignment) (a b : SearchTree) (k : ℕ) (arcs : List Arc) (from i : ℕ) → HasLabelledFrom ws s k a b arcs from i → is_taken b.tree_classes (arc_at arcs i).class ≡ true → HasLabelledFrom ws s k a b arcs from (i + 1)
+others_taken ws s a b k arcs from i h on = record {
+  better = h.better;
+  free_end = h.free_end;
+  each = λ j above lt off. elim (cases_lt j i) [
+    | inl before ↦ h.each j above before off
+    | inr after ↦ absurd (at_end j (omega (arith, lt, after)) off)
+  ];
+}
+  where
+    at_end : (j : ℕ) → j ≡ i → is_taken b.tree_classes (arc_at arcs j).class ≡ false → ⊥
+    at_end j e off = not_both _ on (subst (λ x. is_taken b.tree_classes (arc_at arcs x).class ≡ false) e off)
+
+-- the rest lies past the free end
+pub others_past : (ws : ℕ → ℕ → Option ℕ) (s : Assignment) (a b : SearchTree) (k : ℕ) (arcs : List Arc) (from i upto : ℕ) (limit : Option ℕ) → HasLabelledFrom ws s k a b arcs from i → IsLimit s.values.items k b.labels.free_end limit
+    → ((j : ℕ) → i ≤ j → j < upto → IsPast limit (arc_at arcs j).weight) → HasLabelledFrom ws s k a b arcs from upto
+others_past ws s a b k arcs from i upto limit h l past = record {
+  better = h.better;
+  free_end = h.free_end;
+  each = λ j above lt off. elim (cases_lt j i) [
+    | inl before ↦ h.each j above before off
+    | inr after ↦ covered_past s b.labels k _ _ b.labels.free_end limit refl l (past_more limit (arc_at arcs j).weight (number s.prices.items (arc_at arcs j).class) (past j after lt))
+  ];
+}
+  where
+    past_more : (o : Option ℕ) (w p : ℕ) → IsPast o w → IsPast o (w + p)
+    past_more None w p h = h
+    past_more (Some x) w p h = omega (arith, h)
+
+pub arc_can : (ws : ℕ → ℕ → Option ℕ) (s : Assignment) (a b : SearchTree) (k : ℕ) (arcs : List Arc) (from upto i : ℕ) → CanLabelArcs ws s a k arcs upto → HasLabelledFrom ws s k a b arcs from i → i < upto → is_taken b.tree_classes (arc_at arcs i).class ≡ false
+    → CanLabelArc ws s b k (arc_at arcs i)
+arc_can ws s a b k arcs from upto i can h lt off = record {
+  running = h.better.running;
+  there = subst (λ q. is_reached q k ≡ true) (sym h.better.reached_rows) can.there;
+  weighs = can.weighs i lt;
+  full = can.full i lt;
+  left = off;
+}
+
+-- the first arcs were labelled, and then those behind them
+pub labelled_all : (ws : ℕ → ℕ → Option ℕ) (s : Assignment) (a b d : SearchTree) (k : ℕ) (arcs : List Arc) (from upto : ℕ) → HasLabelled ws s k a b arcs from → HasLabelledFrom ws s k b d arcs from upto → HasLabelled ws s k a d arcs upto
+labelled_all ws s a b d k arcs from upto h n = record {
+  better = better_more ws s a b d h.better n.better;
+  free_end = n.free_end ∙ h.free_end;
+  each = λ i lt off. elim (cases_lt i from) [
+    | inl before ↦ n.better.covers k _ _ (h.each i before (subst (λ ts. is_taken ts (arc_at arcs i).class ≡ false) n.better.tree_classes off))
+    | inr after ↦ n.each i after lt off
+  ];
+}

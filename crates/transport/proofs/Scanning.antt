@@ -9,7 +9,7 @@ use Rattle.transport.specs.Numbers.{number}
 use Rattle.transport.specs.ReachedRows.{is_reached, index, row_at}
 use Rattle.transport.specs.Searches.{is_taken, IsCovered}
 use Rattle.transport.specs.States.{IsRunning, HasScanned}
-use Rattle.transport.specs.Scans.{IsPast, IsLimit, CanLimit, IsBetter, HasLabelled, IsSeen, IsFreeEndLabelled, arc_at}
+use Rattle.transport.specs.Scans.{IsPast, IsLimit, CanLimit, CanLabelArcs, IsBetter, HasLabelled, IsSeen, IsFreeEndLabelled, arc_at}
 use Rattle.transport.specs.SortedArcs.{weight_of, IsArc, IsSortedArcs, IsScanned, IsFoundFreeEnd}
 use Rattle.twins.specs.Kinds.{offers_of, kind_at, IsKindOf}
 use Rattle.transport.specs.Weights.{weights, AreSortedArcs}
@@ -74,6 +74,12 @@ module _ (ws : ℕ → ℕ → Option ℕ) (s : Assignment) (t new : SearchTree)
 -- a better tree has the same rows
 pub reached_still : (ws : ℕ → ℕ → Option ℕ) (s : Assignment) (old new : SearchTree) (k : ℕ) → IsBetter ws s old new → is_reached old.reached_rows k ≡ true → is_reached new.reached_rows k ≡ true
 reached_still ws s old new k b on = subst (λ q. is_reached q k ≡ true) (sym b.reached_rows) on
+
+-- the arcs before the cursor can be labelled from the row
+pub arcs_can : (ws : ℕ → ℕ → Option ℕ) (s : Assignment) (t : SearchTree) (k row : ℕ) (offers : List Offer) (firsts : List ℕ) (l : SortedArcs) (arcs : List Arc) → IsSortedArcs (ws k) offers firsts s.residual.items l → IsRunning ws s t
+    → is_reached t.reached_rows k ≡ true → arcs ≡ l.arcs.items → row ≡ k → CanLabelArcs ws s t row arcs l.cursor
+arcs_can ws s t k row offers firsts l arcs h run there same own =
+    rw (same, own) (record { running = run; there = there; weighs = λ i lt. h.arcs.sound i (omega (arith, lt, h.cursor_in)); full = h.full })
 
 pub seen : (ws : ℕ → ℕ → Option ℕ) (s : Assignment) (t mid new : SearchTree) (k : ℕ) (l : SortedArcs) (limit : Option ℕ) → IsBetter ws s t mid → IsScanned (ws k) l limit → IsLimit s.values.items k mid.labels.free_end limit
     → HasLabelled ws s k mid new l.arcs.items l.cursor → IsSeen ws s k t new

@@ -104,6 +104,20 @@ pub record HasLabelled (ws : ℕ → ℕ → Option ℕ) (s : Assignment) (k : �
   pub each : (i : ℕ) → i < upto → is_taken new.tree_classes (arc_at arcs i).class ≡ false
       → IsCovered s.values.items s.prices.items new.labels k (arc_at arcs i).class (arc_at arcs i).weight
 
+-- a reached row has these weights for the classes of the first arcs, which are full
+pub record CanLabelArcs (ws : ℕ → ℕ → Option ℕ) (s : Assignment) (t : SearchTree) (k : ℕ) (arcs : List Arc) (upto : ℕ) : Type 0 where
+  pub running : IsRunning ws s t
+  pub there : is_reached t.reached_rows k ≡ true
+  pub weighs : (i : ℕ) → i < upto → ws k (arc_at arcs i).class ≡ Some (arc_at arcs i).weight
+  pub full : (i : ℕ) → i < upto → number s.residual.items (arc_at arcs i).class ≡ 0
+
+-- the arcs of a row from one place up to another are labelled, except for those of classes taken up
+pub record HasLabelledFrom (ws : ℕ → ℕ → Option ℕ) (s : Assignment) (k : ℕ) (old new : SearchTree) (arcs : List Arc) (from upto : ℕ) : Type 0 where
+  pub better : IsBetter ws s old new
+  pub free_end : new.labels.free_end ≡ old.labels.free_end
+  pub each : (i : ℕ) → from ≤ i → i < upto → is_taken new.tree_classes (arc_at arcs i).class ≡ false
+      → IsCovered s.values.items s.prices.items new.labels k (arc_at arcs i).class (arc_at arcs i).weight
+
 -- a row was scanned: its classes that are not taken up are covered
 pub record IsSeen (ws : ℕ → ℕ → Option ℕ) (s : Assignment) (k : ℕ) (old new : SearchTree) : Type 0 where
   pub better : IsBetter ws s old new

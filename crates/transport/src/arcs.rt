@@ -18,6 +18,18 @@ use std::alloc::{AllocError, Global};
 /// For how many arcs there is room at first, at most.
 const FIRST_ARCS: usize = 64;
 
+/// Arcs are put in blocks after so many scans, as a mean: to make them takes longer than to look at arcs once or twice.
+const OFTEN: usize = 8;
+
+/// A scan that comes to the last arc counts for so many of those that end at an earlier one.
+const LAST_SEEN: usize = 4;
+
+/// They are where one of so many or more lies in one block with the arc before. A block of one class takes longer than its arc.
+const FEW_JOINED: usize = 4;
+
+/// They are in the first scan that comes to the last arc where all lie so but for one of so many.
+const NEARLY_ALL: usize = 32;
+
 /// A class at its weight in a row.
 #[derive(Clone, Copy, Debug)]
 pub(crate) struct Arc {
@@ -35,7 +47,7 @@ pub(crate) struct Block {
 }
 
 /// A row's offers in rising weight, the classes of those that are opened, and how far these are full. The first ones are in
-/// blocks too, as far as a scan has come.
+/// blocks too, as far as a scan has come where blocks spare looks.
 #[derive(Debug, Drop)]
 pub(crate) struct SortedArcs {
     pub(crate) order: OfferOrder,
@@ -44,6 +56,10 @@ pub(crate) struct SortedArcs {
     pub(crate) blocks: Vec<Block>,
     pub(crate) blocked: usize,
     pub(crate) cursor: usize,
+    /// How many looks at arcs that are in no block scans may have taken, since some were put in blocks.
+    pub(crate) looks: usize,
+    /// So many arcs that are in no block are too few to put them in blocks.
+    pub(crate) few: usize,
 }
 
 impl SortedArcs {
@@ -60,6 +76,8 @@ impl SortedArcs {
             blocks: Vec::new(alloc),
             blocked: 0,
             cursor: 0,
+            looks: 0,
+            few: 0,
         })
     }
 
@@ -107,16 +125,40 @@ impl SortedArcs {
         Ok(())
     }
 
-    /// Adds the arcs before the cursor to the blocks, but for those that are there already.
+    /// Adds the arcs before the cursor to the blocks, but for those that are there already, where scans are spared looks by
+    /// it: at once where nearly all lie in one block with the arc before, else where the arcs are scanned again, and never where
+    /// few do.
     ///
     /// Only a scan reads blocks: a row from which no more than the free end is sought has none.
-    pub(crate) fn block_arcs(&mut self, firsts: &Representatives) -> Result<(), AllocError>
+    pub(crate) fn block_arcs(
+        &mut self,
+        firsts: &Representatives,
+        limit: Option<u64>,
+    ) -> Result<(), AllocError>
         requires sorted_arcs { (ws : ℕ → Option ℕ) × (offers : List Offer) × (residual : List ℕ) × IsSortedArcs ws offers firsts.now residual self.old }
         ensures sorted_arcs { OnOk result ((ws : ℕ → Option ℕ) (offers : List Offer) (residual : List ℕ) → IsSortedArcs ws offers firsts.now residual self.old → IsSortedArcs ws offers firsts.now residual self.new) }
         ensures arcs { OnOk result (self.new.arcs ≡ self.old.arcs) }
         ensures cursor { OnOk result (self.new.cursor ≡ self.old.cursor) }
-        ensures blocked { OnOk result (self.new.cursor ≤ self.new.blocked) }
     {
+        let left = self.cursor.saturating_sub(self.blocked);
+        if left <= self.few {
+            return Ok(());
+        }
+        let to_last = comes_to_last(&self.arcs, self.cursor, limit);
+        let scans = if to_last { LAST_SEEN } else { 1 };
+        self.looks = self.looks.saturating_add(left.saturating_mul(scans));
+        let is_often = self.looks / OFTEN >= left;
+        if !is_often && (!to_last || left < NEARLY_ALL) {
+            return Ok(());
+        }
+        let joined = joined_among(&self.arcs, firsts, self.blocked, self.cursor);
+        if joined.saturating_mul(FEW_JOINED) < left {
+            self.few = left.saturating_mul(2);
+            return Ok(());
+        }
+        if !is_often && joined < left - left / NEARLY_ALL {
+            return Ok(());
+        }
         add_arcs(
             &mut self.blocks,
             &self.arcs,
@@ -125,8 +167,45 @@ impl SortedArcs {
             self.cursor,
         )?;
         self.blocked = self.cursor;
+        self.looks = 0;
+        self.few = 0;
         Ok(())
     }
+}
+
+/// Whether a scan up to a limit comes to the last of the first arcs.
+fn comes_to_last(arcs: &[Arc], upto: usize, limit: Option<u64>) -> bool {
+    match arcs.get(upto.saturating_sub(1)) {
+        Some(arc) => !is_past(limit, arc.weight as u64),
+        None => false,
+    }
+}
+
+/// How many of the arcs from one place up to another lie in one block with the arc before.
+fn joined_among(arcs: &[Arc], firsts: &Representatives, start: usize, end: usize) -> usize
+    requires { end ≤ length arcs.now }
+{
+    let mut joined: usize = 0;
+    for at in start..end {
+        if at > 0 && are_joined(firsts, arcs[at - 1], arcs[at]) {
+            joined = joined.saturating_add(1);
+        }
+    }
+    joined
+}
+
+/// Whether the classes of two arcs that follow each other lie in one block: at one weight, with first CPUs that lie together.
+fn are_joined(firsts: &Representatives, before: Arc, arc: Arc) -> bool {
+    if arc.weight != before.weight {
+        return false;
+    }
+    let Some(first) = firsts.first(before.class) else {
+        return false;
+    };
+    let Some(next) = firsts.first(arc.class) else {
+        return false;
+    };
+    first / 64 == next / 64
 }
 
 /// Adds the classes of an offer, at its weight, in the order of their first CPUs.

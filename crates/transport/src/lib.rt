@@ -24,7 +24,8 @@
 //!
 //! A search looks at no more than each row's weights for each class, and there is at most one for each CPU that is asked
 //! for: O(demands * rows * classes) steps at worst. Memory is allocated for each CPU, row and class, each row that holds CPUs
-//! of a class, each offer of rows whose offers do not rise, and each class of the offers that a search has come to.
+//! of a class, each offer of rows whose offers do not rise, and each class of the offers that a search has come to; and for each
+//! block of such classes, which has one of them at least, where searches look at a row's classes again and again.
 #![tactic(auto)]
 
 mod arcs;

@@ -1,8 +1,8 @@
 //! The search for an augmenting path: rows are scanned, duals are updated, until a class with a free CPU is at slack 0.
-ghost use Rattle.std.specs.Prelude.{◌≡◌, ℕ, ◌+◌, ◌<◌, ◌≤◌, ◌^◌, ◌⊎◌, Option, None, [], ◌∷◌, length, OnOk, IfOk, true, IfSome, MatchOption};
+ghost use Rattle.std.specs.Prelude.{◌≡◌, ℕ, ◌+◌, ◌-◌, ◌/◌, ◌<◌, ◌≤◌, ◌^◌, ◌⊎◌, Option, None, [], ◌∷◌, length, OnOk, IfOk, true, IfSome, MatchOption};
 ghost use Rattle.transport.specs.Numbers.{number, IsRaised, IsEachOnce};
 ghost use Rattle.transport.specs.Searches.{top};
-ghost use Rattle.transport.specs.States.{IsRunning, HasTaken, IsSameRoot, HasScanned, AreStruckOrSame};
+ghost use Rattle.transport.specs.States.{IsRunning, HasTaken, IsSameRoot, HasScanned, IsStruck, AreStruckOrSame};
 ghost use Rattle.transport.specs.Weights.{weights, AreSortedArcs};
 ghost use Rattle.transport.specs.Answers.{IsAnswer, IsSameRest, IsNoFreeEndAt0, IsFreeEndAt0};
 ghost use Rattle.transport.specs.ReachedRows.{is_reached, row_at};
@@ -11,7 +11,7 @@ ghost use Rattle.transport.specs.Blocks.{AreNoted, AreTakenFirsts, ArePassed, Is
 ghost use Rattle.std.specs.FinSet as set;
 ghost use Rattle.cpu_set.specs.Members.{IsCpu};
 ghost use Rattle.twins.specs.Kinds.{offers_of};
-ghost use Rattle.transport.specs.Scans.{IsScan, IsLimit, IsBoundOf, CanLabelArc, IsArcLabelled, HasLabelled, IsBetter, IsSeen, CanLimit, IsFreeEndLabelled};
+ghost use Rattle.transport.specs.Scans.{IsScan, IsLimit, IsBoundOf, AreRising, CanLabelArc, CanLabelArcs, IsArcLabelled, HasLabelled, HasLabelledFrom, IsBetter, IsSeen, CanLimit, IsFreeEndLabelled};
 
 use crate::arcs::{Arc, Block, SortedArcs};
 use crate::duals::{least_slack, raise, slack};
@@ -86,7 +86,9 @@ pub(crate) fn find_augmenting_path(
 /// Strikes the classes that are taken up out of the list of labelled ones, where those taken up since the last time are an
 /// eighth of it or more; says how many were taken up when this was done last.
 fn strike_when_many(tree: &mut SearchTree, struck: usize) -> usize
-    ensures { AreStruckOrSame tree.old tree.new }
+    ensures struck { AreStruckOrSame tree.old tree.new }
+    ensures many { length tree.old.labels.labelled.items / 8 ≤ length tree.old.tree_classes.order.items - struck → IsStruck tree.old.tree_classes.taken.items tree.old.labels tree.new.labels × (result ≡ length tree.old.tree_classes.order.items) }
+    ensures few { length tree.old.tree_classes.order.items - struck < length tree.old.labels.labelled.items / 8 → (tree.new ≡ tree.old) × (result ≡ struck) }
 {
     let taken = tree.tree_classes.order.len();
     if taken.saturating_sub(struck) < tree.labels.labelled.len() / 8 {
@@ -224,13 +226,12 @@ pub(crate) fn scan_row(
     ensures seen { OnOk result (IsSeen (weights instance.now) assignment.now row tree.old tree.new) }
 {
     find_free_class_of(instance, assignment, sorted_arcs, tree, row)?;
-    sorted_arcs.block_arcs(&instance.firsts)?;
     let limit = limit_of(&assignment.values, tree.labels.free_end, row);
+    sorted_arcs.block_arcs(&instance.firsts, limit)?;
     label_arcs(instance, assignment, sorted_arcs, passed, tree, row, limit)
 }
 
-/// Labels the classes of a row's arcs that are nearer than the free end, block by block, and ends at the first block past the
-/// bound: those behind it weigh no less.
+/// Labels the classes of a row's arcs that are nearer than the free end: those in blocks, then the others.
 #[inline(never)]
 pub(crate) fn label_arcs(
     instance: &Instance,
@@ -246,18 +247,80 @@ pub(crate) fn label_arcs(
     requires sorted_arcs { IsSortedArcs (weights instance.now row) (offers_of instance.now.rows.now row) instance.now.firsts assignment.now.residual.items sorted_arcs.now }
     requires limit { IsLimit assignment.now.values.items row tree.old.labels.free_end limit }
     requires scanned { IsScanned (weights instance.now row) sorted_arcs.now limit }
-    requires blocked { sorted_arcs.now.cursor ≤ sorted_arcs.now.blocked }
     requires passed { ArePassed (weights instance.now) assignment.now tree.old instance.now.firsts passed.old }
     ensures passed { OnOk result (ArePassed (weights instance.now) assignment.now tree.new instance.now.firsts passed.new) }
     ensures labelled { OnOk result (HasLabelled (weights instance.now) assignment.now row tree.old tree.new sorted_arcs.now.arcs.items sorted_arcs.now.cursor) }
 {
     let scan = scan_of(assignment, &tree.reached_rows, row, limit);
+    label_blocks(instance, assignment, sorted_arcs, passed, tree, scan, limit)?;
+    label_others(
+        assignment,
+        &sorted_arcs.arcs,
+        sorted_arcs.blocked,
+        sorted_arcs.cursor,
+        tree,
+        scan,
+    )
+}
+
+/// Labels the classes of a row's arcs that are in blocks, block by block, and ends at the first block past the bound: those
+/// behind it weigh no less.
+fn label_blocks(
+    instance: &Instance,
+    assignment: &Assignment,
+    sorted_arcs: &SortedArcs,
+    passed: &mut IdSet,
+    tree: &mut SearchTree,
+    scan: Scan,
+    limit: Option<u64>,
+) -> Result<(), AllocError>
+    requires scan { IsScan assignment.now tree.old.reached_rows scan }
+    requires bound { IsBoundOf limit scan.bound }
+    requires running { IsRunning (weights instance.now) assignment.now tree.old }
+    requires there { is_reached tree.old.reached_rows scan.row ≡ true }
+    requires sorted_arcs { IsSortedArcs (weights instance.now scan.row) (offers_of instance.now.rows.now scan.row) instance.now.firsts assignment.now.residual.items sorted_arcs.now }
+    requires limit { IsLimit assignment.now.values.items scan.row tree.old.labels.free_end limit }
+    requires scanned { IsScanned (weights instance.now scan.row) sorted_arcs.now limit }
+    requires passed { ArePassed (weights instance.now) assignment.now tree.old instance.now.firsts passed.old }
+    ensures passed { OnOk result (ArePassed (weights instance.now) assignment.now tree.new instance.now.firsts passed.new) }
+    ensures labelled { OnOk result (HasLabelled (weights instance.now) assignment.now scan.row tree.old tree.new sorted_arcs.now.arcs.items sorted_arcs.now.blocked) }
+{
     for at in 0..sorted_arcs.blocks.len() {
         let block = &sorted_arcs.blocks[at];
         if block.weight as u64 >= scan.bound {
             return Ok(());
         }
         label_block(instance, assignment, block, passed, tree, scan)?;
+    }
+    Ok(())
+}
+
+/// Labels the classes of a row's arcs from one place up to another, but for those that are taken up, and ends at the first arc
+/// past the bound.
+fn label_others(
+    assignment: &Assignment,
+    arcs: &[Arc],
+    from: usize,
+    upto: usize,
+    tree: &mut SearchTree,
+    scan: Scan,
+) -> Result<(), AllocError>
+    requires from { from ≤ upto }
+    requires upto { upto ≤ length arcs.now }
+    requires rising { AreRising arcs.now }
+    requires scan { IsScan assignment.now tree.old.reached_rows scan }
+    requires bound { (limit : Option ℕ) × IsLimit assignment.now.values.items scan.row tree.old.labels.free_end limit × IsBoundOf limit scan.bound }
+    requires can { (ws : ℕ → ℕ → Option ℕ) × CanLabelArcs ws assignment.now tree.old scan.row arcs.now upto }
+    ensures { OnOk result ((ws : ℕ → ℕ → Option ℕ) → CanLabelArcs ws assignment.now tree.old scan.row arcs.now upto → HasLabelledFrom ws assignment.now scan.row tree.old tree.new arcs.now from upto) }
+{
+    for at in from..upto {
+        let arc = arcs[at];
+        if arc.weight as u64 >= scan.bound {
+            return Ok(());
+        }
+        if !tree.tree_classes.taken[arc.class] {
+            label_arc(assignment, tree, arc, scan)?;
+        }
     }
     Ok(())
 }

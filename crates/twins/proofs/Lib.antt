@@ -15,3 +15,4 @@ pub mod SameOffers
 pub mod Ends
 pub mod Placed
 pub mod SettledCpus
+pub mod RowCpus

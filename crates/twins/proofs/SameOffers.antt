@@ -3,6 +3,9 @@ use Rattle.std.proofs.Common.{◌≡◌, ℕ, ◌+◌, ◌<◌, Bool, true, fals
 use Rattle.std.proofs.lemmas.Bool.{cases_lt}
 use Rattle.std.proofs.lemmas.List.{get_or_default, get_or-map, get_or_push, get_or_append_left, length_push, length-take, get_or-take}
 use Rattle.std.proofs.lemmas.List.Folds.{list_any_more, list_any_at}
+use Rattle.std.specs.List.{list_all}
+use Rattle.certificate.specs.Limits.{offers_fit, row_fits}
+use Rattle.certificate.specs.OfferLaws.{passes_at, row_offers_fit}
 use Rattle.certificate.specs.IsShortage.{is_offered}
 use Rattle.certificate.specs.RowView.{RowView}
 use Rattle.certificate.specs.Weight.{weight, weight_in}
@@ -13,6 +16,15 @@ use Rattle.twins.proofs.Splitting.{twins_more}
 
 pub own_offers : (rows : List RowView) (k : ℕ) (row : RowView) → k < length rows → row ≡ get_or rows k row → row.offers ≡ offers_of rows k
 own_offers rows k row lt is = ap (λ (r : RowView). r.offers) is ∙ sym (get_or-map (λ (r : RowView). r.offers) rows k row [] lt)
+
+-- the offers of a row that fits do
+pub offers_fit_at : (rows : List RowView) (k : ℕ) (offers : List Offer) → list_all row_fits rows ≡ true → k < length rows → ((d : RowView) → offers ≡ (get_or rows k d).offers) → offers_fit offers ≡ true
+offers_fit_at rows k offers fits lt is =
+    subst (λ (o : List Offer). offers_fit o ≡ true) (sym (is none))
+    (row_offers_fit (get_or rows k none) (passes_at row_fits rows k (get_or rows k none) fits lt (get_or_default rows k none (get_or rows k none) lt)))
+  where
+    none : RowView
+    none = record { id = []; demand = 0; offers = [] }
 
 -- a row of the kind of an earlier one tells no more CPUs apart
 pub kind_tells_none :

@@ -11,3 +11,4 @@ pub mod Edges
 pub mod AreSpans
 pub mod PartsView
 pub mod Settled
+pub mod RowCpus

@@ -15,36 +15,88 @@ use certificate::Offers;
 use cpu_set::IdSet;
 use std::alloc::AllocError;
 
+/// How many ranges more a part is looked up in before it is compared with the set of all CPUs of the weight.
+const FEW_RANGES: u32 = 2;
+
 /// Whether some CPUs, from a first up to a last, are seen to be alike: they lie in ranges of one weight, or in none.
-pub(crate) fn are_alike(spans: &Spans, cpus: &IdSet, first: u16, last: u16) -> bool
-    requires { AreBounds cpus.now first last }
-    ensures { (offers : List Offer) → AreSpans offers spans.now → IsTrue result → AreAlike offers cpus.now }
+///
+/// # Errors
+/// An allocation failure.
+pub(crate) fn are_alike(
+    offers: &Offers,
+    spans: &mut Spans,
+    cpus: &IdSet,
+    first: u16,
+    last: u16,
+) -> Result<bool, AllocError>
+    requires fit { IsTrue (offers_fit offers.now) }
+    requires spans { AreSpans offers.now spans.old }
+    requires bounds { AreBounds cpus.now first last }
+    ensures alike { IfOk result (λ are. IsTrue are → AreAlike offers.now cpus.now) }
+    ensures spans { OnOk result (AreSpans offers.now spans.new) }
 {
-    match spans.span_at(first) {
-        Some(span) => last <= span.last || lie_in_weight(spans, cpus, span),
-        None => cpus.is_disjoint(spans.cpus()),
+    let Some(span) = spans.span_at(first) else {
+        return Ok(cpus.is_disjoint(spans.cpus()));
+    };
+    match lie_in_few(spans, cpus, span, last) {
+        Some(lie) => Ok(lie),
+        None => have_weight(offers, spans, cpus, span.weight),
     }
 }
 
-/// Whether some CPUs, of which none is below a range, lie in it and in others of its weight.
-///
-/// A step for each range that has some of them.
-fn lie_in_weight(spans: &Spans, cpus: &IdSet, span: Span) -> bool
-    requires { (cpu : ℕ) → set.contains cpus.now cpu ≡ true → span.first ≤ cpu }
-    ensures { (offers : List Offer) → AreSpans offers spans.now → IsSpan offers span → IsTrue result
-        → (cpu : ℕ) → set.contains cpus.now cpu ≡ true → weight_in offers cpu ≡ Some span.weight }
+/// Whether some CPUs, none of them below a range or above a last one, lie in it and in others of its weight, as far as the last
+/// one and a few ranges tell.
+fn lie_in_few(spans: &Spans, cpus: &IdSet, span: Span, last: u16) -> Option<bool>
+    requires { AreBounds cpus.now span.first last }
+    ensures { (offers : List Offer) → AreSpans offers spans.now → IsSpan offers span → IfSome result (λ lie. IsTrue lie
+        → (cpu : ℕ) → set.contains cpus.now cpu ≡ true → weight_in offers cpu ≡ Some span.weight) }
 {
-    let mut last = span.last;
-    while let Some(cpu) = cpus.next_after(last) {
+    if last <= span.last {
+        return Some(true);
+    }
+    if !spans.weighs(last, span.weight) {
+        return Some(false);
+    }
+    let mut upto = span.last;
+    for _ in 0..FEW_RANGES {
+        let Some(cpu) = cpus.next_after(upto) else {
+            return Some(true);
+        };
         let Some(next) = spans.span_at(cpu) else {
-            return false;
+            return Some(false);
         };
         if next.weight != span.weight {
-            return false;
+            return Some(false);
         }
-        last = next.last;
+        upto = next.last;
+        if last <= upto {
+            return Some(true);
+        }
     }
-    true
+    None
+}
+
+/// Whether some CPUs all have this weight. The set of those that have it is made at the first look.
+///
+/// # Errors
+/// An allocation failure.
+fn have_weight(
+    offers: &Offers,
+    spans: &mut Spans,
+    cpus: &IdSet,
+    weight: u32,
+) -> Result<bool, AllocError>
+    requires fit { IsTrue (offers_fit offers.now) }
+    requires spans { AreSpans offers.now spans.old }
+    ensures weighs { IfOk result (λ have. IsTrue have → (cpu : ℕ) → set.contains cpus.now cpu ≡ true
+        → weight_in offers.now cpu ≡ Some weight) }
+    ensures spans { OnOk result (AreSpans offers.now spans.new) }
+{
+    let Some(at) = offer_of_weight(offers, weight) else {
+        return Ok(false);
+    };
+    let place = place_of_set(offers, spans, at)?;
+    Ok(cpus.is_subset(&spans.sets[place]))
 }
 
 /// Those of some CPUs that have the weight of one of them, or that have none as it has none.
@@ -86,6 +138,7 @@ fn weight_of(offers: &Offers, spans: &Spans, cpu: u16) -> Option<u32>
 }
 
 /// The weight of a CPU, by a look at each offer. Where none has it, none is looked at.
+// Each CPU of an offer is noted with its range, so no valid problem comes to the loop: it stands for what is not proved of hints.
 fn weight_among(offers: &Offers, spans: &Spans, cpu: u16) -> Option<u32>
     requires fit { IsTrue (offers_fit offers.now) }
     requires spans { AreSpans offers.now spans.now }

@@ -7,16 +7,17 @@ ghost use Rattle.certificate.specs.Limits.{row_fits};
 ghost use Rattle.certificate.specs.IsShortage.{is_offered};
 ghost use Rattle.twins.specs.IsGrouping.{IsGrouping};
 ghost use Rattle.twins.specs.Kinds.{AreKinds};
+ghost use Rattle.twins.specs.RowCpus.{AreCpusOf, AreRowCpus};
 ghost use Rattle.twins.specs.Edges.{AreEdges};
 ghost use Rattle.twins.specs.AreSpans.{AreSpans};
-ghost use Rattle.twins.specs.Settled.{IsSettling};
+ghost use Rattle.twins.specs.Settled.{AreOnce, IsSettling};
 ghost use Rattle.twins.specs.IsPart.{IsPart, IsUnsplit, ArePieces, IsSplit, IsPutTo};
 
 use crate::Classes;
 use crate::alike::{alike, are_alike};
 use crate::edges::{are_in_one_run, edges_of};
 use crate::parts::Parts;
-use crate::settling::{Settling, once_offered};
+use crate::settling::Settling;
 use crate::spans::Spans;
 use certificate::{Offers, Problem, Row};
 use cpu_set::{CPU_LIMIT, IdSet};
@@ -25,8 +26,9 @@ use std::alloc::{AllocError, Global};
 /// The CPUs with a weight in some row, in classes of twins. A CPU with none is in no class.
 ///
 /// Each row splits the sets that are left of the rows before it; a set that is one run of twins needs no more
-/// looks. A row of the kind of an earlier one splits none. At worst O(r * (g + o)) operations on sets and O(r * g * o) looks
-/// at offers, of r rows with at most o offers each and g classes: each offer's set is made at most once for a row.
+/// looks. A row of the kind of an earlier one splits none. At worst O(r * (g + o)) operations on sets, O(r * g * o) looks
+/// at offers and O(r * p) at ranges, of r rows with at most o offers and p ranges each and g classes: a set is looked up in a
+/// few ranges alone, and each offer's set is made at most once for a row. The set of each row's CPUs is kept until the end.
 ///
 /// # Errors
 /// An allocation failure.
@@ -45,18 +47,20 @@ fn group_body(alloc: Global, rows: &[Row], kinds: &[usize]) -> Result<Vec<IdSet>
     requires kinds { AreKinds rows.now (length rows.now) kinds.now }
     ensures { IfOk result (λ sets. IsGrouping rows.now sets.items) }
 {
-    let offered = offered_cpus(rows, kinds);
+    let mut sets = Vec::with_capacity(alloc, rows.len())?;
+    let (offered, once) = offered_cpus(rows, kinds, &mut sets)?;
     let edges = edges_of(rows, kinds, &offered);
     let runs = edges.meet(&offered).count();
     let mut alone = Vec::with_capacity(alloc, runs as usize)?;
     let mut parts = unsplit(alloc, &offered)?;
     let mut spans = Spans::new(alloc)?;
-    let mut settling = Settling::new(once_offered(rows, kinds, offered.count(), runs));
+    let mut settling = Settling::new(once, offered.count(), runs);
     for k in 0..rows.len() {
         if kinds[k] == k {
             split_all(
                 rows,
                 k,
+                &sets[k],
                 &mut parts,
                 &mut spans,
                 &edges,
@@ -93,19 +97,32 @@ fn unsplit(alloc: Global, all: &IdSet) -> Result<Parts, AllocError>
     Ok(parts)
 }
 
-/// The CPUs with a weight in some row. A row of the kind of an earlier one adds none.
-fn offered_cpus(rows: &[Row], kinds: &[usize]) -> IdSet
-    requires { AreKinds rows.now (length rows.now) kinds.now }
-    ensures { (cpu : ℕ) → set.contains result cpu ≡ is_offered rows.now cpu }
+/// The CPUs with a weight in some row, and those for which rows of one kind alone have one. A row of the kind of an earlier
+/// one adds none. The CPUs of each other row are put into the list of sets, since they are asked for again.
+fn offered_cpus(
+    rows: &[Row],
+    kinds: &[usize],
+    sets: &mut Vec<IdSet>,
+) -> Result<(IdSet, IdSet), AllocError>
+    requires kinds { AreKinds rows.now (length rows.now) kinds.now }
+    requires sets { sets.old.items ≡ [] }
+    ensures offered { IfOk result (λ both. (cpu : ℕ) → set.contains both.0 cpu ≡ is_offered rows.now cpu) }
+    ensures once { IfOk result (λ both. AreOnce rows.now both.1) }
+    ensures sets { OnOk result (AreRowCpus rows.now kinds.now (length rows.now) sets.new.items) }
 {
     let mut offered = IdSet::empty();
+    let mut twice = IdSet::empty();
     for k in 0..rows.len() {
+        let mut cpus = IdSet::empty();
         if kinds[k] == k {
             let row = &rows[k];
-            offered = offered.union(&row.offers.cpus());
+            cpus = row.offers.cpus();
+            twice = twice.union(&offered.meet(&cpus));
+            offered = offered.union(&cpus);
         }
+        sets.push(cpus)?;
     }
-    offered
+    Ok((offered, offered.minus(&twice)))
 }
 
 /// Parts that agree on the rows before row `k`, split so that they agree on it too.
@@ -113,6 +130,7 @@ fn offered_cpus(rows: &[Row], kinds: &[usize]) -> IdSet
 fn split_all(
     rows: &[Row],
     k: usize,
+    cpus: &IdSet,
     parts: &mut Parts,
     spans: &mut Spans,
     edges: &IdSet,
@@ -121,6 +139,7 @@ fn split_all(
 ) -> Result<(), AllocError>
     requires fit { IsTrue (list_all row_fits rows.now) }
     requires there { k < length rows.now }
+    requires cpus { AreCpusOf rows.now k cpus.now }
     requires settling { IsSettling rows.now k settling.old }
     requires edges { AreEdges rows.now edges.now }
     requires parts { All (IsPart rows.now k) parts.old.waiting }
@@ -134,7 +153,7 @@ fn split_all(
         return Ok(());
     }
     let row = &rows[k];
-    spans.note(&row.offers)?;
+    spans.note(&row.offers, cpus)?;
     for at in 0..parts.len() {
         split(
             rows,
@@ -185,7 +204,8 @@ fn split(
         parts.keep(at)?;
         return Ok(());
     }
-    if are_alike(spans, parts.cpus(at), first, last) {
+    let whole = are_alike(offers, spans, parts.cpus(at), first, last)?;
+    if whole {
         parts.keep(at)?;
         return Ok(());
     }

@@ -1,13 +1,11 @@
 //! CPUs whose classes are known before all rows have been looked at.
-ghost use Rattle.std.specs.Prelude.{◌≡◌, ℕ, ◌<◌, IsTrue, List, length, true};
+ghost use Rattle.std.specs.Prelude.{◌≡◌, ℕ, ◌<◌, IsTrue, List, true};
 ghost use Rattle.std.specs.FinSet as set;
 ghost use Rattle.cpu_set.specs.Members.{IsCpu};
 ghost use Rattle.certificate.specs.RowView.{RowView};
-ghost use Rattle.twins.specs.Kinds.{AreKinds};
 ghost use Rattle.twins.specs.Settled.{AreOnce, IsSettling, IsNoted, IsTurned};
 
 use crate::spans::Spans;
-use certificate::Row;
 use cpu_set::IdSet;
 
 /// How many CPUs a run has where it is long, as a mean.
@@ -27,10 +25,15 @@ pub(crate) struct Settling {
 }
 
 impl Settling {
-    /// No CPUs yet.
-    pub(crate) fn new(once: IdSet) -> Settling
+    /// No CPUs yet. None will be where runs are long, since sets of one run are soon alone.
+    pub(crate) fn new(once: IdSet, count: u32, runs: u32) -> Settling
         ensures { (rows : List RowView) → AreOnce rows once → IsSettling rows 0 result }
     {
+        let once = if runs < count / LONG_RUN {
+            IdSet::empty()
+        } else {
+            once
+        };
         Settling {
             once,
             settled: IdSet::empty(),
@@ -63,25 +66,4 @@ impl Settling {
     {
         self.settled = self.found;
     }
-}
-
-/// The CPUs that rows of one kind alone have a weight for, or none where runs are long: sets of one run are soon alone.
-pub(crate) fn once_offered(rows: &[Row], kinds: &[usize], count: u32, runs: u32) -> IdSet
-    requires { AreKinds rows.now (length rows.now) kinds.now }
-    ensures { AreOnce rows.now result }
-{
-    if runs < count / LONG_RUN {
-        return IdSet::empty();
-    }
-    let mut offered = IdSet::empty();
-    let mut twice = IdSet::empty();
-    for k in 0..rows.len() {
-        if kinds[k] == k {
-            let row = &rows[k];
-            let cpus = row.offers.cpus();
-            twice = twice.union(&offered.meet(&cpus));
-            offered = offered.union(&cpus);
-        }
-    }
-    offered.minus(&twice)
 }

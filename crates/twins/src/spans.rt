@@ -43,9 +43,10 @@ impl Spans {
         })
     }
 
-    /// These offers, in place of those before.
-    pub(crate) fn note(&mut self, offers: &Offers) -> Result<(), AllocError>
-        requires { IsTrue (offers_fit offers.now) }
+    /// These offers, with the CPUs that are in one of them, in place of those before.
+    pub(crate) fn note(&mut self, offers: &Offers, cpus: &IdSet) -> Result<(), AllocError>
+        requires fit { IsTrue (offers_fit offers.now) }
+        requires cpus { (cpu : ℕ) → set.contains cpus.now cpu ≡ is_some (weight_in offers.now cpu) }
         ensures { OnOk result (AreSpans offers.now self.new) }
     {
         self.items.clear();
@@ -55,7 +56,7 @@ impl Spans {
             note_ranges(&mut self.items, &mut self.hints, offers, at)?;
             self.places.push(None)?;
         }
-        self.cpus = offers.cpus();
+        self.cpus = *cpus;
         Ok(())
     }
 
@@ -70,6 +71,14 @@ impl Spans {
             Some(span)
         } else {
             None
+        }
+    }
+
+    /// Whether the CPU is seen to have this weight.
+    pub(crate) fn weighs(&self, cpu: u16, weight: u32) -> bool {
+        match self.span_at(cpu) {
+            Some(span) => span.weight == weight,
+            None => false,
         }
     }
 
@@ -111,6 +120,12 @@ fn note_hint(hints: &mut [u16], first: u16, last: u16, place: usize)
     ensures { length hints.new ≡ length hints.old }
 {
     let hint = place.min(u16::MAX as usize) as u16;
+    if first == last {
+        if let Some(own) = hints.get_mut(first as usize) {
+            *own = hint;
+        }
+        return;
+    }
     if let Some(own) = hints.get_mut(first as usize..last as usize + 1) {
         for one in own {
             *one = hint;

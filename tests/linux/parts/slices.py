@@ -41,9 +41,13 @@ tree.turn(7, True)
 agent.until(lambda: all_hold(pinned, others), "a CPU that flaps")
 failed = write(f"{ROOT}/machine.slice/cpuset.cpus", "0-1")
 assert not failed
-agent.says("squeezed pod: 0-1 in effect")
+agent.says(f"all CPUs for {ROOT}/machine.slice: pod is below it")
+agent.until(lambda: all_hold(pinned, others), "a slice that somebody narrowed")
+failed = write(f"{ROOT}/numarun/cpuset.cpus", "0-1")  # no group that the agent may write
+assert not failed
+agent.says("squeezed free: 0-1 in effect")
 agent.end()
-write(f"{ROOT}/machine.slice/cpuset.cpus", "0-7")
+write(f"{ROOT}/numarun/cpuset.cpus", "0-7")
 agent = watched.Agent(*REST)
 agent.until(lambda: all_hold(pinned, others), "a new start")
 agent.end()

@@ -1,23 +1,11 @@
-use Rattle.std.proofs.Common.{◌≡◌, sym, ap, ◌∙◌}
+use Rattle.std.proofs.Common.{sym, ap, ◌∙◌}
 use Rattle.std.proofs.lemmas.Bool.{both_ways}
 use Rattle.std.specs.FinSet as set
-use Rattle.cpu_set.specs.Pointwise.{is_same_decides}
-use Rattle.apply_plan.specs.Kept.{kept}
-use Rattle.apply_plan.specs.KeptLemmas.{is_empty-some, kept_all, kept_part, kept_reserved}
+use Rattle.apply_plan.specs.KeptLemmas.{is_empty-some, kept_all}
 use Rattle.apply_plan.proofs.scan.keeps_all.Goals as goal
 
-pub returns-then-eq : goal.returns-then-eq
-returns-then-eq c = λ _.
-    let same : c.args.held.now ≡ c.args.reserved.now = (is_same_decides _ _).0 (sym c.eq.ensures ∙ c.if-eq.true) in
-    ap (kept c.args.reserved.now c.args.target.now) same ∙ kept_reserved c.args.reserved.now c.args.target.now ∙ sym same
-
-pub returns-then-is_subset : goal.returns-then-is_subset
-returns-then-is_subset c = λ _.
-    kept_part c.args.reserved.now c.args.target.now c.args.held.now (sym c.is_subset.ensures ∙ c.if-is_subset.true)
-    (is_empty-some _ (λ e. both_ways c.is_empty.result c.if-not-is_empty.true (c.is_empty.ensures.1 e)))
-
-pub returns-else-is_subset : goal.returns-else-is_subset
-returns-else-is_subset c = λ yes.
+pub returns-then-not-is_empty : goal.returns-then-not-is_empty
+returns-then-not-is_empty c = λ yes.
     kept_all c.args.reserved.now c.args.target.now c.args.held.now
-    (ap (λ s. set.is_subset s c.args.reserved.now) (sym c.minus.ensures) ∙ sym c.is_subset-else-is_subset.ensures ∙ yes)
+    (ap (λ s. set.is_subset s c.args.reserved.now) (sym c.minus.ensures) ∙ sym c.is_subset.ensures ∙ yes)
     (is_empty-some _ (λ e. both_ways c.is_empty.result c.if-not-is_empty.true (c.is_empty.ensures.1 e)))

@@ -121,7 +121,7 @@ returns-in-Some-free_end_at_0-clause-answer c = record {
 pub steps-preserved : goal.steps-preserved
 steps-preserved c =
     let i = goal.at.steps-preserved c in
-    let x = c.strike_when_many-struck.ensures in
+    let x = c.strike_when_many-struck.ensures.struck in
     let v = c.take_nearest.new.tree in
     let u = c.strike_when_many-struck.new.tree in
     let b = better i.After-least_slack in
@@ -154,6 +154,6 @@ pub steps-smaller : goal.steps-smaller
 steps-smaller c =
     let i = goal.at.steps-smaller c in
     let r = c.update_duals.ensures in
-    subst (λ (ts : TreeClasses). length c.update_duals.new.assignment.prices.items - length ts.order.items < length c.steps.assignment.prices.items - length c.steps.tree.tree_classes.order.items) (sym c.strike_when_many-struck.ensures.tree_classes)
+    subst (λ (ts : TreeClasses). length c.update_duals.new.assignment.prices.items - length ts.order.items < length c.steps.assignment.prices.items - length c.steps.tree.tree_classes.order.items) (sym c.strike_when_many-struck.ensures.struck.tree_classes)
     (step_smaller _ _ c.update_duals.new.assignment _ _ _ (better i.After-least_slack) c.in_ok-scan_rows.ensures.scanned (least i.In-Some-least) r.values r.prices r.residual r.holdings _ c.in_ok-take_nearest.ensures
     c.in_default-free_end_at_0.ensures)

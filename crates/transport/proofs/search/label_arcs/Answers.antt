@@ -1,44 +1,29 @@
-use Rattle.std.proofs.Common.{◌<◌, length, sym, subst, arith}
-use Rattle.std.specs.FinSet as set
+use Rattle.std.proofs.Common.{subst}
+use Rattle.std.proofs.lemmas.Result.{on_ok_weaker}
 use Rattle.transport.specs.Weights.{weights}
-use Rattle.transport.specs.Blocks.{CanLabelBlock, HasLabelledBlock}
-use Rattle.transport.proofs.Labelling.{limit_same, past_of}
-use Rattle.transport.proofs.Blocks.{blocks_start, blocks_labelled, blocks_past, blocks_all, block_can, not_past}
+use Rattle.transport.specs.Scans.{CanLabelArcs, HasLabelled, HasLabelledFrom}
+use Rattle.transport.proofs.Labelling.{labelled_all}
+use Rattle.transport.proofs.Scanning.{reached_still, arcs_can}
+use Rattle.transport.proofs.Blocks.{passed_better}
 use Rattle.transport.proofs.search.label_arcs.Goals as goal
+use Rattle.transport.proofs.search.label_arcs.Goals.{After-label_others}
 
-pub loop-at-init : goal.loop-at-init
-loop-at-init c = record { labelled = blocks_start _ _ _ _ _ _ c.requires.running; passed = c.requires.passed; limit = c.requires.limit }
+can : (c : After-label_others) → CanLabelArcs (weights c.args.instance.now) c.args.assignment.now c.label_blocks.new.tree c.scan_of-scan.result.row c.deref.result.now c.args.sorted_arcs.now.cursor
+can c =
+    let b = c.in_ok-label_blocks.ensures.labelled.better in
+    arcs_can (weights c.args.instance.now) _ _ _ _ _ _ c.args.sorted_arcs.now _ c.requires.sorted_arcs b.running (reached_still _ _ _ _ _ b c.requires.there) c.deref.ensures.value c.scan_of-scan.ensures.row
 
-pub label_block-requires-clause-block : goal.label_block-requires-clause-block
-label_block-requires-clause-block c =
-    subst (λ k. CanLabelBlock (weights c.args.instance.now k) c.args.assignment.now.residual.items c.args.instance.now.firsts c.index-block.result.now) (sym c.scan_of-scan.ensures.row)
-    (block_can _ _ _ _ c.args.sorted_arcs.now c.loop-at.at c.index-block.result.now c.args.limit c.requires.sorted_arcs c.requires.scanned
-    (omega (arith, c.loop-at-test.true, c.len-at-end.ensures, c.args.sorted_arcs.now.blocks.ok.0)) c.index-block.ensures
-    (not_past c.args.limit c.scan_of-scan.result.bound _ c.scan_of-scan.ensures.bound (omega (arith, c.if-block-scan.false))))
+pub returns-clause-passed : goal.returns-clause-passed
+returns-clause-passed c =
+    on_ok_weaker c.label_others.result (λ n. passed_better (weights c.args.instance.now) _ _ _ _ _ (n (weights c.args.instance.now) (can c)).better c.in_ok-label_blocks.ensures.passed)
+    c.label_others.ensures
 
-pub loop-at-preserved : goal.loop-at-preserved
-loop-at-preserved c =
-    let n = subst (λ k. HasLabelledBlock (weights c.args.instance.now) c.args.assignment.now k c.loop-at.tree c.label_block.new.tree c.args.instance.now.firsts c.index-block.result.now set.empty) c.scan_of-scan.ensures.row c.in_ok-label_block.ensures.labelled in
-    record {
-      labelled = blocks_labelled _ _ _ _ _ _ _ _ c.loop-at.at c.index-block.result.now c.index-block.ensures c.loop-at.invariant.labelled n;
-      passed = c.in_ok-label_block.ensures.passed;
-      limit = limit_same _ _ _ _ _ n.free_end c.loop-at.invariant.limit;
-    }
-
-pub returns-then-block-scan : goal.returns-then-block-scan
-returns-then-block-scan c =
-    let at_in : c.loop-at.at < length c.args.sorted_arcs.now.blocks.items = omega (arith, c.loop-at-test.true, c.len-at-end.ensures, c.args.sorted_arcs.now.blocks.ok.0) in
-    record {
-      passed = c.loop-at.invariant.passed;
-      labelled = blocks_past _ _ _ _ _ _ _ _ _ c.loop-at.at _ c.index-block.result.now c.args.limit c.requires.sorted_arcs.blocks at_in c.index-block.ensures c.requires.blocked
-          c.loop-at.invariant.labelled c.loop-at.invariant.limit
-          (past_of c.args.limit c.scan_of-scan.result.bound _ c.scan_of-scan.ensures.bound (omega arith) (omega (arith, c.if-block-scan.true)));
-    }
-
-pub returns : goal.returns
-returns c =
-    record {
-      passed = c.loop-at.invariant.passed;
-      labelled = blocks_all _ _ _ _ _ _ _ _ _ c.loop-at.at _ c.requires.sorted_arcs.blocks (omega (arith, c.loop-at-test.false, c.len-at-end.ensures, c.args.sorted_arcs.now.blocks.ok.0)) c.requires.blocked
-          c.loop-at.invariant.labelled;
-    }
+pub returns-clause-labelled : goal.returns-clause-labelled
+returns-clause-labelled c =
+    let ws = weights c.args.instance.now in
+    let s = c.args.assignment.now in
+    on_ok_weaker c.label_others.result
+    (λ n. subst (λ k. HasLabelled ws s k c.args.tree.now c.label_others.new.tree c.args.sorted_arcs.now.arcs.items c.args.sorted_arcs.now.cursor) c.scan_of-scan.ensures.row
+    (labelled_all ws s _ c.label_blocks.new.tree _ _ _ _ _ c.in_ok-label_blocks.ensures.labelled
+    (subst (λ xs. HasLabelledFrom ws s c.scan_of-scan.result.row c.label_blocks.new.tree c.label_others.new.tree xs c.args.sorted_arcs.now.blocked c.args.sorted_arcs.now.cursor) c.deref.ensures.value (n ws (can c)))))
+    c.label_others.ensures

@@ -1,9 +1,9 @@
-use Rattle.std.proofs.Common.{subst, sym}
+use Rattle.std.proofs.Common.{◌≡◌, subst, sym}
 use Rattle.std.proofs.lemmas.Result.{on_ok_weaker}
 use Rattle.transport.specs.Weights.{weights}
 use Rattle.transport.specs.Scans.{CanLimit, IsLimit}
-use Rattle.transport.specs.SortedArcs.{IsSortedArcs, IsScanned}
-use Rattle.twins.specs.Kinds.{offers_of}
+use Rattle.transport.specs.SortedArcs.{IsScanned}
+use Rattle.transport.specs.declared.arcs.SortedArcs.{SortedArcs}
 use Rattle.transport.proofs.SortedArcsLemmas.{scanned_same}
 use Rattle.transport.proofs.Blocks.{passed_better}
 use Rattle.transport.proofs.Scanning.{can_limit, reached_still, seen}
@@ -19,13 +19,11 @@ limit : (c : After-limit_of-limit) → IsLimit c.args.assignment.now.values.item
 limit c = subst (λ v. IsLimit v c.args.row c.find_free_class_of.new.tree.labels.free_end c.limit_of-limit.result) c.deref.ensures.value c.limit_of-limit.ensures
 
 -- the classes that were scanned are so still
-scanned : (c : After-limit_of-limit) → IsScanned (weights c.args.instance.now c.args.row) c.block_arcs.new.self c.limit_of-limit.result
-scanned c =
+scanned :
+    (c : After-limit_of-limit) (l : SortedArcs) → l.arcs ≡ c.find_free_class_of.new.sorted_arcs.arcs → l.cursor ≡ c.find_free_class_of.new.sorted_arcs.cursor → IsScanned (weights c.args.instance.now c.args.row) l c.limit_of-limit.result
+scanned c l arcs cursor =
     let found = c.in_ok-find_free_class_of.ensures.scanned c.limit_of-limit.result (limit c) in
-    scanned_same (weights c.args.instance.now c.args.row) c.find_free_class_of.new.sorted_arcs c.block_arcs.new.self c.limit_of-limit.result c.in_ok-block_arcs.ensures.arcs c.in_ok-block_arcs.ensures.cursor found
-
-sorted_arcs : (c : After-limit_of-limit) → IsSortedArcs (weights c.args.instance.now c.args.row) (offers_of c.args.instance.now.rows.now c.args.row) c.args.instance.now.firsts c.args.assignment.now.residual.items c.block_arcs.new.self
-sorted_arcs c = c.in_ok-block_arcs.ensures.sorted_arcs (weights c.args.instance.now c.args.row) _ _ c.in_ok-find_free_class_of.ensures.sorted_arcs
+    scanned_same (weights c.args.instance.now c.args.row) c.find_free_class_of.new.sorted_arcs l c.limit_of-limit.result arcs cursor found
 
 pub label_arcs-requires : goal.label_arcs-requires
 label_arcs-requires c =
@@ -34,10 +32,9 @@ label_arcs-requires c =
     record {
       running = b.running;
       there = reached_still _ _ _ _ _ b c.requires.there;
-      sorted_arcs = sorted_arcs i;
+      sorted_arcs = c.in_ok-block_arcs.ensures.sorted_arcs (weights c.args.instance.now c.args.row) _ _ c.in_ok-find_free_class_of.ensures.sorted_arcs;
       limit = limit i;
-      scanned = scanned i;
-      blocked = c.in_ok-block_arcs.ensures.blocked;
+      scanned = scanned i c.block_arcs.new.self c.in_ok-block_arcs.ensures.arcs c.in_ok-block_arcs.ensures.cursor;
       passed = passed_better (weights c.args.instance.now) _ _ _ _ _ b c.requires.passed;
     }
 
@@ -45,10 +42,10 @@ pub returns : goal.returns
 returns c =
     let i = (goal.at.returns c).After-limit_of-limit in
     record {
-      sorted_arcs = on_ok_weaker c.label_arcs.result (λ _. sorted_arcs i) c.label_arcs.ensures.passed;
+      sorted_arcs = on_ok_weaker c.label_arcs.result (λ _. c.in_ok-block_arcs.ensures.sorted_arcs (weights c.args.instance.now c.args.row) _ _ c.in_ok-find_free_class_of.ensures.sorted_arcs) c.label_arcs.ensures.passed;
       passed = c.label_arcs.ensures.passed;
       seen = on_ok_weaker c.label_arcs.result
           (λ n. seen (weights c.args.instance.now) c.args.assignment.now c.args.tree.now c.find_free_class_of.new.tree c.label_arcs.new.tree c.args.row c.block_arcs.new.self c.limit_of-limit.result
-          c.in_ok-find_free_class_of.ensures.better (scanned i) (limit i) n)
+          c.in_ok-find_free_class_of.ensures.better (scanned i c.block_arcs.new.self c.in_ok-block_arcs.ensures.arcs c.in_ok-block_arcs.ensures.cursor) (limit i) n)
           c.label_arcs.ensures.labelled;
     }

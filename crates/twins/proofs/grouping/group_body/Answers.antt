@@ -8,9 +8,9 @@ use Rattle.twins.proofs.grouping.group_body.Goals.{then-kinds-k+in_ok-split_all,
 
 pub loop-k-init : goal.loop-k-init
 loop-k-init c = record {
-  grouping = grouping_start _ _ _ _ c.in_ok-alone.ensures.items c.in_ok-parts.ensures.waiting c.offered_cpus-offered.ensures;
+  grouping = grouping_start _ _ _ _ c.in_ok-alone.ensures.items c.in_ok-parts.ensures.waiting c.in_ok-offered.ensures.offered;
   done = c.in_ok-parts.ensures.done;
-  settling = c.new-settling.ensures _ c.once_offered.ensures;
+  settling = c.new-settling.ensures _ c.in_ok-offered.ensures.once;
 }
 
 pub loop-k-preserved : goal.loop-k-preserved

@@ -1,15 +1,23 @@
-use Rattle.std.proofs.Common.{◌≡◌, true, subst, sym, ap, ◌∙◌}
+use Rattle.std.proofs.Common.{◌≡◌, List, is_some, true, subst, sym, ap, ◌∙◌}
 use Rattle.std.proofs.lemmas.List.{get_or_default}
 use Rattle.certificate.specs.OfferLaws.{passes_at, row_offers_fit}
 use Rattle.certificate.specs.Limits.{row_fits, offers_fit}
 use Rattle.certificate.specs.RowView.{RowView}
+use Rattle.certificate.specs.Weight.{weight_in}
+use Rattle.certificate.specs.declared.rows.Offer.{Offer}
+use Rattle.twins.proofs.SameOffers.{own_offers}
 use Rattle.twins.proofs.SettledCpus.{settling_next, settling_turned}
 use Rattle.twins.proofs.grouping.split_all.Goals as goal
 
-pub note-requires : goal.note-requires
-note-requires c =
+pub note-requires-clause-fit : goal.note-requires-clause-fit
+note-requires-clause-fit c =
     subst (λ (r : RowView). offers_fit r.offers ≡ true) (sym c.row.view_is)
     (row_offers_fit c.index-rows-k.result (passes_at row_fits c.args.rows.now c.args.k c.index-rows-k.result c.requires.fit c.requires.there c.index-rows-k.is))
+
+pub note-requires-clause-cpus : goal.note-requires-clause-cpus
+note-requires-clause-cpus c = λ cpu.
+    c.requires.cpus cpu
+    ∙ ap (λ (o : List Offer). is_some (weight_in o cpu)) (sym (ap (λ (r : RowView). r.offers) c.row.view_is ∙ own_offers _ _ _ c.requires.there c.index-rows-k.is))
 
 pub split-requires-clause-offers : goal.split-requires-clause-offers
 split-requires-clause-offers c = λ d.

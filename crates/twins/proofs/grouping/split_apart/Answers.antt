@@ -1,11 +1,9 @@
-use Rattle.certificate.specs.Limits.{offers_fit, row_fits}
-use Rattle.certificate.specs.OfferLaws.{passes_at, row_offers_fit}
 use Rattle.certificate.specs.RowView.{RowView}
 use Rattle.certificate.specs.Weight.{weight_in}
 use Rattle.certificate.specs.declared.rows.Offer.{Offer}
-use Rattle.std.proofs.Common.{List, [], get_or, length, refl, subst, sym, true, ℕ, ◌&&◌, ◌<◌, ◌≡◌, ◌∙◌}
+use Rattle.std.proofs.Common.{List, [], get_or, length, refl, subst, ℕ, ◌&&◌, ◌<◌, ◌≡◌, ◌∙◌}
 use Rattle.std.proofs.lemmas.List.{get_or_default}
-use Rattle.std.specs.List.{list_all}
+use Rattle.twins.proofs.SameOffers.{offers_fit_at}
 use Rattle.twins.proofs.Splitting.{IsAlike, less_left, piece_is_part, to_piece, splitting_end, splitting_more, splitting_start}
 use Rattle.twins.proofs.SettledCpus.{settling_noted}
 use Rattle.twins.specs.AreSpans.{AreSpans}
@@ -31,16 +29,12 @@ row_at rows k = get_or rows k none
 is_row : (rows : List RowView) (k : ℕ) → k < length rows → row_at rows k ≡ get_or rows k (row_at rows k)
 is_row rows k lt = get_or_default rows k none _ lt
 
-fit : (rows : List RowView) (k : ℕ) (offers : List Offer) → list_all row_fits rows ≡ true → k < length rows → ((d : RowView) → offers ≡ (get_or rows k d).offers) → offers_fit offers ≡ true
-fit rows k offers fits lt is =
-    subst (λ (o : List Offer). offers_fit o ≡ true) (sym (is none)) (row_offers_fit (row_at rows k) (passes_at row_fits rows k (row_at rows k) fits lt (is_row rows k lt)))
-
 alike : (c : goal.After-minus-rest) → IsAlike (row_at c.args.rows.now c.args.k) c.in-Some.cpu c.loop-cpu.rest c.in_ok-piece.piece
 alike c =
     subst (λ (o : List Offer). (q : ℕ) → set.contains c.in_ok-piece.piece q ≡ (set.contains c.loop-cpu.rest q && is_same_weight (weight_in o c.in-Some.cpu) (weight_in o q))) (c.requires.offers none) c.in_ok-piece.ensures.alike
 
 pub alike-requires-clause-fit : goal.alike-requires-clause-fit
-alike-requires-clause-fit c = fit c.args.rows.now c.args.k c.args.offers.now c.requires.fit c.requires.there c.requires.offers
+alike-requires-clause-fit c = offers_fit_at c.args.rows.now c.args.k c.args.offers.now c.requires.fit c.requires.there c.requires.offers
 
 pub loop-cpu-preserved : goal.loop-cpu-preserved
 loop-cpu-preserved c = record {

@@ -1,4 +1,4 @@
-use Rattle.std.proofs.Common.{◌≡◌, ℕ, ◌+◌, ◌≤◌, List, [], ◌∷◌, ◌++◌, sym, ap, ◌∙◌, false, refl, subst, arith, ⊎_elim}
+use Rattle.std.proofs.Common.{◌≡◌, ℕ, ◌+◌, ◌≤◌, List, [], ◌∷◌, ◌++◌, length, sym, ap, ◌∙◌, false, refl, subst, arith, length-append, ⊎_elim}
 use Rattle.std.specs.Prelude.{Some, is_some}
 use Rattle.cpuset_tree.specs.declared.Group.{Group}
 use Rattle.proctable.specs.declared.processes.Process.{Process}
@@ -10,17 +10,19 @@ use Rattle.proctable.specs.TableAnswers.{AddsProcess}
 use Rattle.proctable.specs.TableWellFormed.{Belongs, AllBelong}
 use Rattle.proctable.specs.Kept.{live_of, IsSound, BelongsNext}
 use Rattle.proctable.specs.ProcessLemmas.{AllBelong-push, process-fresh, process-push-new, process-push-old}
-use Rattle.proctable.proofs.PlaceLemmas.{live_rises, live_push, pids_push}
+use Rattle.proctable.proofs.PlaceLemmas.{live_rises, live_push, pids_push, ended_push}
 use Rattle.proctable.proofs.processes.ProcTable.add.Goals as goal
 
 -- a table stays sound when a process of the next pid comes that belongs to itself or to a live first process
-sound-push : (slots : List Slot) (next : ℕ) (g : Group) (first : ℕ) → IsSound slots next → next ≤ LAST_PID
+sound-push : (slots : List Slot) (ended next : ℕ) (g : Group) (first : ℕ) → IsSound slots ended next → next ≤ LAST_PID
     → BelongsNext (record { live = live_of slots; next_pid = next }) g first
-    → IsSound (slots ++ record { process = record { pid = next; group = g; first = first }; ended = false } ∷ []) (next + 1)
-sound-push slots next g first sound room belongs = record {
+    → IsSound (slots ++ record { process = record { pid = next; group = g; first = first }; ended = false } ∷ []) ended (next + 1)
+sound-push slots ended next g first sound room belongs = record {
   rising = pids_push 0 next slots (record { process = x; ended = false }) sound.rising refl;
   belong = subst (λ (l : List Process). AllBelong l l) (sym (live_push slots x)) (AllBelong-push live x live (⊎_elim own other belongs) sound.belong);
   limit = omega arith;
+  counted = ended_push slots x ended sound.counted;
+  few = (let all : length (slots ++ record { process = x; ended = false } ∷ []) ≡ length slots + 1 = length-append _ _ in omega (arith, all, sound.few));
 }
   where
     live : List Process
@@ -43,8 +45,8 @@ sound-push slots next g first sound room belongs = record {
 pub invariant_of-self-2 : goal.invariant_of-self-2
 invariant_of-self-2 c =
     let i = c.self.inside in
-    subst (λ (l : List Slot). IsSound l (i.next_pid + 1)) (sym c.in_ok-push.ensures.items)
-    (sound-push i.slots.items i.next_pid c.args.group c.args.first c.self.invariant
+    subst (λ (l : List Slot). IsSound l i.ended (i.next_pid + 1)) (sym c.in_ok-push.ensures.items)
+    (sound-push i.slots.items i.ended i.next_pid c.args.group c.args.first c.self.invariant
     (subst (λ (t : TableState). t.next_pid ≤ LAST_PID) (sym c.self.view_is) c.requires.pids)
     (subst (λ (t : TableState). BelongsNext t c.args.group c.args.first) (sym c.self.view_is) c.requires.belongs))
 

@@ -19,19 +19,24 @@ end_one-requires c =
       alive = subst (λ (t : TableState). is_alive t c.args.pid ≡ true) (sym c.self.view_is) c.requires.alive;
     }
 
+pub pack_where_half_ended-self-inside-requires : goal.pack_where_half_ended-self-inside-requires
+pack_where_half_ended-self-inside-requires c = c.end_one.ensures.ended _ c.self.invariant.counted
+
 pub invariant_of-self : goal.invariant_of-self
 invariant_of-self c =
     let i = c.self.inside in
+    let packed = c.pack_where_half_ended-self-inside.ensures in
     record {
-      rising = c.end_one.ensures.rising i.next_pid c.self.invariant.rising;
-      belong = subst (λ (l : List Process). AllBelong l l) (sym c.end_one.ensures.live)
+      rising = packed.rising i.next_pid (c.end_one.ensures.rising i.next_pid c.self.invariant.rising);
+      belong = subst (λ (l : List Process). AllBelong l l) (sym (packed.live ∙ c.end_one.ensures.live))
           (AllBelong-filter (λ p. not (ends_with c.args.pid p)) (together-exited c.args.pid) (live_of i.slots.items) (live_of i.slots.items) c.self.invariant.belong);
       limit = c.self.invariant.limit;
+      counted = packed.ended;
+      few = packed.few;
     }
 
 pub returns : goal.returns
 returns c =
     let i = c.self.inside in
-    c.pack_where_half_ended.ensures
-    ∙ (λ j. record { live = c.end_one.ensures.live j; next_pid = i.next_pid })
+    (λ j. record { live = (c.pack_where_half_ended-self-inside.ensures.live ∙ c.end_one.ensures.live) j; next_pid = i.next_pid })
     ∙ ap (λ (t : TableState). exited t c.args.pid) c.self.view_is

@@ -1,4 +1,4 @@
-use Rattle.std.proofs.Common.{◌≡◌, List, not, ◌&&◌, filter, sym, ap, ◌∙◌, subst, rules}
+use Rattle.std.proofs.Common.{◌≡◌, List, not, ◌&&◌, filter, sym, ap, ◌∙◌, subst, rules, arith}
 use Rattle.std.proofs.lemmas.Fn.{filter_same}
 use Rattle.cpuset_tree.specs.Groups.{same_group}
 use Rattle.proctable.specs.declared.processes.Process.{Process}
@@ -8,19 +8,21 @@ use Rattle.proctable.specs.TableChanges.{ends_with, exited, ended_in}
 use Rattle.proctable.specs.TableWellFormed.{AllBelong}
 use Rattle.proctable.specs.Kept.{live_of, IsSound}
 use Rattle.proctable.specs.ProcessLemmas.{AllBelong-filter, together-exited, together-ended}
-use Rattle.proctable.proofs.PlaceLemmas.{live_filter, pids_filter}
+use Rattle.proctable.proofs.PlaceLemmas.{live_filter, pids_filter, none_ended, alive_first}
 use Rattle.proctable.proofs.processes.ProcTable.end_in.Goals as goal
 
 pub invariant_of-self : goal.invariant_of-self
 invariant_of-self c =
     let i = c.self.inside in
-    subst (λ (l : List Slot). IsSound l i.next_pid)
+    subst (λ (l : List Slot). IsSound l 0 i.next_pid)
     (sym (filter_same _ (λ s. not s.ended && not (same_group s.process.group c.args.group)) _ (λ x b f' k. search rules) _ _ c.retain.ensures.filtered))
     (record {
       rising = pids_filter (λ s. not s.ended && not (same_group s.process.group c.args.group)) 0 i.next_pid i.slots.items c.self.invariant.rising;
       belong = subst (λ (l : List Process). AllBelong l l) (sym (live_filter (λ p. not (same_group p.group c.args.group)) i.slots.items))
           (AllBelong-filter (λ p. not (same_group p.group c.args.group)) (together-ended c.args.group) (live_of i.slots.items) (live_of i.slots.items) c.self.invariant.belong);
       limit = c.self.invariant.limit;
+      counted = none_ended (λ s. not s.ended && not (same_group s.process.group c.args.group)) i.slots.items (λ s. alive_first s.ended (not (same_group s.process.group c.args.group)));
+      few = omega arith;
     })
 
 pub returns : goal.returns
