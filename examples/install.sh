@@ -12,7 +12,7 @@
 # with the folders that were made for it, which are taken away again where nothing else is in them.
 #
 # --deb makes FOLDER/numarun_VERSION_ARCHITECTURE.deb by dpkg-deb, with the same below /usr, and the folder /etc/numarun. It is
-# installed by dpkg -i and taken away by dpkg -r.
+# installed by dpkg -i and taken away by dpkg -r. DEBFULLNAME and DEBEMAIL name who made it.
 #
 # Example: examples/install.sh /usr/local
 #          examples/install.sh --deb . && dpkg -i numarun_*.deb
