@@ -38,6 +38,7 @@ use Rattle.cgroup_tree.specs.StandingLemmas.{folder_same, writes_stand, places_w
 use Rattle.cgroup_tree.specs.ChangeLemmas.{folders_stand, passed_on, unmade, gone, entry_left, there_left}
 use Rattle.cgroup_tree.specs.ApartLemmas.{plain_names_apart, one_folder_there, one_split, entry_placed, some_of}
 use Rattle.cgroup_tree.specs.Events.{Event, MadeGroup, RemovedGroup, WroteCpus, WroteMems, Spawned, EndedGroup, Forked, Exited, WentOffline, CameOnline, Happens, IsAsked, AreAsked, AsksFor, IsNew, Past, IsMirrored}
+use Rattle.cgroup_tree.specs.Site.{Site}
 use Rattle.cgroup_tree.specs.Stands.{PastsStand}
 
 -- a group has a place exactly where nothing stands against a write of it
@@ -268,27 +269,28 @@ module _ (root : List ℕ) (memory : Ids) (old : KernelState) (before : List Ask
       kept new these (groups_part new.tree these same are) ((each_case_keeps old new was.well).online cpu r h).well_formed (own_groups new same)
 
 -- a kernel of the root group alone
-begun : (root : List ℕ) (memory : Ids) (k : KernelState) → IsNew root memory k → Kept root memory k []
-begun root memory k new =
+begun : (site : Site) (k : KernelState) → IsNew site k → Kept site.root site.memory k []
+begun site k new =
     let none : (g : Group) → place_of k.tree g ≡ None = λ g.
-    ap (λ (t : TreeState). place_of t g) new.alone.first.is ∙ no_place (new_entry new.alone.first.root None []) g refl in
+    ap (λ (t : TreeState). place_of t g) new.first.first_tree.is ∙ no_place (new_entry new.first.first_tree.root None []) g refl in
     record {
       stands = record {
         cpus = λ g here. absurd (both_ways (is_some (place_of k.tree g)) (ap is_some (none g)) here);
         mems = λ g here. absurd (both_ways (is_some (place_of k.tree g)) (ap is_some (none g)) here);
       };
       well = new.well;
-      own = names_of_first new.alone.online new.alone.nodes k.tree new.alone.first;
+      own = names_of_first site.first.online site.first.nodes k.tree new.first.first_tree;
       plain = λ g p name is. absurd (none-some (p, name) (sym (none g) ∙ is));
     }
 
-pub past_kept : (root : List ℕ) (memory : Ids) (past : List Event) (k : KernelState) (calls : List Asked) → Past root memory past k calls → Kept root memory k calls
+pub past_kept : (site : Site) (past : List Event) (k : KernelState) (calls : List Asked) → Past site past k calls → Kept site.root site.memory k calls
 unfolding Past
-past_kept root memory [] k calls (new, none) = subst (λ (cs : List Asked). Kept root memory k cs) (sym none) (begun root memory k new)
-past_kept root memory (event ∷ past) k calls (old, before, these, was, happens, asks, are) =
-    subst (λ (cs : List Asked). Kept root memory k cs) (sym are) (step root memory old before (past_kept root memory past old before was) event k these happens asks)
+past_kept site [] k calls (new, none) = subst (λ (cs : List Asked). Kept site.root site.memory k cs) (sym none) (begun site k new)
+past_kept site (event ∷ past) k calls (old, before, these, was, happens, asks, are) =
+    subst (λ (cs : List Asked). Kept site.root site.memory k cs) (sym are)
+    (step site.root site.memory old before (past_kept site past old before was) event k these happens asks)
 
 pub pasts_stand : PastsStand
-pasts_stand root memory past k calls was =
-    let it : Kept root memory k calls = past_kept root memory past k calls was in
+pasts_stand site past k calls was =
+    let it : Kept site.root site.memory k calls = past_kept site past k calls was in
     (it.stands, plain_names_apart k.tree it.well.tree it.own it.plain)

@@ -1,5 +1,5 @@
 //! What folders and files are asked for.
-ghost use Rattle.std.specs.Prelude.{List, [], ◌∷◌};
+ghost use Rattle.std.specs.Prelude.{Bool, List, [], ◌∷◌};
 ghost use Rattle.cgroup_tree.specs.Asked.{Asked, Asks, Made, Removed, Written, is_made};
 
 use std::io;
@@ -9,8 +9,8 @@ use std::io;
 /// What they hold is not said, since no contract can say what a file system does. What they were asked for is: which
 /// calls were made so far, the newest first, and which of them were refused.
 pub trait GroupFiles {
-    /// The calls that may have been made so far.
-    ghost asked: { Self → List Asked → Type 0 };
+    /// Whether these files may have been opened with folders of a run before, and the calls that may have been made of them so far.
+    ghost asked: { Self → Bool → List Asked → Type 0 };
 
     /// Makes a folder.
     ///

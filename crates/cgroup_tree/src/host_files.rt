@@ -1,5 +1,5 @@
 //! The system's own folders and files.
-ghost use Rattle.std.specs.Prelude.{◌≡◌, ⊤};
+ghost use Rattle.std.specs.Prelude.{◌≡◌};
 
 use crate::GroupFiles;
 use std::fs::OpenOptions;
@@ -100,7 +100,7 @@ impl<R: Files + Alloc + Clock + Eprint> HostFiles<'_, R> {
 }
 
 impl<R: Files + Alloc + Clock + Eprint> GroupFiles for HostFiles<'_, R> {
-    ghost asked = { λ _ _. ⊤ };
+    ghost asked = { λ files adopt _. files.adopt ≡ adopt };
 
     /// A folder that is there counts as made where it may be there already.
     fn make_folder(&mut self, path: &str) -> io::Result<()> {

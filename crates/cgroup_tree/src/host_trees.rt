@@ -1,5 +1,5 @@
 //! The system's own cgroup trees.
-ghost use Rattle.std.specs.Prelude.{◌≡◌};
+ghost use Rattle.std.specs.Prelude.{◌≡◌, ⊤};
 
 use crate::{GroupTrees, HostFiles};
 use std::alloc::Global;
@@ -27,7 +27,9 @@ impl<'a, R> HostTrees<'a, R> {
 impl<'a, R: Files + AllocGlobal + Clock + Eprint + Clone + Drop> GroupTrees for HostTrees<'a, R> {
     type Files = HostFiles<'a, R>;
 
-    fn files(&self, adopt: bool) -> HostFiles<'a, R> {
+    ghost finds = { λ _ _ _. ⊤ };
+
+    fn files(self, adopt: bool) -> HostFiles<'a, R> {
         HostFiles::new(self.rt, adopt)
     }
 
