@@ -1,6 +1,7 @@
 -- Of what config a container is.
-use Rattle.std.specs.Prelude.{◌≡◌, ◌⊎◌, ℕ, List, [], Ok}
+use Rattle.std.specs.Prelude.{◌≡◌, ◌⊎◌, ℕ, if◌then◌else◌, List, [], ◌∷◌, Option, Some, None, Ok}
 use Rattle.std.specs.List.{Contains, AllByRecursion}
+use Rattle.std.specs.Str.{bytes_eq}
 use Rattle.cpu_set.specs.Ids.{Ids}
 use Rattle.config_json.specs.declared.Config.{Config as Said}
 use Rattle.config_json.specs.ConfigOf.{config_of}
@@ -14,11 +15,26 @@ use Rattle.node.specs.Machine.Event.{Create, Adopt, Update}
 abbrev pub IsMadeOf : List Event → List ℕ → ℕ → List ℕ → List ℕ → Type 0
 IsMadeOf events id pid bundle config = Contains events (Create id bundle config (Ok pid)) ⊎ ((cpus : Ids) × Contains events (Adopt id bundle config cpus (Ok pid)))
 
--- or it read the container's config again, by `update`
-abbrev pub IsAskedIn : List Event → List ℕ × ContainerState → List ℕ → Type 0
-IsAskedIn events e config = IsMadeOf events e.0 e.1.pid e.1.bundle config ⊎ Contains events (Update e.0 e.1.bundle config (Ok tt))
+-- the bundle and the config that the container of an id was last made of or that were read again, once one more event answered
+abbrev pub asked_then : List ℕ → Option (List ℕ × List ℕ) → Event → Option (List ℕ × List ℕ)
+asked_then id before (Create own bundle config (Ok pid)) = if bytes_eq own id then Some (bundle, config) else before
+asked_then id before (Adopt own bundle config cpus (Ok pid)) = if bytes_eq own id then Some (bundle, config) else before
+asked_then id before (Update own bundle config (Ok done)) = if bytes_eq own id then Some (bundle, config) else before
+asked_then id before event = before
 
--- what it asks for is what a config says with which one of the events made it, or which one of them read again; and whether it
+-- and once all of these answered, the oldest first
+abbrev pub last_asked : List ℕ → Option (List ℕ × List ℕ) → List Event → Option (List ℕ × List ℕ)
+last_asked id before [] = before
+last_asked id before (event ∷ later) = last_asked id (asked_then id before event) later
+
+-- one of the events made it of this config, or read the config again, by `update`; and it is the last that did the one or the other
+-- with a container of its id
+abbrev pub IsAskedIn : List Event → List ℕ × ContainerState → List ℕ → Type 0
+IsAskedIn events e config =
+    (IsMadeOf events e.0 e.1.pid e.1.bundle config ⊎ Contains events (Update e.0 e.1.bundle config (Ok tt)))
+    × (last_asked e.0 None events ≡ Some (e.1.bundle, config))
+
+-- what it asks for is what the config says that was last read for it, by the event that made it or by one that read it again; and whether it
 -- can be started is what the config says with which it was made
 pub record IsSaid (events : List Event) (m : Layout) (e : List ℕ × ContainerState) : Type 0 where
   pub config : List ℕ

@@ -152,9 +152,9 @@ module _ (told : Told) (events : List Event) (e : List ℕ × ContainerState) (c
   asked_by made placing h = by_lines told e.0 e.1.bundle config (Ok e.1.pid) made placing old lines events text new m h
 
   asked_in : IsAskedIn events e config → IsAskedBy told lines e.0 e.1.bundle config
-  asked_in (inl (inl h)) = asked_by (Create e.0 e.1.bundle config (Ok e.1.pid)) (inl refl) h
-  asked_in (inl (inr (cpus, h))) = asked_by (Adopt e.0 e.1.bundle config cpus (Ok e.1.pid)) (inr (inl (cpus, refl))) h
-  asked_in (inr h) = asked_by (Update e.0 e.1.bundle config (Ok tt)) (inr (inr refl)) h
+  asked_in (inl (inl h), last) = asked_by (Create e.0 e.1.bundle config (Ok e.1.pid)) (inl refl) h
+  asked_in (inl (inr (cpus, h)), last) = asked_by (Adopt e.0 e.1.bundle config cpus (Ok e.1.pid)) (inr (inl (cpus, refl))) h
+  asked_in (inr h, last) = asked_by (Update e.0 e.1.bundle config (Ok tt)) (inr (inr refl)) h
 
 all_more : {A : Type 0} (P Q : A → Type 0) → ((x : A) → P x → Q x) → (xs : List A) → AllByRecursion P xs → AllByRecursion Q xs
 all_more P Q follows [] h = h
