@@ -26,6 +26,13 @@ pub trait GroupFiles {
     fn remove_folder(&mut self, path: &str) -> io::Result<()>
         ensures { Asks asked self.old (record { deed = Removed path.now; done = is_made result } ∷ []) self.new };
 
+    /// Removes the folder that was made last, where it was not there before.
+    ///
+    /// # Errors
+    /// Those of the system; the folder stays.
+    fn unmake_folder(&mut self, path: &str) -> io::Result<()>
+        ensures { Asks asked self.old (record { deed = Removed path.now; done = is_made result } ∷ []) self.new };
+
     /// Writes the whole text into a file that is there, by one write of the system.
     ///
     /// # Errors

@@ -1,6 +1,7 @@
 //! The system's own cgroup trees.
 ghost use Rattle.std.specs.Prelude.{◌≡◌, ⊤};
 
+use crate::shown::Shown;
 use crate::{GroupTrees, HostFiles};
 use std::alloc::Global;
 use std::io::ErrorKind;
@@ -55,7 +56,7 @@ impl<'a, R: Files + AllocGlobal + Clock + Eprint + Clone + Drop> GroupTrees for 
                 && kind.is_dir()
             {
                 let name = entry.file_name();
-                let _ = eprintln!(self.rt; "note: {path}/{name} is there and has to be adopted");
+                let _ = eprintln!(self.rt; "note: {}/{} is there and has to be adopted", Shown(path), Shown(&name));
             }
         }
     }

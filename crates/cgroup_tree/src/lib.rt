@@ -12,6 +12,7 @@ mod mirror;
 mod mirrored_kernel;
 mod paths;
 mod root;
+mod shown;
 mod sited;
 
 pub use group_files::GroupFiles;

@@ -101,7 +101,7 @@ impl<F: GroupFiles> Mirror<F> {
         let answer = self.inner.make_group(parent, name);
         self.inner.never_fails();
         if let Err(OrMemory::Memory) = answer {
-            let _ = self.folders.remove_folder(path.as_str());
+            let _ = self.folders.unmake_folder(path.as_str());
         }
         answer
     }

@@ -46,6 +46,10 @@ impl<R: Print> GroupFiles for FusedFiles<'_, R> {
         self.ask("remove", path, b"")
     }
 
+    fn unmake_folder(&mut self, path: &str) -> io::Result<()> {
+        self.ask("remove", path, b"")
+    }
+
     fn write_file(&mut self, path: &str, text: &[u8]) -> io::Result<()> {
         self.ask("write", path, text)
     }
