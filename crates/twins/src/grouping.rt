@@ -58,18 +58,20 @@ fn group_body(alloc: Global, rows: &[Row], kinds: &[usize]) -> Result<Vec<IdSet>
     let mut parts = unsplit(alloc, &offered)?;
     let mut spans = Spans::new(alloc)?;
     let mut settling = Settling::new(once, offered.count(), runs);
+    let mut kind = 0;
     for k in 0..rows.len() {
         if kinds[k] == k {
             split_all(
                 rows,
                 k,
-                &sets[k],
+                &sets[kind],
                 &mut parts,
                 &mut spans,
                 &edges,
                 &mut settling,
                 &mut alone,
             )?;
+            kind += 1;
         }
     }
     add_open(&parts, &mut alone)?;
@@ -102,7 +104,7 @@ fn unsplit(alloc: Global, all: &IdSet) -> Result<Parts, AllocError>
 }
 
 /// The CPUs with a weight in some row, and those for which rows of one kind alone have one. A row of the kind of an earlier
-/// one adds none. The CPUs of each other row are put into the list of sets, since they are asked for again.
+/// one adds none. The CPUs of each other row are put into the list of sets, in order, since they are asked for again.
 fn offered_cpus(
     rows: &[Row],
     kinds: &[usize],
@@ -117,14 +119,13 @@ fn offered_cpus(
     let mut offered = IdSet::empty();
     let mut twice = IdSet::empty();
     for k in 0..rows.len() {
-        let mut cpus = IdSet::empty();
         if kinds[k] == k {
             let row = &rows[k];
-            cpus = row.offers.cpus();
+            let cpus = row.offers.cpus();
             twice = twice.union(&offered.meet(&cpus));
             offered = offered.union(&cpus);
+            sets.push(cpus)?;
         }
-        sets.push(cpus)?;
     }
     Ok((offered, offered.minus(&twice)))
 }
