@@ -29,3 +29,4 @@ pub mod Solving
 pub mod Totals
 pub mod Holders
 pub mod Blocks
+pub mod Seeking

@@ -42,7 +42,7 @@ limit_once values k (Some e) None b x y = absurd x
 limit_once values k (Some e) (Some a) None x y = absurd y
 limit_once values k (Some e) (Some a) (Some b) x y = let same : a ≡ b = omega (arith, x, y) in ap Some same
 
-below_limit : (values : List ℕ) (k w : ℕ) (o : FreeEnd) (limit : Option ℕ) → IsLimit values k (Some o) limit → (IsPast limit w → ⊥) → w + number values o.label.row ≤ o.label.weight + number values k
+pub below_limit : (values : List ℕ) (k w : ℕ) (o : FreeEnd) (limit : Option ℕ) → IsLimit values k (Some o) limit → (IsPast limit w → ⊥) → w + number values o.label.row ≤ o.label.weight + number values k
 below_limit values k w o None l below = absurd l
 below_limit values k w o (Some x) l below = elim (cases_lt w x) [ inl lt ↦ omega (arith, l, lt) | inr le ↦ absurd (below le) ]
 

@@ -20,3 +20,4 @@ pub mod Blocks
 pub mod Walks
 pub mod Places
 pub mod Solved
+pub mod Sought

@@ -8,6 +8,7 @@ ghost use Rattle.transport.specs.Scans.{arc_at, AreRising, IsPast};
 ghost use Rattle.certificate.specs.declared.rows.Offer.{Offer};
 ghost use Rattle.transport.specs.declared.arcs.WeightedOffer.{WeightedOffer};
 ghost use Rattle.transport.specs.SortedArcs.{IsSortedArcs, IsNewSortedArcs, IsFoundFreeEnd, CanOpen, IsOpening};
+ghost use Rattle.transport.specs.Sought.{IsFurther};
 ghost use Rattle.transport.specs.Orders.{weighted_at, weighted_in, AreAllWeighted, IsOrder};
 
 use crate::Representatives;
@@ -92,6 +93,7 @@ impl SortedArcs {
         requires { (ws : ℕ → Option ℕ) × IsSortedArcs ws offers.now firsts.now residual.now self.old }
         ensures sorted_arcs { OnOk result ((ws : ℕ → Option ℕ) → IsSortedArcs ws offers.now firsts.now residual.now self.old → IsSortedArcs ws offers.now firsts.now residual.now self.new) }
         ensures found { IfOk result (λ found. (ws : ℕ → Option ℕ) → IsSortedArcs ws offers.now firsts.now residual.now self.old → IsFoundFreeEnd ws residual.now limit self.new found) }
+        ensures further { OnOk result (IsFurther self.old self.new) }
     {
         loop {
             self.cursor = skip_full(&self.arcs, self.cursor, residual, limit);
@@ -116,6 +118,7 @@ impl SortedArcs {
         requires sorted_arcs { (ws : ℕ → Option ℕ) × (residual : List ℕ) × IsSortedArcs ws offers.now firsts.now residual self.old }
         ensures sorted_arcs { OnOk result ((ws : ℕ → Option ℕ) (residual : List ℕ) → IsSortedArcs ws offers.now firsts.now residual self.old → IsSortedArcs ws offers.now firsts.now residual self.new) }
         ensures opened { OnOk result (self.new.opened ≡ self.old.opened + 1) }
+        ensures further { OnOk result (IsFurther self.old self.new) }
     {
         prove!(self.opened < offers.len());
         let weighted_offer = self.order.weighted_offer(offers, self.opened);

@@ -1,5 +1,5 @@
 //! The search for an augmenting path: rows are scanned, duals are updated, until a class with a free CPU is at slack 0.
-ghost use Rattle.std.specs.Prelude.{◌≡◌, ℕ, ◌+◌, ◌-◌, ◌/◌, ◌<◌, ◌≤◌, ◌^◌, ◌⊎◌, Option, None, [], ◌∷◌, length, OnOk, IfOk, true, IfSome, MatchOption};
+ghost use Rattle.std.specs.Prelude.{◌≡◌, ℕ, ◌+◌, ◌-◌, ◌/◌, ◌<◌, ◌≤◌, ◌^◌, ◌⊎◌, Option, None, [], ◌∷◌, length, OnOk, IfOk, true, IfSome, IfNone, MatchOption};
 ghost use Rattle.transport.specs.Numbers.{number, IsRaised, IsEachOnce};
 ghost use Rattle.transport.specs.Searches.{top};
 ghost use Rattle.transport.specs.States.{IsRunning, HasTaken, IsSameRoot, HasScanned, IsStruck, AreStruckOrSame};
@@ -8,6 +8,7 @@ ghost use Rattle.transport.specs.Answers.{IsAnswer, IsSameRest, IsNoFreeEndAt0, 
 ghost use Rattle.transport.specs.ReachedRows.{is_reached, row_at};
 ghost use Rattle.transport.specs.SortedArcs.{IsSortedArcs, IsFoundFreeEnd, IsScanned};
 ghost use Rattle.transport.specs.Blocks.{AreNoted, AreTakenFirsts, ArePassed, IsPassedToo, CanLabelBlock, HasLabelledBlock, IsFirstIn};
+ghost use Rattle.transport.specs.Sought.{IsFurther, IsNoFurther, IsSought, AreSought};
 ghost use Rattle.std.specs.FinSet as set;
 ghost use Rattle.cpu_set.specs.Members.{IsCpu};
 ghost use Rattle.twins.specs.Kinds.{offers_of};
@@ -170,7 +171,7 @@ fn take_if_nearest(
     }
 }
 
-/// Scans the rows that are reached, from a place in their order on.
+/// Scans the rows that are reached, from a place in their order on, from which the free end was sought.
 ///
 /// A class that is at slack 0 from one of them is passed over for the others, as those taken up are: none is nearer.
 pub(crate) fn scan_rows(
@@ -187,6 +188,7 @@ pub(crate) fn scan_rows(
     requires from { from ≤ length tree.old.reached_rows.order.items }
     requires scanned { HasScanned (weights instance.now) assignment.now tree.old from }
     requires taken { AreTakenFirsts instance.now.firsts taken_firsts.now tree.old.tree_classes }
+    requires sought { AreSought instance.now assignment.now tree.old arcs_by_kind.old from (length tree.old.reached_rows.order.items) }
     ensures arcs_by_kind { OnOk result (AreSortedArcs instance.now assignment.now.residual.items arcs_by_kind.new) }
     ensures better { OnOk result (IsBetter (weights instance.now) assignment.now tree.old tree.new) }
     ensures scanned { OnOk result (HasScanned (weights instance.now) assignment.now tree.new (length tree.new.reached_rows.order.items)) }
@@ -207,7 +209,7 @@ pub(crate) fn scan_rows(
     Ok(())
 }
 
-/// Scans a row: labels the classes that are nearer to it than the free end, and the free end.
+/// Scans a row from which the free end was sought: labels the classes that are nearer to it than the free end.
 pub(crate) fn scan_row(
     instance: &Instance,
     assignment: &Assignment,
@@ -221,11 +223,13 @@ pub(crate) fn scan_row(
     requires there { is_reached tree.old.reached_rows row ≡ true }
     requires sorted_arcs { IsSortedArcs (weights instance.now row) (offers_of instance.now.rows.now row) instance.now.firsts assignment.now.residual.items sorted_arcs.old }
     requires passed { ArePassed (weights instance.now) assignment.now tree.old instance.now.firsts passed.old }
+    requires sought { IsSought (weights instance.now row) assignment.now.values.items row tree.old.labels.free_end sorted_arcs.old }
     ensures sorted_arcs { OnOk result (IsSortedArcs (weights instance.now row) (offers_of instance.now.rows.now row) instance.now.firsts assignment.now.residual.items sorted_arcs.new) }
     ensures passed { OnOk result (ArePassed (weights instance.now) assignment.now tree.new instance.now.firsts passed.new) }
     ensures seen { OnOk result (IsSeen (weights instance.now) assignment.now row tree.old tree.new) }
+    ensures further { OnOk result (IsFurther sorted_arcs.old sorted_arcs.new) }
+    ensures free_end { OnOk result (tree.new.labels.free_end ≡ tree.old.labels.free_end) }
 {
-    find_free_class_of(instance, assignment, sorted_arcs, tree, row)?;
     let limit = limit_of(&assignment.values, tree.labels.free_end, row);
     sorted_arcs.block_arcs(&instance.firsts, limit)?;
     label_arcs(instance, assignment, sorted_arcs, passed, tree, row, limit)
@@ -430,6 +434,7 @@ pub(crate) fn find_free_class(
     ensures arcs_by_kind { OnOk result (AreSortedArcs instance.now assignment.now.residual.items arcs_by_kind.new) }
     ensures better { OnOk result (IsBetter (weights instance.now) assignment.now tree.old tree.new) }
     ensures free_end { IfOk result (λ found. IfSome found (IsFreeEndAt0 assignment.now tree.new)) }
+    ensures sought { IfOk result (λ found. IfNone found (AreSought instance.now assignment.now tree.new arcs_by_kind.new from (length tree.new.reached_rows.order.items))) }
 {
     for at in from..tree.reached_rows.order.len() {
         let row = tree.reached_rows.order[at];
@@ -456,7 +461,9 @@ pub(crate) fn find_free_class_of(
     requires sorted_arcs { IsSortedArcs (weights instance.now row) (offers_of instance.now.rows.now row) instance.now.firsts assignment.now.residual.items sorted_arcs.old }
     ensures sorted_arcs { OnOk result (IsSortedArcs (weights instance.now row) (offers_of instance.now.rows.now row) instance.now.firsts assignment.now.residual.items sorted_arcs.new) }
     ensures better { OnOk result (IsBetter (weights instance.now) assignment.now tree.old tree.new) }
-    ensures scanned { OnOk result ((limit : Option ℕ) → IsLimit assignment.now.values.items row tree.new.labels.free_end limit → IsScanned (weights instance.now row) sorted_arcs.new limit) }
+    ensures sought { OnOk result (IsSought (weights instance.now row) assignment.now.values.items row tree.new.labels.free_end sorted_arcs.new) }
+    ensures further { OnOk result (IsFurther sorted_arcs.old sorted_arcs.new) }
+    ensures nearer { OnOk result (IsNoFurther assignment.now.values.items tree.old.labels.free_end tree.new.labels.free_end) }
 {
     let limit = limit_of(&assignment.values, tree.labels.free_end, row);
     let found = nearest_free_class(instance, assignment, sorted_arcs, row, limit)?;
@@ -476,6 +483,7 @@ fn nearest_free_class(
     requires sorted_arcs { IsSortedArcs (weights instance.now row) (offers_of instance.now.rows.now row) instance.now.firsts assignment.now.residual.items sorted_arcs.old }
     ensures sorted_arcs { OnOk result (IsSortedArcs (weights instance.now row) (offers_of instance.now.rows.now row) instance.now.firsts assignment.now.residual.items sorted_arcs.new) }
     ensures found { IfOk result (λ found. IsFoundFreeEnd (weights instance.now row) assignment.now.residual.items limit sorted_arcs.new found) }
+    ensures further { OnOk result (IsFurther sorted_arcs.old sorted_arcs.new) }
 {
     let asked = &instance.rows[row];
     let found = sorted_arcs.nearest_free_class(

@@ -1,12 +1,12 @@
 -- One set, split by the weights of a row.
-use Rattle.std.proofs.Common.{◌≡◌, ℕ, zero, suc, ◌+◌, ◌-◌, ◌<◌, ◌≤◌, Bool, true, false, cond, not, ◌&&◌, List, [], ◌∷◌, ◌++◌, length, take, get_or, refl, sym, ap, subst, ◌∙◌, inl, inr, arith}
+use Rattle.std.proofs.Common.{◌≡◌, ℕ, zero, suc, ◌+◌, ◌-◌, ◌<◌, ◌≤◌, Bool, true, false, cond, not, ◌&&◌, List, [], ◌∷◌, ◌++◌, Option, Some, None, MatchOption, length, take, get_or, refl, sym, ap, subst, ◌∙◌, inl, inr, arith}
 use Rattle.std.specs.FinSet as set
 use Rattle.std.specs.List.{All}
 use Rattle.std.proofs.lemmas.Bool.{cases_lt, true≢false, false≢true, and_from, not-true}
 use Rattle.std.proofs.lemmas.List.{length-take, take-take, get_or-take}
 use Rattle.std.proofs.lemmas.List.Sums.{sum_by_push}
 use Rattle.std.proofs.lemmas.List.Elements.{All-more, All-take, All-push}
-use Rattle.cpu_set.specs.Ids.{Ids, NoneFrom}
+use Rattle.cpu_set.specs.Ids.{Ids, NoneFrom, IsFirstFrom}
 use Rattle.cpu_set.specs.Members.{IsCpu, InRange}
 use Rattle.cpu_set.specs.Pointwise.{contains-intersection, contains-difference}
 use Rattle.certificate.specs.Tests.{and_left, and_right}
@@ -79,7 +79,7 @@ splitting_end rows k part rest parts_old alone_old parts_new alone_new splitting
 abbrev pub IsAlike : RowView → ℕ → Ids → Ids → Type 0
 IsAlike row cpu rest piece = (q : ℕ) → set.contains piece q ≡ (set.contains rest q && is_same_weight (weight row cpu) (weight row q))
 
-in_piece : (row : RowView) (cpu : ℕ) (rest piece : Ids) → IsAlike row cpu rest piece → (q : ℕ) → set.contains piece q ≡ true
+pub in_piece : (row : RowView) (cpu : ℕ) (rest piece : Ids) → IsAlike row cpu rest piece → (q : ℕ) → set.contains piece q ≡ true
     → (set.contains rest q ≡ true) × (weight row cpu ≡ weight row q)
 in_piece row cpu rest piece alike q has =
     let e = sym (alike q) ∙ has in
@@ -224,3 +224,34 @@ unsplit rows k row part parts alone parts_new lt is is_part all lone same added 
       alike = λ a b in_a in_b. twins_more rows k a b row lt is (is_part.alike a b in_a in_b) (same a b in_a in_b);
       whole = λ a b in_a twins offered. is_part.whole a b in_a (twins_before rows k (k + 1) a b (omega arith) twins) offered;
     }
+
+-- no member is below the first one
+pub not_below : (s : Ids) (first : ℕ) → IsFirstFrom s 0 first → (q : ℕ) → set.contains s q ≡ true → first ≤ q
+not_below s first is q on = elim (cases_lt q first) [ inl below ↦ absurd (true≢false (sym on ∙ is.least q (omega arith) below)) | inr le ↦ le ]
+
+-- what is left behind the piece that has the first CPU is above it
+pub left_above : (row : RowView) (cpu : ℕ) (rest piece rest_new : Ids) → IsFirstFrom rest 0 cpu → IsAlike row cpu rest piece → rest_new ≡ set.difference rest piece → (q : ℕ) → set.contains rest_new q ≡ true → cpu < q
+left_above row cpu rest piece rest_new first alike left q on = elim (cases_lt cpu q) [ inl lt ↦ lt | inr le ↦ absurd (at_first (omega (arith, le, not_below rest cpu first q (and_left _ _ both)))) ]
+  where
+    both : (set.contains rest q && not (set.contains piece q)) ≡ true
+    both = sym (ap (λ s. set.contains s q) left ∙ contains-difference rest piece q) ∙ on
+
+    at_first : q ≡ cpu → ⊥
+    at_first e = true≢false (sym (to_piece row cpu rest piece alike cpu first.member refl) ∙ subst (λ x. set.contains piece x ≡ false) e (not-true (set.contains piece q) (and_right (set.contains rest q) (not (set.contains piece q)) both)))
+
+-- where all members are above a CPU, the first one above it is the first of all
+pub first_at_all : (s : Ids) (below : ℕ) (next : Option ℕ) → ((q : ℕ) → set.contains s q ≡ true → below < q) → MatchOption next (NoneFrom s (below + 1)) (λ n. IsFirstFrom s (below + 1) n) → MatchOption next (NoneFrom s 0) (λ n. IsFirstFrom s 0 n)
+first_at_all s below None above none = λ q le. not_is (set.contains s q) (λ on. true≢false (sym on ∙ none q (omega (arith, above q on))))
+  where
+    not_is : (b : Bool) → (b ≡ true → ⊥) → b ≡ false
+    not_is true never = absurd (never refl)
+    not_is false never = refl
+first_at_all s below (Some n) above first = record {
+  above = omega arith;
+  member = first.member;
+  least = λ q le lt. not_is (set.contains s q) (λ on. true≢false (sym on ∙ first.least q (omega (arith, above q on)) lt));
+}
+  where
+    not_is : (b : Bool) → (b ≡ true → ⊥) → b ≡ false
+    not_is true never = absurd (never refl)
+    not_is false never = refl

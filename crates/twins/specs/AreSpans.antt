@@ -1,5 +1,5 @@
 -- Ranges of CPUs, each of one weight to a row.
-use Rattle.std.specs.Prelude.{◌≡◌, ℕ, ◌<◌, ◌≤◌, true, Some, None, List, All, is_some, length, slice_index_or}
+use Rattle.std.specs.Prelude.{◌≡◌, ℕ, ◌<◌, ◌≤◌, true, Option, Some, None, List, All, is_some, length, slice_index_or}
 use Rattle.std.specs.FinSet as set
 use Rattle.cpu_set.specs.Ids.{Ids}
 use Rattle.certificate.specs.Weight.{weight_in}
@@ -29,3 +29,9 @@ pub record AreSpans (offers : List Offer) (spans : Spans) : Type 0 where
 abbrev pub AreAlike : List Offer → Ids → Type 0
 AreAlike offers cpus =
     (a b : ℕ) → set.contains cpus a ≡ true → set.contains cpus b ≡ true → weight_in offers a ≡ weight_in offers b
+
+-- the set at the place has the CPUs of the weight that the CPU has; it has none where there is no place
+abbrev pub IsPlaceOf : List Offer → Spans → ℕ → Option ℕ → Type 0
+IsPlaceOf offers spans cpu None = weight_in offers cpu ≡ None
+IsPlaceOf offers spans cpu (Some place) =
+    (place < length spans.sets.items) × ((q : ℕ) → set.contains (slice_index_or spans.sets.items place set.empty) q ≡ is_same_weight (weight_in offers cpu) (weight_in offers q))

@@ -8,7 +8,7 @@ ghost use Rattle.certificate.specs.Limits.{offers_fit};
 ghost use Rattle.certificate.specs.declared.rows.Offer.{Offer};
 ghost use Rattle.twins.specs.IsPart.{is_same_weight};
 ghost use Rattle.twins.specs.PartsView.{AreBounds};
-ghost use Rattle.twins.specs.AreSpans.{IsSpan, IsMade, AreSpans, AreAlike};
+ghost use Rattle.twins.specs.AreSpans.{IsSpan, IsMade, AreSpans, AreAlike, IsPlaceOf};
 
 use crate::spans::{Span, Spans};
 use certificate::Offers;
@@ -99,30 +99,40 @@ fn have_weight(
     Ok(cpus.is_subset(&spans.sets[place]))
 }
 
-/// Those of some CPUs that have the weight of one of them, or that have none as it has none.
+/// Where the set of all CPUs stands that have the weight of one, if it has a weight.
 ///
 /// # Errors
 /// An allocation failure.
-pub(crate) fn alike(
+pub(crate) fn place_of_alike(
     offers: &Offers,
     spans: &mut Spans,
     cpu: u16,
-    among: &IdSet,
-) -> Result<IdSet, AllocError>
+) -> Result<Option<usize>, AllocError>
     requires fit { IsTrue (offers_fit offers.now) }
     requires spans { AreSpans offers.now spans.old }
-    ensures alike { IfOk result (λ cpus. (q : ℕ) → set.contains cpus q
-        ≡ (set.contains among.now q && is_same_weight (weight_in offers.now cpu) (weight_in offers.now q))) }
+    ensures place { IfOk result (IsPlaceOf offers.now spans.new cpu) }
     ensures spans { OnOk result (AreSpans offers.now spans.new) }
 {
     let Some(weight) = weight_of(offers, spans, cpu) else {
-        return Ok(among.minus(spans.cpus()));
+        return Ok(None);
     };
     let Some(at) = offer_of_weight(offers, weight) else {
         unreachable!()
     };
     let place = place_of_set(offers, spans, at)?;
-    Ok(among.meet(&spans.sets[place]))
+    Ok(Some(place))
+}
+
+/// Those of some CPUs that are in the set at a place, or, where there is none, that have no weight.
+pub(crate) fn alike(spans: &Spans, place: Option<usize>, among: &IdSet) -> IdSet
+    requires { IfSome place (λ at. at < length spans.now.sets.items) }
+    ensures { (offers : List Offer) (cpu q : ℕ) → AreSpans offers spans.now → IsPlaceOf offers spans.now cpu place
+        → set.contains result q ≡ (set.contains among.now q && is_same_weight (weight_in offers cpu) (weight_in offers q)) }
+{
+    match place {
+        Some(place) => among.meet(&spans.sets[place]),
+        None => among.minus(spans.cpus()),
+    }
 }
 
 /// The weight of a CPU, by its range where that is known.

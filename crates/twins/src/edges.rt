@@ -1,11 +1,13 @@
 //! Runs of CPUs that no row tells apart, and the edges between them.
 ghost use Rattle.std.specs.Prelude.{◌≡◌, ℕ, ◌+◌, ◌<◌, ◌&&◌, true, false, nat_le, All, IsTrue, length};
 ghost use Rattle.std.specs.FinSet as set;
+ghost use Rattle.cpu_set.specs.Ids.{Ids};
 ghost use Rattle.cpu_set.specs.Members.{IsCpu};
 ghost use Rattle.cpu_set.specs.Ranges.{in_ranges};
 ghost use Rattle.certificate.specs.Weight.{weight_in};
 ghost use Rattle.twins.specs.Edges.{AreEdges, IsRun};
 ghost use Rattle.twins.specs.Kinds.{AreKinds};
+ghost use Rattle.twins.specs.PartsView.{AreBounds};
 
 use certificate::{Offers, Row};
 use cpu_set::{CPU_LIMIT, IdSet};
@@ -76,15 +78,12 @@ fn add(edges: &mut IdSet, cpu: u16)
     edges.insert(cpu);
 }
 
-/// Whether some CPUs lie in one run: no edge is above one of them and not above another.
-pub(crate) fn are_in_one_run(cpus: &IdSet, edges: &IdSet) -> bool
-    ensures { IsTrue result → IsRun edges.now cpus.now }
+/// Whether CPUs from a first up to a last lie in one run: no edge is above the first and not above the last.
+pub(crate) fn are_in_one_run(first: u16, last: u16, edges: &IdSet) -> bool
+    ensures { (cpus : Ids) → IsTrue result → AreBounds cpus first last → IsRun edges.now cpus }
 {
-    let Some(first) = cpus.first() else {
-        return true;
-    };
     match edges.next_after(first) {
-        Some(edge) => cpus.next_after(edge - 1).is_none(),
+        Some(edge) => last < edge,
         None => true,
     }
 }

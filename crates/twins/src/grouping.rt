@@ -1,7 +1,9 @@
 //! Classes of twins, by splitting sets of CPUs row by row.
-ghost use Rattle.std.specs.Prelude.{◌≡◌, ℕ, ◌<◌, ◌≤◌, ◌+◌, ◌++◌, [], IsTrue, IfOk, OnOk, All, length, slice_index_or};
+ghost use Rattle.std.specs.Prelude.{◌≡◌, ℕ, ◌<◌, ◌≤◌, ◌+◌, ◌++◌, [], true, IsTrue, IfOk, OnOk, IfSome, MatchOption, All, length, slice_index_or};
 ghost use Rattle.std.specs.List.{list_all};
 ghost use Rattle.std.specs.FinSet as set;
+ghost use Rattle.cpu_set.specs.Ids.{NoneFrom, IsFirstFrom};
+ghost use Rattle.cpu_set.specs.Members.{IsCpu};
 ghost use Rattle.certificate.specs.RowView.{RowView};
 ghost use Rattle.certificate.specs.Limits.{row_fits};
 ghost use Rattle.certificate.specs.IsShortage.{is_offered};
@@ -10,13 +12,14 @@ ghost use Rattle.twins.specs.Kinds.{AreKinds};
 ghost use Rattle.twins.specs.RowCpus.{AreCpusOf, AreRowCpus};
 ghost use Rattle.twins.specs.Edges.{AreEdges};
 ghost use Rattle.twins.specs.AreSpans.{AreSpans};
+ghost use Rattle.twins.specs.PartsView.{AreBounds};
 ghost use Rattle.twins.specs.Settled.{AreOnce, IsSettling};
 ghost use Rattle.twins.specs.IsPart.{IsPart, IsUnsplit, ArePieces, IsSplit, IsPutTo};
 
 use crate::Classes;
-use crate::alike::{alike, are_alike};
+use crate::alike::{alike, are_alike, place_of_alike};
 use crate::edges::{are_in_one_run, edges_of};
-use crate::parts::Parts;
+use crate::parts::{Parts, bounds_of, last_up_to};
 use crate::settling::Settling;
 use crate::spans::Spans;
 use certificate::{Offers, Problem, Row};
@@ -55,18 +58,20 @@ fn group_body(alloc: Global, rows: &[Row], kinds: &[usize]) -> Result<Vec<IdSet>
     let mut parts = unsplit(alloc, &offered)?;
     let mut spans = Spans::new(alloc)?;
     let mut settling = Settling::new(once, offered.count(), runs);
+    let mut kind = 0;
     for k in 0..rows.len() {
         if kinds[k] == k {
             split_all(
                 rows,
                 k,
-                &sets[k],
+                &sets[kind],
                 &mut parts,
                 &mut spans,
                 &edges,
                 &mut settling,
                 &mut alone,
             )?;
+            kind += 1;
         }
     }
     add_open(&parts, &mut alone)?;
@@ -92,13 +97,14 @@ fn unsplit(alloc: Global, all: &IdSet) -> Result<Parts, AllocError>
     if all.count() == 0 {
         return Ok(parts);
     }
-    parts.add(all)?;
+    let (first, last) = bounds_of(all);
+    parts.add(all, first, last)?;
     parts.turn();
     Ok(parts)
 }
 
 /// The CPUs with a weight in some row, and those for which rows of one kind alone have one. A row of the kind of an earlier
-/// one adds none. The CPUs of each other row are put into the list of sets, since they are asked for again.
+/// one adds none. The CPUs of each other row are put into the list of sets, in order, since they are asked for again.
 fn offered_cpus(
     rows: &[Row],
     kinds: &[usize],
@@ -113,14 +119,13 @@ fn offered_cpus(
     let mut offered = IdSet::empty();
     let mut twice = IdSet::empty();
     for k in 0..rows.len() {
-        let mut cpus = IdSet::empty();
         if kinds[k] == k {
             let row = &rows[k];
-            cpus = row.offers.cpus();
+            let cpus = row.offers.cpus();
             twice = twice.union(&offered.meet(&cpus));
             offered = offered.union(&cpus);
+            sets.push(cpus)?;
         }
-        sets.push(cpus)?;
     }
     Ok((offered, offered.minus(&twice)))
 }
@@ -241,30 +246,50 @@ fn split_apart(
     ensures spans { OnOk result (AreSpans offers.now spans.new) }
     ensures settling { OnOk result (IsSettling rows.now k settling.new) }
 {
+    let (_, last) = parts.bounds(at);
     let mut rest = *parts.cpus(at);
-    while let Some(cpu) = rest.first() {
-        let piece = alike(offers, spans, cpu, &rest)?;
-        put(&piece, edges, parts, alone)?;
+    let mut next = rest.first();
+    while let Some(cpu) = next {
+        let place = place_of_alike(offers, spans, cpu)?;
+        let piece = alike(spans, place, &rest);
+        put(&piece, cpu, last, edges, parts, alone)?;
         settling.note(spans, cpu, &piece);
         rest = rest.minus(&piece);
+        next = first_above(&rest, cpu);
     }
     Ok(())
 }
 
-/// Adds a set to those that may be split, or to those of one run.
+/// The first of some CPUs, which are all above this one.
+fn first_above(cpus: &IdSet, below: u16) -> Option<u16>
+    requires { (cpu : ℕ) → set.contains cpus.now cpu ≡ true → below < cpu }
+    ensures first { MatchOption result (NoneFrom cpus.now 0) (λ n. IsFirstFrom cpus.now 0 n) }
+    ensures in_range { IfSome result (λ n. IsCpu n) }
+{
+    if cpus.is_empty() {
+        return None;
+    }
+    cpus.next_after(below)
+}
+
+/// Adds a set, whose CPUs lie from its first one up to another, to those that may be split, or to those of one run.
 fn put(
     piece: &IdSet,
+    first: u16,
+    upto: u16,
     edges: &IdSet,
     parts: &mut Parts,
     alone: &mut Vec<IdSet>,
 ) -> Result<(), AllocError>
+    requires { AreBounds piece.now first upto }
     ensures waiting { OnOk result (parts.new.waiting ≡ parts.old.waiting) }
     ensures put { OnOk result (IsPutTo edges.now piece.now parts.old.done alone.old.items parts.new.done alone.new.items) }
 {
-    if are_in_one_run(piece, edges) {
+    let last = last_up_to(piece, upto);
+    if are_in_one_run(first, last, edges) {
         alone.push(*piece)?;
     } else {
-        parts.add(piece)?;
+        parts.add(piece, first, last)?;
     }
     Ok(())
 }

@@ -8,6 +8,9 @@ use std::alloc::{AllocError, Global};
 use std::marker::Model;
 use std::mem;
 
+/// At how many CPUs the last one of a set is sought before it is read off the words.
+const FEW_CPUS: u32 = 8;
+
 /// A set of CPUs by its place, with its first CPU and its last one.
 #[derive(Clone, Copy)]
 pub(crate) struct Part {
@@ -90,16 +93,17 @@ impl Parts {
         Ok(())
     }
 
-    /// Adds a set that was split off.
+    /// Adds a set that was split off, with a first CPU and a last one between which its CPUs lie.
     ///
     /// # Errors
     /// An allocation failure.
-    pub(crate) fn add(&mut self, cpus: &IdSet) -> Result<(), AllocError>
+    pub(crate) fn add(&mut self, cpus: &IdSet, first: u16, last: u16) -> Result<(), AllocError>
+        requires { AreBounds cpus.now first last }
         ensures { OnOk result (IsAdded cpus.now self.old self.new) }
     {
-        let part = part_of(self.sets.len(), cpus);
+        let place = self.sets.len();
         self.sets.push(*cpus)?;
-        self.done.push(part)?;
+        self.done.push(Part { place, first, last })?;
         Ok(())
     }
 
@@ -113,14 +117,24 @@ impl Parts {
     }
 }
 
-/// The part of a set that is put at this place.
-fn part_of(place: usize, cpus: &IdSet) -> Part
-    ensures place { result.place ≡ place }
-    ensures bounds { AreBounds cpus.now result.first result.last }
+/// The last of some CPUs, of which none is above this one.
+pub(crate) fn last_up_to(cpus: &IdSet, upto: u16) -> u16
+    requires { (cpu : ℕ) → set.contains cpus.now cpu ≡ true → cpu ≤ upto }
+    ensures { (cpu : ℕ) → set.contains cpus.now cpu ≡ true → cpu ≤ result }
 {
-    Part {
-        place,
-        first: cpus.first().unwrap_or(0),
-        last: cpus.last().unwrap_or(0),
+    let mut last = upto;
+    for _ in 0..FEW_CPUS {
+        if last == 0 || cpus.contains(last) {
+            return last;
+        }
+        last -= 1;
     }
+    cpus.last().unwrap_or(0)
+}
+
+/// The first and the last of some CPUs.
+pub(crate) fn bounds_of(cpus: &IdSet) -> (u16, u16)
+    ensures { AreBounds cpus.now result.0 result.1 }
+{
+    (cpus.first().unwrap_or(0), cpus.last().unwrap_or(0))
 }

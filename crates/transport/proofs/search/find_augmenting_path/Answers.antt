@@ -1,4 +1,4 @@
-use Rattle.std.proofs.Common.{◌≡◌, ◌-◌, ◌<◌, ◌≤◌, length, inl, inr, refl, sym, ap, ◌∙◌, subst, arith}
+use Rattle.std.proofs.Common.{◌≡◌, ◌-◌, ◌<◌, ◌≤◌, IfNone, length, inl, inr, refl, sym, ap, ◌∙◌, subst, arith}
 use Rattle.cpu_set.specs.Pointwise.{contains-empty}
 use Rattle.transport.specs.Blocks.{AreFirstsOfTaken, AreTakenFirsts, AreNoted}
 use Rattle.transport.proofs.Blocks.{taken_firsts_more, taken_firsts_kept, noted_kept}
@@ -7,6 +7,7 @@ use Rattle.transport.specs.States.{IsRunning, HasScanned, IsLeastOf, IsLeastUpTo
 use Rattle.transport.specs.declared.tree.ReachedRows.{ReachedRows}
 use Rattle.transport.specs.declared.tree.TreeClasses.{TreeClasses}
 use Rattle.transport.specs.Scans.{IsBetter}
+use Rattle.transport.specs.Sought.{AreSought}
 use Rattle.transport.specs.Weights.{weights}
 use Rattle.transport.proofs.Labelling.{with_nearest, better_listed, better_more, scanned_better}
 use Rattle.transport.proofs.LeastSlack.{least_some}
@@ -63,6 +64,7 @@ scan_rows-requires c =
       from = rw b.reached_rows c.steps.invariant.from;
       scanned = scanned_better _ _ _ _ _ b c.steps.invariant.scanned;
       taken = noted (goal.at.scan_rows-requires c).After-note_taken-noted;
+      sought = subst (λ found. IfNone found (AreSought c.args.instance.now c.steps.assignment c.find_free_class.new.tree c.find_free_class.new.arcs_by_kind c.steps.scanned (length c.find_free_class.new.tree.reached_rows.order.items))) c.in_default.is c.in_ok-free_end.ensures.sought;
     }
 
 pub returns-in_default-least-clause-answer : goal.returns-in_default-least-clause-answer

@@ -1,16 +1,21 @@
-use Rattle.std.proofs.Common.{◌≡◌, ◌<◌, true, length, ap, arith}
-use Rattle.transport.specs.ReachedRows.{is_reached}
+use Rattle.std.proofs.Common.{◌≡◌, ◌<◌, true, length, ap, subst, arith}
+use Rattle.transport.specs.ReachedRows.{is_reached, row_at}
 use Rattle.transport.specs.declared.tree.ReachedRows.{ReachedRows}
+use Rattle.transport.specs.Sought.{AreSought}
+use Rattle.transport.proofs.Seeking.{sought_more}
 use Rattle.transport.proofs.Labelling.{better_same, better_more}
 use Rattle.transport.proofs.Scanning.{row_read, row_in, arcs_of_kind, kind_in, all_sorted_set}
 use Rattle.transport.proofs.search.find_free_class.Goals as goal
 use Rattle.transport.proofs.search.find_free_class.Goals.{After-index-row}
 
 pub loop-at-init : goal.loop-at-init
-loop-at-init c = record { arcs_by_kind = c.requires.arcs_by_kind; better = better_same _ _ _ c.requires.running }
+loop-at-init c = record { arcs_by_kind = c.requires.arcs_by_kind; better = better_same _ _ _ c.requires.running; sought = λ i d above below. absurd (omega (arith, above, below)) }
 
 in_order : (c : After-index-row) → c.loop-at.at < length c.loop-at.tree.reached_rows.order.items
 in_order c = omega (arith, c.loop-at-test.true, c.len-at-end.ensures, c.args.tree.now.reached_rows.order.ok.0, ap (λ (q : ReachedRows). length q.order.items) c.loop-at.invariant.better.reached_rows)
+
+at_place : (c : After-index-row) → row_at c.loop-at.tree.reached_rows c.loop-at.at ≡ c.index-row.result.now
+at_place c = (row_read _ _ c.loop-at.tree c.loop-at.at c.index-row.result.now c.loop-at.invariant.better.running (in_order c) c.index-row.ensures).0
 
 reached : (c : After-index-row) → is_reached c.loop-at.tree.reached_rows c.index-row.result.now ≡ true
 reached c = (row_read _ _ c.loop-at.tree c.loop-at.at c.index-row.result.now c.loop-at.invariant.better.running (in_order c) c.index-row.ensures).1
@@ -60,4 +65,18 @@ pub loop-at-preserved : goal.loop-at-preserved
 loop-at-preserved c = record {
   arcs_by_kind = all_sorted_set _ _ _ _ _ c.loop-at.invariant.arcs_by_kind (in_arcs (goal.at.loop-at-preserved c).After-index-row) c.in_ok-find_free_class_of.ensures.sorted_arcs;
   better = better_more _ _ _ _ _ c.loop-at.invariant.better c.in_ok-find_free_class_of.ensures.better;
+  sought = (let i = (goal.at.loop-at-preserved c).After-index-row in
+      let e = c.in_ok-find_free_class_of.ensures in
+      sought_more c.args.instance.now c.args.assignment.now c.loop-at.tree c.find_free_class_of.new.tree c.loop-at.arcs_by_kind c.index-row.result.now _ _ e.better.reached_rows e.nearer (kind_in _ _ _ _ c.loop-at.invariant.arcs_by_kind (in_arcs i)) _ c.loop-at.at (at_place i) e.further e.sought c.loop-at.invariant.sought);
 }
+
+pub returns : goal.returns
+returns c =
+    let e : c.loop-at.at ≡ length c.loop-at.tree.reached_rows.order.items =
+    omega (arith, c.loop-at-test.false, c.loop-at.auto.at-end, c.requires.from, c.len-at-end.ensures, c.args.tree.now.reached_rows.order.ok.0, ap (λ (q : ReachedRows). length q.order.items) c.loop-at.invariant.better.reached_rows) in
+    record {
+      arcs_by_kind = c.loop-at.invariant.arcs_by_kind;
+      better = c.loop-at.invariant.better;
+      free_end = tt;
+      sought = subst (λ n. AreSought c.args.instance.now c.args.assignment.now c.loop-at.tree c.loop-at.arcs_by_kind c.args.from n) e c.loop-at.invariant.sought;
+    }

@@ -4,6 +4,7 @@ use Rattle.transport.specs.Weights.{weights}
 use Rattle.transport.specs.Scans.{CanLimit, IsLimit, IsBetter}
 use Rattle.transport.specs.declared.tree.SearchTree.{SearchTree}
 use Rattle.transport.proofs.Scanning.{can_limit, free_end_better, free_end_scanned}
+use Rattle.transport.proofs.Seeking.{no_further_found}
 use Rattle.transport.proofs.search.find_free_class_of.Goals as goal
 use Rattle.transport.proofs.search.find_free_class_of.Goals.{After-label_free_end}
 
@@ -32,4 +33,11 @@ pub returns : goal.returns
 unfolding new
 returns c =
     let i = (goal.at.returns c).After-label_free_end in
-    record { sorted_arcs = c.in_ok-found.ensures.sorted_arcs; better = better i; scanned = scanned i }
+    record {
+      sorted_arcs = c.in_ok-found.ensures.sorted_arcs;
+      better = better i;
+      sought = scanned i;
+      further = c.in_ok-found.ensures.further;
+      nearer = no_further_found (weights c.args.instance.now c.args.row) _ _ c.args.tree.now.labels c.label_free_end.new.labels c.args.row c.nearest_free_class.new.sorted_arcs c.limit_of-limit.result c.in_ok-found.found
+          (limit_old i) c.in_ok-found.ensures.found c.label_free_end.ensures;
+    }

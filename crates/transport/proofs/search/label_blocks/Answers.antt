@@ -1,5 +1,4 @@
-use Rattle.std.proofs.Common.{◌≡◌, ◌<◌, length, refl, arith}
-use Rattle.std.specs.FinSet as set
+use Rattle.std.proofs.Common.{◌<◌, length, arith}
 use Rattle.transport.proofs.Labelling.{limit_same, past_of}
 use Rattle.transport.proofs.Blocks.{blocks_start, blocks_labelled, blocks_past, blocks_all, block_can, not_past}
 use Rattle.transport.proofs.search.label_blocks.Goals as goal

@@ -1,5 +1,5 @@
 use Rattle.std.proofs.Common.{ℕ, Option}
-use Rattle.transport.specs.Scans.{CanLabelArcs, HasLabelledFrom, IsLimit, IsBoundOf}
+use Rattle.transport.specs.Scans.{CanLabelArcs, HasLabelledFrom}
 use Rattle.transport.proofs.search.label_others.Given as goal
 
 abbrev pub invariant-loop-at : goal.invariant-loop-at

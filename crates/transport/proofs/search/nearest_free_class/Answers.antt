@@ -18,4 +18,5 @@ returns c =
     record {
       sorted_arcs = sorted_back ws _ _ _ _ _ _ _ e refl c.deref.ensures.value (c.in_ok-found.ensures.sorted_arcs ws old);
       found = subst (λ f. IsFoundFreeEnd ws f c.args.limit c.nearest_free_class.new.self c.in_ok-found.found) c.deref.ensures.value (c.in_ok-found.ensures.found ws old);
+      further = c.in_ok-found.ensures.further;
     }

@@ -5,12 +5,13 @@ use Rattle.transport.specs.States.{HasScanned}
 use Rattle.transport.specs.declared.tree.ReachedRows.{ReachedRows}
 use Rattle.transport.proofs.Labelling.{better_same, better_more}
 use Rattle.transport.proofs.Blocks.{passed_start}
+use Rattle.transport.proofs.Seeking.{no_further_is, sought_at, sought_kept}
 use Rattle.transport.proofs.Scanning.{scanned_more, row_read, row_in, arcs_of_kind, kind_in, all_sorted_set}
 use Rattle.transport.proofs.search.scan_rows.Goals as goal
 use Rattle.transport.proofs.search.scan_rows.Goals.{After-index-row}
 
 pub loop-at-init : goal.loop-at-init
-loop-at-init c = record { arcs_by_kind = c.requires.arcs_by_kind; better = better_same _ _ _ c.requires.running; passed = passed_start _ _ _ _ _ c.requires.taken; scanned = c.requires.scanned }
+loop-at-init c = record { arcs_by_kind = c.requires.arcs_by_kind; better = better_same _ _ _ c.requires.running; passed = passed_start _ _ _ _ _ c.requires.taken; sought = c.requires.sought; scanned = c.requires.scanned }
 
 in_order : (c : After-index-row) → c.loop-at.at < length c.loop-at.tree.reached_rows.order.items
 in_order c = omega (arith, c.loop-at-test.true, c.len-at-end.ensures, c.args.tree.now.reached_rows.order.ok.0, ap (λ (q : ReachedRows). length q.order.items) c.loop-at.invariant.better.reached_rows)
@@ -51,6 +52,7 @@ scan_row-requires c =
       there = (read i).1;
       sorted_arcs = arcs_of_kind _ _ _ _ _ c.loop-at.invariant.arcs_by_kind (in_arcs i);
       passed = c.loop-at.invariant.passed;
+      sought = sought_at c.args.instance.now c.args.assignment.now c.loop-at.tree c.loop-at.arcs_by_kind c.args.from (length c.args.tree.now.reached_rows.order.items) c.loop-at.at c.index-row.result.now _ c.loop-at.invariant.sought (omega arith) (omega (arith, c.loop-at-test.true, c.len-at-end.ensures, c.args.tree.now.reached_rows.order.ok.0)) (read i).0;
     }
 
 pub loop-at-preserved : goal.loop-at-preserved
@@ -61,6 +63,7 @@ loop-at-preserved c =
       arcs_by_kind = all_sorted_set _ _ _ _ _ c.loop-at.invariant.arcs_by_kind (in_arcs i) c.in_ok-scan_row.ensures.sorted_arcs;
       better = better_more _ _ _ _ _ c.loop-at.invariant.better seen.better;
       passed = c.in_ok-scan_row.ensures.passed;
+      sought = sought_kept c.args.instance.now c.args.assignment.now c.loop-at.tree c.scan_row.new.tree c.loop-at.arcs_by_kind c.index-row.result.now _ _ seen.better.reached_rows (no_further_is _ _ _ c.in_ok-scan_row.ensures.free_end) (kind_in _ _ _ _ c.loop-at.invariant.arcs_by_kind (in_arcs i)) _ _ c.in_ok-scan_row.ensures.further c.loop-at.invariant.sought;
       scanned = scanned_more _ _ _ _ _ c.loop-at.at c.loop-at.invariant.better.running (read i).0 seen c.loop-at.invariant.scanned;
     }
 

@@ -8,11 +8,11 @@ use Rattle.certificate.specs.declared.rows.Offer.{Offer}
 use Rattle.certificate.specs.IsShortage.{is_offered}
 use Rattle.twins.specs.Kinds.{kind_at}
 use Rattle.twins.proofs.SameOffers.{kind_offers_none}
-use Rattle.twins.proofs.RowCpus.{row_cpus_none, row_cpus_more}
+use Rattle.twins.proofs.RowCpus.{row_cpus_none, row_cpus_more, row_cpus_same}
 use Rattle.twins.proofs.SameOffers.{own_offers}
 use Rattle.twins.proofs.SettledCpus.{counted_start, counted_more, counted_repeated, counted_once}
 use Rattle.twins.proofs.grouping.offered_cpus.Goals as goal
-use Rattle.twins.proofs.grouping.offered_cpus.Goals.{then-kinds-k, else-kinds-k}
+use Rattle.twins.proofs.grouping.offered_cpus.Goals.{then-kinds-k+in_ok-push, else-kinds-k}
 
 pub loop-k-init : goal.loop-k-init
 loop-k-init c = record {
@@ -23,7 +23,7 @@ loop-k-init c = record {
 
 pub loop-k-preserved : goal.loop-k-preserved
 loop-k-preserved c = elim c.if-kinds-k.branch [
-  | then-kinds-k w ↦ rw (w.offered-is, w.twice-is) (record {
+  | then-kinds-k+in_ok-push w ↦ rw (w.offered-is, w.twice-is, w.sets-is) (record {
     offered = λ cpu.
         ap (λ s. set.contains s cpu) w.union-offered.ensures ∙ contains-union _ _ cpu
         ∙ ap (λ b. b || set.contains w.cpus-cpus.result cpu) (c.loop-k.invariant.offered cpu)
@@ -35,17 +35,17 @@ loop-k-preserved c = elim c.if-kinds-k.branch [
         (λ cpu. w.cpus-cpus.ensures cpu ∙ ap (λ (row : RowView). is_some (weight row cpu)) w.row.view_is)
         (w.union-twice.ensures ∙ ap (λ s. set.union c.loop-k.twice s) w.meet.ensures) w.union-offered.ensures;
     sets =
-        rw (c.in_ok-push.ensures.items, w.cpus-is)
-        (row_cpus_more _ _ _ _ _ c.loop-k.invariant.sets (λ own cpu. w.cpus-cpus.ensures cpu
+        rw w.in_ok-push.ensures.items
+        (row_cpus_more _ _ _ _ _ c.loop-k.invariant.sets (omega (arith, w.if-kinds-k.true)) (λ cpu. w.cpus-cpus.ensures cpu
         ∙ ap (λ (o : List Offer). is_some (weight_in o cpu)) (ap (λ (row : RowView). row.offers) w.row.view_is ∙ own_offers _ _ _ c.loop-k-test.true w.index-rows-k.is)));
   })
-  | else-kinds-k w ↦ rw (w.offered-is, w.twice-is) (
+  | else-kinds-k w ↦ rw (w.offered-is, w.twice-is, w.sets-is) (
       let kind = c.requires.kinds.each c.loop-k.k c.loop-k-test.true in
       let earlier : kind_at c.args.kinds.now c.loop-k.k < c.loop-k.k = omega (arith, kind.no_later, w.if-kinds-k.false) in
       record {
         offered = λ cpu. c.loop-k.invariant.offered cpu ∙ sym (kind_offers_none _ _ _ _ kind earlier c.loop-k-test.true cpu);
         counted = counted_repeated _ _ _ _ _ _ kind earlier c.loop-k.invariant.counted;
-        sets = rw c.in_ok-push.ensures.items (row_cpus_more _ _ _ _ _ c.loop-k.invariant.sets (λ own. absurd (omega (arith, own, earlier))));
+        sets = row_cpus_same _ _ _ _ c.loop-k.invariant.sets earlier;
       })
 ]
 

@@ -5,5 +5,5 @@ use Rattle.twins.proofs.parts.Parts.add.Goals as goal
 pub returns : goal.returns
 returns c =
     added c.self.inside.sets.items c.push.new.self.items c.args.cpus.now c.self.inside.waiting.items c.self.inside.done.items c.push-2.new.self.items
-    c.part_of-part.result c.args.self.now c.in_ok-push.ensures.items c.in_ok-push-2.ensures.items
-    (omega (arith, c.self.inside.sets.ok.0, c.part_of-part.ensures.place, c.len.ensures)) c.self.invariant c.self.view_is
+    _ c.args.self.now c.in_ok-push.ensures.items c.in_ok-push-2.ensures.items
+    (omega (arith, c.self.inside.sets.ok.0, c.len-place.ensures)) c.self.invariant c.self.view_is
