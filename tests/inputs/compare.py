@@ -2,7 +2,8 @@
 
 An input is a line of its kind and its text, and below it stands the answer, each line behind `| `. The text has the escapes of
 Python's bytes; `<N TEXT>` is TEXT so many times, and `<FILE>` what a file of examples/ holds. `fronts A B KIND TEXT` is each
-front of the text, from A bytes to B. The kinds are explained in the tables."""
+front of the text, from A bytes to B. The kinds are explained in the tables. Besides, inputs of each command that have as many bytes
+as are read at a time, one less and one more: the last byte of each counts."""
 
 import json
 import os
@@ -18,6 +19,7 @@ from transcripts import place
 
 TABLES = ["lists", "distances", "machines", "configs", "lines", "problems", "writes"]
 MACHINE = b'{"nodes":["0-3","4-7"],"distances":[[10,21],[21,10]],"reserved":"0"}'
+SIZES = [8191, 8192, 8193]
 FAULTS = ["BrokenPipe", "Interrupted", "StorageFull", "OutOfMemory", "WriteZero"]
 CONFIG = b'{"ociVersion":"1.0.2","root":{"path":"r"},"process":{"args":["x"]},"linux":{"resources":{"cpu":%s}}}'
 
@@ -186,6 +188,13 @@ class Inputs:
             shown = [f"members {len(shown)}"] if lines[-1].startswith("short") else shown[-1:]
         return shown + [turns]
 
+    def check(self, text):
+        return answered([self.program, "check"], text)
+
+    def checked_solution(self, text):
+        done = run([self.program, "solve"], text)
+        return answered([self.program, "check"], done.stdout) if (done.returncode, done.stderr) == (0, b"") else [str(done)[:1000]]
+
     def gather(self, kind, text, answer):
         """Keeps what makes up a machine and its containers."""
         if kind == "on":
@@ -195,6 +204,42 @@ class Inputs:
         else:
             self.machines[-1].configs.append(CONFIG % text if kind == "cpu" else text)
             self.machines[-1].expected += answer
+
+
+def rows_of(size, head, held):
+    """A text of so many bytes: 100 rows, each offered a CPU of its own at 10, and the last one another at 11. The ids make it so long."""
+    for other in (9, 99):
+        wide = [10] * 100
+        while True:
+            ids = [f"r{k}".ljust(width, "x") for k, width in enumerate(wide)]
+            rows = [f"row {id} 1 10:{k + 1000}" for k, id in enumerate(ids)]
+            holds = [f"hold {id} {k + 1000} 10" for k, id in enumerate(ids)] + ["total 1000"] if held else []
+            text = "\n".join([head, *rows[:-1], f"{rows[-1]} 11:{other}", *holds, "end\n"])
+            if len(text) == size:
+                return text.encode()
+            if len(text) > size:
+                break
+            wide[wide.index(min(wide))] += 1
+
+
+def sized(tried):
+    """Inputs of each size, with their answers: whole, and without the last byte where that is needed."""
+    matrix = [" ".join("10" if j == i else "20" for j in range(90)) for i in range(90)]
+    for size in SIZES:
+        text = rows_of(size, "numarun-certificate 1", True)
+        compare(f"check of {size} bytes", tried.check(text), ["plan total 1000"])
+        compare(f"check of {size} bytes, cut", tried.check(text[:-2]), ["refused E77 BadText 203"])
+        text = rows_of(size, "numarun-problem 1", False)
+        compare(f"solve of {size} bytes", tried.checked_solution(text), ["plan total 1000"])
+        compare(f"solve of {size} bytes, cut", answered([tried.program, "solve"], text[:-2]), ["refused E77 BadText 102"])
+        table = b"SLIT" + (8144).to_bytes(4, "little") + bytes(28) + (90).to_bytes(8, "little")
+        table += b"".join(bytes(10 if j == i else 20 for j in range(90)) for i in range(90))
+        table = (table[:9] + bytes([-sum(table) % 256]) + table[10:]).ljust(size, b"\7")
+        compare(f"slit of {size} bytes", tried.slit(table), ["localities 90", *matrix])
+        text = MACHINE[:-1].ljust(size - 1) + b"}"
+        compare(f"machine of {size} bytes", tried.machine(text), ["plan total 0", "pool 0-7", "end"])
+        compare(f"machine of {size} bytes, cut", tried.machine(text[:-1]), ["refused E25 NotJson"])
+    return f"{7 * len(SIZES)} sizes"
 
 
 def main(program, tools):
@@ -209,6 +254,7 @@ def main(program, tools):
                     tried.gather(kind, text, answer)
                 else:
                     compare(text[:1000], getattr(tried, kind)(text), answer)
+        counts.append(sized(tried))
         for machine in tried.machines:
             for config, found, expected in zip(machine.configs, machine.found(tried.program), machine.expected):
                 compare((machine.text[:300], config[:1000]), found, expected)

@@ -1,6 +1,7 @@
 //! The entries looked through for the write that is due.
 ghost use Rattle.std.specs.Prelude.{◌≡◌, ◌&&◌, not, true, Some, IsTrue, IfSome, is_none, find, option_copied};
 ghost use Rattle.std.specs.Option.{option_or};
+ghost use Rattle.cpu_set.specs.Ids.{Ids};
 ghost use Rattle.cpuset_tree.specs.Groups.{has_group};
 ghost use Rattle.proctable.specs.Processes.{is_alive};
 ghost use Rattle.apply_plan.specs.Kept.{kept};
@@ -47,9 +48,6 @@ fn keeps_all(reserved: &IdSet, target: &IdSet, held: &IdSet) -> bool
 fn release_from(reserved: &IdSet, entry: &Entry, held: &IdSet) -> Option<Write>
     ensures { result ≡ release_from reserved.now entry.now held.now }
 {
-    if keeps_all(reserved, &entry.target, held) {
-        return None;
-    }
     let kept = kept_of(reserved, &entry.target, held);
     if kept == *held {
         return None;
@@ -58,6 +56,16 @@ fn release_from(reserved: &IdSet, entry: &Entry, held: &IdSet) -> Option<Write>
         group: entry.group,
         cpus: kept,
     })
+}
+
+/// The same, for a look at containers of which most keep all: that takes one set less to see.
+fn release_if_some(reserved: &IdSet, entry: &Entry, held: &IdSet) -> Option<Write>
+    ensures { result ≡ release_from reserved.now entry.now held.now }
+{
+    if keeps_all(reserved, &entry.target, held) {
+        return None;
+    }
+    release_from(reserved, entry, held)
 }
 
 /// Whether the container has ended, where that is asked.
@@ -70,28 +78,23 @@ fn has_ended<K: Kernel>(kernel: &K, entry: &Entry, asked: bool) -> bool
     asked && !kernel.first_alive(entry.pid)
 }
 
-/// The write by which a live container lets go of what it is not to have, where it holds any of that. Whether the one before it
-/// has ended is told, and then whether this one was seen to have.
-pub fn release_of<K: Kernel>(
-    kernel: &K,
-    reserved: &IdSet,
-    entry: &Entry,
-    ended: &mut bool,
-) -> Option<Write>
+/// Whether a container that requests these CPUs is seen to keep them: they are its target.
+fn holds_target(target: &IdSet, held: &IdSet) -> bool
+    ensures { IsTrue result → (reserved : Ids) → kept reserved target.now held.now ≡ held.now }
+{
+    held == target && !held.is_empty()
+}
+
+/// The write by which a live container lets go of what it is not to have, where it holds any of that.
+pub fn release_of<K: Kernel>(kernel: &K, reserved: &IdSet, entry: &Entry) -> Option<Write>
     requires { has_group (K.state kernel.now).tree entry.now.group ≡ true }
     ensures { result ≡ its_release (K.state kernel.now) reserved.now entry.now }
 {
-    let first = *ended;
-    *ended = has_ended(kernel, entry, first);
-    if *ended {
+    if !kernel.first_alive(entry.pid) {
         return None;
     }
     let held = requested(kernel, entry.group);
-    if keeps_at_sight(reserved, &entry.target, held) {
-        return None;
-    }
-    *ended = has_ended(kernel, entry, !first);
-    if *ended {
+    if holds_target(&entry.target, held) {
         return None;
     }
     release_from(reserved, entry, held)
@@ -115,13 +118,12 @@ fn must_move<K: Kernel>(kernel: &K, entry: &Entry, ended: &mut bool) -> bool
     !*ended
 }
 
-/// The write by which a live container takes its target, where it does not hold that. Whether the one before it has ended is
-/// told, and then whether this one was seen to have.
-pub fn move_of<K: Kernel>(kernel: &K, entry: &Entry, ended: &mut bool) -> Option<Write>
+/// The write by which a live container takes its target, where it does not hold that.
+pub fn move_of<K: Kernel>(kernel: &K, entry: &Entry) -> Option<Write>
     requires { has_group (K.state kernel.now).tree entry.now.group ≡ true }
     ensures { result ≡ its_move (K.state kernel.now) entry.now }
 {
-    if must_move(kernel, entry, ended) {
+    if kernel.first_alive(entry.pid) && *requested(kernel, entry.group) != entry.target {
         Some(Write {
             group: entry.group,
             cpus: entry.target,
@@ -168,7 +170,7 @@ pub fn due<K: Kernel>(kernel: &K, reserved: &IdSet, entries: &[Entry]) -> (Optio
         if ended {
             continue;
         }
-        if let Some(write) = release_from(reserved, entry, held) {
+        if let Some(write) = release_if_some(reserved, entry, held) {
             return (Some(write), place);
         }
         if moving.is_none() {

@@ -8,30 +8,20 @@ use crate::{Entry, Handover};
 use kernel_model::{Kernel, KernelFault};
 
 /// Gives one container its target, where it does not hold that.
-fn take_target<K: Kernel>(
-    kernel: &mut K,
-    entry: &Entry,
-    ended: &mut bool,
-) -> Result<(), KernelFault>
+fn take_target<K: Kernel>(kernel: &mut K, entry: &Entry) -> Result<(), KernelFault>
     requires { IsPlaced (K.state kernel.old) entry.now.group }
     ensures { IsMadeIfAny (its_move (K.state kernel.old) entry.now) (K.state kernel.old) result (K.state kernel.new) }
 {
-    make_if_any(kernel, move_of(&*kernel, entry, ended))
+    make_if_any(kernel, move_of(&*kernel, entry))
 }
 
 impl Handover {
     /// Lets one container go of what it is not to have, where it holds any of that.
-    fn let_go<K: Kernel>(
-        &self,
-        kernel: &mut K,
-        entry: &Entry,
-        ended: &mut bool,
-    ) -> Result<(), KernelFault>
+    fn let_go<K: Kernel>(&self, kernel: &mut K, entry: &Entry) -> Result<(), KernelFault>
         requires { IsPlaced (K.state kernel.old) entry.now.group }
-        ensures { IsMadeIfAny (its_release (K.state kernel.old) self.now.reserved entry.now) (K.state kernel.old) result
-            (K.state kernel.new) }
+        ensures { IsMadeIfAny (its_release (K.state kernel.old) self.now.reserved entry.now) (K.state kernel.old) result (K.state kernel.new) }
     {
-        make_if_any(kernel, release_of(&*kernel, &self.reserved, entry, ended))
+        make_if_any(kernel, release_of(&*kernel, &self.reserved, entry))
     }
 
     /// Lets each container go of what it is not to have, up to the first write that fails.
@@ -40,9 +30,8 @@ impl Handover {
         ensures lets_go { LetsGo self.now (K.state kernel.old) result (K.state kernel.new) }
         ensures valid { IsHandover self.now }
     {
-        let mut ended = false;
         for entry in self.entries() {
-            self.let_go(kernel, entry, &mut ended)?;
+            self.let_go(kernel, entry)?;
         }
         Ok(())
     }
@@ -53,9 +42,8 @@ impl Handover {
         requires keep { NoneMust (must_release (K.state kernel.old) self.now.reserved) self.now.entries }
         ensures { TakesTargets self.now (K.state kernel.old) result (K.state kernel.new) }
     {
-        let mut ended = false;
         for entry in self.entries() {
-            take_target(kernel, entry, &mut ended)?;
+            take_target(kernel, entry)?;
         }
         Ok(())
     }

@@ -55,7 +55,7 @@ loop-place-preserved g c =
     lives_if_asked _ _ (sym c.has_ended-ended.ensures ∙ c.if-ended.false) (sym c.has_ended-ended-in-loop-place.ensures ∙ c.if-ended-2.false) in
     let other : is_same (held k e) e.target ≡ false = ap (λ s. is_same s e.target) (sym c.requested-held.ensures) ∙ sym c.eq.ensures ∙ c.if-eq.false in
     let stays : must_release k reserved e ≡ false =
-    lets_go_nothing k reserved e (sym c.in_default.is ∙ c.release_from.ensures ∙ ap (release_from reserved e) c.requested-held.ensures) in
+    lets_go_nothing k reserved e (sym c.in_default.is ∙ c.release_if_some.ensures ∙ ap (release_from reserved e) c.requested-held.ensures) in
     record {
       releases =
           sym (passed_over (must_release k reserved) entries place e c.loop-place-test.true c.index-entries-place.is stays)
@@ -73,6 +73,6 @@ returns-in-Some g c =
     let e = c.index-entries-place.result in
     release_is_due k reserved c.args.entries.now c.loop-place.place e c.in-Some.write
     c.loop-place-test.true c.index-entries-place.is c.loop-place.invariant.releases
-    (sym c.in-Some.is ∙ c.release_from.ensures ∙ ap (release_from reserved e) c.requested-held.ensures
+    (sym c.in-Some.is ∙ c.release_if_some.ensures ∙ ap (release_from reserved e) c.requested-held.ensures
     ∙ release_if_alive k reserved e
     (lives_if_asked _ _ (sym c.has_ended-ended.ensures ∙ c.if-ended.false) (sym c.has_ended-ended-in-loop-place.ensures ∙ c.if-ended-2.false)))

@@ -2,7 +2,7 @@ use Rattle.std.proofs.Common.{not, sym, ap}
 use Rattle.std.specs.Prelude.{cond, Some, None}
 use Rattle.cpu_set.specs.Pointwise.{is_same_decides}
 use Rattle.apply_plan.specs.Kept.{kept}
-use Rattle.apply_plan.proofs.scan.release_from.Goals as goal
+use Rattle.apply_plan.proofs.scan.release_if_some.Goals as goal
 
 pub returns-then-keeps_all : goal.returns-then-keeps_all
 returns-then-keeps_all c =
