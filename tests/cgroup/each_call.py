@@ -195,3 +195,20 @@ wrong = [line for line in other.err.splitlines() if line.endswith("cpuset.cpus.e
 assert other.out == whole.out and wrong, other.err
 other.remove()
 print(f"cgroup: {len(wrong)} notes of CPUs in effect that are others than the model's")
+
+busy = Run(busy=1)
+tries = [line for line in busy.calls if line.startswith("rmdir ")]
+notes = [line for line in busy.err.splitlines() if line.endswith("/numarun/database: Device or resource busy (os error 16)")]
+assert busy.out.count("refused E50 KernelFault\n") == len(notes) == 1 and busy.done.returncode == 0, (busy.out, busy.err)
+assert 2 <= len(tries) <= 1001, f"{len(tries)} tries in a second, with a millisecond between two"
+busy.remove()
+print("cgroup: a folder that stays busy")
+
+shorts = [at for at, line in enumerate(whole.calls, 1) if line.startswith("write ")]
+for n in shorts:
+    ran = Run(short=n)
+    path = ran.calls[n - 1].split(" ")[1]
+    notes = [line for line in ran.err.splitlines() if line.startswith(f"error: {ran.folder}/root{path}: ")]
+    assert ran.out.count("refused E50 KernelFault\n") >= 1 and notes and ran.done.returncode in (0, 1), (n, ran.out, ran.err)
+    ran.remove()
+print(f"cgroup: {len(shorts)} runs in which a write is short")

@@ -1,8 +1,9 @@
 // Lets a plain folder stand for a cgroup v2 tree: below FOLDERS_ROOT a folder that is made gets the files of a group, a write
 // replaces a file's text, one of `cpuset.cpus` that of `cpuset.cpus.effective` too (or puts FOLDERS_OTHER there, if that is
 // set), and a folder that is removed takes its files with it. The call whose number, from 1, stands in FOLDERS_FAIL fails with
-// the number in FOLDERS_ERRNO; the process ends behind the call in FOLDERS_KILL. Each call is a line of the file FOLDERS_LOG: a
-// file that is opened to be written (open) or to be read (read), or is not there (absent), a write, a folder.
+// the number in FOLDERS_ERRNO; the process ends behind the call in FOLDERS_KILL; the write in FOLDERS_SHORT takes one byte alone;
+// and with FOLDERS_BUSY set no folder is removed, since it is busy. Each call is a line of the file FOLDERS_LOG: a file that is
+// opened to be written (open) or to be read (read), or is not there (absent), a write, a folder.
 #define _GNU_SOURCE
 #include <dlfcn.h>
 #include <errno.h>
@@ -84,6 +85,10 @@ int rmdir(const char *path) {
     if (!real) real = dlsym(RTLD_NEXT, "rmdir");
     if (!below(path)) return real(path);
     if (fails("rmdir", path, "", 0)) return -1;
+    if (getenv("FOLDERS_BUSY")) {
+        done("rmdir", path, "", 0, EBUSY);
+        return -1;
+    }
     for (unsigned i = 0; i < sizeof files / sizeof *files; i++) {
         char name[1024];
         snprintf(name, sizeof name, "%s/%s", path, files[i]);
@@ -118,6 +123,7 @@ ssize_t write(int file, const void *text, size_t length) {
     snprintf(path, sizeof path, "%s", opened[file]);
     size_t shown = length && ((const char *)text)[length - 1] == '\n' ? length - 1 : length;
     if (fails("write", path, text, shown)) return -1;
+    if (number_is("FOLDERS_SHORT")) length = 1;
     if (ftruncate(file, 0)) return -1;
     ssize_t answer = real(file, text, length);
     size_t folder = strlen(path) - strlen("/cpuset.cpus");

@@ -93,6 +93,15 @@ status, out, err = played(links, ("--adopt",), b"create web examples/bundles/web
 assert (status, out.splitlines()[0], err) == (0, "pid 2", "note: ROOT/numarun/web is there and has to be adopted\n"), (status, out, err)
 
 
+def strange(root):
+    folder()(root)
+    os.makedirs(root + "/numarun/a\nb\x1b[2J\u0085c")
+
+
+status, out, err = played(strange, ("--adopt",))
+assert (status, err) == (0, "note: ROOT/numarun/a\\x0ab\\x1b[2J\\x85c is there and has to be adopted\n"), (status, out, err)
+
+
 def lived(script, make=folder(), words=()):
     """The answers and notes of a script over a root that this makes, and its lines that are functions are called with the root."""
     folder = tempfile.mkdtemp()
@@ -163,6 +172,15 @@ assert answers[2:] == [E50, E50, "refused E99 NotStopped\n"], answers
 for file in ("cpuset.cpus", "cgroup.kill"):
     assert f"error: ROOT/numarun/database/{file}: Not a directory (os error 20)\n" in err, err
 print("cgroup: folders that vanish")
+
+
+def link_is_gone(root):
+    assert not os.path.lexists(root + "/numarun/web") and os.path.isdir(root + "/slice"), os.listdir(root + "/numarun")
+
+
+answers, err = lived([web, "kill web KILL", "delete web", link_is_gone, "list"], links, ("--adopt",))
+assert answers == ["pid 2\n", "ok\n", "ok\n", "end\n"], answers
+assert err.splitlines()[-1] == "note: ROOT/numarun/web: a link is removed", err
 
 
 def ids(root):

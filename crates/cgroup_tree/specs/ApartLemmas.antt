@@ -1,5 +1,5 @@
 -- Groups with plain names that differ below one parent have folders that differ.
-use Rattle.std.proofs.Common.{◌≡◌, ℕ, zero, suc, ◌+◌, ◌<◌, Bool, true, false, refl, sym, ap, ◌∙◌, subst, arith}
+use Rattle.std.proofs.Common.{◌≡◌, ℕ, zero, suc, ◌+◌, ◌<◌, true, false, refl, sym, ap, ◌∙◌, subst, arith}
 use Rattle.std.specs.List.{list_any}
 use Rattle.std.specs.Prelude.{List, [], ◌∷◌, ◌++◌, length, Option, Some, None, is_some, ◌||◌, option_map}
 use Rattle.std.proofs.lemmas.Bool.{both_ways}
@@ -8,7 +8,7 @@ use Rattle.std.proofs.lemmas.Option.{same_Some, none-some}
 use Rattle.cpuset_tree.specs.declared.Group.{Group}
 use Rattle.cpuset_tree.specs.TreeState.{GroupEntry, TreeState}
 use Rattle.cpuset_tree.specs.Groups.{same_group, entry_among, entry_of, has_group}
-use Rattle.cpuset_tree.specs.GroupLemmas.{same_group-equal, same_group_itself, entry_among-here, entry_among-there}
+use Rattle.cpuset_tree.specs.GroupLemmas.{same_group-equal, entry_among-here, entry_among-there}
 use Rattle.cpuset_tree.specs.Places.{place_in, place_of}
 use Rattle.cpuset_tree.specs.TreeWellFormed.{IsFalling, ParentIsAmong, IsWellFormed}
 use Rattle.cpuset_tree.specs.TreeLemmas.{parent_is_there}

@@ -1,26 +1,25 @@
 -- Folders that are made and removed, and what the files of the others have.
-use Rattle.std.proofs.Common.{◌≡◌, ℕ, zero, suc, ◌+◌, ◌<◌, Bool, true, false, refl, sym, ap, ◌∙◌, subst, arith}
-use Rattle.std.specs.Prelude.{List, [], ◌∷◌, ◌++◌, length, drop, Option, Some, None, is_some, ◌||◌, if◌then◌else◌}
+use Rattle.std.proofs.Common.{◌≡◌, ℕ, zero, suc, ◌<◌, Bool, true, false, refl, sym, ap, ◌∙◌, subst, arith}
+use Rattle.std.specs.Prelude.{List, ◌∷◌, ◌++◌, length, drop, Option, Some, None, is_some, ◌||◌, if◌then◌else◌}
 use Rattle.std.specs.Str.{bytes_eq}
 use Rattle.std.proofs.lemmas.Bool.{both_ways, false_from_ne_true}
 use Rattle.std.proofs.lemmas.List.{append_assoc, append_cancel_left}
-use Rattle.std.proofs.lemmas.Option.{same_Some, none-some}
 use Rattle.std.proofs.lemmas.Slice.Eq.{bytes_eq-Decides}
 use Rattle.cpu_set.specs.Ids.{Ids}
 use Rattle.cpuset_tree.specs.declared.Group.{Group}
 use Rattle.cpuset_tree.specs.TreeState.{GroupEntry, TreeState}
 use Rattle.cpuset_tree.specs.Groups.{same_group, entry_of, has_group, requested_cpus, requested_mems, cpus_in, mems_in}
-use Rattle.cpuset_tree.specs.GroupLemmas.{same_group-equal, same_group_itself, other_serial}
+use Rattle.cpuset_tree.specs.GroupLemmas.{same_group-equal, other_serial}
 use Rattle.cpuset_tree.specs.Places.{place_in, place_of}
 use Rattle.cpuset_tree.specs.TreeAnswers.{AddsGroup}
 use Rattle.cpuset_tree.specs.TreeChanges.{without_group}
 use Rattle.cpuset_tree.specs.TreeLaws.{GroupAdded}
 use Rattle.cpuset_tree.specs.TreeLemmas.{added_leaves, removed_leaves, parent_is_there, serial_is_given}
 use Rattle.cpuset_tree.specs.TreeWellFormed.{IsWellFormed}
-use Rattle.cgroup_tree.specs.Asked.{Deed, Made, Removed, Written, Asked, done}
-use Rattle.cgroup_tree.specs.Paths.{folder, folder_at, folder_within, below, cpus_file, mems_file, controls_file, controls_line, list_line}
+use Rattle.cgroup_tree.specs.Asked.{Made, Removed, Unmade, Written, Asked, done}
+use Rattle.cgroup_tree.specs.Paths.{folder, folder_at, folder_within, below, cpus_file, mems_file, controls_file, controls_line}
 use Rattle.cgroup_tree.specs.FolderLemmas.{older, folder_below}
-use Rattle.cgroup_tree.specs.ApartLemmas.{there_in, one_split, some_of, entry_placed}
+use Rattle.cgroup_tree.specs.ApartLemmas.{there_in, one_split, entry_placed}
 use Rattle.cgroup_tree.specs.Standing.{text_in, IsLineOf, IsMemsLineOf, StandsFor, AreApart, FoldersStand}
 use Rattle.cgroup_tree.specs.StandingLemmas.{written_elsewhere, two_files, one_folder}
 
@@ -150,12 +149,16 @@ removed_nowhere : (calls : List Asked) (path file : List ℕ) → text_in (done 
 unfolding text_in
 removed_nowhere calls path file = refl
 
--- a folder that is removed where no group has it
+unmade_nowhere : (calls : List Asked) (path file : List ℕ) → text_in (done (Unmade path) ∷ calls) file ≡ text_in calls file
+unfolding text_in
+unmade_nowhere calls path file = refl
+
+-- a folder that is unmade
 pub gone : (root : List ℕ) (memory : Ids) (s : TreeState) (path : List ℕ) (calls : List Asked) → StandsFor root memory s calls
-    → StandsFor root memory s (done (Removed path) ∷ calls)
+    → StandsFor root memory s (done (Unmade path) ∷ calls)
 gone root memory s path calls stands = record {
-  cpus = λ h placed. rw (removed_nowhere calls path (root ++ (folder s h ++ cpus_file))) (stands.cpus h placed);
-  mems = λ h placed. rw (removed_nowhere calls path (root ++ (folder s h ++ mems_file))) (stands.mems h placed);
+  cpus = λ h placed. rw (unmade_nowhere calls path (root ++ (folder s h ++ cpus_file))) (stands.cpus h placed);
+  mems = λ h placed. rw (unmade_nowhere calls path (root ++ (folder s h ++ mems_file))) (stands.mems h placed);
 }
 
 -- the controllers that are passed on

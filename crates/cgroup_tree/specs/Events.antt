@@ -1,20 +1,19 @@
 -- What was called of a mirrored kernel, and what each call asked of the files.
-use Rattle.std.specs.Prelude.{◌≡◌, ◌⊎◌, ℕ, List, [], ◌∷◌, ◌++◌, Result, Ok, Err}
+use Rattle.std.specs.Prelude.{◌≡◌, ◌⊎◌, ℕ, Bool, List, [], ◌∷◌, ◌++◌, Result, Ok, Err}
 use Rattle.faults.specs.declared.or_memory.OrMemory.{OrMemory}
 use Rattle.faults.specs.declared.or_memory.OrMemory.TheVariants.{Memory, Fault}
 use Rattle.cpu_set.specs.Ids.{Ids}
 use Rattle.cpuset_tree.specs.declared.Group.{Group}
 use Rattle.cpuset_tree.specs.Effective.{granted}
-use Rattle.cpuset_tree.specs.TreeState.{TreeState}
-use Rattle.cpuset_tree.specs.TreeChanges.{IsFirstTree}
 use Rattle.kernel_model.specs.declared.KernelFault.{KernelFault}
 use Rattle.kernel_model.specs.declared.KernelFault.TheVariants.{Failed}
 use Rattle.kernel_model.specs.KernelState.{KernelState}
 use Rattle.kernel_model.specs.WellFormed.{IsWellFormed}
 use Rattle.kernel_model.specs.Cases.{MakesGroup, RemovesGroup, WritesCpus, WritesMems, Spawns, EndsGroup, Forks, Exits, GoesOffline, ComesOnline}
-use Rattle.cgroup_tree.specs.Asked.{Deed, Made, Removed, Written, Asked, Asks, done, refused}
+use Rattle.cgroup_tree.specs.Asked.{Deed, Made, Removed, Unmade, Written, Asked, done, refused}
 use Rattle.cgroup_tree.specs.Paths.{folder, below, list_line, cpus_file, mems_file, kill_file, controls_file, kill_line, controls_line}
 use Rattle.cgroup_tree.specs.Mirrored.{IsNamed}
+use Rattle.cgroup_tree.specs.Site.{Begins, Site}
 
 -- a call, with what it answered
 pub data Event : Type 0 where
@@ -57,12 +56,6 @@ AreAsked first then undone (Err Memory) these =
 AreAsked first then undone (Err (Fault Failed)) these = (these ≡ refused then ∷ done first ∷ []) ⊎ (these ≡ refused first ∷ []) ⊎ (these ≡ [])
 AreAsked first then undone (Err (Fault fault)) these = these ≡ []
 
--- a tree of the root group alone
-pub record IsAlone (s : TreeState) : Type 0 where
-  pub online : Ids
-  pub nodes : Ids
-  pub first : IsFirstTree online nodes 0 s
-
 -- where the root group's folder is this, and these nodes have memory
 module _ (root : List ℕ) (memory : Ids) where
   -- the file of a group, or its folder
@@ -71,7 +64,7 @@ module _ (root : List ℕ) (memory : Ids) where
 
   abbrev pub AsksFor : KernelState → Event → List Asked → Type 0
   AsksFor k (MadeGroup parent name r) these =
-      AreAsked (Written (file_of k parent controls_file) controls_line) (Made (file_of k parent (below name))) (Removed (file_of k parent (below name))) r these
+      AreAsked (Written (file_of k parent controls_file) controls_line) (Made (file_of k parent (below name))) (Unmade (file_of k parent (below name))) r these
       × IsNamed name r
   AsksFor k (RemovedGroup g r) these = IsAsked (Removed (file_of k g [])) r these
   AsksFor k (WroteCpus g cpus r) these = IsAsked (Written (file_of k g cpus_file) (list_line cpus)) r these
@@ -79,21 +72,29 @@ module _ (root : List ℕ) (memory : Ids) where
   AsksFor k (EndedGroup g r) these = IsAsked (Written (file_of k g kill_file) kill_line) r these
   AsksFor k event these = these ≡ []
 
-  -- a kernel of the root group alone
+module _ (site : Site) where
+  -- a kernel as it began: of the root group alone
   pub record IsNew (k : KernelState) : Type 0 where
     pub well : IsWellFormed k
-    pub alone : IsAlone k.tree
+    pub first : Begins site.first k
 
   -- these calls, the newest first, led from such a kernel to this one, and asked for this, the newest first
   unfoldable pub Past : List Event → KernelState → List Asked → Type 0
   Past [] k asked = IsNew k × (asked ≡ [])
   Past (event ∷ past) k asked =
       (old : KernelState) × (before : List Asked) × (these : List Asked)
-      × Past past old before × Happens old event k × AsksFor old event these × (asked ≡ these ++ before)
+      × Past past old before × Happens old event k × AsksFor site.root site.memory old event these × (asked ≡ these ++ before)
 
--- Mirrored: all that was asked of the files is what the calls of the kernel stand for, in their order
-pub record IsMirrored {F : Type 0} (asked : F → List Asked → Type 0) (root : List ℕ) (memory : Ids) (k : KernelState) (files : F) : Type 0 where
+-- Mirrored: all that was asked of the files, which were opened so, is what the calls of the kernel stand for, in their order, from its
+-- beginning on
+pub record IsMirrored {F : Type 0} (asked : F → Bool → List Asked → Type 0) (site : Site) (k : KernelState) (files : F) : Type 0 where
   pub past : List Event
   pub calls : List Asked
-  pub was : Past root memory past k calls
-  pub made : asked files calls
+  pub was : Past site past k calls
+  pub made : asked files site.adopt calls
+
+-- of a kernel that has this root and these nodes with memory
+pub record IsMirroredAt {F : Type 0} (asked : F → Bool → List Asked → Type 0) (site : Site) (root : List ℕ) (memory : Ids) (k : KernelState) (files : F) : Type 0 where
+  pub mirrored : IsMirrored asked site k files
+  pub root_is : root ≡ site.root
+  pub memory_is : memory ≡ site.memory

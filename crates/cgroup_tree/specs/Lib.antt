@@ -1,4 +1,7 @@
 pub mod Asked
+pub mod Site
+pub mod Roots
+pub mod RootLemmas
 pub mod Paths
 pub mod Mirrored
 pub mod First

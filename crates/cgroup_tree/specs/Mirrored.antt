@@ -1,5 +1,5 @@
 -- A kernel whose writes are asked of folders and files too.
-use Rattle.std.specs.Prelude.{⊤, ℕ, ◌+◌, List, [], ◌∷◌, ◌⊎◌, Option, Some, None, Result, Ok, Err}
+use Rattle.std.specs.Prelude.{⊤, ℕ, ◌+◌, List, [], ◌∷◌, ◌⊎◌, Bool, Option, Some, None, Result, Ok, Err}
 use Rattle.faults.specs.declared.OrMemory.{OrMemory}
 use Rattle.faults.specs.declared.OrMemory.TheVariants.{Memory, Fault}
 use Rattle.kernel_model.specs.declared.KernelFault.{KernelFault}
@@ -17,7 +17,7 @@ abbrev pub IsNamed : {A : Type 0} → List ℕ → Result A (OrMemory KernelFaul
 IsNamed name (Err (Fault fault)) = ⊤
 IsNamed name answer = IsName name
 
-module _ {F : Type 0} (asked : F → List Asked → Type 0) (old : F) where
+module _ {F : Type 0} (asked : F → Bool → List Asked → Type 0) (old : F) where
   -- this alone was asked for and done, or it was refused, or an allocation failed before it was asked for
   abbrev pub Tries : {E : Type 0} → Deed → Result (Unit {0}) E → F → Type 0
   Tries deed (Ok value) new = Asks asked old (done deed ∷ []) new

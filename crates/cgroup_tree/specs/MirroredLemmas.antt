@@ -1,6 +1,6 @@
 -- What a call of a mirrored kernel adds to what was asked of the files.
-use Rattle.std.proofs.Common.{◌≡◌, ℕ, refl, sym, ap, ◌∙◌, subst, inl, inr}
-use Rattle.std.specs.Prelude.{◌⊎◌, List, [], ◌∷◌, ◌++◌, Result, Ok, Err}
+use Rattle.std.proofs.Common.{◌≡◌, ℕ, refl, sym, ◌∙◌, subst, inl, inr}
+use Rattle.std.specs.Prelude.{Bool, List, [], ◌∷◌, ◌++◌, Result, Ok, Err}
 use Rattle.faults.specs.declared.or_memory.OrMemory.{OrMemory}
 use Rattle.faults.specs.declared.or_memory.OrMemory.TheVariants.{Memory, Fault}
 use Rattle.cpu_set.specs.Ids.{Ids}
@@ -10,17 +10,19 @@ use Rattle.kernel_model.specs.KernelState.{KernelState}
 use Rattle.kernel_model.specs.WellFormed.{IsWellFormed}
 use Rattle.cgroup_tree.specs.Asked.{Deed, Asked, Asks, done, refused}
 use Rattle.cgroup_tree.specs.Mirrored.{mirrored, Mirrors, MirrorsBoth}
-use Rattle.cgroup_tree.specs.Events.{Event, Happens, IsAsked, AreAsked, AsksFor, IsNew, Past, IsMirrored}
+use Rattle.cgroup_tree.specs.Events.{Event, Happens, IsAsked, AreAsked, AsksFor, Past, IsMirrored, IsMirroredAt}
+use Rattle.cgroup_tree.specs.Site.{Beginning, Begins, Site}
 use Rattle.cgroup_tree.specs.Stands.{FilesStand}
 use Rattle.cgroup_tree.specs.PastLemmas.{pasts_stand}
+use Rattle.cgroup_tree.specs.First.{first_mirrored}
 
 -- some calls more, which are these
-pub record Grown {F : Type 0} (asked : F → List Asked → Type 0) (old : F) (Are : List Asked → Type 0) (new : F) : Type 0 where
+pub record Grown {F : Type 0} (asked : F → Bool → List Asked → Type 0) (old : F) (Are : List Asked → Type 0) (new : F) : Type 0 where
   pub these : List Asked
   pub are : Are these
   pub asks : Asks asked old these new
 
-module _ {F : Type 0} (asked : F → List Asked → Type 0) (old new : F) where
+module _ {F : Type 0} (asked : F → Bool → List Asked → Type 0) (old new : F) where
   pub grown : {A : Type 0} → (deed : Deed) (r : Result A KernelFault) → Mirrors asked old deed r new → Grown asked old (IsAsked deed r) new
   grown deed (Ok value) asks = record { these = done deed ∷ []; are = refl; asks = asks }
   grown deed (Err Failed) (inl asks) = record { these = refused deed ∷ []; are = inl refl; asks = asks }
@@ -38,28 +40,29 @@ module _ {F : Type 0} (asked : F → List Asked → Type 0) (old new : F) where
   grown_both first then undone (Err (Fault fault)) asks = record { these = []; are = refl; asks = asks }
 
 -- after one call more it is so too
-pub goes_on : {F : Type 0} (asked : F → List Asked → Type 0) (root root' : List ℕ) (memory memory' : Ids) (k new : KernelState) (files after : F) (event : Event)
-    → IsMirrored asked root memory k files → root' ≡ root → memory' ≡ memory → Happens k event new
-    → Grown asked files (AsksFor root memory k event) after → IsMirrored asked root' memory' new after
+pub goes_on : {F : Type 0} (asked : F → Bool → List Asked → Type 0) (site : Site) (root root' : List ℕ) (memory memory' : Ids) (k new : KernelState) (files after : F) (event : Event)
+    → IsMirroredAt asked site root memory k files → root' ≡ root → memory' ≡ memory → Happens k event new
+    → Grown asked files (AsksFor root memory k event) after → IsMirroredAt asked site root' memory' new after
 unfolding Past
-goes_on asked root root' memory memory' k new files after event was same_root same_memory happens more =
-    subst (λ (r : List ℕ). IsMirrored asked r memory' new after) (sym same_root)
-    (subst (λ (m : Ids). IsMirrored asked root m new after) (sym same_memory) (record {
-      past = event ∷ was.past;
-      calls = more.these ++ was.calls;
-      was = (k, was.calls, more.these, was.was, happens, more.are, refl);
-      made = more.asks was.calls was.made;
-    }))
+goes_on asked site root root' memory memory' k new files after event held same_root same_memory happens more =
+    let was = held.mirrored in
+    let are : AsksFor site.root site.memory k event more.these =
+    subst (λ (r : List ℕ). AsksFor r site.memory k event more.these) held.root_is
+    (subst (λ (m : Ids). AsksFor root m k event more.these) held.memory_is more.are) in
+    record {
+      mirrored = record {
+        past = event ∷ was.past;
+        calls = more.these ++ was.calls;
+        was = (k, was.calls, more.these, was.was, happens, are, refl);
+        made = more.asks site.adopt was.calls was.made;
+      };
+      root_is = same_root ∙ held.root_is;
+      memory_is = same_memory ∙ held.memory_is;
+    }
 
 -- where nothing was asked
-pub unasked : {F : Type 0} (asked : F → List Asked → Type 0) (old new : F) → new ≡ old → Grown asked old (λ these. these ≡ []) new
-unasked asked old new same = record { these = []; are = refl; asks = λ before held. subst (λ f. asked f before) (sym same) held }
-
--- at the beginning
-pub starts : {F : Type 0} (asked : F → List Asked → Type 0) (root : List ℕ) (memory : Ids) (k : KernelState) (files : F) → IsNew root memory k → asked files []
-    → IsMirrored asked root memory k files
-unfolding Past
-starts asked root memory k files new none = record { past = []; calls = []; was = (new, refl); made = none }
+pub unasked : {F : Type 0} (asked : F → Bool → List Asked → Type 0) (old new : F) → new ≡ old → Grown asked old (λ these. these ≡ []) new
+unasked asked old new same = record { these = []; are = refl; asks = λ adopt before held. subst (λ f. asked f adopt before) (sym same) held }
 
 -- a kernel of which some writes never came to the model is well formed as the model is
 pub well_mirrored : (n : ℕ) (k : KernelState) → IsWellFormed k → IsWellFormed (mirrored n k)
@@ -72,8 +75,32 @@ well_mirrored n k well = record {
   online_present = well.online_present;
 }
 
-pub stand : {F : Type 0} (asked : F → List Asked → Type 0) (root : List ℕ) (memory : Ids) (k : KernelState) (files : F) → IsMirrored asked root memory k files
-    → FilesStand asked root memory k files
-stand asked root memory k files was =
-    let it = pasts_stand root memory was.past k was.calls was.was in
+-- at the beginning
+pub starts : {F : Type 0} (asked : F → Bool → List Asked → Type 0) (site : Site) (root : List ℕ) (memory : Ids) (n : ℕ) (k inner : KernelState) (files : F)
+    → k ≡ inner → n ≡ 0 → IsWellFormed inner → Begins site.first inner → root ≡ site.root → memory ≡ site.memory → asked files site.adopt []
+    → IsMirroredAt asked site root memory (mirrored n k) files
+unfolding Past
+starts asked site root memory n k inner files is zero well first root_is memory_is none =
+    let b : Beginning = site.first in
+    record {
+      mirrored = record {
+        past = [];
+        calls = [];
+        was = (
+          record {
+            well = well_mirrored n k (subst (λ (x : KernelState). IsWellFormed x) (sym is) well);
+            first = first_mirrored b.present b.reserved b.online b.nodes b.first_pid n k zero (subst (λ (x : KernelState). Begins b x) (sym is) first);
+          },
+          refl,
+        );
+        made = none;
+      };
+      root_is = root_is;
+      memory_is = memory_is;
+    }
+
+pub stand : {F : Type 0} (asked : F → Bool → List Asked → Type 0) (site : Site) (k : KernelState) (files : F) → IsMirrored asked site k files
+    → FilesStand asked site k files
+stand asked site k files was =
+    let it = pasts_stand site was.past k was.calls was.was in
     record { calls = was.calls; made = was.made; stands = it.0; apart = it.1 }

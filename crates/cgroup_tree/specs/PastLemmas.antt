@@ -1,5 +1,5 @@
 -- That files stand for the tree after any calls, proved.
-use Rattle.std.proofs.Common.{◌≡◌, ℕ, suc, Bool, true, false, refl, sym, ap, ◌∙◌, subst, inl, inr}
+use Rattle.std.proofs.Common.{◌≡◌, ℕ, suc, true, false, refl, sym, ap, ◌∙◌, subst, inl, inr}
 use Rattle.std.specs.List.{list_any}
 use Rattle.std.specs.Prelude.{◌⊎◌, List, [], ◌∷◌, ◌++◌, Option, Some, None, is_some, is_none, option_map, Result, Ok, Err, not, if◌then◌else◌}
 use Rattle.faults.specs.declared.or_memory.OrMemory.{OrMemory}
@@ -10,19 +10,19 @@ use Rattle.cpu_set.specs.Ids.{Ids}
 use Rattle.cpuset_tree.specs.declared.Group.{Group}
 use Rattle.cpuset_tree.specs.declared.TreeFault.TheVariants as tree
 use Rattle.cpuset_tree.specs.TreeState.{GroupEntry, TreeState}
-use Rattle.cpuset_tree.specs.TreeChanges.{new_entry, without_group, with_cpus, with_mems, with_online}
+use Rattle.cpuset_tree.specs.TreeChanges.{new_entry, without_group, with_cpus, with_mems}
 use Rattle.cpuset_tree.specs.TreeAnswers.{AddsGroup}
 use Rattle.cpuset_tree.specs.TreeLaws.{GroupAdded}
-use Rattle.cpuset_tree.specs.TreeLemmas.{added_leaves, same_is_equal}
+use Rattle.cpuset_tree.specs.TreeLemmas.{added_leaves}
 use Rattle.cpuset_tree.specs.Effective.{granted}
 use Rattle.cpuset_tree.specs.GroupLemmas.{same_group-equal}
-use Rattle.cpuset_tree.specs.Groups.{same_group, entry_among, entry_of, cpus_in, mems_in, has_group, child_of, is_root_entry}
+use Rattle.cpuset_tree.specs.Groups.{same_group, entry_among, entry_of, cpus_in, mems_in, is_root_entry}
 use Rattle.cpuset_tree.specs.Places.{place_in, place_of}
 use Rattle.cpuset_tree.specs.TreeWellFormed as formed
 use Rattle.kernel_model.specs.declared.KernelFault.{KernelFault}
 use Rattle.kernel_model.specs.declared.KernelFault.TheVariants.{Failed}
 use Rattle.kernel_model.specs.Faults.{of_tree}
-use Rattle.kernel_model.specs.KernelState.{KernelState, counted, failed}
+use Rattle.kernel_model.specs.KernelState.{KernelState}
 use Rattle.kernel_model.specs.KernelLemmas.{each_case_keeps, writes_keep_tree, events_keep_groups}
 use Rattle.kernel_model.specs.RefusalLemmas.{calls_are_free}
 use Rattle.kernel_model.specs.NameLemmas.{MakesGroup-names, RemovesGroup-names, WritesCpus-names, WritesMems-names, names_of_first, none_of_name}
@@ -30,14 +30,15 @@ use Rattle.kernel_model.specs.Names.{HaveOwnNames}
 use Rattle.kernel_model.specs.Refusals.{make_refusal, write_refusal}
 use Rattle.kernel_model.specs.Cases.{MakesGroup, RemovesGroup, WritesCpus, WritesMems, EndsGroup}
 use Rattle.kernel_model.specs.WellFormed.{IsWellFormed}
-use Rattle.cgroup_tree.specs.Asked.{Deed, Asked, Made, Removed, Written, Asks, done, refused}
-use Rattle.cgroup_tree.specs.Mirrored.{Mirrors, MirrorsBoth, IsNamed}
+use Rattle.cgroup_tree.specs.Asked.{Deed, Asked, Made, Removed, Unmade, Written, done, refused}
+use Rattle.cgroup_tree.specs.Mirrored.{IsNamed}
 use Rattle.cgroup_tree.specs.Paths.{is_slash, folder, below, cpus_file, mems_file, kill_file, kill_line, controls_file, controls_line, list_line}
 use Rattle.cgroup_tree.specs.Standing.{text_in, StandsFor, HavePlainNames, AreApart}
 use Rattle.cgroup_tree.specs.StandingLemmas.{folder_same, writes_stand, places_written, places_written_mems}
 use Rattle.cgroup_tree.specs.ChangeLemmas.{folders_stand, passed_on, unmade, gone, entry_left, there_left}
-use Rattle.cgroup_tree.specs.ApartLemmas.{plain_names_apart, one_folder_there, one_split, entry_placed, some_of}
-use Rattle.cgroup_tree.specs.Events.{Event, MadeGroup, RemovedGroup, WroteCpus, WroteMems, Spawned, EndedGroup, Forked, Exited, WentOffline, CameOnline, Happens, IsAsked, AreAsked, AsksFor, IsNew, Past, IsMirrored}
+use Rattle.cgroup_tree.specs.ApartLemmas.{plain_names_apart, one_folder_there, entry_placed, some_of}
+use Rattle.cgroup_tree.specs.Events.{Event, MadeGroup, RemovedGroup, WroteCpus, WroteMems, Spawned, EndedGroup, Forked, Exited, WentOffline, CameOnline, Happens, IsAsked, AreAsked, AsksFor, IsNew, Past}
+use Rattle.cgroup_tree.specs.Site.{Site}
 use Rattle.cgroup_tree.specs.Stands.{PastsStand}
 
 -- a group has a place exactly where nothing stands against a write of it
@@ -159,8 +160,8 @@ module _ (root : List ℕ) (memory : Ids) (old : KernelState) (before : List Ask
     abbrev folder_made : Deed
     folder_made = Made (root ++ (folder old.tree parent ++ below name))
 
-    abbrev folder_removed : Deed
-    folder_removed = Removed (root ++ (folder old.tree parent ++ below name))
+    abbrev folder_unmade : Deed
+    folder_unmade = Unmade (root ++ (folder old.tree parent ++ below name))
 
     -- another group has another folder
     none_has : make_refusal old parent name ≡ None → list_any is_slash name ≡ false → (h : Group) → is_some (place_of old.tree h) ≡ true
@@ -183,7 +184,7 @@ module _ (root : List ℕ) (memory : Ids) (old : KernelState) (before : List Ask
         ] refl
 
     make_part : (r : Result Group (OrMemory KernelFault)) (new : KernelState) (these : List Asked) → MakesGroup old parent name r new
-        → AreAsked controls folder_made folder_removed r these → IsNamed name r → PartOf new.tree these
+        → AreAsked controls folder_made folder_unmade r these → IsNamed name r → PartOf new.tree these
     make_part (Ok g) new these h are named =
         let adds : AddsGroup old.tree parent name g new.tree = h.1.does in
         let plain = named_plain new.tree g (added_leaves old.tree new.tree parent name g adds) named.no_slash in
@@ -202,7 +203,7 @@ module _ (root : List ℕ) (memory : Ids) (old : KernelState) (before : List Ask
             plain = was.plain;
           })
           | inr is ↦ of_calls old.tree these _ is (record {
-            stands = writes_stand.refused root memory old.tree folder_removed (done folder_made ∷ done controls ∷ before) stands;
+            stands = writes_stand.refused root memory old.tree folder_unmade (done folder_made ∷ done controls ∷ before) stands;
             plain = was.plain;
           })
         ])
@@ -268,27 +269,28 @@ module _ (root : List ℕ) (memory : Ids) (old : KernelState) (before : List Ask
       kept new these (groups_part new.tree these same are) ((each_case_keeps old new was.well).online cpu r h).well_formed (own_groups new same)
 
 -- a kernel of the root group alone
-begun : (root : List ℕ) (memory : Ids) (k : KernelState) → IsNew root memory k → Kept root memory k []
-begun root memory k new =
+begun : (site : Site) (k : KernelState) → IsNew site k → Kept site.root site.memory k []
+begun site k new =
     let none : (g : Group) → place_of k.tree g ≡ None = λ g.
-    ap (λ (t : TreeState). place_of t g) new.alone.first.is ∙ no_place (new_entry new.alone.first.root None []) g refl in
+    ap (λ (t : TreeState). place_of t g) new.first.first_tree.is ∙ no_place (new_entry new.first.first_tree.root None []) g refl in
     record {
       stands = record {
         cpus = λ g here. absurd (both_ways (is_some (place_of k.tree g)) (ap is_some (none g)) here);
         mems = λ g here. absurd (both_ways (is_some (place_of k.tree g)) (ap is_some (none g)) here);
       };
       well = new.well;
-      own = names_of_first new.alone.online new.alone.nodes k.tree new.alone.first;
+      own = names_of_first site.first.online site.first.nodes k.tree new.first.first_tree;
       plain = λ g p name is. absurd (none-some (p, name) (sym (none g) ∙ is));
     }
 
-pub past_kept : (root : List ℕ) (memory : Ids) (past : List Event) (k : KernelState) (calls : List Asked) → Past root memory past k calls → Kept root memory k calls
+pub past_kept : (site : Site) (past : List Event) (k : KernelState) (calls : List Asked) → Past site past k calls → Kept site.root site.memory k calls
 unfolding Past
-past_kept root memory [] k calls (new, none) = subst (λ (cs : List Asked). Kept root memory k cs) (sym none) (begun root memory k new)
-past_kept root memory (event ∷ past) k calls (old, before, these, was, happens, asks, are) =
-    subst (λ (cs : List Asked). Kept root memory k cs) (sym are) (step root memory old before (past_kept root memory past old before was) event k these happens asks)
+past_kept site [] k calls (new, none) = subst (λ (cs : List Asked). Kept site.root site.memory k cs) (sym none) (begun site k new)
+past_kept site (event ∷ past) k calls (old, before, these, was, happens, asks, are) =
+    subst (λ (cs : List Asked). Kept site.root site.memory k cs) (sym are)
+    (step site.root site.memory old before (past_kept site past old before was) event k these happens asks)
 
 pub pasts_stand : PastsStand
-pasts_stand root memory past k calls was =
-    let it : Kept root memory k calls = past_kept root memory past k calls was in
+pasts_stand site past k calls was =
+    let it : Kept site.root site.memory k calls = past_kept site past k calls was in
     (it.stands, plain_names_apart k.tree it.well.tree it.own it.plain)

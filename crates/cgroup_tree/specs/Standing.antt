@@ -1,6 +1,6 @@
 -- What the files of a cgroup tree have, where they do what they were asked for and nobody else writes them.
 use Rattle.std.specs.List.{list_any}
-use Rattle.std.specs.Prelude.{◌≡◌, ℕ, Bool, true, false, ◌||◌, if◌then◌else◌, List, [], ◌∷◌, ◌++◌, Option, Some, None, is_some}
+use Rattle.std.specs.Prelude.{◌≡◌, ℕ, true, false, ◌||◌, if◌then◌else◌, List, [], ◌∷◌, ◌++◌, Option, Some, None, is_some}
 use Rattle.std.specs.FinSet as set
 use Rattle.std.specs.Str.{bytes_eq}
 use Rattle.cpu_set.specs.Ids.{Ids}
@@ -11,7 +11,7 @@ use Rattle.cpuset_tree.specs.Places.{place_of}
 use Rattle.cpuset_tree.specs.Effective.{granted}
 use Rattle.cpuset_tree.specs.TreeChanges.{with_cpus, with_mems, without_group}
 use Rattle.cpuset_tree.specs.TreeAnswers.{AddsGroup}
-use Rattle.cgroup_tree.specs.Asked.{Deed, Made, Removed, Written, Asked, done, refused}
+use Rattle.cgroup_tree.specs.Asked.{Deed, Made, Removed, Unmade, Written, Asked, done, refused}
 use Rattle.cpuset_tree.specs.TreeWellFormed.{IsWellFormed}
 use Rattle.kernel_model.specs.Names.{HaveOwnNames}
 use Rattle.cgroup_tree.specs.Paths.{is_slash, folder, below, cpus_file, mems_file, controls_file, controls_line, kill_file, kill_line, list_line}
@@ -20,6 +20,7 @@ use Rattle.cgroup_tree.specs.Paths.{is_slash, folder, below, cpus_file, mems_fil
 abbrev pub text_after : Deed → List ℕ → Option (List ℕ) → Option (List ℕ)
 text_after (Made path) file text = if bytes_eq (path ++ cpus_file) file || bytes_eq (path ++ mems_file) file then None else text
 text_after (Removed path) file text = text
+text_after (Unmade path) file text = text
 text_after (Written path line) file text = if bytes_eq path file then Some line else text
 
 -- the text of a file after these calls, the newest first

@@ -1,5 +1,5 @@
 -- The laws of standing, proved.
-use Rattle.std.proofs.Common.{◌≡◌, ℕ, zero, suc, ◌+◌, Bool, true, false, refl, sym, ap, ◌∙◌, subst, arith}
+use Rattle.std.proofs.Common.{◌≡◌, ℕ, zero, suc, Bool, true, false, refl, sym, ap, ◌∙◌, arith}
 use Rattle.std.specs.Prelude.{List, [], ◌∷◌, ◌++◌, length, Option, Some, None, is_some, option_map, if◌then◌else◌}
 use Rattle.std.specs.Str.{bytes_eq}
 use Rattle.std.proofs.lemmas.Bool.{both_ways, false_from_ne_true}
@@ -8,7 +8,7 @@ use Rattle.std.proofs.lemmas.Slice.Eq.{bytes_eq-Decides}
 use Rattle.cpu_set.specs.Ids.{Ids}
 use Rattle.cpuset_tree.specs.declared.Group.{Group}
 use Rattle.cpuset_tree.specs.TreeState.{GroupEntry, TreeState}
-use Rattle.cpuset_tree.specs.Groups.{same_group, entry_of, has_group, requested_cpus, requested_mems}
+use Rattle.cpuset_tree.specs.Groups.{same_group, entry_of, requested_cpus, requested_mems}
 use Rattle.cpuset_tree.specs.GroupLemmas.{same_group-equal}
 use Rattle.cpuset_tree.specs.Places.{place_in, place_of}
 use Rattle.cpuset_tree.specs.Effective.{granted}

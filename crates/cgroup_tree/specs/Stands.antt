@@ -1,20 +1,20 @@
 -- Files stand for the tree.
-use Rattle.std.specs.Prelude.{ℕ, List}
-use Rattle.cpu_set.specs.Ids.{Ids}
+use Rattle.std.specs.Prelude.{Bool, List}
 use Rattle.kernel_model.specs.KernelState.{KernelState}
 use Rattle.cgroup_tree.specs.Asked.{Asked}
-use Rattle.cgroup_tree.specs.Events.{Event, Past, IsMirrored}
+use Rattle.cgroup_tree.specs.Events.{Event, Past}
+use Rattle.cgroup_tree.specs.Site.{Site}
 use Rattle.cgroup_tree.specs.Standing.{StandsFor, AreApart}
 
 -- where files do what they answer and nobody else writes, makes or removes any: no two groups have one folder, and each
 -- group's files have what it requests
-pub record FilesStand {F : Type 0} (asked : F → List Asked → Type 0) (root : List ℕ) (memory : Ids) (k : KernelState) (files : F) : Type 0 where
+pub record FilesStand {F : Type 0} (asked : F → Bool → List Asked → Type 0) (site : Site) (k : KernelState) (files : F) : Type 0 where
   pub calls : List Asked
-  pub made : asked files calls
-  pub stands : StandsFor root memory k.tree calls
+  pub made : asked files site.adopt calls
+  pub stands : StandsFor site.root site.memory k.tree calls
   pub apart : AreApart k.tree
 
 -- so it is after any calls, whatever each of them answered
 abbrev pub PastsStand : Type 0
-PastsStand = (root : List ℕ) (memory : Ids) (past : List Event) (k : KernelState) (calls : List Asked) → Past root memory past k calls
-    → StandsFor root memory k.tree calls × AreApart k.tree
+PastsStand = (site : Site) (past : List Event) (k : KernelState) (calls : List Asked) → Past site past k calls
+    → StandsFor site.root site.memory k.tree calls × AreApart k.tree

@@ -1,6 +1,6 @@
 //! What folders and files are asked for.
-ghost use Rattle.std.specs.Prelude.{List, [], ◌∷◌};
-ghost use Rattle.cgroup_tree.specs.Asked.{Asked, Asks, Made, Removed, Written, is_made};
+ghost use Rattle.std.specs.Prelude.{Bool, List, [], ◌∷◌};
+ghost use Rattle.cgroup_tree.specs.Asked.{Asked, Asks, Made, Removed, Unmade, Written, is_made};
 
 use std::io;
 
@@ -9,8 +9,8 @@ use std::io;
 /// What they hold is not said, since no contract can say what a file system does. What they were asked for is: which
 /// calls were made so far, the newest first, and which of them were refused.
 pub trait GroupFiles {
-    /// The calls that may have been made so far.
-    ghost asked: { Self → List Asked → Type 0 };
+    /// Whether these files may have been opened with folders of a run before, and the calls that may have been made of them so far.
+    ghost asked: { Self → Bool → List Asked → Type 0 };
 
     /// Makes a folder.
     ///
@@ -25,6 +25,13 @@ pub trait GroupFiles {
     /// Those of the system; the folder stays.
     fn remove_folder(&mut self, path: &str) -> io::Result<()>
         ensures { Asks asked self.old (record { deed = Removed path.now; done = is_made result } ∷ []) self.new };
+
+    /// Removes the folder that was made last, where it was not there before.
+    ///
+    /// # Errors
+    /// Those of the system; the folder stays.
+    fn unmake_folder(&mut self, path: &str) -> io::Result<()>
+        ensures { Asks asked self.old (record { deed = Unmade path.now; done = is_made result } ∷ []) self.new };
 
     /// Writes the whole text into a file that is there, by one write of the system.
     ///

@@ -1,30 +1,41 @@
 //! Where a cgroup tree is found, and what it has at the start.
-ghost use Rattle.std.specs.Prelude.{[]};
+ghost use Rattle.std.specs.Prelude.{ℕ, List, [], MatchResult, option_map};
+ghost use Rattle.std.specs.IoError.{error_kind};
+ghost use Rattle.cgroup_tree.specs.Roots.{Fails, Finding, Has, IsFolder};
 
 use crate::GroupFiles;
 use std::alloc::Global;
 use std::io;
 
-/// What gives access to cgroup trees, and reads what they have before a run begins. What they hold is not known.
+/// What gives access to cgroup trees, and reads what they have before a run begins. One of them can be opened, once.
 pub trait GroupTrees {
     type Files: GroupFiles + Drop;
 
-    /// Files of which nothing was asked yet. With `adopt` there may be folders already, which a run before this made, and links
-    /// to groups elsewhere.
-    fn files(&self, adopt: bool) -> Self::Files
-        ensures { Self.Files.asked result [] };
+    /// What a look at a path may find.
+    ghost finds: { Self → List ℕ → Finding → Type 0 };
+
+    /// The files of a tree, of which nothing was asked yet. With `adopt` there may be folders already, which a run before this
+    /// made, and links to groups elsewhere.
+    fn files(self, adopt: bool) -> Self::Files
+        ensures { Self.Files.asked result adopt [] };
 
     /// Whether this is a folder.
     ///
     /// # Errors
     /// Those of the system.
-    fn is_folder(&self, path: &str) -> io::Result<bool>;
+    fn is_folder(&self, path: &str) -> io::Result<bool>
+        ensures { MatchResult result
+            (λ yes. finds self.now path.now (IsFolder yes))
+            (λ error. finds self.now path.now (Fails (error_kind error))) };
 
     /// What a file has, or none where it is not there.
     ///
     /// # Errors
     /// Those of the system, and an allocation failure.
-    fn read(&self, alloc: Global, path: &str) -> io::Result<Option<Vec<u8>>>;
+    fn read(&self, alloc: Global, path: &str) -> io::Result<Option<Vec<u8>>>
+        ensures { MatchResult result
+            (λ text. finds self.now path.now (Has (option_map (λ bytes. bytes.items) text)))
+            (λ error. finds self.now path.now (Fails (error_kind error))) };
 
     /// Names to the operator each folder in this one.
     fn name_folders(&self, alloc: Global, path: &str);

@@ -1,15 +1,19 @@
 //! The system's own folders and files.
-ghost use Rattle.std.specs.Prelude.{◌≡◌, ⊤};
+ghost use Rattle.std.specs.Prelude.{◌≡◌};
 
 use crate::GroupFiles;
+use crate::shown::Shown;
 use std::fs::OpenOptions;
 use std::io::{ErrorKind, Write};
 use std::rt::Files;
-use std::time::{Clock, Instant};
-use std::{fs, io};
+use std::time::{Clock, Duration, Instant};
+use std::{fs, io, thread};
 
 /// How many seconds a group's folder may be found busy, as it is until its last process is gone, before that is a refusal.
 const PATIENCE: u64 = 1;
+
+/// How many milliseconds are waited before a busy folder is tried again.
+const PAUSE: u64 = 1;
 
 /// The file that a folder of links to groups elsewhere has not.
 const CONTROLS: &str = "/cgroup.subtree_control";
@@ -21,6 +25,8 @@ pub struct HostFiles<'a, R> {
     pub rt: &'a R,
     /// Whether there may be folders already, which a run before this made, and links to groups elsewhere.
     pub adopt: bool,
+    /// Whether the folder that was asked for last was there.
+    pub found: bool,
 }
 
 impl<'a, R> HostFiles<'a, R> {
@@ -29,14 +35,18 @@ impl<'a, R> HostFiles<'a, R> {
         ensures rt { result.rt.now ≡ rt.now }
         ensures adopt { result.adopt ≡ adopt }
     {
-        HostFiles { rt, adopt }
+        HostFiles {
+            rt,
+            adopt,
+            found: false,
+        }
     }
 }
 
 impl<R: Files + Alloc + Clock + Eprint> HostFiles<'_, R> {
     /// Says on standard error what the system said of a path.
     fn note(&self, path: &str, error: &io::Error) {
-        let _ = eprintln!(self.rt; "error: {path}: {error}");
+        let _ = eprintln!(self.rt; "error: {}: {error}", Shown(path));
     }
 
     /// Says on standard error what a file has, and what it ought to have.
@@ -44,24 +54,23 @@ impl<R: Files + Alloc + Clock + Eprint> HostFiles<'_, R> {
         if let (Ok(text), Ok(line)) = (str::from_utf8(text), str::from_utf8(line)) {
             let (text, line) = (text.trim_end(), line.trim_end());
             let text = if text.is_empty() { "nothing" } else { text };
-            let _ = eprintln!(self.rt; "error: {path}: {text} in place of {line}");
+            let _ = eprintln!(self.rt;
+                "error: {}: {} in place of {line}",
+                Shown(path),
+                Shown(text)
+            );
         }
     }
 
-    /// Writes the whole text at once, since the kernel takes each write for a whole value; again where a signal came before it.
-    fn write(&self, path: &str, text: &[u8]) -> io::Result<()> {
-        let mut file = OpenOptions::new().write(true).open(self.rt, path)?;
-        for _ in 0..u64::MAX {
-            match file.write(text) {
-                Err(error) if error.kind() == ErrorKind::Interrupted => {}
-                Err(error) => return Err(error),
-                Ok(count) if count < text.len() => {
-                    return Err(io::Error::from(ErrorKind::WriteZero));
-                }
-                Ok(_) => return Ok(()),
-            }
+    /// What is answered where a write failed: in a folder that is gone it counts as done, since a group that is not there has no
+    /// process.
+    fn unwritten(&self, path: &str, error: io::Error) -> io::Result<()> {
+        self.note(path, &error);
+        if self.is_gone(path) {
+            Ok(())
+        } else {
+            Err(error)
         }
-        Err(io::Error::from(ErrorKind::Interrupted))
     }
 
     /// Whether the folder that a file is in is gone.
@@ -82,7 +91,15 @@ impl<R: Files + Alloc + Clock + Eprint> HostFiles<'_, R> {
         self.adopt && error.kind() == ErrorKind::NotFound && path.ends_with(CONTROLS)
     }
 
-    /// Removes a folder, again and again while it is busy.
+    /// Whether this is a link to a group elsewhere.
+    fn is_link(&self, path: &str) -> bool {
+        match fs::symlink_metadata(self.rt, path) {
+            Ok(found) => self.adopt && found.is_symlink(),
+            Err(_) => false,
+        }
+    }
+
+    /// Removes a folder, again and again while it is busy; or the link that stands for one.
     fn remove(&self, path: &str) -> io::Result<()> {
         let start = Instant::now(self.rt)?;
         for _ in 0..u64::MAX {
@@ -91,6 +108,11 @@ impl<R: Files + Alloc + Clock + Eprint> HostFiles<'_, R> {
                     if start.elapsed(self.rt)?.as_secs() >= PATIENCE {
                         return Err(error);
                     }
+                    thread::sleep(self.rt, Duration::from_millis(PAUSE));
+                }
+                Err(error) if error.kind() == ErrorKind::NotADirectory && self.is_link(path) => {
+                    let _ = eprintln!(self.rt; "note: {}: a link is removed", Shown(path));
+                    return fs::remove_file(self.rt, path);
                 }
                 done => return done,
             }
@@ -99,13 +121,32 @@ impl<R: Files + Alloc + Clock + Eprint> HostFiles<'_, R> {
     }
 }
 
+/// Writes the whole text at once, since the kernel takes each write for a whole value; again where a signal came before it.
+fn write_at_once<W: Write>(file: &mut W, text: &[u8]) -> io::Result<()> {
+    for _ in 0..u64::MAX {
+        match file.write(text) {
+            Err(error) if error.kind() == ErrorKind::Interrupted => {}
+            Err(error) => return Err(error),
+            Ok(count) if count < text.len() => {
+                return Err(io::Error::from(ErrorKind::WriteZero));
+            }
+            Ok(_) => return Ok(()),
+        }
+    }
+    Err(io::Error::from(ErrorKind::Interrupted))
+}
+
 impl<R: Files + Alloc + Clock + Eprint> GroupFiles for HostFiles<'_, R> {
-    ghost asked = { λ _ _. ⊤ };
+    ghost asked = { λ files adopt _. files.adopt ≡ adopt };
 
     /// A folder that is there counts as made where it may be there already.
     fn make_folder(&mut self, path: &str) -> io::Result<()> {
+        self.found = false;
         match fs::create_dir(self.rt, path) {
-            Err(error) if self.adopt && error.kind() == ErrorKind::AlreadyExists => Ok(()),
+            Err(error) if self.adopt && error.kind() == ErrorKind::AlreadyExists => {
+                self.found = true;
+                Ok(())
+            }
             Err(error) => {
                 self.note(path, &error);
                 Err(error)
@@ -129,19 +170,24 @@ impl<R: Files + Alloc + Clock + Eprint> GroupFiles for HostFiles<'_, R> {
         }
     }
 
-    /// A file in a folder that is gone counts as written: a group that is not there has no process.
+    /// A folder that was there stays.
+    fn unmake_folder(&mut self, path: &str) -> io::Result<()> {
+        if self.found {
+            return Ok(());
+        }
+        self.remove_folder(path)
+    }
+
+    /// A file in a folder that is gone counts as written, and that which a folder of links has not.
     fn write_file(&mut self, path: &str, text: &[u8]) -> io::Result<()> {
-        match self.write(path, text) {
+        let mut file = match OpenOptions::new().write(true).open(self.rt, path) {
+            Ok(file) => file,
+            Err(error) if self.is_of_links(path, &error) => return Ok(()),
+            Err(error) => return self.unwritten(path, error),
+        };
+        match write_at_once(&mut file, text) {
             Ok(()) => Ok(()),
-            Err(error) if self.is_of_links(path, &error) => Ok(()),
-            Err(error) => {
-                self.note(path, &error);
-                if self.is_gone(path) {
-                    Ok(())
-                } else {
-                    Err(error)
-                }
-            }
+            Err(error) => self.unwritten(path, error),
         }
     }
 

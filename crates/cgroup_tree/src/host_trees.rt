@@ -1,6 +1,7 @@
 //! The system's own cgroup trees.
-ghost use Rattle.std.specs.Prelude.{◌≡◌};
+ghost use Rattle.std.specs.Prelude.{◌≡◌, ⊤};
 
+use crate::shown::Shown;
 use crate::{GroupTrees, HostFiles};
 use std::alloc::Global;
 use std::io::ErrorKind;
@@ -24,22 +25,43 @@ impl<'a, R> HostTrees<'a, R> {
     }
 }
 
+impl<R: Files + Eprint> HostTrees<'_, R> {
+    /// Says on standard error that the system had no memory for a look at a path: the refusal does not tell that from an allocation
+    /// failure of the program's own.
+    fn note_memory(&self, path: &str, error: &io::Error) {
+        if error.kind() == ErrorKind::OutOfMemory && error.raw_os_error().is_some() {
+            let _ = eprintln!(self.rt; "error: {}: {error}", Shown(path));
+        }
+    }
+}
+
 impl<'a, R: Files + AllocGlobal + Clock + Eprint + Clone + Drop> GroupTrees for HostTrees<'a, R> {
     type Files = HostFiles<'a, R>;
 
-    fn files(&self, adopt: bool) -> HostFiles<'a, R> {
+    ghost finds = { λ _ _ _. ⊤ };
+
+    fn files(self, adopt: bool) -> HostFiles<'a, R> {
         HostFiles::new(self.rt, adopt)
     }
 
     fn is_folder(&self, path: &str) -> io::Result<bool> {
-        Ok(fs::metadata(self.rt, path)?.is_dir())
+        match fs::metadata(self.rt, path) {
+            Ok(found) => Ok(found.is_dir()),
+            Err(error) => {
+                self.note_memory(path, &error);
+                Err(error)
+            }
+        }
     }
 
     fn read(&self, _alloc: Global, path: &str) -> io::Result<Option<Vec<u8>>> {
         match fs::read(self.rt, path) {
             Ok(text) => Ok(Some(text)),
             Err(error) if error.kind() == ErrorKind::NotFound => Ok(None),
-            Err(error) => Err(error),
+            Err(error) => {
+                self.note_memory(path, &error);
+                Err(error)
+            }
         }
     }
 
@@ -53,7 +75,11 @@ impl<'a, R: Files + AllocGlobal + Clock + Eprint + Clone + Drop> GroupTrees for 
                 && kind.is_dir()
             {
                 let name = entry.file_name();
-                let _ = eprintln!(self.rt; "note: {path}/{name} is there and has to be adopted");
+                let _ = eprintln!(self.rt;
+                    "note: {}/{} is there and has to be adopted",
+                    Shown(path),
+                    Shown(&name)
+                );
             }
         }
     }

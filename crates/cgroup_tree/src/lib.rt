@@ -12,10 +12,13 @@ mod mirror;
 mod mirrored_kernel;
 mod paths;
 mod root;
+mod shown;
+mod sited;
 
 pub use group_files::GroupFiles;
 pub use group_trees::GroupTrees;
 pub use host_files::HostFiles;
 pub use host_trees::HostTrees;
 pub use mirrored_kernel::MirroredKernel;
-pub use root::{RootFault, memory_of};
+pub use root::{OpenTree, RootFault, open_tree};
+pub use sited::Sited;

@@ -3,7 +3,7 @@ ghost use Rattle.cpuset_tree.specs.Effective.{granted};
 ghost use Rattle.cpuset_tree.specs.Places.{place_of};
 ghost use Rattle.kernel_model.specs.declared.KernelFault.TheVariants.{Failed};
 ghost use Rattle.kernel_model.specs.Cases.{MakesGroup, RemovesGroup, WritesCpus, WritesMems, Spawns, EndsGroup, Forks, Exits, GoesOffline, ComesOnline};
-ghost use Rattle.cgroup_tree.specs.Asked.{Asks, Made, Removed, Written};
+ghost use Rattle.cgroup_tree.specs.Asked.{Asks, Made, Removed, Unmade, Written};
 ghost use Rattle.cgroup_tree.specs.Mirrored.{mirrored, Mirrors, MirrorsBoth, IsNamed};
 ghost use Rattle.cgroup_tree.specs.Paths.{folder, below, list_line, cpus_file, mems_file, kill_file, controls_file, kill_line, controls_line};
 
@@ -82,7 +82,7 @@ impl<F: GroupFiles> Mirror<F> {
         ensures asks { MirrorsBoth F.asked self.old.folders
             (Written (string_bytes self.old.root ++ (folder self.old.inner.tree parent ++ controls_file)) controls_line)
             (Made (string_bytes self.old.root ++ (folder self.old.inner.tree parent ++ below name.now)))
-            (Removed (string_bytes self.old.root ++ (folder self.old.inner.tree parent ++ below name.now))) result self.new.folders }
+            (Unmade (string_bytes self.old.root ++ (folder self.old.inner.tree parent ++ below name.now))) result self.new.folders }
         ensures same { (self.new.root ≡ self.old.root) × (self.new.memory ≡ self.old.memory) }
         ensures named { IsNamed name.now result }
     {
@@ -101,7 +101,7 @@ impl<F: GroupFiles> Mirror<F> {
         let answer = self.inner.make_group(parent, name);
         self.inner.never_fails();
         if let Err(OrMemory::Memory) = answer {
-            let _ = self.folders.remove_folder(path.as_str());
+            let _ = self.folders.unmake_folder(path.as_str());
         }
         answer
     }

@@ -1,19 +1,20 @@
 ghost use Rattle.std.specs.Prelude.{◌≡◌, ◌++◌, [], string_bytes};
 ghost use Rattle.cpuset_tree.specs.Effective.{granted};
 ghost use Rattle.kernel_model.specs.Cases.{MakesGroup, RemovesGroup, WritesCpus, WritesMems, EndsGroup};
-ghost use Rattle.cgroup_tree.specs.Asked.{Made, Removed, Written};
-ghost use Rattle.cgroup_tree.specs.Events.{IsAlone, IsMirrored};
+ghost use Rattle.cgroup_tree.specs.Asked.{Made, Removed, Unmade, Written};
+ghost use Rattle.cgroup_tree.specs.Events.{IsMirrored};
+ghost use Rattle.cgroup_tree.specs.Site.{Begins};
 ghost use Rattle.cgroup_tree.specs.Stands.{FilesStand};
 ghost use Rattle.cgroup_tree.specs.Mirrored.{mirrored, Mirrors, MirrorsBoth, IsNamed};
 ghost use Rattle.cgroup_tree.specs.Paths.{folder, below, list_line, cpus_file, mems_file, kill_file, controls_file, kill_line, controls_line};
 
-use crate::GroupFiles;
 use crate::mirror::Mirror;
+use crate::{GroupFiles, Sited};
 use cpu_set::IdSet;
 use faults::OrMemory;
 use kernel_model::{Group, Kernel, KernelFault, ModelKernel};
 use std::alloc::Global;
-use std::marker::Model;
+use std::marker::{Model, PhantomData};
 
 /// A modelled kernel whose writes are made in a cgroup v2 tree first.
 ///
@@ -21,14 +22,16 @@ use std::marker::Model;
 /// an allocation failed before it, the call is a write that failed: the model is as it was. A first process is made in the model
 /// alone.
 ///
-/// At each time all that was asked of the files is what the calls of this kernel stand for, in their order; and where
-/// files do what they answer and nobody else writes, each group's files have what it requests.
+/// At each time all that was asked of the files is what the calls of this kernel stand for, in their order, from its
+/// beginning on; and where files do what they answer and nobody else writes, each group's files have what it requests. Its
+/// root, its nodes with memory, how its files were opened and how it began are those that `S` stands for.
 #[derive(Drop)]
-pub struct MirroredKernel<F: GroupFiles> {
+pub struct MirroredKernel<F: GroupFiles, S: Sited> {
     mirror: Mirror<F>,
+    site: PhantomData<S>,
 }
 
-impl<F: GroupFiles> Model for MirroredKernel<F> {
+impl<F: GroupFiles, S: Sited> Model for MirroredKernel<F, S> {
     ghost use Rattle.std.specs.Prelude.{string_bytes};
     ghost use Rattle.cgroup_tree.specs.Shown.{Shown, shown_code};
 
@@ -37,7 +40,7 @@ impl<F: GroupFiles> Model for MirroredKernel<F> {
     ghost coded = { shown_code F.code };
 
     ghost use Rattle.cgroup_tree.specs.Mirrored.{mirrored};
-    ghost use Rattle.cgroup_tree.specs.Events.{IsMirrored};
+    ghost use Rattle.cgroup_tree.specs.Events.{IsMirroredAt};
 
     ghost view = { λ k. record {
       root = string_bytes k.mirror.root;
@@ -47,10 +50,10 @@ impl<F: GroupFiles> Model for MirroredKernel<F> {
       folders = k.mirror.folders;
     } };
 
-    ghost invariant = { λ k. IsMirrored F.asked (string_bytes k.mirror.root) k.mirror.memory (mirrored k.mirror.failed.writes k.mirror.inner) k.mirror.folders };
+    ghost invariant = { λ k. IsMirroredAt F.asked S.site (string_bytes k.mirror.root) k.mirror.memory (mirrored k.mirror.failed.writes k.mirror.inner) k.mirror.folders };
 }
 
-impl<F: GroupFiles> MirroredKernel<F> {
+impl<F: GroupFiles, S: Sited> MirroredKernel<F, S> {
     /// The kernel over these files, of which nothing was asked yet, the root group's folder at this path.
     pub fn new(
         alloc: Global,
@@ -58,9 +61,11 @@ impl<F: GroupFiles> MirroredKernel<F> {
         root: String,
         memory: IdSet,
         folders: F,
-    ) -> MirroredKernel<F>
-        requires alone { IsAlone inner.tree }
-        requires unasked { F.asked folders [] }
+    ) -> MirroredKernel<F, S>
+        requires first { Begins S.site.first inner }
+        requires root { string_bytes root ≡ S.site.root }
+        requires memory { memory ≡ S.site.memory }
+        requires unasked { F.asked folders S.site.adopt [] }
         ensures inner { result.inner ≡ inner }
         ensures root { result.root ≡ string_bytes root }
         ensures memory { result.memory ≡ memory }
@@ -70,25 +75,28 @@ impl<F: GroupFiles> MirroredKernel<F> {
         inner.root();
         MirroredKernel {
             mirror: Mirror::new(alloc, inner, root, memory, folders),
+            site: PhantomData,
         }
     }
 
     /// All that was asked of the files is what the calls of this kernel stand for, in their order; nothing runs.
     pub fn is_mirrored(&self)
-        ensures { IsMirrored F.asked self.now.root self.now.memory (mirrored self.now.failed self.now.inner) self.now.folders }
+        ensures mirrored { IsMirrored F.asked S.site (mirrored self.now.failed self.now.inner) self.now.folders }
+        ensures root { self.now.root ≡ S.site.root }
+        ensures memory { self.now.memory ≡ S.site.memory }
     {
         let _ = &self.mirror;
     }
 
     /// Each group's files have what it requests, where files do what they answer and nobody else writes; nothing runs.
     pub fn files_stand(&self)
-        ensures { FilesStand F.asked self.now.root self.now.memory (mirrored self.now.failed self.now.inner) self.now.folders }
+        ensures { FilesStand F.asked S.site (mirrored self.now.failed self.now.inner) self.now.folders }
     {
         self.is_mirrored();
     }
 }
 
-impl<F: GroupFiles> Kernel for MirroredKernel<F> {
+impl<F: GroupFiles, S: Sited> Kernel for MirroredKernel<F, S> {
     ghost state = { λ k. mirrored k.failed k.inner };
 
     fn make_group(&mut self, parent: Group, name: &str) -> Result<Group, OrMemory<KernelFault>>
@@ -96,7 +104,7 @@ impl<F: GroupFiles> Kernel for MirroredKernel<F> {
         ensures asks { MirrorsBoth F.asked self.old.folders
             (Written (self.old.root ++ (folder self.old.inner.tree parent ++ controls_file)) controls_line)
             (Made (self.old.root ++ (folder self.old.inner.tree parent ++ below name.now)))
-            (Removed (self.old.root ++ (folder self.old.inner.tree parent ++ below name.now))) result self.new.folders }
+            (Unmade (self.old.root ++ (folder self.old.inner.tree parent ++ below name.now))) result self.new.folders }
         ensures named { IsNamed name.now result }
     {
         self.mirror.make_group(parent, name)

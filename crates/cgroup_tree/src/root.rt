@@ -1,6 +1,9 @@
-//! What a tree's root has to be before a run begins.
-ghost use Rattle.std.specs.Prelude.{IfOk, true, ◌≡◌};
+//! A tree is opened, and what its root has to be before that.
+ghost use Rattle.std.specs.Prelude.{◌≡◌, ◌≢◌, ◌++◌, ◌↔◌, [], IfOk, IsTrue, MatchOption, MatchResult, None, option_map, string_bytes, true};
 ghost use Rattle.std.specs.FinSet as set;
+ghost use Rattle.cpu_set.specs.Ids.{Ids};
+ghost use Rattle.cpu_list.specs.FirstFault.{first_fault};
+ghost use Rattle.cgroup_tree.specs.Roots.{AnswersRoot, CantRead, Has, IsListOf, LooksAtControllers, LooksAtCpus, LooksAtFolder, LooksAtMems, names_cpuset};
 
 use crate::GroupTrees;
 use cpu_set::{CPU_LIMIT, IdSet};
@@ -33,6 +36,11 @@ pub enum RootFault {
 }
 
 impl From<io::Error> for RootFault {
+    ghost use Rattle.std.specs.IoError.{error_kind};
+    ghost use Rattle.cgroup_tree.specs.Roots.{IsFaultOf};
+
+    ghost from_gives = { λ error fault. IsFaultOf (error_kind error) fault };
+
     fn from(error: io::Error) -> RootFault {
         match error.kind() {
             ErrorKind::OutOfMemory => RootFault::Memory,
@@ -42,18 +50,63 @@ impl From<io::Error> for RootFault {
 }
 
 impl From<AllocError> for RootFault {
+    ghost use Rattle.std.specs.Prelude.{◌≡◌};
+    ghost use Rattle.cgroup_tree.specs.declared.root.RootFault.TheVariants.{Memory};
+
+    ghost from_gives = { λ _ fault. fault ≡ Memory };
+
     fn from(_error: AllocError) -> RootFault {
         RootFault::Memory
     }
 }
 
-/// The nodes that have memory, of a machine whose online CPUs and whose nodes are these: those in effect at the root, or
-/// all of them where that is not told. With `adopt` each folder that is there already is named to the operator.
+/// A cgroup v2 tree that is open.
+#[derive(Drop)]
+pub struct OpenTree<F> {
+    /// The path of its root.
+    pub root: String,
+    /// The nodes that have memory.
+    pub memory: IdSet,
+    /// Whether folders of a run before may be there.
+    pub adopt: bool,
+    /// Its files.
+    pub files: F,
+}
+
+/// The tree of this root, for a machine whose online CPUs and whose nodes are these. With `adopt` folders of a run before may
+/// be there, and each is named to the operator. Nothing was asked of its files.
 ///
 /// # Errors
 /// In this order: [`RootFault::Unread`] where the root is no folder, [`RootFault::NoCpuset`], [`RootFault::OtherMachine`];
 /// and `Unread` or `Memory` where a file can't be read.
-pub fn memory_of<T: GroupTrees>(
+pub fn open_tree<T: GroupTrees + Drop>(
+    alloc: Global,
+    trees: T,
+    root: &str,
+    online: &IdSet,
+    nodes: &IdSet,
+    adopt: bool,
+) -> Result<OpenTree<T::Files>, RootFault>
+    ensures answers { MatchResult result
+        (λ tree. AnswersRoot (T.finds trees) root.now online.now nodes.now (Ok tree.memory))
+        (λ why. AnswersRoot (T.finds trees) root.now online.now nodes.now (Err why)) }
+    ensures root { IfOk result (λ tree. string_bytes tree.root ≡ root.now) }
+    ensures adopt { IfOk result (λ tree. tree.adopt ≡ adopt) }
+    ensures unasked { IfOk result (λ tree. T.Files.asked tree.files adopt []) }
+{
+    let memory = memory_of(alloc, &trees, root, online, nodes, adopt)?;
+    let root = String::from_str(alloc, root)?;
+    Ok(OpenTree {
+        root,
+        memory,
+        adopt,
+        files: trees.files(adopt),
+    })
+}
+
+/// The nodes that have memory, of a machine whose online CPUs and whose nodes are these: those in effect at the root, or
+/// all of them where that is not told. With `adopt` each folder that is there already is named to the operator.
+fn memory_of<T: GroupTrees>(
     alloc: Global,
     trees: &T,
     root: &str,
@@ -61,28 +114,12 @@ pub fn memory_of<T: GroupTrees>(
     nodes: &IdSet,
     adopt: bool,
 ) -> Result<IdSet, RootFault>
-    ensures { IfOk result (λ memory. set.is_subset memory nodes.now ≡ true) }
+    ensures { AnswersRoot (T.finds trees.now) root.now online.now nodes.now result }
 {
-    if !trees.is_folder(root)? {
-        return Err(RootFault::Unread(ErrorKind::NotADirectory));
-    }
-    if let Some(text) = read_below(alloc, trees, root, CONTROLLERS)?
-        && !names_cpuset(text.as_slice())
-    {
-        return Err(RootFault::NoCpuset);
-    }
-    if let Some(text) = read_below(alloc, trees, root, CPUS_IN_EFFECT)?
-        && set_in(text.as_slice()) != Some(*online)
-    {
-        return Err(RootFault::OtherMachine);
-    }
-    let memory = match read_below(alloc, trees, root, MEMS_IN_EFFECT)? {
-        None => *nodes,
-        Some(text) => set_in(text.as_slice()).ok_or(RootFault::OtherMachine)?,
-    };
-    if !memory.is_subset(nodes) {
-        return Err(RootFault::OtherMachine);
-    }
+    look_at_folder(trees, root)?;
+    look_at_controllers(alloc, trees, root)?;
+    look_at_cpus(alloc, trees, root, online)?;
+    let memory = look_at_mems(alloc, trees, root, nodes)?;
     if adopt {
         let group = path_below(alloc, root, GROUP)?;
         trees.name_folders(alloc, group.as_str());
@@ -90,7 +127,67 @@ pub fn memory_of<T: GroupTrees>(
     Ok(memory)
 }
 
-fn path_below(alloc: Global, root: &str, file: &str) -> Result<String, AllocError> {
+fn look_at_folder<T: GroupTrees>(trees: &T, root: &str) -> Result<(), RootFault>
+    ensures { LooksAtFolder (T.finds trees.now) root.now result }
+{
+    if trees.is_folder(root)? {
+        Ok(())
+    } else {
+        Err(RootFault::Unread(ErrorKind::NotADirectory))
+    }
+}
+
+fn look_at_controllers<T: GroupTrees>(alloc: Global, trees: &T, root: &str) -> Result<(), RootFault>
+    ensures { LooksAtControllers (T.finds trees.now) root.now result }
+{
+    let Some(text) = read_below(alloc, trees, root, CONTROLLERS)? else {
+        return Ok(());
+    };
+    if names_cpuset(text.as_slice()) {
+        Ok(())
+    } else {
+        Err(RootFault::NoCpuset)
+    }
+}
+
+fn look_at_cpus<T: GroupTrees>(
+    alloc: Global,
+    trees: &T,
+    root: &str,
+    online: &IdSet,
+) -> Result<(), RootFault>
+    ensures { LooksAtCpus (T.finds trees.now) root.now online.now result }
+{
+    let Some(text) = read_below(alloc, trees, root, CPUS_IN_EFFECT)? else {
+        return Ok(());
+    };
+    if is_list_of(text.as_slice(), online) {
+        Ok(())
+    } else {
+        Err(RootFault::OtherMachine)
+    }
+}
+
+fn look_at_mems<T: GroupTrees>(
+    alloc: Global,
+    trees: &T,
+    root: &str,
+    nodes: &IdSet,
+) -> Result<IdSet, RootFault>
+    ensures { LooksAtMems (T.finds trees.now) root.now nodes.now result }
+{
+    let Some(text) = read_below(alloc, trees, root, MEMS_IN_EFFECT)? else {
+        return Ok(*nodes);
+    };
+    match nodes_in(text.as_slice(), nodes) {
+        Some(memory) => Ok(memory),
+        None => Err(RootFault::OtherMachine),
+    }
+}
+
+fn path_below(alloc: Global, root: &str, file: &str) -> Result<String, AllocError>
+    ensures { IfOk result (λ path. string_bytes path ≡ root.now ++ file.now) }
+{
     let mut path = String::from_str(alloc, root)?;
     path.push_str(file)?;
     Ok(path)
@@ -101,18 +198,50 @@ fn read_below<T: GroupTrees>(
     trees: &T,
     root: &str,
     file: &str,
-) -> Result<Option<Vec<u8>>, RootFault> {
+) -> Result<Option<Vec<u8>>, RootFault>
+    ensures { MatchResult result
+        (λ text. T.finds trees.now (root.now ++ file.now) (Has (option_map (λ bytes. bytes.items) text)))
+        (λ why. CantRead (T.finds trees.now) root.now file.now why) }
+{
     let path = path_below(alloc, root, file)?;
     Ok(trees.read(alloc, path.as_str())?)
 }
 
 /// The set that a file's text names, if it is a list.
-fn set_in(text: &[u8]) -> Option<IdSet> {
+fn set_in(text: &[u8]) -> Option<IdSet>
+    ensures { MatchOption result (first_fault CPU_LIMIT text.now ≢ None) (λ ids. IsListOf text.now ids) }
+{
     cpu_list::read(text, CPU_LIMIT).ok()
 }
 
+/// Whether a file's text is a list of just these CPUs.
+fn is_list_of(text: &[u8], ids: &IdSet) -> bool
+    ensures { IsTrue result ↔ IsListOf text.now ids.now }
+{
+    match set_in(text) {
+        Some(found) => found == *ids,
+        None => false,
+    }
+}
+
+/// The set that a file's text names, if it is a list of no others than these nodes.
+fn nodes_in(text: &[u8], nodes: &IdSet) -> Option<IdSet>
+    ensures { MatchOption result
+        ((memory : Ids) → IsListOf text.now memory → set.is_subset memory nodes.now ≡ true → ⊥)
+        (λ memory. IsListOf text.now memory × (set.is_subset memory nodes.now ≡ true)) }
+{
+    let memory = set_in(text)?;
+    if memory.is_subset(nodes) {
+        Some(memory)
+    } else {
+        None
+    }
+}
+
 /// Whether the controllers of a group, each a word, have the one for cpusets.
-fn names_cpuset(text: &[u8]) -> bool {
+fn names_cpuset(text: &[u8]) -> bool
+    ensures { result ≡ names_cpuset text.now }
+{
     text.split(|b| *b == b' ' || *b == b'\n')
         .any(|word| word == b"cpuset".as_slice())
 }

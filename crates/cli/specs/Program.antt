@@ -2,12 +2,20 @@
 use Rattle.std.specs.Prelude.{◌≡◌, ◌⊎◌, ℕ, ◌-◌, ◌^◌, List, [], Bool, true, false, Option, Some, None, Result, Ok, Err, bytes_eq, codes, unwrap_or}
 use Rattle.std.specs.declared.io.ErrorKind.{ErrorKind as SystemKind}
 use Rattle.cgroup_tree.specs.Asked.{Asked as FileCall}
+use Rattle.cgroup_tree.specs.Roots.{AnswersRoot, Finding}
+use Rattle.cgroup_tree.specs.Site.{Site}
 use Rattle.clap.specs.Words.{IsAmong, Text}
 use Rattle.clap.specs.declared.error.kind.ErrorKind.{ErrorKind}
 use Rattle.clap.specs.declared.error.kind.ErrorKind.TheVariants.{DisplayHelp, DisplayVersion, OutOfMemory}
+use Rattle.cpu_set.specs.Ids.{Ids}
+use Rattle.faults.specs.declared.OrMemory.{OrMemory}
+use Rattle.faults.specs.declared.OrMemory.TheVariants.{Memory}
+use Rattle.kernel_model.specs.declared.KernelFault.{KernelFault}
 use Rattle.machine.specs.Layout.{Layout}
+use Rattle.machine.specs.Nodes.{nodes_of}
 use Rattle.node.specs.NodeState.{NodeState}
 use Rattle.runtime.specs.Boots.{Boots}
+use Rattle.runtime.specs.MirroredNodes.{IsNotBooted, site_of}
 use Rattle.runtime.specs.RuntimeState.{Told}
 use Rattle.script.specs.declared.running.TheConstants.{MOST_READS}
 use Rattle.script.specs.declared.script_fault.ScriptFault.{ScriptFault}
@@ -18,7 +26,7 @@ use Rattle.cli.specs.Notes.{note_of, shown, standard_input, unread_line, unwritt
 use Rattle.program_io.specs.Pages.{TakesIfRoom, contents_of}
 use Rattle.program_io.specs.Readings.{Reading, Reads}
 use Rattle.cli.specs.Ready.{SetsUp, refusal_of}
-use Rattle.cli.specs.Roots.{root_line, root_note}
+use Rattle.cli.specs.Roots.{IsNotRooted, root_line, root_note, unrooted_of}
 use Rattle.program_io.specs.RefusalLine.{refusal_line}
 use Rattle.cli.specs.RunAnswer.{Plays, PlaysIn, is_unread}
 use Rattle.cli.specs.Says.{Complains, Says}
@@ -57,9 +65,9 @@ module _ {W E : Type 0} (out : W → Option (List ℕ)) (err : E → Option (Lis
       × Plays most n told script script' (contents_of out old.out) (contents_of out mid.out) end × (mid.err ≡ old.err) × Finishes out err mid new status end
 
   -- the same over a node whose kernel writes are made in files too
-  abbrev pub PerformsIn : {F : Type 0} → (F → List FileCall → Type 0) → ℕ → NodeState → Told → Option (List ℕ) → Option (List ℕ) → Type 0
-  PerformsIn asked most n told script script' = (mid : Console W E) × (end : Result (Unit {0}) ScriptFault)
-      × PlaysIn asked most n told script script' (contents_of out old.out) (contents_of out mid.out) end × (mid.err ≡ old.err) × Finishes out err mid new status end
+  abbrev pub PerformsIn : {F : Type 0} → (F → Bool → List FileCall → Type 0) → Site → ℕ → NodeState → Told → Option (List ℕ) → Option (List ℕ) → Type 0
+  PerformsIn asked site most n told script script' = (mid : Console W E) × (end : Result (Unit {0}) ScriptFault)
+      × PlaysIn asked site most n told script script' (contents_of out old.out) (contents_of out mid.out) end × (mid.err ≡ old.err) × Finishes out err mid new status end
 
   -- one of the two files is refused
   abbrev pub Refuses : Text → Option Text → Unready → Type 0
@@ -73,6 +81,12 @@ module _ {W E : Type 0} (out : W → Option (List ℕ)) (err : E → Option (Lis
   abbrev pub RefusesRoot : Text → Unrooted → Type 0
   RefusesRoot root why = Says out err old new status (root_line why) 1 (root_note root why)
 
+  -- the script was run over a new node of the machine, whose kernel's writes are made in this place too; or its group can't be made there
+  abbrev pub PinsAt : {F : Type 0} → (F → Bool → List FileCall → Type 0) → Layout → Site → Told → Option (List ℕ) → Option (List ℕ) → Type 0
+  PinsAt asked m site told script script' =
+      ((n : NodeState) × Boots m n × PerformsIn asked site (2 ^ 64 - 1) n told script script')
+      ⊎ ((error : OrMemory KernelFault) × ((error ≡ Memory) ⊎ IsNotBooted asked site m error) × Says out err old new status (root_line (unrooted_of error)) 1 [])
+
   -- the files that may be opened under a name, the errors by which that may fail, and what the reading of one may answer
   module _ {I : Type 0} (opens : Text → I → Type 0) (fails : Text → SystemKind → Type 0) (gives : I → Reading → Type 0) where
     -- the script was run over a new node of the machine of these files, or its allocation failed, or one of the files is refused
@@ -82,13 +96,15 @@ module _ {W E : Type 0} (out : W → Option (List ℕ)) (err : E → Option (Lis
         × (((n : NodeState) × Boots m n × Performs MOST_READS n told script script') ⊎ LacksRoom))
         ⊎ ((why : Unready) × SetsUp opens fails gives machine table (Err why) × Refuses machine table why)
 
-    -- what files below a root were asked for
-    module _ {F : Type 0} (asked : F → List FileCall → Type 0) where
-      -- the same where its kernel writes are made below the root of a cgroup tree too: the root may be refused
-      abbrev pub Pins : Told → Option (List ℕ) → Option (List ℕ) → Text → Option Text → Text → Type 0
-      Pins told script script' machine table root =
+    -- what the files of a cgroup tree were asked for, and what a look at a path may find
+    module _ {F : Type 0} (asked : F → Bool → List FileCall → Type 0) (finds : Text → Finding → Type 0) where
+      -- the same where its kernel writes are made below the root of a cgroup tree too, opened with folders of a run before or without:
+      -- the root may be refused
+      abbrev pub Pins : Told → Option (List ℕ) → Option (List ℕ) → Text → Option Text → Text → Bool → Type 0
+      Pins told script script' machine table root adopt =
           ((m : Layout) × SetsUp opens fails gives machine table (Ok m)
-          × (((n : NodeState) × Boots m n × PerformsIn asked (2 ^ 64 - 1) n told script script') ⊎ ((why : Unrooted) × RefusesRoot root why)))
+          × (((memory : Ids) × AnswersRoot finds root m.online (nodes_of m) (Ok memory) × PinsAt asked m (site_of m root memory adopt) told script script')
+          ⊎ ((why : Unrooted) × IsNotRooted finds root m why × RefusesRoot root why)))
           ⊎ ((why : Unready) × SetsUp opens fails gives machine table (Err why) × Refuses machine table why)
 
       -- what is asked for is done, over these files, and over what the reading of standard input may answer and its bytes
@@ -97,7 +113,7 @@ module _ {W E : Type 0} (out : W → Option (List ℕ)) (err : E → Option (Lis
       Does input script (list text) = Lists out err old new status text
       Does input script (slit file) = Tabulates out err old new status (reads_named (Reads opens fails gives) input file) (shown file)
       Does input script (run machine table None adopt) = (script' : Option (List ℕ)) × Scripts None script script' machine table
-      Does input script (run machine table (Some root) adopt) = (script' : Option (List ℕ)) × Pins None script script' machine table root
+      Does input script (run machine table (Some root) adopt) = (script' : Option (List ℕ)) × Pins None script script' machine table root adopt
       Does input script (solve file) = Solves out err old new status (reads_named (Reads opens fails gives) input (name_of file)) (shown (name_of file))
 
   -- the help or the version goes to standard output with status 0, and what a mistake is to standard error with

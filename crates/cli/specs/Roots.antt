@@ -1,11 +1,37 @@
 -- What is said where the root of a cgroup tree is refused.
-use Rattle.std.specs.Prelude.{ℕ, List, [], codes}
+use Rattle.std.specs.Prelude.{◌≡◌, ℕ, List, [], codes, Err}
+use Rattle.cgroup_tree.specs.Roots.{AnswersRoot, Finding}
+use Rattle.cgroup_tree.specs.declared.RootFault.{RootFault}
+use Rattle.cgroup_tree.specs.declared.RootFault.TheVariants as root_fault
 use Rattle.clap.specs.Words.{Text}
+use Rattle.faults.specs.declared.OrMemory.{OrMemory}
+use Rattle.faults.specs.declared.OrMemory.TheVariants.{Memory, Fault}
+use Rattle.kernel_model.specs.declared.KernelFault.{KernelFault}
+use Rattle.machine.specs.Layout.{Layout}
+use Rattle.machine.specs.Nodes.{nodes_of}
+use Rattle.program_io.specs.ReadFaults.{IsTold}
 use Rattle.program_io.specs.RefusalLine.{refusal_line}
+use Rattle.program_io.specs.declared.read_fault.ReadFault.{ReadFault}
 use Rattle.program_io.specs.declared.refusal.Refusal.TheVariants as refusal
 use Rattle.cli.specs.Notes.{note_of}
 use Rattle.cli.specs.declared.unrooted.Unrooted.{Unrooted}
 use Rattle.cli.specs.declared.unrooted.Unrooted.TheVariants as unrooted
+
+-- the refusal of a root that is not taken
+abbrev pub IsUnrooted : RootFault → Unrooted → Type 0
+IsUnrooted root_fault.Memory why = why ≡ unrooted.Memory
+IsUnrooted (root_fault.Unread kind) why = (told : ReadFault) × IsTold kind told × (why ≡ unrooted.Unread told)
+IsUnrooted root_fault.NoCpuset why = why ≡ unrooted.NoCpuset
+IsUnrooted root_fault.OtherMachine why = why ≡ unrooted.OtherMachine
+
+-- of a node that can't be made over it
+abbrev pub unrooted_of : OrMemory KernelFault → Unrooted
+unrooted_of Memory = unrooted.Memory
+unrooted_of (Fault fault) = unrooted.Kernel
+
+-- the root is not taken for this machine, by what was found of it
+abbrev pub IsNotRooted : (List ℕ → Finding → Type 0) → Text → Layout → Unrooted → Type 0
+IsNotRooted finds root m why = (fault : RootFault) × AnswersRoot finds root m.online (nodes_of m) (Err fault) × IsUnrooted fault why
 
 abbrev pub root_line : Unrooted → List ℕ
 root_line (unrooted.Unread fault) = refusal_line (refusal.ReadFault fault)

@@ -1,6 +1,7 @@
 -- What is run of a script, and how its end is told.
-use Rattle.std.specs.Prelude.{◌≡◌, ℕ, List, Option, Some, None, Result}
+use Rattle.std.specs.Prelude.{◌≡◌, ℕ, Bool, List, Option, Some, None, Result}
 use Rattle.cgroup_tree.specs.Asked.{Asked}
+use Rattle.cgroup_tree.specs.Site.{Site}
 use Rattle.node.specs.NodeState.{NodeState}
 use Rattle.runtime.specs.Answered.{Answered}
 use Rattle.runtime.specs.MirroredNodes.{IsMirroredNode}
@@ -24,7 +25,7 @@ Plays most n told read read' out out' end =
     (final : RuntimeState) × EndsBy most Answered read read' out out' (record { node = n; told = told }) end final
 
 -- the same over a node whose kernel writes are made in files too; at the end all that these were asked for is what the calls of
--- the node's kernel stand for, in their order
-abbrev pub PlaysIn : {F : Type 0} → (F → List Asked → Type 0) → ℕ → NodeState → Told → Option (List ℕ) → Option (List ℕ) → Option (List ℕ) → Option (List ℕ) → Result (Unit {0}) ScriptFault → Type 0
-PlaysIn asked most n told read read' out out' end =
-    (final : RuntimeState) × EndsBy most Answered read read' out out' (record { node = n; told = told }) end final × IsMirroredNode asked final.node
+-- the node's kernel stand for, in their order, in this place
+abbrev pub PlaysIn : {F : Type 0} → (F → Bool → List Asked → Type 0) → Site → ℕ → NodeState → Told → Option (List ℕ) → Option (List ℕ) → Option (List ℕ) → Option (List ℕ) → Result (Unit {0}) ScriptFault → Type 0
+PlaysIn asked site most n told read read' out out' end =
+    (final : RuntimeState) × EndsBy most Answered read read' out out' (record { node = n; told = told }) end final × IsMirroredNode asked site final.node

@@ -18,24 +18,25 @@ const NO_TEXT: &str = "error: the words of the command line are not UTF-8\n";
 /// Runs the program on its arguments, of which the first is its name; the exit status.
 ///
 /// The status is 1 where an allocation for the words failed, and 2 where they are no text; beyond that see [`run_program`].
-pub fn start<G: Grammar, F: Opens + GroupTrees, R: Read + Input, W: Write, E: Write>(
+pub fn start<G: Grammar, F: Opens, T: GroupTrees + Drop, R: Read + Input, W: Write, E: Write>(
     alloc: Global,
     grammar: &G,
     arguments: io::Result<Vec<String>>,
     files: &F,
+    trees: T,
     input: R,
     console: &mut Console<W, E>,
 ) -> u8
     ensures { MatchResult arguments
         (λ given. Runs W.contents E.contents console.old console.new result (G.fails grammar.now) (G.lacks grammar.now)
-        (Does W.contents E.contents console.old console.new result (F.opens files.now) (F.fails files.now) F.File.gives F.Files.asked
-        (R.Input.gives input) (R.Read.remaining input)) (map string_bytes (drop 1 given.items)))
+        (Does W.contents E.contents console.old console.new result (F.opens files.now) (F.fails files.now) F.File.gives
+        T.Files.asked (T.finds trees) (R.Input.gives input) (R.Read.remaining input)) (map string_bytes (drop 1 given.items)))
         (Stops W.contents E.contents console.old console.new result) }
 {
     match arguments {
         Ok(arguments) => {
             let words = behind_name(arguments.as_slice());
-            run_program(alloc, grammar, words, files, input, console)
+            run_program(alloc, grammar, words, files, trees, input, console)
         }
         Err(error) => match error.kind() {
             ErrorKind::OutOfMemory => print_then_note(&Refusal::Memory, REFUSED, &None, console),

@@ -23,6 +23,7 @@ mod unrooted;
 mod words;
 
 pub use arguments::start;
+pub use cgroup_tree::HostTrees;
 pub use check::do_check;
 pub use command_line::CommandLine;
 pub use console::Console;

@@ -3,11 +3,8 @@ ghost use Rattle.std.specs.Prelude.{◌≡◌, ℕ, List, IfErr, IfOk, ⊤};
 ghost use Rattle.std.specs.IoError.{error_kind};
 ghost use Rattle.std.specs.declared.io.ErrorKind.{ErrorKind};
 
-use cgroup_tree::{GroupTrees, HostFiles, HostTrees};
 use program_io::{Input, Source};
-use std::alloc::Global;
 use std::rt::Files;
-use std::time::Clock;
 use std::{fs, io};
 
 /// What opens files by their names.
@@ -51,26 +48,6 @@ impl<R: Files> Opens for Disk<'_, R> {
 
     fn open(&self, name: &str) -> io::Result<R::File> {
         fs::open(self.rt, name)
-    }
-}
-
-impl<'a, R: Files + AllocGlobal + Clock + Eprint + Clone + Drop> GroupTrees for Disk<'a, R> {
-    type Files = HostFiles<'a, R>;
-
-    fn files(&self, adopt: bool) -> HostFiles<'a, R> {
-        HostTrees::new(self.rt).files(adopt)
-    }
-
-    fn is_folder(&self, path: &str) -> io::Result<bool> {
-        HostTrees::new(self.rt).is_folder(path)
-    }
-
-    fn read(&self, alloc: Global, path: &str) -> io::Result<Option<Vec<u8>>> {
-        HostTrees::new(self.rt).read(alloc, path)
-    }
-
-    fn name_folders(&self, alloc: Global, path: &str) {
-        HostTrees::new(self.rt).name_folders(alloc, path)
     }
 }
 

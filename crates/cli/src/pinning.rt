@@ -1,8 +1,10 @@
 //! `numarun run --cgroup`.
-ghost use Rattle.std.specs.Prelude.{◌≡◌, IfOk, option_map};
-ghost use Rattle.runtime.specs.Boots.{Boots};
-ghost use Rattle.cli.specs.Program.{Pins};
-ghost use Rattle.cli.specs.Roots.{root_note};
+ghost use Rattle.std.specs.Prelude.{◌≡◌, [], IfOk, MatchResult, option_map, string_bytes};
+ghost use Rattle.machine.specs.Nodes.{nodes_of};
+ghost use Rattle.cgroup_tree.specs.Roots.{AnswersRoot};
+ghost use Rattle.runtime.specs.MirroredNodes.{site_of};
+ghost use Rattle.cli.specs.Program.{Pins, PinsAt};
+ghost use Rattle.cli.specs.Roots.{IsNotRooted, root_note};
 ghost use Rattle.cli.specs.RunAnswer.{PlaysIn};
 ghost use Rattle.cli.specs.declared.note.Note.{Note};
 ghost use Rattle.cli.specs.Notes.{note_text};
@@ -12,13 +14,14 @@ use crate::note::Note;
 use crate::opens::Opens;
 use crate::run::{finish, refuse, set_up};
 use crate::unrooted::Unrooted;
-use cgroup_tree::{GroupFiles, GroupTrees, MirroredKernel, memory_of};
+use cgroup_tree::{GroupFiles, GroupTrees, MirroredKernel, OpenTree, Sited, open_tree};
 use machine::Machine;
 use node::Node;
 use runtime::{Bundles, Runner, boot_mirrored, run_mirrored};
 use script::ScriptFault;
-use std::alloc::{AllocError, Global};
+use std::alloc::Global;
 use std::io::{Read, Write};
+use std::marker::Brand;
 
 /// A cgroup v2 tree that a script is run in.
 #[derive(Clone, Copy)]
@@ -31,62 +34,87 @@ pub struct Root<'a> {
 
 /// Runs the script that the reader has left over the machine in this file, as [`do_run`](crate::do_run) does, and makes each
 /// kernel write below this root too; or prints why one of the files or the root is refused. No number of reads is too many.
-pub fn do_pin<F: Opens + GroupTrees, B: Bundles + Drop, R: Read, W: Write, E: Write>(
+pub fn do_pin<F: Opens, T: GroupTrees + Drop, B: Bundles + Drop, R: Read, W: Write, E: Write>(
     alloc: Global,
     machine: &str,
     table: Option<&str>,
     root: Root<'_>,
     files: &F,
+    trees: T,
     bundles: B,
     script: &mut R,
     console: &mut Console<W, E>,
 ) -> u8
-    ensures { Pins W.contents E.contents console.old console.new result (F.opens files.now) (F.fails files.now) F.File.gives F.Files.asked
-        (B.told bundles) (R.remaining script.old) (R.remaining script.new)
-        machine.now (option_map (λ name. name.now) table.entry) root.entry.path.now }
+    ensures { Pins W.contents E.contents console.old console.new result (F.opens files.now) (F.fails files.now) F.File.gives
+        T.Files.asked (T.finds trees) (B.told bundles) (R.remaining script.old) (R.remaining script.new)
+        machine.now (option_map (λ name. name.now) table.entry) root.entry.path.now root.entry.adopt }
 {
     match set_up(alloc, machine, table, files) {
-        Ok(found) => match node_below(alloc, found, root, files) {
-            Ok(node) => {
-                let end = play_below(node, bundles, script, &mut console.out, u64::MAX);
-                finish(end, console)
-            }
+        Ok(found) => match open_below(alloc, &found, root, trees) {
+            Ok(tree) => pin_in::<Brand, T::Files, B, R, W, E>(
+                alloc, found, tree, bundles, script, console,
+            ),
             Err(why) => print_then_note(&why, REFUSED, &note_of(root.path, why), console),
         },
         Err(unready) => refuse(machine, table, unready, console),
     }
 }
 
-/// The node of the machine, whose kernel writes are made below this root too.
-fn node_below<T: GroupTrees>(
+/// The tree of this root, for this machine.
+fn open_below<T: GroupTrees + Drop>(
     alloc: Global,
-    machine: Machine,
+    machine: &Machine,
     root: Root<'_>,
-    trees: &T,
-) -> Result<Node<MirroredKernel<T::Files>>, Unrooted>
-    ensures { IfOk result (Boots machine) }
+    trees: T,
+) -> Result<OpenTree<T::Files>, Unrooted>
+    ensures answers { MatchResult result
+        (λ tree. AnswersRoot (T.finds trees) root.entry.path.now machine.now.online (nodes_of machine.now) (Ok tree.memory))
+        (λ why. IsNotRooted (T.finds trees) root.entry.path.now machine.now why) }
+    ensures root { IfOk result (λ tree. string_bytes tree.root ≡ root.entry.path.now) }
+    ensures adopt { IfOk result (λ tree. tree.adopt ≡ root.entry.adopt) }
+    ensures unasked { IfOk result (λ tree. T.Files.asked tree.files tree.adopt []) }
 {
     let (online, nodes) = (machine.boot_online(), machine.nodes());
-    let memory = memory_of(alloc, trees, root.path, &online, &nodes, root.adopt)?;
-    let Ok(path) = String::from_str(alloc, root.path) else {
-        return Err(Unrooted::Memory);
-    };
-    match boot_mirrored(alloc, machine, path, memory, trees.files(root.adopt)) {
-        Ok(node) => Ok(node),
-        Err(error) => Err(Unrooted::from(error)),
+    match open_tree(alloc, trees, root.path, &online, &nodes, root.adopt) {
+        Ok(tree) => Ok(tree),
+        Err(fault) => Err(Unrooted::from(fault)),
+    }
+}
+
+/// Runs the script that the reader has left over the machine, in this tree, of which nothing was asked yet; or prints why the group
+/// of all containers can't be made there.
+fn pin_in<S: Sited, F: GroupFiles + Drop, B: Bundles + Drop, R: Read, W: Write, E: Write>(
+    alloc: Global,
+    machine: Machine,
+    tree: OpenTree<F>,
+    bundles: B,
+    script: &mut R,
+    console: &mut Console<W, E>,
+) -> u8
+    requires site { S.site ≡ site_of machine (string_bytes tree.root) tree.memory tree.adopt }
+    requires unasked { F.asked tree.files tree.adopt [] }
+    ensures { PinsAt W.contents E.contents console.old console.new result F.asked machine
+        (site_of machine (string_bytes tree.root) tree.memory tree.adopt) (B.told bundles) (R.remaining script.old) (R.remaining script.new) }
+{
+    match boot_mirrored::<F, S>(alloc, machine, tree) {
+        Ok(node) => {
+            let end = play_below(node, bundles, script, &mut console.out, u64::MAX);
+            finish(end, console)
+        }
+        Err(error) => print_then_note(&Unrooted::from(error), REFUSED, &None, console),
     }
 }
 
 /// Runs the script that the reader has left over a node whose kernel writes are made in files too, by so many reads at most, and
 /// writes its answers.
-fn play_below<F: GroupFiles + Drop, B: Bundles + Drop, R: Read, W: Write>(
-    node: Node<MirroredKernel<F>>,
+fn play_below<F: GroupFiles + Drop, S: Sited, B: Bundles + Drop, R: Read, W: Write>(
+    node: Node<MirroredKernel<F, S>>,
     bundles: B,
     script: &mut R,
     w: &mut W,
     most_reads: u64,
 ) -> Result<(), ScriptFault>
-    ensures { PlaysIn F.asked most_reads node (B.told bundles) (R.remaining script.old) (R.remaining script.new) (W.contents w.old) (W.contents w.new) result }
+    ensures { PlaysIn F.asked S.site most_reads node (B.told bundles) (R.remaining script.old) (R.remaining script.new) (W.contents w.old) (W.contents w.new) result }
 {
     let mut runner = Runner::new(node, bundles);
     run_mirrored(&mut runner, script, w, most_reads)

@@ -24,34 +24,36 @@ use std::io::{Read, Write};
 /// Does what the words of the command line ask for, over these files and standard streams, and tells the exit status:
 /// 0; 1 where an input is refused, an allocation fails or the answer can't be written; 2 where the words are no command line,
 /// or an allocation fails while they are parsed or while the help or a mistake is put into words.
-pub fn run_program<G: Grammar, F: Opens + GroupTrees, R: Read + Input, W: Write, E: Write>(
+pub fn run_program<G: Grammar, F: Opens, T: GroupTrees + Drop, R: Read + Input, W: Write, E: Write>(
     alloc: Global,
     grammar: &G,
     words: &[String],
     files: &F,
+    trees: T,
     input: R,
     console: &mut Console<W, E>,
 ) -> u8
     ensures { Runs W.contents E.contents console.old console.new result (G.fails grammar.now) (G.lacks grammar.now)
-        (Does W.contents E.contents console.old console.new result (F.opens files.now) (F.fails files.now) F.File.gives F.Files.asked
-        (R.Input.gives input) (R.Read.remaining input)) (map string_bytes words.now) }
+        (Does W.contents E.contents console.old console.new result (F.opens files.now) (F.fails files.now) F.File.gives
+        T.Files.asked (T.finds trees) (R.Input.gives input) (R.Read.remaining input)) (map string_bytes words.now) }
 {
     match parse(alloc, grammar, words) {
-        Ok(asked) => dispatch(alloc, asked, files, input, console),
+        Ok(asked) => dispatch(alloc, asked, files, trees, input, console),
         Err(OrMemory::Memory) => print_then_note(&Refusal::Memory, MISUSED, &None, console),
         Err(OrMemory::Fault(error)) => print_usage(alloc, grammar, &error, console),
     }
 }
 
-fn dispatch<F: Opens + GroupTrees, R: Read + Input, W: Write, E: Write>(
+fn dispatch<F: Opens, T: GroupTrees + Drop, R: Read + Input, W: Write, E: Write>(
     alloc: Global,
     words: Words<'_>,
     files: &F,
+    trees: T,
     input: R,
     console: &mut Console<W, E>,
 ) -> u8
-    ensures { Does W.contents E.contents console.old console.new result (F.opens files.now) (F.fails files.now) F.File.gives F.Files.asked
-        (R.Input.gives input) (R.Read.remaining input) (asked words.entry) }
+    ensures { Does W.contents E.contents console.old console.new result (F.opens files.now) (F.fails files.now) F.File.gives
+        T.Files.asked (T.finds trees) (R.Input.gives input) (R.Read.remaining input) (asked words.entry) }
 {
     match words {
         Words::Check { file } => check_named(alloc, file.unwrap_or("-"), files, input, console),
@@ -62,24 +64,27 @@ fn dispatch<F: Opens + GroupTrees, R: Read + Input, W: Write, E: Write>(
             slit,
             cgroup,
             adopt,
-        } => run_in(alloc, machine, slit, cgroup, adopt, files, input, console),
+        } => run_in(
+            alloc, machine, slit, cgroup, adopt, files, trees, input, console,
+        ),
         Words::Solve { file } => solve_named(alloc, file.unwrap_or("-"), files, input, console),
     }
 }
 
 /// Runs the script on standard input over a machine, in the cgroup tree below a root if one is named.
-fn run_in<F: Opens + GroupTrees, R: Read + Input, W: Write, E: Write>(
+fn run_in<F: Opens, T: GroupTrees + Drop, R: Read + Input, W: Write, E: Write>(
     alloc: Global,
     machine: &str,
     table: Option<&str>,
     root: Option<&str>,
     adopt: bool,
     files: &F,
+    trees: T,
     input: R,
     console: &mut Console<W, E>,
 ) -> u8
-    ensures { Does W.contents E.contents console.old console.new result (F.opens files.now) (F.fails files.now) F.File.gives F.Files.asked
-        (R.Input.gives input) (R.Read.remaining input)
+    ensures { Does W.contents E.contents console.old console.new result (F.opens files.now) (F.fails files.now) F.File.gives
+        T.Files.asked (T.finds trees) (R.Input.gives input) (R.Read.remaining input)
         (run machine.now (option_map word_bytes table.entry) (option_map word_bytes root.entry) adopt) }
 {
     let mut script = input;
@@ -94,6 +99,7 @@ fn run_in<F: Opens + GroupTrees, R: Read + Input, W: Write, E: Write>(
                 table,
                 root,
                 files,
+                trees,
                 bundles,
                 &mut script,
                 console,

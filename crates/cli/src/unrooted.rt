@@ -23,6 +23,10 @@ pub enum Unrooted {
 }
 
 impl From<RootFault> for Unrooted {
+    ghost use Rattle.cli.specs.Roots.{IsUnrooted};
+
+    ghost from_gives = { IsUnrooted };
+
     fn from(fault: RootFault) -> Unrooted {
         match fault {
             RootFault::Memory => Unrooted::Memory,
@@ -34,6 +38,11 @@ impl From<RootFault> for Unrooted {
 }
 
 impl From<OrMemory<KernelFault>> for Unrooted {
+    ghost use Rattle.std.specs.Prelude.{◌≡◌};
+    ghost use Rattle.cli.specs.Roots.{unrooted_of};
+
+    ghost from_gives = { λ error why. why ≡ unrooted_of error };
+
     fn from(error: OrMemory<KernelFault>) -> Unrooted {
         match error {
             OrMemory::Memory => Unrooted::Memory,

@@ -1,7 +1,7 @@
 //! numarun, the CPU-pinning part of a container runtime, as a program.
 #![tactic(auto)]
 
-use cli::{CommandLine, Console, Disk, start};
+use cli::{CommandLine, Console, Disk, HostTrees, start};
 use std::env;
 use std::process::ExitCode;
 
@@ -13,6 +13,7 @@ fn main(rt: HostRuntime) -> ExitCode {
         &CommandLine,
         arguments,
         &Disk::new(&rt),
+        HostTrees::new(&rt),
         rt.stdin(),
         &mut console,
     ))

@@ -7,10 +7,9 @@ use Rattle.std.proofs.lemmas.List.Elements.{Contains-append_cases, Contains-appe
 use Rattle.faults.specs.declared.or_memory.OrMemory.{OrMemory}
 use Rattle.cpu_set.specs.Ids.{Ids}
 use Rattle.node.specs.declared.fault.NodeFault.{NodeFault}
-use Rattle.node.specs.declared.outcome.Outcome.TheVariants.{Plan}
 use Rattle.node.specs.NodeState.{ContainerState, NodeState}
 use Rattle.node.specs.Rebalance.{Rebalances}
-use Rattle.node.specs.Machine.{Event, Create, Adopt, Update, Start, Kill, Delete, Rebalance, Begin, StepOn, State, ListAll, SetsOf, Pool, PhaseIs, ShowCertificate, Fork, Exit, Offline, Online, RunsRebalance}
+use Rattle.node.specs.Machine.{Event, Create, Adopt, Update, RunsRebalance}
 use Rattle.node.specs.Said.{IsAskedIn}
 use Rattle.node.specs.Served.{HasAsked, RunsServeConfigs}
 use Rattle.script.specs.Commands.{Asked}
@@ -21,8 +20,8 @@ use Rattle.script.specs.Runs.{AnswersLine, AnswersRequest}
 use Rattle.script.specs.declared.line_buffer.TheConstants.{MOST_LINE_BYTES}
 use Rattle.runtime.specs.Answered.{Answered}
 use Rattle.runtime.specs.Found.{IsFound}
-use Rattle.runtime.specs.RuntimeState.{RuntimeState, Told}
-use Rattle.runtime.specs.ScriptLaws.{IsFor, CommandMakes, RequestMakes, LineMakes, LinesMake, lines_are_calls, runs_cut}
+use Rattle.runtime.specs.RuntimeState.{Told}
+use Rattle.runtime.specs.ScriptLaws.{IsFor, RequestMakes, LineMakes, LinesMake, lines_are_calls, runs_cut}
 use Rattle.runtime.specs.ConfigsServed.{MakesIt, HasItsConfig, ScriptsServeConfigs}
 
 -- a line that asks for the container of an id and a bundle, whose config is found

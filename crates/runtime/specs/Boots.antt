@@ -1,4 +1,5 @@
 -- A node from the beginning.
+use Rattle.cgroup_tree.specs.Site.{Beginning}
 use Rattle.kernel_model.specs.KernelState.{KernelState, IsFirstKernel}
 use Rattle.machine.specs.Layout.{Layout}
 use Rattle.machine.specs.Present.{present}
@@ -11,6 +12,10 @@ use Rattle.runtime.specs.declared.booting.TheConstants.{FIRST_PID}
 -- a kernel of which nothing was asked yet, with the machine's CPUs and nodes
 abbrev pub IsKernelOf : Layout → KernelState → Type 0
 IsKernelOf m = IsFirstKernel (present m) m.reserved m.online (nodes_of m) FIRST_PID
+
+-- how it begins
+abbrev pub beginning_of : Layout → Beginning
+beginning_of m = record { present = present m; reserved = m.reserved; online = m.online; nodes = nodes_of m; first_pid = FIRST_PID }
 
 -- a node with no container, over such a kernel
 abbrev pub Boots : Layout → NodeState → Type 0

@@ -1,23 +1,37 @@
 -- A node whose kernel's writes are made in the files of a cgroup tree.
-use Rattle.std.specs.Prelude.{◌≡◌, ℕ, List, Option, Result, map}
+use Rattle.std.specs.Prelude.{Bool, ℕ, List, map}
 use Rattle.cpu_set.specs.Ids.{Ids}
+use Rattle.faults.specs.declared.OrMemory.{OrMemory}
 use Rattle.apply_plan.specs.Holders.{IsSafe}
 use Rattle.cgroup_tree.specs.Asked.{Asked}
 use Rattle.cgroup_tree.specs.Events.{IsMirrored}
+use Rattle.cgroup_tree.specs.Site.{Site}
 use Rattle.cgroup_tree.specs.Stands.{FilesStand}
+use Rattle.kernel_model.specs.declared.KernelFault.{KernelFault}
+use Rattle.kernel_model.specs.KernelState.{KernelState}
+use Rattle.machine.specs.Layout.{Layout}
+use Rattle.node.specs.Calls.{OpensNot}
 use Rattle.node.specs.NodeState.{NodeState}
 use Rattle.node.specs.Owners.{owners_of}
-use Rattle.script.specs.Ends.{EndsBy}
-use Rattle.script.specs.declared.script_fault.ScriptFault.{ScriptFault}
-use Rattle.runtime.specs.Answered.{Answered}
-use Rattle.runtime.specs.RuntimeState.{RuntimeState}
+use Rattle.runtime.specs.Boots.{IsKernelOf, beginning_of}
 
--- there are a root and files below it of which all that was asked, from the beginning on, is what the calls of the node's kernel
--- stand for, in their order; where they do what they answer each group's files have what it requests, and that is safe
-pub record IsMirroredNode {F : Type 0} (asked : F → List Asked → Type 0) (n : NodeState) : Type 0 where
-  pub root : List ℕ
-  pub memory : Ids
+-- where the writes of this machine's kernel are made: below this root, where these nodes have memory, in a tree that is opened so
+abbrev pub site_of : Layout → List ℕ → Ids → Bool → Site
+site_of m root memory adopt = record { root = root; memory = memory; adopt = adopt; first = beginning_of m }
+
+-- there are files, opened so, of which all that was asked, from the beginning on, is what the calls of the node's kernel stand for, in
+-- their order, from its beginning on; where they do what they answer each group's files have what it requests, and that is safe
+pub record IsMirroredNode {F : Type 0} (asked : F → Bool → List Asked → Type 0) (site : Site) (n : NodeState) : Type 0 where
   pub files : F
-  pub mirrored : IsMirrored asked root memory n.kernel files
-  pub stands : FilesStand asked root memory n.kernel files
+  pub mirrored : IsMirrored asked site n.kernel files
+  pub stands : FilesStand asked site n.kernel files
   pub safe : IsSafe n.kernel n.kernel.reserved (map (λ o. o.holder) (owners_of n.containers))
+
+-- no node was made of a machine, as a kernel like this refused its group; all that was asked of its files is what that call stands for
+pub record IsNotBooted {F : Type 0} (asked : F → Bool → List Asked → Type 0) (site : Site) (m : Layout) (error : OrMemory KernelFault) : Type 0 where
+  pub first : KernelState
+  pub its : IsKernelOf m first
+  pub kernel : KernelState
+  pub refused : OpensNot first error kernel
+  pub files : F
+  pub mirrored : IsMirrored asked site kernel files

@@ -1,9 +1,11 @@
 //! A node and its kernel, as a machine boots.
-ghost use Rattle.std.specs.Prelude.{IfOk, []};
+ghost use Rattle.std.specs.Prelude.{◌≡◌, ◌⊎◌, [], IfErr, IfOk, string_bytes};
+ghost use Rattle.faults.specs.declared.OrMemory.TheVariants.{Memory};
 ghost use Rattle.runtime.specs.Boots.{Boots, IsKernelOf};
+ghost use Rattle.runtime.specs.MirroredNodes.{IsMirroredNode, IsNotBooted, site_of};
 
-use cgroup_tree::{GroupFiles, MirroredKernel};
-use cpu_set::IdSet;
+use crate::mirrored::is_mirrored;
+use cgroup_tree::{GroupFiles, MirroredKernel, OpenTree, Sited};
 use faults::OrMemory;
 use kernel_model::{KernelFault, ModelKernel};
 use machine::Machine;
@@ -49,25 +51,32 @@ pub fn boot(alloc: Global, machine: Machine) -> Result<Node<ModelKernel>, AllocE
     }
 }
 
-/// A node with no container, over a modelled kernel that has the machine's CPUs and nodes and whose writes are made below this
-/// root too, where these nodes have memory.
+/// A node with no container, over a modelled kernel that has the machine's CPUs and nodes and whose writes are made in this
+/// tree too, of which nothing was asked yet.
 ///
 /// # Errors
 /// An allocation failure, or `Failed` where the folder of the node's group can't be made.
-pub fn boot_mirrored<F: GroupFiles + Drop>(
+pub fn boot_mirrored<F: GroupFiles + Drop, S: Sited>(
     alloc: Global,
     machine: Machine,
-    root: String,
-    memory: IdSet,
-    files: F,
-) -> Result<Node<MirroredKernel<F>>, OrMemory<KernelFault>>
-    requires unasked { F.asked files [] }
-    ensures { IfOk result (Boots machine) }
+    tree: OpenTree<F>,
+) -> Result<Node<MirroredKernel<F, S>>, OrMemory<KernelFault>>
+    requires site { S.site ≡ site_of machine (string_bytes tree.root) tree.memory tree.adopt }
+    requires unasked { F.asked tree.files tree.adopt [] }
+    ensures boots { IfOk result (Boots machine) }
+    ensures mirrored { IfOk result (λ node. IsMirroredNode F.asked S.site node) }
+    ensures err { IfErr result (λ error. (error ≡ Memory) ⊎ IsNotBooted F.asked S.site machine error) }
 {
     let inner = kernel_of(alloc, &machine)?;
-    let kernel = MirroredKernel::new(alloc, inner, root, memory, files);
+    let kernel = MirroredKernel::new(alloc, inner, tree.root, tree.memory, tree.files);
     match Node::new(alloc, kernel, machine) {
-        Ok(node) => Ok(node),
-        Err(not_opened) => Err(not_opened.error),
+        Ok(node) => {
+            is_mirrored(&node);
+            Ok(node)
+        }
+        Err(not_opened) => {
+            not_opened.kernel.is_mirrored();
+            Err(not_opened.error)
+        }
     }
 }

@@ -5,7 +5,7 @@ ghost use Rattle.script.specs.Ends.{EndsBy};
 
 use crate::bundles::Bundles;
 use crate::runner::Runner;
-use cgroup_tree::{GroupFiles, MirroredKernel};
+use cgroup_tree::{GroupFiles, MirroredKernel, Sited};
 use node::Node;
 use script::{ScriptFault, run_script_within};
 use std::io::{Read, Write};
@@ -13,8 +13,8 @@ use std::io::{Read, Write};
 /// What holds of each node over a mirrored kernel, after any of its calls, whatever they returned: all that was asked of the
 /// files is what its kernel's calls stand for, in their order; and where files do what they answer, they have what is requested,
 /// which is safe. Nothing runs.
-pub fn is_mirrored<F: GroupFiles + Drop>(node: &Node<MirroredKernel<F>>)
-    ensures { IsMirroredNode F.asked node.now }
+pub fn is_mirrored<F: GroupFiles + Drop, S: Sited>(node: &Node<MirroredKernel<F, S>>)
+    ensures { IsMirroredNode F.asked S.site node.now }
 {
     node.holds();
     let kernel = node.kernel();
@@ -27,15 +27,15 @@ pub fn is_mirrored<F: GroupFiles + Drop>(node: &Node<MirroredKernel<F>>)
 ///
 /// # Errors
 /// Those of [`run_script_within`].
-pub fn run_mirrored<F: GroupFiles + Drop, B: Bundles + Drop, R: Read, W: Write>(
-    runner: &mut Runner<MirroredKernel<F>, B>,
+pub fn run_mirrored<F: GroupFiles + Drop, S: Sited, B: Bundles + Drop, R: Read, W: Write>(
+    runner: &mut Runner<MirroredKernel<F, S>, B>,
     script: &mut R,
     w: &mut W,
     most_reads: u64,
 ) -> Result<(), ScriptFault>
     ensures ends { EndsBy most_reads Answered (R.remaining script.old) (R.remaining script.new) (W.contents w.old) (W.contents w.new)
         runner.old result runner.new }
-    ensures mirrored { IsMirroredNode F.asked runner.new.node }
+    ensures mirrored { IsMirroredNode F.asked S.site runner.new.node }
 {
     let end = run_script_within(runner, script, w, most_reads);
     is_mirrored(runner.node());

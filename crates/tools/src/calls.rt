@@ -1,6 +1,7 @@
 //! Calls of a kernel, a line each.
 ghost use Rattle.std.specs.Prelude.{IfOk};
-ghost use Rattle.cgroup_tree.specs.Events.{IsAlone};
+ghost use Rattle.cgroup_tree.specs.Site.{Begins};
+ghost use Rattle.tools.specs.Start.{beginning_of};
 
 use anyhow::{Context, Result, bail};
 use cpu_set::{CPU_LIMIT, IdSet};
@@ -20,9 +21,9 @@ pub fn over_new<R: AllocGlobal + Print>(rt: &R, words: &[String], text: &[u8]) -
     each(rt, &mut kernel, calls)
 }
 
-/// The kernel of such a line; it has the root group alone.
+/// The kernel of such a line, as it begins.
 pub fn new_kernel(alloc: Global, line: &str) -> Result<ModelKernel>
-    ensures { IfOk result (λ k. IsAlone k.tree) }
+    ensures { IfOk result (λ k. Begins (beginning_of k) k) }
 {
     let words: Vec<&str> = line.split(' ').collect(alloc)?;
     let [present, reserved, online, nodes, pid] = words.as_slice() else {

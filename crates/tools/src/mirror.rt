@@ -1,11 +1,16 @@
 //! A kernel whose writes are asked of files first, of which one call fails.
-ghost use Rattle.std.specs.Prelude.{⊤};
+ghost use Rattle.std.specs.Prelude.{◌≡◌, ⊤, false, string_bytes};
+ghost use Rattle.cgroup_tree.specs.Site.{Begins};
+ghost use Rattle.tools.specs.Start.{beginning_of};
 
 use crate::calls;
 use anyhow::{Context, Result, bail};
-use cgroup_tree::{GroupFiles, MirroredKernel};
+use cgroup_tree::{GroupFiles, MirroredKernel, Sited};
+use cpu_set::IdSet;
+use kernel_model::ModelKernel;
 use std::io;
 use std::io::ErrorKind;
+use std::marker::Brand;
 
 /// Files that are not there: each call is printed, and the one of this number, from 1, is refused.
 #[derive(Drop)]
@@ -31,13 +36,17 @@ impl<R: Print> FusedFiles<'_, R> {
 }
 
 impl<R: Print> GroupFiles for FusedFiles<'_, R> {
-    ghost asked = { λ _ _. ⊤ };
+    ghost asked = { λ _ _ _. ⊤ };
 
     fn make_folder(&mut self, path: &str) -> io::Result<()> {
         self.ask("make", path, b"")
     }
 
     fn remove_folder(&mut self, path: &str) -> io::Result<()> {
+        self.ask("remove", path, b"")
+    }
+
+    fn unmake_folder(&mut self, path: &str) -> io::Result<()> {
         self.ask("remove", path, b"")
     }
 
@@ -61,11 +70,33 @@ pub fn over_files<R: AllocGlobal + Print>(rt: &R, words: &[String], text: &[u8])
     let inner = calls::new_kernel(rt.alloc(), first)?;
     let memory = calls::ids(memory.as_str())?;
     let root = String::from_str(rt.alloc(), "ROOT")?;
+    let lines = String::from_str(rt.alloc(), lines)?;
     let files = FusedFiles {
         rt,
         made: 0,
         fail: fail.as_str().parse()?,
     };
-    let mut kernel = MirroredKernel::new(rt.alloc(), inner, root, memory, files);
-    calls::one_by_one(rt, &mut kernel, lines)
+    over::<Brand, R>(rt, inner, root, memory, files, lines)
+}
+
+/// The calls of these lines, over this kernel and these files.
+fn over<S: Sited, R: AllocGlobal + Print>(
+    rt: &R,
+    inner: ModelKernel,
+    root: String,
+    memory: IdSet,
+    files: FusedFiles<'_, R>,
+    lines: String,
+) -> Result<()>
+    requires begins { Begins (beginning_of inner) inner }
+    requires site { S.site ≡ record { root = string_bytes root; memory = memory; adopt = false; first = beginning_of inner } }
+{
+    let mut kernel = MirroredKernel::<FusedFiles<R>, S>::new(
+        rt.alloc(),
+        inner,
+        root,
+        memory,
+        files,
+    );
+    calls::one_by_one(rt, &mut kernel, lines.as_str())
 }

@@ -1,18 +1,27 @@
 -- A new kernel of which no write was refused is new.
+use Rattle.std.proofs.Common.{[], ap, inr, subst, sym}
 use Rattle.machine.specs.Present.{present}
 use Rattle.machine.specs.Nodes.{nodes_of}
 use Rattle.runtime.specs.declared.booting.TheConstants.{FIRST_PID}
 use Rattle.cgroup_tree.specs.Mirrored.{mirrored}
 use Rattle.cgroup_tree.specs.First.{first_mirrored}
+use Rattle.cgroup_tree.specs.Site.{Begins, Site}
 use Rattle.runtime.proofs.booting.boot_mirrored.Goals as goal
 
-pub new-kernel-requires-clause-alone : goal.new-kernel-requires-clause-alone
-new-kernel-requires-clause-alone g c =
-    let m = c.args.machine in
-    record { online = m.online; nodes = nodes_of m; first = c.in_ok-inner.ensures.first_tree }
+pub new-kernel-requires-clause-first : goal.new-kernel-requires-clause-first
+new-kernel-requires-clause-first g c = subst (λ (s : Site). Begins s.first c.in_ok-inner.inner) (sym c.requires.site) c.in_ok-inner.ensures
 
-pub returns-in-Ok : goal.returns-in-Ok
-returns-in-Ok g c =
+pub new-kernel-requires-clause-root : goal.new-kernel-requires-clause-root
+new-kernel-requires-clause-root g c = ap (λ (s : Site). s.root) (sym c.requires.site)
+
+pub new-kernel-requires-clause-memory : goal.new-kernel-requires-clause-memory
+new-kernel-requires-clause-memory g c = ap (λ (s : Site). s.memory) (sym c.requires.site)
+
+pub new-kernel-requires-clause-unasked : goal.new-kernel-requires-clause-unasked
+new-kernel-requires-clause-unasked g c = subst (λ (s : Site). g.F.GroupFiles.asked c.args.tree.files s.adopt []) (sym c.requires.site) c.requires.unasked
+
+pub returns-in-Ok-clause-boots : goal.returns-in-Ok-clause-boots
+returns-in-Ok-clause-boots g c =
     let made = c.new-kernel.result in
     let m = c.args.machine in (
       mirrored made.failed made.inner,
@@ -20,3 +29,18 @@ returns-in-Ok g c =
           (rw c.new-kernel.ensures.inner c.in_ok-inner.ensures),
       c.in-Ok.ensures.opened,
     )
+
+pub returns-in-Err-clause-err : goal.returns-in-Err-clause-err
+returns-in-Err-clause-err g c =
+    let made = c.new-kernel.result in
+    let m = c.args.machine in
+    let refused = c.in-Err.not_opened.kernel in
+    inr (record {
+      first = mirrored made.failed made.inner;
+      its = first_mirrored (present m) m.reserved m.online (nodes_of m) FIRST_PID made.failed made.inner c.new-kernel.ensures.failed
+          (rw c.new-kernel.ensures.inner c.in_ok-inner.ensures);
+      kernel = mirrored refused.failed refused.inner;
+      refused = c.in-Err.ensures.refused;
+      files = refused.folders;
+      mirrored = c.is_mirrored-in-Err.ensures.mirrored;
+    })

@@ -5,10 +5,8 @@ pub returns : goal.returns
 returns g c =
     let kernel = c.kernel-kernel.result.now in
     record {
-      root = kernel.root;
-      memory = kernel.memory;
       files = kernel.folders;
-      mirrored = rw c.kernel-kernel.ensures at c.is_mirrored.ensures;
+      mirrored = rw c.kernel-kernel.ensures at c.is_mirrored.ensures.mirrored;
       stands = rw c.kernel-kernel.ensures at c.files_stand.ensures;
       safe = c.holds.ensures.holds.safe;
     }

@@ -1,5 +1,6 @@
--- A new kernel has the root group alone.
+-- A new kernel is as it began.
+use Rattle.tools.specs.Start.{begins}
 use Rattle.tools.proofs.calls.new_kernel.Goals as goal
 
 pub returns : goal.returns
-returns c = record { online = _; nodes = _; first = c.in_ok-kernel.ensures.first_tree }
+returns c = begins _ _ _ _ _ c.in_ok-kernel.kernel c.in_ok-kernel.ensures

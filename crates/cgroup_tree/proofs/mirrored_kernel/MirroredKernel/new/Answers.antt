@@ -1,14 +1,12 @@
-use Rattle.std.proofs.Common.{◌≡◌, subst, sym, ap}
-use Rattle.kernel_model.specs.KernelState.{KernelState}
-use Rattle.kernel_model.specs.WellFormed.{IsWellFormed}
-use Rattle.cgroup_tree.specs.Events.{IsAlone}
-use Rattle.cgroup_tree.specs.MirroredLemmas.{starts, well_mirrored}
+-- A new kernel, of which no write was refused yet.
+use Rattle.std.proofs.Common.{◌∙◌, ap}
+use Rattle.std.specs.Prelude.{string_bytes}
+use Rattle.cgroup_tree.specs.MirroredLemmas.{starts}
 use Rattle.cgroup_tree.proofs.mirrored_kernel.MirroredKernel.new.Goals as goal
 
 pub invariant_of-result : goal.invariant_of-result
 invariant_of-result g c =
     let m = c.new.result in
-    starts g.F.GroupFiles.asked _ _ _ _ (record {
-      well = well_mirrored m.failed.writes m.inner (subst (λ (k : KernelState). IsWellFormed k) (sym c.new.ensures.inner) c.root.ensures.well_formed);
-      alone = subst (λ (k : KernelState). IsAlone k.tree) (sym c.new.ensures.inner) c.requires.alone;
-    }) (rw c.new.ensures.folders c.requires.unasked)
+    starts g.F.GroupFiles.asked g.S.Sited.site _ _ m.failed.writes m.inner c.args.inner m.folders c.new.ensures.inner c.new.ensures.failed
+    c.root.ensures.well_formed c.requires.first (ap string_bytes c.new.ensures.root ∙ c.requires.root) (c.new.ensures.memory ∙ c.requires.memory)
+    (rw c.new.ensures.folders c.requires.unasked)

@@ -6,5 +6,5 @@ use Rattle.cgroup_tree.proofs.mirrored_kernel.MirroredKernelKernel.end_group.Goa
 
 pub invariant_of-self : goal.invariant_of-self
 invariant_of-self g c =
-    goes_on g.F.GroupFiles.asked _ _ _ _ _ _ _ _ (EndedGroup c.args.group c.end_group.result) c.self.invariant (ap string_bytes c.end_group.ensures.same.0) c.end_group.ensures.same.1
+    goes_on g.F.GroupFiles.asked g.S.Sited.site _ _ _ _ _ _ _ _ (EndedGroup c.args.group c.end_group.result) c.self.invariant (ap string_bytes c.end_group.ensures.same.0) c.end_group.ensures.same.1
     c.end_group.ensures.case (grown g.F.GroupFiles.asked _ _ _ _ c.end_group.ensures.asks)

@@ -1,0 +1,114 @@
+-- What the root of a cgroup tree has to be before a run begins, and why it is refused.
+use Rattle.std.specs.Prelude.{◌≡◌, ◌⊎◌, ◌==◌, ◌||◌, ⊤, ℕ, Bool, true, false, List, ◌++◌, codes, bytes_eq, Option, Some, None, Result, Ok, Err}
+use Rattle.std.specs.FinSet as set
+use Rattle.std.specs.List.{list_any, slice_split}
+use Rattle.std.specs.declared.io.ErrorKind.{ErrorKind}
+use Rattle.std.specs.declared.io.ErrorKind.TheVariants.{NotADirectory, OutOfMemory}
+use Rattle.cpu_set.specs.Ids.{Ids}
+use Rattle.cpu_set.specs.declared.TheConstants.{CPU_LIMIT}
+use Rattle.cpu_list.specs.FirstFault.{first_fault}
+use Rattle.cpu_list.specs.ListText.{IsSetOf}
+use Rattle.cgroup_tree.specs.declared.root.RootFault.{RootFault}
+use Rattle.cgroup_tree.specs.declared.root.RootFault.TheVariants as root_fault
+
+-- what a look at a path may find: whether it is a folder; what the file has, or none where it is not there; or the kind of error
+-- by which the look failed
+pub data Finding : Type 0 where
+  IsFolder : Bool → Finding
+  Has : Option (List ℕ) → Finding
+  Fails : ErrorKind → Finding
+
+-- cgroup v2, "Core Interface Files" and "Cpuset Interface Files": what the groups below can be given, and what is in effect
+abbrev pub controllers_file : List ℕ
+controllers_file = codes "/cgroup.controllers"
+
+abbrev pub cpus_in_effect : List ℕ
+cpus_in_effect = codes "/cpuset.cpus.effective"
+
+abbrev pub mems_in_effect : List ℕ
+mems_in_effect = codes "/cpuset.mems.effective"
+
+-- a space or a line feed
+abbrev pub is_gap : ℕ → Bool
+is_gap b = b == 32 || b == 10
+
+-- one of the words is the controller of cpusets
+abbrev pub names_cpuset : List ℕ → Bool
+names_cpuset text = list_any (λ word. bytes_eq word (codes "cpuset")) (slice_split is_gap text)
+
+-- the text is a list of just these numbers
+abbrev pub IsListOf : List ℕ → Ids → Type 0
+IsListOf text ids = (first_fault CPU_LIMIT text ≡ None) × IsSetOf text ids
+
+-- a failed look, of this kind: for want of memory, or else told as it is
+abbrev pub IsFaultOf : ErrorKind → RootFault → Type 0
+IsFaultOf kind root_fault.Memory = kind ≡ OutOfMemory
+IsFaultOf kind (root_fault.Unread told) = told ≡ kind
+IsFaultOf kind _ = ⊥
+
+-- of a root's path, where looks at paths may find this
+module _ (finds : List ℕ → Finding → Type 0) (root : List ℕ) where
+  -- a file of the root was found to have this
+  abbrev pub IsFound : List ℕ → (Option (List ℕ) → Type 0) → Type 0
+  IsFound file Is = (text : Option (List ℕ)) × finds (root ++ file) (Has text) × Is text
+
+  -- a file of the root, which can't be read; or memory for that was short
+  abbrev pub CantRead : List ℕ → RootFault → Type 0
+  CantRead file (root_fault.Unread kind) = finds (root ++ file) (Fails kind)
+  CantRead file root_fault.Memory = ⊤
+  CantRead file _ = ⊥
+
+  -- what its groups can be given has cpusets, or is not told
+  abbrev pub HasCpusets : Option (List ℕ) → Type 0
+  HasCpusets None = ⊤
+  HasCpusets (Some text) = names_cpuset text ≡ true
+
+  abbrev pub LacksCpusets : Option (List ℕ) → Type 0
+  LacksCpusets None = ⊥
+  LacksCpusets (Some text) = names_cpuset text ≡ false
+
+  -- the CPUs in effect are the online ones, or are not told
+  abbrev pub AreOnline : Ids → Option (List ℕ) → Type 0
+  AreOnline online None = ⊤
+  AreOnline online (Some text) = IsListOf text online
+
+  -- the nodes in effect are these, all of the machine's; or they are not told, and these are all
+  abbrev pub HaveMemory : Ids → Ids → Option (List ℕ) → Type 0
+  HaveMemory nodes memory None = memory ≡ nodes
+  HaveMemory nodes memory (Some text) = IsListOf text memory × (set.is_subset memory nodes ≡ true)
+
+  -- the looks at the root, in their order: whether it is a folder
+  abbrev pub LooksAtFolder : Result (Unit {0}) RootFault → Type 0
+  LooksAtFolder (Ok done) = finds root (IsFolder true)
+  LooksAtFolder (Err (root_fault.Unread kind)) = (finds root (IsFolder false) × (kind ≡ NotADirectory)) ⊎ finds root (Fails kind)
+  LooksAtFolder (Err root_fault.Memory) = ⊤
+  LooksAtFolder (Err _) = ⊥
+
+  -- what its groups can be given
+  abbrev pub LooksAtControllers : Result (Unit {0}) RootFault → Type 0
+  LooksAtControllers (Ok done) = IsFound controllers_file HasCpusets
+  LooksAtControllers (Err root_fault.NoCpuset) = IsFound controllers_file LacksCpusets
+  LooksAtControllers (Err why) = CantRead controllers_file why
+
+  -- the CPUs in effect
+  abbrev pub LooksAtCpus : Ids → Result (Unit {0}) RootFault → Type 0
+  LooksAtCpus online (Ok done) = IsFound cpus_in_effect (AreOnline online)
+  LooksAtCpus online (Err root_fault.OtherMachine) = IsFound cpus_in_effect (λ text. AreOnline online text → ⊥)
+  LooksAtCpus online (Err why) = CantRead cpus_in_effect why
+
+  -- the nodes in effect
+  abbrev pub LooksAtMems : Ids → Result Ids RootFault → Type 0
+  LooksAtMems nodes (Ok memory) = IsFound mems_in_effect (HaveMemory nodes memory)
+  LooksAtMems nodes (Err root_fault.OtherMachine) = IsFound mems_in_effect (λ text. (memory : Ids) → HaveMemory nodes memory text → ⊥)
+  LooksAtMems nodes (Err why) = CantRead mems_in_effect why
+
+  -- a tree on this root: the nodes that have memory, or why it is not taken, which is the first in this order; memory may be short anywhere
+  abbrev pub AnswersRoot : (online nodes : Ids) → Result Ids RootFault → Type 0
+  AnswersRoot online nodes (Ok memory) =
+      finds root (IsFolder true) × IsFound controllers_file HasCpusets × IsFound cpus_in_effect (AreOnline online) × LooksAtMems nodes (Ok memory)
+  AnswersRoot online nodes (Err root_fault.Memory) = ⊤
+  AnswersRoot online nodes (Err why) =
+      LooksAtFolder (Err why)
+      ⊎ (finds root (IsFolder true) × (LooksAtControllers (Err why)
+      ⊎ (IsFound controllers_file HasCpusets × (LooksAtCpus online (Err why)
+      ⊎ (IsFound cpus_in_effect (AreOnline online) × LooksAtMems nodes (Err why))))))
