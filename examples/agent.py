@@ -1,6 +1,6 @@
 #!/usr/bin/env python3
 """An agent that keeps one `numarun run MACHINE --cgroup` open, tells it what happens on a machine, and says what came of it.
-All kernel writes are numarun's; without --cgroup there are none, and the plans alone are told. Events come from standard
+All writes for containers are numarun's; without --cgroup there are none, and the plans alone are told. Events come from standard
 input, a line each:
   created ID BUNDLE [GROUP]  a container runs, of the bundle in this folder, in this group below the tree's root
   ended ID                   it is gone
@@ -12,93 +12,63 @@ or else it is ROOT/numarun/ID.
 
 All events that are there are told before one plan is worked out. What runs already is adopted with the CPUs that its group
 requests. A container whose group is not there is told once it is; what was refused is told again when its config changes;
-a write that failed is made again at the next look. A newcomer that has no place runs on the pool until there is room.
-SIGTERM ends it between two commands, and what is left is taken up by the next one.
+a write that failed is made again, at growing pauses. A config or a limit that changes is told as it is. Who has no place runs on
+the pool until there is room. SIGTERM ends it between two commands, and what is left is taken up by the next one; --release gives
+back what was taken.
 
 The status is 1 where something is left undone: a line that is no event, a refusal, a shortage, a failed write."""
 
 import argparse
-import collections
 import json
 import os
 import re
 import select
-import shlex
 import signal
-import subprocess
-import sys
 import tempfile
 import time
 
 from common import Machine, Refused, Run, check_program, find_program, print_list, read_list, run
-from events import Folder, Input, Online, Rest
-from groups import Absent, NoTree, Tree, at, parse
-from records import Records
+from demands import PIN, Demand, asked, limited, shared, stays
+from events import Folders, Input, Online
+from groups import NoTree, Tree
+from homes import Homes, housed
+from mending import Mending
+from newcomers import Newcomers
+from pauses import Pauses
+from plans import Plans
+from records import KEPT, Records
+from release import release
+from room import Room
+from sight import Sight
+from slices import Slices
+from taken import Taken
+from waiters import Waiters
 
 EXAMPLE = """examples, from the top of the repository:
   echo "created database examples/bundles/database" | examples/agent.py examples/machines/two-socket.json
-  examples/agent.py host.json --cgroup /sys/fs/cgroup --watch /run/crun"""
-CPU = ("linux", "resources", "cpu")
-PIN = "numarun.pin"  # the annotation that --pin annotated reads
-LEAST = "numarun.least"  # the annotation of one that takes fewer CPUs than it asks for, where there are no more
-HOOK = 30  # seconds that --pool's command has
-ID = re.compile(r"[A-Za-z0-9_.+-]{1,64}")
-TRIES = 5  # starts of numarun while CPUs go and come
-
-# What is there of a container: its stamp, by which it is told from another one under the id, its config and its age.
-Seen = collections.namedtuple("Seen", "stamp age told config path")
-
-
-class Held:
-    """A container that numarun was told of."""
-
-    def __init__(self, seen, own, count, waits):
-        self.seen, self.own = seen, own            # `own` is the bundle that asks for what it does ask for
-        self.pinned, self.waits = count is not None, waits  # whether it is to have CPUs of its own, and waits for room
-        self.count = self.given = count            # how many it asks for, and how many are asked for it
-        self.admitted = False                      # whether a plan gave it some
-        self.cpus = None                           # what it requests
-
-
-def asked(config, rule, threads):
-    """How many CPUs of its own a container asks for; nothing where it is shared."""
-    section = at(config, *CPU) or {}
-    quota, period, cpus = (section.get(name) for name in ("quota", "period", "cpus"))
-    period = period or 100000
-    count = None
-    if type(quota) is int and type(period) is int and quota > 0 and period > 0:
-        count = -(-quota // period)
-        if rule == "whole" and quota % period:
-            return None
-    elif isinstance(cpus, str) and cpus.strip(" ,\t\n"):
-        count = len(read_list(cpus, "cpus"))
-    if rule == "annotated" and at(config, "annotations", PIN) != "true":
-        return None
-    return None if count is None else -(-count // threads) * threads
-
-
-def of_section(config, section):
-    """The same config with another CPU section."""
-    return dict(config, linux=dict(config["linux"], resources=dict(config["linux"]["resources"], cpu=section)))
-
-
-def shared(config):
-    """The same config, asking for no CPUs of its own."""
-    return of_section(config, {name: value for name, value in at(config, *CPU).items() if name not in ("quota", "period", "cpus")})
+  examples/agent.py host.json --cgroup /sys/fs/cgroup --watch /run/crun
+  examples/agent.py --release --cgroup /sys/fs/cgroup"""
+EFFECTIVE_NOTE = re.compile(r"\S+/cpuset\.cpus\.effective: ")  # the agent compares these itself
 
 
 class Agent:
-    def __init__(self, words, machine, tree, work):
-        self.words, self.machine, self.tree, self.work = words, machine, tree, work
-        self.records = Records(words.textfile, words.certificates)
-        self.threads, self.numarun = 1, None
+    def __init__(self, words, machine, tree, work, online, waiters):
+        self.words, self.machine, self.tree, self.work, self.online, self.waiters = words, machine, tree, work, online, waiters
+        self.records = Records(words.textfile, words.certificates, words.keep)
+        nodes = set(range(len(machine.nodes)))
+        effective = tree.effective(tree.root, 1)
+        self.memory = nodes if effective is None else nodes & effective or nodes
+        self.taken = Taken(work, machine.present, self.memory) if tree.root else None
+        self.slices = Slices(tree.root, words.groups, work) if tree.root else None
+        self.sight, self.newcomers, self.homes, self.room = Sight(self), Newcomers(self), Homes(self), Room(self)
+        self.plans, self.mending, self.pauses = Plans(self), Mending(self), Pauses(words.pause)
+        self.threads, self.numarun = machine.threads, None
         self.held = {}          # by id, in the order in which numarun was told of them
-        self.refused = {}       # the stamp of what was refused, by the id
         self.open = {}          # what was said of what is left undone, by what it is of
         self.off = {}           # `offline` or `online`, by the CPU, as it was told last
         self.due = False        # whether a plan is to be worked out though nothing happened
-        self.pool = None
-        self.tried = None       # what a plan that a write kept from its end was to change
+        self.unmade = False     # whether an update was not made, since a write failed
+        self.notes = []         # what was said of the machine
         self.wrong = False      # whether there was an event that was refused
         self.ending = False
 
@@ -115,12 +85,19 @@ class Agent:
             self.open[of] = line
             self.say(line)
 
+    def settle(self, of, *beginnings):
+        """What was said begins so, and is done now."""
+        if of in self.open and str(self.open[of]).startswith(beginnings):
+            del self.open[of]
+
     def record(self):
         """Leaves the figures, where that is asked for."""
-        pinned = sum(one.pinned and not one.waits for one in self.held.values())
         waiting = sum(one.waits for one in self.held.values())
+        pinned = sum(one.pinned for one in self.held.values())
+        undone = len(self.open) + len([name for name in self.newcomers.refused if ("container", name) not in self.open])
+        squeezed = sum(of[0] in ("drift", "squeezed") and of[1] in self.held and self.held[of[1]].pinned for of in self.open)
         self.records.set(containers_pinned=pinned, containers_waiting=waiting, containers_shared=len(self.held) - pinned - waiting,
-                         undone=len(self.open) + len([name for name in self.refused if ("container", name) not in self.open]))
+                         containers_squeezed=squeezed, undone=undone)
         self.leave(self.words.textfile, self.records.write)
 
     def leave(self, where, write, *what):
@@ -133,70 +110,127 @@ class Agent:
         except Refused as why:
             self.say_once(("record", where), f"failed {why}")
 
+    def told_of(self, name):
+        """What a hook is told of a container; nothing as long as that is not decided."""
+        one, said = self.held.get(name), self.open.get(("container", name))
+        if one is None:
+            return said if str(said).startswith(("refused", "failed")) else None
+        if one.waits:
+            return f"no place {said}" if said else None
+        if self.due or (one.pinned and not one.admitted) or one.cpus is None:
+            return None
+        return f"{'pinned' if one.pinned else 'shared'} {name} {print_list(one.cpus)}"
+
+    # What is asked.
+
     def ask(self, line, quiet=False):
         """A command's answer. Notes of the program are said; the last of them is why a write was refused."""
         answer = self.numarun.ask(line)
         if answer[0].startswith("refused E50"):
             self.records.count("refused_writes_total")
         notes = [re.sub("^(error|note): ", "", note).replace(f"{self.tree.folder}/numarun/", "") for note in self.numarun.said()]
+        notes = [note for note in notes if not EFFECTIVE_NOTE.match(note)]
         self.failed = notes[-1] if notes else answer[0]
         for note in [] if quiet or answer[0].startswith("refused E50") else notes:
             self.say(f"note {note}")
         return answer
 
+    def bundle(self, name, demand, which="told"):
+        """A folder with this config: the container's own, or one of the agent's."""
+        if demand.own:
+            return demand.own
+        folder = os.path.join(self.work, "bundles", which, name)
+        os.makedirs(folder, exist_ok=True)
+        with open(os.path.join(folder, "config.json"), "w") as file:
+            json.dump(demand.config, file)
+        return folder
+
+    def tell_update(self, name, one, demand, quiet=False):
+        """Tells of another demand; whether it was taken."""
+        bundle = self.bundle(name, demand)
+        answer = self.ask(f"update {name} {bundle}")[0]
+        if answer == "ok":
+            one.given = demand
+            one.cpus, one.mems = self.requested(name)
+            if not quiet:
+                self.say(f"update {name} {bundle}")
+            self.pauses.forget("update")
+        elif answer.startswith("refused E50"):
+            self.unmade = True
+            self.pauses.begin("update")
+            self.say_once(("container", name), f"failed {self.failed}")
+        else:
+            self.say_once(("container", name), f"{answer}: {name} {one.seen.told.bundle}: it stays as it was")
+        return answer == "ok"
+
+    def requested(self, name):
+        """The CPUs and the nodes that a container requests, as numarun has it."""
+        answer = self.ask(f"sets {name}")[0].split(" ")
+        return (read_list(answer[1], name), read_list(answer[5], name)) if answer[0] == "cpus" else (None, None)
+
     # The start.
 
-    def start(self, online):
+    def start(self):
         """Opens the run over the machine as it is now."""
         path, more = os.path.join(self.work, "machine.json"), ()
+        self.online.choose_reserved()
+        self.reserved, self.running = self.online.reserved, set(self.online.running)
+        if not self.running:
+            raise Refused(f"{self.words.machine}: none of its CPUs is there" + (f", or in effect in {self.tree.root}" if self.tree.root else ""))
         if self.tree.folder:
             more = ("--cgroup", self.tree.folder, "--adopt")
+            self.tree.show(0, self.online.cpus)
+            self.tree.show(1, self.memory)
         told = Machine.parse(self.words.machine)
-        cores = told.get("cores")
-        if isinstance(cores, list) and cores and isinstance(cores[0], str):
-            self.threads = max(1, len(read_list(cores[0], "cores")))
-        for left in reversed(range(TRIES)):
-            if online:
-                online.cpus = online.read()
-                told["offline"] = print_list(self.machine.present - online.cpus, empty="")
-            with open(path, "w") as file:
-                json.dump(told, file)
-            try:
-                self.numarun = Run(self.words.program, path, self.words.slit, more, self.tree.locks)
-                break
-            except Refused as why:
-                if not left or not online or "E116" not in str(why):
-                    raise Refused(str(why).replace(path, self.words.machine)) from None
-                time.sleep(0.1)
+        told.update(reserved=print_list(self.reserved), offline=print_list(self.machine.present - self.online.cpus, empty=""))
+        with open(path, "w") as file:
+            json.dump(told, file)
+        try:
+            self.numarun = Run(self.words.program, path, self.words.slit, more, self.tree.locks)
+        except Refused as why:
+            raise Refused(str(why).replace(path, self.words.machine)) from None
         self.numarun.said()
-        if online and online.strange:
-            self.say(f"note the machine file has no CPUs {print_list(online.strange)}: they are left out")
+        self.say_notes()
+
+    def say_notes(self):
+        notes = self.online.notes()
+        for note in notes:
+            if note not in self.notes:
+                self.say(f"note {note}")
+        self.notes = notes
+
+    def start_anew(self):
+        """Takes up all that is there in a new run, since other CPUs are reserved by now."""
+        self.numarun.close()
+        self.held, self.newcomers.refused, self.off, self.plans.pool, self.plans.tried, self.due = {}, {}, {}, None, None, True
+        self.start()
 
     # A look: what is there is told, and then one plan is worked out.
 
-    def look(self, all_told, events):
+    def look(self, told, events):
         for event in events:
             self.event(event)
-        there = {name: self.see(name, told) for name, told in all_told.items()}
-        there = {name: seen for name, seen in there.items() if seen}
-        for name in [of[1] for of in self.open if of[0] == "container" and of[1] not in all_told]:
-            del self.open["container", name]
-            self.refused.pop(name, None)
-        gone = [name for name, one in self.held.items() if name not in there or there[name].stamp != one.seen.stamp]
+        if events:
+            self.say_notes()
+        there = self.sight.all_there(told)
+        gone = [name for name, one in self.held.items() if name not in there or not self.sight.is_same(one, there[name])]
         for name in gone:
             self.end(name)
-        come = [name for name, seen in there.items() if name not in self.held and self.refused.get(name) != seen.stamp]
-        may_plan = True
-        for name in sorted(come, key=lambda name: (there[name].age, name)):
-            if self.ending:
-                self.due = True
-                return
-            may_plan = self.take_up(name, there[name]) and may_plan
-        self.due = self.due or bool(gone or come or events)
-        if self.due and may_plan:
-            self.make_room()
-            self.plan()
-        self.compare()
+        followed = [name for name, one in self.held.items() if self.follow(name, one, there[name])]
+        taken = self.newcomers.take_all({name: seen for name, seen in there.items() if name not in self.held})
+        if self.ending:
+            self.due = True
+            return
+        if self.slices:
+            self.slices.let_go(self, {seen.path for seen in there.values()})
+        if gone or followed or taken or events:
+            self.due = True
+            self.pauses.forget("plan")
+        if self.unmade and self.pauses.over("update"):
+            self.due, self.unmade = True, False
+        if self.due and self.pauses.over("plan") and not self.newcomers.blocking & there.keys():
+            self.plans.arrange()
+        self.mending.compare()
 
     def event(self, event):
         kind, *words = event.split()
@@ -206,337 +240,164 @@ class Agent:
             self.wrong = self.wrong or answer != "ok"
             if answer == "ok":
                 self.off[words[0]] = kind
+                (self.running.add if kind == "online" else self.running.discard)(int(words[0]))
 
-    def see(self, name, told):
-        """What is there of a container, or nothing."""
-        one = self.held.get(name)
-        try:
-            file = os.path.join(told.bundle, "config.json")
-            try:
-                found = os.stat(file)
-            except (OSError, ValueError):
-                raise Absent(f"{file}: can't be read") from None
-            stamp = (told, found.st_dev, found.st_ino, found.st_mtime_ns, found.st_size)
-            if one and one.seen.stamp[0] == stamp:
-                config, path = one.seen.config, one.seen.path
-            else:
-                config = self.parsed(file, one)
-                if config is None:
-                    return one.seen
-                path = self.tree.group(name, told.folder, config, told.group)
-            seen = Seen((stamp, path, self.tree.inode(path)), found.st_mtime_ns, told, config, path)
-        except Absent as why:
-            self.say_once(("container", name), f"absent {name}: {why}")
-            return None
-        if str(self.open.get(("container", name))).startswith("absent"):
-            del self.open["container", name]
-        return seen
+    def forget(self, name):
+        """Nothing is there of a container any more, and nothing is left to be said of it."""
+        for kind in ("container", "stays", "drift", "squeezed"):
+            self.open.pop((kind, name), None)
+        self.sight.absent.pop(name, None)
+        self.newcomers.refused.pop(name, None)
+        self.newcomers.blocking.discard(name)
+        self.pauses.forget(("container", name))
 
-    def parsed(self, file, one):
-        """A config; or nothing where it is that of a container that runs, and can't be read yet."""
-        try:
-            return parse(file)
-        except Absent:
-            if one is None:
-                raise
-            return None
+    # Those that end, and those whose configs or limits are others.
 
     def end(self, name):
         """A container that is gone, or another one now: its link goes first, so that no command reaches its group."""
+        self.untell(name)
+        one = self.held.pop(name)
+        self.forget(name)
+        self.tree.forget(one.seen.path)
+        if self.taken and one.seen.told.folder is not None:
+            self.taken.forget(one.seen.path)
+        self.say(f"ended {name}")
+
+    def untell(self, name):
         self.tree.unlink(name)
         for command in (f"kill {name} KILL", f"delete {name}"):
             answer = self.ask(command, quiet=True)[0]
             if answer != "ok":
                 raise Refused(f"{self.numarun.program}: {answer!r} to {command!r}")
-        del self.held[name]
-        self.open.pop(("container", name), None)
-        self.open.pop(("drift", name), None)
-        self.say(f"ended {name}")
 
-    def copy(self, name, config, which="shared"):
-        """A bundle of the agent's own, with this config."""
-        folder = os.path.join(self.work, "bundles", which, name)
-        os.makedirs(folder, exist_ok=True)
-        with open(os.path.join(folder, "config.json"), "w") as file:
-            json.dump(config, file)
-        return folder
-
-    def take_up(self, name, seen):
-        """Tells of a container that is there; whether a plan may be worked out beside it."""
-        if not ID.fullmatch(name) or name in (".", ".."):
-            return self.refuse(name, seen, "refused E91 BadId", set())
-        own, count = self.bundle(name, seen)
-        cpus = self.tree.listed(seen.path) & self.machine.present
-        # More than it asks for was given to it as to a shared one, which it was for want of room.
-        waits = count is not None and len(cpus - self.machine.reserved) > count
-        self.tree.link(name, seen.path)
-        ways = [(own, count, False, cpus), (own, count, False, set())]
-        if count is not None:
-            less = self.copy(name, shared(seen.config))
-            ways = [(less, count, True, cpus)] * waits + ways[waits:] + [(less, None, False, cpus), (less, None, False, set())]
-        fault = None
-        for bundle, count, waits, first in ways:
-            answer = self.tell(name, bundle, first)
-            if not re.match("refused E(104|6[2-7]) ?", answer):
-                break
-            fault = fault if answer.startswith("refused E104") else answer
-        if answer.startswith("refused"):
-            return self.refuse(name, seen, answer, cpus)
-        one = self.held[name] = Held(seen, own, count, waits)
-        one.cpus = self.requested(name)
-        one.admitted = one.pinned and not waits and len(cpus & one.cpus - self.machine.reserved) >= count > 0
-        self.refused.pop(name, None)
-        self.open.pop(("container", name), None)
-        if bundle != own and count is None:
-            self.say_once(("container", name), f"{fault}: {name} {own}: it runs on the pool")
+    def follow(self, name, one, seen):
+        """Takes up another config, or other limits of the group, of a container that runs; whether a plan is to be worked out."""
+        before, one.seen, one.stays = one.seen, seen, stays(seen.config)
+        if before[:4] == seen[:4] or seen.told.folder is None:
+            return False
+        if not self.pauses.over("update"):
+            one.seen = before
+            return False
+        demand = self.demand(name, seen, one)
+        one.demand, one.given = one.demand._replace(own=None), one.given._replace(own=None)  # the bundle has another config by now
+        if demand.config == (one.wanted or one.demand).config:
+            return False
+        if demand.count is None or one.given.count is None:
+            return self.follow_shared(name, one, demand)
+        one.wanted = demand
         return True
 
-    def bundle(self, name, seen):
-        """The bundle that is told, and how many CPUs it asks for, or nothing where it is shared."""
-        own, config = seen.told.bundle, seen.config
+    def follow_shared(self, name, one, demand):
+        """The same of one that is on the pool, or is to be; it waits there where it is to be pinned."""
+        if not self.tell_update(name, one, demand if demand.count is None else shared(demand.config), quiet=demand.count is not None):
+            one.seen = one.seen._replace(stamp=None) if self.unmade else one.seen  # it is told again
+            return False
+        one.demand, one.waits, one.wanted, one.nodes = demand, demand.count is not None, None, one.seen.nodes
+        self.settle(("container", name), "refused", "waits", "fewer", "keeps")
+        return True
+
+    def demand(self, name, seen, one=None):
+        """What a container asks for."""
+        config = limited(seen.config, seen.limit, seen.nodes)
         try:
-            count = asked(config, self.words.pin, self.threads)
-            if count is None and asked(config, "all", 1) is not None:
-                return self.copy(name, shared(config)), None
+            count, rather = asked(config, self.words.pin, self.threads), asked(config, "all", 1)
         except (Refused, AttributeError, TypeError):
-            count = None  # numarun refuses it
-        if own.split() != [own]:
-            own = self.copy(name, config, "own")
-        return own, count
-
-    def tell(self, name, bundle, cpus):
-        """Adopts a container on these CPUs, or makes it on the reserved ones."""
-        command = f"adopt {name} {bundle} {print_list(cpus)}" if cpus else f"create {name} {bundle}"
-        answer = self.ask(command)[0]
-        if not answer.startswith("refused"):
-            self.say(command)
-        return answer
-
-    def refuse(self, name, seen, answer, cpus):
-        """A container that is not told. One that runs on CPUs where nothing can be written lets no plan be safe."""
-        self.tree.unlink(name)
-        if answer.startswith("refused E50"):
-            self.say_once(("container", name), f"failed {self.failed}")
-            return not cpus
-        self.refused[name] = seen.stamp
-        self.say_once(("container", name), f"{answer}: {name} {seen.told.bundle}")
-        return True
-
-    def requested(self, name):
-        answer = self.ask(f"sets {name}")[0].split(" ")
-        return read_list(answer[1], name) if answer[0] == "cpus" else None
-
-    # Plans.
-
-    def make_room(self):
-        """Those that wait become pinned, the first that were told first, where a trial without a tree finds them a place."""
-        waiting = [name for name, one in self.held.items() if one.waits]
-        if not waiting:
-            return
-        trial = Run(self.words.program, os.path.join(self.work, "machine.json"), self.words.slit)
-        try:
-            trial.ask(*(f"{kind} {cpu}" for cpu, kind in self.off.items()))
-            trial.ask(*(f"create {name} {one.own}" for name, one in self.held.items() if one.pinned and not one.waits))
-            for name in waiting:
-                one = self.held[name]
-                trial.ask(f"create {name} {one.own}")
-                if trial.ask("rebalance")[0].startswith("plan"):
-                    answer = self.ask(f"update {name} {one.own}")[0]
-                    one.waits = answer != "ok"
-                    self.say(f"update {name} {one.own}" if answer == "ok" else f"{answer}: update {name} {one.own}")
-                if one.waits:
-                    self.wait(name, "no place")
-                    trial.ask(f"kill {name} KILL", f"delete {name}")
-                else:
-                    self.open.pop(("container", name), None)
-        finally:
-            trial.close()
-
-    def ease(self, outcome):
-        """Asks for less in a shortage: for the youngest newcomer, or where there is none for the youngest who takes fewer."""
-        words, *lines = (line.split(" ") for line in outcome[:-1])
-        members = [line[1] for line in lines]
-        missing = int(words[2]) - len(read_list(words[4], "allowed"))
-        for name in [name for name in members if not self.held[name].admitted][-1:]:
-            return self.shrink(name, missing) or self.make_wait(name, outcome[0])
-        return any(self.shrink(name, missing) for name in reversed(members))
-
-    def shrink(self, name, missing):
-        """Asks for fewer CPUs for a container, if its annotation allows it; whether it did."""
-        one = self.held[name]
-        least = at(one.seen.config, "annotations", LEAST)
-        least = int(least) if isinstance(least, str) and least.isdecimal() and len(least) < 6 else one.count
-        fewer = max(least, one.given - missing, 1)
-        if fewer >= one.given:
-            return False
-        section = dict(at(one.seen.config, *CPU), quota=fewer * 100000, period=100000)
-        bundle = self.copy(name, of_section(one.seen.config, section), "fewer")
-        if self.ask(f"update {name} {bundle}")[0] != "ok":
-            return False
-        one.given = fewer
-        return True
-
-    def grow(self):
-        """Asks for all of what those ask for who had to take fewer, which writes nothing."""
-        for name, one in self.held.items():
-            if one.pinned and one.given != one.count and self.ask(f"update {name} {one.own}")[0] == "ok":
-                one.given = one.count
-
-    def say_fewer(self):
-        for name, one in self.held.items():
-            if one.given != one.count:
-                self.say_once(("container", name), f"fewer {name}: {one.given} of {one.count} CPUs, as there are no more")
-            elif str(self.open.get(("container", name))).startswith("fewer"):
-                del self.open["container", name]
-
-    def make_wait(self, name, why):
-        """Lets a newcomer wait; whether it does."""
-        one = self.held[name]
-        one.waits = self.ask(f"update {name} {self.copy(name, shared(one.seen.config))}")[0] == "ok"
-        if one.waits:
-            one.given = one.count
-            self.wait(name, why)
-        return one.waits
-
-    def wait(self, name, why):
-        """Says once that a container waits."""
-        if ("container", name) not in self.open:
-            self.say_once(("container", name), f"waits {name}: {why}: it runs on the pool until there is room")
-
-    def plan(self):
-        """Works out a plan, and hands over to it."""
-        self.grow()
-        outcome = self.ask("begin")
-        while outcome[0].startswith("short") and self.ease(outcome):
-            outcome = self.ask("begin")
-        self.say_fewer()
-        if self.words.certificates:
-            self.leave(self.words.certificates, self.records.keep, self.ask("certificate"))
-        if not outcome[0].startswith("plan"):
-            self.records.count("shortages_total", int(outcome[0].startswith("short")))
-            self.due = outcome[0].startswith("refused")
-            self.say_once("plan", " ".join(outcome[:-1] or outcome))
-            return
-        self.due = True
-        targets, pool = {}, set()
-        for kind, *words in (line.split(" ") for line in outcome[1:-1]):
-            if kind == "pool":
-                pool = read_list(words[0], kind)
-            else:
-                targets[words[0]] = read_list(words[1], kind)
-        changes = [f"hold {name} {print_list(cpus)}" for name, cpus in targets.items() if cpus != self.held[name].cpus]
-        changes += [f"pool {print_list(pool)}"] if pool != self.pool else []
-        for line in [outcome[0], *changes] if changes != self.tried else []:
-            self.say(line)
-        self.tried = changes
-        moves = sum(len(cpus - (self.held[name].cpus or set())) for name, cpus in targets.items())
-        if self.hand_over(targets, pool):
-            self.records.plan(int(outcome[0].split(" ")[2]), sum(map(len, targets.values())), moves)
-
-    def hand_over(self, targets, pool):
-        """Makes the writes of a plan, one after another; whether all were made."""
-        answer = "more"
-        while answer == "more":
-            if self.ending:
-                return False
-            answer = self.ask("step")[0]
-        if answer != "done":
-            self.say_once("plan", f"failed {self.failed}")
-            for name, one in self.held.items():
-                one.cpus = self.requested(name)
-            return False
-        self.due, self.tried = False, None
-        self.open.pop("plan", None)
-        for name, one in self.held.items():
-            one.cpus = targets.get(name, pool)
-            one.admitted = one.admitted or name in targets
-        self.say("done")
-        if pool != self.pool:
-            self.pool = pool
-            self.tell_pool()
-        return True
-
-    def tell_pool(self):
-        """Runs the command that moves the rest of the machine onto the pool."""
-        if not self.words.pool:
-            return
-        command = shlex.split(self.words.pool) + [print_list(self.pool)]
-        try:
-            done = subprocess.run(command, stdin=subprocess.DEVNULL, stdout=sys.stderr, timeout=HOOK)
-            why = f"status {done.returncode}" if done.returncode else None
-        except (OSError, subprocess.TimeoutExpired) as fault:
-            why = getattr(fault, "strerror", None) or str(fault)
-        self.open.pop("hook", None)
-        if why:
-            self.say_once("hook", f"failed {shlex.join(command)}: {why}")
-
-    def compare(self):
-        """Says where a group requests other CPUs than it was given: somebody else wrote."""
-        for name, one in self.held.items():
-            cpus = self.tree.listed(one.seen.path) if self.tree.folder else one.cpus
-            if one.cpus is None or cpus == one.cpus:
-                self.open.pop(("drift", name), None)
-            else:
-                self.say_once(("drift", name), f"drift {name} has {print_list(cpus)} in place of {print_list(one.cpus)}")
+            count = rather = None  # numarun refuses it
+        if count is None and rather is not None:
+            config = shared(config).config
+        elif count is not None:
+            home = one.home if one and one.home else self.homes.choose_home(seen, config, count)
+            config = housed(config, home) if home else config
+        own = seen.told.bundle if config is seen.config and seen.told.bundle.split() == [seen.told.bundle] else None
+        return Demand(config, count, own)
 
 
-def work(agent, source, online, rest, words):
+def look_at(agent, source, turn):
+    """Takes the events since the last look; those other than of containers."""
+    events = []
+    try:
+        if isinstance(source, Input):
+            for line in source.wrong:
+                agent.say(f"refused: {line}")
+                agent.wrong = True
+            events, source.wrong = source.events, []
+        else:
+            source.look()
+        events = events + (agent.online.events() if agent.words.online and turn > 1 else [])
+        agent.open.pop("look", None)
+    except Refused as why:
+        agent.say_once("look", f"{why}; looks again")
+    return events
+
+
+def work(agent, source, words):
     """Looks again and again, at the latest after a pause, until the input ends, or it is told to end."""
     reader, writer = os.pipe()
     os.set_blocking(writer, False)
     signal.set_wakeup_fd(writer)
     for number in (signal.SIGTERM, signal.SIGINT):
         signal.signal(number, lambda *_: setattr(agent, "ending", True))
-    agent.start(online)
+    agent.start()
     turn = 0
     while not agent.ending:
         turn += 1
-        events = []
-        try:
-            if isinstance(source, Input):
-                events = source.take(reader, words.pause)
-                for line in source.wrong:
-                    agent.say(f"refused: {line}")
-                    agent.wrong = True
-                source.wrong = []
-            elif turn > 1:
-                source.look()
-            events += online.events() if online else []
-            agent.open.pop("look", None)
-        except Refused as why:
-            agent.say_once("look", f"{why}; looks again")
-        agent.look({**rest.told(), **source.told}, events)
-        agent.record()
-        if turn == words.rounds or getattr(source, "ended", False):
+        files = [reader, *(agent.waiters.files() if agent.waiters else [])]
+        if isinstance(source, Input):
+            source.take(files, words.pause)
+        elif turn > 1:
+            select.select(files, [], [], words.pause)
+        if agent.ending:
             break
-        if isinstance(source, Folder):
-            select.select([reader], [], [], words.pause)
+        if agent.waiters:
+            agent.waiters.take()
+        events = look_at(agent, source, turn)
+        if agent.online.choose_reserved():
+            agent.start_anew()
+            events = [event for event in events if event == "rebalance"]
+        agent.look(source.told, events)
+        agent.record()
+        if agent.waiters:
+            agent.waiters.answer(agent.told_of)
+        if turn == words.rounds or source.ended:
+            break
+    agent.sight.say_unsaid()
 
 
 def words_of():
     parser = argparse.ArgumentParser(description=__doc__, epilog=EXAMPLE, formatter_class=argparse.RawDescriptionHelpFormatter)
-    parser.add_argument("machine", metavar="MACHINE", help="the machine file")
+    parser.add_argument("machine", metavar="MACHINE", nargs="?", help="the machine file")
     parser.add_argument("--slit", metavar="FILE", help="the distance table, where MACHINE has no distances")
     parser.add_argument("--program", default=find_program(), metavar="PATH", help="numarun, if it is not the one that is built or installed here")
     parser.add_argument("--cgroup", metavar="ROOT", help="write in this cgroup v2 tree, as /sys/fs/cgroup")
     parser.add_argument("--group", default="numarun", metavar="NAME", help="the group that has the groups of which nothing else is said")
-    parser.add_argument("--work", default="/run/numarun", metavar="FOLDER", help="with --cgroup: the agent's own files, which it makes anew")
-    parser.add_argument("--watch", metavar="FOLDER", help="the containers are those of this folder")
+    parser.add_argument("--work", default="/run/numarun", metavar="FOLDER", help="with --cgroup: the agent's own files, which it makes anew, "
+                        "and the socket for hook.py --wait")
+    parser.add_argument("--watch", metavar="FOLDER", action="append", help="the containers are those of this folder, and of others that are named so")
     parser.add_argument("--online", metavar="FILE", help="the kernel's list of online CPUs; with --watch it is looked at anyway")
     parser.add_argument("--pause", type=float, default=1.0, metavar="SECONDS", help="between two looks, if nothing is told")
     parser.add_argument("--rounds", type=int, default=0, metavar="N", help="end after N looks")
     parser.add_argument("--pin", choices=("all", "whole", "annotated"), default="all",
                         help=f"who gets CPUs of its own: all that ask for some, those whose quota is of whole CPUs, those annotated {PIN}=true")
+    parser.add_argument("--home", choices=("free", "none"), default="free", help="which nodes of memory one gets that names none: those where there is "
+                        "room for it, or none")
+    parser.add_argument("--nodes", default="/sys/devices/system/node", metavar="FOLDER", help="where the kernel tells the free memory of each node")
     parser.add_argument("--pool", metavar="COMMAND", help="run this with the pool's list behind it whenever that has changed")
-    parser.add_argument("--rest", default="", metavar="GROUPS", help="groups of the system itself, with commas between them, as system.slice,user.slice,"
-                        "init.scope: they are held on the pool, those that are there")
+    parser.add_argument("--rest", action="append", default=[], metavar="GROUPS", help="groups of the system itself, with commas between them, as "
+                        "system.slice,user.slice,init.scope: they are held on the pool, those that are there")
     parser.add_argument("--textfile", metavar="FILE", help="leave the figures here for node_exporter, as a file of its folder that ends in .prom")
     parser.add_argument("--certificates", metavar="FOLDER", help="keep the certificate of each plan and shortage here, by its date")
+    parser.add_argument("--keep", type=int, default=KEPT, metavar="N", help=f"of the certificates the last N; {KEPT} where nothing is said")
+    parser.add_argument("--release", action="store_true", help="give back to each group what it requested before the agent came, and end")
     words = parser.parse_args()
-    if words.rest and not words.cgroup:
+    words.groups = [group.strip("/") for groups in words.rest for group in groups.split(",") if group.strip("/")]
+    if words.groups and not words.cgroup:
         parser.error("--rest is of a tree: --cgroup names it")
-    if not 0 <= words.pause <= 86400 or words.rounds < 0:
-        parser.error("--pause is 0 to 86400, and --rounds is 0 or more")
+    if words.release and not words.cgroup:
+        parser.error("--release is of a tree: --cgroup names it")
+    if not words.machine and not words.release:
+        parser.error("no MACHINE")
+    if not 0 <= words.pause <= 86400 or words.rounds < 0 or words.keep < 1:
+        parser.error("--pause is 0 to 86400, --rounds is 0 or more, and --keep 1 or more")
     if words.watch and not words.online:
         words.online = "/sys/devices/system/cpu/online"
     return words
@@ -544,20 +405,21 @@ def words_of():
 
 def main():
     words = words_of()
+    if words.release:
+        return release(words)
     machine = Machine(words.machine)
     check_program(words.program)
     with tempfile.TemporaryDirectory(prefix="numarun-") as folder:
         folder = words.work if words.cgroup else folder
         tree = Tree(words.cgroup, folder, words.group) if words.cgroup else NoTree()
-        agent = Agent(words, machine, tree, folder)
-        source = Folder(words.watch) if words.watch else Input()
-        rest = Rest(words.cgroup, [group.strip("/") for group in words.rest.split(",") if group.strip("/")], folder)
+        waiters = Waiters(os.path.join(folder, "hooks")) if words.cgroup else None
+        agent = Agent(words, machine, tree, folder, Online(words.online, machine, tree), waiters)
         try:
-            work(agent, source, Online(words.online, machine) if words.online else None, rest, words)
+            work(agent, Folders(words.watch) if words.watch else Input(), words)
         finally:
             if agent.numarun:
                 agent.numarun.close()
-    return 1 if agent.wrong or agent.open or agent.refused or agent.due else 0
+    return 1 if agent.wrong or agent.open or agent.newcomers.refused or agent.due else 0
 
 
 if __name__ == "__main__":

@@ -54,7 +54,8 @@ pages = [name for name in first if name.startswith("share/") and not name.endswi
 check("the pages", sorted(pages), ["share/doc/numarun/formats.md", "share/man/man1/numarun.1"])
 listed = open(os.path.join(PREFIX, "lib", "numarun", "installed")).read().splitlines()
 check("the list is what is new", sorted(listed), sorted(set(first) - set(BEFORE)))
-check("nothing names the prefix", [name for name, told in first.items() if told and PREFIX in str(told[0])], [])
+check("the unit alone names the prefix", [name for name, told in first.items() if told and PREFIX in str(told[0])],
+      ["lib/systemd/system/numarun-agent.service"])
 check("installed again", (told("install.sh", PREFIX, env=HERE)[0], standing() == first), (0, True))
 
 for name in NAMES:

@@ -112,7 +112,7 @@ class World:
 
 def agent(folder, *more):
     words = [f"{folder}/machine.json", "--program", os.path.join(HERE, "stand_in.py"), "--cgroup", f"{folder}/root", "--work", f"{folder}/work"]
-    words += ["--watch", f"{folder}/g", "--online", f"{folder}/online", "--pause", "0.02", *more]
+    words += ["--watch", f"{folder}/g", "--online", f"{folder}/online", "--pause", "0.02", "--home", "none", *more]
     out = open(f"{folder}/out", "a")
     return subprocess.Popen([sys.executable, "-B", os.path.join(EXAMPLES, "agent.py"), *words], stdout=out, stderr=out)
 

@@ -1,9 +1,12 @@
-"""The agent over a folder of bundles: containers come, go and come back under their ids, CPUs go off and on, and the agent is killed at
-moments by chance and started again. In no look at the tree two containers of which one is pinned share a CPU outside the reserved
-ones; and in the end each process runs where the last plan put it."""
+"""The agent over a folder of bundles: containers come, go and come back under their ids, their limits change, CPUs go off and on, and the
+program, the agent or both are killed at moments by chance and started again. In no look at the tree two containers of which one is
+pinned share a CPU outside the reserved ones; those that asked for CPUs had them; and in the end each process runs where the last plan
+put it."""
 
+import contextlib
 import os
 import shutil
+import signal
 import subprocess
 import sys
 import threading
@@ -15,13 +18,15 @@ from tree import CPU, RESERVED, ROOT, TOP, read, say, write
 
 FOLDER, WORK, OUT = "/tmp/g", "/run/numarun", "/tmp/agent-out"
 MOMENTS = 8
+PATIENCE = 8  # seconds that a container stays at least, unless it has had its CPUs before
 PINNED, SHARED = ["p0", "p1", "p2"], ["s0", "s1"]
 
 
 class World:
     def __init__(self, random):
         self.random, self.all, self.lock = random, tree.Containers("/tmp/new"), threading.Lock()
-        self.ended, self.looks, self.came, self.had = False, 0, {}, set()
+        self.ended, self.looks, self.came, self.had, self.since = False, 0, {}, set(), {}
+        self.changed = 0
         self.count = self.shared = 0
         write(f"{ROOT}/cgroup.subtree_control", "+cpuset")
         os.makedirs(TOP)
@@ -32,7 +37,7 @@ class World:
         """Its group with a process first, and then its bundle, at once."""
         section = {"quota": self.random.choice([1, 2]), "mems": str(self.random.randrange(4))} if name in PINNED else {}
         self.count += 1
-        self.came[name] = self.count
+        self.came[name], self.since[name] = self.count, time.monotonic()
         os.mkdir(f"{TOP}/{name}")
         self.all.start(name)
         os.rename(self.all.bundle(name, **section), f"{FOLDER}/{name}")
@@ -43,14 +48,28 @@ class World:
         os.rename(f"{FOLDER}/{name}", "/tmp/gone")
         shutil.rmtree("/tmp/gone")
 
+    def is_settled(self, name):
+        """Whether it had its CPUs, or had time for it."""
+        return name not in PINNED or self.came[name] in self.had or time.monotonic() > self.since[name] + PATIENCE
+
+    def limit(self, name):
+        """Another limit of one that runs, in its config, of which nobody sees a part."""
+        asked = 3 - self.all.asks[name]
+        bundle = self.all.bundle(name, quota=asked, mems=str(self.random.randrange(4)))
+        os.rename(f"{bundle}/config.json", f"{FOLDER}/{name}/config.json")
+        os.rmdir(bundle)
+        self.changed += 1
+
     def change(self):
         while not self.ended:
             with self.lock:
                 name = self.random.choice(PINNED + SHARED)
                 was = name in self.all.there
-                if was:
+                if was and name in PINNED and self.random.random() < 0.3:
+                    self.limit(name)
+                elif was and self.is_settled(name):
                     self.go(name)
-                if not was or self.random.random() < 0.6:
+                if name not in self.all.there and (not was or self.random.random() < 0.6):
                     self.come(name)
             time.sleep(self.random.uniform(0.2, 1.5))
 
@@ -88,6 +107,14 @@ def lines():
     return [line.split(" ", 1)[-1] for line in read(OUT).splitlines()]
 
 
+def children(pid):
+    """The program that an agent runs."""
+    try:
+        return [int(child) for child in read(f"/proc/{pid}/task/{pid}/children").split()]
+    except OSError:
+        return []
+
+
 def flap(world):
     """A CPU goes and comes back, for all that the agent is in the middle of."""
     cpu = world.random.choice(range(1, 8))
@@ -108,8 +135,11 @@ def killed_by_chance(world):
         if world.random.random() < 0.5:
             flap(world)
             time.sleep(world.random.uniform(0, 0.5))
-        run.kill()
-        assert run.wait() == -9, lines()[-20:]
+        program, which = children(run.pid), world.random.choice(["program", "agent", "both"])
+        for pid in ([] if which == "program" and program else [run.pid]) + ([] if which == "agent" else program):
+            with contextlib.suppress(ProcessLookupError):
+                os.kill(pid, signal.SIGKILL)
+        assert run.wait() in (-9, 1), lines()[-20:]
     world.ended = True
     for thread in threads:
         thread.join()
@@ -135,8 +165,12 @@ assert agent("--rounds", "2").wait() == 0, lines()[-30:]
 agrees(world, "the last run")
 tree.turn(3, False)
 tree.turn(6, False)
+said = len(lines())
 assert agent("--rounds", "1").wait() in (0, 1)
+asks = dict(world.all.asks)
+world.all.asks.update((line.split(" ")[1].rstrip(":"), 0) for line in lines()[said:] if line.startswith("waits"))  # they are on the pool
 world.all.check("two CPUs are off")
+world.all.asks.update(asks)
 tree.turn(3, True)
 tree.turn(6, True)
 assert agent("--rounds", "2").wait() == 0, lines()[-30:]
@@ -145,5 +179,7 @@ assert not world.shared, world.shared
 assert "Traceback" not in read(OUT), read(OUT)[-2000:]
 told = {kind: sum(line.split(" ")[0] == kind for line in lines()) for kind in ("adopt", "create", "ended", "plan", "offline")}
 assert told["adopt"] >= 3 and told["plan"] >= 5 and world.looks > 50, (told, world.looks)
-say(f"agent: killed {MOMENTS} times and started again: {world.looks} looks, {len(world.had)} of {world.count} containers had their CPUs, {told}")
+assert 4 * len(world.had) > world.count and world.changed, (len(world.had), world.count, world.changed)
+say(f"agent: killed {MOMENTS} times and started again: {world.looks} looks, {len(world.had)} of {world.count} containers had CPUs of their own, "
+    f"{world.changed} limits changed, {told}")
 tree.clear()
