@@ -1,15 +1,18 @@
 #!/usr/bin/env bash
 # Tries the scripts of examples/ for those who operate machines: a quick look, machine files of what hwloc tells, pictures of
-# plans and shortages, what is explained of them, where a container would go, the agent, over a stand-in for the program, beside
+# plans and shortages, what is explained of them, where a container would go, the agent over the program in plain folders, beside
 # the system's own groups, where something changes, and killed again and again, homes, hooks, the installation and the package,
 # the comparison with other ways to place, the count of moves, and the man page. What a machine lacks for it is passed over, and
-# named. They run in lanes side by side. PROGRAM in the environment is run in place of the one that this builds.
+# named. They run in lanes side by side. PROGRAM in the environment is run in place of the one that this builds; TESTS are the files
+# of operators/ that are run, in place of all.
 set -euo pipefail
 top=$(cd "$(dirname "$0")/.." && pwd)
 . "$top/tests/build-program.sh"
-scratch=$(mktemp -d)
-export PROGRAM=$program
+scratch=$(mktemp -d) work=$scratch
+. "$top/tests/build-preloads.sh"
+export PROGRAM=$program GROUPS_LIBRARY=$scratch/groups.so
 lanes=("looks hwloc pictures explains dry-runs rests hooks installs packages peers moves manual" "agents" "changes homes" "troubles" "kills")
+[ -z "${TESTS:-}" ] || lanes=("$TESTS")
 
 # lane N TEST..: these, one after another, in a scratch folder of their own, up to the first that fails.
 lane() {

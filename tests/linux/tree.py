@@ -32,6 +32,16 @@ def seed():
     return sys.argv[1] if len(sys.argv) > 1 else "1"
 
 
+def share():
+    """Which share of a part's work is done: one in so many."""
+    return int(sys.argv[2]) if len(sys.argv) > 2 else 1
+
+
+def is_due(number):
+    """Whether a piece of work is in that share, which the seed chooses."""
+    return (number + int(seed())) % share() == 0
+
+
 def chance(of):
     return random.Random(f"{of} {seed()}")
 

@@ -1,4 +1,4 @@
-"""Tries agent.py over the stand-in for the program: what it tells, what the groups request then, and how it goes on where a
+"""Tries agent.py over the program in plain folders: what it tells, what the groups request then, and how it goes on where a
 write, a group, a config or a line of input is not as it ought to be."""
 
 import importlib
@@ -10,14 +10,14 @@ import signal
 import subprocess
 import sys
 
-from sites import QUOTA, SCRATCH, STAND_IN, Open, Site, untimed
+from sites import IN_FOLDERS, QUOTA, SCRATCH, Open, Site, untimed
 from trial import EXAMPLES, bad_files, bad_output, check, end, piped, refuses, told, words_and_help
 
 common, groups = importlib.import_module("common"), importlib.import_module("groups")
 
 MACHINE = os.path.join(EXAMPLES, "machines", "two-socket.json")
 DATABASE, PACKETS, WEB, CONTROL = (f"examples/bundles/{name}" for name in ("database", "packet-processing", "web", "real-time"))
-PLAIN = (MACHINE, "--program", STAND_IN)
+PLAIN = (MACHINE, "--program", IN_FOLDERS)
 
 
 def plain():
@@ -398,7 +398,7 @@ def places():
 def refusals():
     words_and_help("agent.py", "examples/agent.py examples/machines/two-socket.json")
     refuses("agent.py", MACHINE, "--program", "no-such-program", says="no-such-program: no program (see --program)")
-    bad_files("agent.py", ["--program", STAND_IN])
+    bad_files("agent.py", ["--program", IN_FOLDERS])
     bad_output("agent.py", *PLAIN, text="rebalance\n")
     piped("agent.py", *PLAIN, text="rebalance\n")
     name = os.path.join(SCRATCH, "ends")

@@ -4,7 +4,7 @@ import importlib
 import os
 import sys
 
-from sites import QUOTA, STAND_IN, Open, Site
+from sites import IN_FOLDERS, QUOTA, Open, Site
 from trial import EXAMPLES, check, end, told
 
 sys.path.insert(0, EXAMPLES)
@@ -110,7 +110,7 @@ def shown():
     """dry-run.py has the same homes."""
     site = Site(TWO)
     memory(site, GIB, 2 * GIB)
-    words = (site.at("machine.json"), "--program", STAND_IN, "--after", "-")
+    words = (site.at("machine.json"), "--program", IN_FOLDERS, "--after", "-")
     script = f"create a {site.at('g/a')}\nrebalance\n"
     site.come("a", linux={"resources": {"cpu": {"quota": 3 * QUOTA, "period": QUOTA, "mems": "0"}}})
     status, out, _ = told("dry-run.py", *words, "--cpus", "3", text=script)

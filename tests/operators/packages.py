@@ -11,13 +11,13 @@ import subprocess
 import sys
 import time
 
-from sites import STAND_IN, Open, Site
+from sites import IN_FOLDERS, Open, Site
 from trial import EXAMPLES, check, end, refuses, told
 
 PROGRAM = os.path.abspath(os.environ["PROGRAM"])
 SCRATCH = os.environ["SCRATCH"]
 HERE = {**os.environ, "PROGRAM": PROGRAM}
-WORDS = ["--online", "/sys/devices/system/cpu/online", "--program", STAND_IN, "--pause", "0.1"]
+WORDS = ["--online", "/sys/devices/system/cpu/online", "--program", IN_FOLDERS, "--pause", "0.1"]
 
 
 def unit_of(prefix):

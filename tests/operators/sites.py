@@ -14,7 +14,7 @@ from trial import EXAMPLES, TOP, check, command, told
 sys.path.insert(0, EXAMPLES)
 
 SCRATCH = os.environ.get("SCRATCH") or tempfile.mkdtemp()
-STAND_IN = os.path.join(os.path.dirname(os.path.abspath(__file__)), "stand_in.py")
+IN_FOLDERS = os.path.join(os.path.dirname(os.path.abspath(__file__)), "in_folders.sh")
 QUOTA = 100000
 PATIENCE = 40  # seconds
 
@@ -91,12 +91,12 @@ class Site:
         return [open(self.at("root", "numarun", name, "cpuset.cpus")).read().strip() for name in names]
 
     def words(self, *more):
-        words = [self.at("machine.json"), "--program", STAND_IN, "--cgroup", self.at("root"), "--work", self.at("work"), "--pause", "0.1"]
+        words = [self.at("machine.json"), "--program", IN_FOLDERS, "--cgroup", self.at("root"), "--work", self.at("work"), "--pause", "0.1"]
         watching = ["--watch", self.at("g"), "--online", self.at("online")] if "--listen" not in more else []
         return words + watching + [word for word in more if word != "--listen"]
 
     def run(self, *more, text="", rounds="1"):
-        status, out, err = told("agent.py", *self.words(*more, "--rounds", rounds), text=text, env={**os.environ, "STAND_IN_LOG": self.at("log")})
+        status, out, err = told("agent.py", *self.words(*more, "--rounds", rounds), text=text, env={**os.environ, "GROUPS_LOG": self.at("log")})
         check("nothing on standard error", err, "")
         return status, untimed(out)
 
@@ -112,7 +112,7 @@ class Open:
 
     def __init__(self, site, *more, stdin=subprocess.DEVNULL):
         words = command("agent.py", *site.words(*more))
-        here = {**os.environ, "STAND_IN_LOG": site.at("log")}
+        here = {**os.environ, "GROUPS_LOG": site.at("log")}
         self.process = subprocess.Popen(words, stdin=stdin, stdout=subprocess.PIPE, text=True, cwd=TOP, env=here)
         self.lines = []
         self.watch = threading.Timer(PATIENCE, self.process.kill)  # where a line is waited for that does not come

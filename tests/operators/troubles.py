@@ -15,12 +15,12 @@ import tempfile
 import threading
 import time
 
+from sites import IN_FOLDERS
 from trial import EXAMPLES, check, end
 
 sys.path.insert(0, EXAMPLES)
 from common import read_list
 
-HERE = os.path.dirname(os.path.abspath(__file__))
 SEED, MOMENTS = (int(word) for word in (sys.argv[1:] + ["1", "24"][len(sys.argv) - 1:])[:2])
 RESERVED = {0}
 MACHINE = {"nodes": ["0-7", "8-15"], "distances": [[10, 21], [21, 10]], "reserved": "0"}
@@ -163,7 +163,7 @@ class World:
 
 
 def agent(folder, *more):
-    words = [f"{folder}/machine.json", "--program", os.path.join(HERE, "stand_in.py"), "--cgroup", f"{folder}/root", "--work", f"{folder}/work"]
+    words = [f"{folder}/machine.json", "--program", IN_FOLDERS, "--cgroup", f"{folder}/root", "--work", f"{folder}/work"]
     words += ["--watch", f"{folder}/g", "--online", f"{folder}/online", "--pause", "0.02", *more]
     out = open(f"{folder}/out", "a")
     return subprocess.Popen([sys.executable, "-B", os.path.join(EXAMPLES, "agent.py"), *words], stdout=out, stderr=out)

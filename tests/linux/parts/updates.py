@@ -1,23 +1,15 @@
 """What changes under the agent: CPUs that go, limits that change, by a config and by crun update, what others write, a folder that can't
 be seen, a partition beside; and a container of crun's that has its CPUs before its first instruction."""
 
-import json
 import os
-import shutil
-import subprocess
 import sys
 
 sys.path[:0] = [os.path.join(os.path.dirname(os.path.abspath(__file__)), "..")]
 import tree
 import watched
+from of_crun import bundle, crun, process
 from tree import ROOT, read, say, write
 from watched import come, configure, requested, runs_on
-
-STATE, BUNDLES = "/run/crun", "/tmp/of-crun"
-
-
-def count(path):
-    return len(tree.cpus(requested(path)) - {0})
 
 
 def own(path, pid, many):
@@ -89,31 +81,6 @@ def partition(agent, pids):
         watched.go(name, f"numarun/{name}")
 
 
-def bundle(name, section, hooks):
-    """A bundle as `crun spec` has it, with what is asked for and with hooks."""
-    folder = f"{BUNDLES}/{name}"
-    for place in ("dev", "proc"):
-        os.makedirs(f"{folder}/rootfs/{place}", exist_ok=True)
-    shutil.copy("/app/sleeper", f"{folder}/rootfs/sleeper")
-    subprocess.run(["/app/crun", "spec"], cwd=folder, check=True)
-    config = json.load(open(f"{folder}/config.json"))
-    config["process"].update(terminal=False, args=["/sleeper"])
-    config["mounts"] = [mount for mount in config["mounts"] if mount["destination"] == "/proc"]
-    config["linux"]["resources"]["cpu"] = section
-    config["linux"]["namespaces"] = [one for one in config["linux"]["namespaces"] if one["type"] in ("pid", "ipc", "uts", "mount")]
-    config["hooks"] = hooks
-    json.dump(config, open(f"{folder}/config.json", "w"))
-    return folder
-
-
-def crun(*words):
-    """What crun says is in a file, since a container that goes on would keep a pipe."""
-    with open("/tmp/of-crun-out", "w") as out:
-        done = subprocess.run(["/app/crun", "--cgroup-manager=cgroupfs", *words], stdin=subprocess.DEVNULL, stdout=out, stderr=subprocess.STDOUT)
-    assert not done.returncode, (words, read("/tmp/of-crun-out"), watched.lines()[-20:])
-    return read("/tmp/of-crun-out")
-
-
 def before_its_first_instruction():
     """crun creates a container, and its hook waits for the agent, which would look again in an hour; and crun update is followed."""
     words = ["python3", "-SEB", f"{tree.REPOSITORY}/examples/hook.py", "/tmp/told"]
@@ -121,9 +88,9 @@ def before_its_first_instruction():
              "poststop": [{"path": "/bin/python3", "args": words}]}
     agent = watched.Agent("--pause", "3600", watch="/tmp/told")
     agent.until(lambda: os.path.exists(f"{watched.WORK}/hooks"), "the agent")
-    crun("create", "--no-pivot", "--bundle", bundle("db", {"quota": 200000, "period": 100000, "mems": "1"}, hooks), "db")
-    pid = json.loads(crun("state", "db"))["pid"]
-    group = read(f"/proc/{pid}/cgroup").split("::")[1].strip("/")
+    crun("create", "--no-pivot", "--bundle", bundle("db", {"quota": 200000, "period": 100000, "mems": "1"}, hooks=hooks), "db")
+    pid, group = process("db")
+    group = os.path.relpath(group, ROOT)
     assert requested(group) == "2-3" and runs_on(pid, {2, 3}), (requested(group), tree.allowed(pid), watched.lines()[-20:])
     crun("start", "db")
     agent.end()
