@@ -11,7 +11,7 @@ import sys
 
 HERE = os.path.dirname(os.path.abspath(__file__))
 TOP = os.path.dirname(os.path.dirname(HERE))
-MODULES = """argparse bisect collections contextlib copy ctypes datetime encodings.ascii encodings.latin_1 encodings.utf_8 errno fcntl gettext
+MODULES = """_strptime argparse bisect collections contextlib copy ctypes datetime encodings.ascii encodings.latin_1 encodings.utf_8 errno fcntl gettext
 itertools json linecache locale math os pathlib random re select selectors shlex shutil signal socket subprocess sys tempfile textwrap
 threading time tokenize traceback""".split()
 

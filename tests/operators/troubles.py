@@ -201,7 +201,7 @@ def causes(world, said):
     found = dict.fromkeys(("a move", "a place that was lost", "no cause"), 0)
     lines = [(time_of(line), line[24:].split(" ")) for line in said]
     for when, name in world.squeezed:
-        near = [words for at, words in lines if abs(at - when) < NEAR and words[1:2] == [name]]
+        near = [words for at, words in lines if abs(at - when) < NEAR and words[1:2] in ([name], [f"{name}:"])]
         kinds = {words[0] for words in near}
         cause = "a place that was lost" if "waits" in kinds else "a move" if "hold" in kinds else "no cause"
         found[cause] += 1

@@ -1,10 +1,11 @@
 """The agent over a folder of bundles: containers come, go and come back under their ids, their limits change, CPUs go off and on, and the
 program, the agent or both are killed at moments by chance and started again. In no look at the tree two containers of which one is
-pinned share a CPU outside the reserved ones; those that asked for CPUs had them; and in the end each process runs where the last plan
-put it."""
+pinned share a CPU outside the reserved ones; those that asked for CPUs had them; none that had its own is squeezed onto the reserved
+one but by a move; and in the end each process runs where the last plan put it."""
 
 import contextlib
 import os
+import re
 import shutil
 import signal
 import subprocess
@@ -19,6 +20,7 @@ from tree import CPU, RESERVED, ROOT, TOP, read, say, write
 FOLDER, WORK, OUT = "/tmp/g", "/run/numarun", "/tmp/agent-out"
 MOMENTS = 8
 PATIENCE = 8  # seconds that a container stays at least, unless it has had its CPUs before
+NEAR = 3      # seconds in which a line of the agent is of the same matter as a look
 PINNED, SHARED = ["p0", "p1", "p2"], ["s0", "s1"]
 
 
@@ -26,7 +28,7 @@ class World:
     def __init__(self, random):
         self.random, self.all, self.lock = random, tree.Containers("/tmp/new"), threading.Lock()
         self.ended, self.looks, self.came, self.had, self.since = False, 0, {}, set(), {}
-        self.changed = 0
+        self.changed, self.own, self.squeezed = 0, {}, []
         self.count = self.shared = 0
         write(f"{ROOT}/cgroup.subtree_control", "+cpuset")
         os.makedirs(TOP)
@@ -44,6 +46,7 @@ class World:
 
     def go(self, name):
         self.all.there.pop(name)
+        self.own.pop(name, None)
         tree.remove(f"{TOP}/{name}")
         os.rename(f"{FOLDER}/{name}", "/tmp/gone")
         shutil.rmtree("/tmp/gone")
@@ -90,6 +93,9 @@ class World:
             for name in set(PINNED) & set(sets):
                 if len(sets[name] - RESERVED) == self.all.asks[name]:
                     self.had.add(self.came[name])
+                    self.own[name] = sets[name]
+                elif sets[name] == RESERVED and self.own.pop(name, None):
+                    self.squeezed.append((time.time(), name))
 
     def watch(self):
         while not self.ended:
@@ -105,6 +111,17 @@ def agent(*more):
 
 def lines():
     return [line.split(" ", 1)[-1] for line in read(OUT).splitlines()]
+
+
+def causes(world):
+    """How often one was squeezed, by what the agent said of it then."""
+    found = {"a move": 0, "a place that was lost": 0, "no cause": 0}
+    told = [(line[:19], line.split(" ")[1:3]) for line in read(OUT).splitlines() if re.match(r"\d{4}-\d\d-\d\dT", line)]
+    told = [(time.mktime(time.strptime(stamp, "%Y-%m-%dT%H:%M:%S")), words) for stamp, words in told]
+    for when, name in world.squeezed:
+        kinds = {words[0] for at, words in told if abs(at - when) < NEAR and words[1:] and words[1].rstrip(":") == name}
+        found["a place that was lost" if "waits" in kinds else "a move" if "hold" in kinds else "no cause"] += 1
+    return found
 
 
 def children(pid):
@@ -175,11 +192,12 @@ tree.turn(3, True)
 tree.turn(6, True)
 assert agent("--rounds", "2").wait() == 0, lines()[-30:]
 agrees(world, "they are back")
-assert not world.shared, world.shared
+squeezed = causes(world)
+assert not world.shared and not squeezed["no cause"], (world.shared, squeezed)
 assert "Traceback" not in read(OUT), read(OUT)[-2000:]
 told = {kind: sum(line.split(" ")[0] == kind for line in lines()) for kind in ("adopt", "create", "ended", "plan", "offline")}
 assert told["adopt"] >= 3 and told["plan"] >= 5 and world.looks > 50, (told, world.looks)
 assert 4 * len(world.had) > world.count and world.changed, (len(world.had), world.count, world.changed)
 say(f"agent: killed {MOMENTS} times and started again: {world.looks} looks, {len(world.had)} of {world.count} containers had CPUs of their own, "
-    f"{world.changed} limits changed, {told}")
+    f"{world.changed} limits changed, squeezed by {squeezed}, {told}")
 tree.clear()
