@@ -300,7 +300,7 @@ class Agent:
         """What a container asks for."""
         config = limited(seen.config, seen.limit, seen.nodes)
         try:
-            count, rather = asked(config, self.words.pin, self.threads), asked(config, "all", 1)
+            count, rather = (asked(config, rule, self.machine) for rule in (self.words.pin, "all"))
         except (Refused, AttributeError, TypeError):
             count = rather = None  # numarun refuses it
         if count is None and rather is not None:

@@ -14,8 +14,9 @@ STAY = "numarun.stay"    # of one that is never moved
 Demand = collections.namedtuple("Demand", "config count own")
 
 
-def asked(config, rule, threads):
-    """How many CPUs of its own a container asks for; nothing where it is shared."""
+def asked(config, rule, machine):
+    """How many CPUs of its own a container asks for, in whole cores; nothing where it is shared. With no quota these are all that
+    it names, but for reserved ones."""
     section = at(config, *CPU) or {}
     quota, period, cpus = (section.get(name) for name in ("quota", "period", "cpus"))
     period = period or 100000
@@ -25,10 +26,10 @@ def asked(config, rule, threads):
         if rule == "whole" and quota % period:
             return None
     elif isinstance(cpus, str) and cpus.strip(" ,\t\n"):
-        count = len(read_list(cpus, "cpus"))
+        count = len(machine.cores_in(read_list(cpus, "cpus") - machine.reserved)) * machine.threads
     if rule == "annotated" and at(config, "annotations", PIN) != "true":
         return None
-    return None if count is None else -(-count // threads) * threads
+    return None if count is None else max(1, -(-count // machine.threads)) * machine.threads
 
 
 def of_section(config, **members):

@@ -50,7 +50,7 @@ def with_home(words, machine, before, bundle, folder):
     others are those of pinned ones."""
     try:
         config = parse_text(read_text(os.path.join(bundle, "config.json"), BYTES), bundle)
-        count = asked(config, "all", machine.threads)
+        count = asked(config, "all", machine)
     except (Refused, AttributeError, TypeError):
         return bundle, None  # numarun refuses it
     if words.home == "none" or not count:

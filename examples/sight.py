@@ -46,7 +46,7 @@ class Sight:
         if one:
             return one.demand.count is not None
         try:
-            return asked(limited(seen.config, seen.limit, None), self.words.pin, 1) is not None
+            return asked(limited(seen.config, seen.limit, None), self.words.pin, self.agent.machine) is not None
         except (Refused, AttributeError, TypeError):
             return False
 

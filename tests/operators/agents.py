@@ -200,6 +200,17 @@ def who_is_pinned():
         check(f"--pin {rule}", (status, site.has("whole", "part", "said", "listed")), (0, expected))
 
 
+def named_cpus():
+    """One with no quota asks for the cores that it names as a whole, but for reserved ones, and not for as many CPUs as it names."""
+    site = Site(machine={"nodes": ["0-3,8-11", "4-7,12-15"], "distances": [[10, 21], [21, 10]], "reserved": "0,8",
+                         "cores": ["0,8", "1,9", "2,10", "3,11", "4,12", "5,13", "6,14", "7,15"]})
+    site.online("0-15")
+    site.come("a", "0-2,8-11", has="1-2,9-10")
+    status, lines = site.run()
+    check("the cores that it names", (status, [line for line in lines if line.startswith(("adopt", "fewer", "home"))], site.has("a")),
+          (0, [f"adopt a {site.at('work/bundles/told/a')} 1-2,9-10", "home a 0"], ["1-2,9-10"]))
+
+
 def refused_sections():
     """Who asks for CPUs that nobody can have runs on the pool, and is told anew when the config is another one."""
     site = Site()
@@ -419,7 +430,7 @@ def refusals():
     refuses("agent.py", *site.words(), says=f"machine.json: none of its CPUs is there, or in effect in {site.at('root')}")
 
 
-for part in (plain, restart, under_its_id, refused_writes, admission, fewer, who_is_pinned, refused_sections, pool_hook, flapping, storm,
+for part in (plain, restart, under_its_id, refused_writes, admission, fewer, who_is_pinned, named_cpus, refused_sections, pool_hook, flapping, storm,
              rest, recorded, one_agent, told_by_lines, places, refusals):
     if not sys.argv[1:] or part.__name__ in sys.argv[1:]:
         part()
