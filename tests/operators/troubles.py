@@ -34,7 +34,8 @@ class World:
     def __init__(self, folder, chance):
         self.folder, self.chance, self.lock = folder, chance, threading.Lock()
         self.there, self.count, self.ended = {}, 0, False
-        self.looks = self.unsafe = self.torn = 0
+        self.looks = self.torn = 0
+        self.unsafe = []
         self.own, self.squeezed = {}, []  # which CPUs each one had last as its own; and when one had not, by its name
         self.did = dict.fromkeys(("come", "go", "configure", "limit", "flap", "hide", "drift"), 0)
         for name in ("g", "root/numarun"):
@@ -151,8 +152,8 @@ class World:
                     self.squeezed.append((time.time(), name))
             elif not cpus & RESERVED:
                 self.own[name] = cpus
-                for other in sets:
-                    self.unsafe += other != name and bool(sets[other] & cpus)
+                both = [other for other in sets if other != name and sets[other] & cpus]
+                self.unsafe += [f"{time.strftime('%H:%M:%S')} {name} and {both}: {first}, {self.there}"] if both else []
             else:
                 self.own.pop(name, None)
 
@@ -237,13 +238,13 @@ def main(folder):
         world.look()
     said = open(f"{folder}/out").read().splitlines()
     found = causes(world, said)
-    check("CPUs of one's own with another one", world.unsafe, 0)
+    check("CPUs of one's own with another one", world.unsafe[:4], [])
     check("squeezed without a cause", found["no cause"], 0)
     left = {name: len(read_list(text, name)) for name, text in world.reading().items() if name in PINNED}
     check("what each has in the end", left, {name: count for name, (_, count, _) in world.there.items() if count})
     check("no traceback", "Traceback" in "\n".join(said), False)
     check("enough of all", (world.looks > 20 * MOMENTS, min(world.did.values()) > 0), (True, True))
-    print(f"agent.py: killed {killed}: {world.looks} looks ({world.torn} torn), none unsafe; squeezed by {found}; {world.did}")
+    print(f"agent.py: killed {killed}: {world.looks} looks ({world.torn} torn), {len(world.unsafe)} unsafe; squeezed by {found}; {world.did}")
     if os.environ.get("KEEP"):
         shutil.copy(f"{folder}/out", os.environ["KEEP"])
 
