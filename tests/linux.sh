@@ -7,7 +7,7 @@
 # seconds that a machine has, and KEEP a folder for all that the machines print.
 set -euo pipefail
 top=$(cd "$(dirname "$0")/.." && pwd)
-parts=(${PARTS:-gone strangers calls/5 refused/5 killed/5})
+parts=(${PARTS:-gone strangers calls/4 refused/4 killed/4})
 seed=${SEED:-1}
 work=$(mktemp -d)
 trap 'rm -rf "$work"' EXIT

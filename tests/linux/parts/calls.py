@@ -131,5 +131,5 @@ for text in lists:
 count = sum(play(text.splitlines()) for text in lists)
 refused = sum("refused" in text for text in lists)
 least = min(seen[word] for word in "make remove spawn end exit offline online".split())
-assert least >= 10 // tree.share() and count >= 10000 // tree.share(), (seen, count)
+assert least >= 10 // tree.share() and count >= 8000 // tree.share(), (seen, count)
 say(f"calls: {count} answers to {len(lists)} lists of calls are the modelled kernel's: {seen}")

@@ -104,5 +104,5 @@ for call in itertools.count(1):
     tree.clear()
     if not was_killed:
         break
-assert call - 1 in WRITES and count["stayed"] > 20 // tree.share(), (call, count)
+assert call - 1 in WRITES and 2 * count["stayed"] > count["killed"], (call, count)
 say(f"killed: behind {count.pop('killed')} calls of the system, each by itself, and started again: {count}")
