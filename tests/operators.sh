@@ -1,5 +1,5 @@
 #!/usr/bin/env bash
-# Tries the scripts of examples/ for those who operate machines: a quick look, machine files of what hwloc tells, pictures of
+# Tries the scripts of operators/ and benches/, and a quick look: a quick look, machine files of what hwloc tells, pictures of
 # plans and shortages, what is explained of them, where a container would go, the agent over the program in plain folders, beside
 # the system's own groups, where something changes, and killed again and again, homes, hooks, the installation and the package,
 # the comparison with other ways to place, the count of moves, and the man page. What a machine lacks for it is passed over, and

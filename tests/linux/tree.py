@@ -12,7 +12,7 @@ import sys
 import time
 
 REPOSITORY = "/numarun"
-sys.path[:0] = [f"{REPOSITORY}/examples"]
+sys.path[:0] = [f"{REPOSITORY}/operators"]
 import common
 from common import print_list, read_list
 

@@ -407,7 +407,7 @@ def places():
 
 
 def refusals():
-    words_and_help("agent.py", "examples/agent.py examples/machines/two-socket.json")
+    words_and_help("agent.py", "operators/agent.py examples/machines/two-socket.json")
     refuses("agent.py", MACHINE, "--program", "no-such-program", says="no-such-program: no program (see --program)")
     bad_files("agent.py", ["--program", IN_FOLDERS])
     bad_output("agent.py", *PLAIN, text="rebalance\n")

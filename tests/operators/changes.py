@@ -7,9 +7,9 @@ import time
 from types import SimpleNamespace
 
 from sites import QUOTA, Open, Site
-from trial import EXAMPLES, check, end
+from trial import OPERATORS, check, end
 
-sys.path.insert(0, EXAMPLES)
+sys.path.insert(0, OPERATORS)
 from common import read_list
 from sight import Sight
 

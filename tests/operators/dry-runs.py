@@ -60,7 +60,7 @@ check("an id that is taken", dry(CONTROL, "--after", "-", text=f"create new {WEB
 gone = f"create database {DATABASE}\nrebalance\nkill database KILL\n"
 check("one that has stopped", dry(CONTROL, "--after", "-", text=gone)[1].splitlines()[-1], "total distance: 20; 0 CPUs of the others would move")
 
-words_and_help("dry-run.py", "examples/dry-run.py examples/machines/two-socket.json examples/bundles/real-time")
+words_and_help("dry-run.py", "operators/dry-run.py examples/machines/two-socket.json examples/bundles/real-time")
 bad_files("dry-run.py", ["--program", PROGRAM], [WEB])
 bad_output("dry-run.py", MACHINE, WEB, "--program", PROGRAM)
 piped("dry-run.py", MACHINE, WEB, "--program", PROGRAM)

@@ -5,9 +5,9 @@ import os
 import sys
 
 from sites import IN_FOLDERS, QUOTA, Open, Site
-from trial import EXAMPLES, check, end, told
+from trial import OPERATORS, check, end, told
 
-sys.path.insert(0, EXAMPLES)
+sys.path.insert(0, OPERATORS)
 homes, common, slices = (importlib.import_module(name) for name in ("homes", "common", "slices"))
 # Four nodes of two cores with two CPUs each; 0 is at 15 from 1, and 2 from 3.
 FOUR = {"nodes": ["0-3", "4-7", "8-11", "12-15"], "distances": [[10, 15, 30, 30], [15, 10, 30, 30], [30, 30, 10, 15], [30, 30, 15, 10]],

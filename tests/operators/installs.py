@@ -100,5 +100,5 @@ refuses("install.sh", PREFIX, says="no-such-program: no program: build it", env=
 check("nothing was made", os.path.exists(PREFIX), False)
 refuses("install.sh", "/dev/null", says="", env=HERE, first="mkdir: ")
 status, out, err = told("install.sh", "--help")
-check("install.sh --help", (status, "Example: examples/install.sh /usr/local" in out, err), (0, True, ""))
+check("install.sh --help", (status, "Example: operators/install.sh /usr/local" in out, err), (0, True, ""))
 end("install.sh")

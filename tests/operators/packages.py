@@ -12,7 +12,7 @@ import sys
 import time
 
 from sites import IN_FOLDERS, Open, Site
-from trial import EXAMPLES, check, end, refuses, told
+from trial import OPERATORS, check, end, refuses, told
 
 PROGRAM = os.path.abspath(os.environ["PROGRAM"])
 SCRATCH = os.environ["SCRATCH"]
@@ -65,7 +65,7 @@ def goes_on():
 def by_the_page():
     """What the page says to type makes a machine file with cores, and an agent that starts by it before any container ran."""
     prefix, etc, bin = installed("prefix"), os.path.join(SCRATCH, "etc"), os.path.join(SCRATCH, "bin")
-    page = open(os.path.join(EXAMPLES, "README.md")).read()
+    page = open(os.path.join(OPERATORS, "README.md")).read()
     block = next(block for block in re.findall(r"```sh\n(.*?)```", page, re.S) if "systemctl enable" in block)
     os.makedirs(bin)
     with open(os.path.join(bin, "systemctl"), "w") as file:

@@ -9,9 +9,9 @@ import sys
 import tempfile
 import threading
 
-from trial import EXAMPLES, TOP, check, command, told
+from trial import OPERATORS, TOP, check, command, told
 
-sys.path.insert(0, EXAMPLES)
+sys.path.insert(0, OPERATORS)
 
 SCRATCH = os.environ.get("SCRATCH") or tempfile.mkdtemp()
 IN_FOLDERS = os.path.join(os.path.dirname(os.path.abspath(__file__)), "in_folders.sh")

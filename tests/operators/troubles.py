@@ -16,9 +16,9 @@ import threading
 import time
 
 from sites import IN_FOLDERS
-from trial import EXAMPLES, check, end
+from trial import OPERATORS, check, end
 
-sys.path.insert(0, EXAMPLES)
+sys.path.insert(0, OPERATORS)
 from common import read_list
 
 SEED, MOMENTS = (int(word) for word in (sys.argv[1:] + ["1", "24"][len(sys.argv) - 1:])[:2])
@@ -167,7 +167,7 @@ def agent(folder, *more):
     words = [f"{folder}/machine.json", "--program", IN_FOLDERS, "--cgroup", f"{folder}/root", "--work", f"{folder}/work"]
     words += ["--watch", f"{folder}/g", "--online", f"{folder}/online", "--pause", "0.02", *more]
     out = open(f"{folder}/out", "a")
-    return subprocess.Popen([sys.executable, "-B", os.path.join(EXAMPLES, "agent.py"), *words], stdout=out, stderr=out)
+    return subprocess.Popen([sys.executable, "-B", os.path.join(OPERATORS, "agent.py"), *words], stdout=out, stderr=out)
 
 
 def children(pid):

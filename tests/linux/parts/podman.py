@@ -42,7 +42,7 @@ def prepare():
         with open(f"/etc/containers/{name}", "w") as file:
             file.write(text)
     shutil.copy("/app/sleeper", f"{ROOTFS}/sleeper")
-    hook = {"path": "/bin/python3", "args": ["python3", "-SEB", f"{tree.REPOSITORY}/examples/hook.py", TOLD]}
+    hook = {"path": "/bin/python3", "args": ["python3", "-SEB", f"{tree.REPOSITORY}/operators/hook.py", TOLD]}
     waits = {**hook, "args": [*hook["args"], "--wait", "300", "--agent", f"{watched.WORK}/hooks"]}
     for stage, one in (("createRuntime", waits), ("poststop", hook)):
         with open(f"{HOOKS}/{stage}.json", "w") as file:

@@ -1,7 +1,7 @@
 #!/usr/bin/env bash
 # Installs numarun and its scripts below a folder, or takes away what it installed there, or makes a Debian package of them.
-# Usage: examples/install.sh [--uninstall] PREFIX
-#        examples/install.sh --deb FOLDER
+# Usage: operators/install.sh [--uninstall] PREFIX
+#        operators/install.sh --deb FOLDER
 #
 # PREFIX/bin has numarun and the scripts: numarun-agent, numarun-draw-plan, numarun-dry-run, numarun-explain,
 # numarun-hook, numarun-describe-host, numarun-describe-hwloc. PREFIX/lib/systemd/system has a unit for the agent, which is not
@@ -14,8 +14,8 @@
 # --deb makes FOLDER/numarun_VERSION_ARCHITECTURE.deb by dpkg-deb, with the same below /usr, and the folder /etc/numarun. It is
 # installed by dpkg -i and taken away by dpkg -r. DEBFULLNAME and DEBEMAIL name who made it.
 #
-# Example: examples/install.sh /usr/local
-#          examples/install.sh --deb . && dpkg -i numarun_*.deb
+# Example: operators/install.sh /usr/local
+#          operators/install.sh --deb . && dpkg -i numarun_*.deb
 set -euo pipefail
 export LC_ALL=C
 top=$(cd "$(dirname "$(realpath "$0")")/.." && pwd)
@@ -78,14 +78,14 @@ put_all() {
     local name script
     put 755 "$program" bin/numarun
     for name in "${modules[@]}"; do
-        put 644 "$top/examples/$name" "lib/numarun/$name"
+        put 644 "$top/operators/$name" "lib/numarun/$name"
     done
     for script in "${scripts[@]}"; do
-        put 755 "$top/examples/$script" "lib/numarun/$script"
+        put 755 "$top/operators/$script" "lib/numarun/$script"
         ln -sfn "../lib/numarun/$script" "$prefix/bin/numarun-${script%.*}"
         made+="bin/numarun-${script%.*}"$'\n'
     done
-    put 644 "$top/examples/numarun-agent.service" "$unit"
+    put 644 "$top/operators/numarun-agent.service" "$unit"
     put 644 "$top/docs/numarun.1" share/man/man1/numarun.1
     put 644 "$top/docs/formats.md" share/doc/numarun/formats.md
 }
@@ -95,7 +95,7 @@ name_agent() {
     local path=${1//\\/\\\\}
     path=${path//\"/\\\"} path=${path//%/%%}
     UNIT_PATH=$path awk '/^ExecStart=/ { sub(/^ExecStart=[^ ]*/, ""); print "ExecStart=\"" ENVIRON["UNIT_PATH"] "\"" $0; next } { print }' \
-        "$top/examples/numarun-agent.service" > "$prefix/$unit.new"
+        "$top/operators/numarun-agent.service" > "$prefix/$unit.new"
     mv -f "$prefix/$unit.new" "$prefix/$unit"
 }
 
@@ -137,7 +137,7 @@ if [ -n "$uninstall" ]; then
     [ -f "$list" ] || fail "$list: no such file: nothing is installed there"
     named=$(cat "$list")
     take_away <<< "$named"
-    [ ! -e /run/numarun/taken.json ] || say "the groups have what the agent gave them; examples/agent.py --release --cgroup /sys/fs/cgroup gives it back"
+    [ ! -e /run/numarun/taken.json ] || say "the groups have what the agent gave them; operators/agent.py --release --cgroup /sys/fs/cgroup gives it back"
     exit 0
 fi
 
@@ -169,4 +169,4 @@ name_agent "$(realpath "$prefix")/bin/numarun-agent"
 comm -23 <(grep -v '/$' <<< "$before" | sort) <(sort <<< "$made") | take_away
 { printf %s "$made"; grep '/$' <<< "$before" || true; } | sort -u > "$list.new"
 mv -f "$list.new" "$list"
-echo "numarun and its scripts are in $prefix/bin; examples/install.sh --uninstall $prefix takes them away"
+echo "numarun and its scripts are in $prefix/bin; operators/install.sh --uninstall $prefix takes them away"

@@ -23,8 +23,8 @@ from groups import parse_text
 from homes import allowed, home_of, housed
 
 EXAMPLE = """examples, from the top of the repository:
-  examples/dry-run.py examples/machines/two-socket.json examples/bundles/real-time --after examples/scripts/a-cpu-goes
-  examples/dry-run.py host.json --cpus 4 --cpuset-mems 1 --running /run/crun --online /sys/devices/system/cpu/online"""
+  operators/dry-run.py examples/machines/two-socket.json examples/bundles/real-time --after examples/scripts/a-cpu-goes
+  operators/dry-run.py host.json --cpus 4 --cpuset-mems 1 --running /run/crun --online /sys/devices/system/cpu/online"""
 
 
 def asked_for(words, folder):

@@ -45,9 +45,9 @@ from taken import Taken
 from waiters import Waiters
 
 EXAMPLE = """examples, from the top of the repository:
-  echo "created database examples/bundles/database" | examples/agent.py examples/machines/two-socket.json
-  examples/agent.py host.json --cgroup /sys/fs/cgroup --watch /run/crun
-  examples/agent.py --release --cgroup /sys/fs/cgroup"""
+  echo "created database examples/bundles/database" | operators/agent.py examples/machines/two-socket.json
+  operators/agent.py host.json --cgroup /sys/fs/cgroup --watch /run/crun
+  operators/agent.py --release --cgroup /sys/fs/cgroup"""
 EFFECTIVE_NOTE = re.compile(r"\S+/cpuset\.cpus\.effective: ")  # the agent compares these itself
 
 
