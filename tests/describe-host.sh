@@ -1,5 +1,5 @@
 #!/usr/bin/env bash
-# Compares what examples/describe-host.sh writes of trees of files, as Linux has them under /sys/devices/system, with the
+# Compares what operators/describe-host.sh writes of trees of files, as Linux has them under /sys/devices/system, with the
 # machine file that stands beside each; and of two recorded machines with those in examples/machines, which were read off the
 # same records by hand. What it writes of these is run, too. PROGRAM in the environment is run in place of the one that this
 # builds.
@@ -32,9 +32,9 @@ says() {
     if [ "${1:-}" = refused ]; then stream=2 wanted=1; shift; fi
     if [ "${1:-}" = notes ]; then stream=2; shift; fi
     if [ "$stream" = 1 ]; then
-        answer=$(timeout 60 bash "$top/examples/describe-host.sh" --sys "$scratch/$name" "$@" 2>/dev/null) || status=$?
+        answer=$(timeout 60 bash "$top/operators/describe-host.sh" --sys "$scratch/$name" "$@" 2>/dev/null) || status=$?
     else
-        answer=$(timeout 60 bash "$top/examples/describe-host.sh" --sys "$scratch/$name" "$@" 2>&1 >/dev/null) || status=$?
+        answer=$(timeout 60 bash "$top/operators/describe-host.sh" --sys "$scratch/$name" "$@" 2>&1 >/dev/null) || status=$?
     fi
     if [ "$answer" != "$expected" ] || [ "$status" != "$wanted" ]; then
         printf '%s %s: status %s\n%s\nexpected:\n%s\n' "$name" "$*" "$status" "$answer" "$expected"
@@ -141,7 +141,7 @@ says '{
 says 'describe-host.sh: --reserved: x is no list of CPUs' refused --reserved x
 says 'describe-host.sh: --reserved: no CPU is named' refused --reserved 3-2
 says 'describe-host.sh: /no-such-folder/cpu/online: no such file, or it can'"'"'t be read' refused --sys /no-such-folder
-if ! bash "$top/examples/describe-host.sh" --help | grep -q '^Example: examples/describe-host.sh '; then
+if ! bash "$top/operators/describe-host.sh" --help | grep -q '^Example: operators/describe-host.sh '; then
     echo 'describe-host.sh --help: no example'
     failed=1
 fi
@@ -173,7 +173,7 @@ describe-host.sh: reserved CPUs that are not online: 0' refused --reserved 0-1
 bad() {
     local line=$1
     shift
-    if answer=$(timeout 60 bash "$top/examples/describe-host.sh" --sys "$scratch/$name" "$@" 2> "$scratch/err") || [ -n "$answer" ] ||
+    if answer=$(timeout 60 bash "$top/operators/describe-host.sh" --sys "$scratch/$name" "$@" 2> "$scratch/err") || [ -n "$answer" ] ||
         [ "$(tail -n 1 "$scratch/err")" != "describe-host.sh: $scratch/$name/$line" ]; then
         printf '%s: found\n%s%s\nexpected\n%s\n' "$name" "$answer" "$(cat "$scratch/err")" "$line"
         failed=1
@@ -217,7 +217,7 @@ recorded() {
         mkdir -p "$scratch/$name/$(dirname "$path")"
         if [ -n "$text" ]; then echo "$text" > "$scratch/$name/$path"; else mkdir "$scratch/$name/$path"; fi
     done
-    bash "$top/examples/describe-host.sh" --sys "$scratch/$name" --reserved "$2" "${@:3}" > "$scratch/$name.json"
+    bash "$top/operators/describe-host.sh" --sys "$scratch/$name" --reserved "$2" "${@:3}" > "$scratch/$name.json"
     if ! python3 -B "$top/tests/describe-host/same.py" "$top/examples/machines/$name.json" "$scratch/$name.json"; then
         failed=1
     elif [ "$(echo list | timeout 60 "$program" run "$scratch/$name.json")" != end ]; then
@@ -249,11 +249,11 @@ for k in {0..4095}; do
     echo "$((k & ~1))-$((k | 1))" > "$scratch/most/cpu/cpu$k/topology/thread_siblings_list"
 done
 echo 0-4095 > "$scratch/most/cpu/online"
-bash "$top/examples/describe-host.sh" --sys "$scratch/most" --cores > "$scratch/most.json"
+bash "$top/operators/describe-host.sh" --sys "$scratch/most" --cores > "$scratch/most.json"
 answers=$(echo list | timeout 60 "$program" run "$scratch/most.json")
 [ "$answers $(grep -o '"[0-9]*-[0-9]*[13579]"' "$scratch/most.json" | wc -l)" = "end 2177" ] || { echo "most: cores: $answers"; failed=1; }
 echo 0-4094 > "$scratch/most/cpu/online"
-bash "$top/examples/describe-host.sh" --sys "$scratch/most" > "$scratch/most.json"
+bash "$top/operators/describe-host.sh" --sys "$scratch/most" > "$scratch/most.json"
 answers=$(printf 'online 4095\nonline 4096\nlist\n' | timeout 60 "$program" run "$scratch/most.json" | paste -s -d ,)
 [ "$answers" = "ok,refused E52 NoCpu,end" ] || { echo "most: the written machine file is not run: $answers"; failed=1; }
 nodes 0-128

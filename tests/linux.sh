@@ -2,11 +2,12 @@
 # Runs the built programs on a real kernel: Debian's, in a machine that qemu emulates (8 CPUs on 4 nodes), over its own cgroup v2
 # tree. What it needs it installs where it may: qemu-system-x86, cpio, crun, a C compiler, and the kernel's package, which is only
 # unpacked. Where it can't, it says so and is passed over. PROGRAM and TOOLS in the environment are run in place of those that this
-# builds; PARTS are the parts of linux/parts/ that are run, by two machines side by side (killed calls refused chance strangers agent
-# gone crun are all), SEED chooses what is random in them, and KEEP is a folder for all that the machines print.
+# builds. PARTS are the parts of linux/parts/ that are run, behind a slash which share of their work is done: `killed/4` is every
+# fourth call. MACHINES of them run side by side, SEED chooses what is random, KERNEL is an image in place of Debian's, LIMIT the
+# seconds that a machine has, and KEEP a folder for all that the machines print.
 set -euo pipefail
 top=$(cd "$(dirname "$0")/.." && pwd)
-parts=(${PARTS:-gone})
+parts=(${PARTS:-gone strangers calls/4 refused/4 killed/4})
 seed=${SEED:-1}
 work=$(mktemp -d)
 trap 'rm -rf "$work"' EXIT
@@ -16,13 +17,20 @@ pass_over() {
     exit 0
 }
 
-has_all() { command -v qemu-system-x86_64 && command -v cpio && command -v crun && command -v gcc; }
+inside=crun
+case " ${parts[*]} " in *" podman "*) inside+=" podman conmon" ;; esac
+needed="qemu-system-x86 cpio gcc libc6-dev $inside"
+has_all() {
+    local one
+    for one in qemu-system-x86_64 cpio gcc $inside; do
+        command -v "$one" >/dev/null || return
+    done
+}
 
-needed="qemu-system-x86 cpio crun gcc libc6-dev"
-if ! has_all >/dev/null; then
+if ! has_all; then
     echo "linux: installing $needed by apt-get" >&2
     { apt-get -qq update && apt-get -qq install -y --no-install-recommends $needed; } >/dev/null 2>&1 || true
-    has_all >/dev/null || pass_over "there is no $needed, and they can't be installed"
+    has_all || pass_over "there is no $needed, and they can't be installed"
 fi
 kernel=${KERNEL:-}
 if [ -z "$kernel" ]; then
@@ -33,13 +41,19 @@ if [ -z "$kernel" ]; then
     kernel=$(echo "$work"/unpacked/boot/vmlinuz-*)
 fi
 . "$top/tests/build-program.sh"
-case " ${parts[*]} " in *" calls "*) . "$top/benches/build-tools.sh" ;; esac
 
 root=$work/root
 gcc -O2 -shared -fPIC -o "$work/stop.so" "$top/tests/linux/stop.c"
 gcc -O2 -static -o "$work/sleeper" "$top/tests/linux/sleeper.c"
-python3 -B "$top/tests/linux/image.py" "$root" "$program" "$(command -v crun)" "$work/stop.so" "$work/sleeper"
-case " ${parts[*]} " in *" calls "*) python3 -B "$top/tests/linux/lists.py" "$tools" "$seed" >"$root/calls" ;; esac
+# shellcheck disable=SC2046,SC2086 # they are words
+python3 -B "$top/tests/linux/image.py" "$root" "$program" "$work/stop.so" "$work/sleeper" $(command -v $inside)
+for part in "${parts[@]}"; do
+    if [ "${part%%/*}" = calls ]; then
+        . "$top/benches/build-tools.sh"
+        share=${part#calls}
+        python3 -B "$top/tests/linux/lists.py" "$tools" "$seed" "${share#/}" >"$root/calls"
+    fi
+done
 (cd "$root" && find . | cpio -o -H newc --quiet | gzip -1) >"$work/initrd.gz"
 nodes=()
 for node in 0 1 2 3; do
@@ -64,16 +78,14 @@ emulate() {
         sed -u 's/\r$//' | tee "$work/out-$number" | grep -a --line-buffered '^linux: ' || true
 }
 
-half=() other=()
-for number in "${!parts[@]}"; do
-    if ((number % 2)); then other+=("${parts[number]}"); else half+=("${parts[number]}"); fi
-done
-emulate 1 "${half[@]}" &
-machines=($!)
-if [ ${#other[@]} -gt 0 ]; then
-    emulate 2 "${other[@]}" &
+count=${MACHINES:-1} machines=()
+for number in $(seq "$count"); do
+    its=()
+    for ((k = number - 1; k < ${#parts[@]}; k += count)); do its+=("${parts[k]}"); done
+    [ ${#its[@]} -gt 0 ] || break
+    emulate "$number" "${its[@]}" &
     machines+=($!)
-fi
+done
 wait "${machines[@]}"
 [ -z "${KEEP:-}" ] || cp "$work"/out-* "$KEEP"
 for number in $(seq ${#machines[@]}); do

@@ -1,22 +1,39 @@
 #!/usr/bin/env bash
-# Tries the scripts of examples/ for those who operate machines: a quick look, machine files of what hwloc tells, pictures of
-# plans and shortages, what is explained of them, where a container would go, the agent, over a stand-in for the program, and
-# killed again and again, the installation, the comparison with other ways to place, the count of moves, and the man page. What
-# a machine lacks for it is passed over, and named. PROGRAM in the environment is run in place of the one that this builds.
+# Tries the scripts of operators/ and benches/, and a quick look: a quick look, machine files of what hwloc tells, pictures of
+# plans and shortages, what is explained of them, where a container would go, the agent over the program in plain folders, beside
+# the system's own groups, where something changes, and killed again and again, homes, hooks, the installation and the package,
+# the comparison with other ways to place, the count of moves, and the man page. What a machine lacks for it is passed over, and
+# named. They run in lanes side by side. PROGRAM in the environment is run in place of the one that this builds; TESTS are the files
+# of operators/ that are run, in place of all.
 set -euo pipefail
 top=$(cd "$(dirname "$0")/.." && pwd)
 . "$top/tests/build-program.sh"
-SCRATCH=$(mktemp -d)
-trap 'rm -rf "$SCRATCH"' EXIT
-export SCRATCH PROGRAM=$program
-# The one that waits most runs beside the others.
-python3 -B "$top/tests/operators/kills.py" >"$SCRATCH/kills" 2>&1 &
-kills=$!
-trap 'kill "$kills" 2>/dev/null || true; rm -rf "$SCRATCH"' EXIT
-for test in looks hwloc pictures explains dry-runs agents installs peers moves manual; do
-    python3 -B "$top/tests/operators/$test.py"
+scratch=$(mktemp -d) work=$scratch
+. "$top/tests/build-preloads.sh"
+export PROGRAM=$program GROUPS_LIBRARY=$scratch/groups.so
+lanes=("looks hwloc pictures explains dry-runs rests hooks installs packages peers moves manual" "agents" "changes homes" "troubles" "kills")
+[ -z "${TESTS:-}" ] || lanes=("$TESTS")
+
+# lane N TEST..: these, one after another, in a scratch folder of their own, up to the first that fails.
+lane() {
+    export SCRATCH=$scratch/$1
+    mkdir "$SCRATCH"
+    shift
+    for test in "$@"; do
+        python3 -B "$top/tests/operators/$test.py" || return
+    done
+}
+
+running=()
+trap 'kill "${running[@]}" 2>/dev/null || true; rm -rf "$scratch"' EXIT
+for number in "${!lanes[@]}"; do
+    # shellcheck disable=SC2086 # a lane is words
+    lane "$number" ${lanes[number]} >"$scratch/$number.out" 2>&1 &
+    running+=($!)
 done
 status=0
-wait "$kills" || status=$?
-cat "$SCRATCH/kills"
+for number in "${!lanes[@]}"; do
+    wait "${running[number]}" || status=1
+    cat "$scratch/$number.out"
+done
 exit "$status"

@@ -17,7 +17,7 @@ import sys
 import tempfile
 
 TOP = os.path.dirname(os.path.dirname(os.path.dirname(os.path.abspath(__file__))))
-sys.path[:0] = [os.path.join(TOP, "examples"), os.path.join(TOP, "benches", "peers")]
+sys.path[:0] = [os.path.join(TOP, "operators"), os.path.join(TOP, "benches", "peers")]
 from common import Machine, print_list, run
 from compare import MACHINES, Container, Numarun, machine_file, mix, written
 

@@ -33,7 +33,7 @@ import random
 import sys
 import tempfile
 
-sys.path.insert(0, os.path.join(os.path.dirname(os.path.abspath(__file__)), "..", "..", "examples"))
+sys.path.insert(0, os.path.join(os.path.dirname(os.path.abspath(__file__)), "..", "..", "operators"))
 from common import Machine, Refused, Run, print_list, read_list, run
 
 # The machine files, with the nodes of a socket; and how the siblings of a core are numbered: how many, and how far apart.

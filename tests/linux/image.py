@@ -1,5 +1,5 @@
 """Makes the first file system of the emulated machine: `image.py FOLDER FILE..`. It has Python with the modules that are used, the
-scripts of examples/, the folder linux/ of the tests, and FILES with the libraries that they are linked with, in /app."""
+scripts of operators/, the folder linux/ of the tests, and FILES with the libraries that they are linked with, in /app."""
 
 import compileall
 import os
@@ -11,8 +11,8 @@ import sys
 
 HERE = os.path.dirname(os.path.abspath(__file__))
 TOP = os.path.dirname(os.path.dirname(HERE))
-MODULES = """argparse bisect collections contextlib copy ctypes datetime encodings.ascii encodings.latin_1 encodings.utf_8 errno fcntl gettext
-itertools json linecache locale math os pathlib random re select selectors shlex shutil signal subprocess sys tempfile textwrap
+MODULES = """_strptime argparse bisect collections contextlib copy ctypes datetime encodings.ascii encodings.latin_1 encodings.utf_8 errno fcntl gettext
+itertools json linecache locale math os pathlib random re select selectors shlex shutil signal socket subprocess sys tempfile textwrap
 threading time tokenize traceback""".split()
 
 
@@ -51,7 +51,7 @@ def main(root, *files):
     os.symlink(python, f"{root}/bin/python3")
     for path in modules:
         put_linked(root, path) if path.endswith(".so") else put(root, path)
-    for folder in ("examples", "tests/linux"):
+    for folder in ("operators", "tests/linux"):
         for place, _, names in os.walk(os.path.join(TOP, folder)):
             for name in names:
                 if name.endswith((".py", ".json")):

@@ -1,5 +1,5 @@
-"""Prints random lists of calls with what the modelled kernel answers: `lists.py TOOLS SEED [LISTS [CALLS]]`. A list is a line `list`,
-and then each call behind `> ` with the answer behind it. Behind each call all groups are asked for what they request and have in
+"""Prints random lists of calls with what the modelled kernel answers: `lists.py TOOLS SEED [SHARE]`, of 32 lists or that
+share of them. A list is a line `list`, and then each call behind `> ` with the answer behind it. Behind each call all groups are asked for what they request and have in
 effect. The calls are those that the runtime may make: no process is put into a group that has groups below, no group is made in one
 with a process, no set that some process lives by is written empty, and nothing is asked of the root that it has no file for."""
 
@@ -11,6 +11,7 @@ import sys
 sys.path[:0] = [os.path.join(os.path.dirname(os.path.abspath(__file__)), "..", "kernel")]
 from second_kernel import Kernel
 
+LISTS, CALLS = 32, 34
 MACHINE = "0-7 0 0-7 0-3 2"  # CPUs, the reserved ones, the online ones, nodes, and the first pid
 
 
@@ -52,11 +53,11 @@ def asked(kernel):
     return [f"{what}{part} {k}" for k in kernel.groups for what in ("cpus", "mems") for part in ("", ".effective") if k or part]
 
 
-def main(tools, seed, lists="32", length="34"):
+def main(tools, seed, share=""):
     random.seed(f"lists {seed}")
-    for _ in range(int(lists)):
+    for _ in range(-(-LISTS // int(share or 1))):
         kernel, calls = Kernel(0, MACHINE), []
-        for _ in range(int(length)):
+        for _ in range(CALLS):
             calls.append(chosen(kernel))
             kernel.answer(calls[-1])
             calls += asked(kernel)

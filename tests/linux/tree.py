@@ -12,7 +12,7 @@ import sys
 import time
 
 REPOSITORY = "/numarun"
-sys.path[:0] = [f"{REPOSITORY}/examples"]
+sys.path[:0] = [f"{REPOSITORY}/operators"]
 import common
 from common import print_list, read_list
 
@@ -30,6 +30,16 @@ def say(text):
 
 def seed():
     return sys.argv[1] if len(sys.argv) > 1 else "1"
+
+
+def share():
+    """Which share of a part's work is done: one in so many."""
+    return int(sys.argv[2]) if len(sys.argv) > 2 else 1
+
+
+def is_due(number):
+    """Whether a piece of work is in that share, which the seed chooses."""
+    return (number + int(seed())) % share() == 0
 
 
 def chance(of):

@@ -1,4 +1,4 @@
-"""Tries agent.py over the stand-in for the program: what it tells, what the groups request then, and how it goes on where a
+"""Tries agent.py over the program in plain folders: what it tells, what the groups request then, and how it goes on where a
 write, a group, a config or a line of input is not as it ought to be."""
 
 import importlib
@@ -9,119 +9,15 @@ import shutil
 import signal
 import subprocess
 import sys
-import tempfile
 
-from trial import EXAMPLES, TOP, bad_files, bad_output, check, command, end, piped, refuses, told, words_and_help
+from sites import IN_FOLDERS, QUOTA, SCRATCH, Open, Site, untimed
+from trial import EXAMPLES, bad_files, bad_output, check, end, piped, refuses, told, words_and_help
 
-sys.path.insert(0, EXAMPLES)
 common, groups = importlib.import_module("common"), importlib.import_module("groups")
 
-SCRATCH = os.environ.get("SCRATCH") or tempfile.mkdtemp()
-STAND_IN = os.path.join(os.path.dirname(os.path.abspath(__file__)), "stand_in.py")
 MACHINE = os.path.join(EXAMPLES, "machines", "two-socket.json")
 DATABASE, PACKETS, WEB, CONTROL = (f"examples/bundles/{name}" for name in ("database", "packet-processing", "web", "real-time"))
-PLAIN = (MACHINE, "--program", STAND_IN)
-QUOTA = 100000
-
-
-def untimed(text):
-    """The lines of the agent, without their times."""
-    return [line.split(" ", 1)[1] for line in text.splitlines()]
-
-
-class Site:
-    """A machine: bundles in `g`, groups in `root`, and a list of online CPUs."""
-
-    count = 0
-
-    def __init__(self, machine=None, root=True):
-        Site.count += 1
-        self.folder = os.path.join(SCRATCH, f"site-{Site.count}")
-        shutil.rmtree(self.folder, ignore_errors=True)
-        os.makedirs(os.path.join(self.folder, "g"))
-        if root:
-            os.makedirs(os.path.join(self.folder, "root", "numarun"))
-        machine = machine or {"nodes": ["0-7"], "distances": [[10]], "reserved": "0"}
-        json.dump(machine, open(self.at("machine.json"), "w"))
-        self.online(machine["nodes"][-1].replace("8-", "0-"))
-
-    def at(self, *names):
-        return os.path.join(self.folder, *names)
-
-    def online(self, cpus):
-        with open(self.at("online.new"), "w") as file:
-            file.write(cpus + "\n")
-        os.rename(self.at("online.new"), self.at("online"))
-
-    def make_group(self, name, cpus="", group=None):
-        path = self.at("root", group or f"numarun/{name}")
-        os.makedirs(path)
-        open(os.path.join(path, "cpuset.cpus"), "w").write(cpus)
-        open(os.path.join(path, "cpuset.mems"), "w").close()
-
-    def come(self, name, cpus=0, group=True, has="", **more):
-        if group:
-            self.make_group(name, has, more.get("linux", {}).get("cgroupsPath"))
-        section = {"cpus": cpus} if isinstance(cpus, str) else {"quota": int(cpus * QUOTA), "period": QUOTA} if cpus else {}
-        config = {"ociVersion": "1.0.2", "root": {"path": "r"}, "linux": {"resources": {"cpu": section}, **more.pop("linux", {})}, **more}
-        os.makedirs(self.at("new"))
-        json.dump(config, open(self.at("new", "config.json"), "w"))
-        os.rename(self.at("new"), self.at("g", name))
-
-    def write(self, name, cpus):
-        """Somebody else's write, of which nobody sees a part."""
-        with open(self.at("other"), "w") as file:
-            file.write(cpus + "\n")
-        os.rename(self.at("other"), self.at("root", "numarun", name, "cpuset.cpus"))
-
-    def go(self, name):
-        for path in (self.at("g", name), self.at("root", "numarun", name)):
-            os.rename(path, self.at("gone"))
-            shutil.rmtree(self.at("gone"))
-
-    def has(self, *names):
-        return [open(self.at("root", "numarun", name, "cpuset.cpus")).read().strip() for name in names]
-
-    def words(self, *more):
-        words = [self.at("machine.json"), "--program", STAND_IN, "--cgroup", self.at("root"), "--work", self.at("work"), "--pause", "0.1"]
-        watching = ["--watch", self.at("g"), "--online", self.at("online")] if "--listen" not in more else []
-        return words + watching + [word for word in more if word != "--listen"]
-
-    def run(self, *more, text="", rounds="1"):
-        status, out, err = told("agent.py", *self.words(*more, "--rounds", rounds), text=text, env={**os.environ, "STAND_IN_LOG": self.at("log")})
-        check("nothing on standard error", err, "")
-        return status, untimed(out)
-
-    def log(self):
-        """The writes of CPUs since the last time."""
-        lines = open(self.at("log")).read().splitlines() if os.path.exists(self.at("log")) else []
-        open(self.at("log"), "w").close()
-        return lines
-
-
-class Open:
-    """An agent that runs; what it says is read as it comes."""
-
-    def __init__(self, site, *more, stdin=subprocess.DEVNULL):
-        words = command("agent.py", *site.words(*more))
-        here = {**os.environ, "STAND_IN_LOG": site.at("log")}
-        self.process = subprocess.Popen(words, stdin=stdin, stdout=subprocess.PIPE, text=True, cwd=TOP, env=here)
-        self.lines = []
-
-    def until(self, beginning):
-        """The lines up to one that begins so."""
-        lines = []
-        for line in self.process.stdout:
-            lines.append(line.split(" ", 1)[1].rstrip("\n"))
-            if lines[-1].startswith(beginning):
-                return lines
-        check(f"a line {beginning!r}", lines, "one of them")
-        return lines
-
-    def end(self, number=signal.SIGTERM):
-        self.process.send_signal(number)
-        rest = untimed(self.process.stdout.read())
-        return self.process.wait(), rest
+PLAIN = (MACHINE, "--program", IN_FOLDERS)
 
 
 def plain():
@@ -171,9 +67,8 @@ def under_its_id():
     site.come("a", 2)
     site.come("ghost", 1, group=False)
     agent = Open(site)
-    check("the others go on", agent.until("done"),
-          [f"absent ghost: {site.at('root/numarun/ghost')}: no such group", f"create a {site.at('g/a')}", "plan total 20", "hold a 1-2",
-           "pool 0,3-7", "done"])
+    check("the others go on", agent.until("absent"), [f"create a {site.at('g/a')}", "plan total 20", "hold a 1-2", "pool 0,3-7", "done",
+                                                      f"absent ghost: {site.at('root/numarun/ghost')}: no such group"])
     site.make_group("ghost")
     agent.until("done")
     check("its group came", site.has("a", "ghost"), ["1-2", "3"])
@@ -305,6 +200,17 @@ def who_is_pinned():
         check(f"--pin {rule}", (status, site.has("whole", "part", "said", "listed")), (0, expected))
 
 
+def named_cpus():
+    """One with no quota asks for the cores that it names as a whole, but for reserved ones, and not for as many CPUs as it names."""
+    site = Site(machine={"nodes": ["0-3,8-11", "4-7,12-15"], "distances": [[10, 21], [21, 10]], "reserved": "0,8",
+                         "cores": ["0,8", "1,9", "2,10", "3,11", "4,12", "5,13", "6,14", "7,15"]})
+    site.online("0-15")
+    site.come("a", "0-2,8-11", has="1-2,9-10")
+    status, lines = site.run()
+    check("the cores that it names", (status, [line for line in lines if line.startswith(("adopt", "fewer", "home"))], site.has("a")),
+          (0, [f"adopt a {site.at('work/bundles/told/a')} 1-2,9-10", "home a 0"], ["1-2,9-10"]))
+
+
 def refused_sections():
     """Who asks for CPUs that nobody can have runs on the pool, and is told anew when the config is another one."""
     site = Site()
@@ -313,7 +219,7 @@ def refused_sections():
     site.come("mems", linux={"resources": {"cpu": {"mems": "7"}}})
     agent = Open(site)
     lines = agent.until("done")
-    bundle = site.at("work/bundles/shared/none")
+    bundle = site.at("work/bundles/told/none")
     check("two that are refused", [line for line in lines if line.startswith(("refused", "adopt"))],
           [f"adopt none {bundle} 1", f"refused E63 NoSuchCpu 90: none {site.at('g/none')}: it runs on the pool",
            f"refused E65 NoSuchNode 7: mems {site.at('g/mems')}"])
@@ -354,19 +260,21 @@ def flapping():
     agent = Open(site)
     agent.until("done")
     site.online("0-1,3-15")
-    check("a shortage", agent.until("short"), ["offline 2", "short demand 3 allowed 1,3 member a"])
+    lines = agent.until("done")
+    check("a shortage", (lines[:2], site.has("a", "b")), (["offline 2", "waits a: short demand 3 allowed 1,3: it runs on the pool until there is room"],
+                                                         ["0-1,3-13", "14-15"]))
     site.online("0-15")
-    agent.until("done")
-    check("gone", agent.end()[0], 0)
+    lines = agent.until("done")
+    check("it is back", (f"update a {site.at('g/a')}" in lines, site.has("a", "b"), agent.end()[0]), (True, ["1-3", "14-15"], 0))
     site.online("0-1,3-15")
     status, lines = site.run()
-    check("one that had its CPUs keeps them", (status, lines[-1], site.has("a", "b")), (1, "short demand 3 allowed 1,3 member a", ["1-3", "14-15"]))
-
-
+    check("at a start", (status, [line for line in lines if line.startswith(("waits", "short"))], site.has("b")),
+          (1, ["waits a: short demand 3 allowed 1,3: it runs on the pool until there is room"], ["14-15"]))
     site.online("0,14-15")
     agent = Open(site)
-    agent.until("short")
+    agent.until("done")
     site.online("0-15")
+    agent.until("update a")
     agent.until("done")
     check("ten CPUs at once", (site.has("a", "b"), agent.end()[0]), (["1-3", "14-15"], 0))
 
@@ -395,8 +303,8 @@ def rest():
     site.make_group("x", group="system.slice")
     agent = Open(site, "--rest", "system.slice,/user.slice/,init.scope")
     lines = agent.until("done")
-    check("the rest of the machine", sorted(line for line in lines if line.startswith(("create", "absent"))),
-          [f"create a {site.at('g/a')}", f"create system.slice {site.at('work/bundles/rest')}"])
+    check("the rest of the machine", sorted(line for line in lines if line.startswith(("create", "adopt", "absent"))),
+          [f"adopt system.slice {site.at('work/bundles/rest')} 0-7", f"create a {site.at('g/a')}"])
     site.make_group("x", group="user.slice")
     agent.until("done")
     has = [open(site.at("root", name, "cpuset.cpus")).read() for name in ("system.slice", "user.slice", "numarun/a")]
@@ -416,7 +324,7 @@ def recorded():
     figures = dict(line.split(" ") for line in open(site.at("numarun.prom")).read().splitlines() if not line.startswith("#"))
     del figures["numarun_look_timestamp_seconds"]
     expected = {"plans_total": "1", "moves_total": "5", "shortages_total": "0", "refused_writes_total": "0", "distance": "61", "distance_beyond_local": "11",
-                "containers_pinned": "1", "containers_shared": "1", "containers_waiting": "0", "undone": "0"}
+                "containers_pinned": "1", "containers_shared": "1", "containers_waiting": "0", "containers_squeezed": "0", "undone": "0"}
     check("its figures", figures, {f"numarun_{name}": figure for name, figure in expected.items()})
     site.come("big", 4)
     check("a newcomer waits", site.run(*more, rounds="2")[0], 1)
@@ -431,30 +339,6 @@ def recorded():
     check("a folder that is not there", (status, [line for line in lines if "nowhere" in line]),
           (1, [f"failed {site.at('nowhere', 'x')}: No such file or directory"]))
     refuses("agent.py", *PLAIN, "--certificates", "/proc/no/where", says="/proc/no/where: No such file")
-
-
-def hooked():
-    """A runtime's hook tells of a container, in the group that its process is in, and that it is gone."""
-    site = Site()
-    site.come("a", 2, group=False)
-    os.mkdir(site.at("told"))
-    os.rename(site.at("g/a"), site.at("bundle"))
-    state = {"ociVersion": "1.0.2", "id": "a", "status": "created", "pid": os.getpid(), "bundle": site.at("bundle")}
-    check("a container", told("hook.py", site.at("told"), text=json.dumps(state)), (0, "", ""))
-    group = json.load(open(site.at("told/a/status")))["cgroup-path"] if os.path.exists(site.at("told/a/status")) else "/numarun/a"
-    site.make_group("a", group=group.strip("/"))
-    status, lines = site.run("--watch", site.at("told"))
-    check("it is told", (status, lines[0]), (0, f"create a {site.at('told/a')}"))
-    first = os.stat(site.at("told/a")).st_ino
-    check("told again", told("hook.py", site.at("told"), text=json.dumps({**state, "status": "creating"})), (0, "", ""))
-    check("as another one", os.stat(site.at("told/a")).st_ino != first, True)
-    for _ in range(2):
-        check("gone", told("hook.py", site.at("told"), text=json.dumps({**state, "status": "stopped", "pid": 0})), (0, "", ""))
-        check("nothing is left", os.listdir(site.at("told")), [])
-    for text, says in [("", "not JSON"), ("[]", "no JSON object"), ("{}", "no id in the"), (json.dumps({**state, "id": "../x"}), "'../x' is no id"),
-                       (json.dumps({**state, "bundle": "/no"}), "/no/config.json: no such file"), ("x" * (1 << 20 | 1), "more than 1048576 bytes")]:
-        refuses("hook.py", site.at("told"), text=text, says=says)
-    words_and_help("hook.py", "/usr/local/bin/numarun-hook")
 
 
 def one_agent():
@@ -472,7 +356,7 @@ def one_agent():
     agent = Open(site)
     agent.until("done")
     site.write("a", "0-7")
-    check("somebody else writes", agent.until("drift"), ["drift a has 0-7 in place of 5"])
+    check("somebody else writes", agent.until("drift"), ["drift a has 0-7 in place of 5: that is written again"])
     agent.end(signal.SIGINT)
 
 
@@ -523,9 +407,9 @@ def places():
 
 
 def refusals():
-    words_and_help("agent.py", "examples/agent.py examples/machines/two-socket.json")
+    words_and_help("agent.py", "operators/agent.py examples/machines/two-socket.json")
     refuses("agent.py", MACHINE, "--program", "no-such-program", says="no-such-program: no program (see --program)")
-    bad_files("agent.py", ["--program", STAND_IN])
+    bad_files("agent.py", ["--program", IN_FOLDERS])
     bad_output("agent.py", *PLAIN, text="rebalance\n")
     piped("agent.py", *PLAIN, text="rebalance\n")
     name = os.path.join(SCRATCH, "ends")
@@ -537,17 +421,17 @@ def refusals():
     refuses("agent.py", MACHINE, "--program", shutil.which("yes"), says=f"{MACHINE}: run ")
     refuses("agent.py", *PLAIN, "--cgroup", "no-such-root", says="no-such-root: no folder")
     refuses("agent.py", *PLAIN, "--slit", "no-such-table", says="refused E113 ReadFault")
-    refuses("agent.py", *PLAIN, "--watch", "no-such-folder", says="no-such-folder: No such file")
+    check("a folder that is not there yet", told("agent.py", *PLAIN, "--watch", "no-such-folder", "--online", "/dev/null", "--rounds", "1")[0], 1)
     refuses("agent.py", *PLAIN, "--watch", EXAMPLES, "--online", "no-such-list", says="no-such-list: No such file")
     refuses("agent.py", *PLAIN, "--watch", EXAMPLES, "--online", "README.md", says="README.md: '# numarun")
     check("no pause", told("agent.py", *PLAIN, "--pause", "inf")[0], 2)
     site = Site()
-    open(site.at("root/cpuset.cpus.effective"), "w").write("0-30\n")
-    refuses("agent.py", *site.words(), says="machine.json: refused E116 OtherMachine")
+    open(site.at("root/cpuset.cpus.effective"), "w").write("8-30\n")
+    refuses("agent.py", *site.words(), says=f"machine.json: none of its CPUs is there, or in effect in {site.at('root')}")
 
 
-for part in (plain, restart, under_its_id, refused_writes, admission, fewer, who_is_pinned, refused_sections, pool_hook, flapping, storm,
-             rest, recorded, hooked, one_agent, told_by_lines, places, refusals):
+for part in (plain, restart, under_its_id, refused_writes, admission, fewer, who_is_pinned, named_cpus, refused_sections, pool_hook, flapping, storm,
+             rest, recorded, one_agent, told_by_lines, places, refusals):
     if not sys.argv[1:] or part.__name__ in sys.argv[1:]:
         part()
 end("agent.py")

@@ -17,8 +17,8 @@ CASES = [
     (("--cpus", "2", "--cpuset-mems", "0", *AFTER), "new would have 9,25: 2 CPUs, distance 42\n  far: 9,25 at 21\ntotal distance: 224; 0 CPUs of the others would move"),
     (("--cpus", "2.2", "--cpuset-cpus", "8-9,24-25", "--id", "x", *AFTER), "x would have 8-9,24-25: 4 CPUs, distance 40\n"
      "database would give 8,24 and get 10,26\ntotal distance: 222; 2 CPUs of the others would move"),
-    (("--cpus", "0.5"), "new would have 1,17: 2 CPUs, distance 20\ntotal distance: 20; 0 CPUs of the others would move"),
-    (("--cpuset-cpus", "5-6,20-22"), "new would have 5-6,21-22: 4 CPUs, distance 40\ntotal distance: 40; 0 CPUs of the others would move"),
+    (("--cpus", "0.5"), "new would have 1,17: 2 CPUs, distance 20\nits home would be node 0\ntotal distance: 20; 0 CPUs of the others would move"),
+    (("--cpuset-cpus", "5-6,20-22"), "new would have 5-6,21-22: 4 CPUs, distance 40\nits home would be node 0\ntotal distance: 40; 0 CPUs of the others would move"),
     ((DATABASE,), "new would have 1-6,17-22: 12 CPUs, distance 120\ntotal distance: 120; 0 CPUs of the others would move"),
 ]
 NO_PLACE = """new has no place
@@ -60,7 +60,7 @@ check("an id that is taken", dry(CONTROL, "--after", "-", text=f"create new {WEB
 gone = f"create database {DATABASE}\nrebalance\nkill database KILL\n"
 check("one that has stopped", dry(CONTROL, "--after", "-", text=gone)[1].splitlines()[-1], "total distance: 20; 0 CPUs of the others would move")
 
-words_and_help("dry-run.py", "examples/dry-run.py examples/machines/two-socket.json examples/bundles/real-time")
+words_and_help("dry-run.py", "operators/dry-run.py examples/machines/two-socket.json examples/bundles/real-time")
 bad_files("dry-run.py", ["--program", PROGRAM], [WEB])
 bad_output("dry-run.py", MACHINE, WEB, "--program", PROGRAM)
 piped("dry-run.py", MACHINE, WEB, "--program", PROGRAM)

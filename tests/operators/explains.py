@@ -11,9 +11,9 @@ import re
 import shutil
 import sys
 
-from trial import EXAMPLES, bad_files, bad_output, check, end, piped, refuses, told, words_and_help
+from trial import EXAMPLES, OPERATORS, bad_files, bad_output, check, end, piped, refuses, told, words_and_help
 
-sys.path.insert(0, EXAMPLES)
+sys.path.insert(0, OPERATORS)
 answers = importlib.import_module("answers")
 common = importlib.import_module("common")
 explain = importlib.import_module("explain")
@@ -336,7 +336,7 @@ by_hand()
 tried_out(60, 1)
 tried_out(30, 7, threads=2)
 large()
-words_and_help("explain.py", "examples/explain.py examples/machines/two-socket.json")
+words_and_help("explain.py", "operators/explain.py examples/machines/two-socket.json")
 bad_files("explain.py", [], [ANSWERS])
 bad_files("explain.py", [MACHINE])
 bad_output("explain.py", MACHINE, ANSWERS)

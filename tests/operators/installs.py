@@ -54,7 +54,8 @@ pages = [name for name in first if name.startswith("share/") and not name.endswi
 check("the pages", sorted(pages), ["share/doc/numarun/formats.md", "share/man/man1/numarun.1"])
 listed = open(os.path.join(PREFIX, "lib", "numarun", "installed")).read().splitlines()
 check("the list is what is new", sorted(listed), sorted(set(first) - set(BEFORE)))
-check("nothing names the prefix", [name for name, told in first.items() if told and PREFIX in str(told[0])], [])
+check("the unit alone names the prefix", [name for name, told in first.items() if told and PREFIX in str(told[0])],
+      ["lib/systemd/system/numarun-agent.service"])
 check("installed again", (told("install.sh", PREFIX, env=HERE)[0], standing() == first), (0, True))
 
 for name in NAMES:
@@ -99,5 +100,5 @@ refuses("install.sh", PREFIX, says="no-such-program: no program: build it", env=
 check("nothing was made", os.path.exists(PREFIX), False)
 refuses("install.sh", "/dev/null", says="", env=HERE, first="mkdir: ")
 status, out, err = told("install.sh", "--help")
-check("install.sh --help", (status, "Example: examples/install.sh /usr/local" in out, err), (0, True, ""))
+check("install.sh --help", (status, "Example: operators/install.sh /usr/local" in out, err), (0, True, ""))
 end("install.sh")

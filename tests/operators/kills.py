@@ -13,12 +13,12 @@ import tempfile
 import threading
 import time
 
-from trial import EXAMPLES, check, end
+from sites import IN_FOLDERS
+from trial import OPERATORS, check, end
 
-sys.path.insert(0, EXAMPLES)
+sys.path.insert(0, OPERATORS)
 from common import read_list
 
-HERE = os.path.dirname(os.path.abspath(__file__))
 SEED, MOMENTS = (int(word) for word in (sys.argv[1:] + ["1", "40"][len(sys.argv) - 1:])[:2])
 RESERVED = {0, 8}
 # No two CPUs differ for anyone, so that no plan moves a container that has its CPUs.
@@ -111,10 +111,10 @@ class World:
 
 
 def agent(folder, *more):
-    words = [f"{folder}/machine.json", "--program", os.path.join(HERE, "stand_in.py"), "--cgroup", f"{folder}/root", "--work", f"{folder}/work"]
-    words += ["--watch", f"{folder}/g", "--online", f"{folder}/online", "--pause", "0.02", *more]
+    words = [f"{folder}/machine.json", "--program", IN_FOLDERS, "--cgroup", f"{folder}/root", "--work", f"{folder}/work"]
+    words += ["--watch", f"{folder}/g", "--online", f"{folder}/online", "--pause", "0.02", "--home", "none", *more]
     out = open(f"{folder}/out", "a")
-    return subprocess.Popen([sys.executable, "-B", os.path.join(EXAMPLES, "agent.py"), *words], stdout=out, stderr=out)
+    return subprocess.Popen([sys.executable, "-B", os.path.join(OPERATORS, "agent.py"), *words], stdout=out, stderr=out)
 
 
 def main(folder):

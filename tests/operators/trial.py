@@ -5,17 +5,18 @@ import subprocess
 import sys
 
 TOP = os.path.dirname(os.path.dirname(os.path.dirname(os.path.abspath(__file__))))
-EXAMPLES = os.path.join(TOP, "examples")
+EXAMPLES, OPERATORS = os.path.join(TOP, "examples"), os.path.join(TOP, "operators")
 failed = []
 
 
 def command(script, *words):
     interpreter = ["bash"] if script.endswith(".sh") else [sys.executable, "-B"]
-    return interpreter + [os.path.join(EXAMPLES, script), *words]
+    folder = EXAMPLES if script == "quick-look.sh" else OPERATORS
+    return interpreter + [os.path.join(folder, script), *words]
 
 
 def told(script, *words, text="", folder=TOP, **more):
-    """Status, standard output and standard error of a script of examples/."""
+    """Status, standard output and standard error of a script of operators/, or of examples/."""
     ran = subprocess.run(command(script, *words), input=text.encode(), capture_output=True, cwd=folder, timeout=300, **more)
     return ran.returncode, ran.stdout.decode(), ran.stderr.decode()
 

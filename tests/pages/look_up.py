@@ -11,7 +11,7 @@ import sys
 
 TOP = pathlib.Path(__file__).resolve().parents[2]
 # Folders at the top that a path in backticks may begin with.
-FOLDERS = ("crates", "docs", "tests", "examples", "benches", "bench", ".ci")
+FOLDERS = ("crates", "docs", "tests", "examples", "operators", "benches", "bench", ".ci")
 PATH = re.compile(r"`((?:%s)/[\w./+-]*)`" % "|".join(map(re.escape, FOLDERS)))
 LINK = re.compile(r"\[[^\]]*\]\(([^)\s]+)\)")
 BLOCK = re.compile(r"^```(\w*)\n(.*?)^```$", re.DOTALL | re.MULTILINE)
@@ -21,7 +21,7 @@ README_BYTES = 12_000
 
 
 def pages():
-    found = [*TOP.glob("*.md"), *(TOP / "docs").glob("*.md"), *(TOP / f / "README.md" for f in ("examples", "benches", "tests"))]
+    found = [*TOP.glob("*.md"), *(TOP / "docs").glob("*.md"), *(TOP / f / "README.md" for f in ("examples", "operators", "benches", "tests"))]
     return {path: path.read_text(encoding="utf-8") for path in sorted(found)}
 
 

@@ -1,9 +1,13 @@
-"""The agent over a folder of bundles: containers come, go and come back under their ids, CPUs go off and on, and the agent is killed at
-moments by chance and started again. In no look at the tree two containers of which one is pinned share a CPU outside the reserved
-ones; and in the end each process runs where the last plan put it."""
+"""The agent over a folder of bundles: containers come, go and come back under their ids, their limits change, CPUs go off and on, and the
+program, the agent or both are killed at moments by chance and started again. In no look at the tree two containers of which one is
+pinned share a CPU outside the reserved ones; those that asked for CPUs had them; none that had its own is squeezed onto the reserved
+one but by a move; and in the end each process runs where the last plan put it."""
 
+import contextlib
 import os
+import re
 import shutil
+import signal
 import subprocess
 import sys
 import threading
@@ -15,13 +19,16 @@ from tree import CPU, RESERVED, ROOT, TOP, read, say, write
 
 FOLDER, WORK, OUT = "/tmp/g", "/run/numarun", "/tmp/agent-out"
 MOMENTS = 8
+PATIENCE = 8  # seconds that a container stays at least, unless it has had its CPUs before
+NEAR = 3      # seconds in which a line of the agent is of the same matter as a look
 PINNED, SHARED = ["p0", "p1", "p2"], ["s0", "s1"]
 
 
 class World:
     def __init__(self, random):
         self.random, self.all, self.lock = random, tree.Containers("/tmp/new"), threading.Lock()
-        self.ended, self.looks, self.came, self.had = False, 0, {}, set()
+        self.ended, self.looks, self.came, self.had, self.since = False, 0, {}, set(), {}
+        self.changed, self.own, self.squeezed = 0, {}, []
         self.count = self.shared = 0
         write(f"{ROOT}/cgroup.subtree_control", "+cpuset")
         os.makedirs(TOP)
@@ -32,25 +39,40 @@ class World:
         """Its group with a process first, and then its bundle, at once."""
         section = {"quota": self.random.choice([1, 2]), "mems": str(self.random.randrange(4))} if name in PINNED else {}
         self.count += 1
-        self.came[name] = self.count
+        self.came[name], self.since[name] = self.count, time.monotonic()
         os.mkdir(f"{TOP}/{name}")
         self.all.start(name)
         os.rename(self.all.bundle(name, **section), f"{FOLDER}/{name}")
 
     def go(self, name):
         self.all.there.pop(name)
+        self.own.pop(name, None)
         tree.remove(f"{TOP}/{name}")
         os.rename(f"{FOLDER}/{name}", "/tmp/gone")
         shutil.rmtree("/tmp/gone")
+
+    def is_settled(self, name):
+        """Whether it had its CPUs, or had time for it."""
+        return name not in PINNED or self.came[name] in self.had or time.monotonic() > self.since[name] + PATIENCE
+
+    def limit(self, name):
+        """Another limit of one that runs, in its config, of which nobody sees a part."""
+        asked = 3 - self.all.asks[name]
+        bundle = self.all.bundle(name, quota=asked, mems=str(self.random.randrange(4)))
+        os.rename(f"{bundle}/config.json", f"{FOLDER}/{name}/config.json")
+        os.rmdir(bundle)
+        self.changed += 1
 
     def change(self):
         while not self.ended:
             with self.lock:
                 name = self.random.choice(PINNED + SHARED)
                 was = name in self.all.there
-                if was:
+                if was and name in PINNED and self.random.random() < 0.3:
+                    self.limit(name)
+                elif was and self.is_settled(name):
                     self.go(name)
-                if not was or self.random.random() < 0.6:
+                if name not in self.all.there and (not was or self.random.random() < 0.6):
                     self.come(name)
             time.sleep(self.random.uniform(0.2, 1.5))
 
@@ -71,6 +93,9 @@ class World:
             for name in set(PINNED) & set(sets):
                 if len(sets[name] - RESERVED) == self.all.asks[name]:
                     self.had.add(self.came[name])
+                    self.own[name] = sets[name]
+                elif sets[name] == RESERVED and self.own.pop(name, None):
+                    self.squeezed.append((time.time(), name))
 
     def watch(self):
         while not self.ended:
@@ -79,13 +104,32 @@ class World:
 
 
 def agent(*more):
-    words = ["/bin/python3", "-SEB", f"{tree.REPOSITORY}/examples/agent.py", tree.MACHINE, "--program", tree.PROGRAM, "--cgroup", ROOT,
+    words = ["/bin/python3", "-SEB", f"{tree.REPOSITORY}/operators/agent.py", tree.MACHINE, "--program", tree.PROGRAM, "--cgroup", ROOT,
              "--watch", FOLDER, "--work", WORK, "--pause", "0.05", *more]
     return subprocess.Popen(words, stdin=subprocess.DEVNULL, stdout=open(OUT, "a"), stderr=subprocess.STDOUT)
 
 
 def lines():
     return [line.split(" ", 1)[-1] for line in read(OUT).splitlines()]
+
+
+def causes(world):
+    """How often one was squeezed, by what the agent said of it then."""
+    found = {"a move": 0, "a place that was lost": 0, "no cause": 0}
+    told = [(line[:19], line.split(" ")[1:3]) for line in read(OUT).splitlines() if re.match(r"\d{4}-\d\d-\d\dT", line)]
+    told = [(time.mktime(time.strptime(stamp, "%Y-%m-%dT%H:%M:%S")), words) for stamp, words in told]
+    for when, name in world.squeezed:
+        kinds = {words[0] for at, words in told if abs(at - when) < NEAR and words[1:] and words[1].rstrip(":") == name}
+        found["a place that was lost" if "waits" in kinds else "a move" if "hold" in kinds else "no cause"] += 1
+    return found
+
+
+def children(pid):
+    """The program that an agent runs."""
+    try:
+        return [int(child) for child in read(f"/proc/{pid}/task/{pid}/children").split()]
+    except OSError:
+        return []
 
 
 def flap(world):
@@ -108,8 +152,11 @@ def killed_by_chance(world):
         if world.random.random() < 0.5:
             flap(world)
             time.sleep(world.random.uniform(0, 0.5))
-        run.kill()
-        assert run.wait() == -9, lines()[-20:]
+        program, which = children(run.pid), world.random.choice(["program", "agent", "both"])
+        for pid in ([] if which == "program" and program else [run.pid]) + ([] if which == "agent" else program):
+            with contextlib.suppress(ProcessLookupError):
+                os.kill(pid, signal.SIGKILL)
+        assert run.wait() in (-9, 1), lines()[-20:]
     world.ended = True
     for thread in threads:
         thread.join()
@@ -135,15 +182,22 @@ assert agent("--rounds", "2").wait() == 0, lines()[-30:]
 agrees(world, "the last run")
 tree.turn(3, False)
 tree.turn(6, False)
+said = len(lines())
 assert agent("--rounds", "1").wait() in (0, 1)
+asks = dict(world.all.asks)
+world.all.asks.update((line.split(" ")[1].rstrip(":"), 0) for line in lines()[said:] if line.startswith("waits"))  # they are on the pool
 world.all.check("two CPUs are off")
+world.all.asks.update(asks)
 tree.turn(3, True)
 tree.turn(6, True)
 assert agent("--rounds", "2").wait() == 0, lines()[-30:]
 agrees(world, "they are back")
-assert not world.shared, world.shared
+squeezed = causes(world)
+assert not world.shared and not squeezed["no cause"], (world.shared, squeezed)
 assert "Traceback" not in read(OUT), read(OUT)[-2000:]
 told = {kind: sum(line.split(" ")[0] == kind for line in lines()) for kind in ("adopt", "create", "ended", "plan", "offline")}
 assert told["adopt"] >= 3 and told["plan"] >= 5 and world.looks > 50, (told, world.looks)
-say(f"agent: killed {MOMENTS} times and started again: {world.looks} looks, {len(world.had)} of {world.count} containers had their CPUs, {told}")
+assert 4 * len(world.had) > world.count and world.changed, (len(world.had), world.count, world.changed)
+say(f"agent: killed {MOMENTS} times and started again: {world.looks} looks, {len(world.had)} of {world.count} containers had CPUs of their own, "
+    f"{world.changed} limits changed, squeezed by {squeezed}, {told}")
 tree.clear()

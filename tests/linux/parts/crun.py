@@ -1,55 +1,22 @@
 """Containers that crun makes, in groups of its own, and the agent over crun's state: each process gets the CPUs that a plan gave it,
 also when the container is deleted and made anew under its id, and nothing else of its group is changed."""
 
-import json
 import os
-import shutil
 import subprocess
 import sys
 
 sys.path[:0] = [os.path.join(os.path.dirname(os.path.abspath(__file__)), "..")]
 import tree
+from of_crun import STATE, begin, crun
 from tree import ROOT, read, say
 
-STATE, BUNDLES, WORK = "/run/crun", "/tmp/containers", "/run/numarun"
+WORK = "/run/numarun"
 OTHERS = ("cpu.max", "cpu.weight", "memory.max", "pids.max")
-
-
-def bundle(name, section):
-    """A bundle as `crun spec` has it, with what is asked for."""
-    folder = f"{BUNDLES}/{name}"
-    for place in ("dev", "proc"):
-        os.makedirs(f"{folder}/rootfs/{place}", exist_ok=True)
-    shutil.copy("/app/sleeper", f"{folder}/rootfs/sleeper")
-    if os.path.exists(f"{folder}/config.json"):
-        os.remove(f"{folder}/config.json")
-    subprocess.run(["/app/crun", "spec"], cwd=folder, check=True)
-    config = json.load(open(f"{folder}/config.json"))
-    config["process"].update(terminal=False, args=["/sleeper"])
-    config["mounts"] = [mount for mount in config["mounts"] if mount["destination"] == "/proc"]
-    config["linux"]["resources"]["cpu"] = section
-    config["linux"]["namespaces"] = [one for one in config["linux"]["namespaces"] if one["type"] in ("pid", "ipc", "uts", "mount")]
-    json.dump(config, open(f"{folder}/config.json", "w"))
-    return folder
-
-
-def crun(*words):
-    done = subprocess.run(["/app/crun", "--cgroup-manager=cgroupfs", *words], stdin=subprocess.DEVNULL, stdout=subprocess.PIPE,
-                          stderr=subprocess.STDOUT, text=True)
-    assert not done.returncode, (words, done)
-    return done.stdout
-
-
-def begin(name, section):
-    """Starts a container; its first process, and its group."""
-    crun("run", "--no-pivot", "--detach", "--bundle", bundle(name, section), name)
-    pid = json.loads(crun("state", name))["pid"]
-    return pid, ROOT + read(f"/proc/{pid}/cgroup").split("::")[1]
 
 
 def agent():
     """Two looks of the agent at crun's state; its lines."""
-    words = ["/bin/python3", "-SEB", f"{tree.REPOSITORY}/examples/agent.py", tree.MACHINE, "--program", tree.PROGRAM, "--cgroup", ROOT,
+    words = ["/bin/python3", "-SEB", f"{tree.REPOSITORY}/operators/agent.py", tree.MACHINE, "--program", tree.PROGRAM, "--cgroup", ROOT,
              "--watch", STATE, "--work", WORK, "--rounds", "2", "--pause", "0.1"]
     done = subprocess.run(words, stdin=subprocess.DEVNULL, stdout=subprocess.PIPE, stderr=subprocess.STDOUT, text=True)
     assert not done.returncode, done.stdout

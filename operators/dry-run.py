@@ -2,6 +2,8 @@
 """Says where a container would go, and what it would move, and changes nothing: of BUNDLE, or of what --cpus, --cpuset-cpus and
 --cpuset-mems ask for, in podman's words.
 
+One that names no nodes of memory gets a home as the agent gives it, unless --home none says otherwise.
+
 Beside it are the containers that --after tells, the commands for `numarun run` so far, or those that --running names, a folder of
 bundles as the agent's --watch has it, which get a plan first. Neither knows what stands in a kernel: of containers whose CPUs
 are others than this plan's, others may move. The status is 0 where it has a place, and 1 where it has none; then it says what
@@ -14,12 +16,15 @@ import sys
 import tempfile
 
 from answers import Answers, Plan, counted
-from common import Machine, Refused, Run, check_program, find_program, print_list, read_list, read_text, run
+from common import BYTES, Machine, Refused, Run, check_program, find_program, print_list, read_list, read_text, run
+from demands import asked
 from explain import explain, laid_out
+from groups import parse_text
+from homes import allowed, home_of, housed
 
 EXAMPLE = """examples, from the top of the repository:
-  examples/dry-run.py examples/machines/two-socket.json examples/bundles/real-time --after examples/scripts/a-cpu-goes
-  examples/dry-run.py host.json --cpus 4 --cpuset-mems 1 --running /run/crun --online /sys/devices/system/cpu/online"""
+  operators/dry-run.py examples/machines/two-socket.json examples/bundles/real-time --after examples/scripts/a-cpu-goes
+  operators/dry-run.py host.json --cpus 4 --cpuset-mems 1 --running /run/crun --online /sys/devices/system/cpu/online"""
 
 
 def asked_for(words, folder):
@@ -40,6 +45,27 @@ def asked_for(words, folder):
     return folder
 
 
+def with_home(words, machine, before, bundle, folder):
+    """The bundle with a home, where the agent would give it one; and that home. A shared container has reserved CPUs, so that the
+    others are those of pinned ones."""
+    try:
+        config = parse_text(read_text(os.path.join(bundle, "config.json"), BYTES), bundle)
+        count = asked(config, "all", machine)
+    except (Refused, AttributeError, TypeError):
+        return bundle, None  # numarun refuses it
+    if words.home == "none" or not count:
+        return bundle, None
+    taken = [cpus for cpus in before.values() if not cpus & machine.reserved]
+    free = (words.there - machine.reserved).difference(*taken) & allowed(config, machine.present)
+    home = home_of(machine, config, count, free, words.nodes)
+    if not home or home == set(machine.node_of.values()):
+        return bundle, None
+    made = tempfile.mkdtemp(dir=folder)
+    with open(os.path.join(made, "config.json"), "w") as file:
+        json.dump(housed(config, home), file)
+    return made, home
+
+
 def tell_all(numarun, script):
     """Tells the commands of a script, and ends a hand-over that it leaves open."""
     for at, line in enumerate(read_text(script).split("\n"), 1):
@@ -51,29 +77,34 @@ def tell_all(numarun, script):
         numarun.ask("step")
 
 
-def create_all(numarun, folder):
-    """Makes the containers of a folder of bundles, and moves them onto a plan."""
+def create_all(numarun, words, machine, folder):
+    """Makes the containers of a folder of bundles, each with a home if it names none."""
     try:
-        names = sorted(os.listdir(folder))
+        names = sorted(os.listdir(words.running))
     except OSError as why:
-        raise Refused(f"{folder}: {why.strerror}") from None
+        raise Refused(f"{words.running}: {why.strerror}") from None
     for name in names:
-        bundle = os.path.join(folder, name)
+        bundle = os.path.join(words.running, name)
         if name.split() == [name] and os.path.isfile(os.path.join(bundle, "config.json")):
-            answer = numarun.ask(f"create {name} {bundle}")[0]
+            told, _ = with_home(words, machine, requested(numarun), bundle, folder)
+            answer = numarun.ask(f"create {name} {told}")[0]
             if answer.startswith("refused"):
                 print(f"dry-run.py: passed over: {bundle}: {answer}", file=sys.stderr)
+            elif words.home != "none":
+                numarun.ask("rebalance")  # the home of the next one is by what this one has
 
 
-def set_up(numarun, words, machine):
+def set_up(numarun, words, machine, folder):
+    words.there = machine.present - machine.offline
     if words.online is not None:
         online = read_list(read_text(words.online), words.online)
+        words.there = machine.present & online | machine.reserved
         for cpu in sorted(machine.present - machine.reserved):
             numarun.ask(f"{'online' if cpu in online else 'offline'} {cpu}")
     if words.after is not None:
         tell_all(numarun, words.after)
     if words.running is not None:
-        create_all(numarun, words.running)
+        create_all(numarun, words, machine, folder)
         outcome = numarun.ask("rebalance")
         if outcome[0].startswith("short"):
             raise Refused(f"{words.running}: these have no plan themselves: {' '.join(outcome[:-1])}")
@@ -89,11 +120,12 @@ def requested(numarun):
     return found
 
 
-def where(name, plan, before):
+def where(name, plan, before, home):
     """What a plan with the newcomer says of it and of the others."""
     if name in plan.holds:
         lines = [f"{name} would have {print_list(plan.holds[name])}: {counted(len(plan.holds[name]))}, distance {plan.distance(name)}"]
         lines += [f"  far: {print_list(cpus)} at {distance}" for distance, cpus in sorted(plan.far(name).items())]
+        lines += [f"its home would be node{'s' * (len(home) > 1)} {print_list(home)}"] if home else []
     else:
         lines = [f"{name} asks for no CPUs of its own, and would run on the pool: {print_list(plan.pool)}"]
     moved = 0
@@ -104,9 +136,10 @@ def where(name, plan, before):
     return lines + [f"total distance: {plan.total}; {counted(moved)} of the others would move"]
 
 
-def try_it(words, machine, numarun, bundle):
-    set_up(numarun, words, machine)
+def try_it(words, machine, numarun, bundle, folder):
+    set_up(numarun, words, machine, folder)
     before = requested(numarun)
+    bundle, home = with_home(words, machine, before, bundle, folder)
     name = words.id or next(name for name in ["new"] + [f"new-{k}" for k in range(2, 9999)] if name not in before)
     answer = numarun.ask(f"create {name} {bundle}")[0]
     if answer.startswith("refused"):
@@ -116,7 +149,7 @@ def try_it(words, machine, numarun, bundle):
         raise Refused(f"{numarun.program}: {outcome[0]}")
     answers = Answers(numarun.program, machine, outcome + numarun.ask("certificate"))
     if isinstance(answers.outcomes[0], Plan):
-        print(laid_out(where(name, answers.outcomes[0], before)))
+        print(laid_out(where(name, answers.outcomes[0], before, home)))
         return 0
     print(laid_out([f"{name} has no place", *explain(answers.certificates[0], machine)]))
     return 1
@@ -129,6 +162,9 @@ def main():
     parser.add_argument("--cpus", type=float, metavar="N", help="how many CPUs it asks for")
     parser.add_argument("--cpuset-cpus", metavar="LIST", help="the CPUs that it may have")
     parser.add_argument("--cpuset-mems", metavar="LIST", help="the nodes of its memory")
+    parser.add_argument("--home", choices=("free", "none"), default="free", help="which nodes one has that names none, as the agent's --home")
+    parser.add_argument("--nodes", metavar="FOLDER", help="where the kernel tells the free memory of each node, as /sys/devices/system/node, "
+                        "which it is with --running")
     parser.add_argument("--id", metavar="ID", help="its id, if not new")
     beside = parser.add_mutually_exclusive_group()
     beside.add_argument("--after", metavar="SCRIPT", help="the commands that were told so far; - is standard input")
@@ -139,13 +175,15 @@ def main():
     words = parser.parse_intermixed_args()
     if words.cpus is not None and not 0 < words.cpus <= 4096:
         parser.error("--cpus is above 0, and 4096 at most")
+    if words.running is not None and words.nodes is None:
+        words.nodes = "/sys/devices/system/node"
     machine = Machine(words.machine)
     check_program(words.program)
     with tempfile.TemporaryDirectory(prefix="numarun-") as folder:
         bundle = asked_for(words, folder)
         numarun = Run(words.program, words.machine, words.slit)
         try:
-            return try_it(words, machine, numarun, bundle)
+            return try_it(words, machine, numarun, bundle, folder)
         finally:
             numarun.close()
 

@@ -19,7 +19,7 @@ from common import Machine, print_list, run
 
 EXAMPLE = """example, from the top of the repository:
   crates/numarun/out/numarun run examples/machines/two-socket.json < examples/scripts/plans > answers
-  examples/draw-plan.py examples/machines/two-socket.json < answers > plan.svg"""
+  operators/draw-plan.py examples/machines/two-socket.json < answers > plan.svg"""
 # Of the palette of Okabe and Ito, which people without red or green tell apart; further containers take lighter and darker
 # shades of these with stripes across.
 PALETTE = ["#e69f00", "#56b4e9", "#009e73", "#f0e442", "#0072b2", "#d55e00", "#cc79a7"]

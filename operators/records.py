@@ -6,6 +6,8 @@ import time
 from common import Refused
 
 LOCAL = 10
+KEPT, KEPT_BYTES = 1000, 256 << 20  # certificates, and their bytes, that are kept
+SUFFIX = "Z.certificate"
 FIGURES = {
     "numarun_plans_total": ("counter", "plans that were handed over to the end"),
     "numarun_moves_total": ("counter", "CPUs that a container got which its group did not request before"),
@@ -16,14 +18,15 @@ FIGURES = {
     "numarun_containers_pinned": ("gauge", "containers with CPUs of their own"),
     "numarun_containers_shared": ("gauge", "containers on the pool"),
     "numarun_containers_waiting": ("gauge", "containers on the pool until there is room"),
+    "numarun_containers_squeezed": ("gauge", "pinned containers that have not in effect what they were given"),
     "numarun_undone": ("gauge", "what is left undone, of containers, plans, writes and the look at the machine"),
     "numarun_look_timestamp_seconds": ("gauge", "when the machine was last looked at"),
 }
 
 
 class Records:
-    def __init__(self, textfile, folder):
-        self.textfile, self.folder = textfile, folder
+    def __init__(self, textfile, folder, keep=KEPT):
+        self.textfile, self.folder, self.most = textfile, folder, keep
         self.figures = dict.fromkeys(FIGURES, 0)
         self.last = None
         if folder:
@@ -50,8 +53,21 @@ class Records:
             return
         self.last = lines
         now = time.time()
-        name = time.strftime("%Y-%m-%dT%H-%M-%S", time.gmtime(now)) + f".{int(now * 1000) % 1000:03}Z.certificate"
+        name = time.strftime("%Y-%m-%dT%H-%M-%S", time.gmtime(now)) + f".{int(now * 1000) % 1000:03}{SUFFIX}"
         self.put(os.path.join(self.folder, name), "\n".join(lines) + "\n")
+        self.drop_old()
+
+    def drop_old(self):
+        """Takes the oldest certificates away, so that the folder is bounded."""
+        try:
+            found = [entry for entry in os.scandir(self.folder) if entry.name.endswith(SUFFIX)]
+            kept = bytes = 0
+            for entry in sorted(found, key=lambda entry: entry.name, reverse=True):
+                kept, bytes = kept + 1, bytes + entry.stat().st_size
+                if kept > self.most or (bytes > KEPT_BYTES and kept > 1):
+                    os.remove(entry.path)
+        except OSError as why:
+            raise Refused(f"{self.folder}: {why.strerror}") from None
 
     def write(self):
         self.set(look_timestamp_seconds=int(time.time()))

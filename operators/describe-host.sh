@@ -1,6 +1,6 @@
 #!/usr/bin/env bash
 # Writes the machine file of the machine it runs on, from what Linux tells under /sys/devices/system.
-# Usage: examples/describe-host.sh [--cores] [--reserved LIST] [--renumber] [--sys FOLDER] > host.json
+# Usage: operators/describe-host.sh [--cores] [--reserved LIST] [--renumber] [--sys FOLDER] > host.json
 #
 # With --cores the CPUs of each physical core are told, its hardware threads (SMT siblings), so that plans give whole cores; this
 # is refused where cores have different numbers of CPUs, or a CPU is offline, of which Linux does not tell its core. Where no
@@ -9,7 +9,7 @@
 # anew from 0. A machine without node folders is one node. A node that is not at 10 from itself is written as 10, since a
 # machine file has to have it, and a CPU of no node is left out; both are said. What is no machine file is not written.
 #
-# Example: examples/describe-host.sh --reserved 0-1 > host.json
+# Example: operators/describe-host.sh --reserved 0-1 > host.json
 set -euo pipefail
 
 say() { echo "describe-host.sh: $1" >&2; }

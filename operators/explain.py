@@ -18,7 +18,7 @@ from answers import LOCAL, Answers, counted, cpus_of, cut, mask_of, wrapped
 from common import Machine, print_list, run
 
 EXAMPLE = """example, from the top of the repository:
-  examples/explain.py examples/machines/two-socket.json < examples/scripts/before-and-after.answers"""
+  operators/explain.py examples/machines/two-socket.json < examples/scripts/before-and-after.answers"""
 NAMED = 12  # as many are named where there may be a thousand
 
 

@@ -4,13 +4,15 @@
 import fcntl
 import json
 import os
+import re
 import shutil
 import time
 
-from common import Refused, read_list, read_text
+from common import Refused, print_list, read_list, read_text
 
 CONFIG_BYTES = 1 << 20
-CHECKED = ("cgroup.controllers", "cpuset.cpus.effective", "cpuset.mems.effective")  # what numarun compares at its start
+FILES = ("cpuset.cpus", "cpuset.mems")  # what a group requests
+EFFECTIVE = ("cpuset.cpus.effective", "cpuset.mems.effective")  # what numarun compares at its start
 PATIENCE = 5  # seconds that the run of an agent that was killed has to end
 
 
@@ -94,8 +96,8 @@ class Tree:
         os.makedirs(self.links, exist_ok=True)
         for name in os.listdir(self.links):
             self.unlink(name)
-        for name in CHECKED:
-            self.set_link(os.path.join(self.folder, name), os.path.join(self.root, name))
+        self.set_link(os.path.join(self.folder, "cgroup.controllers"), os.path.join(self.root, "cgroup.controllers"))
+        self.last = {}  # what was read of a file, and its set
 
     @staticmethod
     def locked(folder):
@@ -150,18 +152,64 @@ class Tree:
             raise Absent(f"{path}: no cpuset.cpus in it")
         return found
 
-    def listed(self, path):
-        """The CPUs that a group requests; none where it was never written, or can't be read."""
+    def read(self, path, file):
+        """A file of a group, or nothing."""
         try:
-            return read_list(read_text(os.path.join(path, "cpuset.cpus"), 1 << 16), path)
+            return read_text(os.path.join(path, file), 1 << 16).strip()
         except Refused:
-            return set()
+            return None
+
+    def set_of(self, path, file):
+        """The set in a file of a group; none where it was never written, and nothing where it can't be read."""
+        text = self.read(path, file)
+        before, found = self.last.get((path, file), (None, None))
+        if text != before:
+            try:
+                found = None if text is None else frozenset(read_list(text, path))
+            except Refused:
+                found = None
+            self.last[path, file] = text, found
+        return found
+
+    def forget(self, path):
+        for file in (*FILES, *EFFECTIVE):
+            self.last.pop((path, file), None)
+
+    def listed(self, path):
+        """The CPUs that a group requests."""
+        return self.set_of(path, "cpuset.cpus") or frozenset()
+
+    def memory(self, path):
+        """The nodes that a group requests."""
+        return self.set_of(path, "cpuset.mems")
+
+    def effective(self, path, which=0):
+        """The CPUs, or the nodes, that a group has in effect."""
+        return self.set_of(path, EFFECTIVE[which])
+
+    def limit(self, path):
+        """The quota and the period that a group has; nothing where it has none."""
+        found = re.fullmatch(r"([1-9][0-9]{0,17}) ([1-9][0-9]{0,17})", self.read(path, "cpu.max") or "")
+        return found and (int(found[1]), int(found[2]))
+
+    def populated(self, path):
+        """Whether there is a process in a group or below it."""
+        return bool(re.search(r"^populated 1$", self.read(path, "cgroup.events") or "", re.M))
+
+    def show(self, which, members):
+        """Leaves what numarun compares with the machine file, where the kernel tells it: of the root what the machine file has of it."""
+        path = os.path.join(self.folder, EFFECTIVE[which])
+        if os.path.lexists(path):
+            os.unlink(path)
+        if self.effective(self.root, which) is not None:
+            with open(path, "w") as file:
+                file.write(print_list(members, empty="") + "\n")
 
 
 class NoTree:
     """Stands for a tree where nothing is to be written: each group is there, and requests nothing."""
 
-    folder, locks = None, []
+    root, folder, locks = None, None, []
 
     def link(self, name, path):
         return None
@@ -176,4 +224,19 @@ class NoTree:
         return 0
 
     def listed(self, path):
-        return set()
+        return frozenset()
+
+    def memory(self, path):
+        return None
+
+    def effective(self, path, which=0):
+        return None
+
+    def limit(self, path):
+        return None
+
+    def populated(self, path):
+        return False
+
+    def forget(self, path):
+        return None

@@ -1,0 +1,172 @@
+#!/usr/bin/env bash
+# Installs numarun and its scripts below a folder, or takes away what it installed there, or makes a Debian package of them.
+# Usage: operators/install.sh [--uninstall] PREFIX
+#        operators/install.sh --deb FOLDER
+#
+# PREFIX/bin has numarun and the scripts: numarun-agent, numarun-draw-plan, numarun-dry-run, numarun-explain,
+# numarun-hook, numarun-describe-host, numarun-describe-hwloc. PREFIX/lib/systemd/system has a unit for the agent, which is not
+# enabled. PREFIX/share has the man page and docs/formats.md. The program is the one
+# that PROGRAM in the environment names, or the proved one of this checkout, from (cd crates/numarun && rt run -- --version).
+# Nothing but the unit names PREFIX, so that the rest may be moved. To install again is to bring it up to date: what the last
+# time installed, and this time does not, is taken away. PREFIX/lib/numarun/installed is the list of all that was installed,
+# with the folders that were made for it, which are taken away again where nothing else is in them.
+#
+# --deb makes FOLDER/numarun_VERSION_ARCHITECTURE.deb by dpkg-deb, with the same below /usr, and the folder /etc/numarun. It is
+# installed by dpkg -i and taken away by dpkg -r. DEBFULLNAME and DEBEMAIL name who made it.
+#
+# Example: operators/install.sh /usr/local
+#          operators/install.sh --deb . && dpkg -i numarun_*.deb
+set -euo pipefail
+export LC_ALL=C
+top=$(cd "$(dirname "$(realpath "$0")")/.." && pwd)
+modules=(common answers demands events groups homes mending newcomers pauses plans records release room sight slices taken waiters)
+modules=("${modules[@]/%/.py}")
+scripts=(agent.py draw-plan.py dry-run.py explain.py hook.py describe-host.sh describe-hwloc.py)
+
+say() { echo "install.sh: $1" >&2; }
+fail() { say "$1"; exit 1; }
+uninstall='' deb='' prefix=''
+case ${1:-} in
+    -h | --help) sed -n '2,/^set/{/^set/d;s/^# \{0,1\}//;p}' "$0"; exit 0 ;;
+    --uninstall) uninstall=yes; shift ;;
+    --deb) deb=yes; shift ;;
+    -*) say "$1: no such option (see --help)"; exit 2 ;;
+esac
+[ $# = 1 ] && [ -n "$1" ] || { say "usage: install.sh [--uninstall] PREFIX, or install.sh --deb FOLDER"; exit 2; }
+prefix=$1
+list=$prefix/lib/numarun/installed
+unit=lib/systemd/system/numarun-agent.service
+
+# Takes away what is named below PREFIX, files before their folders.
+take_away() {
+    local name
+    sort -r | while read -r name; do
+        case /$name in
+            / | //* | */../* | */./* | */.. | */.) fail "$list: $name is no name of what is installed" ;;
+            */)
+                [ ! -d "$prefix/${name}__pycache__" ] || rmdir --ignore-fail-on-non-empty "$prefix/${name}__pycache__"
+                [ ! -d "$prefix/$name" ] || rmdir --ignore-fail-on-non-empty "$prefix/$name"
+                ;;
+            *.py) rm -f "$prefix/$name" "$prefix/lib/numarun/__pycache__/$(basename "$name" .py)".*.pyc ;;
+            *) rm -f "$prefix/$name" ;;
+        esac
+    done
+}
+
+# Makes a folder below PREFIX and those that it is in, and lists what was not there.
+folder() {
+    local part name=
+    for part in ${1//\// }; do
+        name+=$part/
+        if [ ! -d "$prefix/$name" ]; then
+            mkdir "$prefix/$name"
+            made+="$name"$'\n'
+        fi
+    done
+}
+
+# Puts one file in its place at once, so that what runs keeps its own: put MODE FROM TO, TO below PREFIX.
+put() {
+    folder "$(dirname "$3")"
+    cp "$2" "$prefix/$3.new"
+    chmod "$1" "$prefix/$3.new"
+    mv -f "$prefix/$3.new" "$prefix/$3"
+    made+="$3"$'\n'
+}
+
+put_all() {
+    local name script
+    put 755 "$program" bin/numarun
+    for name in "${modules[@]}"; do
+        put 644 "$top/operators/$name" "lib/numarun/$name"
+    done
+    for script in "${scripts[@]}"; do
+        put 755 "$top/operators/$script" "lib/numarun/$script"
+        ln -sfn "../lib/numarun/$script" "$prefix/bin/numarun-${script%.*}"
+        made+="bin/numarun-${script%.*}"$'\n'
+    done
+    put 644 "$top/operators/numarun-agent.service" "$unit"
+    put 644 "$top/docs/numarun.1" share/man/man1/numarun.1
+    put 644 "$top/docs/formats.md" share/doc/numarun/formats.md
+}
+
+# Names the agent in the unit by its whole path, as systemd wants it where PREFIX is a folder of one's own.
+name_agent() {
+    local path=${1//\\/\\\\}
+    path=${path//\"/\\\"} path=${path//%/%%}
+    UNIT_PATH=$path awk '/^ExecStart=/ { sub(/^ExecStart=[^ ]*/, ""); print "ExecStart=\"" ENVIRON["UNIT_PATH"] "\"" $0; next } { print }' \
+        "$top/operators/numarun-agent.service" > "$prefix/$unit.new"
+    mv -f "$prefix/$unit.new" "$prefix/$unit"
+}
+
+# Makes the package of what stands below $stage/usr.
+pack() {
+    local version architecture size document=$stage/usr/share/doc/numarun
+    version=$("$program" --version | awk 'NR == 1 {print $NF}')
+    [[ $version =~ ^[0-9][0-9a-z.+~]*$ ]] || fail "$program --version: no version of a package"
+    architecture=$(dpkg --print-architecture)
+    mkdir -p "$stage/DEBIAN" "$stage/etc/numarun"
+    gzip -9n "$stage/usr/share/man/man1/numarun.1"
+    printf 'numarun (%s) unstable; urgency=low\n\n  * The program, its scripts and its pages.\n\n -- %s  %s\n' "$version" "$maintainer" \
+        "$(date -u -R -d "@${SOURCE_DATE_EPOCH:-$(stat -c %Y "$program")}")" | gzip -9n > "$document/changelog.gz"
+    printf 'Format: https://www.debian.org/doc/packaging-manuals/copyright-format/1.0/\n\nFiles: *\nCopyright: %s\nLicense: see the sources\n' \
+        "$maintainer" > "$document/copyright"
+    size=$(du -k -s "$stage/usr" | cut -f 1)
+    cat > "$stage/DEBIAN/control" <<CONTROL
+Package: numarun
+Version: $version
+Architecture: $architecture
+Maintainer: $maintainer
+Installed-Size: $size
+Depends: python3 (>= 3.9), libc6
+Section: admin
+Priority: optional
+Description: exclusive CPUs for containers on NUMA hosts
+ A plan for all live containers is optimal, of the least total distance to
+ their memory and, among those, by the fewest CPUs that change hands. It
+ comes with a certificate that a small checker accepts or refuses. An agent
+ keeps the control groups of crun's and podman's containers by such plans.
+CONTROL
+    (cd "$stage" && find usr -type f -print0 | sort -z | xargs -0 md5sum > DEBIAN/md5sums)
+    chmod -R u+w,go-w "$stage"
+    dpkg-deb --root-owner-group --build "$stage" "$1/numarun_${version}_$architecture.deb" > /dev/null || fail "$1: no package can be made there"
+    echo "$1/numarun_${version}_$architecture.deb is made; dpkg -i installs it"
+}
+
+if [ -n "$uninstall" ]; then
+    [ -f "$list" ] || fail "$list: no such file: nothing is installed there"
+    named=$(cat "$list")
+    take_away <<< "$named"
+    [ ! -e /run/numarun/taken.json ] || say "the groups have what the agent gave them; operators/agent.py --release --cgroup /sys/fs/cgroup gives it back"
+    exit 0
+fi
+
+program=${PROGRAM:-$top/crates/numarun/out/numarun}
+[ -f "$program" ] && [ -x "$program" ] ||
+    fail "$program: no program: build it by (cd crates/numarun && rt run -- --version), or name it in PROGRAM"
+if [ -n "$deb" ]; then
+    command -v dpkg-deb > /dev/null || fail "dpkg-deb: not there"
+    folder=$prefix maintainer=${DEBFULLNAME:-numarun} maintainer="$maintainer <${DEBEMAIL:-numarun@localhost}>"
+    [ -d "$folder" ] || fail "$folder: no folder"
+    stage=$(mktemp -d)
+    trap 'rm -rf "$stage"' EXIT
+    chmod 755 "$stage"
+    umask 022
+    prefix=$stage/usr made=
+    mkdir "$prefix"
+    put_all
+    name_agent /usr/bin/numarun-agent
+    pack "$folder"
+    exit 0
+fi
+before=
+[ ! -f "$list" ] || before=$(cat "$list")
+mkdir -p "$prefix"
+made=lib/numarun/installed$'\n'
+folder lib/numarun
+put_all
+name_agent "$(realpath "$prefix")/bin/numarun-agent"
+comm -23 <(grep -v '/$' <<< "$before" | sort) <(sort <<< "$made") | take_away
+{ printf %s "$made"; grep '/$' <<< "$before" || true; } | sort -u > "$list.new"
+mv -f "$list.new" "$list"
+echo "numarun and its scripts are in $prefix/bin; operators/install.sh --uninstall $prefix takes them away"

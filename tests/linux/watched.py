@@ -1,0 +1,99 @@
+"""What the parts of the agent share: bundles in a folder that it watches, groups with a process each, and an agent that runs."""
+
+import json
+import os
+import shutil
+import signal
+import subprocess
+import time
+
+import tree
+from tree import ROOT, read, write
+
+FOLDER, WORK, OUT = "/tmp/watched", "/run/numarun", "/tmp/watched-out"
+SECONDS = 600  # that the agent has for what it is waited for; an emulated machine may have little of a processor
+
+
+def begin():
+    """An empty tree, and nothing watched."""
+    tree.clear()
+    write(f"{ROOT}/cgroup.subtree_control", "+cpuset +cpu")
+    shutil.rmtree(FOLDER, ignore_errors=True)
+    shutil.rmtree(WORK, ignore_errors=True)
+    os.makedirs(FOLDER)
+    open(OUT, "w").close()
+
+
+def group(path):
+    """Makes a group below the root, with the controllers of its parents, and a process in it; its process."""
+    at = ROOT
+    for name in path.split("/"):
+        write(f"{at}/cgroup.subtree_control", "+cpuset +cpu")
+        at = f"{at}/{name}"
+        os.makedirs(at, exist_ok=True)
+    return tree.spawn(at)
+
+
+def config(path, quota=None, **section):
+    told = {**({"quota": quota * 100000, "period": 100000} if quota else {}), **section}
+    return {"ociVersion": "1.0.2", "process": {"cwd": "/", "args": ["sh"]}, "root": {"path": "rootfs"},
+            "linux": {"cgroupsPath": f"/{path}", "resources": {"cpu": told}}}
+
+
+def come(name, path, quota=None, **section):
+    """A container with a process, in this group; its process."""
+    pid = group(path)
+    configure(name, path, quota, **section)
+    return pid
+
+
+def configure(name, path, quota=None, **section):
+    """Its config, of which nobody sees a part."""
+    os.makedirs(f"{FOLDER}/{name}", exist_ok=True)
+    with open(f"{FOLDER}/.config", "w") as file:
+        json.dump(config(path, quota, **section), file)
+    os.rename(f"{FOLDER}/.config", f"{FOLDER}/{name}/config.json")
+
+
+def go(name, path):
+    shutil.rmtree(f"{FOLDER}/{name}")
+    tree.remove(f"{ROOT}/{path}")
+
+
+def words(*more):
+    return ["/bin/python3", "-SEB", f"{tree.REPOSITORY}/operators/agent.py", tree.MACHINE, "--program", tree.PROGRAM, "--cgroup", ROOT,
+            "--work", WORK, *more]
+
+
+class Agent:
+    """An agent that runs; what it says is in a file."""
+
+    def __init__(self, *more, watch=FOLDER):
+        self.process = subprocess.Popen(words("--watch", watch, "--pause", "0.1", *more), stdin=subprocess.DEVNULL, stdout=open(OUT, "a"),
+                                        stderr=subprocess.STDOUT)
+
+    def until(self, holds, what):
+        """Waits until this holds."""
+        end = time.monotonic() + SECONDS
+        while not holds():
+            assert self.process.poll() is None and time.monotonic() < end, (what, lines()[-30:])
+            time.sleep(0.05)
+
+    def says(self, beginning):
+        self.until(lambda: any(line.startswith(beginning) for line in lines()), beginning)
+
+    def end(self):
+        self.process.send_signal(signal.SIGTERM)
+        self.process.wait()
+
+
+def lines():
+    return [line.split(" ", 1)[-1] for line in read(OUT).splitlines()]
+
+
+def requested(path):
+    return read(f"{ROOT}/{path}/cpuset.cpus")
+
+
+def runs_on(pid, cpus):
+    return tree.allowed(pid) == cpus

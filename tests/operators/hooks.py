@@ -1,0 +1,127 @@
+"""Tries hook.py: a runtime tells of a container by it, and it waits until the agent has answered."""
+
+import json
+import os
+import signal
+import subprocess
+import sys
+import time
+
+from sites import Open, Site
+from trial import TOP, check, command, end, refuses, told, words_and_help
+
+
+def state_of(site, name, **more):
+    return json.dumps({"ociVersion": "1.0.2", "id": name, "status": "created", "bundle": site.at("bundles", name), **more})
+
+
+def prepared(site, name, *more, **section):
+    """A bundle that nobody was told of."""
+    site.come(name, *more, **section)
+    os.makedirs(site.at("bundles"), exist_ok=True)
+    os.rename(site.at("g", name), site.at("bundles", name))
+
+
+def begun(site, name, *words):
+    """The hook, which waits."""
+    process = subprocess.Popen(command("hook.py", site.at("told"), "--agent", site.at("work/hooks"), *words), cwd=TOP,
+                               stdin=subprocess.PIPE, stdout=subprocess.PIPE, stderr=subprocess.PIPE)
+    process.stdin.write(state_of(site, name).encode())
+    process.stdin.close()
+    return process
+
+
+def ended(process):
+    out, err = process.stdout.read().decode(), process.stderr.read().decode()
+    return process.wait(), out, err
+
+
+def hooked():
+    """A runtime's hook tells of a container, in the group that its process is in, and that it is gone."""
+    site = Site()
+    site.come("a", 2, group=False)
+    os.mkdir(site.at("told"))
+    os.rename(site.at("g/a"), site.at("bundle"))
+    state = {"ociVersion": "1.0.2", "id": "a", "status": "created", "pid": os.getpid(), "bundle": site.at("bundle")}
+    check("a container", told("hook.py", site.at("told"), text=json.dumps(state)), (0, "", ""))
+    group = json.load(open(site.at("told/a/status")))["cgroup-path"] if os.path.exists(site.at("told/a/status")) else "/numarun/a"
+    site.make_group("a", group=group.strip("/"))
+    status, lines = site.run("--watch", site.at("told"))
+    check("it is told", (status, lines[0]), (0, f"create a {site.at('told/a')}"))
+    first = os.stat(site.at("told/a")).st_ino
+    check("told again", told("hook.py", site.at("told"), text=json.dumps({**state, "status": "creating"})), (0, "", ""))
+    check("as another one", os.stat(site.at("told/a")).st_ino != first, True)
+    for _ in range(2):
+        check("gone", told("hook.py", site.at("told"), text=json.dumps({**state, "status": "stopped", "pid": 0})), (0, "", ""))
+        check("nothing is left", os.listdir(site.at("told")), [])
+    for text, says in [("", "not JSON"), ("[]", "no JSON object"), ("{}", "no id in the"), (json.dumps({**state, "id": "../x"}), "'../x' is no id"),
+                       (json.dumps({**state, "bundle": "/no"}), "/no/config.json: no such file"), ("x" * (1 << 20 | 1), "more than 1048576 bytes")]:
+        refuses("hook.py", site.at("told"), text=text, says=says)
+    words_and_help("hook.py", "/usr/local/bin/numarun-hook")
+    for name in ("a\0b", "\ud800", "a b", "", ".x", "x" * 65, "ä"):
+        refuses("hook.py", site.at("told"), text=json.dumps({**state, "id": name}), says="is no id")
+    for bundle in ("/a\0b", "/\ud800"):
+        refuses("hook.py", site.at("told"), text=json.dumps({**state, "bundle": bundle}), says="is no bundle")
+    check("a wait without time", told("hook.py", site.at("told"), "--wait", "0", text=json.dumps(state))[0], 2)
+
+
+def answered():
+    """A container begins when it has its CPUs, or when it is told that there is no place."""
+    site = Site()
+    agent = Open(site, "--watch", site.at("told"), "--pause", "20")
+    while not os.path.exists(site.at("work/machine.json")):
+        time.sleep(0.05)
+    prepared(site, "a", 2)
+    began = time.monotonic()
+    check("its CPUs", ended(begun(site, "a", "--wait", "15")), (0, "pinned a 1-2\n", ""))
+    check("at once, and not at the next look", (time.monotonic() - began < 10, site.has("a")), (True, ["1-2"]))
+    prepared(site, "s")
+    check("one that asks for none", ended(begun(site, "s", "--wait", "15"))[1], "shared s 0,3-7\n")
+    prepared(site, "big", 7)
+    status, out, err = ended(begun(site, "big", "--wait", "15"))
+    check("no place", (status, out, err), (0, "no place waits big: short demand 9 allowed 1-7: it runs on the pool until there is room\n", ""))
+    check("it is told", os.path.isdir(site.at("told/big")), True)
+    prepared(site, "must", 7)
+    status, out, err = ended(begun(site, "must", "--wait", "15", "--need-place"))
+    check("no place for one that needs it", (status, out, err.startswith("hook.py: no place waits must"), os.path.exists(site.at("told/must"))), (1, "", True, False))
+    prepared(site, "bad", linux={"resources": {"cpu": {"mems": "7"}}})
+    status, out, err = ended(begun(site, "bad", "--wait", "15"))
+    check("refused", (status, out, err), (1, "", f"hook.py: refused E65 NoSuchNode 7: bad {site.at('told/bad')}\n"))
+    check("it ends", agent.end()[0], 1)
+
+
+def in_time():
+    """Where nobody answers, the container is not told of, and its runtime does not start it; an agent that comes meanwhile answers."""
+    site = Site()
+    prepared(site, "a", 2)
+    status, out, err = ended(begun(site, "a", "--wait", "0.5"))
+    says = f"hook.py: {site.at('work/hooks')}: the agent has not answered of a in 0.5 s\n"
+    check("no agent", (status, out, err, os.listdir(site.at("told"))), (1, "", says, []))
+    hook = begun(site, "a", "--wait", "60")
+    time.sleep(0.3)
+    agent = Open(site, "--watch", site.at("told"))
+    check("one that comes", ended(hook), (0, "pinned a 1-2\n", ""))
+    agent.process.kill()
+    agent.process.wait()
+    prepared(site, "b", 1)
+    hook = begun(site, "b", "--wait", "60")
+    time.sleep(0.3)
+    agent = Open(site, "--watch", site.at("told"))
+    check("and one that comes back", ended(hook), (0, "pinned b 3\n", ""))
+    agent.end(signal.SIGTERM)
+
+
+def far_away():
+    """A folder of the agent's with a longer name than a socket may have."""
+    site = Site()
+    prepared(site, "a", 2)
+    work = site.at("w" * 120)
+    agent = Open(site, "--watch", site.at("told"), "--work", work)
+    check("a long name", ended(begun(site, "a", "--agent", f"{work}/hooks", "--wait", "60")), (0, "pinned a 1-2\n", ""))
+    agent.end(signal.SIGTERM)
+
+
+for part in (hooked, answered, in_time, far_away):
+    if not sys.argv[1:] or part.__name__ in sys.argv[1:]:
+        part()
+end("hook.py")

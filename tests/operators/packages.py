@@ -1,0 +1,156 @@
+"""Tries the unit and the package: that nothing ends the agent for good on a fresh boot, that the page's commands come to an agent that
+starts, and a package that is made, installed in a root folder of its own, tried and removed. No service manager is started."""
+
+import configparser
+import json
+import os
+import re
+import shlex
+import shutil
+import subprocess
+import sys
+import time
+
+from sites import IN_FOLDERS, Open, Site
+from trial import OPERATORS, check, end, refuses, told
+
+PROGRAM = os.path.abspath(os.environ["PROGRAM"])
+SCRATCH = os.environ["SCRATCH"]
+HERE = {**os.environ, "PROGRAM": PROGRAM}
+WORDS = ["--online", "/sys/devices/system/cpu/online", "--program", IN_FOLDERS, "--pause", "0.1"]
+
+
+def unit_of(prefix):
+    unit = configparser.ConfigParser(interpolation=None, strict=False)
+    unit.optionxform = str
+    unit.read(os.path.join(prefix, "lib", "systemd", "system", "numarun-agent.service"))
+    return unit
+
+
+def installed(name):
+    prefix = os.path.join(SCRATCH, name)
+    check("installed", told("install.sh", prefix, env=HERE)[0], 0)
+    return prefix
+
+
+def begun(unit, options, **paths):
+    """The words of ExecStart as systemd makes them, with other paths in place of the system's."""
+    line = unit["Service"]["ExecStart"].replace("$OPTIONS", options).replace("%%", "%")
+    return [paths.get(word, word) for word in shlex.split(line)]
+
+
+def goes_on():
+    """Whatever ends it, it is started again; its program is named by its path, and OPTIONS adds to what is told."""
+    prefix = installed("of one's own")
+    unit = unit_of(prefix)
+    check("started again", (unit["Service"]["Restart"], unit["Unit"]["StartLimitIntervalSec"], int(unit["Service"]["RestartSec"]) >= 5), ("always", "0", True))
+    check("no limit stands where it counts for nothing", "StartLimitIntervalSec" in unit["Service"], False)
+    site = Site()
+    for group in ("system.slice", "more.slice"):
+        site.make_group(None, group=group)
+    site.come("a", 2)
+    os.mkdir(site.at("second"))
+    site.come("b", 1)
+    os.rename(site.at("g/b"), site.at("second/b"))
+    paths = {"/etc/numarun/machine.json": site.at("machine.json"), "/sys/fs/cgroup": site.at("root"), "/run/crun": site.at("g")}
+    words = begun(unit, f"--watch {site.at('second')} --rest more.slice", **paths)
+    check("its path", words[0], os.path.join(prefix, "bin", "numarun-agent"))
+    ran = subprocess.run([*words, *WORDS, "--online", site.at("online"), "--work", site.at("work"), "--rounds", "1"], capture_output=True)
+    check("OPTIONS adds", (ran.returncode, site.has("a", "b"), site.file("system.slice"), site.file("more.slice")), (0, ["1-2", "3"], "0,4-7", "0,4-7"))
+    check("taken away", told("install.sh", "--uninstall", prefix)[0], 0)
+    status, out, _ = told("agent.py", "--release", "--cgroup", site.at("root"), "--work", site.at("work"))
+    check("and given back", (status, site.file("system.slice"), site.has("a")), (0, "", [""]))
+
+
+def by_the_page():
+    """What the page says to type makes a machine file with cores, and an agent that starts by it before any container ran."""
+    prefix, etc, bin = installed("prefix"), os.path.join(SCRATCH, "etc"), os.path.join(SCRATCH, "bin")
+    page = open(os.path.join(OPERATORS, "README.md")).read()
+    block = next(block for block in re.findall(r"```sh\n(.*?)```", page, re.S) if "systemctl enable" in block)
+    os.makedirs(bin)
+    with open(os.path.join(bin, "systemctl"), "w") as file:
+        file.write(f'#!/bin/sh\necho "$@" > {shlex.quote(os.path.join(etc, "systemctl"))}\n')
+    os.chmod(os.path.join(bin, "systemctl"), 0o755)
+    here = {**os.environ, "PATH": f"{bin}:{prefix}/bin:{os.environ['PATH']}"}
+    status, _, err = told("describe-host.sh", "--cores")
+    if status:
+        print(f"the commands of the page: passed over: {err.strip()}")
+        return
+    ran = subprocess.run(["sh", "-e", "-c", block.replace("/etc", etc)], capture_output=True, env=here)
+    check("the commands of the page", (ran.returncode, ran.stderr.decode()), (0, ""))
+    machine = os.path.join(etc, "numarun", "machine.json")
+    check("a machine file with cores", "cores" in json.load(open(machine)), True)
+    check("the unit", open(os.path.join(etc, "systemctl")).read(), "enable --now numarun-agent\n")
+    site = Site()
+    words = begun(unit_of(prefix), "", **{"/etc/numarun/machine.json": machine, "/sys/fs/cgroup": site.at("root"), "/run/crun": site.at("no-such")})
+    ran = subprocess.run([*words, *WORDS, "--work", site.at("work"), "--rounds", "3"], capture_output=True)
+    check("it starts", (ran.returncode, ran.stdout.decode().count("refused"), ran.stderr), (0, 0, b""))
+
+
+def before_any_container():
+    """The watched folder comes with the first container."""
+    site = Site()
+    os.rename(site.at("g"), site.at("later"))
+    agent = Open(site)
+    time.sleep(0.5)
+    check("it goes on", agent.process.poll(), None)
+    os.rename(site.at("later"), site.at("g"))
+    site.come("a", 2)
+    lines = agent.until("done")
+    check("the first one", (site.has("a"), [line for line in lines if "look" in line], agent.end()[0]), (["1-2"], [], 0))
+
+
+def dpkg(root, *words):
+    ran = subprocess.run(["dpkg", f"--root={root}", "--force-depends", "--log=/dev/null", *words], capture_output=True)
+    return ran.returncode, ran.stderr.decode() if ran.returncode else ""
+
+
+def package():
+    if not shutil.which("dpkg-deb"):
+        print("the package: passed over, as there is no dpkg-deb")
+        return
+    refuses("install.sh", "--deb", "/dev/null", says="/dev/null: no folder", env=HERE)
+    folder, root = os.path.join(SCRATCH, "packages"), os.path.join(SCRATCH, "root of its own")
+    os.makedirs(folder)
+    status, out, err = told("install.sh", "--deb", folder, env=HERE)
+    made = os.listdir(folder)
+    check("a package", (status, len(made), bool(re.fullmatch(r"numarun_[0-9][^_]*_[a-z0-9]+\.deb", made[0])), err), (0, 1, True, ""))
+    path = os.path.join(folder, made[0])
+    names = subprocess.run(["dpkg-deb", "--fsys-tarfile", path], capture_output=True).stdout
+    owners = set(subprocess.run(["tar", "-tv", "--numeric-owner"], input=names, capture_output=True).stdout.decode().split("\n")[0].split()[1:2])
+    check("root's files", owners, {"0/0"})
+    if os.geteuid() == 0:
+        tried(root, path)
+    else:
+        print("the package: installing it is passed over, as this is not root")
+    if shutil.which("lintian"):
+        ran = subprocess.run(["lintian", path], capture_output=True)
+        print("the package: what lintian says, which fails nothing here:", sorted(set(ran.stdout.decode().split("\n"))))
+    else:
+        print("the package: passed over, as there is none: lintian")
+
+
+def tried(root, path):
+    for name in ("info", "updates", "triggers"):
+        os.makedirs(os.path.join(root, "var/lib/dpkg", name))
+    for name in ("status", "available"):
+        open(os.path.join(root, "var/lib/dpkg", name), "w").close()
+    check("dpkg -i", dpkg(root, "-i", path), (0, ""))
+    for name in ("numarun", "numarun-agent", "numarun-hook", "numarun-dry-run"):
+        ran = subprocess.run([os.path.join(root, "usr/bin", name), "--help"], capture_output=True, cwd="/")
+        check(f"{name} --help", (ran.returncode, bool(ran.stdout)), (0, True))
+    check("its unit", unit_of(os.path.join(root, "usr"))["Service"]["ExecStart"].split()[0], '"/usr/bin/numarun-agent"')
+    check("its folders", os.path.isdir(os.path.join(root, "etc/numarun")), True)
+    check("what dpkg says of the files", dpkg(root, "--verify", "numarun"), (0, ""))
+    for place, _, names in os.walk(os.path.join(root, "usr", "lib", "numarun")):
+        if place.endswith("__pycache__"):
+            shutil.rmtree(place)
+    check("dpkg -r", dpkg(root, "-r", "numarun"), (0, ""))
+    left = [os.path.join(place, name) for place, _, names in os.walk(root) for name in names if "/var/lib/dpkg" not in place]
+    check("nothing is left", left, [])
+
+
+for part in (goes_on, by_the_page, before_any_container, package):
+    if not sys.argv[1:] or part.__name__ in sys.argv[1:]:
+        part()
+end("the unit and the package")
