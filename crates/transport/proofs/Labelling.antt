@@ -330,3 +330,7 @@ labelled_all ws s a b d k arcs from upto h n = record {
     | inr after ↦ n.each i after lt off
   ];
 }
+
+-- all arcs from the first one on were labelled
+pub labelled_from_first : (ws : ℕ → ℕ → Option ℕ) (s : Assignment) (a d : SearchTree) (k : ℕ) (arcs : List Arc) (upto : ℕ) → HasLabelledFrom ws s k a d arcs 0 upto → HasLabelled ws s k a d arcs upto
+labelled_from_first ws s a d k arcs upto n = record { better = n.better; free_end = n.free_end; each = λ i lt off. n.each i (omega arith) lt off }

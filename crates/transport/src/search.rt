@@ -1,5 +1,5 @@
 //! The search for an augmenting path: rows are scanned, duals are updated, until a class with a free CPU is at slack 0.
-ghost use Rattle.std.specs.Prelude.{◌≡◌, ℕ, ◌+◌, ◌-◌, ◌/◌, ◌<◌, ◌≤◌, ◌^◌, ◌⊎◌, Option, None, [], ◌∷◌, length, OnOk, IfOk, true, IfSome, IfNone, MatchOption};
+ghost use Rattle.std.specs.Prelude.{◌≡◌, ℕ, ◌+◌, ◌-◌, ◌/◌, ◌<◌, ◌≤◌, ◌^◌, ◌⊎◌, Option, None, [], ◌∷◌, length, OnOk, IfOk, IsTrue, true, IfSome, IfNone, MatchOption};
 ghost use Rattle.transport.specs.Numbers.{number, IsRaised, IsEachOnce};
 ghost use Rattle.transport.specs.Searches.{top};
 ghost use Rattle.transport.specs.States.{IsRunning, HasTaken, IsSameRoot, HasScanned, IsStruck, AreStruckOrSame};
@@ -173,8 +173,82 @@ fn take_if_nearest(
 
 /// Scans the rows that are reached, from a place in their order on, from which the free end was sought.
 ///
-/// A class that is at slack 0 from one of them is passed over for the others, as those taken up are: none is nearer.
+/// Which classes are passed over is noted only from the first row on that has arcs in blocks.
 pub(crate) fn scan_rows(
+    instance: &Instance,
+    assignment: &Assignment,
+    arcs_by_kind: &mut [SortedArcs],
+    taken_firsts: &IdSet,
+    tree: &mut SearchTree,
+    from: usize,
+) -> Result<(), AllocError>
+    requires running { IsRunning (weights instance.now) assignment.now tree.old }
+    requires rows { length instance.now.rows.now ≡ length assignment.now.values.items }
+    requires arcs_by_kind { AreSortedArcs instance.now assignment.now.residual.items arcs_by_kind.old }
+    requires from { from ≤ length tree.old.reached_rows.order.items }
+    requires scanned { HasScanned (weights instance.now) assignment.now tree.old from }
+    requires taken { AreTakenFirsts instance.now.firsts taken_firsts.now tree.old.tree_classes }
+    requires sought { AreSought instance.now assignment.now tree.old arcs_by_kind.old from (length tree.old.reached_rows.order.items) }
+    ensures arcs_by_kind { OnOk result (AreSortedArcs instance.now assignment.now.residual.items arcs_by_kind.new) }
+    ensures better { OnOk result (IsBetter (weights instance.now) assignment.now tree.old tree.new) }
+    ensures scanned { OnOk result (HasScanned (weights instance.now) assignment.now tree.new (length tree.new.reached_rows.order.items)) }
+{
+    for at in from..tree.reached_rows.order.len() {
+        let row = tree.reached_rows.order[at];
+        let kind = instance.kinds[row];
+        let seen = scan_by_arcs(instance, assignment, &mut arcs_by_kind[kind], tree, row)?;
+        if !seen {
+            return scan_by_blocks(instance, assignment, arcs_by_kind, taken_firsts, tree, at);
+        }
+    }
+    Ok(())
+}
+
+/// Scans a row from which the free end was sought, if none of its arcs is in a block; says whether it did.
+#[inline(never)]
+fn scan_by_arcs(
+    instance: &Instance,
+    assignment: &Assignment,
+    sorted_arcs: &mut SortedArcs,
+    tree: &mut SearchTree,
+    row: usize,
+) -> Result<bool, AllocError>
+    requires running { IsRunning (weights instance.now) assignment.now tree.old }
+    requires row { row < length instance.now.rows.now }
+    requires there { is_reached tree.old.reached_rows row ≡ true }
+    requires sorted_arcs { IsSortedArcs (weights instance.now row) (offers_of instance.now.rows.now row) instance.now.firsts assignment.now.residual.items sorted_arcs.old }
+    requires sought { IsSought (weights instance.now row) assignment.now.values.items row tree.old.labels.free_end sorted_arcs.old }
+    ensures sorted_arcs { OnOk result (IsSortedArcs (weights instance.now row) (offers_of instance.now.rows.now row) instance.now.firsts assignment.now.residual.items sorted_arcs.new) }
+    ensures better { OnOk result (IsBetter (weights instance.now) assignment.now tree.old tree.new) }
+    ensures seen { IfOk result (λ seen. IsTrue seen → IsSeen (weights instance.now) assignment.now row tree.old tree.new) }
+    ensures further { OnOk result (IsFurther sorted_arcs.old sorted_arcs.new) }
+    ensures free_end { OnOk result (tree.new.labels.free_end ≡ tree.old.labels.free_end) }
+{
+    if sorted_arcs.blocks.len() > 0 {
+        return Ok(false);
+    }
+    let limit = limit_of(&assignment.values, tree.labels.free_end, row);
+    sorted_arcs.block_arcs(&instance.firsts, limit)?;
+    if sorted_arcs.blocks.len() > 0 {
+        return Ok(false);
+    }
+    let scan = scan_of(assignment, &tree.reached_rows, row, limit);
+    label_others(
+        assignment,
+        &sorted_arcs.arcs,
+        0,
+        sorted_arcs.cursor,
+        tree,
+        scan,
+    )?;
+    Ok(true)
+}
+
+/// The same, where some of these rows have arcs in blocks.
+///
+/// A class that is at slack 0 from one of them is passed over for the others, as those taken up are: none is nearer.
+#[inline(never)]
+fn scan_by_blocks(
     instance: &Instance,
     assignment: &Assignment,
     arcs_by_kind: &mut [SortedArcs],
@@ -394,6 +468,8 @@ fn pass_if_at_0(passed: &mut IdSet, cpu: u16, assignment: &Assignment, arc: Arc,
 }
 
 /// Labels the class of a row's arc, unless it lies past the free end.
+// Inlined, since it is the whole of the loops that call it, and a call takes as long.
+#[inline(always)]
 fn label_arc(
     assignment: &Assignment,
     tree: &mut SearchTree,
