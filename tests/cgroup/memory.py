@@ -25,7 +25,7 @@ def ran(found, number):
     root, log = folder + "/root", folder + "/log"
     for group in ("", "/numarun", "/numarun/web") if found else ("", "/numarun"):
         os.mkdir(root + group)
-        for name in FILES:
+        for name in FILES if group.endswith("/web") else FILES[-1:]:
             pathlib.Path(f"{root}{group}/{name}").write_text("")
     open(log, "w").close()
     refusals.truncate(0)
