@@ -33,7 +33,7 @@ from events import Folders, Input, Online
 from groups import NoTree, Tree
 from homes import Homes, housed
 from mending import Mending
-from newcomers import Newcomers
+from newcomers import MOMENTARY, Newcomers
 from pauses import Pauses
 from plans import Plans
 from records import KEPT, Records
@@ -155,13 +155,17 @@ class Agent:
             if not quiet:
                 self.say(f"update {name} {bundle}")
             self.pauses.forget("update")
-        elif answer.startswith("refused E50"):
+        elif answer.startswith(MOMENTARY):
             self.unmade = True
             self.pauses.begin("update")
-            self.say_once(("container", name), f"failed {self.failed}")
+            self.say_once(("container", name), self.failure(name, bundle, answer))
         else:
             self.say_once(("container", name), f"{answer}: {name} {one.seen.told.bundle}: it stays as it was")
         return answer == "ok"
+
+    def failure(self, name, bundle, answer):
+        """Why a command was refused that may be taken at another time."""
+        return f"failed {self.failed}" if answer.startswith("refused E50") else f"absent {name}: {bundle}: can't be read"
 
     def requested(self, name):
         """The CPUs and the nodes that a container requests, as numarun has it."""
@@ -214,10 +218,10 @@ class Agent:
             self.say_notes()
         there = self.sight.all_there(told)
         gone = [name for name, one in self.held.items() if name not in there or not self.sight.is_same(one, there[name])]
-        for name in gone:
-            self.end(name)
+        ended = [(name, self.end(name)) for name in gone]
         followed = [name for name, one in self.held.items() if self.follow(name, one, there[name])]
         taken = self.newcomers.take_all({name: seen for name, seen in there.items() if name not in self.held})
+        self.mending.undo_late_writes(ended)
         if self.ending:
             self.due = True
             return
@@ -228,7 +232,7 @@ class Agent:
             self.pauses.forget("plan")
         if self.unmade and self.pauses.over("update"):
             self.due, self.unmade = True, False
-        if self.due and self.pauses.over("plan") and not self.newcomers.blocking & there.keys():
+        if self.due and self.pauses.over("plan") and not self.newcomers.are_held_up(there):
             self.plans.arrange()
         self.mending.compare()
 
@@ -248,7 +252,7 @@ class Agent:
             self.open.pop((kind, name), None)
         self.sight.absent.pop(name, None)
         self.newcomers.refused.pop(name, None)
-        self.newcomers.blocking.discard(name)
+        self.newcomers.blocking.pop(name, None)
         self.pauses.forget(("container", name))
 
     # Those that end, and those whose configs or limits are others.
@@ -262,6 +266,7 @@ class Agent:
         if self.taken and one.seen.told.folder is not None:
             self.taken.forget(one.seen.path)
         self.say(f"ended {name}")
+        return one
 
     def untell(self, name):
         self.tree.unlink(name)

@@ -1,7 +1,10 @@
 """What others wrote into the groups: it is written over again, and what a group has not in effect of what it was given is said."""
 
+import os
+
 from common import print_list
 from groups import Absent
+from taken import put
 
 
 class Mending:
@@ -20,6 +23,22 @@ class Mending:
                 self.agent.open.pop(("drift", name), None)
             if name in self.agent.held:
                 self.compare_effective(name, one)
+
+    def undo_late_writes(self, ended):
+        """A group that came in the place of an ended one may have been written for that one, as the end of a hand-over. Where it can't be
+        told of yet, it is brought to the reserved CPUs, for the others are given to whoever asks."""
+        paths = {one.seen.path for one in self.agent.held.values()}
+        for name, one in ended:
+            path = one.seen.path
+            if one.cpus and path not in paths and self.came_anew(one) and self.tree.listed(path) == one.cpus:
+                why = put(os.path.join(path, "cpuset.cpus"), print_list(self.agent.reserved))
+                self.agent.say(f"failed {why}" if why else f"late {name}: {print_list(one.cpus)} of the one before: on the reserved CPUs until it is told")
+
+    def came_anew(self, one):
+        try:
+            return self.tree.inode(one.seen.path) != one.seen.inode
+        except Absent:
+            return False
 
     def nodes_drifted(self, one, nodes):
         """Whether somebody wrote nodes that are no limit which the container follows."""

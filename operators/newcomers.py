@@ -7,6 +7,7 @@ from common import print_list
 from demands import fewer, shared, staying, stays
 
 ID = re.compile(r"[A-Za-z0-9_.+-]{1,64}")
+MOMENTARY = ("refused E50", "refused E111")  # a write, or a config that can't be read: another time it may do
 
 
 class Held:
@@ -29,7 +30,7 @@ class Newcomers:
     def __init__(self, agent):
         self.agent, self.tree, self.machine = agent, agent.tree, agent.machine
         self.refused = {}      # what was seen of one that was refused, by the id
-        self.blocking = set()  # who runs on CPUs, and can't be adopted
+        self.blocking = {}     # what was seen of one that runs on CPUs, and can't be adopted, by the id
         self.users = None      # how many groups request each CPU, in a look
 
     def take_all(self, come):
@@ -120,13 +121,25 @@ class Newcomers:
         return answer
 
     def refuse(self, name, seen, answer, cpus):
-        """A container that is not told. One that runs on CPUs where nothing can be written lets no plan be safe."""
+        """A container that is not told. One that runs on CPUs and can't be told of at the moment lets no plan be safe."""
         self.tree.unlink(name)
-        if answer.startswith("refused E50"):
-            self.agent.say_once(("container", name), f"failed {self.agent.failed}")
+        if answer.startswith(MOMENTARY):
+            self.agent.say_once(("container", name), self.agent.failure(name, seen.told.bundle, answer))
             self.agent.pauses.begin(("container", name))
-            self.blocking.update([name] if cpus else [])
+            self.blocking.update({name: seen} if cpus else {})
             return False
         self.refused[name] = seen
         self.agent.say_once(("container", name), f"{answer}: {name} {seen.told.bundle}")
         return False
+
+    def are_held_up(self, there):
+        """Whether somebody runs on CPUs who can't be told of at the moment, so that a plan might give these to others; says who."""
+        runs, taken = self.agent.sight.runs, self.agent.taken.groups if self.agent.taken else {}
+        blocking = [seen for name, seen in self.blocking.items() if name in there or runs(seen.path, seen.inode)]
+        known = {seen.path for seen in [*blocking, *there.values()]}
+        unseen = [path for path, (inode, _, _, system) in taken.items() if not system and path not in known and runs(path, inode)]
+        for of in [of for of in self.agent.open if of[0] == "unseen" and of[1] not in unseen]:
+            del self.agent.open[of]
+        for path in unseen:
+            self.agent.say_once(("unseen", path), f"unseen {path}: it was told of before, and there is a process in it: no plan until it is told")
+        return bool(blocking or unseen)

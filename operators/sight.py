@@ -111,8 +111,12 @@ class Sight:
 
     def lives(self, one):
         """Whether there is a process in the container's group."""
+        return self.runs(one.seen.path, one.seen.inode)
+
+    def runs(self, path, inode):
+        """Whether there is a process in this very group."""
         try:
-            return self.tree.root is not None and self.tree.inode(one.seen.path) == one.seen.inode and self.tree.populated(one.seen.path)
+            return self.tree.root is not None and self.tree.inode(path) == inode and self.tree.populated(path)
         except Absent:
             return False
 

@@ -2,11 +2,12 @@
 into a group, and a machine that is another one than the machine file's."""
 
 import os
+import signal
 import sys
 import time
 from types import SimpleNamespace
 
-from sites import QUOTA, Open, Site
+from sites import IN_FOLDERS, QUOTA, Open, Site
 from trial import OPERATORS, check, end
 
 sys.path.insert(0, OPERATORS)
@@ -193,6 +194,79 @@ def unseen():
     agent.end()
 
 
+def unseen_at_the_start():
+    """The same where no agent ran meanwhile: nobody gets what one has who can't be seen, and there is no plan until he can, or has ended."""
+    site = Site()
+    site.come("a", 2)
+    site.put("numarun/a", "cgroup.events", "populated 1")
+    site.run()
+    os.rename(site.at("g/a"), site.at("away"))
+    site.come("b", "1-2")
+    agent = Open(site)
+    line = agent.until("unseen")[-1]
+    check("a is not seen", (line.split(":")[0], site.has("a", "b")), (f"unseen {site.at('root/numarun/a')}", ["1-2", "0"]))
+    os.rename(site.at("away"), site.at("g/a"))
+    lines = agent.until("done")
+    check("it is seen", (of(lines, "adopt"), agent.end()), ([f"adopt a {site.at('g/a')} 1-2"], (0, [])))
+    check("b has what it names, and a others", site.has("a", "b"), ["3-4", "1-2"])
+
+
+PROXY = """#!/usr/bin/env python3
+import os, subprocess, sys, time
+run = subprocess.Popen([os.environ["IN_FOLDERS"], *sys.argv[1:]], stdin=subprocess.PIPE, close_fds=False)
+for line in sys.stdin.buffer:
+    hides = line.startswith(b"adopt a ") and not os.path.exists("{away}.once")
+    if hides:
+        open("{away}.once", "w").close()
+        os.rename("{folder}", "{away}")
+    run.stdin.write(line)
+    run.stdin.flush()
+    if hides:
+        time.sleep(0.5)
+        os.rename("{away}", "{folder}")
+run.stdin.close()
+run.wait()
+"""
+
+
+def away_for_a_moment():
+    """The folder is away just when numarun reads a config: it is told of again, and nobody gets what it has meanwhile."""
+    site = Site()
+    site.come("a", 2)
+    site.run()
+    site.come("b", "1-2")
+    with open(site.at("proxy"), "w") as file:
+        file.write(PROXY.format(folder=site.at("g"), away=site.at("away")))
+    os.chmod(site.at("proxy"), 0o755)
+    os.environ["IN_FOLDERS"] = IN_FOLDERS
+    status, lines = site.run("--program", site.at("proxy"), rounds="8")
+    check("said and told again", (status, of(lines, "absent", "adopt")), (0, [f"absent a: {site.at('g/a')}: can't be read", f"adopt a {site.at('g/a')} 1-2"]))
+    check("once it is told", site.has("a", "b"), ["3-4", "1-2"])
+    log = site.log()
+    check("nobody had it meanwhile", [line for line in log[:log.index("b 1-2")] if line.startswith("a ")][-1:], ["a 0"])
+
+
+def late_write():
+    """A container came back under its id while a plan was handed over, so that its new group was written for the one before, and its config
+    is not there yet: nobody shares these CPUs with it."""
+    site = Site()
+    site.come("a", 2)
+    agent = Open(site)
+    agent.until("done")
+    agent.process.send_signal(signal.SIGSTOP)
+    site.make_group("new", "1-2\n")  # beside the old one, which has another inode so
+    site.go("a")
+    os.rename(site.at("root/numarun/new"), site.at("root/numarun/a"))
+    site.come("b", "1-2")
+    agent.process.send_signal(signal.SIGCONT)
+    lines = agent.until("done")
+    check("the new group", (site.has("a", "b"), of(lines, "late")), (["0", "1-2"], ["late a: 1-2 of the one before: on the reserved CPUs until it is told"]))
+    site.come("a", 1, group=False)
+    agent.until("adopt a")
+    agent.until("done")
+    check("once it is told", (count(site, "a"), site.has("b"), agent.end()[0]), (1, ["1-2"], 0))
+
+
 def no_work():
     """A group that can't be written asks for no plan again and again, and is tried at growing pauses."""
     site = Site()
@@ -360,8 +434,8 @@ def bounded_certificates():
     check("three, and what is no certificate", (len(kept), kept[:2], kept[-1]), (4, ["2020-01-04T00-00-00.000Z.certificate", "2020-01-05T00-00-00.000Z.certificate"], "mine"))
 
 
-PARTS = (gone_cpus, among_several, limits, kept_place, other_configs, updated_groups, unseen, no_work, drift, machines, no_reserved, one_group,
-         least_room, not_yet, bounded_certificates)
+PARTS = (gone_cpus, among_several, limits, kept_place, other_configs, updated_groups, unseen, unseen_at_the_start, away_for_a_moment, late_write, no_work, drift, machines, no_reserved,
+         one_group, least_room, not_yet, bounded_certificates)
 for part in PARTS:
     if not sys.argv[1:] or part.__name__ in sys.argv[1:]:
         part()

@@ -19,7 +19,7 @@ from tree import CPU, RESERVED, ROOT, TOP, read, say, write
 
 FOLDER, WORK, OUT = "/tmp/g", "/run/numarun", "/tmp/agent-out"
 MOMENTS = 8
-PATIENCE = 8  # seconds that a container stays at least, unless it has had its CPUs before
+PATIENCE = 30  # seconds that a container stays at least, unless it has had its CPUs before
 NEAR = 3      # seconds in which a line of the agent is of the same matter as a look
 PINNED, SHARED = ["p0", "p1", "p2"], ["s0", "s1"]
 
