@@ -206,14 +206,15 @@ class Inputs:
             self.machines[-1].expected += answer
 
 
-def rows_of(size, head, held):
-    """A text of so many bytes: 100 rows, each offered a CPU of its own at 10, and the last one another at 11. The ids make it so long."""
+def rows_of(size, head, count, held):
+    """A text of so many bytes: rows that are each offered a CPU of their own at 10, and the last one another at 11. The ids make it so
+    long."""
     for other in (9, 99):
-        wide = [10] * 100
+        wide = [10] * count
         while True:
             ids = [f"r{k}".ljust(width, "x") for k, width in enumerate(wide)]
             rows = [f"row {id} 1 10:{k + 1000}" for k, id in enumerate(ids)]
-            holds = [f"hold {id} {k + 1000} 10" for k, id in enumerate(ids)] + ["total 1000"] if held else []
+            holds = [f"hold {id} {k + 1000} 10" for k, id in enumerate(ids)] + [f"total {10 * count}"] if held else []
             text = "\n".join([head, *rows[:-1], f"{rows[-1]} 11:{other}", *holds, "end\n"])
             if len(text) == size:
                 return text.encode()
@@ -226,12 +227,12 @@ def sized(tried):
     """Inputs of each size, with their answers: whole, and without the last byte where that is needed."""
     matrix = [" ".join("10" if j == i else "20" for j in range(90)) for i in range(90)]
     for size in SIZES:
-        text = rows_of(size, "numarun-certificate 1", True)
+        text = rows_of(size, "numarun-certificate 1", 100, True)
         compare(f"check of {size} bytes", tried.check(text), ["plan total 1000"])
         compare(f"check of {size} bytes, cut", tried.check(text[:-2]), ["refused E77 BadText 203"])
-        text = rows_of(size, "numarun-problem 1", False)
-        compare(f"solve of {size} bytes", tried.checked_solution(text), ["plan total 1000"])
-        compare(f"solve of {size} bytes, cut", answered([tried.program, "solve"], text[:-2]), ["refused E77 BadText 102"])
+        text = rows_of(size, "numarun-problem 1", 200, False)
+        compare(f"solve of {size} bytes", tried.checked_solution(text), ["plan total 2000"])
+        compare(f"solve of {size} bytes, cut", answered([tried.program, "solve"], text[:-2]), ["refused E77 BadText 202"])
         table = b"SLIT" + (8144).to_bytes(4, "little") + bytes(28) + (90).to_bytes(8, "little")
         table += b"".join(bytes(10 if j == i else 20 for j in range(90)) for i in range(90))
         table = (table[:9] + bytes([-sum(table) % 256]) + table[10:]).ljust(size, b"\7")
