@@ -259,9 +259,8 @@ def sentence(found):
     def lines(title, key="definitions"):
         return f"{found[title]['sources'].size(found[title][key]):,}"
 
-    yield f"How little one must believe for that: a yes of the checker rests on {lines('check_plan')} lines of definitions, and"
-    yield f"{lines('check_plan', 'views')} more say what its types hold. The headline of one rebalance rests on {lines('rebalance')} and"
-    yield f"{lines('rebalance', 'views')}, and that over all runs on {lines('each_rebalance')}. [docs/reading.md](docs/reading.md) lists them."
+    yield f"To trust a yes of the checker, read {lines('check_plan')} lines of definitions, and {lines('check_plan', 'views')} on its types. The headline of a rebalance takes"
+    yield f"{lines('rebalance')} and {lines('rebalance', 'views')}. Its clause has no condition, so it holds after any commands. [docs/reading.md](docs/reading.md) lists them."
 
 
 SAYS = {
