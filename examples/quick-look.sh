@@ -3,7 +3,7 @@
 #
 # Builds the program without its proofs and runs a script over a machine file, which are a machine of two sockets and
 # examples/scripts/plans where none are named. Wants the Rattle kit alone. For the proved program, which takes a quarter
-# to half an hour once: (cd crates/numarun && rt run -- --version), which leaves it as crates/numarun/out/numarun.
+# to half an hour once: bash build.sh, which leaves it as crates/numarun/out/numarun.
 #
 # Each command is printed, behind `>`, before its answer.
 #

@@ -1,5 +1,5 @@
 #!/usr/bin/env bash
-# Counts the CPUs that change hands when a container or a CPU goes or comes, on the recorded machines and on a made one: run.sh [MIXES]
+# Counts the CPUs that change hands when a container or a CPU goes or comes, on the five machines of examples/machines and on a made one: run.sh [MIXES]
 # PROGRAM in the environment is run in place of the one that this builds.
 set -eu
 here=$(cd "$(dirname "$0")" && pwd)

@@ -1,5 +1,5 @@
 #!/usr/bin/env bash
-# Places the same containers on the recorded machines by numarun and by two plainer ways: run.sh [MIXES]
+# Places the same containers on the five machines of examples/machines by numarun and by two plainer ways: run.sh [MIXES]
 # PROGRAM in the environment is run in place of the one that this builds.
 set -eu
 here=$(cd "$(dirname "$0")" && pwd)

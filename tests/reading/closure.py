@@ -15,10 +15,11 @@ import sys
 TOP = pathlib.Path(__file__).resolve().parents[2]
 WORD = re.compile(r"[A-Za-z_][\w'-]*")
 HEAD = re.compile(r"^(?:(?:abbrev|unfoldable|record|data|pub) )*([A-Za-z_][\w'-]*)")
-INNER = re.compile(r"^  (?:pub )?(?:abbrev|unfoldable|record|data) ")
+INNER = re.compile(r"^ +(?:pub )?(?:abbrev|unfoldable|record|data) ")
 USE = re.compile(r"^ *(?:ghost )?use Rattle\.(\w+)\.specs\.([\w.]+?)(?:\.\{(.*)\}| as (\w+));?$")
 
-# A title, a crate, a file of src/, a function there, and its clause; a clause without a name is "".
+# A title, a crate, a file of src/, a function there, and its clauses, with those of its `requires` that are part of the claim; a
+# clause without a name is "".
 CLAUSES = [
     ("check_plan", "certificate", "checks.rt", "check_plan", "least"),
     ("check", "certificate", "checking.rt", "check", "best"),
@@ -26,9 +27,12 @@ CLAUSES = [
     ("rebalance", "node", "planning.rt", "rebalance", "headline"),
     ("each_rebalance", "node", "laws.rt", "each_rebalance", ""),
     ("scripts_serve_configs", "runtime", "laws.rt", "scripts_serve_configs", ""),
+    ("run_mirrored", "runtime", "mirrored.rt", "run_mirrored", "mirrored"),
+    ("boot_mirrored", "runtime", "booting.rt", "boot_mirrored", "site boots mirrored"),
+    ("do_pin", "cli", "pinning.rt", "do_pin", ""),
 ]
 # Of these only the pages are listed.
-LONG = {"each_rebalance", "scripts_serve_configs"}
+LONG = {"each_rebalance", "scripts_serve_configs", "do_pin"}
 
 
 def imports(lines):
@@ -53,19 +57,20 @@ class Page:
 
     def __init__(self, path):
         lines = path.read_text(encoding="utf-8").splitlines()
-        self.words, self.definitions, self.owners, name, module = imports(lines), {}, {}, None, ""
+        self.words, self.definitions, self.owners, name, modules = imports(lines), {}, {}, None, []
         for line in lines:
-            if line.startswith("module "):
-                name, module = None, line
+            indent = len(line) - len(line.lstrip())
+            if line.lstrip().startswith("module "):
+                name, modules = None, [*modules[:indent // 2], line]
                 continue
             if not line.strip() or line.lstrip().startswith("--") or line.startswith(("use ", "unfolding ")):
                 continue
-            top, inner = not line.startswith((" ", "}")), INNER.match(line)
+            top, inner = not line.startswith((" ", "}")), indent <= 2 * len(modules) and INNER.match(line)
             if top or inner:
                 name = HEAD.match(line.strip()).group(1) if HEAD.match(line.strip()) else name
-                module = module if inner else ""
+                modules = modules[:indent // 2]
             if name:
-                kept = self.definitions.setdefault(name, [module, []])
+                kept = self.definitions.setdefault(name, ["\n".join(modules), []])
                 kept[1].append(line)
                 case = re.match(r"^  ([A-Za-z_][\w'-]*) *:", line)
                 if case and re.match(r"(pub )?data ", kept[1][0]):
@@ -141,15 +146,16 @@ def type_of(page):
 
 
 def roots(crate, file, function, clause):
-    """What the words of a clause in src/ stand for."""
+    """What the words of these clauses of a function in src/ stand for."""
     path = TOP / "crates" / crate / "src" / file
     text = path.read_text(encoding="utf-8")
     at = re.search(rf"\bfn {function}\b", text)
-    start = text.find(" ".join(["ensures", *clause.split(), "{"]), at.start()) if at else -1
-    if start < 0 or "\nfn " in text[at.start():start] or "\npub fn " in text[at.start():start]:
-        sys.exit(f"{crate}/src/{file}: {function} has no clause {clause or 'without a name'}")
-    words = imports(text.splitlines())
-    named = WORD.findall(text[start:text.index("}\n", start)])
+    words, named = imports(text.splitlines()), []
+    for name in clause.split() or [""]:
+        found = re.compile(rf"\b(?:requires|ensures) {f'{name} ' if name else ''}{{").search(text, at.start()) if at else None
+        if not found or "\nfn " in text[at.start():found.start()] or "\npub fn " in text[at.start():found.start()]:
+            sys.exit(f"{crate}/src/{file}: {function} has no clause {name or 'without a name'}")
+        named += WORD.findall(text[found.start():text.index("}\n", found.start())])
     return [words[word] for word in named if word in words]
 
 
@@ -241,8 +247,8 @@ def figures(found):
     yield "|---|---|---|---|---|---|"
     for title, says in SAYS.items():
         definitions, sources = found[title]["definitions"], found[title]["sources"]
-        crate, function, clause = found[title]["clause"]
-        name = f"`{function}`, `{clause}`" if clause else f"`laws::{function}`"
+        crate, file, function, clause = found[title]["clause"]
+        name = ", ".join(f"`{word}`" for word in [f"laws::{function}" if file == "laws.rt" else function, *clause.split()])
         pages = len({place[:2] for place in definitions})
         views = sources.size(found[title]["views"]) or ""
         yield f"| {says} | {name} of `{crate}` | {len(definitions)} | {sources.size(definitions):,} | {pages} | {views} |"
@@ -253,9 +259,8 @@ def sentence(found):
     def lines(title, key="definitions"):
         return f"{found[title]['sources'].size(found[title][key]):,}"
 
-    yield f"How little one must believe for that: a yes of the checker rests on {lines('check_plan')} lines of definitions, and"
-    yield f"{lines('check_plan', 'views')} more say what its types hold. The headline of one rebalance rests on {lines('rebalance')} and"
-    yield f"{lines('rebalance', 'views')}, and that over all runs on {lines('each_rebalance')}. [docs/reading.md](docs/reading.md) lists them."
+    yield f"To trust a yes of the checker, read {lines('check_plan')} lines of definitions, and {lines('check_plan', 'views')} on its types. The headline of a rebalance takes"
+    yield f"{lines('rebalance')} and {lines('rebalance', 'views')}. Its clause has no condition, so it holds after any commands. [docs/reading.md](docs/reading.md) lists them."
 
 
 SAYS = {
@@ -265,6 +270,9 @@ SAYS = {
     "rebalance": "the headline, of one rebalance",
     "each_rebalance": "the headline, over all runs",
     "scripts_serve_configs": "the same, from a script's text and the configs' bytes",
+    "run_mirrored": "`run --cgroup`: what the tree's files are asked for, and what they then have",
+    "boot_mirrored": "that it begins so, at this root and on this machine",
+    "do_pin": "all that `run --cgroup` does, by its arguments, files and streams",
 }
 
 
@@ -344,7 +352,7 @@ def main():
         types, named = models.of(crate, file, function)
         views = sources.closure(named)[0] - definitions
         found[title] = {"definitions": definitions, "declared": declared, "kit": kit, "sources": sources, "types": types,
-                        "views": views, "clause": (crate, function, clause)}
+                        "views": views, "clause": (crate, file, function, clause)}
         sections[title] = "\n".join(listing(title, found[title], seen))
         if "--list" in sys.argv:
             for place in sorted(definitions):
