@@ -11,6 +11,7 @@ impl Unready {
     ghost use Rattle.std.specs.Prelude.{◌≡◌};
     ghost use Rattle.cli.specs.Ready.{refusal_of};
 
+    /// What is told of it.
     pub fn refusal(self) -> Refusal
         ensures { result ≡ refusal_of self }
     {

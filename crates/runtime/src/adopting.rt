@@ -27,6 +27,7 @@ fn named(list: &str) -> Result<IdSet, Refusal>
     Ok(cpus)
 }
 
+/// Answers `adopt`: the pid of a container that is taken up with the CPUs that it has, or why it is not.
 pub fn adopt<K: Kernel + Drop, B: Bundles, W: Write>(
     node: &mut Node<K>,
     bundles: &mut B,

@@ -13,24 +13,28 @@ use node::{Node, Phase, Sets};
 use std::io;
 use std::io::Write;
 
+/// Answers a command that has nothing to tell.
 pub fn put_done<W: Write>(w: &mut W) -> io::Result<()>
     ensures { Writes (W.contents w.old) (W.contents w.new) result (done_line tt) }
 {
     put(b"ok\n", w)
 }
 
+/// Answers with the pid of a process that has come to be.
 pub fn put_pid<W: Write>(pid: u32, w: &mut W) -> io::Result<()>
     ensures { Writes (W.contents w.old) (W.contents w.new) result (pid_line pid) }
 {
     put_number(b"pid ", u64::from(pid), b"\n", w)
 }
 
+/// Answers with a container's state, as its JSON text.
 pub fn put_state<W: Write>(text: &String, w: &mut W) -> io::Result<()>
     ensures { Writes (W.contents w.old) (W.contents w.new) result (state_line text.now) }
 {
     put_all(&[text.as_bytes(), b"\n".as_slice()], w)
 }
 
+/// Writes a set as a list, or `-` for the empty one.
 pub fn put_set<W: Write>(set: &IdSet, w: &mut W) -> io::Result<()>
     ensures { Writes (W.contents w.old) (W.contents w.new) result (set_text set.now) }
 {
@@ -40,6 +44,7 @@ pub fn put_set<W: Write>(set: &IdSet, w: &mut W) -> io::Result<()>
     write_list(set, w)
 }
 
+/// Writes a set behind its name.
 pub fn put_labelled<W: Write>(label: &[u8], set: &IdSet, w: &mut W) -> io::Result<()>
     ensures { Writes (W.contents w.old) (W.contents w.new) result (label.now ++ set_text set.now) }
 {
@@ -59,6 +64,7 @@ fn put_both<W: Write>(
     put_labelled(b" effective ", effective, w)
 }
 
+/// Answers with a container's CPUs and nodes: what its group requests, and what is in effect for it.
 pub fn put_sets<W: Write>(sets: &Sets, w: &mut W) -> io::Result<()>
     ensures { Writes (W.contents w.old) (W.contents w.new) result (sets_line sets.now) }
 {
@@ -82,6 +88,7 @@ fn put_entry<'a, W: Write>(id: &'a str, status: &'a str, w: &mut W) -> io::Resul
     )
 }
 
+/// Answers with the id and the status of each container.
 pub fn put_listing<K: Kernel + Drop, W: Write>(node: &Node<K>, w: &mut W) -> io::Result<()>
     ensures { Writes (W.contents w.old) (W.contents w.new) result (listing_text (listed node.now)) }
 {
@@ -91,6 +98,7 @@ pub fn put_listing<K: Kernel + Drop, W: Write>(node: &Node<K>, w: &mut W) -> io:
     put(b"end\n", w)
 }
 
+/// Answers with how far the last plan has been carried out.
 pub fn put_phase<W: Write>(phase: Phase, w: &mut W) -> io::Result<()>
     ensures { Writes (W.contents w.old) (W.contents w.new) result (phase_line phase) }
 {

@@ -11,6 +11,7 @@ use node::Node;
 use std::io;
 use std::io::Write;
 
+/// Answers `create`: the pid of the new container, or why there is none.
 pub fn create<K: Kernel + Drop, B: Bundles, W: Write>(
     node: &mut Node<K>,
     bundles: &mut B,
@@ -44,6 +45,7 @@ fn create_from<K: Kernel + Drop, W: Write>(
     }
 }
 
+/// Answers `start`: `ok`, where the container's program runs, or why it doesn't.
 pub fn start<K: Kernel + Drop, W: Write>(node: &mut Node<K>, id: &str, w: &mut W) -> io::Result<()>
     ensures { Replies (AnswersStart node.old id.now) (W.contents w.old) (W.contents w.new) result node.new }
 {
@@ -53,6 +55,7 @@ pub fn start<K: Kernel + Drop, W: Write>(node: &mut Node<K>, id: &str, w: &mut W
     }
 }
 
+/// Answers `kill`: `ok`, where the signal was sent, or why it was not.
 pub fn kill<K: Kernel + Drop, W: Write>(
     node: &mut Node<K>,
     id: &str,
@@ -67,6 +70,7 @@ pub fn kill<K: Kernel + Drop, W: Write>(
     }
 }
 
+/// Answers `delete`: `ok`, where the container is gone, or why it is not.
 pub fn delete<K: Kernel + Drop, W: Write>(node: &mut Node<K>, id: &str, w: &mut W) -> io::Result<()>
     ensures { Replies (AnswersDelete node.old id.now) (W.contents w.old) (W.contents w.new) result node.new }
 {

@@ -9,6 +9,7 @@ use node::Node;
 use std::io;
 use std::io::Write;
 
+/// Answers `fork`: the pid of the child, or why there is none.
 pub fn fork<K: Kernel + Drop, W: Write>(node: &mut Node<K>, pid: u32, w: &mut W) -> io::Result<()>
     ensures { Replies (AnswersFork node.old pid) (W.contents w.old) (W.contents w.new) result node.new }
 {
@@ -18,6 +19,7 @@ pub fn fork<K: Kernel + Drop, W: Write>(node: &mut Node<K>, pid: u32, w: &mut W)
     }
 }
 
+/// Answers `exit`: `ok`, where the process has ended, or why it has not.
 pub fn exit<K: Kernel + Drop, W: Write>(node: &mut Node<K>, pid: u32, w: &mut W) -> io::Result<()>
     ensures { Replies (AnswersExit node.old pid) (W.contents w.old) (W.contents w.new) result node.new }
 {
@@ -27,6 +29,7 @@ pub fn exit<K: Kernel + Drop, W: Write>(node: &mut Node<K>, pid: u32, w: &mut W)
     }
 }
 
+/// Answers `offline`: `ok`, where the CPU is gone, or why it is not.
 pub fn offline<K: Kernel + Drop, W: Write>(
     node: &mut Node<K>,
     cpu: u32,
@@ -40,6 +43,7 @@ pub fn offline<K: Kernel + Drop, W: Write>(
     }
 }
 
+/// Answers `online`: `ok`, where the CPU is back, or why it is not.
 pub fn online<K: Kernel + Drop, W: Write>(node: &mut Node<K>, cpu: u32, w: &mut W) -> io::Result<()>
     ensures { Replies (AnswersOnline node.old cpu) (W.contents w.old) (W.contents w.new) result node.new }
 {

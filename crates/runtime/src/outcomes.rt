@@ -159,6 +159,7 @@ pub fn put_outcome<K: Kernel + Drop, W: Write>(
     put_last(outcome, &node.pool(), w)
 }
 
+/// Answers whether a hand-over has a write left.
 pub fn put_progress<W: Write>(progress: Progress, w: &mut W) -> io::Result<()>
     ensures { Writes (W.contents w.old) (W.contents w.new) result (progress_line progress) }
 {

@@ -10,6 +10,7 @@ use node::Node;
 use std::io;
 use std::io::Write;
 
+/// Answers `rebalance`: the plan that was carried out or the shortage, or why there is neither.
 pub fn rebalance<K: Kernel + Drop, W: Write>(node: &mut Node<K>, w: &mut W) -> io::Result<()>
     ensures { Replies (AnswersRebalance node.old) (W.contents w.old) (W.contents w.new) result node.new }
 {
@@ -19,6 +20,7 @@ pub fn rebalance<K: Kernel + Drop, W: Write>(node: &mut Node<K>, w: &mut W) -> i
     }
 }
 
+/// Answers `begin`: the plan whose hand-over begins or the shortage, or why there is neither.
 pub fn begin<K: Kernel + Drop, W: Write>(node: &mut Node<K>, w: &mut W) -> io::Result<()>
     ensures { Replies (AnswersBegin node.old) (W.contents w.old) (W.contents w.new) result node.new }
 {
@@ -28,6 +30,7 @@ pub fn begin<K: Kernel + Drop, W: Write>(node: &mut Node<K>, w: &mut W) -> io::R
     }
 }
 
+/// Answers `step`: whether a write is left behind this one, or why it was not done.
 pub fn step<K: Kernel + Drop, W: Write>(node: &mut Node<K>, w: &mut W) -> io::Result<()>
     ensures { Replies (AnswersStep node.old) (W.contents w.old) (W.contents w.new) result node.new }
 {
@@ -37,6 +40,7 @@ pub fn step<K: Kernel + Drop, W: Write>(node: &mut Node<K>, w: &mut W) -> io::Re
     }
 }
 
+/// Answers `certificate`: the text of the last one, or that there is none.
 pub fn certificate<K: Kernel + Drop, W: Write>(node: &Node<K>, w: &mut W) -> io::Result<()>
     ensures { Replies (AnswersCertificate node.now) (W.contents w.old) (W.contents w.new) result node.now }
 {

@@ -9,6 +9,7 @@ use node::Node;
 use std::io;
 use std::io::Write;
 
+/// Answers `state`: the state of a container, or why there is none.
 pub fn state<K: Kernel + Drop, W: Write>(node: &Node<K>, id: &str, w: &mut W) -> io::Result<()>
     ensures { Replies (AnswersState node.now id.now) (W.contents w.old) (W.contents w.new) result node.now }
 {
@@ -18,12 +19,14 @@ pub fn state<K: Kernel + Drop, W: Write>(node: &Node<K>, id: &str, w: &mut W) ->
     }
 }
 
+/// Answers `list`: all containers.
 pub fn list<K: Kernel + Drop, W: Write>(node: &Node<K>, w: &mut W) -> io::Result<()>
     ensures { Replies (AnswersList node.now) (W.contents w.old) (W.contents w.new) result node.now }
 {
     put_listing(node, w)
 }
 
+/// Answers `sets`: the CPUs and nodes of a container, or why there are none.
 pub fn sets<K: Kernel + Drop, W: Write>(node: &Node<K>, id: &str, w: &mut W) -> io::Result<()>
     ensures { Replies (AnswersSets node.now id.now) (W.contents w.old) (W.contents w.new) result node.now }
 {
@@ -33,6 +36,7 @@ pub fn sets<K: Kernel + Drop, W: Write>(node: &Node<K>, id: &str, w: &mut W) -> 
     }
 }
 
+/// Answers `phase`: how far the last plan has been carried out.
 pub fn phase<K: Kernel + Drop, W: Write>(node: &Node<K>, w: &mut W) -> io::Result<()>
     ensures { Replies (AnswersPhase node.now) (W.contents w.old) (W.contents w.new) result node.now }
 {

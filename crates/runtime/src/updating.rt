@@ -11,6 +11,7 @@ use node::Node;
 use std::io;
 use std::io::Write;
 
+/// Answers `update`: `ok`, where the container asks for what its bundle says now, or why it doesn't.
 pub fn update<K: Kernel + Drop, B: Bundles, W: Write>(
     node: &mut Node<K>,
     bundles: &mut B,

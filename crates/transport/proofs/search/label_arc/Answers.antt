@@ -1,12 +1,11 @@
-use Rattle.std.proofs.Common.{ℕ, ◌+◌, ◌-◌, Option, refl, arith}
-use Rattle.std.proofs.lemmas.Result.{on_ok_weaker}
+use Rattle.std.proofs.Common.{◌≡◌, ℕ, ◌+◌, ◌-◌, Option, refl, arith}
 use Rattle.transport.specs.Numbers.{number}
 use Rattle.transport.specs.ReachedRows.{row_at}
 use Rattle.transport.specs.Scans.{CanImprove, CanLabelArc}
 use Rattle.transport.proofs.Numbers.{read_number}
 use Rattle.transport.proofs.Labelling.{arc_labelled, can_improve}
 use Rattle.transport.proofs.search.label_arc.Goals as goal
-use Rattle.transport.proofs.search.label_arc.Goals.{Else-reach-scan}
+use Rattle.transport.proofs.search.label_arc.Goals.{After-index, Else-reach-scan}
 
 is_due :
     (c : Else-reach-scan) (ws : ℕ → ℕ → Option ℕ) (can : CanLabelArc ws c.args.assignment.now c.args.tree.now c.args.scan.row c.args.arc)
@@ -20,7 +19,18 @@ is_due c ws can =
 pub improve-requires : goal.improve-requires
 improve-requires c = (_, _, is_due (goal.at.improve-requires c).Else-reach-scan c.requires.can.0 c.requires.can.1)
 
-pub returns : goal.returns
-returns c = on_ok_weaker c.improve.result
-    (λ n ws can. arc_labelled ws _ _ _ _ c.args.arc can refl refl (n _ _ (is_due (goal.at.returns c).Else-reach-scan ws can)))
-    c.improve.ensures
+pub returns-clause-labelled : goal.returns-clause-labelled
+returns-clause-labelled c = λ ws can. arc_labelled ws _ _ _ _ c.args.arc can refl refl (c.in_ok-improve.ensures _ _ (is_due (goal.at.returns-clause-labelled c).Else-reach-scan ws can))
+
+-- the arc's weight with its price, as it was worked out
+is_reach :
+    (c : After-index) → c.args.arc.weight + c.index.result.now ≡ c.args.arc.weight + number c.args.assignment.now.prices.items c.args.arc.class
+is_reach c =
+    let can = c.requires.can.1 in
+    omega (arith, read_number _ _ _ _ (can.running.fit.class _ _ _ can.weighs) refl c.index.ensures)
+
+pub returns-clause-reach : goal.returns-clause-reach
+returns-clause-reach c = is_reach (goal.at.returns-clause-reach c).After-index
+
+pub returns-then-reach-scan-clause-reach : goal.returns-then-reach-scan-clause-reach
+returns-then-reach-scan-clause-reach c = is_reach (goal.at.returns-then-reach-scan-clause-reach c).After-index

@@ -12,10 +12,10 @@ loop-cpu-preserved c =
     let has = c.loop-cpu.invariant.within _ c.in-Some.ensures.first.member in
     let labelled = c.loop-cpu.invariant.labelled in
     let arc =
-    c.in_ok-label_arc.ensures ws (block_arc ws s _ _ c.args.scan.row _ c.args.block.now _ _ c.in-Some.cpu c.class_of.result c.requires.block has.0 c.requires.passed has.1 c.class_of.ensures c.requires.there labelled) in
+    c.in_ok-reach.ensures.labelled ws (block_arc ws s _ _ c.args.scan.row _ c.args.block.now _ _ c.in-Some.cpu c.class_of.result c.requires.block has.0 c.requires.passed has.1 c.class_of.ensures c.requires.there labelled) in
     record {
       labelled = block_more ws s _ _ _ c.args.scan.row _ c.args.block.now _ _ c.in-Some.cpu c.class_of.result labelled c.in-Some.ensures.left c.class_of.ensures arc;
       within = λ cpu on. c.loop-cpu.invariant.within cpu (left_within _ _ _ cpu c.in-Some.ensures.left on);
       passed = passed_more ws s _ _ _ _ _ c.in-Some.cpu c.args.scan.row c.class_of.result c.args.block.now.weight c.loop-cpu.invariant.passed
-          (rw (← c.requires.scan.row) c.pass_if_at_0.ensures) c.class_of.ensures arc;
+          (rw (← c.requires.scan.row) (rw (← c.in_ok-reach.ensures.reach) c.pass_if_at_0.ensures)) c.class_of.ensures arc;
     }

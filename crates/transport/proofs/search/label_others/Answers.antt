@@ -25,7 +25,7 @@ loop-at-preserved c =
             labelled = λ ws can.
                 let h = c.loop-at.invariant.labelled ws can in
                 others_more ws _ _ _ _ _ c.args.arcs.now _ _ h
-                (w.in_ok-label_arc.ensures ws (arc_can ws _ _ _ _ c.args.arcs.now _ _ _ can h c.loop-at-test.true (mark c ws false can w.if-not-index.true)));
+                (w.in_ok-label_arc.ensures.labelled ws (arc_can ws _ _ _ _ c.args.arcs.now _ _ _ can h c.loop-at-test.true (mark c ws false can w.if-not-index.true)));
           })
       | else-not-index w ↦
           rw w.tree-is
