@@ -73,7 +73,18 @@ impl<R: Files + Alloc + Clock + Eprint> HostFiles<'_, R> {
         if self.is_gone(path) {
             Ok(())
         } else {
+            self.note_plain(path, &error);
             Err(error)
+        }
+    }
+
+    /// Says what it means that a folder has no file by which the groups below get controllers.
+    fn note_plain(&self, path: &str, error: &io::Error) {
+        if error.kind() == ErrorKind::NotFound && path.ends_with(CONTROLS) {
+            let _ = eprintln!(self.rt;
+                "note: {}: each folder of a cgroup v2 tree has this file",
+                Shown(path)
+            );
         }
     }
 
