@@ -3,7 +3,7 @@
 // set), and a folder that is removed takes its files with it. The call whose number, from 1, stands in FOLDERS_FAIL fails with
 // the number in FOLDERS_ERRNO; the process ends behind the call in FOLDERS_KILL; the write in FOLDERS_SHORT takes one byte alone;
 // and with FOLDERS_BUSY set no folder is removed, since it is busy. Each call is a line of the file FOLDERS_LOG: a file that is
-// opened to be written (open) or to be read (read), or is not there (absent), a write, a folder.
+// opened to be written (open) or to be read (read), or is not there (absent), a write, a folder, a lock of FOLDERS_ROOT itself.
 #define _GNU_SOURCE
 #include <dlfcn.h>
 #include <errno.h>
@@ -13,6 +13,7 @@
 #include <stdio.h>
 #include <stdlib.h>
 #include <string.h>
+#include <sys/file.h>
 #include <sys/stat.h>
 #include <unistd.h>
 
@@ -96,6 +97,16 @@ int rmdir(const char *path) {
     }
     int answer = real(path);
     done("rmdir", path, "", 0, answer ? errno : 0);
+    return answer;
+}
+
+int flock(int file, int how) {
+    static int (*real)(int, int);
+    if (!real) real = dlsym(RTLD_NEXT, "flock");
+    const char *root = getenv("FOLDERS_ROOT");
+    if (fails("lock", root, "", 0)) return -1;
+    int answer = real(file, how);
+    done("lock", root, "", 0, answer ? errno : 0);
     return answer;
 }
 

@@ -71,7 +71,8 @@ TABLE = [
     ("a run before", folder(numarun=None), (), (1, "refused E50 KernelFault\n", "error: ROOT/numarun: File exists (os error 17)\n")),
     ("a run before, adopted", folder(numarun=None), ("--adopt",), NONE),
     ("no file to pass controllers on", lambda root: os.mkdir(root), (),
-     (1, "refused E50 KernelFault\n", "error: ROOT/cgroup.subtree_control: No such file or directory (os error 2)\n")),
+     (1, "refused E50 KernelFault\n", "error: ROOT/cgroup.subtree_control: No such file or directory (os error 2)\n"
+      "note: ROOT/cgroup.subtree_control: each folder of a cgroup v2 tree has this file\n")),
     ("a folder of links", lambda root: os.mkdir(root), ("--adopt",), NONE),
 ]
 for name, make, words, wanted in TABLE:

@@ -120,12 +120,22 @@ fn play_below<F: GroupFiles + Drop, S: Sited, B: Bundles + Drop, R: Read, W: Wri
     run_mirrored(&mut runner, script, w, most_reads)
 }
 
-/// The note beside a refusal of the root, where it can't be read.
+/// What standard error says of a root that another program has.
+const TAKEN: &str = "another program has it";
+
+/// The note beside a refusal of the root, where it can't be read or another program has it.
 fn note_of(root: &str, why: Unrooted) -> Option<Note<'_>>
     ensures { note_text result ≡ root_note root.now why }
 {
     match why {
-        Unrooted::Unread(fault) => Some(Note { name: root, fault }),
+        Unrooted::Unread(fault) => Some(Note {
+            name: root,
+            reason: fault.reason(),
+        }),
+        Unrooted::Taken => Some(Note {
+            name: root,
+            reason: TAKEN,
+        }),
         _ => None,
     }
 }
