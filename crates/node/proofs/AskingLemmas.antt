@@ -420,7 +420,7 @@ module _ (n : NodeState) (h : IsNode n) where
       ∙ any_alike (λ e. nat_lt cpu CPU_LIMIT && is_open n.kernel n.machine (core_of n.machine cpu) e) (is_allowed n.kernel n.machine cpu) (may_have cpu) es
 
   -- the lowest CPUs of cores that one of some containers may have are the lowest of their cores
-  open_lowest : (core : ℕ) (es : List Container) → list_any (is_open n.kernel n.machine core) es ≡ true → IsPresent n.machine core × (core_of n.machine core ≡ core)
+  pub open_lowest : (core : ℕ) (es : List Container) → list_any (is_open n.kernel n.machine core) es ≡ true → IsPresent n.machine core × (core_of n.machine core ≡ core)
   open_lowest core [] none = absurd (false≢true none)
   open_lowest core (e ∷ es) some = by (is_open n.kernel n.machine core e) refl (open_lowest core es) some where
     by : (b : Bool) → is_open n.kernel n.machine core e ≡ b

@@ -15,7 +15,6 @@ pub mod Updates
 pub mod Calls
 pub mod OpenCause
 pub mod Leaves
-pub mod Decides
 pub mod Best
 pub mod Entries
 pub mod Rebalance

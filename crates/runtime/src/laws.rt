@@ -33,7 +33,8 @@ pub fn rebalances_are_told()
 }
 
 /// What a script plans for the containers of its bundles, from a node of no container on: the headline holds of each line that
-/// asks for a rebalance, and after a plan each container that lives has in effect what the bytes of its bundle's config ask for.
+/// asks for a rebalance, and after a plan each container that lives has in effect what the bytes of its bundle's config ask for,
+/// as the lines before it read them last.
 pub fn scripts_serve_configs()
     ensures { ScriptsServeConfigs }
 {
