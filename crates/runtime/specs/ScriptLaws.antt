@@ -199,7 +199,7 @@ Run-append : (old mid new : NodeState) (first later : List Event) → Run old fi
 Run-append old mid new [] later e run = subst (λ n. Run n later new) e run
 Run-append old mid new (event ∷ first) later (next, step, rest) run = (next, step, Run-append next mid new first later rest run)
 
-is_call : (told : Told) (old : NodeState) (command : Asked) (text : List ℕ) (new : NodeState) → AnswersBy told old command text new
+is_call : (told : Told) (old : NodeState) (command : Asked) (text : List ℕ) (new : NodeState) → AnswersBy (IsFound told) old command text new
     → IsCall told command old text new ⊎ IsNoCall told command old text new
 is_call told old (ask.create id bundle) text new (inl h) = inr (inl h.0, h.1)
 is_call told old (ask.create id bundle) text new (inr (None, found, h)) = inr (inr (h.0, found), h.1)
@@ -235,7 +235,7 @@ commands_are_calls old new command text h = is_call old.told old.node command te
 abbrev AreOne : (List Event → Type 0) → NodeState → NodeState → Type 0
 AreOne AreMade old new = (events : List Event) × AreMade events × (length events ≤ 1) × Run old events new
 
-by_command : (told : Told) (old : NodeState) (command : Asked) (text : List ℕ) (new : NodeState) → AnswersBy told old command text new
+by_command : (told : Told) (old : NodeState) (command : Asked) (text : List ℕ) (new : NodeState) → AnswersBy (IsFound told) old command text new
     → AreOne (λ events. CommandMakes told old command events text new) old new
 by_command told old command text new h =
     elim (is_call told old command text new h) [
