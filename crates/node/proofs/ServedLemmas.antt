@@ -69,7 +69,7 @@ has_asked events m k pool e said served = record {
 
 pub runs_serve_configs : RowsWeigh → StepsLeave → TargetsTakeEffect → ScaledRowsWeigh → RunsServeConfigs
 runs_serve_configs weigh law effects parts first events old total new node none run rebalances =
-    let headline : IsRebalanced old total new = runs_rebalance law effects weigh parts first events old (Ok (Plan total)) new node run rebalances in
+    let headline : IsRebalanced old total new = (runs_rebalance law effects weigh parts first events old (Ok (Plan total)) new node run rebalances).headline in
     let said : AllByRecursion (IsSaid events new.machine) new.containers =
     rebalance_keeps (λ m xs. AllByRecursion (IsSaid events m) xs) old new (Ok (Plan total)) rebalances (containers_are_said first events old none run) in
     all_map2 (IsSaid events new.machine) (IsServed new.kernel new.machine new.pool) (HasAsked events new.machine new.kernel new.pool)

@@ -19,6 +19,9 @@ pub mod Best
 pub mod Entries
 pub mod Rebalance
 pub mod Headline
+pub mod Tells
+pub mod BreaksOff
+pub mod RebalanceLeaves
 pub mod Written
 pub mod Asking
 pub mod WithoutCores

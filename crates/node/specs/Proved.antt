@@ -13,7 +13,8 @@ use Rattle.certificate_text.specs.Written.{text_of}
 use Rattle.node.specs.NodeState.{NodeState}
 use Rattle.node.specs.IsNode.{IsNode}
 use Rattle.node.specs.Best.{moved}
-use Rattle.node.specs.Headline.{effective_sets, IsRebalanced}
+use Rattle.node.specs.Headline.{effective_sets}
+use Rattle.node.specs.Tells.{TellsPlan}
 use Rattle.node.specs.Rebalance.{Lacks}
 
 -- the distance and the moves that a certificate claims, or how many CPUs its members ask for and how many are there
@@ -28,7 +29,7 @@ LastIsProved = (n : NodeState) → IsNode n → (c : Certificate) → n.last ≡
 -- and after a rebalance that plans it proves a distance and as the moves how many cores the sets in effect moved; the total that
 -- was answered is that distance, for each CPU that a core has
 abbrev pub TotalIsProved : Type 0
-TotalIsProved = (old n : NodeState) (total : ℕ) → IsNode n → IsRebalanced old total n → (c : Certificate) → n.last ≡ Some c
+TotalIsProved = (old n : NodeState) (total : ℕ) → IsNode n → TellsPlan old total n → (c : Certificate) → n.last ≡ Some c
     → (distance : ℕ) × (total ≡ distance * old.machine.threads)
     × IsVerdict (text_of c) (Moves distance (moved old (effective_sets n.kernel n.containers)))
 

@@ -81,6 +81,8 @@ pub fn each_update()
 /// total distance to the home nodes that no plan undercuts, and what the kernel has in effect is that plan; among all plans
 /// of that total none moves fewer cores; the pool is the online CPUs that it leaves. A shortage names containers that
 /// together ask for more CPUs than the whole cores that they may have offer.
+///
+/// With it stands what the certificate tells of that, and what is left where a write failed.
 pub fn each_rebalance()
     ensures { RunsRebalance }
 {}

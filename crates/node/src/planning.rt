@@ -13,6 +13,8 @@ ghost use Rattle.node.specs.Ongoing.{IsOngoing};
 ghost use Rattle.node.specs.Viewed.{seen_ongoing};
 ghost use Rattle.node.specs.declared.phase.Phase.TheVariants.{Underway};
 ghost use Rattle.node.specs.Headline.{Headline};
+ghost use Rattle.node.specs.Tells.{Tells};
+ghost use Rattle.node.specs.BreaksOff.{BreaksOff};
 ghost use Rattle.node.specs.Written.{RebalanceWrites};
 ghost use Rattle.node.specs.Rebalance.{Begins, ComesTo, Finishes, Rebalances, WorksOut, IsNeed, ShowsCertificate};
 
@@ -179,6 +181,8 @@ impl<K: Kernel + Drop> Node<K> {
     /// it did before, or what it keeps of that, or its target, and the next call starts from there.
     pub fn rebalance(&mut self) -> Result<Outcome, OrMemory<NodeFault>>
         ensures headline { Headline self.old result self.new }
+        ensures told { Tells self.old result self.new }
+        ensures broken { BreaksOff self.old result self.new }
         ensures rebalances { Rebalances self.old result self.new }
         ensures counted { self.new.kernel.failures ≡ self.old.kernel.failures + rise_or_memory result }
         // Exactly the writing calls that the hand-over to what is in effect after it had to come.

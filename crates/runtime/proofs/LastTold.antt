@@ -128,7 +128,7 @@ module _ (keep : RunsKeep) (leaves : RunsRebalance) (last_proved : LastIsProved)
   rebalance_told : (told : Option Verdict) (old new : NodeState) (r : Result Outcome (OrMemory NodeFault)) → IsNode old → IsNode new → (s : Rebalances old r new) → IsLastTold told old
       → IsLastTold (told_with told old (Rebalance r) new s) new
   rebalance_told told old new (Ok (Plan total)) node after m h =
-      let b = leaves old [] old (Ok (Plan total)) new node refl m in
+      let b = (leaves old [] old (Ok (Plan total)) new node refl m).told in
       let c : Certificate = planned old (as_cores old.machine (effective_sets new.kernel new.containers)) b.told.prices b.told.whole in
       now_told new _ c b.told.is (total_told old new total node c (total_proved old new total after b c b.told.is))
   rebalance_told told old new (Ok (Short wanted allowed)) node after l h =

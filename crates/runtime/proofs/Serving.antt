@@ -178,7 +178,7 @@ scripts_serve_configs leaves serves first last before after line text node none 
         earlier = c.2;
         later = c.4;
         run = c.5;
-        headline = leaves first.node calls.events c.0.node answered.0.0 c.1.node node calls.run answered.0.1;
+        leaves = leaves first.node calls.events c.0.node answered.0.0 c.1.node node calls.run answered.0.1;
         rest = c.7;
         told = c.8 ∙ ap (λ answer. c.2 ++ (answer ++ c.4)) answered.0.2;
       };
