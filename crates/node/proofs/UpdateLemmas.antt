@@ -1,9 +1,9 @@
 -- What an `update` leaves of what holds of a node.
-use Rattle.std.proofs.Common.{◌≡◌, ◌⊎◌, inl, inr, ℕ, ◌<◌, Bool, true, false, not, ◌&&◌, ◌||◌, cond, List, [], ◌∷◌, ◌++◌, Option, Some, None, refl, sym, ap, ◌∙◌, subst, arith}
-use Rattle.std.proofs.lemmas.Bool.{false≢true, ne_eqb}
+use Rattle.std.proofs.Common.{◌≡◌, ◌⊎◌, inl, inr, ℕ, ◌<◌, Bool, true, false, not, ◌&&◌, ◌||◌, cond, List, [], ◌∷◌, Some, refl, sym, ap, ◌∙◌, subst, arith}
+use Rattle.std.proofs.lemmas.Bool.{ne_eqb}
 use Rattle.std.proofs.lemmas.Option.{none-some}
 use Rattle.std.proofs.lemmas.Slice.Eq.{bytes_eq-Decides}
-use Rattle.std.specs.Prelude.{map, Result, Ok, Err, OnErr, IfOk}
+use Rattle.std.specs.Prelude.{map, Result, Ok, Err}
 use Rattle.std.specs.List.{AllByRecursion, AllZip}
 use Rattle.std.specs.Map.{lookup, set_value}
 use Rattle.std.specs.Str.{bytes_eq}
@@ -27,7 +27,7 @@ use Rattle.apply_plan.specs.Holders.{Pairwise, AreApart, HasSome, IsSafe}
 use Rattle.demand.specs.declared.Demand.{Demand as Asked}
 use Rattle.node.specs.NodeState.{ContainerState}
 use Rattle.node.specs.Owners.{Owner, is_pinned, owner_of, owners_of}
-use Rattle.node.specs.IsNode.{IsHome, IsShallow, HaveOtherIds, IsPlaced, IsFirst, IsOwned, AreOwned, Holds}
+use Rattle.node.specs.IsNode.{HaveOtherIds, IsPlaced, IsFirst, IsOwned, Holds}
 use Rattle.node.specs.Updates.{MadeIf, becomes_pinned, gives_way, moves_home, Rewrites, made_states, rewrite_states}
 use Rattle.node.proofs.ListLemmas.{all_append}
 use Rattle.node.proofs.HoldsLemmas.{AreSafeOwners, of_safe, to_safe}

@@ -1,5 +1,5 @@
 -- What decides rows, as a solution of them.
-use Rattle.std.proofs.Common.{◌≡◌, List, length, refl, sym, subst}
+use Rattle.std.proofs.Common.{List, length, refl, sym, subst}
 use Rattle.std.specs.Prelude.{IsTrue, IfOk, Result, Ok, Err}
 use Rattle.certificate.specs.IsShortage.{asked, chosen, offered}
 use Rattle.certificate.specs.Limits.{rows_fit}
