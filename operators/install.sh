@@ -5,8 +5,9 @@
 #
 # PREFIX/bin has numarun and the scripts: numarun-agent, numarun-draw-plan, numarun-dry-run, numarun-explain,
 # numarun-hook, numarun-describe-host, numarun-describe-hwloc. PREFIX/lib/systemd/system has a unit for the agent, which is not
-# enabled. PREFIX/share has the man page and docs/formats.md. The program is the one
-# that PROGRAM in the environment names, or the proved one of this checkout, from (cd crates/numarun && rt run -- --version).
+# enabled. PREFIX/share/man has the man page; PREFIX/share/doc/numarun has docs/formats.md and, in examples/, the bundles, machine
+# files, scripts, certificates and problems, below the names that they have here. The program is the one that PROGRAM in the
+# environment names, or the proved one of this checkout, from bash build.sh.
 # Nothing but the unit names PREFIX, so that the rest may be moved. To install again is to bring it up to date: what the last
 # time installed, and this time does not, is taken away. PREFIX/lib/numarun/installed is the list of all that was installed,
 # with the folders that were made for it, which are taken away again where nothing else is in them.
@@ -87,7 +88,10 @@ put_all() {
     done
     put 644 "$top/operators/numarun-agent.service" "$unit"
     put 644 "$top/docs/numarun.1" share/man/man1/numarun.1
-    put 644 "$top/docs/formats.md" share/doc/numarun/formats.md
+    put 644 "$top/docs/formats.md" share/doc/numarun/docs/formats.md
+    while read -r name; do
+        put 644 "$top/$name" "share/doc/numarun/$name"
+    done < <(cd "$top" && find examples/bundles examples/machines examples/scripts examples/*.certificate examples/*.problem -type f | sort)
 }
 
 # Names the agent in the unit by its whole path, as systemd wants it where PREFIX is a folder of one's own.
@@ -143,7 +147,7 @@ fi
 
 program=${PROGRAM:-$top/crates/numarun/out/numarun}
 [ -f "$program" ] && [ -x "$program" ] ||
-    fail "$program: no program: build it by (cd crates/numarun && rt run -- --version), or name it in PROGRAM"
+    fail "$program: no program: build it by bash build.sh, or name it in PROGRAM"
 if [ -n "$deb" ]; then
     command -v dpkg-deb > /dev/null || fail "dpkg-deb: not there"
     folder=$prefix maintainer=${DEBFULLNAME:-numarun} maintainer="$maintainer <${DEBEMAIL:-numarun@localhost}>"

@@ -54,6 +54,29 @@ def gone_cpus():
     check("at a start as well", (status, len(of(lines, "waits x")), site.has("x", "y", "n")), (1, 1, ["0,4,6-7", "1-2", "3"]))
 
 
+def detour():
+    """Who keeps none of his CPUs has the reserved one between his two writes, though his new ones are free, and others are written there:
+    first each gives back, then each gets. Who keeps one stays on it."""
+    site = Site()
+    site.come("a", 1)
+    agent = Open(site)
+    agent.until("done")
+    site.log()
+    site.online("0,2-7")
+    agent.until("done")
+    check("by the reserved one", (site.log(), agent.end()[0]), (["a 0", "a 2"], 0))
+    site = Site()
+    for name, cpus in (("a", 1), ("b", 2), ("c", 1)):
+        site.come(name, cpus)
+    agent = Open(site)
+    agent.until("done")
+    check("before", site.has("a", "b", "c"), ["1", "2-3", "4"])
+    site.log()
+    site.online("0,2,5-7")
+    agent.until("done")
+    check("writes of others between", (site.log(), agent.end()[0]), (["a 0", "b 2", "c 0", "a 5", "b 2,6", "c 7"], 0))
+
+
 def among_several():
     """Of those who are short the youngest waits, and the others keep what they have."""
     site = Site()
@@ -434,7 +457,7 @@ def bounded_certificates():
     check("three, and what is no certificate", (len(kept), kept[:2], kept[-1]), (4, ["2020-01-04T00-00-00.000Z.certificate", "2020-01-05T00-00-00.000Z.certificate"], "mine"))
 
 
-PARTS = (gone_cpus, among_several, limits, kept_place, other_configs, updated_groups, unseen, unseen_at_the_start, away_for_a_moment, late_write, no_work, drift, machines, no_reserved,
+PARTS = (gone_cpus, detour, among_several, limits, kept_place, other_configs, updated_groups, unseen, unseen_at_the_start, away_for_a_moment, late_write, no_work, drift, machines, no_reserved,
          one_group, least_room, not_yet, bounded_certificates)
 for part in PARTS:
     if not sys.argv[1:] or part.__name__ in sys.argv[1:]:

@@ -2,6 +2,7 @@
 nothing, and that what is taken away is all of it and nothing else."""
 
 import os
+import re
 import shutil
 import subprocess
 
@@ -51,7 +52,9 @@ check("installed", (status, out.startswith("numarun and its scripts are in "), e
 first = standing()
 check("the commands", sorted(name for name in os.listdir(os.path.join(PREFIX, "bin"))), ["numarun"] + [f"numarun-{name}" for name in NAMES] + ["other"])
 pages = [name for name in first if name.startswith("share/") and not name.endswith("/")]
-check("the pages", sorted(pages), ["share/doc/numarun/formats.md", "share/man/man1/numarun.1"])
+kept = [os.path.relpath(os.path.join(folder, name), TOP) for of in ("bundles", "machines", "scripts") for folder, _, names in os.walk(os.path.join(TOP, "examples", of)) for name in names]
+kept += ["docs/formats.md", "examples/caches.certificate", "examples/caches.problem", "examples/two-containers.certificate"]
+check("the pages", sorted(pages), sorted([f"share/doc/numarun/{name}" for name in kept] + ["share/man/man1/numarun.1"]))
 listed = open(os.path.join(PREFIX, "lib", "numarun", "installed")).read().splitlines()
 check("the list is what is new", sorted(listed), sorted(set(first) - set(BEFORE)))
 check("the unit alone names the prefix", [name for name, told in first.items() if told and PREFIX in str(told[0])],
@@ -62,6 +65,14 @@ for name in NAMES:
     status, out, err = installed(f"numarun-{name}", "--help")
     check(f"numarun-{name} --help", (status, bool(out), err), (0, True, ""))
 check("numarun", installed("numarun", "list", "3,1-2"), (0, "1-3\n", ""))
+DOC = os.path.join(PREFIX, "share", "doc", "numarun")
+told_paths = set(re.findall(r"\b(?:docs|examples)/[\w./-]*\w", open(os.path.join(TOP, "docs", "numarun.1")).read()))
+for words in ([], ["check"], ["list"], ["slit"], ["run"], ["solve"]):
+    told_paths.update(re.findall(r"\b(?:docs|examples)/[\w./-]*\w", installed("numarun", "help", *words)[1]))
+check("what the help and the man page name is installed", sorted(path for path in told_paths if not os.path.exists(os.path.join(DOC, path))), [])
+check("paths that they name", len(told_paths) >= 5, True)
+status, out, err = installed("numarun", "run", "examples/machines/two-socket.json", text=open(os.path.join(DOC, "examples/scripts/plans")).read(), folder=DOC)
+check("an installed script", (status, out, err), (0, open(os.path.join(TOP, "examples/scripts/plans.answers")).read(), ""))
 check("numarun-agent", installed("numarun-agent", MACHINE, text=f"created database {DATABASE}\n")[1].splitlines()[-2].split()[1:], ["pool", "0,7-16,23-31"])
 check("numarun-draw-plan", installed("numarun-draw-plan", "--before", MACHINE, ANSWERS), (0, open(os.path.join(TOP, "docs", "two-socket.svg")).read(), ""))
 check("numarun-explain", installed("numarun-explain", MACHINE, ANSWERS)[1].splitlines()[0], "plan: total distance 140, 2 cores moved; none is far from home")
