@@ -13,4 +13,5 @@ python3 -B tests/cgroup/refusals.py "$program" examples/machines/two-socket.json
 python3 -B tests/cgroup/two_programs.py "$program" examples/machines/two-socket.json
 python3 -B tests/cgroup/updates.py "$program" examples/machines/two-socket.json
 python3 -B tests/cgroup/each_call.py "$program" "$work/folders.so" examples/machines/two-socket.json tests/cgroup/script
+python3 -B tests/cgroup/sets.py "$program" "$work/folders.so"
 python3 -B tests/cgroup/memory.py "$program" "$work/folders.so" "$work/refuse.so" examples/machines/two-socket.json

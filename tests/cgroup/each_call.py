@@ -112,6 +112,7 @@ def check_files(ran, what):
 
 
 whole = Run()
+assert not [line for line in whole.calls if line.startswith("outside ")], whole.calls
 assert whole.done.returncode == 0, whole.err
 plain = run([program, "run", machine], open(script, "rb").read())
 assert whole.out == plain.stdout.decode(), "the answers are those of a run without the tree"
