@@ -33,10 +33,10 @@ def mark(root):
 
 
 def has(what, *texts):
-    """The files have these texts, or their marks."""
+    """The files have these lines, or their marks. A plain file keeps what stood behind a line that is shorter."""
 
     def look(root):
-        found = tuple(pathlib.Path(root, "numarun", "a", name).read_text().rstrip("\n") for name in NAMES)
+        found = tuple(pathlib.Path(root, "numarun", "a", name).read_text().split("\n")[0] for name in NAMES)
         assert found == texts, f"{what}: {found}, not {texts}"
 
     return look
