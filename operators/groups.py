@@ -109,7 +109,7 @@ class Tree:
                 return file
             except BlockingIOError:
                 if time.monotonic() > until:
-                    raise Refused(f"{folder}: another agent has it") from None
+                    raise Refused(f"{folder}: another agent or program has it") from None
                 time.sleep(0.05)
 
     @staticmethod

@@ -77,7 +77,7 @@ def check_apart(calls, what, stands=None, alive=None):
     states = 0
     for line in calls:
         call, path, *rest = line.split(" ")
-        if "!" in line or call in ("open", "read", "absent"):
+        if "!" in line or call in ("open", "read", "lock", "absent"):
             continue
         name = path.split("/")[2] if path.count("/") > 1 else None
         if call == "rmdir":
@@ -112,6 +112,7 @@ def check_files(ran, what):
 
 
 whole = Run()
+assert not [line for line in whole.calls if line.startswith("outside ")], whole.calls
 assert whole.done.returncode == 0, whole.err
 plain = run([program, "run", machine], open(script, "rb").read())
 assert whole.out == plain.stdout.decode(), "the answers are those of a run without the tree"
@@ -126,13 +127,19 @@ for at, line in enumerate(whole.calls):
         assert whole.calls[at - 1] == f"open {path}", whole.calls[at - 1 : at + 1]
         if path.endswith("/cpuset.cpus"):
             assert whole.calls[at + 1] == f"read {path}.effective", whole.calls[at : at + 2]
-assert sum(line.startswith("read ") for line in whole.calls) == sum("/cpuset.cpus " in line for line in ASKED), whole.calls
-assert [line.split(" ")[:2] for line in whole.calls[:3]] == [
-    ["absent", "/cgroup.controllers"], ["absent", "/cpuset.cpus.effective"], ["absent", "/cpuset.mems.effective"]], whole.calls[:3]
+assert sum(line.startswith("read /") for line in whole.calls) == sum("/cpuset.cpus " in line for line in ASKED), whole.calls
+assert [line.split(" ")[:2] for line in whole.calls[:5]] == [
+    ["read", ""], ["lock", ""],
+    ["absent", "/cgroup.controllers"], ["absent", "/cpuset.cpus.effective"], ["absent", "/cpuset.mems.effective"]], whole.calls[:5]
 states, runs = check_apart(whole.calls, "whole"), 1
 check_files(whole, "whole")
 whole.remove()
 REFUSALS = (errno.EBUSY, errno.EINVAL, errno.EACCES, errno.ENOENT, errno.ENOSPC, errno.EAGAIN, errno.EOPNOTSUPP)
+
+
+def told(number):
+    """What the system says of an error, as notes have it."""
+    return f"{os.strerror(number)} (os error {number})"
 
 
 def refused_at(n, number, what):
@@ -142,7 +149,12 @@ def refused_at(n, number, what):
     assert len(refused) == 1 and ran.done.returncode in (0, 1), (what, refused)
     call, path = refused[0].split(" ")[:2]
     notes = [line for line in ran.err.splitlines() if line.startswith(f"error: {ran.folder}/root{path}: ") and "os error" in line]
-    if call == "read" and path.startswith("/numarun/"):
+    if call == "lock" and number == errno.EAGAIN:
+        assert (ran.done.returncode, ran.out) == (1, "refused E50 KernelFault\n"), (what, ran.out)
+        assert ran.err == f"error: {ran.folder}/root: another program has it\n", (what, ran.err)
+    elif path == "":
+        assert ran.out == whole.out and ran.err == f"note: {ran.folder}/root: no lock: {told(number)}\n", (what, ran.out, ran.err)
+    elif call == "read" and path.startswith("/numarun/"):
         assert ran.out == whole.out and len(notes) == 1, (what, ran.out, ran.err)
     elif call == "read" and number == errno.ENOENT:
         assert ran.out == whole.out and not ran.err, (what, ran.out, ran.err)

@@ -3,7 +3,8 @@
 // set), and a folder that is removed takes its files with it. The call whose number, from 1, stands in FOLDERS_FAIL fails with
 // the number in FOLDERS_ERRNO; the process ends behind the call in FOLDERS_KILL; the write in FOLDERS_SHORT takes one byte alone;
 // and with FOLDERS_BUSY set no folder is removed, since it is busy. Each call is a line of the file FOLDERS_LOG: a file that is
-// opened to be written (open) or to be read (read), or is not there (absent), a write, a folder.
+// opened to be written (open) or to be read (read), or is not there (absent), a write, a folder, a lock of FOLDERS_ROOT itself; or,
+// outside of FOLDERS_ROOT, a folder that is made or removed, a link that is removed, or a file that is opened to be written.
 #define _GNU_SOURCE
 #include <dlfcn.h>
 #include <errno.h>
@@ -13,6 +14,7 @@
 #include <stdio.h>
 #include <stdlib.h>
 #include <string.h>
+#include <sys/file.h>
 #include <sys/stat.h>
 #include <unistd.h>
 
@@ -25,10 +27,7 @@ static int below(const char *path) {
     return root && strncmp(path, root, strlen(root)) == 0;
 }
 
-static void tell(const char *what, const char *path, const char *text, size_t length, int error) {
-    char line[8192];
-    int size = snprintf(line, sizeof line, "%s %s%s%.*s%s%s\n", what, path + strlen(getenv("FOLDERS_ROOT")), length ? " " : "", (int)length, text,
-                        error ? " !" : "", error ? strerror(error) : "");
+static void put_line(const char *line, int size) {
     static ssize_t (*real)(int, const void *, size_t);
     if (!real) real = dlsym(RTLD_NEXT, "write");
     static int (*really_open)(const char *, int, ...);
@@ -36,6 +35,18 @@ static void tell(const char *what, const char *path, const char *text, size_t le
     int file = really_open(getenv("FOLDERS_LOG"), O_WRONLY | O_APPEND);
     if (file < 0 || real(file, line, size) != size) _exit(99);
     close(file);
+}
+
+static void tell_outside(const char *what, const char *path) {
+    char line[8192];
+    if (getenv("FOLDERS_LOG")) put_line(line, snprintf(line, sizeof line, "outside %s %s\n", what, path));
+}
+
+static void tell(const char *what, const char *path, const char *text, size_t length, int error) {
+    char line[8192];
+    int size = snprintf(line, sizeof line, "%s %s%s%.*s%s%s\n", what, path + strlen(getenv("FOLDERS_ROOT")), length ? " " : "", (int)length, text,
+                        error ? " !" : "", error ? strerror(error) : "");
+    put_line(line, size);
 }
 
 static int number_is(const char *name) {
@@ -72,7 +83,10 @@ static void put(const char *folder, const char *name, const char *text, size_t l
 int mkdir(const char *path, mode_t mode) {
     static int (*real)(const char *, mode_t);
     if (!real) real = dlsym(RTLD_NEXT, "mkdir");
-    if (!below(path)) return real(path, mode);
+    if (!below(path)) {
+        tell_outside("mkdir", path);
+        return real(path, mode);
+    }
     if (fails("mkdir", path, "", 0)) return -1;
     int answer = real(path, mode), error = answer ? errno : 0;
     for (unsigned i = 0; !answer && i < sizeof files / sizeof *files; i++) put(path, files[i], "", 0);
@@ -80,10 +94,24 @@ int mkdir(const char *path, mode_t mode) {
     return answer;
 }
 
+static int really_unlink(const char *path) {
+    static int (*real)(const char *);
+    if (!real) real = dlsym(RTLD_NEXT, "unlink");
+    return real(path);
+}
+
+int unlink(const char *path) {
+    if (!below(path)) tell_outside("unlink", path);
+    return really_unlink(path);
+}
+
 int rmdir(const char *path) {
     static int (*real)(const char *);
     if (!real) real = dlsym(RTLD_NEXT, "rmdir");
-    if (!below(path)) return real(path);
+    if (!below(path)) {
+        tell_outside("rmdir", path);
+        return real(path);
+    }
     if (fails("rmdir", path, "", 0)) return -1;
     if (getenv("FOLDERS_BUSY")) {
         done("rmdir", path, "", 0, EBUSY);
@@ -92,10 +120,20 @@ int rmdir(const char *path) {
     for (unsigned i = 0; i < sizeof files / sizeof *files; i++) {
         char name[1024];
         snprintf(name, sizeof name, "%s/%s", path, files[i]);
-        unlink(name);
+        really_unlink(name);
     }
     int answer = real(path);
     done("rmdir", path, "", 0, answer ? errno : 0);
+    return answer;
+}
+
+int flock(int file, int how) {
+    static int (*real)(int, int);
+    if (!real) real = dlsym(RTLD_NEXT, "flock");
+    const char *root = getenv("FOLDERS_ROOT");
+    if (fails("lock", root, "", 0)) return -1;
+    int answer = real(file, how);
+    done("lock", root, "", 0, answer ? errno : 0);
     return answer;
 }
 
@@ -107,6 +145,7 @@ int open(const char *path, int flags, ...) {
     va_end(rest);
     if (!real) real = dlsym(RTLD_NEXT, "open");
     const char *what = (flags & O_ACCMODE) == O_RDONLY ? "read" : "open";
+    if (!below(path) && (flags & O_ACCMODE) != O_RDONLY) tell_outside("open", path);
     if (below(path) && fails(what, path, "", 0)) return -1;
     int file = real(path, flags, mode), error = errno;
     if (below(path)) done(file < 0 ? "absent" : what, path, "", 0, 0);

@@ -3,12 +3,13 @@
 import os
 import pathlib
 import shutil
-import subprocess
 import sys
 import tempfile
 
 sys.path.insert(0, str(pathlib.Path(__file__).resolve().parent.parent))
+import roots
 from program import run
+from roots import grouped
 
 program, machine = sys.argv[1:]  # two-socket.json: CPUs 0-31 online, nodes 0 and 1
 
@@ -71,7 +72,8 @@ TABLE = [
     ("a run before", folder(numarun=None), (), (1, "refused E50 KernelFault\n", "error: ROOT/numarun: File exists (os error 17)\n")),
     ("a run before, adopted", folder(numarun=None), ("--adopt",), NONE),
     ("no file to pass controllers on", lambda root: os.mkdir(root), (),
-     (1, "refused E50 KernelFault\n", "error: ROOT/cgroup.subtree_control: No such file or directory (os error 2)\n")),
+     (1, "refused E50 KernelFault\n", "error: ROOT/cgroup.subtree_control: No such file or directory (os error 2)\n"
+      "note: ROOT/cgroup.subtree_control: each folder of a cgroup v2 tree has this file\n")),
     ("a folder of links", lambda root: os.mkdir(root), ("--adopt",), NONE),
 ]
 for name, make, words, wanted in TABLE:
@@ -102,44 +104,8 @@ status, out, err = played(strange, ("--adopt",))
 assert (status, err) == (0, "note: ROOT/numarun/a\\x0ab\\x1b[2J\\x85c is there and has to be adopted\n"), (status, out, err)
 
 
-def lived(script, make=folder(), words=()):
-    """The answers and notes of a script over a root that this makes, and its lines that are functions are called with the root."""
-    folder = tempfile.mkdtemp()
-    root = folder + "/root"
-    make(root)
-    started = subprocess.Popen([program, "run", machine, "--cgroup", root, *words], stdin=subprocess.PIPE, stdout=subprocess.PIPE,
-                               stderr=subprocess.PIPE)
-    answers = []
-    for line in script:
-        if callable(line):
-            line(root)
-            continue
-        started.stdin.write(line.encode() + b"\n")
-        started.stdin.flush()
-        answers.append(started.stdout.readline().decode())
-        while answers[-1].startswith("plan "):
-            while not answers[-1].endswith("end\n"):
-                answers[-1] += started.stdout.readline().decode()
-            break
-    out, err = started.communicate()
-    shutil.rmtree(folder)
-    assert started.returncode == 0 and not out, (script, started.returncode, out)
-    return answers, err.decode().replace(root, "ROOT")
-
-
-FILES = ("cpuset.cpus", "cpuset.mems", "cpuset.cpus.effective", "cgroup.kill", "cgroup.subtree_control")
-
-
-def grouped(*names):
-    """A root in which these groups are there, with their files."""
-
-    def make(root):
-        for group in ("", "/numarun", *(f"/numarun/{name}" for name in names)):
-            os.mkdir(root + group)
-            for name in FILES if group.count("/") == 2 else ("cgroup.subtree_control",):
-                pathlib.Path(f"{root}{group}/{name}").write_text("")
-
-    return make
+def lived(script, make, words=()):
+    return roots.lived(program, machine, script, make, words)
 
 
 def gone(path):

@@ -348,7 +348,7 @@ def one_agent():
     agent = Open(site)
     agent.until("done")
     status, out, err = told("agent.py", *site.words("--work", site.at("second")))
-    check("two agents, one tree", (status, out, err), (1, "", f"agent.py: {site.at('root')}: another agent has it\n"))
+    check("two agents, one tree", (status, out, err), (1, "", f"agent.py: {site.at('root')}: another agent or program has it\n"))
     agent.process.kill()
     agent.process.wait()
     check("killed, and the next", site.run()[0], 0)

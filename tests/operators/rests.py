@@ -140,7 +140,7 @@ def released():
     agent.until("done")
     check("taken", (site.file("system.slice"), site.has("a", "b"), site.file("numarun/a", "cpuset.mems")), ("0,3", ["1-2", "4-7"], "0"))
     words = ["--release", "--cgroup", site.at("root"), "--work", site.at("work")]
-    refuses("agent.py", *words, says="another agent has it")
+    refuses("agent.py", *words, says="another agent or program has it")
     agent.process.kill()
     agent.process.wait()
     site.run(*REST)

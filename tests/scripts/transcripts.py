@@ -4,7 +4,7 @@
 config has this `linux.resources.cpu`, and `config NAME TEXT` one with this `config.json`. Then come the lines of the script,
 each behind `$ `, and below each the lines of its answer, each behind `| `. Where another answer may be given, too, its lines
 stand below, the first behind `/ `; and `= TEXT` stands for any certificate to which a check answers TEXT. In a line of the
-script `[N bytes]` is a word of N bytes."""
+script `[N bytes]` is a word of N bytes. A bundle behind a line of the script has this config from then on."""
 
 import json
 import os
@@ -42,7 +42,7 @@ class Answer:
 
 class Transcript:
     def __init__(self, path):
-        self.machine, self.slit, self.bundles, self.script, self.answers = b"", None, {}, [], []
+        self.machine, self.slit, self.bundles, self.script, self.answers, self.changes = b"", None, {}, [], [], {}
         for line in open(path, encoding="utf-8"):
             word, _, rest = line.rstrip("\n").partition(" ")
             name, _, text = rest.partition(" ")
@@ -50,10 +50,9 @@ class Transcript:
                 self.machine = rest.encode()
             elif word == "slit":
                 self.slit = bytes.fromhex(rest)
-            elif word == "bundle":
-                self.bundles[name] = config(json.loads(text))
-            elif word == "config":
-                self.bundles[name] = text.encode()
+            elif word in ("bundle", "config"):
+                told = self.changes.setdefault(len(self.script), {}) if self.script else self.bundles
+                told[name] = config(json.loads(text)) if word == "bundle" else text.encode()
             elif word == "$":
                 self.script.append(re.sub(r"\[(\d+) bytes\]", lambda found: "x" * int(found[1]), rest).encode())
                 self.answers.append(Answer())
@@ -77,16 +76,27 @@ class Transcript:
             found = found[length:]
         return answers, f"more than was asked for: {found}" if found else None
 
+    def lines(self):
+        """The lines of its script, each once the bundles are as they are then."""
+        for at, line in enumerate(self.script):
+            put(self.changes.get(at, {}) if at else self.bundles)
+            yield line
+
     def place(self):
         """Writes its files, and answers the words of a command line that runs it, but for the program's name."""
         return place(self.machine, self.slit, self.bundles)
 
 
-def place(machine, slit, bundles):
-    """Writes files into the working directory, and answers the words that name them."""
+def put(bundles):
+    """Writes bundles into the working directory."""
     for name, data in bundles.items():
         os.makedirs(name, exist_ok=True)
         open(os.path.join(name, "config.json"), "wb").write(data)
+
+
+def place(machine, slit, bundles):
+    """Writes files into the working directory, and answers the words that name them."""
+    put(bundles)
     open("machine.json", "wb").write(machine)
     if slit is None:
         return ["run", "machine.json"]

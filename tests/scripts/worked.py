@@ -17,8 +17,8 @@ WORKED = os.path.join(os.path.dirname(os.path.abspath(__file__)), "worked")
 def by_second_runtime(told, machine, program_output):
     """What is wrong with the second runtime's answers: to a script alone, and where it is told what the program answers."""
     alone = Runtime(machine, config_of)
-    _, wrong = told.cut([answer for line in told.script for answer in alone.answer(line)])
-    return wrong or difference(Runtime(machine, config_of), told.script, program_output)
+    _, wrong = told.cut([answer for line in told.lines() for answer in alone.answer(line)])
+    return wrong or difference(Runtime(machine, config_of), told.lines(), program_output)
 
 
 def typed(program, words, told, lengths):
@@ -29,7 +29,7 @@ def typed(program, words, told, lengths):
         answers = open(shell.stdout.fileno(), "rb", closefd=False)
         found = b""
         try:
-            for line, length in zip(told.script, lengths):
+            for line, length in zip(told.lines(), lengths):
                 shell.stdin.write(line + b"\n")
                 found += b"".join(answers.readline() for _ in range(length))
         except BrokenPipeError:
@@ -41,13 +41,17 @@ def typed(program, words, told, lengths):
 def check(program, told):
     """What is wrong with the program's answers, if anything is."""
     words = told.place()
-    done = run(program, words, b"\n".join(told.script))
-    if (done.returncode, done.stderr) != (0, b""):
-        return str(done)
-    answers, wrong = told.cut(done.stdout.decode().split("\n")[:-1])
+    if told.changes:  # which come between two lines
+        output = typed(program, words, told, [len(answer.texts[0]) for answer in told.answers])
+    else:
+        done = run(program, words, b"\n".join(told.script))
+        if (done.returncode, done.stderr) != (0, b""):
+            return str(done)
+        output = done.stdout
+    answers, wrong = told.cut(output.decode().split("\n")[:-1])
     machine = Machine(told.machine, None if told.slit is None else read_slit(told.slit))
-    wrong = wrong or by_second_runtime(told, machine, done.stdout) or doubted(program, done.stdout, machine.threads)
-    if not wrong and typed(program, words, told, map(len, answers)) != done.stdout:
+    wrong = wrong or by_second_runtime(told, machine, output) or doubted(program, output, machine.threads)
+    if not wrong and typed(program, words, told, map(len, answers)) != output:
         return "typed, its answers are others, or do not come before the next line"
     return wrong
 

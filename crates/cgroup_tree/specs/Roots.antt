@@ -11,10 +11,11 @@ use Rattle.cpu_list.specs.ListText.{IsSetOf}
 use Rattle.cgroup_tree.specs.declared.root.RootFault.{RootFault}
 use Rattle.cgroup_tree.specs.declared.root.RootFault.TheVariants as root_fault
 
--- what a look at a path may find: whether it is a folder; what the file has, or none where it is not there; or the kind of error
--- by which the look failed
+-- what a look at a path may find: whether it is a folder; whether another program has it; what the file has, or none where it is
+-- not there; or the kind of error by which the look failed
 pub data Finding : Type 0 where
   IsFolder : Bool → Finding
+  IsTaken : Bool → Finding
   Has : Option (List ℕ) → Finding
   Fails : ErrorKind → Finding
 
@@ -84,6 +85,12 @@ module _ (finds : List ℕ → Finding → Type 0) (root : List ℕ) where
   LooksAtFolder (Err root_fault.Memory) = ⊤
   LooksAtFolder (Err _) = ⊥
 
+  -- whether another program has it
+  abbrev pub LooksAtLock : {A : Type 0} → Result A RootFault → Type 0
+  LooksAtLock (Ok lock) = finds root (IsTaken false)
+  LooksAtLock (Err root_fault.Taken) = finds root (IsTaken true)
+  LooksAtLock (Err _) = ⊥
+
   -- what its groups can be given
   abbrev pub LooksAtControllers : Result (Unit {0}) RootFault → Type 0
   LooksAtControllers (Ok done) = IsFound controllers_file HasCpusets
@@ -102,13 +109,21 @@ module _ (finds : List ℕ → Finding → Type 0) (root : List ℕ) where
   LooksAtMems nodes (Err root_fault.OtherMachine) = IsFound mems_in_effect (λ text. (memory : Ids) → HaveMemory nodes memory text → ⊥)
   LooksAtMems nodes (Err why) = CantRead mems_in_effect why
 
+  -- what a root that no other program has tells of the machine, in this order: the nodes that have memory, or why it is not taken
+  abbrev pub LooksAtMachine : (online nodes : Ids) → Result Ids RootFault → Type 0
+  LooksAtMachine online nodes (Ok memory) =
+      IsFound controllers_file HasCpusets × IsFound cpus_in_effect (AreOnline online) × LooksAtMems nodes (Ok memory)
+  LooksAtMachine online nodes (Err root_fault.Memory) = ⊤
+  LooksAtMachine online nodes (Err why) =
+      LooksAtControllers (Err why)
+      ⊎ (IsFound controllers_file HasCpusets × (LooksAtCpus online (Err why)
+      ⊎ (IsFound cpus_in_effect (AreOnline online) × LooksAtMems nodes (Err why))))
+
   -- a tree on this root: the nodes that have memory, or why it is not taken, which is the first in this order; memory may be short anywhere
   abbrev pub AnswersRoot : (online nodes : Ids) → Result Ids RootFault → Type 0
-  AnswersRoot online nodes (Ok memory) =
-      finds root (IsFolder true) × IsFound controllers_file HasCpusets × IsFound cpus_in_effect (AreOnline online) × LooksAtMems nodes (Ok memory)
+  AnswersRoot online nodes (Ok memory) = finds root (IsFolder true) × finds root (IsTaken false) × LooksAtMachine online nodes (Ok memory)
   AnswersRoot online nodes (Err root_fault.Memory) = ⊤
   AnswersRoot online nodes (Err why) =
       LooksAtFolder (Err why)
-      ⊎ (finds root (IsFolder true) × (LooksAtControllers (Err why)
-      ⊎ (IsFound controllers_file HasCpusets × (LooksAtCpus online (Err why)
-      ⊎ (IsFound cpus_in_effect (AreOnline online) × LooksAtMems nodes (Err why))))))
+      ⊎ (finds root (IsFolder true) × (LooksAtLock {A = Unit {0}} (Err why)
+      ⊎ (finds root (IsTaken false) × LooksAtMachine online nodes (Err why))))

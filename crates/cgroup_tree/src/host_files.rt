@@ -3,7 +3,7 @@ ghost use Rattle.std.specs.Prelude.{◌≡◌};
 
 use crate::GroupFiles;
 use crate::shown::Shown;
-use std::fs::OpenOptions;
+use std::fs::{File, OpenOptions};
 use std::io::{ErrorKind, Write};
 use std::rt::Files;
 use std::time::{Clock, Duration, Instant};
@@ -19,10 +19,12 @@ const PAUSE: u64 = 1;
 const CONTROLS: &str = "/cgroup.subtree_control";
 
 /// The system's folders and files. Each call that it refuses is noted on standard error.
-#[derive(Clone, Copy)]
+#[derive(Drop)]
 pub struct HostFiles<'a, R> {
     /// What gives access to them.
     pub rt: &'a R,
+    /// The tree's root, locked: other programs are kept from it as long as this is open. None where the system has no lock for it.
+    pub lock: Option<File>,
     /// Whether there may be folders already, which a run before this made, and links to groups elsewhere.
     pub adopt: bool,
     /// Whether the folder that was asked for last was there.
@@ -30,13 +32,15 @@ pub struct HostFiles<'a, R> {
 }
 
 impl<'a, R> HostFiles<'a, R> {
-    /// The files that this gives access to.
-    pub fn new(rt: &'a R, adopt: bool) -> HostFiles<'a, R>
+    /// The files that this gives access to, below a root with this lock.
+    pub fn new(rt: &'a R, lock: Option<File>, adopt: bool) -> HostFiles<'a, R>
         ensures rt { result.rt.now ≡ rt.now }
+        ensures lock { result.lock ≡ lock }
         ensures adopt { result.adopt ≡ adopt }
     {
         HostFiles {
             rt,
+            lock,
             adopt,
             found: false,
         }
@@ -69,7 +73,18 @@ impl<R: Files + Alloc + Clock + Eprint> HostFiles<'_, R> {
         if self.is_gone(path) {
             Ok(())
         } else {
+            self.note_plain(path, &error);
             Err(error)
+        }
+    }
+
+    /// Says what it means that a folder has no file by which the groups below get controllers.
+    fn note_plain(&self, path: &str, error: &io::Error) {
+        if error.kind() == ErrorKind::NotFound && path.ends_with(CONTROLS) {
+            let _ = eprintln!(self.rt;
+                "note: {}: each folder of a cgroup v2 tree has this file",
+                Shown(path)
+            );
         }
     }
 

@@ -4,6 +4,7 @@ ghost use Rattle.std.specs.Prelude.{◌≡◌, ⊤};
 use crate::shown::Shown;
 use crate::{GroupTrees, HostFiles};
 use std::alloc::Global;
+use std::fs::{File, TryLockError};
 use std::io::ErrorKind;
 use std::rt::Files;
 use std::time::Clock;
@@ -35,13 +36,32 @@ impl<R: Files + Eprint> HostTrees<'_, R> {
     }
 }
 
-impl<'a, R: Files + AllocGlobal + Clock + Eprint + Clone + Drop> GroupTrees for HostTrees<'a, R> {
+/// The folder of this path, open and locked (flock(2)): until the file is closed, or its program has ended, no other has the lock.
+fn open_locked<R: Files<File = File>>(rt: &R, path: &str) -> Result<File, TryLockError> {
+    match fs::open(rt, path) {
+        Ok(file) => {
+            file.try_lock()?;
+            Ok(file)
+        }
+        Err(error) => Err(TryLockError::Error(error)),
+    }
+}
+
+impl<'a, R: Files<File = File> + AllocGlobal + Clock + Eprint + Clone + Drop> GroupTrees
+    for HostTrees<'a, R> {
     type Files = HostFiles<'a, R>;
+
+    /// None where the system has no lock for the folder.
+    type Lock = Option<File>;
 
     ghost finds = { λ _ _ _. ⊤ };
 
-    fn files(self, adopt: bool) -> HostFiles<'a, R> {
-        HostFiles::new(self.rt, adopt)
+    ghost locks = { λ _ _. ⊤ };
+
+    ghost keeps = { λ _ _. ⊤ };
+
+    fn files(self, lock: Option<File>, adopt: bool) -> HostFiles<'a, R> {
+        HostFiles::new(self.rt, lock, adopt)
     }
 
     fn is_folder(&self, path: &str) -> io::Result<bool> {
@@ -50,6 +70,18 @@ impl<'a, R: Files + AllocGlobal + Clock + Eprint + Clone + Drop> GroupTrees for 
             Err(error) => {
                 self.note_memory(path, &error);
                 Err(error)
+            }
+        }
+    }
+
+    /// A folder that the system can't lock is kept from nobody, with a note.
+    fn lock(&self, path: &str) -> Option<Option<File>> {
+        match open_locked(self.rt, path) {
+            Ok(file) => Some(Some(file)),
+            Err(TryLockError::WouldBlock) => None,
+            Err(TryLockError::Error(error)) => {
+                let _ = eprintln!(self.rt; "note: {}: no lock: {error}", Shown(path));
+                Some(None)
             }
         }
     }

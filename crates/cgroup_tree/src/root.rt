@@ -3,7 +3,7 @@ ghost use Rattle.std.specs.Prelude.{◌≡◌, ◌≢◌, ◌++◌, ◌↔◌, [
 ghost use Rattle.std.specs.FinSet as set;
 ghost use Rattle.cpu_set.specs.Ids.{Ids};
 ghost use Rattle.cpu_list.specs.FirstFault.{first_fault};
-ghost use Rattle.cgroup_tree.specs.Roots.{AnswersRoot, CantRead, Has, IsListOf, LooksAtControllers, LooksAtCpus, LooksAtFolder, LooksAtMems, names_cpuset};
+ghost use Rattle.cgroup_tree.specs.Roots.{AnswersRoot, CantRead, Has, IsListOf, LooksAtControllers, LooksAtCpus, LooksAtFolder, LooksAtLock, LooksAtMachine, LooksAtMems, names_cpuset};
 
 use crate::GroupTrees;
 use cpu_set::{CPU_LIMIT, IdSet};
@@ -26,6 +26,8 @@ const GROUP: &str = "/numarun";
 pub enum RootFault {
     /// E1: an allocation failed.
     Memory,
+    /// E50: another program has it.
+    Taken,
     /// E113: the root is no folder, or a file of it can't be read.
     Unread(ErrorKind),
     /// E115: its groups can't have cpusets of their own: `cgroup.controllers` is there and does not name `cpuset`.
@@ -74,11 +76,12 @@ pub struct OpenTree<F> {
 }
 
 /// The tree of this root, for a machine whose online CPUs and whose nodes are these. With `adopt` folders of a run before may
-/// be there, and each is named to the operator. Nothing was asked of its files.
+/// be there, and each is named to the operator. Nothing was asked of its files, which keep other programs from the root as long
+/// as they live.
 ///
 /// # Errors
-/// In this order: [`RootFault::Unread`] where the root is no folder, [`RootFault::NoCpuset`], [`RootFault::OtherMachine`];
-/// and `Unread` or `Memory` where a file can't be read.
+/// In this order: [`RootFault::Unread`] where the root is no folder, [`RootFault::Taken`], [`RootFault::NoCpuset`],
+/// [`RootFault::OtherMachine`]; and `Unread` or `Memory` where a file can't be read.
 pub fn open_tree<T: GroupTrees + Drop>(
     alloc: Global,
     trees: T,
@@ -93,19 +96,22 @@ pub fn open_tree<T: GroupTrees + Drop>(
     ensures root { IfOk result (λ tree. string_bytes tree.root ≡ root.now) }
     ensures adopt { IfOk result (λ tree. tree.adopt ≡ adopt) }
     ensures unasked { IfOk result (λ tree. T.Files.asked tree.files adopt []) }
+    ensures kept { IfOk result (λ tree. T.keeps tree.files root.now) }
 {
+    look_at_folder(&trees, root)?;
+    let lock = lock_root(&trees, root)?;
     let memory = memory_of(alloc, &trees, root, online, nodes, adopt)?;
     let root = String::from_str(alloc, root)?;
     Ok(OpenTree {
         root,
         memory,
         adopt,
-        files: trees.files(adopt),
+        files: trees.files(lock, adopt),
     })
 }
 
-/// The nodes that have memory, of a machine whose online CPUs and whose nodes are these: those in effect at the root, or
-/// all of them where that is not told. With `adopt` each folder that is there already is named to the operator.
+/// The nodes that have memory, of a machine whose online CPUs and whose nodes are these: those in effect at a root that is had,
+/// or all of them where that is not told. With `adopt` each folder that is there already is named to the operator.
 fn memory_of<T: GroupTrees>(
     alloc: Global,
     trees: &T,
@@ -114,9 +120,8 @@ fn memory_of<T: GroupTrees>(
     nodes: &IdSet,
     adopt: bool,
 ) -> Result<IdSet, RootFault>
-    ensures { AnswersRoot (T.finds trees.now) root.now online.now nodes.now result }
+    ensures { LooksAtMachine (T.finds trees.now) root.now online.now nodes.now result }
 {
-    look_at_folder(trees, root)?;
     look_at_controllers(alloc, trees, root)?;
     look_at_cpus(alloc, trees, root, online)?;
     let memory = look_at_mems(alloc, trees, root, nodes)?;
@@ -134,6 +139,17 @@ fn look_at_folder<T: GroupTrees>(trees: &T, root: &str) -> Result<(), RootFault>
         Ok(())
     } else {
         Err(RootFault::Unread(ErrorKind::NotADirectory))
+    }
+}
+
+/// What keeps other programs from the root, as long as it lives.
+fn lock_root<T: GroupTrees>(trees: &T, root: &str) -> Result<T::Lock, RootFault>
+    ensures looks { LooksAtLock (T.finds trees.now) root.now result }
+    ensures locks { IfOk result (λ lock. T.locks lock root.now) }
+{
+    match trees.lock(root) {
+        Some(lock) => Ok(lock),
+        None => Err(RootFault::Taken),
     }
 }
 

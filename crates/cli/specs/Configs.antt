@@ -19,3 +19,7 @@ abbrev pub IsConfigOf : {I : Type 0} → (List ℕ → I → Type 0) → (List �
 IsConfigOf {I} opens fails gives bundle found =
     ((file : I) × opens (config_path bundle) file × ((reading : Reading) × gives file reading × IsFoundBy reading found))
     ⊎ ((kind : ErrorKind) × fails (config_path bundle) kind × (found ≡ None))
+
+-- so it was of files of this type, which are known by what may be opened of them
+abbrev pub IsConfigIn : {S I : Type 0} → (S → List ℕ → I → Type 0) → (S → List ℕ → ErrorKind → Type 0) → (I → Reading → Type 0) → List ℕ → Option (List ℕ) → Type 0
+IsConfigIn {S} opens fails gives bundle found = (files : S) × IsConfigOf (opens files) (fails files) gives bundle found

@@ -25,7 +25,7 @@ unread_line name fault = error_line name (reason_of fault)
 
 abbrev pub note_text : Option Note → List ℕ
 note_text None = []
-note_text (Some note) = unread_line note.name.now note.fault
+note_text (Some note) = error_line note.name.now note.reason.now
 
 -- of a refusal of the input that is called so
 abbrev pub note_of : Text → Refusal → List ℕ

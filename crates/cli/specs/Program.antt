@@ -59,15 +59,15 @@ module _ {W E : Type 0} (out : W → Option (List ℕ)) (err : E → Option (Lis
 
 -- the two streams before and after, as far as their bytes are known, and the exit status
 module _ {W E : Type 0} (out : W → Option (List ℕ)) (err : E → Option (List ℕ)) (old new : Console W E) (status : ℕ) where
-  -- the script was run over the node and the bundles, by so many reads at most
-  abbrev pub Performs : ℕ → NodeState → Told → Option (List ℕ) → Option (List ℕ) → Type 0
-  Performs most n told script script' = (mid : Console W E) × (end : Result (Unit {0}) ScriptFault)
-      × Plays most n told script script' (contents_of out old.out) (contents_of out mid.out) end × (mid.err ≡ old.err) × Finishes out err mid new status end
+  -- the script was run over the node and the bundles, of which looks may find this, by so many reads at most
+  abbrev pub Performs : (Text → Option Text → Type 0) → ℕ → NodeState → Told → Option (List ℕ) → Option (List ℕ) → Type 0
+  Performs finds most n told script script' = (mid : Console W E) × (end : Result (Unit {0}) ScriptFault)
+      × Plays finds most n told script script' (contents_of out old.out) (contents_of out mid.out) end × (mid.err ≡ old.err) × Finishes out err mid new status end
 
   -- the same over a node whose kernel writes are made in files too
-  abbrev pub PerformsIn : {F : Type 0} → (F → Bool → List FileCall → Type 0) → Site → ℕ → NodeState → Told → Option (List ℕ) → Option (List ℕ) → Type 0
-  PerformsIn asked site most n told script script' = (mid : Console W E) × (end : Result (Unit {0}) ScriptFault)
-      × PlaysIn asked site most n told script script' (contents_of out old.out) (contents_of out mid.out) end × (mid.err ≡ old.err) × Finishes out err mid new status end
+  abbrev pub PerformsIn : {F : Type 0} → (F → Bool → List FileCall → Type 0) → Site → (Text → Option Text → Type 0) → ℕ → NodeState → Told → Option (List ℕ) → Option (List ℕ) → Type 0
+  PerformsIn asked site finds most n told script script' = (mid : Console W E) × (end : Result (Unit {0}) ScriptFault)
+      × PlaysIn asked site finds most n told script script' (contents_of out old.out) (contents_of out mid.out) end × (mid.err ≡ old.err) × Finishes out err mid new status end
 
   -- one of the two files is refused
   abbrev pub Refuses : Text → Option Text → Unready → Type 0
@@ -82,39 +82,40 @@ module _ {W E : Type 0} (out : W → Option (List ℕ)) (err : E → Option (Lis
   RefusesRoot root why = Says out err old new status (root_line why) 1 (root_note root why)
 
   -- the script was run over a new node of the machine, whose kernel's writes are made in this place too; or its group can't be made there
-  abbrev pub PinsAt : {F : Type 0} → (F → Bool → List FileCall → Type 0) → Layout → Site → Told → Option (List ℕ) → Option (List ℕ) → Type 0
-  PinsAt asked m site told script script' =
-      ((n : NodeState) × Boots m n × PerformsIn asked site (2 ^ 64 - 1) n told script script')
+  abbrev pub PinsAt : {F : Type 0} → (F → Bool → List FileCall → Type 0) → Layout → Site → (Text → Option Text → Type 0) → Told → Option (List ℕ) → Option (List ℕ) → Type 0
+  PinsAt asked m site finds told script script' =
+      ((n : NodeState) × Boots m n × PerformsIn asked site finds (2 ^ 64 - 1) n told script script')
       ⊎ ((error : OrMemory KernelFault) × ((error ≡ Memory) ⊎ IsNotBooted asked site m error) × Says out err old new status (root_line (unrooted_of error)) 1 [])
 
   -- the files that may be opened under a name, the errors by which that may fail, and what the reading of one may answer
   module _ {I : Type 0} (opens : Text → I → Type 0) (fails : Text → SystemKind → Type 0) (gives : I → Reading → Type 0) where
     -- the script was run over a new node of the machine of these files, or its allocation failed, or one of the files is refused
-    abbrev pub Scripts : Told → Option (List ℕ) → Option (List ℕ) → Text → Option Text → Type 0
-    Scripts told script script' machine table =
+    abbrev pub Scripts : (Text → Option Text → Type 0) → Told → Option (List ℕ) → Option (List ℕ) → Text → Option Text → Type 0
+    Scripts sees told script script' machine table =
         ((m : Layout) × SetsUp opens fails gives machine table (Ok m)
-        × (((n : NodeState) × Boots m n × Performs MOST_READS n told script script') ⊎ LacksRoom))
+        × (((n : NodeState) × Boots m n × Performs sees MOST_READS n told script script') ⊎ LacksRoom))
         ⊎ ((why : Unready) × SetsUp opens fails gives machine table (Err why) × Refuses machine table why)
 
     -- what the files of a cgroup tree were asked for, and what a look at a path may find
     module _ {F : Type 0} (asked : F → Bool → List FileCall → Type 0) (finds : Text → Finding → Type 0) where
       -- the same where its kernel writes are made below the root of a cgroup tree too, opened with folders of a run before or without:
       -- the root may be refused
-      abbrev pub Pins : Told → Option (List ℕ) → Option (List ℕ) → Text → Option Text → Text → Bool → Type 0
-      Pins told script script' machine table root adopt =
+      abbrev pub Pins : (Text → Option Text → Type 0) → Told → Option (List ℕ) → Option (List ℕ) → Text → Option Text → Text → Bool → Type 0
+      Pins sees told script script' machine table root adopt =
           ((m : Layout) × SetsUp opens fails gives machine table (Ok m)
-          × (((memory : Ids) × AnswersRoot finds root m.online (nodes_of m) (Ok memory) × PinsAt asked m (site_of m root memory adopt) told script script')
+          × (((memory : Ids) × AnswersRoot finds root m.online (nodes_of m) (Ok memory) × PinsAt asked m (site_of m root memory adopt) sees told script script')
           ⊎ ((why : Unrooted) × IsNotRooted finds root m why × RefusesRoot root why)))
           ⊎ ((why : Unready) × SetsUp opens fails gives machine table (Err why) × Refuses machine table why)
 
-      -- what is asked for is done, over these files, and over what the reading of standard input may answer and its bytes
-      abbrev pub Does : (Reading → Type 0) → Option (List ℕ) → Asked → Type 0
-      Does input script (check file) = Checks out err old new status (reads_named (Reads opens fails gives) input (name_of file)) (shown (name_of file))
-      Does input script (list text) = Lists out err old new status text
-      Does input script (slit file) = Tabulates out err old new status (reads_named (Reads opens fails gives) input file) (shown file)
-      Does input script (run machine table None adopt) = (script' : Option (List ℕ)) × Scripts None script script' machine table
-      Does input script (run machine table (Some root) adopt) = (script' : Option (List ℕ)) × Pins None script script' machine table root adopt
-      Does input script (solve file) = Solves out err old new status (reads_named (Reads opens fails gives) input (name_of file)) (shown (name_of file))
+      -- what is asked for is done, over these files, over bundles of which looks may find this, and over what the reading of
+      -- standard input may answer and its bytes
+      abbrev pub Does : (Text → Option Text → Type 0) → (Reading → Type 0) → Option (List ℕ) → Asked → Type 0
+      Does sees input script (check file) = Checks out err old new status (reads_named (Reads opens fails gives) input (name_of file)) (shown (name_of file))
+      Does sees input script (list text) = Lists out err old new status text
+      Does sees input script (slit file) = Tabulates out err old new status (reads_named (Reads opens fails gives) input file) (shown file)
+      Does sees input script (run machine table None adopt) = (script' : Option (List ℕ)) × Scripts sees None script script' machine table
+      Does sees input script (run machine table (Some root) adopt) = (script' : Option (List ℕ)) × Pins sees None script script' machine table root adopt
+      Does sees input script (solve file) = Solves out err old new status (reads_named (Reads opens fails gives) input (name_of file)) (shown (name_of file))
 
   -- the help or the version goes to standard output with status 0, and what a mistake is to standard error with
   -- status 2; clap's contracts don't tell the text

@@ -9,6 +9,7 @@ use Rattle.faults.specs.declared.OrMemory.TheVariants.{Memory, Fault}
 use Rattle.kernel_model.specs.declared.KernelFault.{KernelFault}
 use Rattle.machine.specs.Layout.{Layout}
 use Rattle.machine.specs.Nodes.{nodes_of}
+use Rattle.program_io.specs.ErrorLine.{error_line}
 use Rattle.program_io.specs.ReadFaults.{IsTold}
 use Rattle.program_io.specs.RefusalLine.{refusal_line}
 use Rattle.program_io.specs.declared.read_fault.ReadFault.{ReadFault}
@@ -20,6 +21,7 @@ use Rattle.cli.specs.declared.unrooted.Unrooted.TheVariants as unrooted
 -- the refusal of a root that is not taken
 abbrev pub IsUnrooted : RootFault → Unrooted → Type 0
 IsUnrooted root_fault.Memory why = why ≡ unrooted.Memory
+IsUnrooted root_fault.Taken why = why ≡ unrooted.Taken
 IsUnrooted (root_fault.Unread kind) why = (told : ReadFault) × IsTold kind told × (why ≡ unrooted.Unread told)
 IsUnrooted root_fault.NoCpuset why = why ≡ unrooted.NoCpuset
 IsUnrooted root_fault.OtherMachine why = why ≡ unrooted.OtherMachine
@@ -38,9 +40,11 @@ root_line (unrooted.Unread fault) = refusal_line (refusal.ReadFault fault)
 root_line unrooted.Memory = refusal_line refusal.Memory
 root_line unrooted.NoCpuset = codes "refused E115 NoCpuset\n"
 root_line unrooted.OtherMachine = codes "refused E116 OtherMachine\n"
+root_line unrooted.Taken = codes "refused E50 KernelFault\n"
 root_line unrooted.Kernel = codes "refused E50 KernelFault\n"
 
--- beside it, where the root can't be read
+-- beside it, where the root can't be read, or another program has it
 abbrev pub root_note : Text → Unrooted → List ℕ
 root_note root (unrooted.Unread fault) = note_of root (refusal.ReadFault fault)
+root_note root unrooted.Taken = error_line root (codes "another program has it")
 root_note root why = []

@@ -3,7 +3,7 @@ use Rattle.std.specs.Prelude.{◌≡◌, ℕ, Bool, List, Option, Some, None, Re
 use Rattle.cgroup_tree.specs.Asked.{Asked}
 use Rattle.cgroup_tree.specs.Site.{Site}
 use Rattle.node.specs.NodeState.{NodeState}
-use Rattle.runtime.specs.Answered.{Answered}
+use Rattle.runtime.specs.Answered.{AnsweredBy}
 use Rattle.runtime.specs.MirroredNodes.{IsMirroredNode}
 use Rattle.runtime.specs.RuntimeState.{RuntimeState, Told}
 use Rattle.script.specs.Ends.{EndsBy}
@@ -19,13 +19,14 @@ is_unread (fault.Read kind) why = (told : ReadFault) × IsTold kind told × (why
 is_unread fault.TooManyReads why = why ≡ Some TooManyReads
 is_unread fault.Write why = why ≡ None
 
--- the script is run over the node and the bundles, from its first line on, by so many reads at most, until this end
-abbrev pub Plays : ℕ → NodeState → Told → Option (List ℕ) → Option (List ℕ) → Option (List ℕ) → Option (List ℕ) → Result (Unit {0}) ScriptFault → Type 0
-Plays most n told read read' out out' end =
-    (final : RuntimeState) × EndsBy most Answered read read' out out' (record { node = n; told = told }) end final
+-- the script is run over the node and the bundles, of which looks may find this, from its first line on, by so many reads at most,
+-- until this end
+abbrev pub Plays : (List ℕ → Option (List ℕ) → Type 0) → ℕ → NodeState → Told → Option (List ℕ) → Option (List ℕ) → Option (List ℕ) → Option (List ℕ) → Result (Unit {0}) ScriptFault → Type 0
+Plays finds most n told read read' out out' end =
+    (final : RuntimeState) × EndsBy most (AnsweredBy finds) read read' out out' (record { node = n; told = told }) end final
 
 -- the same over a node whose kernel writes are made in files too; at the end all that these were asked for is what the calls of
 -- the node's kernel stand for, in their order, in this place
-abbrev pub PlaysIn : {F : Type 0} → (F → Bool → List Asked → Type 0) → Site → ℕ → NodeState → Told → Option (List ℕ) → Option (List ℕ) → Option (List ℕ) → Option (List ℕ) → Result (Unit {0}) ScriptFault → Type 0
-PlaysIn asked site most n told read read' out out' end =
-    (final : RuntimeState) × EndsBy most Answered read read' out out' (record { node = n; told = told }) end final × IsMirroredNode asked site final.node
+abbrev pub PlaysIn : {F : Type 0} → (F → Bool → List Asked → Type 0) → Site → (List ℕ → Option (List ℕ) → Type 0) → ℕ → NodeState → Told → Option (List ℕ) → Option (List ℕ) → Option (List ℕ) → Option (List ℕ) → Result (Unit {0}) ScriptFault → Type 0
+PlaysIn asked site finds most n told read read' out out' end =
+    (final : RuntimeState) × EndsBy most (AnsweredBy finds) read read' out out' (record { node = n; told = told }) end final × IsMirroredNode asked site final.node

@@ -1,5 +1,6 @@
 //! The program from its arguments on.
 ghost use Rattle.std.specs.Prelude.{◌≡◌, MatchResult, drop, map, string_bytes};
+ghost use Rattle.cli.specs.Configs.{IsConfigIn};
 ghost use Rattle.cli.specs.Program.{Does, Runs};
 ghost use Rattle.cli.specs.Start.{Stops};
 
@@ -30,7 +31,7 @@ pub fn start<G: Grammar, F: Opens, T: GroupTrees + Drop, R: Read + Input, W: Wri
     ensures { MatchResult arguments
         (λ given. Runs W.contents E.contents console.old console.new result (G.fails grammar.now) (G.lacks grammar.now)
         (Does W.contents E.contents console.old console.new result (F.opens files.now) (F.fails files.now) F.File.gives
-        T.Files.asked (T.finds trees) (R.Input.gives input) (R.Read.remaining input)) (map string_bytes (drop 1 given.items)))
+        T.Files.asked (T.finds trees) (IsConfigIn F.opens F.fails F.File.gives) (R.Input.gives input) (R.Read.remaining input)) (map string_bytes (drop 1 given.items)))
         (Stops W.contents E.contents console.old console.new result) }
 {
     match arguments {

@@ -45,6 +45,25 @@ const SLIT_HELP: &str =
 const RUN_HELP: &str =
     "Prints an answer to each line, a refusal too, before the next line is read. A bundle is a folder with\n\
     a config.json.\n\n\
+    The commands of a script, one a line:\n\
+    \x20 create ID BUNDLE      make a container from the bundle in this folder\n\
+    \x20 adopt ID BUNDLE LIST  take up a container that runs already on the CPUs of LIST\n\
+    \x20 update ID BUNDLE      read its config again, from the bundle in this folder\n\
+    \x20 start ID              start its program\n\
+    \x20 kill ID SIGNAL        send it a signal, by name or number\n\
+    \x20 delete ID             remove it once it is stopped\n\
+    \x20 state ID              its state as one line\n\
+    \x20 list                  the status of each container\n\
+    \x20 sets ID               the CPUs and memory nodes that it has\n\
+    \x20 rebalance             work out a plan and move all containers onto it\n\
+    \x20 begin                 work out a plan and begin to move the containers onto it\n\
+    \x20 step                  make the next write of that hand-over\n\
+    \x20 phase                 whether a hand-over is underway\n\
+    \x20 certificate           the certificate of the last plan or shortage\n\
+    \x20 fork PID              the process makes another one\n\
+    \x20 exit PID              the process ends\n\
+    \x20 offline CPU           the CPU goes offline\n\
+    \x20 online CPU            the CPU comes online\n\n\
     Exit status: 0 if the script was read to its end; 1 if MACHINE, FILE or ROOT is refused, if an input\n\
     can't be read, if an allocation for the machine fails, or if an answer can't be written; 2 if the words\n\
     are no command line, or if an allocation fails while they are parsed.\n\n\

@@ -1,7 +1,7 @@
 //! Bundles that are folders.
 ghost use Rattle.std.specs.Prelude.{◌≡◌, IfOk, None, option_map};
 ghost use Rattle.runtime.specs.Found.{IsFound};
-ghost use Rattle.cli.specs.Configs.{IsConfigOf};
+ghost use Rattle.cli.specs.Configs.{IsConfigIn, IsConfigOf};
 
 use crate::opens::Opens;
 use faults::OrMemory;
@@ -30,8 +30,11 @@ impl<'a, F> Folders<'a, F> {
 }
 
 impl<F: Opens> Bundles for Folders<'_, F> {
+    ghost finds = { IsConfigIn F.opens F.fails F.File.gives };
+
     fn config(&mut self, bundle: &str) -> Result<Option<Vec<u8>>, AllocError>
         ensures found { IfOk result (λ found. IsFound None bundle.now (option_map (λ config. config.items) found)) }
+        ensures seen { IfOk result (λ found. IsConfigIn F.opens F.fails F.File.gives bundle.now (option_map (λ config. config.items) found)) }
         ensures same { self.new.files.now ≡ self.old.files.now }
         ensures config { IfOk result (λ found. IsConfigOf (F.opens self.old.files.now) (F.fails self.old.files.now) F.File.gives
             bundle.now (option_map (λ config. config.items) found)) }

@@ -3,15 +3,15 @@ ghost use Rattle.cli.specs.Notes.{note_of, note_text};
 ghost use Rattle.cli.specs.declared.note.Note.{Note};
 
 use crate::printed::Printed;
-use program_io::{ReadFault, Refusal, put_error_line};
+use program_io::{Refusal, put_error_line};
 use std::io;
 use std::io::Write;
 
-/// What standard error says of an input that can't be read: which it is, and why.
+/// What standard error says of an input that is refused: which it is, and why.
 #[derive(Clone, Copy)]
 pub struct Note<'a> {
     pub name: &'a str,
-    pub fault: ReadFault,
+    pub reason: &'a str,
 }
 
 impl<'a> Note<'a> {
@@ -20,7 +20,10 @@ impl<'a> Note<'a> {
         ensures { note_text result ≡ note_of name.now refusal }
     {
         match refusal {
-            Refusal::ReadFault(fault) => Some(Note { name, fault }),
+            Refusal::ReadFault(fault) => Some(Note {
+                name,
+                reason: fault.reason(),
+            }),
             _ => None,
         }
     }
@@ -31,9 +34,7 @@ impl Printed for Option<Note<'_>> {
 
     fn print<W: Write>(&self, w: &mut W) -> io::Result<()> {
         match self {
-            Some(note) => {
-                put_error_line(note.name.as_bytes(), note.fault.reason().as_bytes(), w)
-            }
+            Some(note) => put_error_line(note.name.as_bytes(), note.reason.as_bytes(), w),
             None => Ok(()),
         }
     }

@@ -46,7 +46,7 @@ pub fn do_pin<F: Opens, T: GroupTrees + Drop, B: Bundles + Drop, R: Read, W: Wri
     console: &mut Console<W, E>,
 ) -> u8
     ensures { Pins W.contents E.contents console.old console.new result (F.opens files.now) (F.fails files.now) F.File.gives
-        T.Files.asked (T.finds trees) (B.told bundles) (R.remaining script.old) (R.remaining script.new)
+        T.Files.asked (T.finds trees) B.finds (B.told bundles) (R.remaining script.old) (R.remaining script.new)
         machine.now (option_map (λ name. name.now) table.entry) root.entry.path.now root.entry.adopt }
 {
     match set_up(alloc, machine, table, files) {
@@ -94,7 +94,7 @@ fn pin_in<S: Sited, F: GroupFiles + Drop, B: Bundles + Drop, R: Read, W: Write, 
     requires site { S.site ≡ site_of machine (string_bytes tree.root) tree.memory tree.adopt }
     requires unasked { F.asked tree.files tree.adopt [] }
     ensures { PinsAt W.contents E.contents console.old console.new result F.asked machine
-        (site_of machine (string_bytes tree.root) tree.memory tree.adopt) (B.told bundles) (R.remaining script.old) (R.remaining script.new) }
+        (site_of machine (string_bytes tree.root) tree.memory tree.adopt) B.finds (B.told bundles) (R.remaining script.old) (R.remaining script.new) }
 {
     match boot_mirrored::<F, S>(alloc, machine, tree) {
         Ok(node) => {
@@ -114,18 +114,28 @@ fn play_below<F: GroupFiles + Drop, S: Sited, B: Bundles + Drop, R: Read, W: Wri
     w: &mut W,
     most_reads: u64,
 ) -> Result<(), ScriptFault>
-    ensures { PlaysIn F.asked S.site most_reads node (B.told bundles) (R.remaining script.old) (R.remaining script.new) (W.contents w.old) (W.contents w.new) result }
+    ensures { PlaysIn F.asked S.site B.finds most_reads node (B.told bundles) (R.remaining script.old) (R.remaining script.new) (W.contents w.old) (W.contents w.new) result }
 {
     let mut runner = Runner::new(node, bundles);
     run_mirrored(&mut runner, script, w, most_reads)
 }
 
-/// The note beside a refusal of the root, where it can't be read.
+/// What standard error says of a root that another program has.
+const TAKEN: &str = "another program has it";
+
+/// The note beside a refusal of the root, where it can't be read or another program has it.
 fn note_of(root: &str, why: Unrooted) -> Option<Note<'_>>
     ensures { note_text result ≡ root_note root.now why }
 {
     match why {
-        Unrooted::Unread(fault) => Some(Note { name: root, fault }),
+        Unrooted::Unread(fault) => Some(Note {
+            name: root,
+            reason: fault.reason(),
+        }),
+        Unrooted::Taken => Some(Note {
+            name: root,
+            reason: TAKEN,
+        }),
         _ => None,
     }
 }

@@ -2,6 +2,7 @@
 ghost use Rattle.std.specs.Prelude.{◌≡◌, map, option_map, string_bytes};
 ghost use Rattle.clap.specs.Words.{kind_of};
 ghost use Rattle.cli.specs.Asked.{asked, run, word_bytes};
+ghost use Rattle.cli.specs.Configs.{IsConfigIn};
 ghost use Rattle.cli.specs.Program.{Does, ExplainsOrLacks, Runs};
 
 use crate::check::check_named;
@@ -35,7 +36,7 @@ pub fn run_program<G: Grammar, F: Opens, T: GroupTrees + Drop, R: Read + Input, 
 ) -> u8
     ensures { Runs W.contents E.contents console.old console.new result (G.fails grammar.now) (G.lacks grammar.now)
         (Does W.contents E.contents console.old console.new result (F.opens files.now) (F.fails files.now) F.File.gives
-        T.Files.asked (T.finds trees) (R.Input.gives input) (R.Read.remaining input)) (map string_bytes words.now) }
+        T.Files.asked (T.finds trees) (IsConfigIn F.opens F.fails F.File.gives) (R.Input.gives input) (R.Read.remaining input)) (map string_bytes words.now) }
 {
     match parse(alloc, grammar, words) {
         Ok(asked) => dispatch(alloc, asked, files, trees, input, console),
@@ -53,7 +54,7 @@ fn dispatch<F: Opens, T: GroupTrees + Drop, R: Read + Input, W: Write, E: Write>
     console: &mut Console<W, E>,
 ) -> u8
     ensures { Does W.contents E.contents console.old console.new result (F.opens files.now) (F.fails files.now) F.File.gives
-        T.Files.asked (T.finds trees) (R.Input.gives input) (R.Read.remaining input) (asked words.entry) }
+        T.Files.asked (T.finds trees) (IsConfigIn F.opens F.fails F.File.gives) (R.Input.gives input) (R.Read.remaining input) (asked words.entry) }
 {
     match words {
         Words::Check { file } => check_named(alloc, file.unwrap_or("-"), files, input, console),
@@ -84,7 +85,7 @@ fn run_in<F: Opens, T: GroupTrees + Drop, R: Read + Input, W: Write, E: Write>(
     console: &mut Console<W, E>,
 ) -> u8
     ensures { Does W.contents E.contents console.old console.new result (F.opens files.now) (F.fails files.now) F.File.gives
-        T.Files.asked (T.finds trees) (R.Input.gives input) (R.Read.remaining input)
+        T.Files.asked (T.finds trees) (IsConfigIn F.opens F.fails F.File.gives) (R.Input.gives input) (R.Read.remaining input)
         (run machine.now (option_map word_bytes table.entry) (option_map word_bytes root.entry) adopt) }
 {
     let mut script = input;

@@ -33,7 +33,7 @@ pub fn do_run<F: Opens, B: Bundles + Drop, R: Read, W: Write, E: Write>(
     console: &mut Console<W, E>,
 ) -> u8
     ensures { Scripts W.contents E.contents console.old console.new result (F.opens files.now) (F.fails files.now) F.File.gives
-        (B.told bundles) (R.remaining script.old) (R.remaining script.new)
+        B.finds (B.told bundles) (R.remaining script.old) (R.remaining script.new)
         machine.now (option_map (λ name. name.now) table.entry) }
 {
     match set_up(alloc, machine, table, files) {
@@ -139,7 +139,7 @@ fn play<K: Kernel + Drop, B: Bundles + Drop, R: Read, W: Write>(
     w: &mut W,
     most_reads: u64,
 ) -> Result<(), ScriptFault>
-    ensures { Plays most_reads node (B.told bundles) (R.remaining script.old) (R.remaining script.new) (W.contents w.old) (W.contents w.new) result }
+    ensures { Plays B.finds most_reads node (B.told bundles) (R.remaining script.old) (R.remaining script.new) (W.contents w.old) (W.contents w.new) result }
 {
     let mut runner = Runner::new(node, bundles);
     run_script_within(&mut runner, script, w, most_reads)

@@ -18,6 +18,8 @@ pub enum Unrooted {
     NoCpuset,
     /// E116: its CPUs or nodes are not the machine's.
     OtherMachine,
+    /// E50: another program has the root.
+    Taken,
     /// E50: the group of all containers can't be made.
     Kernel,
 }
@@ -30,6 +32,7 @@ impl From<RootFault> for Unrooted {
     fn from(fault: RootFault) -> Unrooted {
         match fault {
             RootFault::Memory => Unrooted::Memory,
+            RootFault::Taken => Unrooted::Taken,
             RootFault::Unread(kind) => Unrooted::Unread(ReadFault::told(kind)),
             RootFault::NoCpuset => Unrooted::NoCpuset,
             RootFault::OtherMachine => Unrooted::OtherMachine,
@@ -62,7 +65,7 @@ impl Printed for Unrooted {
             Unrooted::Memory => Refusal::Memory.write(w),
             Unrooted::NoCpuset => put(b"refused E115 NoCpuset\n", w),
             Unrooted::OtherMachine => put(b"refused E116 OtherMachine\n", w),
-            Unrooted::Kernel => put(b"refused E50 KernelFault\n", w),
+            Unrooted::Taken | Unrooted::Kernel => put(b"refused E50 KernelFault\n", w),
         }
     }
 }

@@ -38,7 +38,7 @@ use Rattle.certificate.specs.Sums.{sum_by_times}
 use Rattle.certificate.specs.RowView.{RowView}
 use Rattle.certificate.specs.Weight.{weight}
 use Rattle.certificate.specs.Limits.{row_fits, rows_fit}
-use Rattle.certificate.specs.IsShortage.{asked, chosen, is_offered, offered}
+use Rattle.certificate.specs.IsShortage.{asked, chosen, is_offered, offered, HasNoPlan}
 use Rattle.certificate_text.specs.CertificateText.{HaveOwnIds}
 use Rattle.certificate_text.specs.IdWord.{IsId}
 use Rattle.certificate_text.specs.Written.{CanWriteRow}
@@ -56,7 +56,8 @@ use Rattle.node.specs.IsNode.{HaveOtherIds, IsAsked, IsMachine, IsPlaced, IsNode
 use Rattle.node.specs.Rows.{as_cores, as_cpus, row_of_container, rows_in, rows_of, requested_by, scaled_row_of_container, scaled_rows_in, scaled_rows_of, lacking}
 use Rattle.node.specs.Rebalance.{Lacks}
 use Rattle.node.specs.Best.{is_asking, asking, wanted_by, CouldHave}
-use Rattle.node.specs.Headline.{is_allowed, IsShort}
+use Rattle.node.specs.Headline.{is_allowed, AreShort, IsShort}
+use Rattle.node.specs.Tells.{TellsShortage}
 use Rattle.node.specs.Asking.{is_open, IsRowOf, IsScaledRowOf, moving_weight}
 use Rattle.node.specs.Viewed.{all_seen}
 use Rattle.node.proofs.DistanceLemmas.{Container, IsWeighed, offers, online_there, could_plan, plan_could}
@@ -420,7 +421,7 @@ module _ (n : NodeState) (h : IsNode n) where
       ∙ any_alike (λ e. nat_lt cpu CPU_LIMIT && is_open n.kernel n.machine (core_of n.machine cpu) e) (is_allowed n.kernel n.machine cpu) (may_have cpu) es
 
   -- the lowest CPUs of cores that one of some containers may have are the lowest of their cores
-  open_lowest : (core : ℕ) (es : List Container) → list_any (is_open n.kernel n.machine core) es ≡ true → IsPresent n.machine core × (core_of n.machine core ≡ core)
+  pub open_lowest : (core : ℕ) (es : List Container) → list_any (is_open n.kernel n.machine core) es ≡ true → IsPresent n.machine core × (core_of n.machine core ≡ core)
   open_lowest core [] none = absurd (false≢true none)
   open_lowest core (e ∷ es) some = by (is_open n.kernel n.machine core e) refl (open_lowest core es) some where
     by : (b : Bool) → is_open n.kernel n.machine core e ≡ b
@@ -467,29 +468,35 @@ module _ (old : NodeState) (h : IsNode old) (weigh : RowsWeigh) (parts : ScaledR
       let counted : set.len allowed ≡ length (offered named_rows) * old.machine.threads = there_counted in
       omega (arith, most, asks, counted, some)
 
--- a shortage of the rows is one of the live pinned containers
+-- the members of a shortage of the rows are live pinned containers that are short
+are_short : (old : NodeState) → IsNode old → RowsWeigh → ScaledRowsWeigh → (wanted : ℕ) (allowed : Ids) (new : NodeState) → (l : Lacks old wanted allowed new)
+    → AreShort old l.members wanted allowed
+are_short old h weigh parts wanted allowed new l = record {
+  rising = l.decides.shortage.rising;
+  there = subst (λ count. All (λ k. k < count) l.members)
+      (zip_length (IsScaledRowOf old.kernel old.machine) (scaled_rows_of old) (asking old) (scaled_are_asking old h weigh parts)) l.decides.shortage.there;
+  asks = l.need.asks ∙ asked_by_chosen old h weigh parts l.members;
+  has = λ cpu.
+      ap (λ s. set.contains s cpu) l.need.is
+      ∙ allowed_to_any old h l.need.cores (filter_map (slice_get (asking old)) l.members) (open_to_named old h weigh parts wanted allowed new l) cpu;
+  more = more_wanted old h weigh parts wanted allowed new l;
+}
+
+-- a shortage of the rows is one of the live pinned containers, whom the certificate names
 pub short_stands : (old : NodeState) → IsNode old → RowsWeigh → ScaledRowsWeigh → (wanted : ℕ) (allowed : Ids) (new : NodeState) → Lacks old wanted allowed new
-    → IsShort old wanted allowed new
+    → IsShort old wanted allowed new × TellsShortage old wanted allowed new
 short_stands old h weigh parts wanted allowed new l =
     let named : new.last ≡ Some (lacking old l.members) = ap (λ (n : NodeState). n.last) l.is in
     let could_not : (sets : List Ids) → CouldHave old sets → ⊥ =
     λ sets could. l.decides.none (as_cores old.machine sets)
     (could_plan old h (moving_weight old.kernel old.machine) (scaled_rows_of old) (scaled_are_weighed old h weigh parts) sets could) in
-    record {
-      members = l.members;
-      named = named;
-      asks = l.need.asks ∙ asked_by_chosen old h weigh parts l.members;
-      has = λ cpu.
-          ap (λ s. set.contains s cpu) l.need.is
-          ∙ allowed_to_any old h l.need.cores (filter_map (slice_get (asking old)) l.members) (open_to_named old h weigh parts wanted allowed new l) cpu;
-      more = more_wanted old h weigh parts wanted allowed new l;
-      rising = l.decides.shortage.rising;
-      there = subst (λ count. All (λ k. k < count) l.members)
-          (zip_length (IsScaledRowOf old.kernel old.machine) (scaled_rows_of old) (asking old) (scaled_are_asking old h weigh parts)) l.decides.shortage.there;
-      none = λ plan is. could_not (as_cpus old.machine plan) (plan_could old h (home old.machine) (rows_of old) (rows_are_weighed old h weigh) plan is);
-      could_not = could_not;
-      same = l.is ∙ ap (λ last. record old { last = last }) (sym named);
-    }
+    let none : HasNoPlan (rows_of old) =
+    λ plan is. could_not (as_cpus old.machine plan) (plan_could old h (home old.machine) (rows_of old) (rows_are_weighed old h weigh) plan is) in
+    let same : new ≡ record old { last = new.last } = l.is ∙ ap (λ last. record old { last = last }) (sym named) in
+    let short : AreShort old l.members wanted allowed = are_short old h weigh parts wanted allowed new l in (
+      record { members = l.members; short = short; could_not = could_not; same = same },
+      record { members = l.members; short = short; named = named; none = none },
+    )
 
 -- each container's group is in the tree
 pub all_there : (n : NodeState) → IsNode n → AllByRecursion (λ e. has_group n.kernel.tree e.1.group ≡ true) n.containers

@@ -1,5 +1,5 @@
 -- A least plan of the scaled rows is the best that the containers could have.
-use Rattle.std.proofs.Common.{◌≡◌, ℕ, ◌+◌, ◌*◌, ◌/◌, ◌%◌, ◌<◌, ◌≤◌, Bool, true, false, cond, not, ◌&&◌, List, [], ◌∷◌, length, filter, option_map, refl, sym, ap, ◌∙◌, subst, sum_by, arith}
+use Rattle.std.proofs.Common.{◌≡◌, ℕ, ◌*◌, ◌<◌, ◌≤◌, Bool, true, false, cond, not, ◌&&◌, List, [], ◌∷◌, length, filter, option_map, refl, sym, ap, ◌∙◌, subst, sum_by, arith}
 use Rattle.std.proofs.Math.Nat.{le_of_mul-le-mul_left, mul_comm, mul-le-mul_right}
 use Rattle.std.proofs.lemmas.Bool.{and_from, and_parts}
 use Rattle.std.proofs.lemmas.List.Sums.{sum_by-cons}
@@ -26,8 +26,9 @@ use Rattle.certificate.specs.Packed.{packed, distance_of, moves_of, distance_of-
 use Rattle.certificate.specs.Verdict.{AreParts}
 use Rattle.certificate.specs.declared.certificates.Certificate.{Certificate}
 use Rattle.certificate.specs.declared.certificates.Certificate.TheVariants.{Plan, Short}
-use Rattle.certificate_text.specs.Written.{CanWrite}
-use Rattle.node.specs.Decides.{Decides, DecidesPlan, DecidesShort}
+use Rattle.certificate.specs.declared.weights.Weights.TheVariants.{WithMoves}
+use Rattle.certificate_text.specs.Written.{CanWrite, IsHeld}
+use Rattle.solution.specs.Decides.{Decides, DecidesPlan, DecidesShort}
 use Rattle.rows.specs.Weighs.{RowsWeigh}
 use Rattle.rows.specs.LimitLemmas.{rows_weigh}
 use Rattle.rows.specs.PartLemmas.{scaled_rows_weigh, distances_stay, moves_are_unheld}
@@ -242,12 +243,12 @@ module _ (n : NodeState) (h : IsNode n) where
         parts = are_parts plan d.least whole d.proved.costs;
       }
 
-  pub comes_to : (c : Certificate) → Decides rows c → ComesTo n c
+  pub comes_to : (c : Certificate) → Decides rows WithMoves c → ComesTo n c
   comes_to (Plan own sets prices whole said) d =
       (d.1, subst (λ (rs : List RowView). IsAnswer n rs sets prices whole) (sym d.0) (is_answer sets prices whole d.2))
   comes_to (Short own named said) d = (d.1, d.0, subst (λ (rs : List RowView). DecidesShort rs named) (sym d.0) d.2)
 
-  pub proves_itself : rows_fit rows ≡ true → (c : Certificate) → Decides rows c → ProvesItself c
+  pub proves_itself : rows_fit rows ≡ true → (c : Certificate) → Decides rows WithMoves c → ProvesItself c
   proves_itself fit (Plan own sets prices whole said) d =
       (d.1, ap are_scaled d.0 ∙ rows_are_scaled, subst (λ (rs : List RowView). IsProved rs sets prices whole) (sym d.0) d.2.proved)
   proves_itself fit (Short own named said) d =
@@ -255,10 +256,10 @@ module _ (n : NodeState) (h : IsNode n) where
 
   -- so does what the program makes of its problem, unless memory is wanting
   module _ {E : Type 0} (problem : List RowView) (is : problem ≡ rows) where
-    pub all_come : (r : Result Certificate E) → IfOk r (Decides problem) → IfOk r (ComesTo n)
-    all_come (Ok c) d = comes_to c (subst (λ (rs : List RowView). Decides rs c) is d)
+    pub all_come : (r : Result Certificate E) → IfOk r (Decides problem WithMoves) → IfOk r (ComesTo n)
+    all_come (Ok c) d = comes_to c (subst (λ (rs : List RowView). Decides rs WithMoves c) is d)
     all_come (Err e) d = tt
 
-    pub all_kept : rows_fit problem ≡ true → (r : Result Certificate E) → IfOk r (Decides problem) → IfOk r CanWrite → IfOk r IsKept
-    all_kept fit (Ok c) d can = (can, proves_itself (ap rows_fit (sym is) ∙ fit) c (subst (λ (rs : List RowView). Decides rs c) is d))
-    all_kept fit (Err e) d can = tt
+    pub all_kept : rows_fit problem ≡ true → (r : Result Certificate E) → IfOk r (Decides problem WithMoves) → IfOk r CanWrite → IfOk r IsHeld → IfOk r IsKept
+    all_kept fit (Ok c) d can held = (can, held, proves_itself (ap rows_fit (sym is) ∙ fit) c (subst (λ (rs : List RowView). Decides rs WithMoves c) is d))
+    all_kept fit (Err e) d can held = tt

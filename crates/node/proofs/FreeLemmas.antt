@@ -16,7 +16,7 @@ use Rattle.node.specs.declared.fault.NodeFault.TheVariants.{NotFree}
 use Rattle.node.specs.NodeState.{ContainerState, NodeState}
 use Rattle.node.specs.Rows.{requested_by}
 use Rattle.node.specs.Status.{is_live}
-use Rattle.node.specs.Owners.{Owner, is_pinned, owners_of}
+use Rattle.node.specs.Owners.{is_pinned, owners_of}
 use Rattle.node.specs.IsNode.{IsNode}
 use Rattle.node.specs.Refusals.{IsTakenFrom}
 use Rattle.node.specs.Calls.{Places, Creates}

@@ -1,4 +1,4 @@
--- What a rebalance leaves: the headline.
+-- What a rebalance leaves: the headline, what the certificate tells of it, and what a failed write leaves.
 use Rattle.std.proofs.Common.{◌≡◌, ℕ, ◌+◌, ◌*◌, ◌≤◌, length, true, false, not, cond, ◌&&◌, ◌||◌, List, [], ◌∷◌, Option, Some, refl, sym, ap, ◌∙◌, subst, arith}
 use Rattle.std.proofs.lemmas.Bool.{false≢true, and_from, and_left, and_right}
 use Rattle.std.proofs.lemmas.List.Elements.{recursion_from_All}
@@ -37,11 +37,14 @@ use Rattle.node.specs.Owners.{Owner, is_pinned, owner_of, owners_of}
 use Rattle.node.specs.Status.{is_live}
 use Rattle.node.specs.IsNode.{IsHome, IsPlaced, Holds, IsKept, IsNode}
 use Rattle.node.specs.Rows.{as_cores, as_cpus, rows_of, planned}
-use Rattle.node.specs.Best.{is_asking, CouldHave, total_distance, moved, IsBest, IsTold}
+use Rattle.node.specs.Best.{is_asking, CouldHave, IsBest}
 use Rattle.node.specs.Entries.{Target, entry_of, plan_pool, plan_targets, plan_entries, opened}
 use Rattle.node.specs.Rebalance.{Begun, Lacks, Begins, Moves, Finishes, Rebalances}
 use Rattle.node.specs.Leaves.{fault_rise, rise_or_memory}
-use Rattle.node.specs.Headline.{effective, HasItsCpus, IsServed, AreAlone, effective_sets, is_in_any, IsRebalanced, IsBrokenOff, Headline}
+use Rattle.node.specs.Headline.{effective, HasItsCpus, IsServed, AreAlone, effective_sets, is_in_any, IsRebalanced, Headline}
+use Rattle.node.specs.Tells.{IsTold, TellsPlan, Tells}
+use Rattle.node.specs.BreaksOff.{IsBrokenOff, BreaksOff}
+use Rattle.node.specs.RebalanceLeaves.{RebalanceLeaves}
 use Rattle.node.proofs.ListLemmas.{all_map, all_map2, pairs_map, all_of_map, of_all_map}
 use Rattle.node.proofs.AskingLemmas.{home, rows_are_weighed, short_stands}
 use Rattle.node.proofs.DistanceLemmas.{plan_back}
@@ -224,21 +227,23 @@ module _ (old : NodeState) (h : IsNode old) (effects : TargetsTakeEffect) (sets 
       ∙ ap (λ ss. set.contains new.kernel.tree.online cpu && not (is_in_any ss cpu)) (sym same_sets)
 
   -- which is the best that they could have
-  pub settled : RowsWeigh → (total : ℕ) → IsBest old total sets → IsTold old sets total last → IsRebalanced old total new
-  settled weigh total best told = record {
+  pub settled : (total : ℕ) → IsBest old total sets → IsRebalanced old total new
+  settled total best = record {
     served = subst (λ (m : Layout). AllByRecursion (IsServed new.kernel m new.pool) new.containers) (sym s.machine)
         (subst (λ (es : List Container). AllByRecursion (IsServed new.kernel old.machine new.pool) es) (sym s.containers) served);
     alone = subst (λ (es : List Container). Pairwise (AreAlone new.kernel) es) (sym s.containers) alone;
-    could = subst (λ (ss : List Ids). CouldHave old ss) (sym same_sets) best.could;
-    far = best.far ∙ ap (total_distance old) (sym same_sets);
-    nearest = best.nearest;
-    fewest = λ others could same. subst (λ (ss : List Ids). moved old ss ≤ moved old others) (sym same_sets) (best.fewest others could same);
-    told = subst (λ (ss : List Ids). IsTold old ss total new.last) (sym same_sets) (subst (λ (c : Option Certificate). IsTold old sets total c) (sym s.last) told);
-    least = subst (λ (ss : List Ids). IsLeast (rows_of old) (as_cores old.machine ss)) (sym same_sets) (best_least old h weigh total sets best);
-    costs = best_costs old h weigh total sets best ∙ ap (λ (ss : List Ids). cost (rows_of old) (as_cores old.machine ss) * old.machine.threads) (sym same_sets);
+    best = subst (λ (ss : List Ids). IsBest old total ss) (sym same_sets) best;
     pool = pool_rest;
     same = s.containers;
     lives = s.table;
+  }
+
+  -- and the certificate tells it
+  pub told_settled : RowsWeigh → (total : ℕ) → IsBest old total sets → IsTold old sets total last → TellsPlan old total new
+  told_settled weigh total best told = record {
+    told = subst (λ (ss : List Ids). IsTold old ss total new.last) (sym same_sets) (subst (λ (c : Option Certificate). IsTold old sets total c) (sym s.last) told);
+    least = subst (λ (ss : List Ids). IsLeast (rows_of old) (as_cores old.machine ss)) (sym same_sets) (best_least old h weigh total sets best);
+    costs = best_costs old h weigh total sets best ∙ ap (λ (ss : List Ids). cost (rows_of old) (as_cores old.machine ss) * old.machine.threads) (sym same_sets);
   }
 
 -- after each of the calls, whatever it answers
@@ -320,7 +325,7 @@ module _ (old : NodeState) (h : IsNode old) where
           (sym (plan_back old h (home old.machine) (rows_of old) (rows_are_weighed old h weigh) b.plan b.least.plan));
     }
 
-    pub broken_off : RowsWeigh → (total : ℕ) (fault : KernelFault) (new : NodeState) → Moves old total (Err fault) new → IsBrokenOff old fault new
+    pub broken_off : RowsWeigh → (total : ℕ) (fault : KernelFault) (new : NodeState) → Moves old total (Err fault) new → IsBrokenOff old new
     broken_off weigh total fault new m =
         let b = moved_breaks total fault new m in
         record {
@@ -330,13 +335,18 @@ module _ (old : NodeState) (h : IsNode old) where
           best = m.begun.best;
           told = subst (λ (c : Option Certificate). IsTold old (begun_sets m.begun) total c) (sym b.last) (begun_told weigh total m.mid m.begun);
           broken = b.broken;
-          failed = b.failed;
           counted = b.failures;
           safe = b.node.holds.safe;
           phase = b.phase;
           ongoing = b.ongoing;
           same = b.containers;
         }
+
+    pub breaks_off : RowsWeigh → (r : Result Outcome (OrMemory NodeFault)) (new : NodeState) → Rebalances old r new → BreaksOff old r new
+    breaks_off weigh (Ok outcome) new m = tt
+    breaks_off weigh (Err (Fault (Kernel fault))) new m = broken_off weigh m.0 fault new m.1
+    breaks_off weigh (Err (Fault fault)) new e = tt
+    breaks_off weigh (Err Memory) new e = tt
 
     -- a failure is counted, and nothing else is
     pub rebalance_counts : (r : Result Outcome (OrMemory NodeFault)) (new : NodeState) → Rebalances old r new → new.kernel.failures ≡ old.kernel.failures + rise_or_memory r
@@ -376,16 +386,30 @@ module _ (old : NodeState) (h : IsNode old) where
       rebalance_makes (Err (Fault fault)) new e = absurd e
 
     module _ (effects : TargetsTakeEffect) where
-      pub rebalanced : RowsWeigh → (total : ℕ) (new : NodeState) → Moves old total (Ok tt) new → IsRebalanced old total new
-      rebalanced weigh total new m =
+      pub rebalanced : (total : ℕ) (new : NodeState) → Moves old total (Ok tt) new → IsRebalanced old total new
+      rebalanced total new m =
           let b = m.begun in
-          settled old h effects (begun_sets b) b.best.could (Some (planned old b.plan b.prices b.whole)) new (moved_settles total new m) weigh total b.best
+          settled old h effects (begun_sets b) b.best.could (Some (planned old b.plan b.prices b.whole)) new (moved_settles total new m) total b.best
+
+      plan_told : RowsWeigh → (total : ℕ) (new : NodeState) → Moves old total (Ok tt) new → TellsPlan old total new
+      plan_told weigh total new m =
+          let b = m.begun in
+          told_settled old h effects (begun_sets b) b.best.could (Some (planned old b.plan b.prices b.whole)) new (moved_settles total new m) weigh total b.best
           (begun_told weigh total m.mid b)
 
       pub headline : RowsWeigh → ScaledRowsWeigh → (r : Result Outcome (OrMemory NodeFault)) (new : NodeState) → Rebalances old r new → Headline old r new
-      headline weigh parts (Ok (Plan total)) new m = rebalanced weigh total new m
-      headline weigh parts (Ok (Short wanted allowed)) new l = short_stands old h weigh parts wanted allowed new l
-      headline weigh parts (Err (Fault (Kernel fault))) new m = broken_off weigh m.0 fault new m.1
+      headline weigh parts (Ok (Plan total)) new m = rebalanced total new m
+      headline weigh parts (Ok (Short wanted allowed)) new l = (short_stands old h weigh parts wanted allowed new l).0
+      headline weigh parts (Err (Fault (Kernel fault))) new m = (moved_breaks m.0 fault new m.1).failed
       headline weigh parts (Err (Fault Busy)) new e = e
       headline weigh parts (Err (Fault fault)) new e = absurd e
       headline weigh parts (Err Memory) new e = e.1
+
+      pub tells : RowsWeigh → ScaledRowsWeigh → (r : Result Outcome (OrMemory NodeFault)) (new : NodeState) → Rebalances old r new → Tells old r new
+      tells weigh parts (Ok (Plan total)) new m = plan_told weigh total new m
+      tells weigh parts (Ok (Short wanted allowed)) new l = (short_stands old h weigh parts wanted allowed new l).1
+      tells weigh parts (Err error) new e = tt
+
+      pub rebalance_leaves : RowsWeigh → ScaledRowsWeigh → (r : Result Outcome (OrMemory NodeFault)) (new : NodeState) → Rebalances old r new → RebalanceLeaves old r new
+      rebalance_leaves weigh parts r new m =
+          record { headline = headline weigh parts r new m; told = tells weigh parts r new m; broken = breaks_off weigh r new m }

@@ -19,7 +19,7 @@ pub mod PlanLemmas
 pub mod AskingLemmas
 pub mod DistanceLemmas
 pub mod EntryCount
-pub mod DecidingLemmas
+pub mod HeldLemmas
 pub mod BestLemmas
 pub mod NeedLemmas
 pub mod OpeningLemmas

@@ -25,7 +25,7 @@ use Rattle.node.specs.Machine.{Event, Step, IsOneStep, Run, RunsKeep, RunsStaySa
 use Rattle.node.specs.Machine.Event.{Create, Adopt, Update, Start, Kill, Delete, Rebalance, Begin, StepOn, State, ListAll, SetsOf, Pool, PhaseIs, ShowCertificate, Fork, Exit, Offline, Online}
 use Rattle.node.proofs.NodeLemmas.{fork_node, exit_node, offline_node, online_node, end_node, remove_refused_node, created_node, not_created_node, updated_node, not_updated_node, deleted_node, started_node}
 use Rattle.node.proofs.StepLemmas.{more_node, ended_node}
-use Rattle.node.proofs.HeadlineLemmas.{free_parents, begins_node, rebalances_node, headline}
+use Rattle.node.proofs.HeadlineLemmas.{free_parents, begins_node, rebalances_node, rebalance_leaves}
 use Rattle.node.proofs.ListLemmas.{all_of_map}
 
 module _ (old : NodeState) (h : IsNode old) (new : NodeState) where
@@ -154,7 +154,7 @@ module _ (law : StepsLeave) where
       (all_of_map (λ o. o.holder) (λ a. HasFreeParent new.kernel a.group) owners (free_parents new.kernel new.parent owners holds)) online holds.safe
 
   pub runs_rebalance : TargetsTakeEffect → RowsWeigh → ScaledRowsWeigh → RunsRebalance
-  runs_rebalance effects weigh parts first events old answer new h r b = headline old (runs_keep first events old h r) law effects weigh parts answer new b
+  runs_rebalance effects weigh parts first events old answer new h r b = rebalance_leaves old (runs_keep first events old h r) law effects weigh parts answer new b
 
 -- the steps to the end of a hand-over, as events
 steps_run : (count : ℕ) (old mid new : NodeState) (answer : Result (Unit {0}) KernelFault) → StepsMore count old mid → Ends mid answer new

@@ -40,21 +40,21 @@ proves (certificate.Short rows members WithMoves) p = (p.1, record { limits = p.
 proves (certificate.Short rows members Plain) p = absurd (plain_is_not p.0)
 
 pub last_is_proved : WrittenReadsAgain → LastIsProved
-last_is_proved again n h c is held =
+last_is_proved again n h c is =
     let kept : IsKept c = subst (λ (last : Option Certificate). IfSome last IsKept) is h.proved in
-    (c, again c kept.0 held, proves c kept.1)
+    (c, again c kept.0 kept.1, proves c kept.2)
 
 pub total_is_proved : WrittenReadsAgain → TotalIsProved
-total_is_proved again old n total h r c is held =
+total_is_proved again old n total h r c is =
     let sets = effective_sets n.kernel n.containers in
     let own : Certificate = planned old (as_cores old.machine sets) r.told.prices r.told.whole in
     let c_is : c ≡ own = ap (λ (last : Option Certificate). option_map_or (λ (x : Certificate). x) last own) (sym is ∙ r.told.is) in
     let kept : IsKept c = subst (λ (last : Option Certificate). IfSome last IsKept) is h.proved in
-    let itself : ProvesItself own = subst ProvesItself c_is kept.1 in
+    let itself : ProvesItself own = subst ProvesItself c_is kept.2 in
     let proved : IsProvedCertificate own (Moves r.told.distance (moved old sets)) = (itself.1, itself.2, r.told.parts) in (
       r.told.distance,
       r.told.counts,
-      (c, again c kept.0 held, subst (λ (x : Certificate). IsProvedCertificate x (Moves r.told.distance (moved old sets))) (sym c_is) proved),
+      (c, again c kept.0 kept.1, subst (λ (x : Certificate). IsProvedCertificate x (Moves r.told.distance (moved old sets))) (sym c_is) proved),
     )
 
 -- before what was worked out last there was a node as well
@@ -82,7 +82,7 @@ module _ (old n : NodeState) (wanted : ℕ) (allowed : Ids) (h : IsNode n) (l : 
   named_counted weigh parts = there_counted earlier earlier_node weigh parts wanted allowed n earlier_lacks
 
 pub short_is_proved : WrittenReadsAgain → RowsWeigh → ScaledRowsWeigh → ShortIsProved
-short_is_proved again weigh parts old n wanted allowed h l c is held =
+short_is_proved again weigh parts old n wanted allowed h l c is =
     let named = chosen (scaled_rows_of old) l.members in
     let same : verdict_of c ≡ Short (asked named) (length (offered named)) =
     ap (λ (last : Option Certificate). option_map_or verdict_of last (Plan 0)) (sym is ∙ ap (λ (m : NodeState). m.last) l.is) in (
@@ -90,5 +90,5 @@ short_is_proved again weigh parts old n wanted allowed h l c is held =
       length (offered named),
       l.need.asks,
       named_counted old n wanted allowed h l weigh parts,
-      subst (λ (v : Verdict). IsVerdict (text_of c) v) same (last_is_proved again n h c is held),
+      subst (λ (v : Verdict). IsVerdict (text_of c) v) same (last_is_proved again n h c is),
     )

@@ -1,13 +1,16 @@
 -- The writes of an `update`: how many fail, how many are made, and what they are one by one.
-use Rattle.std.proofs.Common.{◌≡◌, inl, inr, ℕ, ◌+◌, ◌≤◌, Bool, true, false, List, [], ◌∷◌, ◌++◌, refl, sym, ap, ◌∙◌, subst, arith, Option, Some}
-use Rattle.std.specs.Prelude.{map, Result, Ok, Err}
+use Rattle.std.proofs.Common.{◌≡◌, ◌⊎◌, inl, inr, ℕ, ◌+◌, ◌≤◌, Bool, true, false, not, ◌&&◌, List, refl, sym, ap, ◌∙◌, subst, arith, Some}
+use Rattle.std.proofs.lemmas.Option.{same_Some}
+use Rattle.std.specs.Prelude.{map, Result, Ok, Err, IfOk}
 use Rattle.std.specs.List.{AllByRecursion}
 use Rattle.std.specs.Map.{lookup, set_value}
 use Rattle.std.specs.Str.{bytes_eq}
 use Rattle.faults.specs.declared.OrMemory.{OrMemory}
 use Rattle.faults.specs.declared.OrMemory.TheVariants.{Memory, Fault}
-use Rattle.cpu_set.specs.Ids.{Ids}
+use Rattle.cpu_set.specs.Ids.{Ids, is_same}
+use Rattle.cpu_set.specs.Pointwise.{is_same_decides}
 use Rattle.cpuset_tree.specs.declared.Group.{Group}
+use Rattle.cpuset_tree.specs.Groups.{requested_cpus}
 use Rattle.cpuset_tree.specs.TreeLaws.{IsChild}
 use Rattle.kernel_model.specs.declared.KernelFault.{KernelFault}
 use Rattle.kernel_model.specs.declared.KernelFault.TheVariants.{Failed}
@@ -19,18 +22,18 @@ use Rattle.node.specs.declared.fault.NodeFault.{NodeFault}
 use Rattle.node.specs.declared.fault.NodeFault.TheVariants.{Busy, BadId, IdInUse, TooManyContainers, NoContainer, NotCreated, NotRunnable, BadSignal, NotLive, NotStopped, NoHandover, NoAnswer, NotFree, Config, Demand, Kernel}
 use Rattle.apply_plan.specs.Holders.{IsSafe}
 use Rattle.node.specs.NodeState.{ContainerState, NodeState, container_of, is_underway}
-use Rattle.node.specs.Owners.{owners_of}
+use Rattle.node.specs.Owners.{is_pinned, owners_of}
 use Rattle.node.specs.Status.{is_live}
 use Rattle.node.specs.IsNode.{IsPlaced, Holds, IsNode}
 use Rattle.node.specs.Wanted.{ConfigCause, Reads}
 use Rattle.node.specs.Leaves.{rise_or_memory}
 use Rattle.node.specs.Making.{AreCalls, UpdatesAreCalls, UpdatesStaySafe, UpdatesFail}
 use Rattle.node.specs.Making.IsOneCall.{Cpus, Mems}
-use Rattle.node.specs.Updates.{MayUpdate, UpdateCause, MadeIf, becomes_pinned, moves_home, Rewrites, made_states, rewrite_states, Updates}
+use Rattle.node.specs.Updates.{MayUpdate, UpdateCause, MadeIf, gives_way, moves_home, Rewrites, made_states, rewrite_states, Updates, NeedsNoWrite, WritesNoMore}
 use Rattle.node.proofs.LateLemmas.{cpus_fail, mems_fail}
 use Rattle.node.proofs.MakingLemmas.{calls_then}
 use Rattle.node.proofs.ContainerLemmas.{found_owner}
-use Rattle.node.proofs.UpdateLemmas.{cpus_made, either, done_states_safe, refused_states_safe}
+use Rattle.node.proofs.UpdateLemmas.{cpus_made, either, set_found, done_states_safe, refused_states_safe}
 use Rattle.node.proofs.NodeLemmas.{updated_node, not_updated_node}
 
 module _ (make : Bool) (old : KernelState) (g : Group) (r : Result (Unit {0}) KernelFault) (new : KernelState) where
@@ -64,27 +67,34 @@ mems_few true old g mems r new m = let one : new.writes ≡ old.writes + 1 = cou
 mems_few false old g mems r new m = none_made false old g r new m.1
 
 module _ (old : KernelState) (reserved : Ids) (c : ContainerState) (asked : Asked) (new : KernelState) where
-  abbrev becomes : Bool
-  becomes = becomes_pinned c.demand asked
+  abbrev gives : Bool
+  gives = gives_way old reserved c asked
 
   abbrev moves : Bool
   moves = moves_home c.demand asked
 
   pub rewrites_count : (r : Result (Unit {0}) KernelFault) → Rewrites old reserved c asked r new → new.failures ≡ old.failures + rise r
   rewrites_count r (inl (fault, refused, is)) =
-      cpus_count becomes old c.group reserved (Err fault) new refused ∙ ap (λ (x : Result (Unit {0}) KernelFault). old.failures + rise x) (sym is)
+      cpus_count gives old c.group reserved (Err fault) new refused ∙ ap (λ (x : Result (Unit {0}) KernelFault). old.failures + rise x) (sym is)
   rewrites_count r (inr (done, mid, first, second)) =
-      let one : mid.failures ≡ old.failures + 0 = cpus_count becomes old c.group reserved (Ok done) mid first in
+      let one : mid.failures ≡ old.failures + 0 = cpus_count gives old c.group reserved (Ok done) mid first in
       let two : new.failures ≡ mid.failures + rise r = mems_count moves mid c.group asked.homes r new second in
       omega (arith, one, two)
 
   pub rewrites_few : (r : Result (Unit {0}) KernelFault) → Rewrites old reserved c asked r new → new.writes ≤ old.writes + 2
   rewrites_few r (inl (fault, refused, is)) =
-      let one : new.writes ≤ old.writes + 1 = cpus_few becomes old c.group reserved (Err fault) new refused in omega (arith, one)
+      let one : new.writes ≤ old.writes + 1 = cpus_few gives old c.group reserved (Err fault) new refused in omega (arith, one)
   rewrites_few r (inr (done, mid, first, second)) =
-      let one : mid.writes ≤ old.writes + 1 = cpus_few becomes old c.group reserved (Ok done) mid first in
+      let one : mid.writes ≤ old.writes + 1 = cpus_few gives old c.group reserved (Ok done) mid first in
       let two : new.writes ≤ mid.writes + 1 = mems_few moves mid c.group asked.homes r new second in
       omega (arith, one, two)
+
+  pub rewrites_none : gives ≡ false → moves ≡ false → Rewrites old reserved c asked (Ok tt) new → new ≡ old
+  rewrites_none stays at_home (inl (fault, refused, is)) = absurd (let no : ⊥ = cc is in no)
+  rewrites_none stays at_home (inr (done, mid, first, second)) =
+      let one : MadeIf false old (WritesCpus old c.group reserved) (Ok done) mid = subst (λ b. MadeIf b old (WritesCpus old c.group reserved) (Ok done) mid) stays first in
+      let two : MadeIf false mid (WritesMems mid c.group asked.homes) (Ok tt) new = subst (λ b. MadeIf b mid (WritesMems mid c.group asked.homes) (Ok tt) new) at_home second in
+      two.1 ∙ one.1
 
   -- each state between is what one call leaves
   cpus_call : (make : Bool) (r : Result (Unit {0}) KernelFault) (k : KernelState) (m : MadeIf make old (WritesCpus old c.group reserved) r k)
@@ -98,14 +108,39 @@ module _ (old : KernelState) (reserved : Ids) (c : ContainerState) (asked : Aske
   mems_call false mid r m = m.1
 
   pub rewrite_calls : (r : Result (Unit {0}) KernelFault) (w : Rewrites old reserved c asked r new) → AreCalls old (rewrite_states old reserved c asked r new w) new
-  rewrite_calls r (inl (fault, refused, is)) = cpus_call becomes (Err fault) new refused
+  rewrite_calls r (inl (fault, refused, is)) = cpus_call gives (Err fault) new refused
   rewrite_calls r (inr (done, mid, first, second)) =
-      calls_then old (made_states becomes old (WritesCpus old c.group reserved) (Ok done) mid first) mid
+      calls_then old (made_states gives old (WritesCpus old c.group reserved) (Ok done) mid first) mid
       (made_states moves mid (WritesMems mid c.group asked.homes) r new second) new
-      (cpus_call becomes (Ok done) mid first) (mems_call moves mid r second)
+      (cpus_call gives (Ok done) mid first) (mems_call moves mid r second)
+
+-- where nothing differs
+no_giving : (before after already : Bool) → (after ≡ false) ⊎ (before ≡ true) ⊎ (already ≡ true) → ((not before && after) && not already) ≡ false
+no_giving true after already e = refl
+no_giving false false already e = refl
+no_giving false true true e = refl
+no_giving false true false (inl e) = e
+no_giving false true false (inr (inl e)) = sym e
+no_giving false true false (inr (inr e)) = sym e
+
+pub update_none : (old : NodeState) (id bundle config : List ℕ) (r : Result (Unit {0}) (OrMemory NodeFault)) (new : NodeState) → Updates old id bundle config r new
+    → IfOk r (λ done. WritesNoMore old id new)
+update_none old id bundle config (Err error) new u = tt
+update_none old id bundle config (Ok done) new u = λ before after was now needs.
+    let c : ContainerState = u.container in
+    let d : ContainerState = record c { bundle = bundle; demand = u.asked } in
+    let found : container_of new id ≡ Some d = ap (λ (n : NodeState). container_of n id) u.is ∙ set_found id old.containers c d u.may.there in
+    let own : NeedsNoWrite old c d =
+    subst (λ (x : ContainerState). NeedsNoWrite old x d) (same_Some before c (sym was ∙ u.may.there))
+    (subst (λ (x : ContainerState). NeedsNoWrite old before x) (same_Some after d (sym now ∙ found)) needs) in
+    let already : (is_pinned u.asked.kind ≡ false) ⊎ (is_pinned c.demand.kind ≡ true) ⊎ (is_same (requested_cpus old.kernel.tree c.group) old.machine.reserved ≡ true) =
+    elim own.cpus [ inl e ↦ inl e | inr later ↦ elim later [ inl e ↦ inr (inl e) | inr e ↦ inr (inr ((is_same_decides _ _).1 e)) ] ] in
+    rewrites_none old.kernel old.machine.reserved c u.asked new.kernel
+    (no_giving (is_pinned c.demand.kind) (is_pinned u.asked.kind) (is_same (requested_cpus old.kernel.tree c.group) old.machine.reserved) already)
+    (ap not ((is_same_decides _ _).1 own.homes)) u.rewrites
 
 -- the code's two calls
-module _ (old : KernelState) (reserved : Ids) (c : ContainerState) (asked : Asked) (new : KernelState) (make : Bool) (make_is : make ≡ becomes_pinned c.demand asked) where
+module _ (old : KernelState) (reserved : Ids) (c : ContainerState) (asked : Asked) (new : KernelState) (make : Bool) (make_is : make ≡ gives_way old reserved c asked) where
   pub rewrite_refused : (fault : KernelFault) → MadeIf make old (WritesCpus old c.group reserved) (Err fault) new → Rewrites old reserved c asked (Err fault) new
   rewrite_refused fault m = inl (fault, subst (λ b. MadeIf b old (WritesCpus old c.group reserved) (Err fault) new) make_is m, refl)
 
@@ -135,10 +170,10 @@ rewrites_fail : (parent : Group) (id : List ℕ) (reserved : Ids) (c : Container
 rewrites_fail parent id reserved c xs found old h asked new fault (inl (first, refused, is)) =
     let child : IsChild old.tree parent id c.group = found_owner id (IsPlaced old.tree parent) xs c found h.placed in
     let same : fault ≡ first = cc is in
-    same ∙ made_fails parent id reserved c old child (becomes_pinned c.demand asked) first new refused
+    same ∙ made_fails parent id reserved c old child (gives_way old reserved c asked) first new refused
 rewrites_fail parent id reserved c xs found old h asked new fault (inr (done, mid, first, second)) =
     let child : IsChild old.tree parent id c.group = found_owner id (IsPlaced old.tree parent) xs c found h.placed in
-    let now = (cpus_made reserved c (becomes_pinned c.demand asked) old mid h.kernel (Ok done) first).after c.group child.entry child.there in
+    let now = (cpus_made reserved c (gives_way old reserved c asked) old mid h.kernel (Ok done) first).after c.group child.entry child.there in
     let still : IsChild mid.tree parent id c.group =
     record { entry = now.entry; there = now.there; below = sym now.place.parent ∙ child.below; named = sym now.place.name ∙ child.named } in
     mems_fails parent id reserved c mid still asked.homes (moves_home c.demand asked) fault new second

@@ -2,6 +2,7 @@
 use Rattle.std.proofs.Common.{◌≡◌, ℕ, Bool, true, false, not, ◌||◌, List, Option, Some, None, refl, sym, ap, ◌∙◌, subst}
 use Rattle.std.specs.Prelude.{is_some, if◌then◌else◌, Ok}
 use Rattle.std.specs.FinSet as set
+use Rattle.std.specs.List.{AllByRecursion}
 use Rattle.cpu_set.specs.Ids.{Ids, is_empty}
 use Rattle.kernel_model.specs.KernelState.{KernelState}
 use Rattle.machine.specs.Layout.{Layout}
@@ -26,7 +27,7 @@ use Rattle.node.specs.Said.{IsSaid}
 use Rattle.node.specs.Served.{AreAsked, HasAsked, RunsServeConfigs}
 use Rattle.node.proofs.ListLemmas.{all_map2}
 use Rattle.node.proofs.MachineLemmas.{runs_rebalance}
-use Rattle.node.proofs.SaidLemmas.{AreSaid, rebalance_said, containers_are_said}
+use Rattle.node.proofs.SaidLemmas.{rebalance_keeps, containers_are_said}
 
 -- what a section asks for tells whether that is CPUs of its own
 pinned_by : (threads : ℕ) (limit : Option ℕ) (period : ℕ) (allowed : Ids) (s : Section) (count : ℕ) → limit_of s.quota ≡ limit → IsKind threads limit period allowed s (Pinned count)
@@ -68,7 +69,8 @@ has_asked events m k pool e said served = record {
 
 pub runs_serve_configs : RowsWeigh → StepsLeave → TargetsTakeEffect → ScaledRowsWeigh → RunsServeConfigs
 runs_serve_configs weigh law effects parts first events old total new node none run rebalances =
-    let headline : IsRebalanced old total new = runs_rebalance law effects weigh parts first events old (Ok (Plan total)) new node run rebalances in
-    let said : AreSaid events new = rebalance_said events old new (Ok (Plan total)) rebalances (containers_are_said first events old none run) in
+    let headline : IsRebalanced old total new = (runs_rebalance law effects weigh parts first events old (Ok (Plan total)) new node run rebalances).headline in
+    let said : AllByRecursion (IsSaid events new.machine) new.containers =
+    rebalance_keeps (λ m xs. AllByRecursion (IsSaid events m) xs) old new (Ok (Plan total)) rebalances (containers_are_said first events old none run) in
     all_map2 (IsSaid events new.machine) (IsServed new.kernel new.machine new.pool) (HasAsked events new.machine new.kernel new.pool)
     (has_asked events new.machine new.kernel new.pool) new.containers said headline.served

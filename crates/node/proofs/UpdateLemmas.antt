@@ -1,14 +1,15 @@
 -- What an `update` leaves of what holds of a node.
-use Rattle.std.proofs.Common.{◌≡◌, ◌⊎◌, inl, inr, ℕ, ◌<◌, Bool, true, false, not, ◌&&◌, ◌||◌, cond, List, [], ◌∷◌, ◌++◌, Option, Some, None, refl, sym, ap, ◌∙◌, subst, arith}
-use Rattle.std.proofs.lemmas.Bool.{false≢true, ne_eqb}
+use Rattle.std.proofs.Common.{◌≡◌, ◌⊎◌, inl, inr, ℕ, ◌<◌, Bool, true, false, not, ◌&&◌, ◌||◌, cond, List, [], ◌∷◌, Some, refl, sym, ap, ◌∙◌, subst, arith}
+use Rattle.std.proofs.lemmas.Bool.{ne_eqb}
 use Rattle.std.proofs.lemmas.Option.{none-some}
 use Rattle.std.proofs.lemmas.Slice.Eq.{bytes_eq-Decides}
-use Rattle.std.specs.Prelude.{map, Result, Ok, Err, OnErr, IfOk}
+use Rattle.std.specs.Prelude.{map, Result, Ok, Err}
 use Rattle.std.specs.List.{AllByRecursion, AllZip}
 use Rattle.std.specs.Map.{lookup, set_value}
 use Rattle.std.specs.Str.{bytes_eq}
 use Rattle.std.specs.FinSet as set
-use Rattle.cpu_set.specs.Ids.{Ids, is_empty}
+use Rattle.cpu_set.specs.Ids.{Ids, is_empty, is_same}
+use Rattle.cpu_set.specs.Pointwise.{is_same_decides}
 use Rattle.cpuset_tree.specs.declared.Group.{Group}
 use Rattle.cpuset_tree.specs.TreeState.{GroupEntry, TreeState}
 use Rattle.cpuset_tree.specs.Groups.{same_group, entry_of, root_of, requested_cpus, cpus_in}
@@ -26,8 +27,8 @@ use Rattle.apply_plan.specs.Holders.{Pairwise, AreApart, HasSome, IsSafe}
 use Rattle.demand.specs.declared.Demand.{Demand as Asked}
 use Rattle.node.specs.NodeState.{ContainerState}
 use Rattle.node.specs.Owners.{Owner, is_pinned, owner_of, owners_of}
-use Rattle.node.specs.IsNode.{IsHome, IsShallow, HaveOtherIds, IsPlaced, IsFirst, IsOwned, AreOwned, Holds}
-use Rattle.node.specs.Updates.{MadeIf, becomes_pinned, moves_home, Rewrites, made_states, rewrite_states}
+use Rattle.node.specs.IsNode.{HaveOtherIds, IsPlaced, IsFirst, IsOwned, Holds}
+use Rattle.node.specs.Updates.{MadeIf, becomes_pinned, gives_way, moves_home, Rewrites, made_states, rewrite_states}
 use Rattle.node.proofs.ListLemmas.{all_append}
 use Rattle.node.proofs.HoldsLemmas.{AreSafeOwners, of_safe, to_safe}
 use Rattle.node.proofs.ContainerLemmas.{split, found_owner}
@@ -288,6 +289,17 @@ set_same id (x ∷ xs) c found = split id x
     let next : lookup (bytes_eq id) xs ≡ Some c = sym (ap (λ b. cond b (Some x.1) (lookup (bytes_eq id) xs)) t) ∙ found in
     ap (λ b. cond b ((x.0, c) ∷ xs) (x ∷ set_value (bytes_eq id) xs c)) t ∙ ap (λ ys. x ∷ ys) (set_same id xs c next))
 
+-- and one that is replaced is found as it is then
+pub set_found : (id : List ℕ) (xs : Entries) (c d : ContainerState) → lookup (bytes_eq id) xs ≡ Some c → lookup (bytes_eq id) (set_value (bytes_eq id) xs d) ≡ Some d
+set_found id [] c d found = absurd (none-some c found)
+set_found id (x ∷ xs) c d found = split id x
+    (λ t.
+    ap (λ b. lookup (bytes_eq id) (cond b ((x.0, d) ∷ xs) (x ∷ set_value (bytes_eq id) xs d))) t ∙ ap (λ b. cond b (Some d) (lookup (bytes_eq id) xs)) t)
+    (λ t.
+    let next : lookup (bytes_eq id) xs ≡ Some c = sym (ap (λ b. cond b (Some x.1) (lookup (bytes_eq id) xs)) t) ∙ found in
+    ap (λ b. lookup (bytes_eq id) (cond b ((x.0, d) ∷ xs) (x ∷ set_value (bytes_eq id) xs d))) t
+    ∙ ap (λ b. cond b (Some x.1) (lookup (bytes_eq id) (set_value (bytes_eq id) xs d))) t ∙ set_found id xs c d next)
+
 -- what the writes of an `update` leave of the group's CPUs
 module _ (reserved : Ids) (c : ContainerState) where
   -- it requests what it did, or the reserved CPUs
@@ -325,7 +337,11 @@ module _ (reserved : Ids) (c : ContainerState) where
     mems_leave true old new r m = (writes_leave_groups.mems old new c.group mems r m).cpus c.group
     mems_leave false old new r m = ap (λ (k : KernelState). requested_cpus k.tree c.group) m.1
 
-  -- the container as it is then: pinned as it was, or as the CPUs were written
+  negated : (b : Bool) → not b ≡ false → b ≡ true
+  negated true e = refl
+  negated false e = sym e
+
+  -- the container as it is then: pinned as it was, or it requests the reserved CPUs
   flags : (before after : Bool) → (not before && after) ≡ false → after ≡ true → before ≡ true
   flags true after e is = refl
   flags false true e is = sym e
@@ -337,11 +353,17 @@ module _ (reserved : Ids) (c : ContainerState) where
     kept_own key (inr is) = record { id = refl; group = refl; pid = refl; sets = inr (is ∙ sym same) }
 
     module _ (bundle : List ℕ) (asked : Asked) where
-      changed_own : (key : List ℕ) (make : Bool) → becomes_pinned c.demand asked ≡ make → HasBy make old new
+      changed_own : (key : List ℕ) (make : Bool) → gives_way old reserved c asked ≡ make → HasBy make old new
           → Eased old new (owner_of (key, c)) (owner_of (key, record c { bundle = bundle; demand = asked }))
-      changed_own key true becomes is = record { id = refl; group = refl; pid = refl; sets = inr (is ∙ sym same) }
-      changed_own key false becomes is =
-          record { id = refl; group = refl; pid = refl; sets = inl (flags (is_pinned c.demand.kind) (is_pinned asked.kind) becomes, is) }
+      changed_own key true gives is = record { id = refl; group = refl; pid = refl; sets = inr (is ∙ sym same) }
+      changed_own key false gives is = by (becomes_pinned c.demand asked) refl gives where
+        by : (b : Bool) → becomes_pinned c.demand asked ≡ b → (b && not (is_same (requested_cpus old.tree c.group) reserved)) ≡ false
+            → Eased old new (owner_of (key, c)) (owner_of (key, record c { bundle = bundle; demand = asked }))
+        by true becomes e =
+            let already : requested_cpus old.tree c.group ≡ reserved = (is_same_decides _ _).0 (negated (is_same (requested_cpus old.tree c.group) reserved) e) in
+            record { id = refl; group = refl; pid = refl; sets = inr (is ∙ already ∙ sym same) }
+        by false becomes e =
+            record { id = refl; group = refl; pid = refl; sets = inl (flags (is_pinned c.demand.kind) (is_pinned asked.kind) becomes, is) }
 
   has_then : (make : Bool) (old mid new : KernelState) → requested_cpus new.tree c.group ≡ requested_cpus mid.tree c.group → HasBy make old mid → HasBy make old new
   has_then true old mid new same h = same ∙ h
@@ -363,30 +385,30 @@ module _ (reserved : Ids) (c : ContainerState) where
       changed = record c { bundle = bundle; demand = asked }
 
       -- and of the changed one, once the CPUs are written that have to be
-      pub changed_holds : (k : KernelState) → Rewritten old k c.group → HasBy (becomes_pinned c.demand asked) old k
+      pub changed_holds : (k : KernelState) → Rewritten old k c.group → HasBy (gives_way old reserved c asked) old k
           → Holds k parent (owners_of (set_value (bytes_eq id) xs changed))
       changed_holds k w is =
           one_holds parent old k id c w child changed
-          (λ key. changed_own old k (w.machine.reserved ∙ sym reserve) bundle asked key (becomes_pinned c.demand asked) refl is) xs found h
+          (λ key. changed_own old k (w.machine.reserved ∙ sym reserve) bundle asked key (gives_way old reserved c asked) refl is) xs found h
 
       module _ (new : KernelState) where
         pub rewritten : (r : Result (Unit {0}) KernelFault) → Rewrites old reserved c asked r new → Rewritten old new c.group
-        rewritten r (inl (fault, refused, is)) = cpus_made (becomes_pinned c.demand asked) old new h.kernel (Err fault) refused
+        rewritten r (inl (fault, refused, is)) = cpus_made (gives_way old reserved c asked) old new h.kernel (Err fault) refused
         rewritten r (inr (done, mid, first, second)) =
-            let a = cpus_made (becomes_pinned c.demand asked) old mid h.kernel (Ok done) first in
+            let a = cpus_made (gives_way old reserved c asked) old mid h.kernel (Ok done) first in
             rewritten_then old mid new c.group a (mems_made asked.homes (moves_home c.demand asked) mid new a.well_formed r second)
 
         pub either : (r : Result (Unit {0}) KernelFault) → Rewrites old reserved c asked r new → HasEither old new
-        either r (inl (fault, refused, is)) = cpus_either (becomes_pinned c.demand asked) old new (Err fault) refused
+        either r (inl (fault, refused, is)) = cpus_either (gives_way old reserved c asked) old new (Err fault) refused
         either r (inr (done, mid, first, second)) =
             let same = mems_leave asked.homes (moves_home c.demand asked) mid new r second in
-            elim (cpus_either (becomes_pinned c.demand asked) old mid (Ok done) first) [ inl was ↦ inl (same ∙ was) | inr is ↦ inr (same ∙ is) ]
+            elim (cpus_either (gives_way old reserved c asked) old mid (Ok done) first) [ inl was ↦ inl (same ∙ was) | inr is ↦ inr (same ∙ is) ]
 
-        pub as_written : Rewrites old reserved c asked (Ok tt) new → HasBy (becomes_pinned c.demand asked) old new
+        pub as_written : Rewrites old reserved c asked (Ok tt) new → HasBy (gives_way old reserved c asked) old new
         as_written (inl (fault, refused, is)) = absurd (let no : ⊥ = cc is in no)
         as_written (inr (done, mid, first, second)) =
-            has_then (becomes_pinned c.demand asked) old mid new (mems_leave asked.homes (moves_home c.demand asked) mid new (Ok tt) second)
-            (cpus_by (becomes_pinned c.demand asked) old mid done first)
+            has_then (gives_way old reserved c asked) old mid new (mems_leave asked.homes (moves_home c.demand asked) mid new (Ok tt) second)
+            (cpus_by (gives_way old reserved c asked) old mid done first)
 
 -- what is safe in the states between
 abbrev Safe : List Owner → KernelState → Type 0
@@ -399,21 +421,21 @@ made_safe owners false old Call r new m safe = tt
 
 module _ (reserved : Ids) (c : ContainerState) (parent : Group) (id : List ℕ) (xs : Entries) (found : lookup (bytes_eq id) xs ≡ Some c) (old : KernelState)
     (h : Holds old parent (owners_of xs)) (reserve : reserved ≡ old.reserved) (bundle : List ℕ) (asked : Asked) (new : KernelState) where
-  abbrev becomes : Bool
-  becomes = becomes_pinned c.demand asked
+  abbrev gives : Bool
+  gives = gives_way old reserved c asked
 
   pub refused_states_safe : (fault : KernelFault) (w : Rewrites old reserved c asked (Err fault) new)
       → AllByRecursion (Safe (owners_of xs)) (rewrite_states old reserved c asked (Err fault) new w)
   refused_states_safe fault (inl (first, refused, is)) =
-      made_safe (owners_of xs) becomes old (WritesCpus old c.group reserved) (Err first) new refused
-      (kept_holds reserved c parent id xs found old h reserve new (cpus_made reserved c becomes old new h.kernel (Err first) refused)
-      (cpus_either reserved c becomes old new (Err first) refused)).safe
+      made_safe (owners_of xs) gives old (WritesCpus old c.group reserved) (Err first) new refused
+      (kept_holds reserved c parent id xs found old h reserve new (cpus_made reserved c gives old new h.kernel (Err first) refused)
+      (cpus_either reserved c gives old new (Err first) refused)).safe
   refused_states_safe fault (inr (done, mid, first, second)) =
-      all_append (Safe (owners_of xs)) (made_states becomes old (WritesCpus old c.group reserved) (Ok done) mid first)
+      all_append (Safe (owners_of xs)) (made_states gives old (WritesCpus old c.group reserved) (Ok done) mid first)
       (made_states (moves_home c.demand asked) mid (WritesMems mid c.group asked.homes) (Err fault) new second)
-      (made_safe (owners_of xs) becomes old (WritesCpus old c.group reserved) (Ok done) mid first
-      (kept_holds reserved c parent id xs found old h reserve mid (cpus_made reserved c becomes old mid h.kernel (Ok done) first)
-      (cpus_either reserved c becomes old mid (Ok done) first)).safe)
+      (made_safe (owners_of xs) gives old (WritesCpus old c.group reserved) (Ok done) mid first
+      (kept_holds reserved c parent id xs found old h reserve mid (cpus_made reserved c gives old mid h.kernel (Ok done) first)
+      (cpus_either reserved c gives old mid (Ok done) first)).safe)
       (made_safe (owners_of xs) (moves_home c.demand asked) mid (WritesMems mid c.group asked.homes) (Err fault) new second
       (kept_holds reserved c parent id xs found old h reserve new (rewritten reserved c parent id xs found old h reserve bundle asked new (Err fault) (inr (done, mid, first, second)))
       (either reserved c parent id xs found old h reserve bundle asked new (Err fault) (inr (done, mid, first, second)))).safe)
@@ -423,11 +445,11 @@ module _ (reserved : Ids) (c : ContainerState) (parent : Group) (id : List ℕ) 
   done_states_safe (inl (first, refused, is)) = absurd (let no : ⊥ = cc is in no)
   done_states_safe (inr (done, mid, first, second)) =
       let after = owners_of (set_value (bytes_eq id) xs (record c { bundle = bundle; demand = asked })) in
-      all_append (Safe after) (made_states becomes old (WritesCpus old c.group reserved) (Ok done) mid first)
+      all_append (Safe after) (made_states gives old (WritesCpus old c.group reserved) (Ok done) mid first)
       (made_states (moves_home c.demand asked) mid (WritesMems mid c.group asked.homes) (Ok tt) new second)
-      (made_safe after becomes old (WritesCpus old c.group reserved) (Ok done) mid first
-      (changed_holds reserved c parent id xs found old h reserve bundle asked mid (cpus_made reserved c becomes old mid h.kernel (Ok done) first)
-      (cpus_by reserved c becomes old mid done first)).safe)
+      (made_safe after gives old (WritesCpus old c.group reserved) (Ok done) mid first
+      (changed_holds reserved c parent id xs found old h reserve bundle asked mid (cpus_made reserved c gives old mid h.kernel (Ok done) first)
+      (cpus_by reserved c gives old mid done first)).safe)
       (made_safe after (moves_home c.demand asked) mid (WritesMems mid c.group asked.homes) (Ok tt) new second
       (changed_holds reserved c parent id xs found old h reserve bundle asked new (rewritten reserved c parent id xs found old h reserve bundle asked new (Ok tt) (inr (done, mid, first, second)))
       (as_written reserved c parent id xs found old h reserve bundle asked new (inr (done, mid, first, second)))).safe)

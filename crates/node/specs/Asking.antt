@@ -17,6 +17,7 @@ use Rattle.node.specs.Rows.{rows_of, requested_by, scaled_rows_of}
 use Rattle.node.specs.Best.{asking, wanted_by}
 use Rattle.node.specs.Rebalance.{Lacks}
 use Rattle.node.specs.Headline.{IsShort}
+use Rattle.node.specs.Tells.{TellsShortage}
 
 -- whether a container may have the core with this lowest CPU: it is allowed all CPUs of the core, and they are online
 abbrev pub is_open : KernelState → Layout → ℕ → List ℕ × ContainerState → Bool
@@ -50,6 +51,8 @@ RowsAreAsking = (n : NodeState) → IsNode n → AllZip (IsRowOf n.kernel n.mach
 abbrev pub ScaledRowsAreAsking : Type 0
 ScaledRowsAreAsking = (n : NodeState) → IsNode n → AllZip (IsScaledRowOf n.kernel n.machine) (scaled_rows_of n) (asking n)
 
--- and a shortage of these is one of these containers
+-- and a shortage of these is one of these containers, whom the certificate names
 abbrev pub ShortStands : Type 0
-ShortStands = (old : NodeState) (wanted : ℕ) (allowed : Ids) (new : NodeState) → IsNode old → Lacks old wanted allowed new → IsShort old wanted allowed new
+ShortStands =
+    (old : NodeState) (wanted : ℕ) (allowed : Ids) (new : NodeState) → IsNode old → Lacks old wanted allowed new
+    → IsShort old wanted allowed new × TellsShortage old wanted allowed new

@@ -1,6 +1,6 @@
 -- The sets that the live pinned containers could have, and which of them are best: the nearest, and of these those that move
 -- the fewest cores.
-use Rattle.std.specs.Prelude.{◌≡◌, ◌≤◌, ◌*◌, ℕ, Bool, true, ◌&&◌, List, Option, Some, AllPairs, filter, zip}
+use Rattle.std.specs.Prelude.{◌≡◌, ◌≤◌, ℕ, Bool, true, ◌&&◌, List, AllPairs, filter, zip}
 use Rattle.std.specs.List.{AllByRecursion, AllZip, sum_by}
 use Rattle.std.specs.FinSet as set
 use Rattle.cpu_set.specs.Ids.{Ids, IsDisjoint}
@@ -12,13 +12,10 @@ use Rattle.machine.specs.Weight.{weight}
 use Rattle.demand.specs.declared.Kind.{Kind}
 use Rattle.demand.specs.declared.Kind.TheVariants.{Pinned, Shared}
 use Rattle.demand.specs.declared.Demand.{Demand}
-use Rattle.certificate.specs.PricesView.{PricesView}
-use Rattle.certificate.specs.Verdict.{AreParts}
-use Rattle.certificate.specs.declared.certificates.Certificate.{Certificate}
 use Rattle.node.specs.NodeState.{ContainerState, NodeState}
 use Rattle.node.specs.Owners.{is_pinned}
 use Rattle.node.specs.Status.{is_live}
-use Rattle.node.specs.Rows.{as_cores, requested_by, planned}
+use Rattle.node.specs.Rows.{requested_by}
 
 -- exactly so many CPUs, all allowed and online, and of each core all or none
 pub record AreOwn (k : KernelState) (m : Layout) (d : Demand) (count : ℕ) (cpus : Ids) : Type 0 where
@@ -65,13 +62,3 @@ pub record IsBest (n : NodeState) (total : ℕ) (sets : List Ids) : Type 0 where
   pub far : total ≡ total_distance n sets
   pub nearest : (others : List Ids) → CouldHave n others → total ≤ total_distance n others
   pub fewest : (others : List Ids) → CouldHave n others → total_distance n others ≡ total → moved n sets ≤ moved n others
-
--- what was worked out last is this plan, told by its cores: its total is the distance of these and how many move, packed, and
--- the CPUs are that far for each CPU that a core has
-pub record IsTold (n : NodeState) (sets : List Ids) (total : ℕ) (last : Option Certificate) : Type 0 where
-  pub prices : PricesView
-  pub whole : ℕ
-  pub distance : ℕ
-  pub parts : AreParts whole distance (moved n sets)
-  pub counts : total ≡ distance * n.machine.threads
-  pub is : last ≡ Some (planned n (as_cores n.machine sets) prices whole)

@@ -1,5 +1,5 @@
 -- What a rebalance leaves, in the subject's own words.
-use Rattle.std.specs.Prelude.{◌≡◌, ◌+◌, ◌*◌, ◌<◌, ◌≤◌, ℕ, Bool, true, false, not, ◌&&◌, ◌||◌, cond, List, [], ◌∷◌, Some, None, Result, Ok, Err, All, filter_map, length, map, slice_get}
+use Rattle.std.specs.Prelude.{◌≡◌, ◌<◌, ℕ, Bool, true, false, not, ◌&&◌, ◌||◌, cond, List, [], ◌∷◌, Result, Ok, Err, All, filter_map, length, slice_get}
 use Rattle.std.specs.List.{AllByRecursion, list_any, sum_by}
 use Rattle.std.specs.List.Sorted.{IsStrictlyIncreasing}
 use Rattle.std.specs.FinSet as set
@@ -8,14 +8,10 @@ use Rattle.cpuset_tree.specs.Effective.{effective_cpus}
 use Rattle.kernel_model.specs.KernelState.{KernelState}
 use Rattle.machine.specs.Cores.{whole_in}
 use Rattle.machine.specs.Layout.{Layout}
-use Rattle.certificate.specs.IsLeast.{IsLeast}
-use Rattle.certificate.specs.IsShortage.{HasNoPlan}
-use Rattle.certificate.specs.Cost.{cost}
-use Rattle.kernel_model.specs.declared.KernelFault.{KernelFault}
 use Rattle.kernel_model.specs.declared.KernelFault.TheVariants.{Failed}
 use Rattle.faults.specs.declared.OrMemory.{OrMemory}
 use Rattle.faults.specs.declared.OrMemory.TheVariants.{Memory, Fault}
-use Rattle.apply_plan.specs.Holders.{Pairwise, IsSafe}
+use Rattle.apply_plan.specs.Holders.{Pairwise}
 use Rattle.demand.specs.declared.Kind.{Kind}
 use Rattle.demand.specs.declared.Kind.TheVariants.{Pinned, Shared}
 use Rattle.demand.specs.declared.Demand.{Demand}
@@ -23,15 +19,11 @@ use Rattle.node.specs.declared.fault.NodeFault.{NodeFault}
 use Rattle.node.specs.declared.fault.NodeFault.TheVariants.{Busy, Kernel}
 use Rattle.node.specs.declared.outcome.Outcome.{Outcome}
 use Rattle.node.specs.declared.outcome.Outcome.TheVariants.{Plan, Short}
-use Rattle.node.specs.declared.phase.Phase.TheVariants.{Unsettled}
 use Rattle.node.specs.NodeState.{ContainerState, NodeState, is_underway}
-use Rattle.node.specs.Owners.{is_pinned, owners_of}
+use Rattle.node.specs.Owners.{is_pinned}
 use Rattle.node.specs.Status.{is_live}
-use Rattle.node.specs.Ongoing.{IsBroken}
 use Rattle.rows.specs.RowOf.{available}
-use Rattle.node.specs.Rows.{as_cores, rows_of, lacking}
-use Rattle.node.specs.Best.{AreOwn, asking, wanted_by, CouldHave, total_distance, is_asking, moved, IsBest, IsTold}
-use Rattle.node.specs.Entries.{opened}
+use Rattle.node.specs.Best.{AreOwn, asking, wanted_by, CouldHave, is_asking, IsBest}
 
 -- the CPUs that a container has in effect
 abbrev pub effective : KernelState → List ℕ × ContainerState → Ids
@@ -62,21 +54,12 @@ abbrev pub is_in_any : List Ids → ℕ → Bool
 is_in_any sets cpu = list_any (λ cpus. set.contains cpus cpu) sets
 
 -- after a plan of this total: each live container has exactly the CPUs that it asked for, all allowed and none shared, and a
--- pinned one of each core all or none; the total is their distance to the home nodes, and no sets that the containers could
--- have are nearer; among all such sets of that total none move fewer cores; the certificate tells the cores of these very sets,
--- which are a plan of least cost of the rows; the pool is the online CPUs that are in none of these sets; and the same
--- containers live as before
+-- pinned one of each core all or none; what they have is the best that they could have, at this distance to the home nodes; the
+-- pool is the online CPUs that are in none of these sets; and the same containers live as before
 pub record IsRebalanced (old : NodeState) (total : ℕ) (new : NodeState) : Type 0 where
   pub served : AllByRecursion (IsServed new.kernel new.machine new.pool) new.containers
   pub alone : Pairwise (AreAlone new.kernel) new.containers
-  pub could : CouldHave old (effective_sets new.kernel new.containers)
-  pub far : total ≡ total_distance old (effective_sets new.kernel new.containers)
-  pub nearest : (others : List Ids) → CouldHave old others → total ≤ total_distance old others
-  pub fewest : (others : List Ids) → CouldHave old others → total_distance old others ≡ total
-      → moved old (effective_sets new.kernel new.containers) ≤ moved old others
-  pub told : IsTold old (effective_sets new.kernel new.containers) total new.last
-  pub least : IsLeast (rows_of old) (as_cores old.machine (effective_sets new.kernel new.containers))
-  pub costs : total ≡ cost (rows_of old) (as_cores old.machine (effective_sets new.kernel new.containers)) * old.machine.threads
+  pub best : IsBest old total (effective_sets new.kernel new.containers)
   pub pool : (cpu : ℕ) → set.contains new.pool cpu ≡ (set.contains new.kernel.tree.online cpu && not (is_in_any (effective_sets new.kernel new.containers) cpu))
   pub same : new.containers ≡ old.containers
   pub lives : new.kernel.table ≡ old.kernel.table
@@ -85,42 +68,28 @@ pub record IsRebalanced (old : NodeState) (total : ℕ) (new : NodeState) : Type
 abbrev pub is_allowed : KernelState → Layout → ℕ → List ℕ × ContainerState → Bool
 is_allowed k m cpu e = set.contains (whole_in m (available k.tree.online e.1.demand)) cpu
 
--- after a shortage: live pinned containers, each named once, that together ask for more CPUs than they may have, so that
--- no sets at all would do for the live pinned containers; and the kernel is as before
-pub record IsShort (old : NodeState) (wanted : ℕ) (allowed : Ids) (new : NodeState) : Type 0 where
-  pub members : List ℕ
-  pub named : new.last ≡ Some (lacking old members)
+-- some of the live pinned containers, each named once by its place among them, that together ask for more CPUs than they may have
+pub record AreShort (old : NodeState) (members : List ℕ) (wanted : ℕ) (allowed : Ids) : Type 0 where
   pub rising : IsStrictlyIncreasing members
   pub there : All (λ k. k < length (asking old)) members
   pub asks : wanted ≡ sum_by (λ e. wanted_by e.1.demand.kind) (filter_map (slice_get (asking old)) members)
   pub has : (cpu : ℕ) → set.contains allowed cpu ≡ list_any (is_allowed old.kernel old.machine cpu) (filter_map (slice_get (asking old)) members)
   pub more : set.len allowed < wanted
-  pub none : HasNoPlan (rows_of old)
+
+-- after a shortage: some are short, so that no sets at all would do for the live pinned containers; and all is as before but for
+-- what was worked out last
+pub record IsShort (old : NodeState) (wanted : ℕ) (allowed : Ids) (new : NodeState) : Type 0 where
+  pub members : List ℕ
+  pub short : AreShort old members wanted allowed
   pub could_not : (sets : List Ids) → CouldHave old sets → ⊥
   pub same : new ≡ record old { last = new.last }
 
--- after a write that failed: the plan was the best; what each container of the hand-over requests is what it did before, or what
--- it keeps of that, or what the plan gives it; nothing else changed in the kernel but its counts; what is requested is safe; and no
--- hand-over is open
-pub record IsBrokenOff (old : NodeState) (fault : KernelFault) (new : NodeState) : Type 0 where
-  pub sets : List Ids
-  pub total : ℕ
-  pub least : IsLeast (rows_of old) (as_cores old.machine sets)
-  pub best : IsBest old total sets
-  pub told : IsTold old sets total new.last
-  pub broken : IsBroken (opened old sets) old.kernel new.kernel
-  pub failed : fault ≡ Failed
-  pub counted : new.kernel.failures ≡ old.kernel.failures + 1
-  pub safe : IsSafe new.kernel new.kernel.reserved (map (λ o. o.holder) (owners_of new.containers))
-  pub phase : new.phase ≡ Unsettled
-  pub ongoing : new.ongoing ≡ None
-  pub same : new.containers ≡ old.containers
-
--- what stands after a rebalance that answers this; of its other refusals each has its cause, and nothing changed
+-- what stands after a rebalance that answers this; of its refusals each has its cause, and nothing changed but where a write of
+-- the kernel failed
 abbrev pub Headline : NodeState → Result Outcome (OrMemory NodeFault) → NodeState → Type 0
 Headline old (Ok (Plan total)) new = IsRebalanced old total new
 Headline old (Ok (Short wanted allowed)) new = IsShort old wanted allowed new
-Headline old (Err (Fault (Kernel fault))) new = IsBrokenOff old fault new
+Headline old (Err (Fault (Kernel fault))) new = fault ≡ Failed
 Headline old (Err (Fault Busy)) new = (is_underway old.phase ≡ true) × (new ≡ old)
 Headline old (Err (Fault fault)) new = ⊥
 Headline old (Err Memory) new = new ≡ old

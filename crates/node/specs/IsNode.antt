@@ -28,7 +28,7 @@ use Rattle.certificate.specs.Scaled.{are_scaled}
 use Rattle.certificate.specs.declared.weights.Weights.TheVariants.{WithMoves}
 use Rattle.certificate.specs.declared.certificates.Certificate.{Certificate}
 use Rattle.certificate.specs.declared.certificates.Certificate.TheVariants.{Plan, Short}
-use Rattle.certificate_text.specs.Written.{CanWrite}
+use Rattle.certificate_text.specs.Written.{CanWrite, IsHeld}
 use Rattle.node.specs.NodeState.{ContainerState, NodeState, is_underway}
 use Rattle.node.specs.Owners.{Owner, owners_of}
 use Rattle.node.specs.Ongoing.{Stands}
@@ -104,9 +104,9 @@ abbrev pub ProvesItself : Certificate → Type 0
 ProvesItself (Plan rows sets prices total weights) = (weights ≡ WithMoves) × (are_scaled rows ≡ true) × IsProved rows sets prices total
 ProvesItself (Short rows members weights) = (weights ≡ WithMoves) × (are_scaled rows ≡ true) × IsTrue (rows_fit rows) × IsShortage rows members
 
--- and it can be written
+-- and it can be written, in numbers and sets that their types hold
 abbrev pub IsKept : Certificate → Type 0
-IsKept c = CanWrite c × ProvesItself c
+IsKept c = CanWrite c × IsHeld c × ProvesItself c
 
 -- and the kernel runs on the machine, with no more containers than there may be; a hand-over that is open is theirs; and what
 -- was worked out last can be written and proves itself

@@ -15,11 +15,13 @@ pub mod Updates
 pub mod Calls
 pub mod OpenCause
 pub mod Leaves
-pub mod Decides
 pub mod Best
 pub mod Entries
 pub mod Rebalance
 pub mod Headline
+pub mod Tells
+pub mod BreaksOff
+pub mod RebalanceLeaves
 pub mod Written
 pub mod Asking
 pub mod WithoutCores

@@ -30,7 +30,7 @@ use Rattle.node.specs.Rebalance.{Begins, StepsOn, Rebalances, Moves, ShowsCertif
 use Rattle.node.specs.Shown.{Shows}
 use Rattle.node.specs.Listed.{listed}
 use Rattle.node.specs.Sets.{HasSets}
-use Rattle.node.specs.Headline.{Headline}
+use Rattle.node.specs.RebalanceLeaves.{RebalanceLeaves}
 
 -- a call with its answer, or an event of the kernel with its answer; after the calls that may change something those that
 -- only read
@@ -120,8 +120,9 @@ RebalancesAreSteps =
     (old : NodeState) (total : ℕ) (answer : Result (Unit {0}) KernelFault) (new : NodeState) → Moves old total answer new
     → (steps : List Event) × AllByRecursion IsOneStep steps × Run old (Begin (Ok (Plan total)) ∷ steps) new
 
--- and after any list of them a rebalance leaves what the headline says of its answer
+-- and after any list of them a rebalance leaves what the headline says of its answer, with what the certificate tells of that and
+-- what a failed write leaves
 abbrev pub RunsRebalance : Type 0
 RunsRebalance =
     (first : NodeState) (events : List Event) (old : NodeState) (answer : Result Outcome (OrMemory NodeFault)) (new : NodeState)
-    → IsNode first → Run first events old → Rebalances old answer new → Headline old answer new
+    → IsNode first → Run first events old → Rebalances old answer new → RebalanceLeaves old answer new

@@ -9,11 +9,12 @@ use Rattle.certificate.specs.declared.certificates.Certificate.TheVariants as ce
 use Rattle.certificate.specs.declared.checking.Verdict.{Verdict}
 use Rattle.certificate.specs.declared.checking.Verdict.TheVariants.{Moves, Short}
 use Rattle.certificate_text.specs.Verdict.{IsVerdict}
-use Rattle.certificate_text.specs.Written.{IsHeld, text_of}
+use Rattle.certificate_text.specs.Written.{text_of}
 use Rattle.node.specs.NodeState.{NodeState}
 use Rattle.node.specs.IsNode.{IsNode}
 use Rattle.node.specs.Best.{moved}
-use Rattle.node.specs.Headline.{effective_sets, IsRebalanced}
+use Rattle.node.specs.Headline.{effective_sets}
+use Rattle.node.specs.Tells.{TellsPlan}
 use Rattle.node.specs.Rebalance.{Lacks}
 
 -- the distance and the moves that a certificate claims, or how many CPUs its members ask for and how many are there
@@ -21,20 +22,20 @@ abbrev pub verdict_of : Certificate → Verdict
 verdict_of (certificate.Plan rows sets prices total weights) = plan_verdict total weights
 verdict_of (certificate.Short rows members weights) = Short (asked (chosen rows members)) (length (offered (chosen rows members)))
 
--- the text of what a node worked out last proves just that, if its numbers are such as the types hold
+-- the text of what a node worked out last proves just that
 abbrev pub LastIsProved : Type 0
-LastIsProved = (n : NodeState) → IsNode n → (c : Certificate) → n.last ≡ Some c → IsHeld c → IsVerdict (text_of c) (verdict_of c)
+LastIsProved = (n : NodeState) → IsNode n → (c : Certificate) → n.last ≡ Some c → IsVerdict (text_of c) (verdict_of c)
 
 -- and after a rebalance that plans it proves a distance and as the moves how many cores the sets in effect moved; the total that
 -- was answered is that distance, for each CPU that a core has
 abbrev pub TotalIsProved : Type 0
-TotalIsProved = (old n : NodeState) (total : ℕ) → IsNode n → IsRebalanced old total n → (c : Certificate) → n.last ≡ Some c → IsHeld c
+TotalIsProved = (old n : NodeState) (total : ℕ) → IsNode n → TellsPlan old total n → (c : Certificate) → n.last ≡ Some c
     → (distance : ℕ) × (total ≡ distance * old.machine.threads)
     × IsVerdict (text_of c) (Moves distance (moved old (effective_sets n.kernel n.containers)))
 
 -- after one that answers a shortage it proves how many cores are asked for and how many there are; what was answered is so many
 -- CPUs for each CPU that a core has
 abbrev pub ShortIsProved : Type 0
-ShortIsProved = (old n : NodeState) (wanted : ℕ) (allowed : Ids) → IsNode n → Lacks old wanted allowed n → (c : Certificate) → n.last ≡ Some c → IsHeld c
+ShortIsProved = (old n : NodeState) (wanted : ℕ) (allowed : Ids) → IsNode n → Lacks old wanted allowed n → (c : Certificate) → n.last ≡ Some c
     → (cores : ℕ) × (there : ℕ) × (wanted ≡ cores * old.machine.threads) × (set.len allowed ≡ there * old.machine.threads)
     × IsVerdict (text_of c) (Short cores there)

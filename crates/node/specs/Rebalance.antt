@@ -20,7 +20,7 @@ use Rattle.faults.specs.declared.OrMemory.TheVariants.{Memory, Fault}
 use Rattle.apply_plan.specs.declared.Progress.{Progress}
 use Rattle.apply_plan.specs.declared.Progress.TheVariants.{More, Done}
 use Rattle.apply_plan.specs.DueWrite.{Steps}
-use Rattle.node.specs.Decides.{DecidesPlan, DecidesShort}
+use Rattle.solution.specs.Decides.{DecidesPlan, DecidesShort}
 use Rattle.node.specs.declared.fault.NodeFault.{NodeFault}
 use Rattle.node.specs.declared.fault.NodeFault.TheVariants.{Busy, NoHandover, NoAnswer, Kernel}
 use Rattle.node.specs.declared.outcome.Outcome.{Outcome}

@@ -31,7 +31,7 @@ AreAsked m k pool s cpus true =
     × ((cpu : ℕ) → set.contains cpus cpu ≡ true → (set.contains (allowed_of m s) cpu ≡ true) × (set.contains k.tree.online cpu ≡ true))
 AreAsked m k pool s cpus false = (cpus ≡ pool) × (is_empty pool ≡ false)
 
--- one of the events made the container of a config or read it again, and while it lives it has in effect what that asks for
+-- while the container lives it has in effect what the config asks for that was read for it last
 pub record HasAsked (events : List Event) (m : Layout) (k : KernelState) (pool : Ids) (e : List ℕ × ContainerState) : Type 0 where
   pub config : List ℕ
   pub said : Said

@@ -1,11 +1,12 @@
 -- What becomes of a live container whose config is read again.
-use Rattle.std.specs.Prelude.{◌≡◌, ◌++◌, ℕ, Bool, true, false, not, ◌&&◌, List, [], ◌∷◌, Some, None, Result, Ok, Err}
+use Rattle.std.specs.Prelude.{◌≡◌, ◌⊎◌, ◌++◌, ℕ, Bool, true, false, not, ◌&&◌, List, [], ◌∷◌, Some, None, Result, Ok, Err}
 use Rattle.std.proofs.Common.{inl, inr}
 use Rattle.std.specs.Map.{set_value}
 use Rattle.std.specs.Str.{bytes_eq}
 use Rattle.faults.specs.declared.OrMemory.{OrMemory}
 use Rattle.faults.specs.declared.OrMemory.TheVariants.{Memory, Fault}
 use Rattle.cpu_set.specs.Ids.{Ids, is_same}
+use Rattle.cpuset_tree.specs.Groups.{requested_cpus}
 use Rattle.kernel_model.specs.declared.KernelFault.{KernelFault}
 use Rattle.kernel_model.specs.declared.KernelFault.TheVariants.{Failed}
 use Rattle.kernel_model.specs.KernelState.{KernelState}
@@ -39,17 +40,21 @@ abbrev pub MadeIf : Bool → KernelState → (Result (Unit {0}) KernelFault → 
 MadeIf true old Call r new = Call r new
 MadeIf false old Call r new = (r ≡ Ok tt) × (new ≡ old)
 
--- a shared container asks for CPUs of its own; its homes are others
+-- a shared container asks for CPUs of its own, and its group requests others than the reserved ones
 abbrev pub becomes_pinned : Asked → Asked → Bool
 becomes_pinned before after = not (is_pinned before.kind) && is_pinned after.kind
 
+abbrev pub gives_way : KernelState → Ids → ContainerState → Asked → Bool
+gives_way k reserved c asked = becomes_pinned c.demand asked && not (is_same (requested_cpus k.tree c.group) reserved)
+
+-- its homes are others
 abbrev pub moves_home : Asked → Asked → Bool
 moves_home before after = not (is_same before.homes after.homes)
 
 -- in the first case the reserved CPUs are written, and then in the second the memory nodes
 abbrev pub Rewrites : KernelState → Ids → ContainerState → Asked → Result (Unit {0}) KernelFault → KernelState → Type 0
 Rewrites old reserved c asked =
-    Then (MadeIf (becomes_pinned c.demand asked) old (WritesCpus old c.group reserved))
+    Then (MadeIf (gives_way old reserved c asked) old (WritesCpus old c.group reserved))
     (λ _ mid. MadeIf (moves_home c.demand asked) mid (WritesMems mid c.group asked.homes))
 
 -- its bundle and what it asks for are the new ones
@@ -82,6 +87,17 @@ Updates old id bundle config (Err Memory) new = (c : ContainerState) × MayUpdat
 Updates old id bundle config (Err (Fault (Kernel fault))) new = (fault ≡ Failed) × NotUpdated old id config fault new
 Updates old id bundle config (Err (Fault fault)) new = UpdateCause old id config fault × (new ≡ old)
 
+-- a container before and after: its homes stay, and it asks for no CPUs of its own then, or did before, or its group requests the
+-- reserved ones already
+pub record NeedsNoWrite (old : NodeState) (before after : ContainerState) : Type 0 where
+  pub homes : before.demand.homes ≡ after.demand.homes
+  pub cpus : (is_pinned after.demand.kind ≡ false) ⊎ (is_pinned before.demand.kind ≡ true) ⊎ (requested_cpus old.kernel.tree before.group ≡ old.machine.reserved)
+
+-- an `update` that is done writes nothing then
+abbrev pub WritesNoMore : NodeState → List ℕ → NodeState → Type 0
+WritesNoMore old id new = (before after : ContainerState) → container_of old id ≡ Some before → container_of new id ≡ Some after
+    → NeedsNoWrite old before after → new.kernel ≡ old.kernel
+
 -- the states after its writes, one after another; none where it is refused before
 abbrev pub made_states : (make : Bool) (old : KernelState) (Call : Result (Unit {0}) KernelFault → KernelState → Type 0) (r : Result (Unit {0}) KernelFault)
     (new : KernelState)
@@ -92,9 +108,9 @@ made_states false old Call r new none = []
 abbrev pub rewrite_states : (old : KernelState) (reserved : Ids) (c : ContainerState) (asked : Asked) (r : Result (Unit {0}) KernelFault) (new : KernelState)
     → Rewrites old reserved c asked r new → List KernelState
 rewrite_states old reserved c asked r new (inl (fault, refused, is)) =
-    made_states (becomes_pinned c.demand asked) old (WritesCpus old c.group reserved) (Err fault) new refused
+    made_states (gives_way old reserved c asked) old (WritesCpus old c.group reserved) (Err fault) new refused
 rewrite_states old reserved c asked r new (inr (done, mid, first, second)) =
-    made_states (becomes_pinned c.demand asked) old (WritesCpus old c.group reserved) (Ok done) mid first
+    made_states (gives_way old reserved c asked) old (WritesCpus old c.group reserved) (Ok done) mid first
     ++ made_states (moves_home c.demand asked) mid (WritesMems mid c.group asked.homes) r new second
 
 abbrev pub update_states : (old : NodeState) (id bundle config : List ℕ) (r : Result (Unit {0}) (OrMemory NodeFault)) (new : NodeState)

@@ -1,8 +1,7 @@
 -- How many writing calls of the kernel the calls of a node make, as the kernel counts them.
 use Rattle.std.specs.Prelude.{◌≡◌, ℕ, ◌+◌, ◌*◌, ◌≤◌, cond, List, filter, length, Some, is_some, Result, Ok, Err, codes}
 use Rattle.faults.specs.declared.OrMemory.{OrMemory}
-use Rattle.faults.specs.declared.OrMemory.TheVariants.{Memory, Fault}
-use Rattle.cpu_set.specs.Ids.{Ids}
+use Rattle.faults.specs.declared.OrMemory.TheVariants.{Fault}
 use Rattle.cpuset_tree.specs.declared.Group.{Group}
 use Rattle.cpuset_tree.specs.Groups.{child_of, root_of}
 use Rattle.kernel_model.specs.KernelState.{KernelState}

@@ -31,8 +31,8 @@ pub fn first_kernels()
 /// Where after such a list each live container requests a CPU that is online, the same holds of the CPUs that are in effect
 /// for them.
 ///
-/// And what a container asks for is what the config says with which one of the events made it, a `create` or an `adopt`,
-/// or which an `update` among them read again.
+/// And what a container asks for is what the config says that was read for it last: by the event that made it, a `create` or
+/// an `adopt`, or by the last `update` of it that was not refused.
 pub fn runs()
     ensures first { FirstIsNode }
     ensures keep { RunsKeep }
@@ -81,13 +81,16 @@ pub fn each_update()
 /// total distance to the home nodes that no plan undercuts, and what the kernel has in effect is that plan; among all plans
 /// of that total none moves fewer cores; the pool is the online CPUs that it leaves. A shortage names containers that
 /// together ask for more CPUs than the whole cores that they may have offer.
+///
+/// With it stands what the certificate tells of that, and what is left where a write failed.
 pub fn each_rebalance()
     ensures { RunsRebalance }
 {}
 
-/// What a plan gives to the container of a config, after any list of calls and events from a node of no container on.
+/// What a plan gives to a container, after any list of calls and events from a node of no container on, by the config that was
+/// read for it last.
 ///
-/// Where the config asks for CPUs of its own, its container has in effect as many as it asks for, of whole cores, all of those
+/// Where that asks for CPUs of its own, the container has in effect as many as it asks for, of whole cores, all of those
 /// that it allows and online; else it has the pool, which is not empty.
 pub fn what_configs_get()
     ensures { RunsServeConfigs }

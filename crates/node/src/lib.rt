@@ -6,7 +6,6 @@ mod begin;
 mod container;
 mod containers;
 mod create;
-mod deciding;
 mod events;
 mod fault;
 mod free_cpus;

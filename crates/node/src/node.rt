@@ -26,7 +26,7 @@ pub const GROUP_NAME: &str = "numarun";
 ///
 /// A container is found by its id in O(1) expected steps. Of c containers and p live processes `create`, `kill` and
 /// `delete` take O(c + p) steps and `step` O(c log p), as the modelled kernel's calls do; `rebalance` and `begin` take
-/// those of the rows, of [`transport::solve`] and of the hand-over.
+/// those of the rows, of [`solution::decide`] and of the hand-over.
 #[derive(Drop)]
 pub struct Node<K: Kernel + Drop> {
     pub(crate) alloc: Global,

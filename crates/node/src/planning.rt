@@ -4,7 +4,7 @@ ghost use Rattle.std.specs.Result.{result_map_both};
 ghost use Rattle.certificate.specs.Limits.{rows_fit};
 ghost use Rattle.cpu_set.specs.declared.TheConstants.{CPU_LIMIT};
 ghost use Rattle.certificate.specs.IsShortage.{IsShortage};
-ghost use Rattle.certificate_text.specs.Written.{CanWrite};
+ghost use Rattle.certificate_text.specs.Written.{CanWrite, IsHeld};
 ghost use Rattle.node.specs.IsNode.{ProvesItself, IsKept};
 ghost use Rattle.node.specs.NodeState.{is_underway};
 ghost use Rattle.node.specs.Leaves.{rise_or_memory};
@@ -13,17 +13,19 @@ ghost use Rattle.node.specs.Ongoing.{IsOngoing};
 ghost use Rattle.node.specs.Viewed.{seen_ongoing};
 ghost use Rattle.node.specs.declared.phase.Phase.TheVariants.{Underway};
 ghost use Rattle.node.specs.Headline.{Headline};
+ghost use Rattle.node.specs.Tells.{Tells};
+ghost use Rattle.node.specs.BreaksOff.{BreaksOff};
 ghost use Rattle.node.specs.Written.{RebalanceWrites};
 ghost use Rattle.node.specs.Rebalance.{Begins, ComesTo, Finishes, Rebalances, WorksOut, IsNeed, ShowsCertificate};
 
-use crate::deciding::decide;
 use crate::ongoing::Ongoing;
 use crate::{Node, NodeFault, Outcome, Phase};
-use certificate::{Certificate, Cost, Problem, check_shortage, offered_to};
+use certificate::{Certificate, Cost, Problem, Weights, check_shortage, offered_to};
 use cpu_set::IdSet;
 use faults::OrMemory;
 use kernel_model::{Kernel, KernelFault};
 use machine::Machine;
+use solution::decide;
 use std::alloc::AllocError;
 
 /// So many cores as a count of CPUs.
@@ -87,7 +89,8 @@ impl<K: Kernel + Drop> Node<K> {
         ensures kept { IfOk result IsKept }
     {
         self.holds();
-        decide(self.alloc, self.problem()?)
+        certificate::laws::what_is_within_the_limits();
+        decide(self.alloc, self.problem()?, Weights::WithMoves)
     }
 
     /// Plans, and opens the hand-over to the plan; or finds a shortage.
@@ -178,6 +181,8 @@ impl<K: Kernel + Drop> Node<K> {
     /// it did before, or what it keeps of that, or its target, and the next call starts from there.
     pub fn rebalance(&mut self) -> Result<Outcome, OrMemory<NodeFault>>
         ensures headline { Headline self.old result self.new }
+        ensures told { Tells self.old result self.new }
+        ensures broken { BreaksOff self.old result self.new }
         ensures rebalances { Rebalances self.old result self.new }
         ensures counted { self.new.kernel.failures ≡ self.old.kernel.failures + rise_or_memory result }
         // Exactly the writing calls that the hand-over to what is in effect after it had to come.
@@ -187,14 +192,15 @@ impl<K: Kernel + Drop> Node<K> {
         self.rebalance_body()
     }
 
-    /// The certificate of the last plan or shortage that was worked out: it can be written as text, and its own check
-    /// accepts it.
+    /// The certificate of the last plan or shortage that was worked out: it can be written as text, in numbers that its types
+    /// hold, and its own check accepts it.
     ///
     /// # Errors
     /// `NoAnswer`.
     pub fn certificate(&self) -> Result<&Certificate, NodeFault>
         ensures shows { ShowsCertificate self.now (result_map_both (λ c. c.now) (λ fault. fault) result) }
         ensures can { IfOk result (λ c. CanWrite c.now) }
+        ensures held { IfOk result (λ c. IsHeld c.now) }
         ensures proved { IfOk result (λ c. ProvesItself c.now) }
     {
         match &self.last {

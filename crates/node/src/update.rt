@@ -1,11 +1,12 @@
 //! `update`: the config of a live container is read again.
-ghost use Rattle.std.specs.Prelude.{◌≡◌, ◌+◌, ◌≤◌, Err};
+ghost use Rattle.std.specs.Prelude.{◌≡◌, ◌+◌, ◌≤◌, true, Err, IfOk};
+ghost use Rattle.cpuset_tree.specs.Groups.{has_group};
 ghost use Rattle.faults.specs.declared.OrMemory.TheVariants.{Fault};
 ghost use Rattle.node.specs.declared.fault.NodeFault.TheVariants.{Kernel};
 ghost use Rattle.kernel_model.specs.Cases.{WritesCpus, WritesMems};
 ghost use Rattle.node.specs.Leaves.{rise_or_memory};
 ghost use Rattle.node.specs.Making.{IsAsBefore};
-ghost use Rattle.node.specs.Updates.{becomes_pinned, moves_home, MadeIf, Rewrites, Updates};
+ghost use Rattle.node.specs.Updates.{becomes_pinned, gives_way, moves_home, MadeIf, Rewrites, Updates, WritesNoMore};
 ghost use Rattle.node.specs.Viewed.{seen};
 
 use crate::container::Container;
@@ -16,13 +17,27 @@ use crate::{Node, NodeFault};
 use cpu_set::IdSet;
 use demand::Demand;
 use faults::OrMemory;
-use kernel_model::{Group, Kernel, KernelFault};
+use kernel_model::{Group, Kernel, KernelFault, requested};
 
 /// Whether a shared container asks for CPUs of its own now.
 fn becomes_pinned(before: &Demand, after: &Demand) -> bool
     ensures { result ≡ becomes_pinned before.now after.now }
 {
     !is_pinned(before.kind) && is_pinned(after.kind)
+}
+
+/// Whether one does whose group requests others than the reserved ones.
+fn gives_way<K: Kernel>(
+    kernel: &K,
+    reserved: &IdSet,
+    container: &Container,
+    demand: &Demand,
+) -> bool
+    requires { has_group (K.state kernel.now).tree container.now.group ≡ true }
+    ensures { result ≡ gives_way (K.state kernel.now) reserved.now (seen container.now) demand.now }
+{
+    let requests = *requested(kernel, container.group);
+    becomes_pinned(&container.demand, demand) && !(requests == *reserved)
 }
 
 /// Whether its homes are others now.
@@ -62,17 +77,19 @@ fn write_mems_if<K: Kernel>(
     Ok(())
 }
 
-/// Writes the reserved CPUs where a shared container becomes pinned, and then its memory nodes where its homes differ.
+/// Writes the reserved CPUs where a shared container becomes pinned that requests others, and then its memory nodes where its
+/// homes differ.
 fn rewrite<K: Kernel>(
     kernel: &mut K,
     reserved: IdSet,
     container: &Container,
     demand: &Demand,
 ) -> Result<(), KernelFault>
+    requires { has_group (K.state kernel.old).tree container.now.group ≡ true }
     ensures { Rewrites (K.state kernel.old) reserved (seen container.now) demand.now result (K.state kernel.new) }
 {
-    let becomes = becomes_pinned(&container.demand, demand);
-    if let Err(fault) = write_cpus_if(becomes, kernel, container.group, reserved) {
+    let gives = gives_way(&*kernel, &reserved, container, demand);
+    if let Err(fault) = write_cpus_if(gives, kernel, container.group, reserved) {
         return Err(fault);
     }
     let moves = moves_home(&container.demand, demand);
@@ -116,7 +133,7 @@ impl<K: Kernel + Drop> Node<K> {
 
     /// Reads the config of a live container again, of this bundle: its bundle and what it asks for are the new ones from
     /// then on, and it keeps the CPUs that its group requests until the next plan. One that had no CPUs of its own and now
-    /// asks for some is written to the reserved CPUs first. Whether it can be started stays.
+    /// asks for some is written to the reserved CPUs first, where it requests others. Whether it can be started stays.
     ///
     /// # Errors
     /// In this order: `Busy`, `NoContainer`, `NotLive`, `Config`, `Demand`; or `Failed` of the kernel, after which it asks for
@@ -131,6 +148,8 @@ impl<K: Kernel + Drop> Node<K> {
         ensures counted { self.new.kernel.failures ≡ self.old.kernel.failures + rise_or_memory result }
         // Two writing calls of the kernel at most.
         ensures few { self.new.kernel.writes ≤ self.old.kernel.writes + 2 }
+        // And none where its homes stay, and it becomes shared, or stays what it was, or requests the reserved CPUs already.
+        ensures none { IfOk result (λ done. WritesNoMore self.old id.now self.new) }
         // What a write that fails leaves.
         ensures fails { (fault : KernelFault) → result ≡ Err (Fault (Kernel fault)) → IsAsBefore self.old id.now self.new }
     {

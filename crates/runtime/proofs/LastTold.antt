@@ -13,7 +13,7 @@ use Rattle.certificate.specs.declared.certificates.Certificate.{Certificate}
 use Rattle.certificate.specs.declared.checking.Verdict.{Verdict}
 use Rattle.certificate.specs.declared.checking.Verdict.TheVariants as proves
 use Rattle.certificate_text.specs.Verdict.{IsVerdict}
-use Rattle.certificate_text.specs.Written.{IsHeld, text_of}
+use Rattle.certificate_text.specs.Written.{text_of}
 use Rattle.apply_plan.specs.declared.Progress.{Progress}
 use Rattle.apply_plan.specs.declared.Progress.TheVariants.{More, Done}
 use Rattle.node.specs.declared.fault.NodeFault.{NodeFault}
@@ -36,13 +36,13 @@ use Rattle.runtime.specs.CertificatesTold.{told_with, told_last, CertificatesAre
 
 -- the text of what the node keeps proves what was told
 abbrev IsLastTold : Option Verdict → NodeState → Type 0
-IsLastTold told n = (verdict : Verdict) → told ≡ Some verdict → (c : Certificate) × (n.last ≡ Some c) × (IsHeld c → IsVerdict (text_of c) verdict)
+IsLastTold told n = (verdict : Verdict) → told ≡ Some verdict → (c : Certificate) × (n.last ≡ Some c) × IsVerdict (text_of c) verdict
 
 nothing_told : (n : NodeState) → IsLastTold None n
 nothing_told n verdict is = absurd (none-some verdict is)
 
-now_told : (n : NodeState) (told : Verdict) (c : Certificate) → n.last ≡ Some c → (IsHeld c → IsVerdict (text_of c) told) → IsLastTold (Some told) n
-now_told n told c is proves verdict same = (c, is, λ held. subst (λ v. IsVerdict (text_of c) v) (same_Some told verdict same) (proves held))
+now_told : (n : NodeState) (told : Verdict) (c : Certificate) → n.last ≡ Some c → IsVerdict (text_of c) told → IsLastTold (Some told) n
+now_told n told c is proves verdict same = (c, is, subst (λ v. IsVerdict (text_of c) v) (same_Some told verdict same) proves)
 
 still_told : (told : Option Verdict) (old new : NodeState) → new.last ≡ old.last → IsLastTold told old → IsLastTold told new
 still_told told old new same h verdict is = let k = h verdict is in (k.0, same ∙ k.1, k.2)
@@ -114,13 +114,13 @@ module _ (keep : RunsKeep) (leaves : RunsRebalance) (last_proved : LastIsProved)
   begin_told told old new (Ok (Plan total)) node after b h =
       let c : Certificate = planned old b.plan b.prices b.whole in
       let is : new.last ≡ Some c = ap (λ (n : NodeState). n.last) b.is in
-      now_told new _ c is (λ held. subst (λ v. IsVerdict (text_of c) v)
+      now_told new _ c is (subst (λ v. IsVerdict (text_of c) v)
       (of_parts b.whole b.distance _ b.parts ∙ ap (λ d. proves.Moves d (moved old (as_cpus old.machine b.plan))) (sym (by_core old node total b.distance b.counts)))
-      (last_proved new after c is held))
+      (last_proved new after c is))
   begin_told told old new (Ok (Short wanted allowed)) node after l h =
       let c : Certificate = lacking old l.members in
       let is : new.last ≡ Some c = ap (λ (n : NodeState). n.last) l.is in
-      now_told new _ c is (λ held. short_told old new wanted allowed node c (short_proved old new wanted allowed after l c is held))
+      now_told new _ c is (short_told old new wanted allowed node c (short_proved old new wanted allowed after l c is))
   begin_told told old new (Err Memory) node after b h = still_told told old new (ap (λ (n : NodeState). n.last) b.1) h
   begin_told told old new (Err (Fault Busy)) node after b h = still_told told old new (ap (λ (n : NodeState). n.last) b.1) h
   begin_told told old new (Err (Fault fault)) node after b h = absurd b
@@ -128,13 +128,13 @@ module _ (keep : RunsKeep) (leaves : RunsRebalance) (last_proved : LastIsProved)
   rebalance_told : (told : Option Verdict) (old new : NodeState) (r : Result Outcome (OrMemory NodeFault)) → IsNode old → IsNode new → (s : Rebalances old r new) → IsLastTold told old
       → IsLastTold (told_with told old (Rebalance r) new s) new
   rebalance_told told old new (Ok (Plan total)) node after m h =
-      let b = leaves old [] old (Ok (Plan total)) new node refl m in
+      let b = (leaves old [] old (Ok (Plan total)) new node refl m).told in
       let c : Certificate = planned old (as_cores old.machine (effective_sets new.kernel new.containers)) b.told.prices b.told.whole in
-      now_told new _ c b.told.is (λ held. total_told old new total node c (total_proved old new total after b c b.told.is held))
+      now_told new _ c b.told.is (total_told old new total node c (total_proved old new total after b c b.told.is))
   rebalance_told told old new (Ok (Short wanted allowed)) node after l h =
       let c : Certificate = lacking old l.members in
       let is : new.last ≡ Some c = ap (λ (n : NodeState). n.last) l.is in
-      now_told new _ c is (λ held. short_told old new wanted allowed node c (short_proved old new wanted allowed after l c is held))
+      now_told new _ c is (short_told old new wanted allowed node c (short_proved old new wanted allowed after l c is))
   rebalance_told told old new (Err Memory) node after b h = still_told told old new (ap (λ (n : NodeState). n.last) b.1) h
   rebalance_told told old new (Err (Fault (Kernel fault))) node after m h = nothing_told new
   rebalance_told told old new (Err (Fault Busy)) node after b h = still_told told old new (ap (λ (n : NodeState). n.last) b.1) h
@@ -171,14 +171,14 @@ module _ (keep : RunsKeep) (leaves : RunsRebalance) (last_proved : LastIsProved)
 
   -- what was told was kept, so a certificate is shown, and not that there is none
   shown : (n : NodeState) (verdict : Verdict) (printed : List ℕ) (r : Result Certificate NodeFault) → ShowsCertificate n r → printed ≡ answer_text text_of Node r
-      → ((c : Certificate) → n.last ≡ Some c → IsHeld c) → (c : Certificate) → n.last ≡ Some c → (IsHeld c → IsVerdict (text_of c) verdict) → IsVerdict printed verdict
-  shown n verdict printed (Ok d) shows prints held c is proves =
+      → (c : Certificate) → n.last ≡ Some c → IsVerdict (text_of c) verdict → IsVerdict printed verdict
+  shown n verdict printed (Ok d) shows prints c is proves =
       let same : c ≡ d = same_Some c d (sym is ∙ shows) in
       let text : text_of c ≡ printed = ap text_of same ∙ sym prints in
-      subst (λ t. IsVerdict t verdict) text (proves (held c is))
-  shown n verdict printed (Err fault) shows prints held c is proves = absurd (none-some c (sym shows.1 ∙ is))
+      subst (λ t. IsVerdict t verdict) text proves
+  shown n verdict printed (Err fault) shows prints c is proves = absurd (none-some c (sym shows.1 ∙ is))
 
   pub certificates_are_told : CertificatesAreTold
-  certificates_are_told first old new lines text printed verdict node run calls is answered held =
+  certificates_are_told first old new lines text printed verdict node run calls is answered =
       let told = told_run None first.node calls.events old.node node calls.run (nothing_told first.node) verdict is in
-      shown old.node verdict printed answered.0.0 answered.0.1 answered.0.2 held told.0 told.1 told.2
+      shown old.node verdict printed answered.0.0 answered.0.1 answered.0.2 told.0 told.1 told.2

@@ -1,6 +1,7 @@
 pub mod Listing
 pub mod SetTexts
 pub mod Entries
+pub mod Seen
 pub mod ContainerLines
 pub mod Serving
 pub mod LastTold

@@ -10,7 +10,7 @@ use Rattle.node.specs.declared.fault.NodeFault.{NodeFault}
 use Rattle.node.specs.NodeState.{ContainerState, NodeState}
 use Rattle.node.specs.Rebalance.{Rebalances}
 use Rattle.node.specs.Machine.{Event, Create, Adopt, Update, RunsRebalance}
-use Rattle.node.specs.Said.{IsAskedIn}
+use Rattle.node.specs.Said.{IsAskedIn, IsReadBy}
 use Rattle.node.specs.Served.{HasAsked, RunsServeConfigs}
 use Rattle.script.specs.Commands.{Asked}
 use Rattle.script.specs.Commands as ask
@@ -150,10 +150,15 @@ module _ (told : Told) (events : List Event) (e : List ℕ × ContainerState) (c
   asked_by : (made : Event) → IsPlacing e.0 e.1.bundle config (Ok e.1.pid) made → Contains events made → IsAskedBy told lines e.0 e.1.bundle config
   asked_by made placing h = by_lines told e.0 e.1.bundle config (Ok e.1.pid) made placing old lines events text new m h
 
+  placing_of : (earlier : List Event) (its : Event) → IsReadBy earlier its e config → IsPlacing e.0 e.1.bundle config (Ok e.1.pid) its
+  placing_of earlier its (inl is) = inl is
+  placing_of earlier its (inr (inl (cpus, is))) = inr (inl (cpus, is))
+  placing_of earlier its (inr (inr (is, was))) = inr (inr is)
+
   asked_in : IsAskedIn events e config → IsAskedBy told lines e.0 e.1.bundle config
-  asked_in (inl (inl h)) = asked_by (Create e.0 e.1.bundle config (Ok e.1.pid)) (inl refl) h
-  asked_in (inl (inr (cpus, h))) = asked_by (Adopt e.0 e.1.bundle config cpus (Ok e.1.pid)) (inr (inl (cpus, refl))) h
-  asked_in (inr h) = asked_by (Update e.0 e.1.bundle config (Ok tt)) (inr (inr refl)) h
+  asked_in a =
+      asked_by a.its (placing_of a.earlier a.its a.read)
+      (subst (λ (es : List Event). Contains es a.its) (sym a.cut) (Contains-append_right a.earlier (a.its ∷ a.later) a.its (0, omega arith, refl)))
 
 all_more : {A : Type 0} (P Q : A → Type 0) → ((x : A) → P x → Q x) → (xs : List A) → AllByRecursion P xs → AllByRecursion Q xs
 all_more P Q follows [] h = h
@@ -173,14 +178,16 @@ scripts_serve_configs leaves serves first last before after line text node none 
         earlier = c.2;
         later = c.4;
         run = c.5;
-        headline = leaves first.node calls.events c.0.node answered.0.0 c.1.node node calls.run answered.0.1;
+        leaves = leaves first.node calls.events c.0.node answered.0.0 c.1.node node calls.run answered.0.1;
         rest = c.7;
         told = c.8 ∙ ap (λ answer. c.2 ++ (answer ++ c.4)) answered.0.2;
       };
+      calls = calls;
       serves = λ total is.
-          all_more (HasAsked calls.events c.1.node.machine c.1.node.kernel c.1.node.pool) (HasItsConfig first.told before c.1.node.machine c.1.node.kernel c.1.node.pool)
+          all_more (HasAsked calls.events c.1.node.machine c.1.node.kernel c.1.node.pool)
+          (HasItsConfig first.told before calls.events c.1.node.machine c.1.node.kernel c.1.node.pool)
           (λ e a. let l = asked_in first.told calls.events e a.config first.node before c.2 c.0.node calls.made a.asked in
-          record { line = l.line; config = a.config; said = a.said; there = l.there; whole = l.whole; asked = l.asked; found = l.found; said_so = a.said_so; has = a.has })
+          record { line = l.line; config = a.config; said = a.said; there = l.there; whole = l.whole; asked = l.asked; found = l.found; last = a.asked; said_so = a.said_so; has = a.has })
           c.1.node.containers
           (serves first.node calls.events c.0.node total c.1.node node none calls.run (subst (λ r. Rebalances c.0.node r c.1.node) is answered.0.1));
     }

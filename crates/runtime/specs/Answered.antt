@@ -26,8 +26,8 @@ use Rattle.node.specs.Listed.{listed}
 use Rattle.node.specs.Shown.{Shows}
 use Rattle.script.specs.Commands.{Asked}
 use Rattle.script.specs.Commands as ask
-use Rattle.runtime.specs.RuntimeState.{Told, RuntimeState}
-use Rattle.runtime.specs.Found.{IsFound}
+use Rattle.runtime.specs.RuntimeState.{RuntimeState}
+use Rattle.runtime.specs.Found.{IsFound, IsSeen}
 use Rattle.runtime.specs.RefusalLine.{refusal_line}
 use Rattle.runtime.specs.OutcomeTexts.{outcome_text, progress_line}
 use Rattle.runtime.specs.AnswerTexts.{of_either, of_kernel, of_kernel_fault, answer_text, done_line, pid_line, sets_line, listing_text, phase_line}
@@ -45,9 +45,10 @@ AnswersFound old id bundle (Some config) text new =
 abbrev pub WantsMemory : NodeState → List ℕ → NodeState → Type 0
 WantsMemory old text new = (text ≡ refusal_line Memory) × (new ≡ old)
 
-abbrev pub AnswersCreate : Told → NodeState → List ℕ → List ℕ → List ℕ → NodeState → Type 0
-AnswersCreate told old id bundle text new =
-    WantsMemory old text new ⊎ ((found : Option (List ℕ)) × IsFound told bundle found × AnswersFound old id bundle found text new)
+-- by what may be found of a bundle
+abbrev pub AnswersCreate : (List ℕ → Option (List ℕ) → Type 0) → NodeState → List ℕ → List ℕ → List ℕ → NodeState → Type 0
+AnswersCreate finds old id bundle text new =
+    WantsMemory old text new ⊎ ((found : Option (List ℕ)) × finds bundle found × AnswersFound old id bundle found text new)
 
 -- the CPUs that a list names; or why the command refuses it: it is no list, or it names none
 abbrev pub NamesCpus : List ℕ → Result Ids Refusal → Type 0
@@ -68,9 +69,9 @@ AnswersTaken old id bundle list None text new = (text ≡ refusal_line NoBundle)
 AnswersTaken old id bundle list (Some config) text new =
     (cpus : Result Ids Refusal) × NamesCpus list cpus × AnswersNamed old id bundle config cpus text new
 
-abbrev pub AnswersAdopt : Told → NodeState → List ℕ → List ℕ → List ℕ → List ℕ → NodeState → Type 0
-AnswersAdopt told old id bundle list text new =
-    WantsMemory old text new ⊎ ((found : Option (List ℕ)) × IsFound told bundle found × AnswersTaken old id bundle list found text new)
+abbrev pub AnswersAdopt : (List ℕ → Option (List ℕ) → Type 0) → NodeState → List ℕ → List ℕ → List ℕ → List ℕ → NodeState → Type 0
+AnswersAdopt finds old id bundle list text new =
+    WantsMemory old text new ⊎ ((found : Option (List ℕ)) × finds bundle found × AnswersTaken old id bundle list found text new)
 
 -- the config of a container, read again from the bundle whose config was found; or there is no such bundle
 abbrev pub AnswersRead : NodeState → List ℕ → List ℕ → Option (List ℕ) → List ℕ → NodeState → Type 0
@@ -78,9 +79,9 @@ AnswersRead old id bundle None text new = (text ≡ refusal_line NoBundle) × (n
 AnswersRead old id bundle (Some config) text new =
     (r : Result (Unit {0}) (OrMemory NodeFault)) × Updates old id bundle config r new × (text ≡ answer_text done_line of_either r)
 
-abbrev pub AnswersUpdate : Told → NodeState → List ℕ → List ℕ → List ℕ → NodeState → Type 0
-AnswersUpdate told old id bundle text new =
-    WantsMemory old text new ⊎ ((found : Option (List ℕ)) × IsFound told bundle found × AnswersRead old id bundle found text new)
+abbrev pub AnswersUpdate : (List ℕ → Option (List ℕ) → Type 0) → NodeState → List ℕ → List ℕ → List ℕ → NodeState → Type 0
+AnswersUpdate finds old id bundle text new =
+    WantsMemory old text new ⊎ ((found : Option (List ℕ)) × finds bundle found × AnswersRead old id bundle found text new)
 
 abbrev pub AnswersStart : NodeState → List ℕ → List ℕ → NodeState → Type 0
 AnswersStart old id text new = (r : Result (Unit {0}) NodeFault) × Starts old id r new × (text ≡ answer_text done_line Node r)
@@ -138,26 +139,30 @@ AnswersCertificate old text new =
     (r : Result Certificate NodeFault) × ShowsCertificate old r × (text ≡ answer_text text_of Node r) × (new ≡ old)
 
 -- the answer to a command: that of the node's own call, as its text
-abbrev pub AnswersBy : Told → NodeState → Asked → List ℕ → NodeState → Type 0
-AnswersBy told old (ask.create id bundle) text new = AnswersCreate told old id bundle text new
-AnswersBy told old (ask.adopt id bundle list) text new = AnswersAdopt told old id bundle list text new
-AnswersBy told old (ask.update id bundle) text new = AnswersUpdate told old id bundle text new
-AnswersBy told old (ask.start id) text new = AnswersStart old id text new
-AnswersBy told old (ask.kill id signal) text new = AnswersKill old id signal text new
-AnswersBy told old (ask.delete id) text new = AnswersDelete old id text new
-AnswersBy told old (ask.state id) text new = AnswersState old id text new
-AnswersBy told old ask.list text new = AnswersList old text new
-AnswersBy told old (ask.sets id) text new = AnswersSets old id text new
-AnswersBy told old ask.rebalance text new = AnswersRebalance old text new
-AnswersBy told old ask.begin text new = AnswersBegin old text new
-AnswersBy told old ask.step text new = AnswersStep old text new
-AnswersBy told old ask.phase text new = AnswersPhase old text new
-AnswersBy told old ask.certificate text new = AnswersCertificate old text new
-AnswersBy told old (ask.fork pid) text new = AnswersFork old pid text new
-AnswersBy told old (ask.exit pid) text new = AnswersExit old pid text new
-AnswersBy told old (ask.offline cpu) text new = AnswersOffline old cpu text new
-AnswersBy told old (ask.online cpu) text new = AnswersOnline old cpu text new
+abbrev pub AnswersBy : (List ℕ → Option (List ℕ) → Type 0) → NodeState → Asked → List ℕ → NodeState → Type 0
+AnswersBy finds old (ask.create id bundle) text new = AnswersCreate finds old id bundle text new
+AnswersBy finds old (ask.adopt id bundle list) text new = AnswersAdopt finds old id bundle list text new
+AnswersBy finds old (ask.update id bundle) text new = AnswersUpdate finds old id bundle text new
+AnswersBy finds old (ask.start id) text new = AnswersStart old id text new
+AnswersBy finds old (ask.kill id signal) text new = AnswersKill old id signal text new
+AnswersBy finds old (ask.delete id) text new = AnswersDelete old id text new
+AnswersBy finds old (ask.state id) text new = AnswersState old id text new
+AnswersBy finds old ask.list text new = AnswersList old text new
+AnswersBy finds old (ask.sets id) text new = AnswersSets old id text new
+AnswersBy finds old ask.rebalance text new = AnswersRebalance old text new
+AnswersBy finds old ask.begin text new = AnswersBegin old text new
+AnswersBy finds old ask.step text new = AnswersStep old text new
+AnswersBy finds old ask.phase text new = AnswersPhase old text new
+AnswersBy finds old ask.certificate text new = AnswersCertificate old text new
+AnswersBy finds old (ask.fork pid) text new = AnswersFork old pid text new
+AnswersBy finds old (ask.exit pid) text new = AnswersExit old pid text new
+AnswersBy finds old (ask.offline cpu) text new = AnswersOffline old cpu text new
+AnswersBy finds old (ask.online cpu) text new = AnswersOnline old cpu text new
 
--- and what is told of the bundles stays
+-- by what is told of the bundles, and that stays
 abbrev pub Answered : RuntimeState → Asked → List ℕ → RuntimeState → Type 0
-Answered old command text new = AnswersBy old.told old.node command text new.node × (new ≡ record old { node = new.node })
+Answered old command text new = AnswersBy (IsFound old.told) old.node command text new.node × (new ≡ record old { node = new.node })
+
+-- by what is told of the bundles and what looks at them may find, and what is told stays
+abbrev pub AnsweredBy : (List ℕ → Option (List ℕ) → Type 0) → RuntimeState → Asked → List ℕ → RuntimeState → Type 0
+AnsweredBy finds old command text new = AnswersBy (IsSeen finds old.told) old.node command text new.node × (new ≡ record old { node = new.node })

@@ -2,11 +2,9 @@
 use Rattle.std.specs.Prelude.{◌≡◌, ◌/◌, ℕ, List, [], ◌∷◌, Option, Some, None, Ok, Err}
 use Rattle.std.specs.FinSet as set
 use Rattle.faults.specs.declared.or_memory.OrMemory.TheVariants.{Fault}
-use Rattle.certificate.specs.declared.certificates.Certificate.{Certificate}
 use Rattle.certificate.specs.declared.checking.Verdict.{Verdict}
 use Rattle.certificate.specs.declared.checking.Verdict.TheVariants as proves
 use Rattle.certificate_text.specs.Verdict.{IsVerdict}
-use Rattle.certificate_text.specs.Written.{IsHeld}
 use Rattle.node.specs.declared.fault.NodeFault.TheVariants.{Kernel}
 use Rattle.node.specs.declared.outcome.Outcome.TheVariants.{Plan, Short}
 use Rattle.node.specs.Best.{moved}
@@ -38,10 +36,9 @@ told_last told old [] new run = told
 told_last told old (event ∷ later) new (mid, step, run) = told_last (told_with told old event mid step) mid later new run
 
 -- whatever lines of a script over a node were answered before, the text that answers `certificate` proves the verdict on what
--- the calls of these lines told last; it speaks of a certificate whose numbers are such as their types hold
+-- the calls of these lines told last
 abbrev pub CertificatesAreTold : Type 0
 CertificatesAreTold = (first old new : RuntimeState) (lines : List (List ℕ)) (text printed : List ℕ) (verdict : Verdict)
     → IsNode first.node → Runs Answered first lines text old → (calls : AreCalls first lines text old)
     → told_last None first.node calls.events old.node calls.run ≡ Some verdict
-    → Answered old ask.certificate printed new → ((c : Certificate) → old.node.last ≡ Some c → IsHeld c)
-    → IsVerdict printed verdict
+    → Answered old ask.certificate printed new → IsVerdict printed verdict

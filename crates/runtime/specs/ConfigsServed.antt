@@ -12,6 +12,8 @@ use Rattle.node.specs.NodeState.{ContainerState}
 use Rattle.node.specs.Status.{is_live}
 use Rattle.node.specs.IsNode.{IsNode}
 use Rattle.node.specs.Headline.{effective}
+use Rattle.node.specs.Machine.{Event}
+use Rattle.node.specs.Said.{IsAskedIn}
 use Rattle.node.specs.Served.{AreAsked}
 use Rattle.script.specs.Commands as ask
 use Rattle.script.specs.Lines.{kept, words_of}
@@ -20,16 +22,16 @@ use Rattle.script.specs.Runs.{Runs}
 use Rattle.runtime.specs.Answered.{Answered}
 use Rattle.runtime.specs.Found.{IsFound}
 use Rattle.runtime.specs.RuntimeState.{RuntimeState, Told}
-use Rattle.runtime.specs.ScriptLaws.{IsRebalanceOf}
+use Rattle.runtime.specs.ScriptLaws.{AreCalls, IsRebalanceOf}
 
 -- what is wanted makes the container of this id and bundle, or reads its config again
 abbrev pub MakesIt : Wanted → List ℕ → List ℕ → Type 0
 MakesIt wanted id bundle =
     (wanted ≡ asks (ask.create id bundle)) ⊎ ((list : List ℕ) × (wanted ≡ asks (ask.adopt id bundle list))) ⊎ (wanted ≡ asks (ask.update id bundle))
 
--- one of the lines asks for the container of this id and bundle, or for its config to be read again, and while it lives it has in effect what the bytes of the
--- bundle's config ask for
-pub record HasItsConfig (told : Told) (lines : List (List ℕ)) (m : Layout) (k : KernelState) (pool : Ids) (e : List ℕ × ContainerState) : Type 0 where
+-- one of the lines asks for the container of this id and bundle, or for its config to be read again; the config that is found of the
+-- bundle is the last that the calls read for the container; and while that lives it has in effect what the config's bytes ask for
+pub record HasItsConfig (told : Told) (lines : List (List ℕ)) (events : List Event) (m : Layout) (k : KernelState) (pool : Ids) (e : List ℕ × ContainerState) : Type 0 where
   pub line : List ℕ
   pub config : List ℕ
   pub said : Said
@@ -37,14 +39,17 @@ pub record HasItsConfig (told : Told) (lines : List (List ℕ)) (m : Layout) (k 
   pub whole : kept line ≡ Some line
   pub asked : MakesIt (request_of (words_of line)) e.0 e.1.bundle
   pub found : IsFound told e.1.bundle (Some config)
+  pub last : IsAskedIn events e config
   pub said_so : config_of config ≡ Ok said
   pub has : is_live k e.1 ≡ true → AreAsked m k pool said.cpu (effective k e) (is_pinned said.cpu)
 
--- a rebalance in the midst of a script, of which the headline holds, and after a plan each container has what its config asks for
+-- a rebalance in the midst of a script, of which the headline holds; the lines before it make these calls, and after a plan each
+-- container has what the config asks for that was read for it last
 pub record IsServing (first : RuntimeState) (before after : List (List ℕ)) (text : List ℕ) (last : RuntimeState) : Type 0 where
   pub its : IsRebalanceOf first before after text last
+  pub calls : AreCalls first before its.earlier its.old
   pub serves : (total : ℕ) → its.outcome ≡ Ok (Plan total)
-      → AllByRecursion (HasItsConfig first.told before its.new.node.machine its.new.node.kernel its.new.node.pool) its.new.node.containers
+      → AllByRecursion (HasItsConfig first.told before calls.events its.new.node.machine its.new.node.kernel its.new.node.pool) its.new.node.containers
 
 -- each line of a script that asks for one is such, from a node of no container on
 abbrev pub ScriptsServeConfigs : Type 0

@@ -8,3 +8,7 @@ use Rattle.runtime.specs.RuntimeState.{Told}
 abbrev pub IsFound : Told → List ℕ → Option (List ℕ) → Type 0
 IsFound None bundle found = Unit {0}
 IsFound (Some configs) bundle found = found ≡ lookup (bytes_eq bundle) configs
+
+-- the same, and a look at the bundle may find it
+abbrev pub IsSeen : (List ℕ → Option (List ℕ) → Type 0) → Told → List ℕ → Option (List ℕ) → Type 0
+IsSeen finds told bundle found = IsFound told bundle found × finds bundle found

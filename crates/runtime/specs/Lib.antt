@@ -4,6 +4,7 @@ pub mod RefusalLine
 pub mod AnswerTexts
 pub mod OutcomeTexts
 pub mod Answered
+pub mod LooksTold
 pub mod Boots
 pub mod ScriptLaws
 pub mod ConfigsServed

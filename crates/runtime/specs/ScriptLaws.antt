@@ -15,7 +15,9 @@ use Rattle.node.specs.declared.fault.NodeFault.{NodeFault}
 use Rattle.node.specs.declared.outcome.Outcome.{Outcome}
 use Rattle.node.specs.declared.outcome.Outcome.TheVariants.{Plan, Short}
 use Rattle.node.specs.Asking.{ShortStands}
-use Rattle.node.specs.Headline.{Headline, IsRebalanced, IsShort}
+use Rattle.node.specs.Headline.{IsShort}
+use Rattle.node.specs.Tells.{TellsShortage}
+use Rattle.node.specs.RebalanceLeaves.{RebalanceLeaves}
 use Rattle.node.specs.IsNode.{IsNode}
 use Rattle.node.specs.Listed.{listed}
 use Rattle.node.specs.NodeState.{NodeState}
@@ -149,35 +151,37 @@ abbrev pub LinesAreCalls : Type 0
 LinesAreCalls = (old new : RuntimeState) (lines : List (List ℕ)) (text : List ℕ) → Runs Answered old lines text new → AreCalls old lines text new
 
 -- whatever lines of a script over a node were answered before, a rebalance leaves what the headline says of an outcome or a
--- refusal, and its answer is the text of that
+-- refusal, with what the certificate tells and what a failed write leaves, and its answer is the text of that
 abbrev pub RebalancesAreTold : Type 0
 RebalancesAreTold = (first old new : RuntimeState) (lines : List (List ℕ)) (text answer : List ℕ)
     → IsNode first.node → Runs Answered first lines text old → Answered old ask.rebalance answer new
-    → (r : Result Outcome (OrMemory NodeFault)) × Headline old.node r new.node × (answer ≡ answer_text (outcome_text new.node) of_either r)
+    → (r : Result Outcome (OrMemory NodeFault)) × RebalanceLeaves old.node r new.node × (answer ≡ answer_text (outcome_text new.node) of_either r)
 
--- so an answer that begins as a plan's does is the text of a plan, of which the headline holds
+-- so an answer that begins as a plan's does is the text of a plan, of which these hold
 abbrev pub PlansAreTold : Type 0
 PlansAreTold = (first old new : RuntimeState) (lines : List (List ℕ)) (text more : List ℕ)
     → IsNode first.node → Runs Answered first lines text old → Answered old ask.rebalance (codes "plan total " ++ more) new
-    → (total : ℕ) × IsRebalanced old.node total new.node × (codes "plan total " ++ more ≡ outcome_text new.node (Plan total))
+    → (total : ℕ) × RebalanceLeaves old.node (Ok (Plan total)) new.node × (codes "plan total " ++ more ≡ outcome_text new.node (Plan total))
 
--- and one that begins as a shortage's does is the text of a shortage, of which it holds
+-- and one that begins as a shortage's does is the text of a shortage, of which they hold
 abbrev pub ShortagesAreTold : Type 0
 ShortagesAreTold = (first old new : RuntimeState) (lines : List (List ℕ)) (text more : List ℕ)
     → IsNode first.node → Runs Answered first lines text old → Answered old ask.rebalance (codes "short demand " ++ more) new
-    → (wanted : ℕ) × (allowed : Ids) × IsShort old.node wanted allowed new.node × (codes "short demand " ++ more ≡ outcome_text new.node (Short wanted allowed))
+    → (wanted : ℕ) × (allowed : Ids) × RebalanceLeaves old.node (Ok (Short wanted allowed)) new.node × (codes "short demand " ++ more ≡ outcome_text new.node (Short wanted allowed))
 
 -- an answer to `begin` that begins so is the text of a plan too: the best that the containers could have, whose hand-over is open
 abbrev pub BegunAreTold : Type 0
 BegunAreTold = (old new : RuntimeState) (more : List ℕ) → Answered old ask.begin (codes "plan total " ++ more) new
     → (total : ℕ) × Begun old.node total new.node × (codes "plan total " ++ more ≡ outcome_text new.node (Plan total))
 
--- and one that begins as a shortage's does is the text of a shortage, of containers that live and ask for CPUs of their own
+-- and one that begins as a shortage's does is the text of a shortage, of containers that live and ask for CPUs of their own, whom
+-- the certificate names
 abbrev pub BegunShortAreTold : Type 0
 BegunShortAreTold = (old new : RuntimeState) (more : List ℕ) → IsNode old.node → Answered old ask.begin (codes "short demand " ++ more) new
-    → (wanted : ℕ) × (allowed : Ids) × IsShort old.node wanted allowed new.node × (codes "short demand " ++ more ≡ outcome_text new.node (Short wanted allowed))
+    → (wanted : ℕ) × (allowed : Ids) × IsShort old.node wanted allowed new.node × TellsShortage old.node wanted allowed new.node × (codes "short demand " ++ more ≡ outcome_text new.node (Short wanted allowed))
 
--- a rebalance in the midst of a script: what was answered before it and behind it, and that it left what the headline says
+-- a rebalance in the midst of a script: what was answered before it and behind it, and that it left what the headline says, with
+-- what the certificate tells and what a failed write leaves
 pub record IsRebalanceOf (first : RuntimeState) (before after : List (List ℕ)) (text : List ℕ) (last : RuntimeState) : Type 0 where
   pub old : RuntimeState
   pub new : RuntimeState
@@ -185,7 +189,7 @@ pub record IsRebalanceOf (first : RuntimeState) (before after : List (List ℕ))
   pub earlier : List ℕ
   pub later : List ℕ
   pub run : Runs Answered first before earlier old
-  pub headline : Headline old.node outcome new.node
+  pub leaves : RebalanceLeaves old.node outcome new.node
   pub rest : Runs Answered new after later last
   pub told : text ≡ earlier ++ (answer_text (outcome_text new.node) of_either outcome ++ later)
 
@@ -199,7 +203,7 @@ Run-append : (old mid new : NodeState) (first later : List Event) → Run old fi
 Run-append old mid new [] later e run = subst (λ n. Run n later new) e run
 Run-append old mid new (event ∷ first) later (next, step, rest) run = (next, step, Run-append next mid new first later rest run)
 
-is_call : (told : Told) (old : NodeState) (command : Asked) (text : List ℕ) (new : NodeState) → AnswersBy told old command text new
+is_call : (told : Told) (old : NodeState) (command : Asked) (text : List ℕ) (new : NodeState) → AnswersBy (IsFound told) old command text new
     → IsCall told command old text new ⊎ IsNoCall told command old text new
 is_call told old (ask.create id bundle) text new (inl h) = inr (inl h.0, h.1)
 is_call told old (ask.create id bundle) text new (inr (None, found, h)) = inr (inr (h.0, found), h.1)
@@ -235,7 +239,7 @@ commands_are_calls old new command text h = is_call old.told old.node command te
 abbrev AreOne : (List Event → Type 0) → NodeState → NodeState → Type 0
 AreOne AreMade old new = (events : List Event) × AreMade events × (length events ≤ 1) × Run old events new
 
-by_command : (told : Told) (old : NodeState) (command : Asked) (text : List ℕ) (new : NodeState) → AnswersBy told old command text new
+by_command : (told : Told) (old : NodeState) (command : Asked) (text : List ℕ) (new : NodeState) → AnswersBy (IsFound told) old command text new
     → AreOne (λ events. CommandMakes told old command events text new) old new
 by_command told old command text new h =
     elim (is_call told old command text new h) [
@@ -284,8 +288,8 @@ rebalances_are_told leaves first old new lines text answer node run ((r, h, e), 
     (r, leaves first.node before.events old.node r new.node node before.run h, e)
 
 -- no other text begins so
-plan_told : (old new : NodeState) (more : List ℕ) (r : Result Outcome (OrMemory NodeFault)) → Headline old r new → codes "plan total " ++ more ≡ answer_text (outcome_text new) of_either r
-    → (total : ℕ) × IsRebalanced old total new × (codes "plan total " ++ more ≡ outcome_text new (Plan total))
+plan_told : (old new : NodeState) (more : List ℕ) (r : Result Outcome (OrMemory NodeFault)) → RebalanceLeaves old r new
+    → codes "plan total " ++ more ≡ answer_text (outcome_text new) of_either r → (total : ℕ) × RebalanceLeaves old (Ok (Plan total)) new × (codes "plan total " ++ more ≡ outcome_text new (Plan total))
 plan_told old new more (Ok (Plan total)) h e = (total, h, e)
 plan_told old new more (Ok (Short wanted allowed)) h e = absurd (let same : 112 ≡ 115 = ap (λ t. get_or t 0 0) e in let f : ⊥ = omega (arith, same) in f)
 plan_told old new more (Err error) h e = absurd (let same : 112 ≡ 114 = ap (λ t. get_or t 0 0) e in let f : ⊥ = omega (arith, same) in f)
@@ -305,16 +309,18 @@ pub begun_are_told : BegunAreTold
 begun_are_told old new more ((r, b, e), same) = begun_told old.node new.node more r b e
 
 begun_short_told : ShortStands → (old new : NodeState) (more : List ℕ) (r : Result Outcome (OrMemory NodeFault)) → IsNode old → Begins old r new → codes "short demand " ++ more ≡ answer_text (outcome_text new) of_either r
-    → (wanted : ℕ) × (allowed : Ids) × IsShort old wanted allowed new × (codes "short demand " ++ more ≡ outcome_text new (Short wanted allowed))
+    → (wanted : ℕ) × (allowed : Ids) × IsShort old wanted allowed new × TellsShortage old wanted allowed new × (codes "short demand " ++ more ≡ outcome_text new (Short wanted allowed))
 begun_short_told stands old new more (Ok (Plan total)) node b e = absurd (let same : 115 ≡ 112 = ap (λ t. get_or t 0 0) e in let f : ⊥ = omega (arith, same) in f)
-begun_short_told stands old new more (Ok (Short wanted allowed)) node b e = (wanted, allowed, stands old wanted allowed new node b, e)
+begun_short_told stands old new more (Ok (Short wanted allowed)) node b e =
+    let short = stands old wanted allowed new node b in (wanted, allowed, short.0, short.1, e)
 begun_short_told stands old new more (Err error) node b e = absurd (let same : 115 ≡ 114 = ap (λ t. get_or t 0 0) e in let f : ⊥ = omega (arith, same) in f)
 
 pub begun_short_are_told : ShortStands → BegunShortAreTold
 begun_short_are_told stands old new more node ((r, b, e), same) = begun_short_told stands old.node new.node more r node b e
 
-short_told : (old new : NodeState) (more : List ℕ) (r : Result Outcome (OrMemory NodeFault)) → Headline old r new → codes "short demand " ++ more ≡ answer_text (outcome_text new) of_either r
-    → (wanted : ℕ) × (allowed : Ids) × IsShort old wanted allowed new × (codes "short demand " ++ more ≡ outcome_text new (Short wanted allowed))
+short_told : (old new : NodeState) (more : List ℕ) (r : Result Outcome (OrMemory NodeFault)) → RebalanceLeaves old r new
+    → codes "short demand " ++ more ≡ answer_text (outcome_text new) of_either r
+    → (wanted : ℕ) × (allowed : Ids) × RebalanceLeaves old (Ok (Short wanted allowed)) new × (codes "short demand " ++ more ≡ outcome_text new (Short wanted allowed))
 short_told old new more (Ok (Plan total)) h e = absurd (let same : 115 ≡ 112 = ap (λ t. get_or t 0 0) e in let f : ⊥ = omega (arith, same) in f)
 short_told old new more (Ok (Short wanted allowed)) h e = (wanted, allowed, h, e)
 short_told old new more (Err error) h e = absurd (let same : 115 ≡ 114 = ap (λ t. get_or t 0 0) e in let f : ⊥ = omega (arith, same) in f)
@@ -347,7 +353,7 @@ scripts_rebalance leaves first last before after line text node whole asked run 
       earlier = c.2;
       later = c.4;
       run = c.5;
-      headline = told.1;
+      leaves = told.1;
       rest = c.7;
       told = c.8 ∙ ap (λ answer. c.2 ++ (answer ++ c.4)) told.2;
     }

@@ -2,6 +2,7 @@
 ghost use Rattle.std.specs.Prelude.{◌≡◌, Some};
 ghost use Rattle.script.specs.Ends.{Replies};
 ghost use Rattle.runtime.specs.Answered.{AnswersAdopt, AnswersTaken, NamesCpus};
+ghost use Rattle.runtime.specs.Found.{IsSeen};
 
 use crate::answers::put_pid;
 use crate::bundles::Bundles;
@@ -36,7 +37,7 @@ pub fn adopt<K: Kernel + Drop, B: Bundles, W: Write>(
     list: &str,
     w: &mut W,
 ) -> io::Result<()>
-    ensures answers { Replies (AnswersAdopt (B.told bundles.old) node.old id.now bundle.now list.now) (W.contents w.old) (W.contents w.new) result node.new }
+    ensures answers { Replies (AnswersAdopt (IsSeen B.finds (B.told bundles.old)) node.old id.now bundle.now list.now) (W.contents w.old) (W.contents w.new) result node.new }
     ensures same { B.told bundles.new ≡ B.told bundles.old }
 {
     match bundles.config(bundle) {

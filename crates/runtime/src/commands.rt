@@ -2,6 +2,7 @@
 ghost use Rattle.std.specs.Prelude.{◌≡◌, Some};
 ghost use Rattle.script.specs.Ends.{Replies};
 ghost use Rattle.runtime.specs.Answered.{AnswersCreate, AnswersDelete, AnswersFound, AnswersKill, AnswersStart};
+ghost use Rattle.runtime.specs.Found.{IsSeen};
 
 use crate::answers::{put_done, put_pid};
 use crate::bundles::Bundles;
@@ -19,7 +20,7 @@ pub fn create<K: Kernel + Drop, B: Bundles, W: Write>(
     bundle: &str,
     w: &mut W,
 ) -> io::Result<()>
-    ensures answers { Replies (AnswersCreate (B.told bundles.old) node.old id.now bundle.now) (W.contents w.old) (W.contents w.new) result node.new }
+    ensures answers { Replies (AnswersCreate (IsSeen B.finds (B.told bundles.old)) node.old id.now bundle.now) (W.contents w.old) (W.contents w.new) result node.new }
     ensures same { B.told bundles.new ≡ B.told bundles.old }
 {
     match bundles.config(bundle) {

@@ -3,9 +3,10 @@ ghost use Rattle.std.specs.Prelude.{◌≡◌};
 ghost use Rattle.runtime.specs.Boots.{BootsNodes};
 ghost use Rattle.runtime.specs.CertificatesTold.{CertificatesAreTold};
 ghost use Rattle.runtime.specs.ConfigsServed.{ScriptsServeConfigs};
+ghost use Rattle.runtime.specs.LooksTold.{LooksAreTold};
 ghost use Rattle.runtime.specs.ScriptLaws.{BegunAreTold, BegunShortAreTold, CommandsAreCalls, LinesAreCalls, PlansAreTold, RebalancesAreTold, ScriptsRebalance, ShortagesAreTold};
 
-use crate::FIRST_PID;
+use crate::{Bundles, FIRST_PID};
 
 /// Each command of a script is answered by the text of the call or event that it asks for, also where it only reads; but a
 /// `create`, an `adopt` or an `update` for which no config was found makes no call, nor an `adopt` whose list names no
@@ -32,8 +33,15 @@ pub fn rebalances_are_told()
     node::laws::whose_rows();
 }
 
+/// The answers of a runtime over bundles of which it is said what looks at them may find are answers by what is told of them, so
+/// all that is said here of scripts holds of those too.
+pub fn looks_are_told<B: Bundles>()
+    ensures { LooksAreTold B.finds }
+{}
+
 /// What a script plans for the containers of its bundles, from a node of no container on: the headline holds of each line that
-/// asks for a rebalance, and after a plan each container that lives has in effect what the bytes of its bundle's config ask for.
+/// asks for a rebalance, and after a plan each container that lives has in effect what the bytes of its bundle's config ask for,
+/// as the lines before it read them last.
 pub fn scripts_serve_configs()
     ensures { ScriptsServeConfigs }
 {

@@ -1,6 +1,6 @@
 //! Nodes whose kernel's writes are made in a cgroup tree.
 ghost use Rattle.runtime.specs.MirroredNodes.{IsMirroredNode};
-ghost use Rattle.runtime.specs.Answered.{Answered};
+ghost use Rattle.runtime.specs.Answered.{AnsweredBy};
 ghost use Rattle.script.specs.Ends.{EndsBy};
 
 use crate::bundles::Bundles;
@@ -33,7 +33,7 @@ pub fn run_mirrored<F: GroupFiles + Drop, S: Sited, B: Bundles + Drop, R: Read, 
     w: &mut W,
     most_reads: u64,
 ) -> Result<(), ScriptFault>
-    ensures ends { EndsBy most_reads Answered (R.remaining script.old) (R.remaining script.new) (W.contents w.old) (W.contents w.new)
+    ensures ends { EndsBy most_reads (AnsweredBy B.finds) (R.remaining script.old) (R.remaining script.new) (W.contents w.old) (W.contents w.new)
         runner.old result runner.new }
     ensures mirrored { IsMirroredNode F.asked S.site runner.new.node }
 {

@@ -1,7 +1,8 @@
 ghost use Rattle.std.specs.Prelude.{◌≡◌};
 ghost use Rattle.script.specs.Commands.{asked};
 ghost use Rattle.script.specs.Ends.{Replies};
-ghost use Rattle.runtime.specs.Answered.{Answered, AnswersBy};
+ghost use Rattle.runtime.specs.Answered.{AnsweredBy, AnswersBy};
+ghost use Rattle.runtime.specs.Found.{IsSeen};
 
 use crate::adopting::adopt;
 use crate::bundles::Bundles;
@@ -51,7 +52,7 @@ impl<K: Kernel + Drop, B: Bundles + Drop> Runner<K, B> {
 }
 
 impl<K: Kernel + Drop, B: Bundles + Drop> Target for Runner<K, B> {
-    ghost answers = { Answered };
+    ghost answers = { AnsweredBy B.finds };
 
     fn answer<W: Write>(&mut self, command: Command<'_>, w: &mut W) -> io::Result<()> {
         dispatch(&mut self.node, &mut self.bundles, command, w)
@@ -65,7 +66,7 @@ fn dispatch<K: Kernel + Drop, B: Bundles, W: Write>(
     command: Command<'_>,
     w: &mut W,
 ) -> io::Result<()>
-    ensures answers { Replies (AnswersBy (B.told bundles.old) node.old (asked command.entry)) (W.contents w.old) (W.contents w.new) result node.new }
+    ensures answers { Replies (AnswersBy (IsSeen B.finds (B.told bundles.old)) node.old (asked command.entry)) (W.contents w.old) (W.contents w.new) result node.new }
     ensures same { B.told bundles.new ≡ B.told bundles.old }
 {
     match command {

@@ -2,6 +2,7 @@
 ghost use Rattle.std.specs.Prelude.{◌≡◌, Some};
 ghost use Rattle.script.specs.Ends.{Replies};
 ghost use Rattle.runtime.specs.Answered.{AnswersRead, AnswersUpdate};
+ghost use Rattle.runtime.specs.Found.{IsSeen};
 
 use crate::answers::put_done;
 use crate::bundles::Bundles;
@@ -19,7 +20,7 @@ pub fn update<K: Kernel + Drop, B: Bundles, W: Write>(
     bundle: &str,
     w: &mut W,
 ) -> io::Result<()>
-    ensures answers { Replies (AnswersUpdate (B.told bundles.old) node.old id.now bundle.now) (W.contents w.old) (W.contents w.new) result node.new }
+    ensures answers { Replies (AnswersUpdate (IsSeen B.finds (B.told bundles.old)) node.old id.now bundle.now) (W.contents w.old) (W.contents w.new) result node.new }
     ensures same { B.told bundles.new ≡ B.told bundles.old }
 {
     match bundles.config(bundle) {

@@ -1,1 +1,2 @@
+pub mod DecidingLemmas
 pub mod Solutions

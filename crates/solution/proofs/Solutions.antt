@@ -1,104 +1,50 @@
--- What the solver answers, as a certificate.
-use Rattle.std.proofs.Common.{◌≡◌, ℕ, suc, ◌<◌, Bool, true, false, List, [], ◌∷◌, length, refl, ap, ◌∙◌, cond, arith}
-use Rattle.std.specs.Prelude.{◌≢◌, ◌==◌, All, IsTrue}
-use Rattle.std.specs.List.{AllZip}
-use Rattle.std.proofs.lemmas.List.Elements.{All-cons}
-use Rattle.std.specs.FinSet as set
-use Rattle.std.specs.Ordering.{nat_cmp}
-use Rattle.cpu_set.specs.Ids.{Ids}
-use Rattle.cpu_set.specs.Members.{InRange}
-use Rattle.certificate.specs.AreWithin.{IsRowWithin, LimitsMean}
-use Rattle.certificate.specs.IsPlan.{Meets}
+-- What decides rows, as a solution of them.
+use Rattle.std.proofs.Common.{List, length, refl, sym, subst}
+use Rattle.std.specs.Prelude.{IsTrue, IfOk, Result, Ok, Err}
 use Rattle.certificate.specs.IsShortage.{asked, chosen, offered}
 use Rattle.certificate.specs.Limits.{rows_fit}
 use Rattle.certificate.specs.RowView.{RowView}
 use Rattle.certificate.specs.declared.checking.Verdict.TheVariants as verdict
-use Rattle.certificate.specs.declared.price_lists.Price.{Price}
+use Rattle.certificate.specs.declared.certificates.Certificate.{Certificate}
+use Rattle.certificate.specs.declared.certificates.Certificate.TheVariants.{Plan, Short}
+use Rattle.certificate.specs.declared.weights.Weights.{Weights}
+use Rattle.certificate.specs.declared.weights.Weights.TheVariants.{Plain}
 use Rattle.certificate_text.specs.CertificateText.{IsText}
-use Rattle.certificate_text.specs.ProblemText.{AreWritable}
 use Rattle.certificate_text.specs.Written.{CanWrite, IsHeld, WrittenReadsAgain, text_of}
-use Rattle.solution.specs.Solves.{IsSolution, IsTotalHeld, answered}
-use Rattle.transport.specs.Solved.{AreTwinsDealt, ArePricesOfClasses, IsDecided, IsRight}
-use Rattle.transport.specs.declared.solver.Answer.{Answer}
-use Rattle.transport.specs.declared.solver.Answer.TheVariants as answer
-use Rattle.twins.specs.IsPriced.{class_prices}
+use Rattle.solution.specs.Decides.{Decides}
+use Rattle.solution.specs.Solves.{IsSolution}
 
-some_members : (rows : List RowView) (members : List ℕ) → length (offered (chosen rows members)) < asked (chosen rows members) → 0 < length members
-some_members rows [] short = absurd (omega (arith, short))
-some_members rows (k ∷ members) short = omega arith
+module _ (rows : List RowView) (fit : IsTrue (rows_fit rows)) where
+  of_these : (c : Certificate) → Decides rows Plain c → IsSolution rows c
+  of_these (Plan own sets prices total said) d =
+      subst (λ (w : Weights). IsSolution rows (Plan own sets prices total w)) (sym d.1)
+      (subst (λ (rs : List RowView). IsSolution rows (Plan rs sets prices total Plain)) (sym d.0)
+      (record {
+        rows_are = refl;
+        version = refl;
+        verdict = verdict.Plan total;
+        proved = (d.2.proved, refl);
+        best = (d.2.least, d.2.proved.costs);
+        dealt = d.2.dealt;
+      }))
+  of_these (Short own members said) d =
+      subst (λ (w : Weights). IsSolution rows (Short own members w)) (sym d.1)
+      (subst (λ (rs : List RowView). IsSolution rows (Short rs members Plain)) (sym d.0)
+      (record {
+        rows_are = refl;
+        version = refl;
+        verdict = verdict.Short (asked (chosen rows members)) (length (offered (chosen rows members)));
+        proved = record { limits = fit; shortage = d.2.shortage; asks = refl; has = refl };
+        best = d.2.none;
+        dealt = tt;
+      }))
 
-not_empty : (s : Ids) → 0 < set.len s → s ≢ set.empty
-not_empty s some is = absurd (let none : set.len s ≡ 0 = ap set.len is ∙ set.len-empty nat_cmp in omega (arith, some, none))
+  -- what decides rows, in version 1, is a solution of them
+  pub solution : {E : Type 0} (r : Result Certificate E) → IfOk r (Decides rows Plain) → IfOk r (IsSolution rows)
+  solution (Ok c) d = of_these c d
+  solution (Err e) d = tt
 
--- a row asks for one CPU at least, so no set of a plan is empty; and each is of CPU numbers
-abbrev IsWord : Ids → Type 0
-IsWord s = (s ≢ set.empty) × InRange s
-
-sets_some : (rows : List RowView) (sets : List Ids) → All IsRowWithin rows → AllZip Meets rows sets → All (λ s. s ≢ set.empty) sets × All InRange sets
-sets_some [] [] within met = (λ i d lt. absurd (omega arith), λ i d lt. absurd (omega arith))
-sets_some [] (s ∷ sets) within met = absurd met
-sets_some (row ∷ rows) [] within met = absurd met
-sets_some (row ∷ rows) (s ∷ sets) within met =
-    let asks = (within 0 row (omega arith)).some in
-    let rest = sets_some rows sets (λ i d lt. within (suc i) d (omega arith)) met.1 in (
-      All-cons (λ (t : Ids). t ≢ set.empty) s sets (not_empty s (omega (arith, asks, met.0.size))) rest.0,
-      All-cons InRange s sets met.0.in_range rest.1,
-    )
-
--- prices of classes are of CPU numbers
-prices_in : (classes : List Ids) (amounts : List ℕ) → All InRange classes → All (λ (p : Price). InRange p.cpus) (class_prices classes amounts)
-prices_in [] amounts h = λ i d lt. absurd (omega arith)
-prices_in (s ∷ classes) [] h = λ i d lt. absurd (omega arith)
-prices_in (s ∷ classes) (p ∷ amounts) h = at (p == 0) (prices_in classes amounts (λ i d lt. h (suc i) d (omega arith))) where
-  at : (b : Bool) → All (λ (q : Price). InRange q.cpus) (class_prices classes amounts)
-      → All (λ (q : Price). InRange q.cpus) (cond b (class_prices classes amounts) (record { amount = p; cpus = s } ∷ class_prices classes amounts))
-  at true rest = rest
-  at false rest = All-cons (λ (q : Price). InRange q.cpus) (record { amount = p; cpus = s }) (class_prices classes amounts) (h 0 s (omega arith)) rest
-
-module _ (rows : List RowView) (means : LimitsMean) (writable : AreWritable rows) where
-  pub can_write : (a : Answer) → IsRight rows a → ArePricesOfClasses rows a → CanWrite (answered rows a)
-  can_write (answer.Plan sets prices total turns) proved priced =
-      let within = (means rows sets prices).0 proved.limits in (
-        record { sets_len = within.same_sets; values_len = within.same_values; apart = writable.apart },
-        writable.can,
-        (sets_some rows sets within.rows_are.each proved.plan.met).0,
-        λ i d lt. not_empty _ (priced.1 i d lt).1,
-      )
-  can_write (answer.Short members turns) short priced = (
-    record { some = some_members rows members.items short.short; rising = short.rising; there = short.there; apart = writable.apart },
-    writable.can,
-  )
-
-  held : (a : Answer) → IsRight rows a → ArePricesOfClasses rows a → IsTotalHeld (answered rows a) → IsHeld (answered rows a)
-  held (answer.Plan sets prices total turns) proved priced fits =
-      let within = (means rows sets prices).0 proved.limits in
-      let its : All (λ (p : Price). InRange p.cpus) prices.of_cpu = rw priced.0.its (prices_in priced.0.classes priced.0.amounts priced.0.grouping.in_range) in (
-        writable.held,
-        (sets_some rows sets within.rows_are.each proved.plan.met).1,
-        λ i d lt. (let v = within.values i d lt in omega (arith, v)),
-        λ i d lt. (let amount = within.amounts i d lt in record { amount = omega (arith, amount); cpus = its i d lt }),
-        fits,
-      )
-  held (answer.Short members turns) short priced fits = writable.held
-
-  pub stands : WrittenReadsAgain → (a : Answer) → IsRight rows a → ArePricesOfClasses rows a → IsTotalHeld (answered rows a) → IsText (text_of (answered rows a)) (answered rows a)
-  stands again a right priced fits = again (answered rows a) (can_write a right priced) (held a right priced fits)
-
--- what the solver answers is a solution
-pub solution : (rows : List RowView) → IsTrue (rows_fit rows) → (a : Answer) → IsRight rows a → IsDecided rows a → AreTwinsDealt rows a → IsSolution rows (answered rows a)
-solution rows fit (answer.Plan sets prices total turns) right decided dealt = record {
-  rows_are = refl;
-  version = refl;
-  verdict = verdict.Plan total;
-  proved = (right, refl);
-  best = (decided, right.costs);
-  dealt = dealt;
-}
-solution rows fit (answer.Short members turns) right decided dealt = record {
-  rows_are = refl;
-  version = refl;
-  verdict = verdict.Short (asked (chosen rows members.items)) (length (offered (chosen rows members.items)));
-  proved = record { limits = fit; shortage = right; asks = refl; has = refl };
-  best = decided;
-  dealt = dealt;
-}
+-- its text stands for it
+pub stands : WrittenReadsAgain → {E : Type 0} (r : Result Certificate E) → IfOk r CanWrite → IfOk r IsHeld → IfOk r (λ c. IsText (text_of c) c)
+stands again (Ok c) can held = again c can held
+stands again (Err e) can held = tt

@@ -1,5 +1,5 @@
 -- What a problem's text comes to.
-use Rattle.std.specs.Prelude.{◌≡◌, ◌⊎◌, ℕ, ◌<◌, ◌^◌, Bool, true, false, List}
+use Rattle.std.specs.Prelude.{◌≡◌, ◌⊎◌, ℕ, Bool, true, false, List}
 use Rattle.certificate.specs.declared.weights.Weights.{Weights}
 use Rattle.certificate.specs.declared.weights.Weights.TheVariants.{Plain}
 use Rattle.certificate.specs.IsDealt.{IsDealt}
@@ -17,8 +17,6 @@ use Rattle.certificate_text.specs.declared.checking.VerdictFault.{VerdictFault}
 use Rattle.certificate_text.specs.declared.checking.VerdictFault.TheVariants.{BadText, Check}
 use Rattle.faults.specs.declared.or_memory.OrMemory.{OrMemory}
 use Rattle.faults.specs.declared.or_memory.OrMemory.TheVariants.{Memory, Fault}
-use Rattle.transport.specs.declared.solver.Answer.{Answer}
-use Rattle.transport.specs.declared.solver.Answer.TheVariants as answer
 
 -- the rows that a certificate is of
 abbrev pub rows_of : Certificate → List RowView
@@ -59,13 +57,3 @@ abbrev pub IsUnsolved : List ℕ → OrMemory VerdictFault → Type 0
 IsUnsolved text Memory = ProblemAsksForMemory text ⊎ HasRows text true
 IsUnsolved text (Fault (BadText bad)) = IsFirstBadProblemLine text bad.line
 IsUnsolved text (Fault (Check fault)) = (fault ≡ BadProblem) × HasRows text false
-
--- rows with what they come to, as a certificate of version 1
-abbrev pub answered : List RowView → Answer → Certificate
-answered rows (answer.Plan sets prices total turns) = Plan rows sets prices total Plain
-answered rows (answer.Short members turns) = Short rows members.items Plain
-
--- a total that its type holds
-abbrev pub IsTotalHeld : Certificate → Type 0
-IsTotalHeld (Plan rows sets prices total weights) = total < 2 ^ 64
-IsTotalHeld (Short rows members weights) = Unit {0}

@@ -1,8 +1,11 @@
-//! Problems solved: [`solve_text`] reads one from its text and makes the certificate of what its rows come to.
+//! Problems solved: [`decide`] makes the certificate of what the rows of a problem come to, and [`solve_text`] reads a problem from
+//! its text and does so.
 #![tactic(auto)]
 
+mod deciding;
 mod solution;
 mod solving;
 
+pub use deciding::decide;
 pub use solution::Solution;
 pub use solving::solve_text;

@@ -5,14 +5,14 @@ ghost use Rattle.certificate_text.specs.ProblemText.{AreWritable};
 ghost use Rattle.certificate_text.specs.CertificateText.{IsText};
 ghost use Rattle.certificate_text.specs.Written.{CanWrite, text_of};
 ghost use Rattle.faults.specs.declared.or_memory.OrMemory.TheVariants.{Memory};
-ghost use Rattle.solution.specs.Solves.{HasRows, IsSolution, IsTotalHeld, IsUnsolved, Solves, answered};
+ghost use Rattle.solution.specs.Solves.{HasRows, IsSolution, IsUnsolved, Solves};
 
 use crate::Solution;
-use certificate::{Certificate, CheckFault, Members, Problem, Weights, rows_fit};
+use crate::deciding::decide;
+use certificate::{Certificate, CheckFault, Problem, Weights, rows_fit};
 use certificate_text::{VerdictFault, read_problem};
 use faults::OrMemory;
 use std::alloc::{AllocError, Global};
-use transport::{Answer, solve};
 
 /// Reads a problem from its text and solves it: a certificate, of version 1, of a plan of least cost, or of a shortage where
 /// there is no plan.
@@ -43,7 +43,7 @@ pub fn solve_text(alloc: Global, text: &[u8]) -> Result<Solution, OrMemory<Verdi
     }
 }
 
-/// The certificate of what the rows come to.
+/// The certificate of what the rows come to, of version 1.
 fn solved(alloc: Global, problem: Problem) -> Result<Certificate, AllocError>
     requires fit { IsTrue (rows_fit problem) }
     requires writable { AreWritable problem }
@@ -51,34 +51,6 @@ fn solved(alloc: Global, problem: Problem) -> Result<Certificate, AllocError>
     ensures stands { IfOk result (λ c. IsText (text_of c) c) }
     ensures can { IfOk result CanWrite }
 {
-    certificate::laws::what_is_within_the_limits();
     certificate_text::laws::written_texts_are_read();
-    let answer = solve(alloc, &problem)?;
-    Ok(answered(problem, answer))
-}
-
-/// Rows with what they come to, as a certificate of version 1.
-fn answered(problem: Problem, answer: Answer) -> Certificate
-    ensures is { result ≡ answered problem answer }
-    ensures held { IsTotalHeld result }
-{
-    match answer {
-        Answer::Plan {
-            plan,
-            prices,
-            total,
-            ..
-        } => Certificate::Plan {
-            problem,
-            plan,
-            prices,
-            total,
-            weights: Weights::Plain,
-        },
-        Answer::Short { members, .. } => Certificate::Short {
-            problem,
-            members: Members { rows: members },
-            weights: Weights::Plain,
-        },
-    }
+    decide(alloc, problem, Weights::Plain)
 }

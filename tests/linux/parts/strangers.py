@@ -1,5 +1,5 @@
 """Trees that are not taken, and groups that are there before the program: strangers whose processes are adopted, on the CPUs that they
-have, ids that are the kernel's own files, and lists that are refused."""
+have, ids that are the kernel's own files, and lists that are refused; a root of fewer nodes, and a CPU that goes untold."""
 
 import contextlib
 import os
@@ -128,6 +128,40 @@ def strangers():
     tree.clear()
 
 
+def another():
+    """A second program is not let in as long as the first one lives, and is once that was killed."""
+    first = tree.Run()
+    for more in ((), ("--adopt",)):
+        refuses("E50 KernelFault", *more, note=f"{ROOT}: another program has it")
+    first.process.kill()
+    first.close()
+    tree.Run("--adopt").close()
+    tree.clear()
+
+
+def half():
+    """A root with two of the four nodes in effect: of those that a config names the groups are written these, or both."""
+    with group(f"{ROOT}/half", cpuset_mems="1,3") as root:
+        containers, run = tree.Containers(), tree.Run(root=root)
+        for name, mems, wanted in (("some", "2-3", "3"), ("none", "0,2", "1,3"), ("all", None, "1,3")):
+            run.one(f"create {name} {containers.bundle(name, quota=1, mems=mems)}")
+            assert read(f"{root}/numarun/{name}/cpuset.mems") == wanted, (name, read(f"{root}/numarun/{name}/cpuset.mems"))
+        assert run.plan().total == 30 and not run.said()
+        run.close()
+
+
+def untold():
+    """A CPU goes, and the program is not told: what is in effect behind its next write is named as it is."""
+    containers, run = tree.Containers(), tree.Run()
+    run.ok(f"create one {containers.bundle('one', allowed='4-6')}", "pid 2")
+    tree.turn(5, False)
+    assert run.plan().holds == {"one": {4, 5, 6}}
+    assert f"error: {TOP}/one/cpuset.cpus.effective: 4,6 in place of 4-6" in run.said()
+    tree.turn(5, True)
+    run.close()
+    tree.clear()
+
+
 def names():
     """Ids that are the kernel's own files."""
     containers = tree.Containers()
@@ -146,5 +180,8 @@ roots()
 a_process()
 full()
 strangers()
+another()
+half()
+untold()
 names()
 say(f"strangers: {counted} trees that are not taken; three containers are adopted where they are, and none of them moves")

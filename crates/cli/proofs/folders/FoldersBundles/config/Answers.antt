@@ -20,3 +20,12 @@ pub returns-clause-config : goal.returns-clause-config
 returns-clause-config g c =
     let path : c.as_str.result.now ≡ config_path c.args.bundle.now = first_of (search rules, grind (arith, common_steps)) in
     inl (c.in-Ok.file, rw path at c.in-Ok.ensures.ok, (Err (Fault c.in-Err-Fault.field-0-0), rw c.in-Err-Fault.field-0-is at c.in-Err-Fault.ensures.err, refl))
+
+pub returns-in-Err-clause-seen : goal.returns-in-Err-clause-seen
+returns-in-Err-clause-seen g c = (_, returns-in-Err-clause-config g c)
+
+pub returns-in-Ok-read_whole-clause-seen : goal.returns-in-Ok-read_whole-clause-seen
+returns-in-Ok-read_whole-clause-seen g c = (_, returns-in-Ok-read_whole-clause-config g c)
+
+pub returns-clause-seen : goal.returns-clause-seen
+returns-clause-seen g c = (_, returns-clause-config g c)

@@ -1,7 +1,11 @@
 use Rattle.std.proofs.Common.{sym}
 use Rattle.node.specs.Viewed.{seen}
+use Rattle.node.proofs.CallLemmas.{group_there}
 use Rattle.node.proofs.RewriteLemmas.{update_dead, update_wants, update_short, update_refused, refused_update_node, update_done, update_node}
 use Rattle.node.proofs.node.Node.update_body.Goals as goal
+
+pub rewrite-requires : goal.rewrite-requires
+rewrite-requires g c = group_there _ c.self.invariant c.args.id.now (seen c.in-Some.container.now) (sym c.in-Some.ensures)
 
 pub returns-then-not-first_alive : goal.returns-then-not-first_alive
 returns-then-not-first_alive g c =

@@ -1,9 +1,9 @@
 //! The certificate of what a problem comes to.
-ghost use Rattle.std.specs.Prelude.{◌≡◌, IsTrue, IfOk, All};
+ghost use Rattle.std.specs.Prelude.{◌≡◌, IsTrue, IfOk};
 ghost use Rattle.certificate.specs.Limits.{rows_fit};
-ghost use Rattle.certificate_text.specs.CertificateText.{HaveOwnIds};
-ghost use Rattle.certificate_text.specs.Written.{CanWrite, CanWriteRow};
-ghost use Rattle.node.specs.Decides.{Decides, answered};
+ghost use Rattle.certificate_text.specs.ProblemText.{AreWritable};
+ghost use Rattle.certificate_text.specs.Written.{CanWrite, IsHeld};
+ghost use Rattle.solution.specs.Decides.{Decides, IsTotalHeld, answered};
 
 use certificate::{Certificate, Members, Problem, Weights};
 use std::alloc::{AllocError, Global};
@@ -11,29 +11,30 @@ use transport::{Answer, solve};
 
 /// The certificate of what the problem comes to; the problem is kept in it as it is.
 ///
-/// The certificate says that weights count moves besides the distance.
+/// The certificate says that the weights count this.
 ///
 /// # Errors
 /// An allocation failure; no problem is refused.
-pub(crate) fn decide(alloc: Global, problem: Problem) -> Result<Certificate, AllocError>
+pub fn decide(alloc: Global, problem: Problem, weights: Weights) -> Result<Certificate, AllocError>
     requires fit { IsTrue (rows_fit problem) }
-    requires rows { All CanWriteRow problem }
-    requires apart { HaveOwnIds problem }
+    requires writable { AreWritable problem }
 
     // A plan of these rows that costs the least, as its values and prices prove, or a shortage, where there is no plan.
-    ensures decided { IfOk result (Decides problem) }
+    ensures decided { IfOk result (Decides problem weights) }
 
-    // It can be written as text.
+    // It can be written as text, in numbers that its types hold.
     ensures can { IfOk result CanWrite }
+    ensures held { IfOk result IsHeld }
 {
     certificate::laws::what_is_within_the_limits();
     let answer = solve(alloc, &problem)?;
-    Ok(answered(problem, answer))
+    Ok(answered(problem, weights, answer))
 }
 
 /// A problem with its answer.
-fn answered(problem: Problem, answer: Answer) -> Certificate
-    ensures { result ≡ answered problem answer }
+fn answered(problem: Problem, weights: Weights, answer: Answer) -> Certificate
+    ensures is { result ≡ answered problem weights answer }
+    ensures held { IsTotalHeld result }
 {
     match answer {
         Answer::Plan {
@@ -46,12 +47,12 @@ fn answered(problem: Problem, answer: Answer) -> Certificate
             plan,
             prices,
             total,
-            weights: Weights::WithMoves,
+            weights,
         },
         Answer::Short { members, .. } => Certificate::Short {
             problem,
             members: Members { rows: members },
-            weights: Weights::WithMoves,
+            weights,
         },
     }
 }

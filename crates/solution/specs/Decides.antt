@@ -1,5 +1,5 @@
 -- What a problem comes to.
-use Rattle.std.specs.Prelude.{◌≡◌, ℕ, ◌<◌, List, All}
+use Rattle.std.specs.Prelude.{◌≡◌, ℕ, ◌<◌, ◌^◌, List, All}
 use Rattle.std.specs.FinSet as set
 use Rattle.cpu_set.specs.Ids.{Ids}
 use Rattle.certificate.specs.RowView.{RowView}
@@ -8,7 +8,7 @@ use Rattle.certificate.specs.IsDealt.{IsDealt}
 use Rattle.certificate.specs.IsLeast.{IsLeast}
 use Rattle.certificate.specs.IsProved.{IsProved}
 use Rattle.certificate.specs.IsShortage.{IsShortage, HasNoPlan}
-use Rattle.certificate.specs.declared.weights.Weights.TheVariants.{WithMoves}
+use Rattle.certificate.specs.declared.weights.Weights.{Weights}
 use Rattle.certificate.specs.declared.certificates.Certificate.{Certificate}
 use Rattle.certificate.specs.declared.certificates.Certificate.TheVariants.{Plan, Short}
 use Rattle.transport.specs.declared.solver.Answer.{Answer}
@@ -29,12 +29,17 @@ pub record DecidesShort (rows : List RowView) (members : List ℕ) : Type 0 wher
   pub shortage : IsShortage rows members
   pub none : HasNoPlan rows
 
--- one of both, of these very rows, whose weights are said to count moves
-abbrev pub Decides : List RowView → Certificate → Type 0
-Decides rows (Plan own sets prices total said) = (own ≡ rows) × (said ≡ WithMoves) × DecidesPlan rows sets prices total
-Decides rows (Short own members said) = (own ≡ rows) × (said ≡ WithMoves) × DecidesShort rows members
+-- one of both, of these very rows, whose weights are said to count this
+abbrev pub Decides : List RowView → Weights → Certificate → Type 0
+Decides rows weights (Plan own sets prices total said) = (own ≡ rows) × (said ≡ weights) × DecidesPlan rows sets prices total
+Decides rows weights (Short own members said) = (own ≡ rows) × (said ≡ weights) × DecidesShort rows members
 
 -- a problem with its answer
-abbrev pub answered : List RowView → Answer → Certificate
-answered rows (answer.Plan sets prices total turns) = Plan rows sets prices total WithMoves
-answered rows (answer.Short members turns) = Short rows members.items WithMoves
+abbrev pub answered : List RowView → Weights → Answer → Certificate
+answered rows weights (answer.Plan sets prices total turns) = Plan rows sets prices total weights
+answered rows weights (answer.Short members turns) = Short rows members.items weights
+
+-- a total that its type holds
+abbrev pub IsTotalHeld : Certificate → Type 0
+IsTotalHeld (Plan rows sets prices total weights) = total < 2 ^ 64
+IsTotalHeld (Short rows members weights) = Unit {0}

@@ -1,0 +1,39 @@
+-- What a rebalance leaves of which a write failed.
+use Rattle.std.specs.Prelude.{◌≡◌, ◌+◌, ℕ, List, None, Result, Err, map}
+use Rattle.cpu_set.specs.Ids.{Ids}
+use Rattle.certificate.specs.IsLeast.{IsLeast}
+use Rattle.faults.specs.declared.OrMemory.{OrMemory}
+use Rattle.faults.specs.declared.OrMemory.TheVariants.{Fault}
+use Rattle.apply_plan.specs.Holders.{IsSafe}
+use Rattle.node.specs.declared.fault.NodeFault.{NodeFault}
+use Rattle.node.specs.declared.fault.NodeFault.TheVariants.{Kernel}
+use Rattle.node.specs.declared.outcome.Outcome.{Outcome}
+use Rattle.node.specs.declared.phase.Phase.TheVariants.{Unsettled}
+use Rattle.node.specs.NodeState.{NodeState}
+use Rattle.node.specs.Owners.{owners_of}
+use Rattle.node.specs.Ongoing.{IsBroken}
+use Rattle.node.specs.Rows.{as_cores, rows_of}
+use Rattle.node.specs.Best.{IsBest}
+use Rattle.node.specs.Entries.{opened}
+use Rattle.node.specs.Tells.{IsTold}
+
+-- the plan was the best, and the certificate tells it; what each container of the hand-over requests is what it did before, or
+-- what it keeps of that, or what the plan gives it; nothing else changed in the kernel but its counts; what is requested is safe;
+-- and no hand-over is open
+pub record IsBrokenOff (old : NodeState) (new : NodeState) : Type 0 where
+  pub sets : List Ids
+  pub total : ℕ
+  pub least : IsLeast (rows_of old) (as_cores old.machine sets)
+  pub best : IsBest old total sets
+  pub told : IsTold old sets total new.last
+  pub broken : IsBroken (opened old sets) old.kernel new.kernel
+  pub counted : new.kernel.failures ≡ old.kernel.failures + 1
+  pub safe : IsSafe new.kernel new.kernel.reserved (map (λ o. o.holder) (owners_of new.containers))
+  pub phase : new.phase ≡ Unsettled
+  pub ongoing : new.ongoing ≡ None
+  pub same : new.containers ≡ old.containers
+
+-- that, where the kernel refused a write of the rebalance
+abbrev pub BreaksOff : NodeState → Result Outcome (OrMemory NodeFault) → NodeState → Type 0
+BreaksOff old (Err (Fault (Kernel fault))) new = IsBrokenOff old new
+BreaksOff old answer new = Unit {0}
