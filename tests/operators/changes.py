@@ -119,7 +119,8 @@ def limits():
     site.go("z")
     agent.until("update w")
     agent.until("done")
-    check("room", (site.has("w"), agent.end()[0]), (["1-7"], 0))
+    has, (status, rest) = site.has("w"), agent.end()
+    check("room", (has, [status, *agent.lines[-20:], rest] if status else []), (["1-7"], []))
 
 
 def kept_place():

@@ -124,6 +124,7 @@ class Open:
         lines = []
         for line in self.process.stdout:
             lines.append(line.split(" ", 1)[1].rstrip("\n"))
+            self.lines.append(lines[-1])
             if lines[-1].startswith(beginning):
                 return lines
         check(f"a line {beginning!r}", lines, "one of them")
