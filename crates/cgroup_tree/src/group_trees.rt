@@ -4,6 +4,7 @@ ghost use Rattle.std.specs.IoError.{error_kind};
 ghost use Rattle.cgroup_tree.specs.Roots.{Fails, Finding, Has, IsFolder, IsTaken};
 
 use crate::GroupFiles;
+use cpu_set::IdSet;
 use std::alloc::Global;
 use std::io;
 
@@ -52,6 +53,9 @@ pub trait GroupTrees {
         ensures { MatchResult result
             (λ text. finds self.now path.now (Has (option_map (λ bytes. bytes.items) text)))
             (λ error. finds self.now path.now (Fails (error_kind error))) };
+
+    /// Tells the operator something of a file of the root, and the numbers that it is about, if there are any.
+    fn tell(&self, root: &str, file: &str, what: &str, numbers: &IdSet);
 
     /// Names to the operator each folder in this one.
     fn name_folders(&self, alloc: Global, path: &str);

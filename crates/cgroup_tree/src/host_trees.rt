@@ -3,6 +3,8 @@ ghost use Rattle.std.specs.Prelude.{◌≡◌, ⊤};
 
 use crate::shown::Shown;
 use crate::{GroupTrees, HostFiles};
+use cpu_list::print;
+use cpu_set::IdSet;
 use std::alloc::Global;
 use std::fs::{File, TryLockError};
 use std::io::ErrorKind;
@@ -95,6 +97,14 @@ impl<'a, R: Files<File = File> + AllocGlobal + Clock + Eprint + Clone + Drop> Gr
                 Err(error)
             }
         }
+    }
+
+    fn tell(&self, root: &str, file: &str, what: &str, numbers: &IdSet) {
+        let Ok(list) = print(self.rt.alloc(), numbers) else {
+            return;
+        };
+        let space = if numbers.is_empty() { "" } else { " " };
+        let _ = eprintln!(self.rt; "error: {}{file}: {what}{space}{list}", Shown(root));
     }
 
     fn name_folders(&self, _alloc: Global, path: &str) {

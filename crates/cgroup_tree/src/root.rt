@@ -180,6 +180,7 @@ fn look_at_cpus<T: GroupTrees>(
     if is_list_of(text.as_slice(), online) {
         Ok(())
     } else {
+        tell_others(trees, root, CPUS_IN_EFFECT, text.as_slice(), online, online);
         Err(RootFault::OtherMachine)
     }
 }
@@ -197,7 +198,43 @@ fn look_at_mems<T: GroupTrees>(
     };
     match nodes_in(text.as_slice(), nodes) {
         Some(memory) => Ok(memory),
-        None => Err(RootFault::OtherMachine),
+        None => {
+            tell_others(
+                trees,
+                root,
+                MEMS_IN_EFFECT,
+                text.as_slice(),
+                &IdSet::empty(),
+                nodes,
+            );
+            Err(RootFault::OtherMachine)
+        }
+    }
+}
+
+/// Tells the operator by what a file's text makes its root another machine's: which numbers it lacks of the least that it has to
+/// have, and which it has besides the most; or that it is no list.
+fn tell_others<T: GroupTrees>(
+    trees: &T,
+    root: &str,
+    file: &str,
+    text: &[u8],
+    least: &IdSet,
+    most: &IdSet,
+) {
+    match set_in(text) {
+        Some(found) => {
+            tell_numbers(trees, root, file, "lacks", &least.minus(&found));
+            tell_numbers(trees, root, file, "has besides", &found.minus(most));
+        }
+        None => trees.tell(root, file, "is no list", &IdSet::empty()),
+    }
+}
+
+/// The same of these numbers, if there are any.
+fn tell_numbers<T: GroupTrees>(trees: &T, root: &str, file: &str, what: &str, numbers: &IdSet) {
+    if !numbers.is_empty() {
+        trees.tell(root, file, what, numbers);
     }
 }
 
