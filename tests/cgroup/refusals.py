@@ -45,7 +45,14 @@ def file(root):
 
 
 NONE = (0, "end\n", "")
-OTHER = (1, "refused E116 OtherMachine\n", "")
+
+
+def other(file, what):
+    """The root is another machine's, by what this file of it has."""
+    return 1, "refused E116 OtherMachine\n", f"error: ROOT/cpuset.{file}.effective: {what}\n"
+
+
+NO_LIST = "is no list of numbers below 4096"
 TABLE = [
     ("nothing is there", lambda root: None, (), (1, "refused E113 ReadFault\n", "error: ROOT: no such file\n")),
     ("a file", file, (), (1, "refused E113 ReadFault\n", "error: ROOT: can't be read\n")),
@@ -57,16 +64,18 @@ TABLE = [
     ("a word that has it within", folder(cgroup_controllers="cpusets xcpuset\n"), (), (1, "refused E115 NoCpuset\n", "")),
     ("none at all", folder(cgroup_controllers="\n"), (), (1, "refused E115 NoCpuset\n", "")),
     ("the machine's CPUs", folder(cpuset_cpus_effective="0-31\n"), (), NONE),
-    ("other CPUs", folder(cpuset_cpus_effective="0-30\n"), (), OTHER),
-    ("a CPU more", folder(cpuset_cpus_effective="0-32\n"), (), OTHER),
-    ("no CPU", folder(cpuset_cpus_effective="\n"), (), OTHER),
-    ("no list", folder(cpuset_cpus_effective="all\n"), (), OTHER),
-    ("a CPU past the limit", folder(cpuset_cpus_effective="0-31,4096\n"), (), OTHER),
+    ("other CPUs", folder(cpuset_cpus_effective="0-30\n"), (), other("cpus", "lacks 31")),
+    ("others than these", folder(cpuset_cpus_effective="1-15,17-40\n"), (),
+     (1, "refused E116 OtherMachine\n", other("cpus", "lacks 0,16")[2] + other("cpus", "has besides 32-40")[2])),
+    ("a CPU more", folder(cpuset_cpus_effective="0-32\n"), (), other("cpus", "has besides 32")),
+    ("no CPU", folder(cpuset_cpus_effective="\n"), (), other("cpus", "lacks 0-31")),
+    ("no list", folder(cpuset_cpus_effective="all\n"), (), other("cpus", NO_LIST)),
+    ("a CPU past the limit", folder(cpuset_cpus_effective="0-31,4096\n"), (), other("cpus", NO_LIST)),
     ("the machine's nodes", folder(cpuset_mems_effective="0-1\n"), (), NONE),
     ("a node without memory", folder(cpuset_mems_effective="1\n"), (), NONE),
-    ("a node that the machine has not", folder(cpuset_mems_effective="0-2\n"), (), OTHER),
-    ("no list of nodes", folder(cpuset_mems_effective="none\n"), (), OTHER),
-    ("a node past the limit", folder(cpuset_mems_effective="0,4096\n"), (), OTHER),
+    ("a node that the machine has not", folder(cpuset_mems_effective="0-2\n"), (), other("mems", "has besides 2")),
+    ("no list of nodes", folder(cpuset_mems_effective="none\n"), (), other("mems", NO_LIST)),
+    ("a node past the limit", folder(cpuset_mems_effective="0,4096\n"), (), other("mems", NO_LIST)),
     ("controllers that are a folder", folder(cgroup_controllers=None), (), (1, "refused E113 ReadFault\n", "error: ROOT: is a directory\n")),
     ("both, the first", folder(cgroup_controllers="cpu\n", cpuset_cpus_effective="0\n"), (), (1, "refused E115 NoCpuset\n", "")),
     ("a run before", folder(numarun=None), (), (1, "refused E50 KernelFault\n", "error: ROOT/numarun: File exists (os error 17)\n")),

@@ -213,7 +213,7 @@ fn look_at_mems<T: GroupTrees>(
 }
 
 /// Tells the operator by what a file's text makes its root another machine's: which numbers it lacks of the least that it has to
-/// have, and which it has besides the most; or that it is no list.
+/// have, and which it has besides the most; or that it is no list of numbers below `CPU_LIMIT`.
 fn tell_others<T: GroupTrees>(
     trees: &T,
     root: &str,
@@ -227,7 +227,12 @@ fn tell_others<T: GroupTrees>(
             tell_numbers(trees, root, file, "lacks", &least.minus(&found));
             tell_numbers(trees, root, file, "has besides", &found.minus(most));
         }
-        None => trees.tell(root, file, "is no list", &IdSet::empty()),
+        None => trees.tell(
+            root,
+            file,
+            "is no list of numbers below 4096",
+            &IdSet::empty(),
+        ),
     }
 }
 

@@ -16,7 +16,8 @@ const VERSION: &str = "1.0.0";
 const HELP: &str =
     "Exit status: 0; 1 if an input is refused or can't be read, if an allocation fails, or if the answer\n\
     can't be written; 2 if the words are no command line, or if an allocation fails while they are parsed.\n\n\
-    Formats and refusals: docs/formats.md.\n\n\
+    Formats and refusals: docs/formats.md. Paths begin at the top of a checkout, or, once installed, at\n\
+    PREFIX/share/doc/numarun.\n\n\
     Example: numarun check examples/two-containers.certificate";
 
 const CHECK_HELP: &str =

@@ -46,7 +46,7 @@ def roots():
         refuses("E115 NoCpuset", root=f"{ROOT}/bare")
     write(f"{ROOT}/cgroup.subtree_control", "+cpuset")
     with group(f"{ROOT}/part", cpuset_cpus="4-5", cpuset_cpus_partition="root"):
-        refuses("E116 OtherMachine")
+        refuses("E116 OtherMachine", note="cpuset.cpus.effective: lacks 4-5")
     with group(f"{ROOT}/small", cpuset_cpus="0-3"):
         refuses("E116 OtherMachine", root=f"{ROOT}/small")
     other = "/tmp/other.json"
