@@ -262,7 +262,8 @@ def sentence(found):
         return f"{found[title]['sources'].size(found[title][key]):,}"
 
     yield f"To trust a yes of the checker, read {lines('check_plan')} lines of definitions, and {lines('check_plan', 'views')} on its types. The headline of a rebalance takes"
-    yield f"{lines('rebalance')} and {lines('rebalance', 'views')}. Its clause has no condition, so it holds after any commands. [docs/reading.md](docs/reading.md) lists them."
+    yield f"{lines('rebalance')} and {lines('rebalance', 'views')}; `told`, by which a shortage names containers, {lines('rebalance_told')}. They have no condition, so they hold after any"
+    yield "commands. [docs/reading.md](docs/reading.md) lists them."
 
 
 SAYS = {
