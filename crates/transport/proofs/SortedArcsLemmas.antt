@@ -284,7 +284,7 @@ found_cases ws offers firsts residual l limit arc (Some a) h lt is stop found = 
 
 -- the cursor moves past full classes
 pub sorted_skipped : (ws : ℕ → Option ℕ) (offers : List Offer) (firsts residual : List ℕ) (l : SortedArcs) (xs : List Arc) (r : ℕ) → IsSortedArcs ws offers firsts residual l → xs ≡ l.arcs.items → r ≤ length xs → l.cursor ≤ r
-    → ((i : ℕ) → i < r → number residual (arc_at xs i).class ≡ 0) → IsSortedArcs ws offers firsts residual (record { order = l.order; opened = l.opened; arcs = l.arcs; blocks = l.blocks; blocked = l.blocked; cursor = r; looks = l.looks; few = l.few })
+    → ((i : ℕ) → i < r → number residual (arc_at xs i).class ≡ 0) → IsSortedArcs ws offers firsts residual (record { order = l.order; opened = l.opened; arcs = l.arcs; blocks = l.blocks; blocked = l.blocked; cursor = r; looks = l.looks; joined = l.joined })
 sorted_skipped ws offers firsts residual l xs r h e le forward full =
     sorted_moved ws offers firsts residual l _ h refl refl refl h.blocks (omega (arith, h.blocked_in, forward)) (omega (arith, ap length e, le)) (subst (λ ys. (i : ℕ) → i < r → number residual (arc_at ys i).class ≡ 0) e full)
 

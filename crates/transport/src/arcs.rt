@@ -13,7 +13,7 @@ ghost use Rattle.transport.specs.Orders.{weighted_at, weighted_in, AreAllWeighte
 
 use crate::Representatives;
 use certificate::{Offer, Offers};
-use cpu_set::WordSet;
+use cpu_set::{CPU_LIMIT, WordSet};
 use std::alloc::{AllocError, Global};
 
 /// For how many arcs there is room at first, at most.
@@ -28,7 +28,7 @@ const LAST_SEEN: usize = 4;
 /// They are where one of so many or more lies in one block with the arc before. A block of one class takes longer than its arc.
 const FEW_JOINED: usize = 4;
 
-/// They are in the first scan that comes to the last arc where all lie so but for one of so many.
+/// They are in the first scan that comes to the last of so many arcs or more, where all lie so but for one of so many.
 const NEARLY_ALL: usize = 32;
 
 /// A class at its weight in a row.
@@ -59,8 +59,8 @@ pub(crate) struct SortedArcs {
     pub(crate) cursor: usize,
     /// How many looks at arcs that are in no block scans may have taken, since some were put in blocks.
     pub(crate) looks: usize,
-    /// So many arcs that are in no block are too few to put them in blocks.
-    pub(crate) few: usize,
+    /// How many of the arcs lie in one block with the arc before.
+    pub(crate) joined: usize,
 }
 
 impl SortedArcs {
@@ -78,7 +78,7 @@ impl SortedArcs {
             blocked: 0,
             cursor: 0,
             looks: 0,
-            few: 0,
+            joined: 0,
         })
     }
 
@@ -123,14 +123,15 @@ impl SortedArcs {
         prove!(self.opened < offers.len());
         let weighted_offer = self.order.weighted_offer(offers, self.opened);
         let offer = offers.offer(weighted_offer.offer);
-        push_arcs(&mut self.arcs, &offer, firsts, weighted_offer.weight)?;
+        let joined = push_arcs(&mut self.arcs, &offer, firsts, weighted_offer.weight)?;
+        self.joined = self.joined.saturating_add(joined);
         self.opened += 1;
         Ok(())
     }
 
     /// Adds the arcs before the cursor to the blocks, but for those that are there already, where scans are spared looks by
-    /// it: at once where nearly all lie in one block with the arc before, else where the arcs are scanned again, and never where
-    /// few do.
+    /// it: at once where nearly all of the row's arcs lie in one block with the arc before, else where these are scanned again,
+    /// and never where few do.
     ///
     /// Only a scan reads blocks: a row from which no more than the free end is sought has none.
     pub(crate) fn block_arcs(
@@ -144,22 +145,14 @@ impl SortedArcs {
         ensures cursor { OnOk result (self.new.cursor ≡ self.old.cursor) }
     {
         let left = self.cursor.saturating_sub(self.blocked);
-        if left <= self.few {
+        if left == 0 || self.joined.saturating_mul(FEW_JOINED) < self.arcs.len() {
             return Ok(());
         }
         let to_last = comes_to_last(&self.arcs, self.cursor, limit);
         let scans = if to_last { LAST_SEEN } else { 1 };
         self.looks = self.looks.saturating_add(left.saturating_mul(scans));
-        let is_often = self.looks / OFTEN >= left;
-        if !is_often && (!to_last || left < NEARLY_ALL) {
-            return Ok(());
-        }
-        let joined = joined_among(&self.arcs, firsts, self.blocked, self.cursor);
-        if joined.saturating_mul(FEW_JOINED) < left {
-            self.few = left.saturating_mul(2);
-            return Ok(());
-        }
-        if !is_often && joined < left - left / NEARLY_ALL {
+        let at_once = to_last && left >= NEARLY_ALL && self.are_nearly_all_joined();
+        if !at_once && self.looks / OFTEN < left {
             return Ok(());
         }
         add_arcs(
@@ -171,8 +164,13 @@ impl SortedArcs {
         )?;
         self.blocked = self.cursor;
         self.looks = 0;
-        self.few = 0;
         Ok(())
+    }
+
+    /// Whether all of the arcs but for one of so many lie in one block with the arc before.
+    fn are_nearly_all_joined(&self) -> bool {
+        let apart = self.arcs.len().saturating_sub(self.joined);
+        apart <= self.arcs.len() / NEARLY_ALL
     }
 }
 
@@ -184,51 +182,31 @@ fn comes_to_last(arcs: &[Arc], upto: usize, limit: Option<u64>) -> bool {
     }
 }
 
-/// How many of the arcs from one place up to another lie in one block with the arc before.
-fn joined_among(arcs: &[Arc], firsts: &Representatives, start: usize, end: usize) -> usize
-    requires { end ≤ length arcs.now }
-{
-    let mut joined: usize = 0;
-    for at in start..end {
-        if at > 0 && are_joined(firsts, arcs[at - 1], arcs[at]) {
-            joined = joined.saturating_add(1);
-        }
-    }
-    joined
-}
-
-/// Whether the classes of two arcs that follow each other lie in one block: at one weight, with first CPUs that lie together.
-fn are_joined(firsts: &Representatives, before: Arc, arc: Arc) -> bool {
-    if arc.weight != before.weight {
-        return false;
-    }
-    let Some(first) = firsts.first(before.class) else {
-        return false;
-    };
-    let Some(next) = firsts.first(arc.class) else {
-        return false;
-    };
-    first / 64 == next / 64
-}
-
-/// Adds the classes of an offer, at its weight, in the order of their first CPUs.
+/// Adds the classes of an offer, at its weight, in the order of their first CPUs; says how many of them lie in one block with
+/// the one before: the first CPUs of both lie in one word of 64.
 fn push_arcs(
     arcs: &mut Vec<Arc>,
     offer: &Offer,
     firsts: &Representatives,
     weight: u32,
-) -> Result<(), AllocError>
+) -> Result<usize, AllocError>
     ensures { OnOk result ((ws : ℕ → Option ℕ) (offers : List Offer) (weighted : List WeightedOffer) (opened : ℕ) → CanOpen ws offers firsts.now weighted opened offer.now weight arcs.old.items
         → IsOpening ws offers firsts.now weighted opened arcs.old.items arcs.new.items None) }
 {
     let there = firsts.among(&offer.cpus);
+    let mut joined: usize = 0;
+    let mut word = CPU_LIMIT / 64;
     let mut next = there.first();
     while let Some(cpu) = next {
         let class = firsts.class_of(cpu);
         arcs.push(Arc { weight, class })?;
+        if cpu / 64 == word {
+            joined = joined.saturating_add(1);
+        }
+        word = cpu / 64;
         next = there.next_after(cpu);
     }
-    Ok(())
+    Ok(joined)
 }
 
 /// Adds the classes of the arcs from one place up to another to the blocks of the arcs before them.

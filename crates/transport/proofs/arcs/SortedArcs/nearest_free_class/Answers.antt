@@ -29,7 +29,7 @@ returns-then-is_past-clause-found c = λ (ws : ℕ → Option ℕ) h.
     (λ more. subst (IsPast c.args.limit) (ap (λ (b : WeightedOffer). b.weight) c.weighted_offer-next.ensures) (c.is_past.ensures.0 c.if-is_past.true))
 
 -- the cursor has moved on
-skipped : (c : After-skip_full-self) → IsFurther c.args.self.now (record { order = c.loop-self.self.order; opened = c.loop-self.self.opened; arcs = c.loop-self.self.arcs; blocks = c.loop-self.self.blocks; blocked = c.loop-self.self.blocked; cursor = c.skip_full-self.result; looks = c.loop-self.self.looks; few = c.loop-self.self.few })
+skipped : (c : After-skip_full-self) → IsFurther c.args.self.now (record { order = c.loop-self.self.order; opened = c.loop-self.self.opened; arcs = c.loop-self.self.arcs; blocks = c.loop-self.self.blocks; blocked = c.loop-self.self.blocked; cursor = c.skip_full-self.result; looks = c.loop-self.self.looks; joined = c.loop-self.self.joined })
 skipped c = further_more _ _ _ c.loop-self.invariant.further (further_on c.loop-self.self _ refl c.skip_full-self.ensures.forward)
 
 pub loop-self-init : goal.loop-self-init
