@@ -59,6 +59,6 @@ ScaledRowsFit =
 abbrev pub PartsRise : Type 0
 PartsRise = (held : Ids) (offers : List Offer) → AreRising offers → AreRising (flat_map (parted held) offers)
 
--- parted offers of distances are scaled: no CPU is more than one move
+-- parted offers are scaled: no CPU of them is more than one move
 abbrev pub PartsAreScaled : Type 0
 PartsAreScaled = (held : Ids) (offers : List Offer) → list_all is_scaled (flat_map (parted held) offers) ≡ true
