@@ -23,7 +23,7 @@ use Rattle.node.specs.Tells.{TellsShortage}
 abbrev pub is_open : KernelState → Layout → ℕ → List ℕ × ContainerState → Bool
 is_open k m core e = set.contains (offered m k.tree.online e.1.demand) core
 
--- a row is a container's: it has its id, and asks for the cores that make as many CPUs as it asks for; only the cores that
+-- a row is a container's: it has its id, and asks for the cores that make as many CPUs as it asks for; exactly the cores that
 -- the container may have have a weight in it
 pub record IsRowOf (k : KernelState) (m : Layout) (row : RowView) (e : List ℕ × ContainerState) : Type 0 where
   pub row_is : row_of m k.tree.online e.0 e.1.demand ≡ Some row

@@ -17,7 +17,7 @@ IsKernelOf m = IsFirstKernel (present m) m.reserved m.online (nodes_of m) FIRST_
 abbrev pub beginning_of : Layout → Beginning
 beginning_of m = record { present = present m; reserved = m.reserved; online = m.online; nodes = nodes_of m; first_pid = FIRST_PID }
 
--- a node with no container, over a kernel on which nothing was done yet
+-- a node with no container, made over a kernel on which nothing was done yet
 abbrev pub Boots : Layout → NodeState → Type 0
 Boots m n = (k : KernelState) × IsKernelOf m k × Opens k m n
 
