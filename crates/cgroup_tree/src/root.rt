@@ -90,8 +90,9 @@ pub fn open_tree<T: GroupTrees + Drop>(
     nodes: &IdSet,
     adopt: bool,
 ) -> Result<OpenTree<T::Files>, RootFault>
-    // It answers the nodes that have memory, or the first look at the root that is against it. The five looks are whether
-    // it is a folder, whether another program has it, its controllers, its CPUs in effect and its nodes in effect.
+    // It answers the nodes that have memory, or the first look at the root that is against it (`AnswersRoot`). The five
+    // looks are whether it is a folder, whether another program has it, its controllers, its CPUs in effect and its nodes
+    // in effect.
     ensures answers { MatchResult result
         (λ tree. AnswersRoot (T.finds trees) root.now online.now nodes.now (Ok tree.memory))
         (λ why. AnswersRoot (T.finds trees) root.now online.now nodes.now (Err why)) }
