@@ -218,7 +218,7 @@ impl<K: Kernel + Drop> Node<K> {
         ensures can { IfOk result (λ c. CanWrite c.now) }
         // Its numbers and sets are such as their types hold.
         ensures held { IfOk result (λ c. IsHeld c.now) }
-        // It proves itself.
+        // It proves itself (`ProvesItself`).
         ensures proved { IfOk result (λ c. ProvesItself c.now) }
     {
         match &self.last {
