@@ -29,8 +29,8 @@ pub fn do_check<S: Source, W: Write, E: Write>(
     name: &str,
     console: &mut Console<W, E>,
 ) -> u8
-    // It tells the verdict of the bytes, or their refusal (`IsAnswerTo`). An allocation failure is told only if the reading
-    // answered it, or if `certificate_text` may (`AsksForMemory`).
+    // It tells the verdict of the bytes, or their refusal (`Checks`, `IsAnswerTo`). An allocation failure is told only if
+    // the reading answered it, or if `certificate_text` may (`AsksForMemory`).
     ensures { Checks W.contents E.contents console.old console.new result (Reads S.opens S.fails S.Input.gives source) name.now }
 {
     let answer: Result<Verdict, Refusal> = answer_of(alloc, source);

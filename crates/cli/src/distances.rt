@@ -30,8 +30,8 @@ pub fn do_slit<S: Source, W: Write, E: Write>(
     name: &str,
     console: &mut Console<W, E>,
 ) -> u8
-    // It tells the table of the bytes, or their first fault (`IsTableOrRefusal`). An allocation failure is told only if the
-    // reading answered it, or if the bytes have no fault.
+    // It tells the table of the bytes, or their first fault (`Tabulates`, `IsTableOrRefusal`). An allocation failure is
+    // told only if the reading answered it, or if the bytes have no fault.
     ensures { Tabulates W.contents E.contents console.old console.new result (Reads S.opens S.fails S.Input.gives source) name.now }
 {
     let answer: Result<Slit, Refusal> = answer_of(alloc, source);

@@ -25,9 +25,9 @@ pub fn do_solve<S: Source, W: Write, E: Write>(
     name: &str,
     console: &mut Console<W, E>,
 ) -> u8
-    // It tells the certificate of the rows that the bytes stand for, or their refusal (`IsSolutionOf`). So what is written
-    // whole is a text that stands for a certificate of these very rows. It is proved least, or it shows that there is no
-    // plan. An allocation failure is told only if the reading answered it, or if `solution` may.
+    // It tells the certificate of the rows that the bytes stand for, or their refusal (`Solves`, `IsSolutionOf`). So what
+    // is written whole is a text that stands for a certificate of these very rows. It is proved least, or it shows that
+    // there is no plan. An allocation failure is told only if the reading answered it, or if `solution` may.
     ensures { Solves W.contents E.contents console.old console.new result (Reads S.opens S.fails S.Input.gives source) name.now }
 {
     let answer: Result<Solution, Refusal> = answer_of(alloc, source);
