@@ -1,6 +1,6 @@
 #!/usr/bin/env bash
-# Everything: what the pages name, each name of docs/definitions.md, and the lists of docs/reading.md; the proofs from
-# nothing, the mutants, the tests and the programs; then,
+# Everything: what the pages name, the rows of docs/definitions.md and docs/proved.md, and the lists of docs/reading.md; the
+# proofs from nothing, the mutants, the tests and the programs; then,
 # with the programs that this built, machine files made of recorded hosts, tables of inputs and of command lines, a second kernel,
 # a second checker, a second reader of problems, a second runtime, kernels, streams and cgroup trees that fail, a solver that
 # tries every plan, the first form of the solver, the scripts for those who operate machines, and each of the program's

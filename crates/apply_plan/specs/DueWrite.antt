@@ -1,4 +1,4 @@
--- The write that is due in a hand-over: said of one state of the kernel.
+-- The write that is due in a hand-over, by one state of the kernel.
 use Rattle.std.specs.Prelude.{◌≡◌, ◌⊎◌, ℕ, ◌+◌, Bool, true, not, ◌&&◌, cond, List, find, Option, Some, None, is_some, Result, Ok, Err}
 use Rattle.std.specs.List.{AllByRecursion, sum_by}
 use Rattle.cpu_set.specs.Ids.{Ids, is_same}
@@ -47,6 +47,7 @@ first_write k reserved None None = None
 abbrev pub due_write : KernelState → Ids → List Entry → Option Write
 due_write k reserved entries = first_write k reserved (find (must_release k reserved) entries) (find (must_move k) entries)
 
+-- the write that is due in one state of the kernel, if one is
 abbrev pub due : Targets → KernelState → Option Write
 due h k = due_write k h.reserved h.entries
 
@@ -60,8 +61,8 @@ abbrev pub progress_of : Option Write → Progress
 progress_of None = Done
 progress_of (Some w) = More
 
--- a step makes the write that is due and no other, and tells whether another is due after it; where that write fails it
--- is counted, and nothing else changes
+-- a step makes the write that is due and no other, and tells whether another is due after it; if that write fails it is
+-- counted, and nothing else changes
 abbrev pub Steps : Targets → KernelState → Result Progress KernelFault → KernelState → Type 0
 Steps h old (Ok answer) new = (new ≡ written old (due h old)) × (answer ≡ progress_of (due h new))
 Steps h old (Err fault) new = (fault ≡ Failed) × (new ≡ failed old) × (is_some (due h old) ≡ true)
@@ -71,6 +72,7 @@ abbrev pub writes_of : KernelState → Ids → Entry → ℕ
 writes_of k reserved e =
     cond (must_release k reserved e) (cond (is_same (kept_of k reserved e) e.target) 1 2) (cond (must_move k e) 1 0)
 
+-- how many writes are left in one state of the kernel
 abbrev pub writes_to_come : Targets → KernelState → ℕ
 writes_to_come h k = sum_by (writes_of k h.reserved) h.entries
 
@@ -78,6 +80,7 @@ writes_to_come h k = sum_by (writes_of k h.reserved) h.entries
 abbrev pub HasTarget : KernelState → Entry → Type 0
 HasTarget k e = is_alive k.table e.pid ≡ true → held k e ≡ e.target
 
+-- each live container requests its target
 abbrev pub HaveTargets : KernelState → List Entry → Type 0
 HaveTargets k entries = AllByRecursion (HasTarget k) entries
 
@@ -86,15 +89,16 @@ abbrev pub IsBetween : Ids → KernelState → KernelState → Entry → Type 0
 IsBetween reserved first k e =
     (held k e ≡ held first e) ⊎ (held k e ≡ kept reserved e.target (held first e)) ⊎ (held k e ≡ e.target)
 
+-- each container requests what it did at first, what it keeps of that, or its target
 abbrev pub Between : Targets → KernelState → KernelState → Type 0
 Between h first k = AllByRecursion (IsBetween h.reserved first k) h.entries
 
--- where a write was due and succeeded, one less is to come; where it failed, as many as before
+-- if a write was due and succeeded, one less is to come; if it failed, as many as before
 abbrev pub Lowers : Targets → KernelState → Result Progress KernelFault → KernelState → Type 0
 Lowers h old (Ok answer) new = writes_to_come h old ≡ writes_to_come h new + cond (is_some (due h old)) 1 0
 Lowers h old (Err fault) new = writes_to_come h old ≡ writes_to_come h new
 
--- how many writes a step makes: one where one is due, whether it fails or not, and else none
+-- how many writing calls a step makes: one if one is due, whether it fails or not, and else none
 abbrev pub made_by_step : Targets → KernelState → ℕ
 made_by_step h k = cond (is_some (due h k)) 1 0
 

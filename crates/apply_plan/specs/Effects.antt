@@ -1,4 +1,5 @@
 -- What the requested sets of containers are worth: the sets that they have in effect.
+-- From: cgroup v2, `cpuset.cpus.effective`.
 use Rattle.std.specs.Prelude.{◌≡◌, true, false, List}
 use Rattle.std.specs.List.{AllByRecursion}
 use Rattle.std.specs.FinSet as set
@@ -27,7 +28,7 @@ pub record CanTakeEffect (k : KernelState) (e : Entry) : Type 0 where
   pub some : is_empty e.target ≡ false
   pub online : set.is_subset e.target k.tree.online ≡ true
 
--- once each live container has its target, its effective CPUs are its target
+-- once each live container has its target, and the targets are online, they are in effect as they are
 abbrev pub TargetsTakeEffect : Type 0
 TargetsTakeEffect =
     (k : KernelState) (entries : List Entry) → IsWellFormed k → AllByRecursion (λ e. HasFreeParent k e.group) entries → AllByRecursion (CanTakeEffect k) entries
@@ -37,7 +38,7 @@ TargetsTakeEffect =
 abbrev pub HasOnline : KernelState → Holder → Type 0
 HasOnline k a = is_alive k.table a.pid ≡ true → is_empty (set.intersection (requested_cpus k.tree a.group) k.tree.online) ≡ false
 
--- while each live container requests a CPU that is online, what is safe of the requested sets is safe of the effective ones
+-- while each live container requests a CPU that is online, the sets in effect are safe if the requested ones are
 abbrev pub SafeInEffect : Type 0
 SafeInEffect =
     (k : KernelState) (reserved : Ids) (holders : List Holder) → IsWellFormed k → AllByRecursion (λ a. HasFreeParent k a.group) holders

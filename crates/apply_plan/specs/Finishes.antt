@@ -7,7 +7,7 @@ use Rattle.apply_plan.specs.declared.handover.Progress.TheVariants.{More, Done}
 use Rattle.apply_plan.specs.Targets.{Targets}
 use Rattle.apply_plan.specs.DueWrite.{Steps}
 
--- so many steps, after each of which another write is due
+-- n steps, after each of which another write is due
 abbrev pub StepsMore : Targets → ℕ → KernelState → KernelState → Type 0
 StepsMore h zero old new = new ≡ old
 StepsMore h (suc n) old new = (mid : KernelState) × Steps h old (Ok More) mid × StepsMore h n mid new
@@ -17,7 +17,7 @@ abbrev pub last_answer : Result (Unit {0}) KernelFault → Result Progress Kerne
 last_answer (Ok _) = Ok Done
 last_answer (Err fault) = Err fault
 
--- steps until the hand-over ends
+-- the steps of a hand-over up to the one that ends it
 pub record Finishes (h : Targets) (old : KernelState) (r : Result (Unit {0}) KernelFault) (new : KernelState) : Type 0 where
   pub steps : ℕ
   pub mid : KernelState

@@ -38,6 +38,7 @@ pub record AreSafe (k : KernelState) (reserved : Ids) (sets : Sets) (holders : L
   pub apart : Pairwise (AreApart k reserved sets) holders
   pub some : AllByRecursion (HasSome k sets) holders
 
--- the same of the sets that are requested
+-- what is requested is safe: outside the reserved CPUs a live pinned container shares none with another live one, and each
+-- live one requests some
 abbrev pub IsSafe : KernelState → Ids → List Holder → Type 0
 IsSafe k reserved holders = AreSafe k reserved (requested_cpus k.tree) holders

@@ -7,6 +7,6 @@ use Rattle.cpu_set.specs.Ids.{Ids, is_empty}
 abbrev pub within : Ids → Ids → Ids → Ids
 within reserved target cpus = set.intersection cpus (set.union target reserved)
 
--- these, or the reserved CPUs where there are none
+-- what a container keeps on the way to its target: what is in the target or reserved, or the reserved CPUs if that is nothing
 abbrev pub kept : Ids → Ids → Ids → Ids
 kept reserved target cpus = if is_empty (within reserved target cpus) then reserved else within reserved target cpus

@@ -7,8 +7,8 @@ use Rattle.cpuset_tree.specs.TreeLaws.{StandAlike}
 use Rattle.kernel_model.specs.KernelState.{KernelState}
 use Rattle.apply_plan.specs.Targets.{Targets}
 
--- the processes, the CPUs, the nodes, where each group stands and which memory nodes it requests stay, and so do the CPUs
--- that a group requests which is none of the entries'
+-- nothing else in the kernel changed. The processes, the CPUs and the nodes stay, and so do each group's place and its memory
+-- nodes. Groups that are none of the entries' request the same CPUs.
 pub record KeepsRest (h : Targets) (old new : KernelState) : Type 0 where
   pub table : new.table ≡ old.table
   pub present : new.present ≡ old.present

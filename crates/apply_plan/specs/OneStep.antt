@@ -1,4 +1,4 @@
--- What one step of a hand-over leaves, said of plain states.
+-- What one step of a hand-over leaves, of plain states.
 use Rattle.std.specs.Prelude.{◌≡◌, ◌+◌, Result, Ok}
 use Rattle.kernel_model.specs.declared.KernelFault.{KernelFault}
 use Rattle.kernel_model.specs.KernelState.{KernelState}
@@ -12,9 +12,9 @@ use Rattle.apply_plan.specs.DueWrite.{Steps, writes_to_come, HaveTargets, Betwee
 use Rattle.apply_plan.specs.Leaves.{KeepsRest}
 use Rattle.apply_plan.specs.Runs.{IsOpen}
 
--- the hand-over is still open, what was safe is safe, and nothing changed but the entries' sets and the kernel's counts;
--- where no write is due any more each live container has its target and none is to come, and where one is there is one less
--- to come; one writing call was made where a write was due, and else none
+-- what one step leaves. The hand-over is still open, what was safe is safe, and nothing changed but the entries' sets and the
+-- kernel's counts. If no write is due any more each live container has its target and none is to come; if one still is, one
+-- less is to come. One writing call was made if a write was due, and else none.
 pub record StepLeaves (h : Targets) (old : KernelState) (r : Result Progress KernelFault) (new : KernelState) : Type 0 where
   pub open_still : IsOpen h new
   pub safe : IsSafe old h.reserved (holders_of h.entries) → IsSafe new h.reserved (holders_of h.entries)
@@ -29,6 +29,7 @@ pub record StepLeaves (h : Targets) (old : KernelState) (r : Result Progress Ker
   pub spent : r ≡ Ok Done → writes_to_come h new ≡ 0
   pub kernel : StepKeeps old new
 
+-- each step leaves this, of plain values
 abbrev pub StepsLeave : Type 0
 StepsLeave =
     (h : Targets) (old : KernelState) (r : Result Progress KernelFault) (new : KernelState) → IsOpen h old → Steps h old r new → StepLeaves h old r new

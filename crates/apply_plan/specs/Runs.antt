@@ -82,6 +82,6 @@ EndsWithin =
     (h : Targets) (k : KernelState) (run : List (Event × KernelState)) → IsOpen h k → AllHappen h k run
     → writes_in k run + writes_to_come h (last_of k run) ≤ writes_to_come h k
 
--- and at most two for each entry are to come
+-- at most two writes for each entry are to come
 abbrev pub FewToCome : Type 0
 FewToCome = (h : Targets) (k : KernelState) → writes_to_come h k ≤ 2 * length h.entries

@@ -12,7 +12,7 @@ use Rattle.kernel_model.specs.KernelState.{KernelState}
 use Rattle.apply_plan.specs.declared.entry.Entry.{Entry}
 use Rattle.apply_plan.specs.Holders.{Holder, Pairwise}
 
--- the containers with what they are to have, and the reserved CPUs
+-- containers with their targets, and the reserved CPUs
 pub record Targets : Type 0 where
   pub entries : List Entry
   pub reserved : Ids
@@ -35,6 +35,7 @@ targets_code =
 abbrev pub holder_of : Entry → Holder
 holder_of e = record { group = e.group; pid = e.pid; pinned = e.pinned }
 
+-- the entries of a hand-over as containers
 abbrev pub holders_of : List Entry → List Holder
 holders_of entries = map holder_of entries
 
@@ -52,8 +53,8 @@ AreTargetsApart reserved a b =
 abbrev pub HaveSomeTarget : List Entry → Type 0
 HaveSomeTarget entries = AllByRecursion (λ e. is_empty e.target ≡ false) entries
 
--- each group is there once; outside the reserved CPUs the target of a pinned container meets no other; no target is
--- empty, nor are the reserved CPUs
+-- when a hand-over may begin: each group is there once; outside the reserved CPUs the target of a pinned container meets no
+-- other; no target is empty, nor are the reserved CPUs
 pub record IsHandover (h : Targets) : Type 0 where
   pub groups : Pairwise HaveOtherGroups h.entries
   pub apart : Pairwise (AreTargetsApart h.reserved) h.entries
@@ -65,5 +66,6 @@ pub record IsPlaced (k : KernelState) (g : Group) : Type 0 where
   pub there : has_group k.tree g ≡ true
   pub below : is_root k.tree g ≡ false
 
+-- the groups of entries are in the tree, and none is the root
 abbrev pub ArePlaced : KernelState → List Entry → Type 0
 ArePlaced k entries = AllByRecursion (λ e. IsPlaced k e.group) entries

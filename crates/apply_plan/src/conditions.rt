@@ -10,9 +10,8 @@ use crate::Entry;
 use cpu_set::IdSet;
 use kernel_model::{Group, Kernel};
 
-/// Whether a hand-over of these entries may begin, as [`crate::Handover::new`] requires: each group is there once,
-/// outside the reserved CPUs the target of a pinned container meets no other, and no target is empty, nor are the
-/// reserved CPUs.
+/// Whether a hand-over of these entries may begin, as [`crate::Handover::new`] requires. Each group is there once. Outside
+/// the reserved CPUs the target of a pinned container meets no other. No target is empty, nor are the reserved CPUs.
 ///
 /// Looks at each target once, and compares the groups of each two of the entries. Allocates nothing.
 pub fn may_begin(entries: &[Entry], reserved: &IdSet) -> bool

@@ -79,7 +79,7 @@ impl Handover {
         })
     }
 
-    /// Makes the write that is due and no other, or none where none is due, and tells whether more are to come.
+    /// Makes the write that is due and no other, or none if none is due, and tells whether more are to come.
     ///
     /// Entries whose first process has ended are passed over. Allocates nothing.
     ///
@@ -88,23 +88,26 @@ impl Handover {
     pub fn step<K: Kernel>(&mut self, kernel: &mut K) -> Result<Progress, KernelFault>
         requires { ArePlaced (K.state kernel.old) self.old.entries }
         ensures same { self.new ≡ self.old }
-        // The write that is due before it, and whether one is due after it; or a failure, where one was due.
+        // It answers `Done` exactly if nothing is due after it.
         ensures step { Steps self.old (K.state kernel.old) result (K.state kernel.new) }
-        // What was safe stays so.
+        // What was safe stays safe. Safe means that outside the reserved CPUs no CPU is requested for a live pinned
+        // container and for another live one. Nor does any live container request none.
         ensures safe { IsSafe (K.state kernel.old) self.old.reserved (holders_of self.old.entries)
             → IsSafe (K.state kernel.new) self.old.reserved (holders_of self.old.entries) }
-        // At the end each live container has its target.
+        // At `Done` each live container has its target.
         ensures done { result ≡ Ok Progress.Done → HaveTargets (K.state kernel.new) self.old.entries }
-        // At most two writes for each entry are to come, each that succeeds is one less, and one that fails none.
+        // At most two writes for each entry are to come.
         ensures few { writes_to_come self.old (K.state kernel.old) ≤ 2 * length self.old.entries }
+        // Each that succeeds is one less, and one that fails none.
         ensures lowers { Lowers self.old (K.state kernel.old) result (K.state kernel.new) }
-        // One writing call of the kernel is made where a write is due, and else none.
+        // It makes one writing call if a write is due, and else none.
         ensures made { (K.state kernel.new).writes ≡ (K.state kernel.old).writes + made_by_step self.old (K.state kernel.old) }
-        // Each container requests what it did at first, or what it keeps of that, or its target.
+        // Each container requests what it did at first, what it keeps of that, or its target.
         ensures between { (first : KernelState) → Between self.old first (K.state kernel.old)
             → Between self.old first (K.state kernel.new) }
-        // A failure is counted, and nothing else in the kernel changes.
+        // A failure is counted.
         ensures counted { (K.state kernel.new).failures ≡ (K.state kernel.old).failures + rise result }
+        // Nothing else in the kernel changes.
         ensures rest { KeepsRest self.old (K.state kernel.old) (K.state kernel.new) }
         ensures placed { ArePlaced (K.state kernel.new) self.old.entries }
     {
@@ -131,25 +134,26 @@ impl Handover {
     pub fn finish<K: Kernel>(&mut self, kernel: &mut K) -> Result<(), KernelFault>
         requires { ArePlaced (K.state kernel.old) self.old.entries }
         ensures same { self.new ≡ self.old }
-        // Single steps, up to the first after which nothing is due or that fails.
+        // Single steps leave the same, up to the first after which nothing is due or that fails.
         ensures finishes { Finishes self.old (K.state kernel.old) result (K.state kernel.new) }
-        // What was safe stays so.
+        // What was safe stays safe.
         ensures safe { IsSafe (K.state kernel.old) self.old.reserved (holders_of self.old.entries)
             → IsSafe (K.state kernel.new) self.old.reserved (holders_of self.old.entries) }
         // At the end each live container has its target.
         ensures done { IsOk result → HaveTargets (K.state kernel.new) self.old.entries }
-        // One writing call of the kernel is made for each write that is less to come, and one for a failure.
+        // It makes one writing call for each write that is less to come, and one for a failure.
         ensures made { Spends self.old (K.state kernel.old) (rise result) (K.state kernel.new) }
-        // At the end these are all that were to come.
+        // At the end it has made exactly as many writing calls as writes were to come.
         ensures all { IsOk result → (K.state kernel.new).writes ≡ (K.state kernel.old).writes
             + writes_to_come self.old (K.state kernel.old) }
-        // At most two for each entry, and the one that failed.
+        // That is at most two for each entry, and the one that failed.
         ensures few { (K.state kernel.new).writes ≤ (K.state kernel.old).writes + 2 * length self.old.entries + rise result }
-        // Each container requests what it did at first, or what it keeps of that, or its target.
+        // Each container requests what it did at first, what it keeps of that, or its target.
         ensures between { (first : KernelState) → Between self.old first (K.state kernel.old)
             → Between self.old first (K.state kernel.new) }
-        // A failure is counted, and nothing else in the kernel changes.
+        // A failure is counted.
         ensures counted { (K.state kernel.new).failures ≡ (K.state kernel.old).failures + rise result }
+        // Nothing else in the kernel changes.
         ensures rest { KeepsRest self.old (K.state kernel.old) (K.state kernel.new) }
         ensures placed { ArePlaced (K.state kernel.new) self.old.entries }
     {

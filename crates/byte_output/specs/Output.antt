@@ -1,4 +1,4 @@
--- What a writer took of some bytes, where the bytes that it holds are known.
+-- What a writer took of some bytes, if the bytes that it holds are known.
 use Rattle.std.specs.Prelude.{◌≡◌, ℕ, ◌<◌, List, ◌++◌, length, Option, Result, Ok, Err}
 use Rattle.std.specs.Io.KnownBytes.{Appends}
 

@@ -1,4 +1,8 @@
 //! Bytes and numbers to a writer, where an error has to tell how far they came.
+//!
+//! # Proved
+//!
+//! - After a fault a prefix of what was to be written went out, and not all.
 #![tactic(auto)]
 
 mod output;

@@ -28,9 +28,11 @@ pub record AreWithin (rows : List RowView) (sets : List Ids) (prices : PricesVie
   pub amounts : All (λ (p : Price). p.amount ≤ MAX_AMOUNT) prices.of_cpu
   pub apart : AllPairs (λ (p q : Price). IsDisjoint p.cpus q.cpus) prices.of_cpu
 
+-- the test of rows says exactly that they are within the limits
 abbrev pub RowsFitMeans : Type 0
 RowsFitMeans = (rows : List RowView) → rows_fit rows ≡ true ↔ AreRowsWithin rows
 
+-- the test of a plan says exactly that all of it is within the limits
 abbrev pub LimitsMean : Type 0
 LimitsMean =
     (rows : List RowView) (sets : List Ids) (prices : PricesView)

@@ -9,6 +9,6 @@ use Rattle.certificate.specs.Weight.{weight}
 abbrev pub row_cost : RowView → Ids → ℕ
 row_cost row s = sum_by (λ cpu. unwrap_or (weight row cpu) 0) (members s)
 
--- the same, summed over the rows
+-- what a plan costs: the weights held, summed over the rows
 abbrev pub cost : List RowView → List Ids → ℕ
 cost rows sets = sum_by (λ e. row_cost e.0 e.1) (zip rows sets)

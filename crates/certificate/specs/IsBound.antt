@@ -1,4 +1,5 @@
 -- A lower bound on what every plan costs, by values of rows and prices of CPUs.
+-- From: linear programming duality.
 use Rattle.std.specs.Prelude.{◌≡◌, ℕ, ◌+◌, ◌*◌, ◌≤◌, List, Some, sum_by, zip}
 use Rattle.std.specs.List.{AllZip}
 use Rattle.cpu_set.specs.Members.{IsCpu}
@@ -15,7 +16,8 @@ IsValueOf prices row value = (cpu w : ℕ) → IsCpu cpu → weight row cpu ≡ 
 abbrev pub worth : List RowView → List ℕ → ℕ
 worth rows values = sum_by (λ e. e.0.demand * e.1) (zip rows values)
 
--- what the rows are worth, less the prices of all CPUs (written as a sum, since a subtraction stops at 0)
+-- values and prices bound every plan's cost from below. The bound is what the rows are worth, less the prices of all CPUs. It
+-- is written as a sum, since a subtraction stops at 0.
 pub record IsBound (rows : List RowView) (values : List ℕ) (prices : List Price) (bound : ℕ) : Type 0 where
   pub below : AllZip (IsValueOf prices) rows values
   pub sum : worth rows values ≡ bound + all_prices prices

@@ -53,7 +53,7 @@ pub record IsFirstShared (sets : List Ids) (cpu : ℕ) : Type 0 where
   pub before : AllPairs IsDisjoint (take k sets)
   pub here : IsLeastThat (λ c. set.contains own c && is_held (take k sets) c) cpu
 
--- the cause of each refusal of a plan, and that what is checked before it is in order; a shortage is not looked for
+-- the cause of each refusal of a plan, and that what is checked before it is in order
 abbrev pub IsCause : List RowView → List Ids → PricesView → CheckFault → Type 0
 IsCause rows sets prices BadProblem = is_within_limits rows sets prices ≡ false
 IsCause rows sets prices (WrongCount k) =
@@ -70,7 +70,7 @@ IsCause rows sets prices Gap =
     × (worth rows prices.values ≢ cost rows sets + all_prices prices.of_cpu)
 IsCause rows sets prices NoShortage = ⊥
 
--- the cause of each refusal of a shortage; it has no other
+-- the cause of each refusal of a shortage
 abbrev pub IsShortageCause : List RowView → List ℕ → CheckFault → Type 0
 IsShortageCause rows members BadProblem = is_shortage_within_limits rows members ≡ false
 IsShortageCause rows members NoShortage =

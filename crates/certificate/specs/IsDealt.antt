@@ -13,8 +13,8 @@ AreTwins rows a b = All (λ row. weight row a ≡ weight row b) rows
 abbrev pub Holds : List Ids → ℕ → ℕ → Type 0
 Holds sets k cpu = set.contains (slice_index_or sets k set.empty) cpu ≡ true
 
--- of two twins the lower one's row is not later than the higher one's, where who has no row counts as after the last:
--- whatever row holds the higher one, it or an earlier row holds the lower one
+-- of two twins the lower one is held by no later row. If a row holds the higher one, it or an earlier row holds the lower
+-- one.
 abbrev pub IsDealt : List RowView → List Ids → Type 0
 IsDealt rows sets =
     (a b k : ℕ) → a < b → AreTwins rows a b → Holds sets k b → (j : ℕ) × (j ≤ k) × Holds sets j a

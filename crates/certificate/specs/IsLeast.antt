@@ -5,7 +5,7 @@ use Rattle.certificate.specs.RowView.{RowView}
 use Rattle.certificate.specs.IsPlan.{IsPlan}
 use Rattle.certificate.specs.Cost.{cost}
 
--- a plan, and each plan of these rows costs at least as much
+-- an optimal plan: each plan of these rows costs at least as much
 pub record IsLeast (rows : List RowView) (sets : List Ids) : Type 0 where
   pub plan : IsPlan rows sets
   pub least : (others : List Ids) → IsPlan rows others → cost rows sets ≤ cost rows others

@@ -1,4 +1,5 @@
 -- A plan: a set of CPUs for each row.
+-- From: the transportation problem.
 use Rattle.std.specs.Prelude.{◌≡◌, ℕ, true, List, IsSome, AllPairs}
 use Rattle.std.specs.List.{AllZip}
 use Rattle.std.specs.FinSet as set
@@ -13,7 +14,7 @@ pub record Meets (row : RowView) (s : Ids) : Type 0 where
   pub size : set.len s ≡ row.demand
   pub allowed : (cpu : ℕ) → set.contains s cpu ≡ true → IsSome (weight row cpu)
 
--- one set for each row, which meets it, and no CPU in two
+-- one set for each row, as many CPUs as it asks for, each with a weight in it, and no CPU in two
 pub record IsPlan (rows : List RowView) (sets : List Ids) : Type 0 where
   pub met : AllZip Meets rows sets
   pub apart : AllPairs IsDisjoint sets

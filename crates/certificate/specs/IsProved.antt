@@ -8,7 +8,8 @@ use Rattle.certificate.specs.Cost.{cost}
 use Rattle.certificate.specs.IsBound.{IsBound}
 use Rattle.certificate.specs.Limits.{is_within_limits}
 
--- within the limits, a plan of this cost, and the bound is the same number
+-- what a yes of the check of a plan means. All is within the limits, the plan has this cost, and values and prices give the
+-- same number as a bound.
 pub record IsProved (rows : List RowView) (sets : List Ids) (prices : PricesView) (total : ℕ) : Type 0 where
   pub limits : IsTrue (is_within_limits rows sets prices)
   pub plan : IsPlan rows sets

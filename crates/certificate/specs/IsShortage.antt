@@ -1,4 +1,5 @@
--- A shortage: rows that together ask for more CPUs than they may have (Hall's condition).
+-- A shortage: rows that together ask for more CPUs than they may have.
+-- From: Hall's condition.
 use Rattle.std.specs.Prelude.{ℕ, ◌<◌, Bool, List, All, filter, filter_map, is_some, length, slice_get, sum_by}
 use Rattle.std.specs.List.{list_any}
 use Rattle.std.specs.List.Sorted.{IsStrictlyIncreasing}
@@ -24,7 +25,7 @@ is_offered rows cpu = list_any (λ row. is_some (weight row cpu)) rows
 abbrev pub offered : List RowView → List ℕ
 offered rows = filter (is_offered rows) cpus
 
--- these are numbers of rows, each once, and their rows ask together for more CPUs than the union of their offers has
+-- a Hall violator: numbers of rows, each once, whose rows ask together for more CPUs than the union of their offers has
 pub record IsShortage (rows : List RowView) (members : List ℕ) : Type 0 where
   pub rising : IsStrictlyIncreasing members
   pub there : All (λ k. k < length rows) members

@@ -4,7 +4,7 @@ use Rattle.certificate.specs.RowView.{RowView}
 use Rattle.certificate.specs.IsShortage.{chosen, asked, offered, IsShortage}
 use Rattle.certificate.specs.Limits.{rows_fit}
 
--- rows within their limits, and a shortage of them: as many CPUs are asked for, and as many are there
+-- what a yes of the check of a shortage means: rows within their limits, and a shortage by these two counts
 pub record IsShown (rows : List RowView) (members : List ℕ) (wanted there : ℕ) : Type 0 where
   pub limits : IsTrue (rows_fit rows)
   pub shortage : IsShortage rows members

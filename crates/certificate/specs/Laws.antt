@@ -19,12 +19,12 @@ NoPlanBelowBound =
     (rows : List RowView) (values : List ℕ) (prices : List Price) (bound : ℕ) (sets : List Ids)
     → IsBound rows values prices bound → IsPlan rows sets → bound ≤ cost rows sets
 
--- hence what is proved is a plan that no plan undercuts
+-- what is proved is a plan that no plan undercuts
 abbrev pub ProvedIsLeast : Type 0
 ProvedIsLeast =
     (rows : List RowView) (sets : List Ids) (prices : PricesView) (total : ℕ) → IsProved rows sets prices total → IsLeast rows sets
 
--- where rows are short of CPUs there is no plan
+-- if rows are short of CPUs there is no plan
 abbrev pub ShortageLeavesNoPlan : Type 0
 ShortageLeavesNoPlan = (rows : List RowView) (members : List ℕ) → IsShortage rows members → HasNoPlan rows
 

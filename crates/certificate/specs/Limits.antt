@@ -22,7 +22,8 @@ are_apart set_of (x ∷ more) = list_all (λ y. is_disjoint (set_of x) (set_of y
 unfoldable pub offers_fit : List Offer → Bool
 offers_fit offers = list_all (λ o. nat_le o.weight MAX_WEIGHT) offers && are_apart (λ o. o.cpus) offers
 
--- at least one CPU is asked for, and not more than the limit
+-- a row within its limits: it asks for at least one CPU and not more than the limit, no weight is past its limit, and no CPU
+-- is in two offers
 unfoldable pub row_fits : RowView → Bool
 row_fits row = nat_le 1 row.demand && (nat_le row.demand MAX_DEMAND && offers_fit row.offers)
 

@@ -8,11 +8,11 @@ use Rattle.certificate.specs.declared.limits.TheConstants.{MOVE_SCALE}
 abbrev pub packed : ℕ → ℕ → ℕ
 packed distance moves = distance * MOVE_SCALE + moves
 
--- the distance in it
+-- the distance in such a number
 abbrev pub distance_of : ℕ → ℕ
 distance_of n = n / MOVE_SCALE
 
--- and the moves
+-- the moves in such a number
 abbrev pub moves_of : ℕ → ℕ
 moves_of n = n % MOVE_SCALE
 

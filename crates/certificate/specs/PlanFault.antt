@@ -65,7 +65,7 @@ values_fault rows values prices = first_below (length rows) (λ k. at_both (valu
 abbrev pub is_tight : List RowView → List Ids → PricesView → Bool
 is_tight rows sets prices = worth rows prices.values == cost rows sets + all_prices prices.of_cpu
 
--- the first of all these faults
+-- the first fault of a plan and its prices, in the order of the checks
 unfoldable pub plan_fault : List RowView → List Ids → PricesView → Option CheckFault
 plan_fault rows sets prices = first_of (
     when (not (is_within_limits rows sets prices)) BadProblem

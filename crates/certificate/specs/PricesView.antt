@@ -4,7 +4,7 @@ use Rattle.std.specs.Coded.{Coded, code_by, coded×, coded_list, coded_ℕ}
 use Rattle.cpu_set.specs.Ids.{Ids, ids_code}
 use Rattle.certificate.specs.declared.price_lists.Price.{Price}
 
--- a value for each row, and the prices of CPUs
+-- values and prices as plain values: a value for each row, and the prices of CPUs
 pub record PricesView : Type 0 where
   pub values : List ℕ
   pub of_cpu : List Price

@@ -4,7 +4,7 @@ use Rattle.std.specs.Coded.{Coded, code_by, coded×, coded_list, coded_ℕ}
 use Rattle.cpu_set.specs.Ids.{Ids, ids_code}
 use Rattle.certificate.specs.declared.rows.Offer.{Offer}
 
--- a container's id, how many CPUs it asks for, and the CPUs that it may have with their weights
+-- a row as a plain value: a container's id, how many CPUs it asks for, and the CPUs that it may have with their weights
 pub record RowView : Type 0 where
   pub id : List ℕ
   pub demand : ℕ

@@ -49,7 +49,7 @@ abbrev pub MovesAreFew : Type 0
 MovesAreFew =
     (rows : List RowView) (sets : List Ids) → are_scaled rows ≡ true → IsPlan rows sets → cost (by_moves rows) sets ≤ CPU_LIMIT
 
--- a least plan is one of least distance, and no plan of that distance has fewer moves
+-- a plan of least cost is one of least distance, and no plan of that distance has fewer moves
 abbrev pub LeastIsNearest : Type 0
 LeastIsNearest =
     (rows : List RowView) (sets : List Ids) → are_scaled rows ≡ true → IsLeast rows sets

@@ -7,7 +7,7 @@ use Rattle.certificate.specs.Limits.{is_shortage_within_limits}
 use Rattle.certificate.specs.declared.check_faults.CheckFault.{CheckFault}
 use Rattle.certificate.specs.declared.check_faults.CheckFault.TheVariants.{BadProblem, NoShortage}
 
--- past the limits, or not more CPUs are asked for than are offered
+-- the first fault of a shortage: past the limits, or not more CPUs are asked for than are offered
 unfoldable pub shortage_fault : List RowView → List ℕ → Option CheckFault
 shortage_fault rows members = first_of (
     when (not (is_shortage_within_limits rows members)) BadProblem

@@ -8,6 +8,6 @@ use Rattle.certificate.specs.declared.rows.Offer.{Offer}
 abbrev pub weight_in : List Offer → ℕ → Option ℕ
 weight_in offers cpu = option_map (λ o. o.weight) (find (λ o. set.contains o.cpus cpu) offers)
 
--- the weight of the row's offer that has the CPU; there is none where the row may not have the CPU
+-- what a CPU costs a row that holds it: the weight of the row's offer that has it; none if the row may not have it
 abbrev pub weight : RowView → ℕ → Option ℕ
 weight row cpu = weight_in row.offers cpu

@@ -29,15 +29,15 @@ pub enum Verdict {
 /// `BadProblem` where weights count moves and one is more than one move; then those of [`check_plan`], then `Gap` (the
 /// duality gap) where the written total isn't the plan's cost; for a shortage those of [`check_shortage`].
 pub fn check(certificate: &Certificate) -> Result<Verdict, CheckFault>
-    // A yes: values and prices prove the plan to cost the total, or the members are short by these counts; where weights
-    // count moves, each is a distance, and one move at most.
+    // A yes: values and prices prove the plan to cost the total, or the members are short by these counts. In version 2
+    // each weight is a distance, and one move at most.
     ensures proved { IfOk result (λ v. IsProvedCertificate certificate.now v) }
-    // Hence no plan of the rows costs less, where weights count moves none is nearer, and none as near moves fewer CPUs; or
-    // the rows have no plan.
+    // Hence the plan is of least cost, or its rows have no plan. In version 2 a plan of least cost is of least distance,
+    // and of that distance no plan moves fewer CPUs. The two numbers of the verdict are those.
     ensures best { IfOk result (λ v. IsBest certificate.now v) }
-    // A yes wherever that holds.
+    // A yes wherever that is proved.
     ensures complete { (v : Verdict) → IsProvedCertificate certificate.now v → result ≡ Ok v }
-    // A no: the certificate's first fault, and its cause stands.
+    // A no: the first fault, whose cause holds. In version 2 that is first of all a weight of more than one move.
     ensures fault { IfErr result (λ fault. IsFaultOf fault certificate.now) }
 {
     match certificate {

@@ -24,21 +24,21 @@ use cpu_set::IdSet;
 /// # Errors
 /// The first cause in the order of [`CheckFault`], the last of which is none of a plan.
 pub fn check_plan(problem: &Problem, plan: &Plan, prices: &Prices) -> Result<u64, CheckFault>
-    // A yes: within the limits, a plan of this cost, and values and prices give the same number as a bound.
+    // A yes: each row has as many CPUs as it asks for, all allowed, and none is in two rows. The plan costs the returned
+    // total, and values and prices give the same number as a bound.
     ensures proved { IfOk result (λ total. IsProved problem.now plan.now prices.now total) }
 
-    // Hence no plan of these rows costs less.
+    // Hence the plan is optimal: **no plan costs less, whoever wrote the certificate**.
     ensures least { OnOk result (IsLeast problem.now plan.now) }
 
-    // And a yes wherever all of that holds.
+    // A yes wherever values and prices within the limits show this.
     ensures complete { (total : ℕ) → IsProved problem.now plan.now prices.now total
         → result ≡ Ok total }
 
-    // A no: the first fault in the order of the checks.
+    // A no: the first fault in the written order.
     ensures fault { plan_fault problem.now plan.now prices.now ≡ result_err result }
 
-    // And its cause stands: the least such CPU of the first such row, and all that is checked before
-    // it is in order.
+    // Its cause holds: the least such CPU of the first such row, and all that is checked before it is in order.
     ensures cause { IfErr result (λ fault. IsCause problem.now plan.now prices.now fault) }
 {
     check_plan_body(problem.rows.as_slice(), plan.sets.as_slice(), prices)

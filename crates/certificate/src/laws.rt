@@ -14,13 +14,12 @@ pub fn no_plan_is_below_a_bound()
     ensures least { ProvedIsLeast }
 {}
 
-/// Hall's condition: where some rows ask together for more CPUs than the union of their offers has, no
-/// sets at all are a plan.
+/// Hall's condition: if some rows ask together for more CPUs than the union of their offers has, no sets at all are a plan.
 pub fn a_shortage_leaves_no_plan()
     ensures { ShortageLeavesNoPlan }
 {}
 
-/// What is proved has no fault, and sets of CPUs that have none are proved.
+/// What proves itself is not refused, and sets of CPUs that have no fault are proved.
 pub fn what_is_proved_has_no_fault()
     ensures none { ProvedHasNoFault }
     ensures proved { FaultlessIsProved }
@@ -32,9 +31,9 @@ pub fn what_is_within_the_limits()
     ensures all { LimitsMean }
 {}
 
-/// Weights that count moves besides the distance split into both: so does each cost, and the plans stay the same. A plan
-/// moves no more CPUs than there are, so one of least cost is one of least distance, and no plan of that distance moves
-/// fewer.
+/// Weights that count moves besides the distance split each cost into both and leave the plans as they are. Take weights by
+/// which no CPU is more than one move. **A plan that is least by them is one of least distance, and no plan of that
+/// distance moves fewer** (`least`).
 pub fn scaled_rows_have_two_costs()
     ensures split { CostSplits }
     ensures plans { SamePlans }

@@ -10,6 +10,14 @@
 //!
 //! A [`Certificate`] is a problem with one of both, and [`check`] checks it, with the total that its writer claims. So
 //! whoever trusts the check reads this crate alone.
+//!
+//! # Proved
+//!
+//! - `Offers` is a list to which offers are added, also those of another list at a weight (`push_from`). It has their CPUs
+//!   as one set (`cpus`). It says whether each weighs more than all before it (`are_rising`), and whether two lists are the
+//!   same (`is_same`). `PriceList` is such a list of prices.
+//! - `Cost` makes one number of a distance and moves (`pack`, `weight`), and the two of such a number (`unpack`).
+//! - All sums fit their types for all inputs.
 #![tactic(auto)]
 
 mod amounts;

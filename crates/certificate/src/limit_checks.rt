@@ -41,8 +41,8 @@ fn are_below(members: &[usize], count: usize) -> bool
     members.iter().all(|k| *k < count)
 }
 
-/// Whether rows are within their limits, as the solver wants them to be: at most [`MAX_ROWS`] of them, each of which asks
-/// for 1 to [`MAX_DEMAND`] CPUs, with no weight above [`MAX_WEIGHT`] and no CPU in two of its offers.
+/// Whether rows are within their limits, as the solver wants them to be. There are at most [`MAX_ROWS`] of them, and each
+/// asks for 1 to [`MAX_DEMAND`] CPUs. No weight is above [`MAX_WEIGHT`], and no CPU is in two offers of a row.
 ///
 /// O(w) of w offers in all. Allocates nothing.
 #[tactic(auto, unfolding(crate::specs::Limits::rows_fit))]

@@ -13,28 +13,29 @@ use crate::limit_checks::is_shortage_within_limits;
 use crate::{CheckFault, MAX_ROWS, Problem, Row};
 use cpu_set::IdSet;
 
-/// Checks that some rows, the members, ask together for more CPUs than the union of their offers has: how
-/// many they ask for and how many there are, or the first cause why not.
+/// Checks that some rows, the members, ask together for more CPUs than the union of their offers has. It answers how many
+/// they ask for and how many there are, or the first cause why not.
 ///
 /// `members` are row numbers, each above the one before. O(m + w) of m members and w offers in all. Allocates nothing.
 ///
 /// # Errors
 /// `BadProblem` (E70), then `NoShortage` (E76).
 pub fn check_shortage(problem: &Problem, members: &[usize]) -> Result<(u64, u32), CheckFault>
-    // A yes: rows within their limits, and the members are short of CPUs, by these two counts.
+    // A yes: the members are a Hall violator. By the returned counts they ask together for more CPUs than the union of
+    // their offers has.
     ensures shown { IfOk result (λ counts. IsShown problem.now members.now counts.0 counts.1) }
 
-    // Hence no plan exists, whoever named the members.
+    // Hence **no plan exists, whoever named them**.
     ensures none { OnOk result (HasNoPlan problem.now) }
 
-    // And a yes wherever that holds.
+    // A yes wherever members of rows within the limits do ask for more.
     ensures complete { (wanted there : ℕ) → IsShown problem.now members.now wanted there
         → result ≡ Ok (wanted, there) }
 
-    // A no: the first fault in the order of the checks.
+    // A no: the first fault in the written order.
     ensures fault { shortage_fault problem.now members.now ≡ result_err result }
 
-    // And its cause stands.
+    // Its cause holds.
     ensures cause { IfErr result (λ fault. IsShortageCause problem.now members.now fault) }
 {
     check_shortage_body(problem.rows.as_slice(), members)

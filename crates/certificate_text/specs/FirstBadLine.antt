@@ -1,4 +1,4 @@
--- Which line of a text is named where the text stands for no certificate.
+-- Which line of a text is named if the text stands for no certificate.
 use Rattle.std.specs.Prelude.{◌≡◌, ℕ, ◌+◌, ◌⊎◌, List, [], ◌∷◌, ◌++◌, length}
 use Rattle.certificate.specs.declared.certificates.Certificate.{Certificate}
 use Rattle.certificate_text.specs.CertificateText.{AreLines, IsText}
@@ -8,8 +8,8 @@ use Rattle.certificate_text.specs.Parts.{parts}
 abbrev pub CanBegin : List (List ℕ) → Type 0
 CanBegin ls = (more : List (List ℕ)) × (c : Certificate) × AreLines (ls ++ more) c
 
--- the line of this number, counted from 1, is the first that can't follow the lines before it:
--- no certificate begins so, or no line feed ends it, as none ends the empty line after the last line feed
+-- the line of this number, counted from 1, is the first that can't follow the lines before it. No certificate begins so, or
+-- no line feed ends it. None ends the empty line after the last line feed.
 pub record IsFirstBadLine (text : List ℕ) (n : ℕ) : Type 0 where
   pub before : List (List ℕ)
   pub line : List ℕ

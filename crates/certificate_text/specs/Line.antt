@@ -66,7 +66,7 @@ pub record AreTotalWords (ws : List (List ℕ)) (total : ℕ) : Type 0 where
   pub words_are : ws ≡ number ∷ []
   pub total_is : IsNumber (2 ^ 64) number total
 
--- DISTANCE moves MOVES, which together are the total
+-- how a total of version 2 is spelled: DISTANCE moves MOVES, which together are the total
 pub record AreMovesWords (ws : List (List ℕ)) (total : ℕ) : Type 0 where
   pub first : List ℕ
   pub second : List ℕ
@@ -77,12 +77,12 @@ pub record AreMovesWords (ws : List (List ℕ)) (total : ℕ) : Type 0 where
   pub moves_is : IsNumber (2 ^ 16) second moves
   pub total_is : total ≡ packed distance moves
 
--- the first of them where weights are plain, the second where they count moves
+-- how the total of either version is spelled
 abbrev pub SayTotal : Weights → List (List ℕ) → ℕ → Type 0
 SayTotal Plain ws total = AreTotalWords ws total
 SayTotal WithMoves ws total = AreMovesWords ws total
 
--- the first line: the version is 2 where weights count moves
+-- the first line: the version is 2 if weights count moves
 abbrev pub header_text : Weights → List ℕ
 header_text Plain = codes "numarun-certificate 1"
 header_text WithMoves = codes "numarun-certificate 2"

@@ -1,4 +1,4 @@
--- Which line of a text is named where the text stands for no problem, and what reading one answers.
+-- Which line of a text is named if the text stands for no problem, and what reading one answers.
 use Rattle.std.specs.Prelude.{◌≡◌, ◌≢◌, ℕ, ◌+◌, ◌⊎◌, List, [], ◌∷◌, ◌++◌, Result, MatchResult, length}
 use Rattle.faults.specs.declared.or_memory.OrMemory.{OrMemory}
 use Rattle.faults.specs.declared.or_memory.OrMemory.TheVariants.{Memory, Fault}
@@ -12,8 +12,8 @@ use Rattle.certificate_text.specs.ProblemText.{AreProblemLines, IsProblemText}
 abbrev pub CanBeginProblem : List (List ℕ) → Type 0
 CanBeginProblem ls = (more : List (List ℕ)) × (rows : List RowView) × AreProblemLines (ls ++ more) rows
 
--- the line of this number, counted from 1, is the first that can't follow the lines before it:
--- no problem begins so, or no line feed ends it, as none ends the empty line after the last line feed
+-- the line of this number, counted from 1, is the first that can't follow the lines before it. No problem begins so, or no
+-- line feed ends it. None ends the empty line after the last line feed.
 pub record IsFirstBadProblemLine (text : List ℕ) (n : ℕ) : Type 0 where
   pub before : List (List ℕ)
   pub line : List ℕ
@@ -24,8 +24,7 @@ pub record IsFirstBadProblemLine (text : List ℕ) (n : ℕ) : Type 0 where
   pub cannot : (after ≡ []) ⊎ (CanBeginProblem (before ++ line ∷ []) → ⊥)
   pub no_text : (rows : List RowView) → IsProblemText text rows → ⊥
 
--- the text has a row's line, and some problem begins with the lines before it and this one: so it allocates only at a
--- line that can follow
+-- the reading allocates for this line: it is a row's line, and some problem begins with the lines before it and this one
 pub record ProblemAsksForMemory (text : List ℕ) : Type 0 where
   pub before : List (List ℕ)
   pub line : List ℕ

@@ -9,8 +9,8 @@ use Rattle.certificate_text.specs.Line.{LineView, Spells}
 use Rattle.certificate_text.specs.Parts.{parts}
 use Rattle.certificate_text.specs.Takes.{TakesRoom}
 
--- the text has a line of which something is kept, and some certificate begins with the lines before it and this one: so
--- it allocates only at a line that can follow
+-- the reading allocates for this line: something is kept of it, and some certificate begins with the lines before it and this
+-- one
 pub record AsksForMemory (text : List ℕ) : Type 0 where
   pub before : List (List ℕ)
   pub line : List ℕ

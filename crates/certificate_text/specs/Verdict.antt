@@ -15,11 +15,12 @@ use Rattle.certificate_text.specs.declared.checking.VerdictFault.TheVariants.{Ba
 abbrev pub SaysThat : List ℕ → (Certificate → Type 0) → Type 0
 SaysThat text holds = (c : Certificate) × IsText text c × holds c
 
--- the text proves the verdict
+-- what a yes to a text means: the text stands for a certificate that proves the verdict
 abbrev pub IsVerdict : List ℕ → Verdict → Type 0
 IsVerdict text verdict = SaysThat text (λ c. IsProvedCertificate c verdict)
 
--- hence the text's plan is least, and its cost is the verdict's total; or its rows have no plan
+-- what follows: no plan costs less than the text's, or its rows have no plan. In version 2 no plan is of less distance, and
+-- of that distance none moves fewer CPUs.
 abbrev pub SaysLeast : List ℕ → Verdict → Type 0
 SaysLeast text verdict = SaysThat text (λ c. IsBest c verdict)
 
@@ -29,6 +30,6 @@ IsVerdictError text Memory = AsksForMemory text
 IsVerdictError text (Fault (BadText bad)) = IsFirstBadLine text bad.line
 IsVerdictError text (Fault (Check fault)) = SaysThat text (IsFaultOf fault)
 
--- this was answered, unless an allocation failed
+-- this verdict was answered, unless an allocation failed
 abbrev pub IsAnswered : Result Verdict (OrMemory VerdictFault) → Verdict → Type 0
 IsAnswered result verdict = MatchResult result (λ v. v ≡ verdict) (λ e. e ≡ Memory)

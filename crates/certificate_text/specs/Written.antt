@@ -35,16 +35,16 @@ line_text (TotalLine weights total) = codes "total " ++ (total_text weights tota
 line_text (ShortLine id) = codes "short " ++ (id ++ codes "\n")
 line_text EndLine = codes "end\n"
 
--- the certificate's lines, one after another
+-- the text that a certificate is written as: its lines, one after another
 abbrev pub text_of : Certificate → List ℕ
 text_of c = flat_map line_text (lines_of c)
 
--- the row's id is one, and each of its offers has a CPU
+-- the row can be written: its id is one, and each of its offers has a CPU
 pub record CanWriteRow (row : RowView) : Type 0 where
   pub id_is : IsId row.id
   pub offers_some : All (λ o. o.cpus ≢ set.empty) row.offers
 
--- what can be written: what a text can say, with words for all ids and sets
+-- the certificate can be written: a text can say it, with words for all ids and sets
 abbrev pub CanWrite : Certificate → Type 0
 CanWrite (Plan rows sets prices total weights) =
     CanBeText (Plan rows sets prices total weights) × All CanWriteRow rows × All (λ s. s ≢ set.empty) sets × All (λ p. p.cpus ≢ set.empty) prices.of_cpu
@@ -63,12 +63,13 @@ pub record IsPriceHeld (price : Price) : Type 0 where
   pub amount : price.amount < 2 ^ 64
   pub cpus : InRange price.cpus
 
+-- a certificate's numbers and sets are such as the types hold
 abbrev pub IsHeld : Certificate → Type 0
 IsHeld (Plan rows sets prices total weights) =
     All IsRowHeld rows × All InRange sets × All (λ v. v < 2 ^ 64) prices.values × All IsPriceHeld prices.of_cpu × (total < 2 ^ 64)
 IsHeld (Short rows members weights) = All IsRowHeld rows
 
--- what is written stands for the certificate
+-- what is written stands for its certificate
 abbrev pub WrittenReadsAgain : Type 0
 WrittenReadsAgain = (c : Certificate) → CanWrite c → IsHeld c → IsText (text_of c) c
 

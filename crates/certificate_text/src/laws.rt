@@ -7,8 +7,8 @@ ghost use Rattle.certificate_text.specs.Written.{ReadCanBeWritten, WrittenReadsA
 
 use crate::ID_LIMIT;
 
-/// No text stands for the rows of two problems. What [`read_problem`](crate::read_problem) reads can be written as the rows
-/// of a certificate.
+/// No text stands for the rows of two problems. Whatever [`read_problem`](crate::read_problem) reads can be written as the
+/// rows of a certificate.
 pub fn problem_texts()
     ensures problem { OneProblem }
     ensures written { ReadProblemsCanBeWritten }
@@ -16,13 +16,13 @@ pub fn problem_texts()
     cpu_list::laws::lists_stay_below();
 }
 
-/// No text stands for two certificates, and none has two first bad lines.
+/// No text stands for two certificates, of plans or of shortages, of either version. None has two first bad lines.
 pub fn one_reading()
     ensures certificate { OneCertificate }
     ensures line { OneBadLine }
 {}
 
-/// What [`write_text`](crate::write_text) writes stands for the certificate, so that reading gives it back.
+/// What [`write_text`](crate::write_text) writes stands for the certificate, so reading gives it back.
 pub fn written_texts_are_read()
     ensures { WrittenReadsAgain }
 {
@@ -30,7 +30,7 @@ pub fn written_texts_are_read()
     cpu_list::laws::plain_texts();
 }
 
-/// What [`read_text`](crate::read_text) reads meets the condition of [`write_text`](crate::write_text).
+/// Whatever [`read_text`](crate::read_text) reads meets the condition of [`write_text`](crate::write_text).
 pub fn read_certificates_can_be_written()
     ensures { ReadCanBeWritten }
 {}

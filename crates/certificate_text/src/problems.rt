@@ -25,11 +25,12 @@ use std::alloc::Global;
 /// An allocation failure, and [`BadText`] where the text is no problem's. The line at which it fails and those before it are
 /// in order, so the first bad line is told as such unless an allocation failed before it.
 pub fn read_problem(alloc: Global, text: &[u8]) -> Result<Problem, OrMemory<BadText>>
-    // What is read is what the text stands for,
+    // Rows are returned only if the text stands for them in the grammar of problems.
     ensures ok { IfOk result (λ problem. IsProblemText text.now problem) }
-    // what the text stands for is read,
+    // If the text stands for some they are returned, unless an allocation failed.
     ensures complete { (rows : List RowView) → IsProblemText text.now rows → IsProblemRead result rows }
-    // and where it stands for nothing, or an allocation fails, this says at which line.
+    // Else the number of the first line that can't follow the lines before it. An allocation fails only at a row's line
+    // that can follow.
     ensures error { IfErr result (λ e. IsProblemError text.now e) }
 {
     read_problem_body(alloc, text)

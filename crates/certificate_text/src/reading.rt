@@ -37,11 +37,13 @@ impl Fault for BadText {}
 /// An allocation failure, and [`BadText`] where the text is no certificate's. The line at which it fails and those before it are
 /// in order, so the first bad line is told as such unless an allocation failed before it.
 pub fn read_text(alloc: Global, text: &[u8]) -> Result<Certificate, OrMemory<BadText>>
-    // What is read is what the text stands for,
+    // A certificate is returned only if the text stands for it in the grammar.
     ensures ok { IfOk result (λ c. IsText text.now c) }
-    // what the text stands for is read,
+    // If the text stands for one it is returned, unless an allocation failed.
     ensures complete { (c : Certificate) → IsText text.now c → IsRead result c }
-    // and where it stands for nothing, or an allocation fails, this says at which line.
+    // Else the number of the first line that can't follow the lines before it. An allocation fails only at a line that can
+    // follow the lines before it, and that leaves something to keep. So the first line that can't follow is told as such,
+    // unless an allocation failed before it.
     ensures error { IfErr result (λ e. IsTextError text.now e) }
 {
     read_text_body(alloc, text)

@@ -230,9 +230,11 @@ pub fn write_text<W: Write>(certificate: &Certificate, w: &mut W) -> io::Result<
     // Ids are valid and no two rows have one; no set is empty; a plan has a set and a value for each row; a shortage
     // has members, which are rows, each after the one before.
     requires { CanWrite certificate.now }
+    // The text of the certificate is written, or on an error a prefix of it.
     ensures written { Writes (W.contents w.old) (W.contents w.new) result (text_of certificate.now) }
-    // The text stands for this certificate, whose numbers and sets are such as their types hold.
+    // Its numbers and sets are such as their types hold.
     ensures held { OnOk result (IsHeld certificate.now) }
+    // The text stands for this certificate.
     ensures stands { OnOk result (IsText (text_of certificate.now) certificate.now) }
 {
     laws::written_texts_are_read();

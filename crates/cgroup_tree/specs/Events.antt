@@ -28,7 +28,7 @@ pub data Event : Type 0 where
   WentOffline : ℕ → Result (Unit {0}) KernelFault → Event
   CameOnline : ℕ → Result (Unit {0}) KernelFault → Event
 
--- a call is its case
+-- a call is its case of the model
 abbrev pub Happens : KernelState → Event → KernelState → Type 0
 Happens old (MadeGroup parent name r) new = MakesGroup old parent name r new
 Happens old (RemovedGroup g r) new = RemovesGroup old g r new
@@ -62,6 +62,7 @@ module _ (root : List ℕ) (memory : Ids) where
   abbrev pub file_of : KernelState → Group → List ℕ → List ℕ
   file_of k g file = root ++ (folder k.tree g ++ file)
 
+  -- what a call asks of the files, by its answer
   abbrev pub AsksFor : KernelState → Event → List Asked → Type 0
   AsksFor k (MadeGroup parent name r) these =
       AreAsked (Written (file_of k parent controls_file) controls_line) (Made (file_of k parent (below name))) (Unmade (file_of k parent (below name))) r these
@@ -78,22 +79,22 @@ module _ (site : Site) where
     pub well : IsWellFormed k
     pub first : Begins site.first k
 
-  -- these calls, the newest first, led from such a kernel to this one, and asked for this, the newest first
+  -- these calls led from such a kernel to this one, and asked for this; the newest stands first in both
   unfoldable pub Past : List Event → KernelState → List Asked → Type 0
   Past [] k asked = IsNew k × (asked ≡ [])
   Past (event ∷ past) k asked =
       (old : KernelState) × (before : List Asked) × (these : List Asked)
       × Past past old before × Happens old event k × AsksFor site.root site.memory old event these × (asked ≡ these ++ before)
 
--- Mirrored: all that was asked of the files, which were opened so, is what the calls of the kernel stand for, in their order, from its
--- beginning on
+-- all that was asked of the files is what the calls of the kernel stand for, in their order, from its beginning on. The files
+-- were opened so.
 pub record IsMirrored {F : Type 0} (asked : F → Bool → List Asked → Type 0) (site : Site) (k : KernelState) (files : F) : Type 0 where
   pub past : List Event
   pub calls : List Asked
   pub was : Past site past k calls
   pub made : asked files site.adopt calls
 
--- of a kernel that has this root and these nodes with memory
+-- a mirrored kernel that has this root and these nodes with memory
 pub record IsMirroredAt {F : Type 0} (asked : F → Bool → List Asked → Type 0) (site : Site) (root : List ℕ) (memory : Ids) (k : KernelState) (files : F) : Type 0 where
   pub mirrored : IsMirrored asked site k files
   pub root_is : root ≡ site.root

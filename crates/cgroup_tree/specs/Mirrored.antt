@@ -8,7 +8,7 @@ use Rattle.kernel_model.specs.KernelState.{KernelState}
 use Rattle.cgroup_tree.specs.Asked.{Deed, Asked, done, refused, Asks}
 use Rattle.cgroup_tree.specs.Paths.{IsName}
 
--- the model, with as many writes and failures more as were refused by the folders and never came to the model
+-- the model, with as many more writes and failures as the folders refused; these never came to the model
 abbrev pub mirrored : ℕ → KernelState → KernelState
 mirrored n k = record k { failures = k.failures + n; writes = k.writes + n }
 
@@ -29,8 +29,8 @@ module _ {F : Type 0} (asked : F → Bool → List Asked → Type 0) (old : F) w
   TriesWhere None deed (Err error) new = ⊥
   TriesWhere (Some place) deed answer new = Tries deed answer new
 
-  -- what the kernel answers: where it is Ok this was asked for and done; where it failed it was refused, or an
-  -- allocation failed before it was asked for; and where something stood against it, nothing was asked for
+  -- what a call asks of the files, by its answer. If it is Ok, this was asked for and done. If it failed, it was refused, or
+  -- an allocation failed first. If something stood against it, nothing was asked for.
   abbrev pub Mirrors : {A : Type 0} → Deed → Result A KernelFault → F → Type 0
   Mirrors deed (Ok value) new = Asks asked old (done deed ∷ []) new
   Mirrors deed (Err Failed) new = Asks asked old (refused deed ∷ []) new ⊎ Asks asked old [] new
@@ -43,7 +43,7 @@ module _ {F : Type 0} (asked : F → Bool → List Asked → Type 0) (old : F) w
   TriesBoth first then (Err error) new =
       Asks asked old (refused then ∷ done first ∷ []) new ⊎ Asks asked old (refused first ∷ []) new ⊎ Asks asked old [] new
 
-  -- the same of what the kernel answers; the folder that was made is removed again where the allocation of its group in the model fails
+  -- the same of a call that makes a folder; it is unmade if the allocation of its group in the model fails
   abbrev pub MirrorsBoth : {A : Type 0} → Deed → Deed → Deed → Result A (OrMemory KernelFault) → F → Type 0
   MirrorsBoth first then undone (Ok value) new = Asks asked old (done then ∷ done first ∷ []) new
   MirrorsBoth first then undone (Err Memory) new =

@@ -1,4 +1,6 @@
 -- What the root of a cgroup tree has to be before a run begins, and why it is refused.
+-- From: cgroup v2, "Core Interface Files", `cgroup.controllers`, `cpuset.cpus.effective`, `cpuset.mems.effective`; cpuset(7),
+-- List Format.
 use Rattle.std.specs.Prelude.{◌≡◌, ◌⊎◌, ◌==◌, ◌||◌, ⊤, ℕ, Bool, true, false, List, ◌++◌, codes, bytes_eq, Option, Some, None, Result, Ok, Err}
 use Rattle.std.specs.FinSet as set
 use Rattle.std.specs.List.{list_any, slice_split}
@@ -11,7 +13,7 @@ use Rattle.cpu_list.specs.ListText.{IsSetOf}
 use Rattle.cgroup_tree.specs.declared.root.RootFault.{RootFault}
 use Rattle.cgroup_tree.specs.declared.root.RootFault.TheVariants as root_fault
 
--- what a look at a path may find: whether it is a folder; whether another program has it; what the file has, or none where it is
+-- what a look at a path may find: whether it is a folder; whether another program has it; what the file has, or none if it is
 -- not there; or the kind of error by which the look failed
 pub data Finding : Type 0 where
   IsFolder : Bool → Finding
@@ -78,38 +80,38 @@ module _ (finds : List ℕ → Finding → Type 0) (root : List ℕ) where
   HaveMemory nodes memory None = memory ≡ nodes
   HaveMemory nodes memory (Some text) = IsListOf text memory × (set.is_subset memory nodes ≡ true)
 
-  -- the looks at the root, in their order: whether it is a folder
+  -- the first look at the root: whether it is a folder
   abbrev pub LooksAtFolder : Result (Unit {0}) RootFault → Type 0
   LooksAtFolder (Ok done) = finds root (IsFolder true)
   LooksAtFolder (Err (root_fault.Unread kind)) = (finds root (IsFolder false) × (kind ≡ NotADirectory)) ⊎ finds root (Fails kind)
   LooksAtFolder (Err root_fault.Memory) = ⊤
   LooksAtFolder (Err _) = ⊥
 
-  -- whether another program has it
+  -- the second look: whether another program has it
   abbrev pub LooksAtLock : {A : Type 0} → Result A RootFault → Type 0
   LooksAtLock (Ok lock) = finds root (IsTaken false)
   LooksAtLock (Err root_fault.Taken) = finds root (IsTaken true)
   LooksAtLock (Err _) = ⊥
 
-  -- what its groups can be given
+  -- the look at what its groups can be given: the controller of cpusets
   abbrev pub LooksAtControllers : Result (Unit {0}) RootFault → Type 0
   LooksAtControllers (Ok done) = IsFound controllers_file HasCpusets
   LooksAtControllers (Err root_fault.NoCpuset) = IsFound controllers_file LacksCpusets
   LooksAtControllers (Err why) = CantRead controllers_file why
 
-  -- the CPUs in effect
+  -- the look at its CPUs in effect
   abbrev pub LooksAtCpus : Ids → Result (Unit {0}) RootFault → Type 0
   LooksAtCpus online (Ok done) = IsFound cpus_in_effect (AreOnline online)
   LooksAtCpus online (Err root_fault.OtherMachine) = IsFound cpus_in_effect (λ text. AreOnline online text → ⊥)
   LooksAtCpus online (Err why) = CantRead cpus_in_effect why
 
-  -- the nodes in effect
+  -- the look at its nodes in effect
   abbrev pub LooksAtMems : Ids → Result Ids RootFault → Type 0
   LooksAtMems nodes (Ok memory) = IsFound mems_in_effect (HaveMemory nodes memory)
   LooksAtMems nodes (Err root_fault.OtherMachine) = IsFound mems_in_effect (λ text. (memory : Ids) → HaveMemory nodes memory text → ⊥)
   LooksAtMems nodes (Err why) = CantRead mems_in_effect why
 
-  -- what a root that no other program has tells of the machine, in this order: the nodes that have memory, or why it is not taken
+  -- the looks behind the lock, in their order: what a root tells of the machine
   abbrev pub LooksAtMachine : (online nodes : Ids) → Result Ids RootFault → Type 0
   LooksAtMachine online nodes (Ok memory) =
       IsFound controllers_file HasCpusets × IsFound cpus_in_effect (AreOnline online) × LooksAtMems nodes (Ok memory)
@@ -119,7 +121,8 @@ module _ (finds : List ℕ → Finding → Type 0) (root : List ℕ) where
       ⊎ (IsFound controllers_file HasCpusets × (LooksAtCpus online (Err why)
       ⊎ (IsFound cpus_in_effect (AreOnline online) × LooksAtMems nodes (Err why))))
 
-  -- a tree on this root: the nodes that have memory, or why it is not taken, which is the first in this order; memory may be short anywhere
+  -- the nodes of a root that have memory, or why it is refused: the first of the looks that is against it; an allocation may
+  -- fail anywhere
   abbrev pub AnswersRoot : (online nodes : Ids) → Result Ids RootFault → Type 0
   AnswersRoot online nodes (Ok memory) = finds root (IsFolder true) × finds root (IsTaken false) × LooksAtMachine online nodes (Ok memory)
   AnswersRoot online nodes (Err root_fault.Memory) = ⊤

@@ -4,7 +4,7 @@ use Rattle.std.specs.FinSet as set
 use Rattle.cpu_set.specs.Ids.{Ids}
 use Rattle.kernel_model.specs.KernelState.{KernelState, IsFirstKernel}
 
--- the CPUs that a kernel began with, those of them that are reserved and those that were online, its nodes, and the first pid
+-- how a kernel began: the CPUs, those of them that are reserved and those that were online, its nodes, and the first pid
 pub record Beginning : Type 0 where
   pub present : Ids
   pub reserved : Ids
@@ -16,8 +16,8 @@ pub record Beginning : Type 0 where
 abbrev pub Begins : Beginning → KernelState → Type 0
 Begins b k = IsFirstKernel b.present b.reserved b.online b.nodes b.first_pid k
 
--- the path of the root group's folder, the nodes that have memory, whether folders of a run before may be there, and how the
--- kernel began
+-- where the writes of a mirrored kernel are made: the path of the root group's folder, and the nodes that have memory.
+-- Whether folders of a run before may be there. How the kernel began.
 pub record Site : Type 0 where
   pub root : List ℕ
   pub memory : Ids

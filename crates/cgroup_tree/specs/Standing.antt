@@ -1,4 +1,5 @@
--- What the files of a cgroup tree have, where they do what they were asked for and nobody else writes them.
+-- What the files of a cgroup tree have, if they do what they are asked for and nobody else writes them.
+-- From: cgroup v2, `cpuset.cpus`, `cpuset.mems`.
 use Rattle.std.specs.List.{list_any}
 use Rattle.std.specs.Prelude.{◌≡◌, ℕ, true, false, ◌||◌, if◌then◌else◌, List, [], ◌∷◌, ◌++◌, Option, Some, None, is_some}
 use Rattle.std.specs.FinSet as set
@@ -23,7 +24,7 @@ text_after (Removed path) file text = text
 text_after (Unmade path) file text = text
 text_after (Written path line) file text = if bytes_eq path file then Some line else text
 
--- the text of a file after these calls, the newest first
+-- the text that a file has after these calls, the newest first, if files do what they answer
 unfoldable pub text_in : List Asked → List ℕ → Option (List ℕ)
 text_in [] file = None
 text_in (call ∷ before) file = if call.done then text_after call.deed file (text_in before file) else text_in before file
@@ -38,7 +39,7 @@ abbrev pub IsMemsLineOf : Ids → Option (List ℕ) → Ids → Type 0
 IsMemsLineOf memory None ids = ids ≡ set.empty
 IsMemsLineOf memory (Some line) ids = line ≡ list_line (granted ids memory)
 
--- each group's files have what it requests, where these are the nodes that have memory
+-- each group's files have what it requests, where these nodes are the ones that have memory
 pub record StandsFor (root : List ℕ) (memory : Ids) (s : TreeState) (calls : List Asked) : Type 0 where
   pub cpus : (g : Group) → is_some (place_of s g) ≡ true → IsLineOf (text_in calls (root ++ (folder s g ++ cpus_file))) (requested_cpus s g)
   pub mems : (g : Group) → is_some (place_of s g) ≡ true → IsMemsLineOf memory (text_in calls (root ++ (folder s g ++ mems_file))) (requested_mems s g)

@@ -2,8 +2,8 @@
 ghost use Rattle.cgroup_tree.specs.Standing.{FoldersStand, PlainNamesApart, WritesStand};
 ghost use Rattle.cgroup_tree.specs.Stands.{PastsStand};
 
-/// Where files do what they were asked for and nobody else writes, each group's files have what it requests, and a write
-/// keeps it so, whether it is done or refused.
+/// If files do what they were asked for and nobody else writes, each group's files have what it requests. A write keeps it
+/// so, whether it is done or refused.
 pub fn writes()
     ensures { WritesStand }
 {}
@@ -18,7 +18,7 @@ pub fn changes()
     ensures { FoldersStand }
 {}
 
-/// So it is after any list of calls of a mirrored kernel, whatever each of them returned.
+/// Files stand for the tree after any list of calls of a mirrored kernel, whatever each of them returned.
 pub fn pasts()
     ensures { PastsStand }
 {}

@@ -88,7 +88,7 @@ impl<F: GroupFiles, S: Sited> MirroredKernel<F, S> {
         let _ = &self.mirror;
     }
 
-    /// Each group's files have what it requests, where files do what they answer and nobody else writes; nothing runs.
+    /// Each group's files have what it requests, if files do what they answer and nobody else writes; nothing runs.
     pub fn files_stand(&self)
         ensures { FilesStand F.asked S.site (mirrored self.now.failed self.now.inner) self.now.folders }
     {

@@ -90,12 +90,18 @@ pub fn open_tree<T: GroupTrees + Drop>(
     nodes: &IdSet,
     adopt: bool,
 ) -> Result<OpenTree<T::Files>, RootFault>
+    // It answers the nodes that have memory, or the first look at the root that is against it (`AnswersRoot`). The five
+    // looks are whether it is a folder, whether another program has it, its controllers, its CPUs in effect and its nodes
+    // in effect.
     ensures answers { MatchResult result
         (λ tree. AnswersRoot (T.finds trees) root.now online.now nodes.now (Ok tree.memory))
         (λ why. AnswersRoot (T.finds trees) root.now online.now nodes.now (Err why)) }
     ensures root { IfOk result (λ tree. string_bytes tree.root ≡ root.now) }
+    // The files are of one tree, opened as it is told to, and once: it takes the value that gives access to them.
     ensures adopt { IfOk result (λ tree. tree.adopt ≡ adopt) }
+    // Nothing was asked of them yet.
     ensures unasked { IfOk result (λ tree. T.Files.asked tree.files adopt []) }
+    // The files hold the root's own lock, which lives as long as they do.
     ensures kept { IfOk result (λ tree. T.keeps tree.files root.now) }
 {
     look_at_folder(&trees, root)?;

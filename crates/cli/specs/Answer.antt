@@ -15,11 +15,11 @@ abbrev pub status_of : {T : Type 0} → Result T Refusal → ℕ
 status_of (Ok found) = 0
 status_of (Err refusal) = 1
 
--- an answer to bytes that could be had; or the refusal that says why they could not
+-- an answer to what a reading gave: to the bytes, or the refusal that says why they could not be had
 abbrev pub AnswersReading : {T : Type 0} → (List ℕ → Result T Refusal → Type 0) → Reading → Result T Refusal → Type 0
 AnswersReading answers (Ok bytes) answer = answers bytes answer
 AnswersReading answers (Err e) answer = answer ≡ Err (read_refusal e)
 
--- one of the readings that there may be is answered
+-- one of the readings that there may be is answered so
 abbrev pub AnswersInput : {T : Type 0} → (List ℕ → Result T Refusal → Type 0) → (Reading → Type 0) → Result T Refusal → Type 0
 AnswersInput answers reads answer = (reading : Reading) × reads reading × AnswersReading answers reading answer

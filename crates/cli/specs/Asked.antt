@@ -1,4 +1,5 @@
 -- What the words after the program's name ask for.
+-- From: `clap`'s own reading of a command line.
 use Rattle.std.specs.Borrow.{Bor}
 use Rattle.std.specs.Prelude.{Bool, Option, Some, None, List, [], ◌∷◌, codes, bytes_eq, if◌then◌else◌, option_map, unwrap_or}
 use Rattle.clap.specs.Words.{Row, Text, first_of, subcommand_of}
@@ -20,7 +21,7 @@ pub data Asked : Type 0 where
 abbrev pub word_bytes : Bor Text → Text
 word_bytes word = word.now
 
--- what numarun is asked to do, its words as texts
+-- what numarun is asked to do, its words as plain texts
 abbrev pub asked : Words → Asked
 asked (words.Check file) = check (option_map word_bytes file)
 asked (words.List text) = list text.now
@@ -50,7 +51,7 @@ abbrev pub asked_in : Option (Text × List Row) → Asked
 asked_in None = check None
 asked_in (Some given) = asked_by given
 
--- no words ask for a check of standard input
+-- what words ask for; no words ask for a check of standard input
 abbrev pub asked_for : List Text → Asked
 asked_for [] = check None
 asked_for (word ∷ rest) = asked_in (subcommand_of numarun (word ∷ rest))

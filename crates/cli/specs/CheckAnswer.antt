@@ -21,7 +21,8 @@ IsRefusalOf bytes (refusal.Check fault) = IsVerdictError bytes (Fault (wrong.Che
 IsRefusalOf bytes refusal.Memory = AsksForMemory bytes
 IsRefusalOf bytes _ = ⊥
 
--- the verdict or the refusal of these bytes, and wherever they prove a verdict this one, unless an allocation failed
+-- the verdict or the refusal of the bytes of a certificate; if they prove a verdict it is this one, unless an allocation
+-- failed
 pub record IsAnswerTo (bytes : List ℕ) (answer : Result Verdict Refusal) : Type 0 where
   pub sound : MatchResult answer (IsProvedVerdict bytes) (IsRefusalOf bytes)
   pub complete : (verdict : Verdict) → IsVerdict bytes verdict → MatchResult answer (λ found. found ≡ verdict) (λ why. why ≡ refusal.Memory)

@@ -1,4 +1,5 @@
 -- Which mistakes the words have.
+-- From: `clap`'s own reading of a command line; that `--adopt` asks for `--cgroup` is ours.
 use Rattle.std.specs.Prelude.{◌≡◌, Bool, false, if◌then◌else◌, List, [], ◌∷◌, None}
 use Rattle.clap.specs.Kinds.{or_else}
 use Rattle.clap.specs.Words.{IsAmong, Kinds, Text, fault_of, kind_of, subcommand_of}
@@ -15,11 +16,11 @@ abbrev pub lacks_root : Asked → Bool
 lacks_root (run machine table None adopt) = adopt
 lacks_root asks = false
 
--- why words are refused that are taken by the builder's rules: an argument is wanting
+-- why words that the builder's rules take are refused: an argument is wanting
 abbrev pub lacking : Asked → Kinds
 lacking asks = if lacks_root asks then kind.MissingRequiredArgument ∷ [] else []
 
--- why words are refused, or their request for the help
+-- why the grammar refuses words: by clap's rules, or since `--adopt` lacks its root
 abbrev pub refusals : List Text → Kinds
 refusals words = or_else (fault_of numarun words) (lacking (asked_in (subcommand_of numarun words)))
 
@@ -28,7 +29,8 @@ abbrev pub mistakes : List Text → Kinds
 mistakes [] = []
 mistakes (word ∷ rest) = refusals (word ∷ rest)
 
--- the words failed by an error of a kind that they may fail by: an allocation failed, or they have a mistake of this kind
+-- words failed by an error of a kind that they may fail by. They have a mistake of this kind, or an allocation failed where
+-- the grammar failed by it.
 abbrev pub HasCause : (ErrorKind → Type 0) → List Text → OrMemory Error → Type 0
 HasCause fails words Memory = fails kind.OutOfMemory
 HasCause fails words (Fault error) = IsAmong (kind_of error) (mistakes words) × fails (kind_of error)

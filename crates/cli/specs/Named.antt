@@ -3,7 +3,7 @@ use Rattle.std.specs.Prelude.{◌≡◌, true, false, Option, Some, None, bytes_
 use Rattle.clap.specs.Words.{Text}
 use Rattle.program_io.specs.Readings.{Reading}
 
--- what the reading of the input of this name may answer: of standard input, or of a file
+-- what the reading of the input of this name may answer: of standard input for `-`, or of a file
 abbrev pub reads_named : (Text → Reading → Type 0) → (Reading → Type 0) → Text → Reading → Type 0
 reads_named files input name reading = (bytes_eq name (codes "-") ≡ true → input reading) × (bytes_eq name (codes "-") ≡ false → files name reading)
 

@@ -8,7 +8,7 @@ use Rattle.program_io.specs.declared.read_fault.ReadFault.{ReadFault}
 use Rattle.program_io.specs.declared.refusal.Refusal.{Refusal}
 use Rattle.program_io.specs.declared.refusal.Refusal.TheVariants as refusal
 
--- of an answer that can't be written
+-- what standard error says of an answer that can't be written
 abbrev pub unwritten_line : List ℕ
 unwritten_line = codes "error: the answer can't be written\n"
 
@@ -27,7 +27,7 @@ abbrev pub note_text : Option Note → List ℕ
 note_text None = []
 note_text (Some note) = error_line note.name.now note.reason.now
 
--- of a refusal of the input that is called so
+-- what standard error says beside a refusal of the input that is called so
 abbrev pub note_of : Text → Refusal → List ℕ
 note_of name (refusal.ReadFault fault) = unread_line name fault
 note_of name _ = []

@@ -49,7 +49,7 @@ name_in machine table (unready.Slit why) = unwrap_or table []
 
 -- the streams where the script ended and at the end of the program
 module _ {W E : Type 0} (out : W → Option (List ℕ)) (err : E → Option (List ℕ)) (mid new : Console W E) (status : ℕ) where
-  -- the last answer went out and the status is 0; a last line says that the script can't be read, and why, and the status
+  -- the last answer went out and the status is 0; or a last line says that the script can't be read, and why, and the status
   -- is 1; or an answer could not be written
   abbrev pub Finishes : Result (Unit {0}) ScriptFault → Type 0
   Finishes (Ok done) = Says out err mid new status [] 0 []
@@ -59,12 +59,12 @@ module _ {W E : Type 0} (out : W → Option (List ℕ)) (err : E → Option (Lis
 
 -- the two streams before and after, as far as their bytes are known, and the exit status
 module _ {W E : Type 0} (out : W → Option (List ℕ)) (err : E → Option (List ℕ)) (old new : Console W E) (status : ℕ) where
-  -- the script was run over the node and the bundles, of which looks may find this, by so many reads at most
+  -- the script was run over the node and the bundles, by n reads at most
   abbrev pub Performs : (Text → Option Text → Type 0) → ℕ → NodeState → Told → Option (List ℕ) → Option (List ℕ) → Type 0
   Performs finds most n told script script' = (mid : Console W E) × (end : Result (Unit {0}) ScriptFault)
       × Plays finds most n told script script' (contents_of out old.out) (contents_of out mid.out) end × (mid.err ≡ old.err) × Finishes out err mid new status end
 
-  -- the same over a node whose kernel writes are made in files too
+  -- the script was run so over a node whose kernel's writes are made in files too
   abbrev pub PerformsIn : {F : Type 0} → (F → Bool → List FileCall → Type 0) → Site → (Text → Option Text → Type 0) → ℕ → NodeState → Told → Option (List ℕ) → Option (List ℕ) → Type 0
   PerformsIn asked site finds most n told script script' = (mid : Console W E) × (end : Result (Unit {0}) ScriptFault)
       × PlaysIn asked site finds most n told script script' (contents_of out old.out) (contents_of out mid.out) end × (mid.err ≡ old.err) × Finishes out err mid new status end
@@ -81,7 +81,8 @@ module _ {W E : Type 0} (out : W → Option (List ℕ)) (err : E → Option (Lis
   abbrev pub RefusesRoot : Text → Unrooted → Type 0
   RefusesRoot root why = Says out err old new status (root_line why) 1 (root_note root why)
 
-  -- the script was run over a new node of the machine, whose kernel's writes are made in this place too; or its group can't be made there
+  -- the script was run over a new node of the machine, whose kernel's writes are made in this place too; or its group can't
+  -- be made there
   abbrev pub PinsAt : {F : Type 0} → (F → Bool → List FileCall → Type 0) → Layout → Site → (Text → Option Text → Type 0) → Told → Option (List ℕ) → Option (List ℕ) → Type 0
   PinsAt asked m site finds told script script' =
       ((n : NodeState) × Boots m n × PerformsIn asked site finds (2 ^ 64 - 1) n told script script')
@@ -89,7 +90,8 @@ module _ {W E : Type 0} (out : W → Option (List ℕ)) (err : E → Option (Lis
 
   -- the files that may be opened under a name, the errors by which that may fail, and what the reading of one may answer
   module _ {I : Type 0} (opens : Text → I → Type 0) (fails : Text → SystemKind → Type 0) (gives : I → Reading → Type 0) where
-    -- the script was run over a new node of the machine of these files, or its allocation failed, or one of the files is refused
+    -- what a run prints. The script was run over a new node of the machine of these files, or its allocation failed, or one
+    -- of the files is refused.
     abbrev pub Scripts : (Text → Option Text → Type 0) → Told → Option (List ℕ) → Option (List ℕ) → Text → Option Text → Type 0
     Scripts sees told script script' machine table =
         ((m : Layout) × SetsUp opens fails gives machine table (Ok m)
@@ -98,8 +100,8 @@ module _ {W E : Type 0} (out : W → Option (List ℕ)) (err : E → Option (Lis
 
     -- what the files of a cgroup tree were asked for, and what a look at a path may find
     module _ {F : Type 0} (asked : F → Bool → List FileCall → Type 0) (finds : Text → Finding → Type 0) where
-      -- the same where its kernel writes are made below the root of a cgroup tree too, opened with folders of a run before or without:
-      -- the root may be refused
+      -- the same as `Scripts` in a cgroup tree, below the root that is named, opened with folders of a run before or without;
+      -- or the root is refused
       abbrev pub Pins : (Text → Option Text → Type 0) → Told → Option (List ℕ) → Option (List ℕ) → Text → Option Text → Text → Bool → Type 0
       Pins sees told script script' machine table root adopt =
           ((m : Layout) × SetsUp opens fails gives machine table (Ok m)
@@ -107,8 +109,7 @@ module _ {W E : Type 0} (out : W → Option (List ℕ)) (err : E → Option (Lis
           ⊎ ((why : Unrooted) × IsNotRooted finds root m why × RefusesRoot root why)))
           ⊎ ((why : Unready) × SetsUp opens fails gives machine table (Err why) × Refuses machine table why)
 
-      -- what is asked for is done, over these files, over bundles of which looks may find this, and over what the reading of
-      -- standard input may answer and its bytes
+      -- what is asked for is done, over these files, these bundles, and what the reading of standard input may answer
       abbrev pub Does : (Text → Option Text → Type 0) → (Reading → Type 0) → Option (List ℕ) → Asked → Type 0
       Does sees input script (check file) = Checks out err old new status (reads_named (Reads opens fails gives) input (name_of file)) (shown (name_of file))
       Does sees input script (list text) = Lists out err old new status text
@@ -130,7 +131,7 @@ module _ {W E : Type 0} (out : W → Option (List ℕ)) (err : E → Option (Lis
   abbrev pub ExplainsOrLacks : Type 0 → ErrorKind → Type 0
   ExplainsOrLacks lacks kind = Explains kind ⊎ (lacks × LacksMemory)
 
-  -- the words are obeyed or explained, or an allocation failed while they were parsed
+  -- what the program does with words: they are obeyed or explained, or an allocation failed while they were parsed
   abbrev pub Runs : (List Text → ErrorKind → Type 0) → Type 0 → (Asked → Type 0) → List Text → Type 0
   Runs fails lacks does words =
       ((mistakes words ≡ []) × does (asked_for words))

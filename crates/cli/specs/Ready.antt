@@ -19,8 +19,8 @@ abbrev pub refusal_of : Unready → Refusal
 refusal_of (unready.Machine why) = why
 refusal_of (unready.Slit why) = why
 
--- the machine that the text describes beside the table, or what is wrong with the text; an allocation failure only where
--- no fault shows before it is read as JSON
+-- the machine that the text describes beside the table, or what is wrong with the text; an allocation failure only if no
+-- fault shows before it is read as JSON
 abbrev pub IsReady : Option Table → List ℕ → Result Layout Refusal → Type 0
 IsReady table text (Ok m) = machine_of table text ≡ Ok m
 IsReady table text (Err (refusal.Machine fault)) = machine_of table text ≡ Err fault
@@ -39,7 +39,7 @@ module _ {I : Type 0} (gives : I → Reading → Type 0) where
   IsBadTable None why = ⊥
   IsBadTable (Some input) why = AnswersInput IsTableOrRefusal (gives input) (Err why)
 
-  -- the machine file was read, and then the table
+  -- from open inputs: the machine file was read, and then the table
   abbrev pub LeadsTo : I → Option I → Result Layout Refusal → Type 0
   LeadsTo machine table answer = (text : List ℕ) × gives machine (Ok text) × ((found : Option Table) × IsTableIn table found × IsReady found text answer)
 
@@ -47,7 +47,8 @@ module _ {I : Type 0} (gives : I → Reading → Type 0) where
   abbrev pub IsUnread : I → Refusal → Type 0
   IsUnread machine why = (e : OrMemory ReadFault) × gives machine (Err e) × (why ≡ read_refusal e)
 
-  -- the machine that the two lead to; or, in this order, the machine file can't be read, the table is refused, or the machine is
+  -- the machine that the two lead to; or, in this order, the machine file can't be read, the table is refused, or the machine
+  -- is
   abbrev pub Readies : I → Option I → Result Layout Unready → Type 0
   Readies machine table (Ok m) = LeadsTo machine table (Ok m)
   Readies machine table (Err (unready.Slit why)) = ((text : List ℕ) × gives machine (Ok text)) × IsBadTable table why
@@ -66,7 +67,7 @@ module _ {S I : Type 0} (opens : S → I → Type 0) (fails : S → ErrorKind �
       ((table : I) × opens name table × Readies gives machine (Some table) result)
       ⊎ ((why : Refusal) × IsClosed name why × (result ≡ Err (unready.Slit why)))
 
-  -- both files are opened, the machine's first, and then read
+  -- from files: both are opened, the machine's first, and then read
   abbrev pub SetsUp : S → Option S → Result Layout Unready → Type 0
   SetsUp name table result =
       ((machine : I) × opens name machine × SetsUpBeside machine table result)

@@ -1,4 +1,4 @@
--- What is said where the root of a cgroup tree is refused.
+-- What is printed if the root of a cgroup tree is refused.
 use Rattle.std.specs.Prelude.{◌≡◌, ℕ, List, [], codes, Err}
 use Rattle.cgroup_tree.specs.Roots.{AnswersRoot, Finding}
 use Rattle.cgroup_tree.specs.declared.RootFault.{RootFault}
@@ -18,7 +18,7 @@ use Rattle.cli.specs.Notes.{note_of}
 use Rattle.cli.specs.declared.unrooted.Unrooted.{Unrooted}
 use Rattle.cli.specs.declared.unrooted.Unrooted.TheVariants as unrooted
 
--- the refusal of a root that is not taken
+-- the refusal that stands for what is wrong with a root
 abbrev pub IsUnrooted : RootFault → Unrooted → Type 0
 IsUnrooted root_fault.Memory why = why ≡ unrooted.Memory
 IsUnrooted root_fault.Taken why = why ≡ unrooted.Taken
@@ -26,7 +26,7 @@ IsUnrooted (root_fault.Unread kind) why = (told : ReadFault) × IsTold kind told
 IsUnrooted root_fault.NoCpuset why = why ≡ unrooted.NoCpuset
 IsUnrooted root_fault.OtherMachine why = why ≡ unrooted.OtherMachine
 
--- of a node that can't be made over it
+-- the refusal that stands for a node that can't be made over a root
 abbrev pub unrooted_of : OrMemory KernelFault → Unrooted
 unrooted_of Memory = unrooted.Memory
 unrooted_of (Fault fault) = unrooted.Kernel

@@ -13,20 +13,19 @@ use Rattle.program_io.specs.ReadFaults.{IsTold}
 use Rattle.program_io.specs.declared.read_fault.ReadFault.{ReadFault}
 use Rattle.program_io.specs.declared.read_fault.ReadFault.TheVariants.{TooManyReads}
 
--- why the script could not be read, or none where an answer could not be written
+-- why the script could not be read; none if an answer could not be written
 abbrev pub is_unread : ScriptFault → Option ReadFault → Type 0
 is_unread (fault.Read kind) why = (told : ReadFault) × IsTold kind told × (why ≡ Some told)
 is_unread fault.TooManyReads why = why ≡ Some TooManyReads
 is_unread fault.Write why = why ≡ None
 
--- the script is run over the node and the bundles, of which looks may find this, from its first line on, by so many reads at most,
--- until this end
+-- the script is run over the node and the bundles, from its first line on, by n reads at most, until this end
 abbrev pub Plays : (List ℕ → Option (List ℕ) → Type 0) → ℕ → NodeState → Told → Option (List ℕ) → Option (List ℕ) → Option (List ℕ) → Option (List ℕ) → Result (Unit {0}) ScriptFault → Type 0
 Plays finds most n told read read' out out' end =
     (final : RuntimeState) × EndsBy most (AnsweredBy finds) read read' out out' (record { node = n; told = told }) end final
 
--- the same over a node whose kernel writes are made in files too; at the end all that these were asked for is what the calls of
--- the node's kernel stand for, in their order, in this place
+-- the script is run so over a node whose kernel's writes are made in files too. At the end all that these were asked for is
+-- what the calls of the node's kernel stand for, in their order, in this place.
 abbrev pub PlaysIn : {F : Type 0} → (F → Bool → List Asked → Type 0) → Site → (List ℕ → Option (List ℕ) → Type 0) → ℕ → NodeState → Told → Option (List ℕ) → Option (List ℕ) → Option (List ℕ) → Option (List ℕ) → Result (Unit {0}) ScriptFault → Type 0
 PlaysIn asked site finds most n told read read' out out' end =
     (final : RuntimeState) × EndsBy most (AnsweredBy finds) read read' out out' (record { node = n; told = told }) end final × IsMirroredNode asked site final.node

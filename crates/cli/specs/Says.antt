@@ -6,8 +6,8 @@ use Rattle.cli.specs.declared.console.Console.{Console}
 
 -- the two streams before and after, as far as their bytes are known, and the exit status
 module _ {W E : Type 0} (out : W → Option (List ℕ)) (err : E → Option (List ℕ)) (old new : Console W E) (status : ℕ) where
-  -- the text goes to standard output and a note to standard error, and this is the status; or where the text can't be
-  -- written whole, standard error takes the line that says so, and the status is 1
+  -- the text goes to standard output and a note to standard error, and this is the status. If the text can't be written
+  -- whole, standard error takes the line that says so, and the status is 1.
   abbrev pub Says : List ℕ → ℕ → List ℕ → Type 0
   Says text wanted note =
       ((status ≡ wanted) × Sends out old.out new.out text × Takes err old.err new.err note)

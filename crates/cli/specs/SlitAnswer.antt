@@ -19,7 +19,7 @@ row_text t i = flat_map (λ j. entry_text j (distance t i j)) (range_with_len 0 
 abbrev pub table_text : Table → List ℕ
 table_text t = (codes "localities " ++ (decimal t.localities ++ codes "\n")) ++ flat_map (row_text t) (range_with_len 0 t.localities)
 
--- the table that the bytes describe, or their first fault; an allocation failure only where they have none
+-- the table that the bytes describe, or their first fault; an allocation failure only if they have none
 abbrev pub IsTableOrRefusal : List ℕ → Result Table Refusal → Type 0
 IsTableOrRefusal bytes (Ok t) = Describes bytes t
 IsTableOrRefusal bytes (Err (refusal.Slit fault)) = slit_fault bytes ≡ Some fault

@@ -15,7 +15,7 @@ IsRefusalOf bytes (refusal.Check fault) = IsUnsolved bytes (Fault (wrong.Check f
 IsRefusalOf bytes refusal.Memory = IsUnsolved bytes Memory
 IsRefusalOf bytes _ = ⊥
 
--- a solution of the rows that the bytes stand for, or the refusal; and a solution wherever they stand for rows within the
+-- a solution of the rows that the bytes of a problem stand for, or the refusal; a solution if they stand for rows within the
 -- limits, unless an allocation failed
 pub record IsSolutionOf (bytes : List ℕ) (answer : Result Solution Refusal) : Type 0 where
   pub sound : MatchResult answer (λ found. Solves bytes found) (IsRefusalOf bytes)

@@ -22,7 +22,7 @@ pub record CheckSpellings : Type 0 where
   pub file : (word : Text) → IsPlain word → Spells (codes "check" ∷ word ∷ []) (check (Some word))
   pub escaped : (word : Text) → Spells (codes "check" ∷ codes "--" ∷ word ∷ []) (check (Some word))
 
--- numarun list TEXT, where TEXT may also be a lone hyphen
+-- numarun list TEXT; TEXT may also be a lone hyphen
 pub record ListSpellings : Type 0 where
   pub text : (word : Text) → IsPlain word → Spells (codes "list" ∷ word ∷ []) (list word)
   pub hyphen : Spells (codes "list" ∷ codes "-" ∷ []) (list (codes "-"))
@@ -33,8 +33,8 @@ pub record SlitSpellings : Type 0 where
   pub file : (word : Text) → IsPlain word → Spells (codes "slit" ∷ word ∷ []) (slit word)
   pub escaped : (word : Text) → Spells (codes "slit" ∷ codes "--" ∷ word ∷ []) (slit word)
 
--- numarun run MACHINE; with --slit FILE, with --cgroup ROOT, and with --adopt beside that, behind the machine or before it. Beside no
--- ROOT --adopt is a mistake, in whatever words.
+-- numarun run MACHINE; with --slit FILE, with --cgroup ROOT, and with --adopt beside that, behind the machine or before it.
+-- Without ROOT --adopt is a mistake, in whatever words.
 pub record RunSpellings : Type 0 where
   pub machine : (word : Text) → IsPlain word → Spells (codes "run" ∷ word ∷ []) (run word None None false)
   pub escaped : (word : Text) → Spells (codes "run" ∷ codes "--" ∷ word ∷ []) (run word None None false)

@@ -1,4 +1,4 @@
--- What the program does with its arguments, of which the first is its name.
+-- What the program does with its arguments. The first is its name.
 use Rattle.std.specs.Prelude.{◌≡◌, ◌≢◌, ℕ, List, [], Option, codes}
 use Rattle.std.specs.IoError.{error_kind}
 use Rattle.std.specs.declared.io.Error.{Error}
@@ -14,6 +14,7 @@ no_text_line = codes "error: the words of the command line are not UTF-8\n"
 
 -- the arguments could not be had
 module _ {W E : Type 0} (out : W → Option (List ℕ)) (err : E → Option (List ℕ)) (old new : Console W E) (status : ℕ) where
+  -- what is printed if the arguments can't be had
   abbrev pub Stops : Error → Type 0
   Stops error =
       (error_kind error ≡ OutOfMemory → Says out err old new status (refusal_line Memory) 1 [])

@@ -23,14 +23,18 @@ module _ {W E : Type 0} (out : W → Option (List ℕ)) (err : E → Option (Lis
   abbrev pub Tells : {T : Type 0} → (List ℕ → Result T Refusal → Type 0) → (T → List ℕ) → (Reading → Type 0) → Text → Type 0
   Tells {T} answers text reads name = (answer : Result T Refusal) × AnswersInput answers reads answer × Answers text name answer
 
+  -- the answer to a certificate is told
   abbrev pub Checks : (Reading → Type 0) → Text → Type 0
   Checks reads name = Tells IsAnswerTo verdict_line reads name
 
+  -- the answer to a distance table is told
   abbrev pub Tabulates : (Reading → Type 0) → Text → Type 0
   Tabulates reads name = Tells IsTableOrRefusal table_text reads name
 
+  -- the answer to a problem is told
   abbrev pub Solves : (Reading → Type 0) → Text → Type 0
   Solves reads name = Tells IsSolutionOf solution_text reads name
 
+  -- the answer to a list is told
   abbrev pub Lists : Text → Type 0
   Lists text = (answer : Result Ids Refusal) × IsSetOrRefusal text answer × Answers set_line [] answer

@@ -28,6 +28,7 @@ pub fn start<G: Grammar, F: Opens, T: GroupTrees + Drop, R: Read + Input, W: Wri
     input: R,
     console: &mut Console<W, E>,
 ) -> u8
+    // It is `run_program` from the arguments on.
     ensures { MatchResult arguments
         (λ given. Runs W.contents E.contents console.old console.new result (G.fails grammar.now) (G.lacks grammar.now)
         (Does W.contents E.contents console.old console.new result (F.opens files.now) (F.fails files.now) F.File.gives

@@ -21,7 +21,7 @@ use std::alloc::Global;
 use std::io;
 use std::io::Write;
 
-/// Prints the distance table in the source that is called so: a line `localities N`, and then for each locality a
+/// Prints the distance table in the source that is called so. It is a line `localities N`, and then for each locality a
 /// line of its distances to all of them; or why the bytes are no table. The status is 0, or 1 for a refusal and for lines
 /// that can't be written.
 pub fn do_slit<S: Source, W: Write, E: Write>(
@@ -30,6 +30,8 @@ pub fn do_slit<S: Source, W: Write, E: Write>(
     name: &str,
     console: &mut Console<W, E>,
 ) -> u8
+    // It tells the table of the bytes, or their first fault (`Tabulates`, `IsTableOrRefusal`). An allocation failure is
+    // told only if the reading answered it, or if the bytes have no fault.
     ensures { Tabulates W.contents E.contents console.old console.new result (Reads S.opens S.fails S.Input.gives source) name.now }
 {
     let answer: Result<Slit, Refusal> = answer_of(alloc, source);

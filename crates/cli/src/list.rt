@@ -15,6 +15,7 @@ use std::io::Write;
 /// Prints the one spelling of the list's set and a line feed, or why the text is no list of numbers below
 /// [`CPU_LIMIT`](cpu_set::CPU_LIMIT). The status is 0, or 1 for a refusal and for a line that can't be written.
 pub fn do_list<W: Write, E: Write>(text: &str, console: &mut Console<W, E>) -> u8
+    // It tells the list's one spelling, or its first fault (`Lists`). It allocates nothing.
     ensures { Lists W.contents E.contents console.old console.new result text.now }
 {
     print_answer(&set_of(text.as_bytes()), "", console)

@@ -32,8 +32,8 @@ pub struct Root<'a> {
     pub adopt: bool,
 }
 
-/// Runs the script that the reader has left over the machine in this file, as [`do_run`](crate::do_run) does, and makes each
-/// kernel write below this root too; or prints why one of the files or the root is refused. No number of reads is too many.
+/// Runs a script as [`do_run`](crate::do_run) does, and makes each kernel write below this root too; or prints why one of
+/// the files or the root is refused. No number of reads is too many.
 pub fn do_pin<F: Opens, T: GroupTrees + Drop, B: Bundles + Drop, R: Read, W: Write, E: Write>(
     alloc: Global,
     machine: &str,
@@ -45,6 +45,13 @@ pub fn do_pin<F: Opens, T: GroupTrees + Drop, B: Bundles + Drop, R: Read, W: Wri
     script: &mut R,
     console: &mut Console<W, E>,
 ) -> u8
+    // It is the same as `do_run` in a cgroup tree, by 2^64 - 1 reads. Or it refuses its root, by what was found of it
+    // (`IsNotRooted`), or the node's group can't be made there (`PinsAt`). At the end of a script its node is mirrored
+    // (`PlaysIn`), as `runtime` says it. Its place is below ROOT, in files opened with `--adopt` or without, with the nodes
+    // that were found to have memory. `start`, which the program calls, says the same. It takes the one value that gives
+    // access to trees and opens its files once: the program is handed one. What the notes of the system's refusals are on
+    // standard error it does not say: they go past its page. Nor does any clause say which folders of a run before it names
+    // to the operator.
     ensures { Pins W.contents E.contents console.old console.new result (F.opens files.now) (F.fails files.now) F.File.gives
         T.Files.asked (T.finds trees) B.finds (B.told bundles) (R.remaining script.old) (R.remaining script.new)
         machine.now (option_map (λ name. name.now) table.entry) root.entry.path.now root.entry.adopt }

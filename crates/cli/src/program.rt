@@ -22,9 +22,9 @@ use program_io::{Input, Refusal};
 use std::alloc::Global;
 use std::io::{Read, Write};
 
-/// Does what the words of the command line ask for, over these files and standard streams, and tells the exit status:
-/// 0; 1 where an input is refused, an allocation fails or the answer can't be written; 2 where the words are no command line,
-/// or an allocation fails while they are parsed or while the help or a mistake is put into words.
+/// Does what the words of the command line ask for, over these files and standard streams, and tells the exit status. It is
+/// 0; or 1 if an input is refused, an allocation fails or the answer can't be written. It is 2 if the words are no command
+/// line, or an allocation fails while they are parsed or the help or a mistake is put into words.
 pub fn run_program<G: Grammar, F: Opens, T: GroupTrees + Drop, R: Read + Input, W: Write, E: Write>(
     alloc: Global,
     grammar: &G,
@@ -34,6 +34,8 @@ pub fn run_program<G: Grammar, F: Opens, T: GroupTrees + Drop, R: Read + Input, 
     input: R,
     console: &mut Console<W, E>,
 ) -> u8
+    // It does what the words ask for, over any grammar, any files, any reader and any two writers. The contract says which
+    // bytes go to which stream, and the exit status of each case.
     ensures { Runs W.contents E.contents console.old console.new result (G.fails grammar.now) (G.lacks grammar.now)
         (Does W.contents E.contents console.old console.new result (F.opens files.now) (F.fails files.now) F.File.gives
         T.Files.asked (T.finds trees) (IsConfigIn F.opens F.fails F.File.gives) (R.Input.gives input) (R.Read.remaining input)) (map string_bytes words.now) }

@@ -16,15 +16,18 @@ use std::alloc::Global;
 use std::io;
 use std::io::Write;
 
-/// Solves the problem in the source that is called so, and prints the certificate, of version 1, of a plan of least cost, or
-/// of a shortage where there is no plan; or why the problem is refused. The status is 0, or 1 for a refusal and for a
-/// certificate that can't be written.
+/// Solves the problem in the source that is called so, and prints the certificate, of version 1. It is of a plan of least
+/// cost, or of a shortage if there is no plan; or it prints why the problem is refused. The status is 0, or 1 for a refusal
+/// and for a certificate that can't be written.
 pub fn do_solve<S: Source, W: Write, E: Write>(
     alloc: Global,
     source: S,
     name: &str,
     console: &mut Console<W, E>,
 ) -> u8
+    // It tells the certificate of the rows that the bytes stand for, or their refusal (`Solves`, `IsSolutionOf`). So what
+    // is written whole is a text that stands for a certificate of these very rows. It is proved least, or it shows that
+    // there is no plan. An allocation failure is told only if the reading answered it, or if `solution` may.
     ensures { Solves W.contents E.contents console.old console.new result (Reads S.opens S.fails S.Input.gives source) name.now }
 {
     let answer: Result<Solution, Refusal> = answer_of(alloc, source);

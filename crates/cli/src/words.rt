@@ -72,8 +72,12 @@ pub fn parse<'a, G: Grammar>(
     grammar: &G,
     words: &'a [String],
 ) -> Result<Words<'a>, OrMemory<Error>>
+    // It gives what the words ask for.
     ensures ok { IfOk result (λ asks. asked asks ≡ asked_for (map string_bytes words.entry.now)) }
     ensures accepted { OnOk result (mistakes (map string_bytes words.entry.now) ≡ []) }
+    // Else it tells a mistake that they have (`HasCause`). An allocation failure is told only if the grammar answered it.
+    // The grammar of the program is `CommandLine`, which is clap's, with a rule beside it: `--adopt` without `--cgroup` is
+    // a mistake, in whatever words (`run_spellings`, by `adopt_beside`).
     ensures err { IfErr result (HasCause (G.fails grammar.now (map string_bytes words.entry.now)) (map string_bytes words.entry.now)) }
 {
     if words.is_empty() {

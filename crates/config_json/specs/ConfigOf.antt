@@ -1,4 +1,5 @@
 -- What the bytes of a config say to pinning, or the first thing that is wrong with them.
+-- From: OCI Runtime Specification 1.0.2, config.md and config-linux.md; the order is ours.
 use Rattle.std.specs.Prelude.{ℕ, List, [], ◌∷◌, length, nat_lt, Option, Some, None, Result, Err, cond}
 use Rattle.faults.specs.First.{when, first_of, unless}
 use Rattle.serde_json.specs.Data.{Data}
@@ -20,7 +21,7 @@ abbrev pub answer_to : Option Data → Result Config ConfigFault
 answer_to None = Err NotJson
 answer_to (Some d) = unless (value_fault d) (said_by d)
 
--- what bytes say
+-- what the bytes of a config say, or their first fault
 unfoldable pub config_of : List ℕ → Result Config ConfigFault
 config_of bytes = cond (nat_lt MAX_BYTES (length bytes)) (Err TooLong) (answer_to (json_of bytes))
 

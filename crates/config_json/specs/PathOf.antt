@@ -1,4 +1,5 @@
--- The dotted path of a member, as the OCI specification names it.
+-- The dotted path of a member.
+-- From: OCI Runtime Specification 1.0.2, config.md and config-linux.md.
 use Rattle.std.specs.Prelude.{ℕ, List, codes}
 use Rattle.config_json.specs.declared.field.Field.{Field}
 use Rattle.config_json.specs.declared.field.Field.TheVariants.{OciVersion, Root, RootPath, Linux, Resources, Cpu, Quota, Period, Cpus, Mems}

@@ -1,4 +1,5 @@
 -- What a config says in its CPU section: a look-up in the JSON value.
+-- From: OCI Runtime Specification 1.0.2, config-linux.md, CPU.
 use Rattle.std.specs.Prelude.{ℕ, ℤ, List, Option, option_and_then, codes}
 use Rattle.serde_json.specs.Data.{Data}
 use Rattle.serde_json.specs.Find.{as_str}
@@ -12,7 +13,7 @@ pub record Section : Type 0 where
   pub cpus : Option (List ℕ)
   pub mems : Option (List ℕ)
 
--- the section of a value without fault
+-- the CPU section of a value without fault
 abbrev pub section_of : Data → Section
 section_of d = record {
   quota = option_and_then signed_of (cpu_member (codes "quota") d);

@@ -1,4 +1,5 @@
 -- What is wrong with a JSON value as a config: the table of checks in their order, of which the first that fails decides.
+-- From: OCI Runtime Specification 1.0.2, config.md and config-linux.md; the order is ours.
 use Rattle.std.specs.Prelude.{Bool, true, Option, [], ◌∷◌, is_some, not, option_and_then, codes, if◌then◌else◌}
 use Rattle.std.specs.Option.{option_map_or}
 use Rattle.faults.specs.First.{first_of, when}
@@ -41,7 +42,7 @@ cpu_fault d = first_of (
     ∷ kind_fault Mems as_str (cpu_member (codes "mems") d)
     ∷ [])
 
--- the first fault of a value
+-- the first fault of a JSON value as a config
 abbrev pub value_fault : Data → Option ConfigFault
 value_fault d = first_of (
     when (not (is_some (as_object d))) NotObject

@@ -48,7 +48,9 @@ impl Config {
     /// metadata and for the texts of a value without fault.
     #[tactic(auto, unfolding(crate::specs::ConfigOf::config_of))]
     pub fn read(alloc: Global, bytes: &[u8]) -> Result<Config, OrMemory<ConfigFault>>
+        // The looked-at members of the JSON value. Else the first fault in the written order.
         ensures value { Gives result (config_of bytes.now) }
+        // If there are too many bytes or none, or they are not UTF-8, it makes no allocation.
         ensures memory { ChecksFirst result (bytes_fault bytes.now) }
     {
         if bytes.len() > MAX_BYTES {

@@ -26,6 +26,7 @@ pub record ReadsAs (text : List ℕ) (limit : ℕ) (s : Ids) : Type 0 where
   pub members : IsSetOf text s
   pub only : (t : Ids) → IsSetOf text t → t ≡ s
 
+-- a canonical text of a set is a list, which reads as that set, under each limit up to 2^64 above its members
 abbrev pub CanonicalReadsAgain : Type 0
 CanonicalReadsAgain = (s : Ids) (text : List ℕ) (limit : ℕ) → limit ≤ 2 ^ 64 → AllBelow limit s → IsCanonical text s → ReadsAs text limit s
 
@@ -37,10 +38,10 @@ is_list_byte b = is_ascii_digit b || (is_hyphen b || is_comma b)
 abbrev pub TextIsPlain : Type 0
 TextIsPlain = (s : Ids) → list_all is_list_byte (list_text s) ≡ true
 
--- so no other byte stands in it, neither a space nor a colon nor a line feed
+-- a printed text has no other byte, neither a space nor a colon nor a line feed
 abbrev pub TextLacks : Type 0
 TextLacks = (s : Ids) (other : ℕ) → is_list_byte other ≡ false → All (λ b. (b == other) ≡ false) (list_text s)
 
--- it is empty where the set has no CPU number, and nowhere else
+-- a printed text is empty exactly if the set has no CPU number
 abbrev pub TextIsEmpty : Type 0
 TextIsEmpty = (s : Ids) → (list_text s ≡ []) ↔ ((n : ℕ) → IsCpu n → set.contains s n ≡ false)

@@ -1,4 +1,5 @@
 -- The one spelling of a set of numbers as a list: rising ranges as long as possible, and no blanks.
+-- From: cpuset(7), as the kernel prints lists.
 use Rattle.std.specs.Prelude.{◌≡◌, ℕ, ◌==◌, if◌then◌else◌, List, ◌∷◌, ◌++◌, map, decimal}
 use Rattle.std.specs.FinSet as set
 use Rattle.std.specs.List.{join_with_byte}
@@ -15,7 +16,7 @@ range_text r = if r.0 == r.1 then decimal r.0 else decimal r.0 ++ hyphen ∷ dec
 abbrev pub ranges_text : List (ℕ × ℕ) → List ℕ
 ranges_text ranges = join_with_byte comma (map range_text ranges)
 
--- the text of a set
+-- the one spelling of a set: its rising ranges, each as long as possible
 unfoldable pub list_text : Ids → List ℕ
 list_text s = ranges_text (ranges_of (members s))
 

@@ -29,7 +29,7 @@ abbrev pub faults_from : ℕ → ℕ → List (List ℕ) → List (Option ListEr
 faults_from limit at [] = []
 faults_from limit at (piece ∷ more) = piece_fault limit at piece ∷ faults_from limit (at + (length piece + 1)) more
 
--- the fault of the first faulty item from the left
+-- the place and kind of the first faulty item from the left
 abbrev pub first_fault : ℕ → List ℕ → Option ListError
 first_fault limit text = first_of (faults_from limit 0 (pieces text))
 
@@ -50,7 +50,7 @@ pub record IsFirstFault (limit : ℕ) (text : List ℕ) (e : ListError) : Type 0
   pub fault : IsFaultOf limit (item_of piece) e.kind
   pub place : e.at ≡ sum_by (λ p. length p + 1) before + leading_blanks piece
 
--- a text is a list exactly where it has no first fault
+-- a text is a list exactly if it has no first fault
 abbrev pub NoneWhereList : Type 0
 NoneWhereList = (limit : ℕ) (text : List ℕ) → (first_fault limit text ≡ None) ↔ IsList limit text
 

@@ -1,5 +1,6 @@
--- Which texts are lists of numbers, and which numbers a list names: cpuset(7), List Format, with commas, numbers and ranges.
--- This project also takes blanks round an item, empty items, leading zeros, and items in any order, repeated or overlapping.
+-- Which texts are lists of numbers, and which numbers a list names.
+-- From: cpuset(7), List Format, for commas, numbers and ranges. Blanks round an item, empty items, leading zeros, and items
+-- in any order, repeated or overlapping, are ours.
 use Rattle.std.specs.Prelude.{◌≡◌, ℕ, ◌+◌, ◌-◌, ◌<◌, ◌≤◌, Bool, true, false, ◌&&◌, ◌||◌, ◌⊎◌, ◌==◌, nat_lt, nat_le, if◌then◌else◌, List, [], length, take, drop, position, Option, Some, None}
 use Rattle.std.specs.Char.{is_ascii_digit}
 use Rattle.std.specs.FinSet as set
@@ -74,7 +75,7 @@ piece_names n piece = range_names (range_of (item_of piece)) n
 abbrev pub names : List ℕ → ℕ → Bool
 names text n = list_any (piece_names n) (pieces text)
 
--- s has the numbers that the items of the text name, and no other
+-- the set has the numbers that the items of the text name, and no other
 abbrev pub IsSetOf : List ℕ → set.FinSet nat_cmp → Type 0
 IsSetOf text s = (n : ℕ) → set.contains s n ≡ names text n
 

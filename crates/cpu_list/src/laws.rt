@@ -3,8 +3,7 @@ ghost use Rattle.cpu_list.specs.CanonicalLaws.{TextIsCanonical, OneCanonicalText
 ghost use Rattle.cpu_list.specs.FirstFault.{NoneWhereList, FirstDecides};
 ghost use Rattle.cpu_list.specs.ListText.{ListIsBelow};
 
-/// A text is a list exactly where it has no first fault, and its first fault is that of the first
-/// faulty item.
+/// A text is a list exactly if it has no first fault, and its first fault is that of the first faulty item.
 pub fn first_faults()
     ensures none { NoneWhereList }
     ensures first { FirstDecides }
@@ -15,17 +14,16 @@ pub fn lists_stay_below()
     ensures { ListIsBelow }
 {}
 
-/// The printed text of a set of CPU numbers is canonical, and a set has no other canonical text.
-/// Under each limit up to 2^64 above the members that text is a list of this set and of no other, so that
-/// reading gives the printed set back.
+/// The spelling of a set of CPU numbers is canonical, and a set has no other canonical text. It is a list of that set,
+/// under each limit up to 2^64 above its members. So reading what was printed gives the set again.
 pub fn canonical_texts()
     ensures canonical { TextIsCanonical }
     ensures one { OneCanonicalText }
     ensures reads_again { CanonicalReadsAgain }
 {}
 
-/// A printed text has digits, hyphens and commas alone, so that no space, colon or line feed stands
-/// in it; and it is empty just where the set is.
+/// A printed text has digits, hyphens and commas alone, so no space, colon or line feed stands in it. It is empty exactly
+/// if the set is.
 pub fn plain_texts()
     ensures plain { TextIsPlain }
     ensures lacks { TextLacks }

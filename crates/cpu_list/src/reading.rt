@@ -60,6 +60,8 @@ fn add_first(set: &mut IdSet, text: &[u8], limit: u16) -> Result<usize, ListErro
 /// The place and the cause of the first faulty item.
 pub fn read(text: &[u8], limit: u16) -> Result<IdSet, ListError>
     requires { limit ≤ CPU_LIMIT }
+    // The set of the text, exactly if the text is a list. Else the place and kind of the first faulty item. This holds for
+    // any bytes, and for numbers of any length.
     ensures { MatchResult result
         (λ s. (first_fault limit text.now ≡ None) × IsSetOf text.now s × IsList limit text.now)
         (λ e. (first_fault limit text.now ≡ Some e) × IsFirstFault limit text.now e) }

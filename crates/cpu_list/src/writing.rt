@@ -24,6 +24,7 @@ fn put_item<W: Write>(separator: &[u8], first: u16, last: u16, w: &mut W) -> io:
 /// # Errors
 /// As [`put_number`]: where it fails, a prefix of the text went out.
 pub fn write_list<W: Write>(set: &IdSet, w: &mut W) -> io::Result<()>
+    // After a fault a prefix of the bytes went out, and not all.
     ensures { Writes (W.contents w.old) (W.contents w.new) result (list_text set.now) }
 {
     let mut separator: &[u8] = b"";

@@ -1,4 +1,4 @@
--- What `least_that` answers: the least CPU that passes, and none only where none passes. For a set it is the first member.
+-- What `least_that` answers: the least CPU that passes, and none only if none passes. For a set it is the first member.
 use Rattle.std.proofs.Common.{◌≡◌, ℕ, zero, suc, ◌+◌, ◌<◌, ◌≤◌, Bool, true, false, cond, not, ◌&&◌, Option, Some, None, MatchOption, IfSome, refl, sym, ap, ◌∙◌, inl, inr, arith}
 use Rattle.std.specs.Prelude.{find}
 use Rattle.std.specs.List.{range_with_len}
@@ -20,13 +20,15 @@ pub record IsLeastThat (test : ℕ → Bool) (n : ℕ) : Type 0 where
 abbrev pub NonePasses : (ℕ → Bool) → Type 0
 NonePasses test = (n : ℕ) → IsCpu n → test n ≡ false
 
--- the least one that passes is answered, and none just where none passes
+-- a CPU that passes while no lesser one does is the answer
 abbrev pub LeastIsLeast : Type 0
 LeastIsLeast = (test : ℕ → Bool) (n : ℕ) → IsLeastThat test n → least_that test ≡ Some n
 
+-- an answer passes and no lesser CPU does; if none is answered, no CPU passes
 abbrev pub LeastPasses : Type 0
 LeastPasses = (test : ℕ → Bool) → MatchOption (least_that test) (NonePasses test) (IsLeastThat test)
 
+-- if no CPU passes, none is answered
 abbrev pub NoneWhereNone : Type 0
 NoneWhereNone = (test : ℕ → Bool) → NonePasses test → least_that test ≡ None
 
@@ -34,15 +36,15 @@ NoneWhereNone = (test : ℕ → Bool) → NonePasses test → least_that test �
 abbrev pub IsFirstOf : Ids → Option ℕ → Type 0
 IsFirstOf s first = MatchOption first (NoneFrom s 0) (λ n. IsFirstFrom s 0 n) × IfSome first (λ n. IsCpu n)
 
--- of the CPUs of a set it is the first member
+-- of the CPUs of a set the least is its first member
 abbrev pub LeastIsFirst : Type 0
 LeastIsFirst = (s : Ids) (test : ℕ → Bool) (first : Option ℕ) → ((n : ℕ) → IsCpu n → set.contains s n ≡ test n) → IsFirstOf s first → least_that test ≡ first
 
--- of the CPUs in one set and not in another it is the first of the difference
+-- of the CPUs in one set and not in another the least is the first member of the difference
 abbrev pub LeastOfDifference : Type 0
 LeastOfDifference = (s t : Ids) (first : Option ℕ) → IsFirstOf (set.difference s t) first → least_that (λ n. set.contains s n && not (set.contains t n)) ≡ first
 
--- of the CPUs in both sets it is the first of what they share
+-- of the CPUs in both sets the least is the first member of what they share
 abbrev pub LeastOfBoth : Type 0
 LeastOfBoth = (s t : Ids) (first : Option ℕ) → IsFirstOf (set.intersection s t) first → least_that (λ n. set.contains s n && set.contains t n) ≡ first
 

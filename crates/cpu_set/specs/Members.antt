@@ -9,18 +9,18 @@ use Rattle.cpu_set.specs.declared.TheConstants.{CPU_LIMIT}
 abbrev pub IsCpu : ℕ → Type 0
 IsCpu n = n < CPU_LIMIT
 
--- these numbers, in rising order
+-- the numbers that a set may have, in rising order
 unfoldable pub cpus : List ℕ
 cpus = range_with_len 0 CPU_LIMIT
 
--- each member is such a number
+-- each member is a number that a set may have
 abbrev pub InRange : Ids → Type 0
 InRange s = (n : ℕ) → set.contains s n ≡ true → IsCpu n
 
--- the members, in rising order
+-- the members of a set, in rising order
 abbrev pub members : Ids → List ℕ
 members s = filter (set.contains s) cpus
 
--- the numbers that a set may have and does not
+-- t has the numbers that a set may have and s does not
 abbrev pub IsComplement : Ids → Ids → Type 0
 IsComplement s t = (n : ℕ) → set.contains t n ≡ (nat_lt n CPU_LIMIT && not (set.contains s n))

@@ -7,7 +7,7 @@ abbrev pub with_number : ℕ → List (ℕ × ℕ) → List (ℕ × ℕ)
 with_number n [] = (n, n) ∷ []
 with_number n (r ∷ more) = if r.0 == n + 1 then (n, r.1) ∷ more else (n, n) ∷ r ∷ more
 
--- the longest ranges of rising numbers
+-- rising numbers as ranges, each as long as possible
 abbrev pub ranges_of : List ℕ → List (ℕ × ℕ)
 ranges_of [] = []
 ranges_of (n ∷ more) = with_number n (ranges_of more)

@@ -17,15 +17,15 @@ use Rattle.cpu_set.specs.Members.{InRange, cpus, members}
 use Rattle.cpu_set.specs.Those.{those, contains-those}
 use Rattle.cpu_set.specs.Pointwise.{same_members, contains-empty, contains-intersection, contains-difference, is_subset-contains, contains-is_subset}
 
--- a set is empty just where it has no member
+-- a set is empty exactly if it has no member
 abbrev pub EmptyWhereNone : Type 0
 EmptyWhereNone = (s : Ids) → (s ≡ set.empty) ↔ NoneFrom s 0
 
--- two sets are disjoint just where they meet in nothing
+-- two sets are disjoint exactly if they meet in nothing
 abbrev pub DisjointWhereMeetIsEmpty : Type 0
 DisjointWhereMeetIsEmpty = (s t : Ids) → IsDisjoint s t ↔ (set.intersection s t ≡ set.empty)
 
--- one set is within another just where nothing of it is left without the other
+-- one set is within another exactly if nothing of it is left without the other
 abbrev pub SubsetWhereNoneIsLeft : Type 0
 SubsetWhereNoneIsLeft = (s t : Ids) → (set.is_subset s t ≡ true) ↔ (set.difference s t ≡ set.empty)
 

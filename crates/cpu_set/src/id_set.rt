@@ -172,6 +172,7 @@ impl IdSet {
 
     /// The greatest number of the set.
     pub fn last(&self) -> Option<u16>
+        // None if the set is empty.
         ensures last { MatchOption result (NoneFrom self.now 0) (λ n. IsLast self.now n) }
         ensures in_range { IfSome result (λ n. IsCpu n) }
     {

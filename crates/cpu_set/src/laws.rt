@@ -5,7 +5,7 @@ ghost use Rattle.cpu_set.specs.SetLaws.{EmptyWhereNone, DisjointWhereMeetIsEmpty
 
 use crate::CPU_LIMIT;
 
-/// `least_that` is the least CPU that passes, and none where none passes.
+/// `least_that` is the least CPU that passes, and none if none passes.
 pub fn least_cpus()
     ensures is_least { LeastIsLeast }
     ensures passes { LeastPasses }

@@ -2,6 +2,12 @@
 //!
 //! A contract sees an [`IdSet`] as a finite set of numbers, and each call as the set operation of its name.
 //! No call allocates.
+//!
+//! # Proved
+//!
+//! - Each call of `IdSet` is the set operation of its name, on finite sets of numbers below `CPU_LIMIT`.
+//! - A set is kept as words of 64 bits that are combined in lanes. No contract mentions that.
+//! - Each call of `WordSet`, some of the 64 numbers from a multiple of 64 on, says by its members what it makes.
 #![tactic(auto)]
 
 mod id_set;

@@ -29,6 +29,7 @@ impl Model for Ranges {
 impl Ranges {
     /// All ranges of the set.
     pub fn of(set: &IdSet) -> Ranges
+        // They rise, and each is as long as possible.
         ensures { result ≡ ranges_of (members set.now) }
     {
         Ranges {

@@ -44,7 +44,10 @@ impl WordSet {
         requires { IsCpu n }
         ensures added { IsTrue result → (q : ℕ) → set.contains self.new q ≡ (set.contains self.old q || (q == n)) }
         ensures above { IsTrue result → NoneFrom self.old n }
+        // If it returns false, nothing changed.
         ensures same { result ≡ false → self.new ≡ self.old }
+        // If the set has a member, the number then lies in another word, or not behind all of the members. Why an empty set
+        // refuses a number, nothing says.
         ensures refused { result ≡ false → (m : ℕ) → set.contains self.old m ≡ true → m / 64 ≡ n / 64 → NoneFrom self.old n → ⊥ }
     {
         let place = n % 64;

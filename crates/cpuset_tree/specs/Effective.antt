@@ -1,4 +1,5 @@
--- What a group has in effect (cgroup v2: `cpuset.cpus.effective`, `cpuset.mems.effective`): a recursion up the path.
+-- What a group has in effect: a recursion up the path.
+-- From: cgroup v2, `cpuset.cpus.effective`, `cpuset.mems.effective`.
 use Rattle.std.specs.Prelude.{if◌then◌else◌, List, [], ◌∷◌, Option, Some, None}
 use Rattle.std.specs.FinSet as set
 use Rattle.cpu_set.specs.Ids.{Ids, is_empty}
@@ -6,7 +7,7 @@ use Rattle.cpuset_tree.specs.declared.groups.Group.{Group}
 use Rattle.cpuset_tree.specs.TreeState.{GroupEntry, TreeState}
 use Rattle.cpuset_tree.specs.Groups.{same_group}
 
--- what a group is granted of its parent's: what it requests of it, or all of it where that is nothing
+-- what a group is granted of its parent's: what it requests of it, or all of it if that is nothing
 abbrev pub granted : Ids → Ids → Ids
 granted requested above =
     if is_empty (set.intersection requested above) then above else set.intersection requested above

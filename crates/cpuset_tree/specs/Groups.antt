@@ -1,4 +1,5 @@
 -- What is looked up in a tree.
+-- From: cgroup v2, `cpuset.cpus`, `cpuset.mems`.
 use Rattle.std.specs.Prelude.{ℕ, Bool, false, ◌&&◌, ◌==◌, List, find, Option, Some, None, is_some, is_none, option_map, nat_eq}
 use Rattle.std.specs.List.{list_any}
 use Rattle.std.specs.Cmp.Lexicographic.{pointwise}

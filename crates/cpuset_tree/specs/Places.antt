@@ -1,4 +1,5 @@
 -- Where a group stands: below which group, and by which name.
+-- From: cgroup v2: groups are folders.
 use Rattle.std.specs.Prelude.{ℕ, List, Option, Some, None, option_map}
 use Rattle.std.specs.Borrow.{Bor}
 use Rattle.cpuset_tree.specs.declared.groups.Group.{Group}

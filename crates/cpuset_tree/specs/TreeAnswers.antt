@@ -1,4 +1,5 @@
 -- What each call of a tree answers: the first thing that stands against it, in the order written here, or what it is for.
+-- From: cgroup v2; the order is ours.
 use Rattle.std.specs.Prelude.{◌≡◌, ℕ, false, not, ◌==◌, if◌then◌else◌, List, Option, Some, None, is_some, Result}
 use Rattle.faults.specs.declared.or_memory.OrMemory.{OrMemory}
 use Rattle.faults.specs.Calls.{Grows}
@@ -34,7 +35,7 @@ write_refusal s g =
     else if is_root s g then Some IsRoot
     else None
 
--- a group that is in no tree yet gets the next serial, and is there then
+-- a group that was in no tree gets the next serial, and is there then
 pub record AddsGroup (old : TreeState) (parent : Group) (name : List ℕ) (g : Group) (new : TreeState) : Type 0 where
   pub serial : g.serial ≡ old.next_serial
   pub fresh : has_group old g ≡ false

@@ -1,4 +1,5 @@
 -- What each call changes of a tree.
+-- From: cgroup v2.
 use Rattle.std.specs.Prelude.{◌≡◌, ℕ, ◌+◌, not, if◌then◌else◌, List, [], ◌∷◌, map, filter, Option, Some, None}
 use Rattle.std.specs.FinSet as set
 use Rattle.cpu_set.specs.Ids.{Ids}
@@ -38,14 +39,14 @@ requesting_cpus g cpus e = if same_group e.group g then record e { cpus = cpus }
 abbrev pub requesting_mems : Group → Ids → GroupEntry → GroupEntry
 requesting_mems g mems e = if same_group e.group g then record e { mems = mems } else e
 
--- the tree where a group requests these CPUs
+-- the tree in which a group requests these CPUs
 abbrev pub with_cpus : TreeState → Group → Ids → TreeState
 with_cpus s g cpus = record s { groups = map (requesting_cpus g cpus) s.groups }
 
--- the tree where a group requests these memory nodes
+-- the tree in which a group requests these memory nodes
 abbrev pub with_mems : TreeState → Group → Ids → TreeState
 with_mems s g mems = record s { groups = map (requesting_mems g mems) s.groups }
 
--- the tree where these CPUs are online; what the groups request stays
+-- the tree in which these CPUs are online; what the groups request stays
 abbrev pub with_online : TreeState → Ids → TreeState
 with_online s online = record s { online = online }

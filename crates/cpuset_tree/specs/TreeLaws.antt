@@ -10,17 +10,19 @@ use Rattle.cpuset_tree.specs.TreeChanges.{new_entry, IsFirstTree, without_group,
 use Rattle.cpuset_tree.specs.TreeAnswers.{AddsGroup}
 use Rattle.cpuset_tree.specs.TreeWellFormed.{IsWellFormed}
 
--- what is in effect is the recursion up the path: all at the root, and else what is granted of the parent's in the same tree
+-- what is in effect is the recursion up the path, for a reader who trusts no list. At the root it is all, and else what is
+-- granted of the parent's in the same tree.
 pub record RunsUpThePath (s : TreeState) : Type 0 where
   pub cpus : (g : Group) (e : GroupEntry) → entry_of s g ≡ Some e
       → effective_cpus s g ≡ standing e.parent e.cpus s.online (effective_cpus s)
   pub mems : (g : Group) (e : GroupEntry) → entry_of s g ≡ Some e
       → effective_mems s g ≡ standing e.parent e.mems s.nodes (effective_mems s)
 
--- two groups are one exactly where they are equal, and the entry that is found of a group is its own
+-- two groups are one exactly if they are equal
 abbrev pub SameIsEqual : Type 0
 SameIsEqual = (g h : Group) → (same_group g h ≡ true) ↔ (g ≡ h)
 
+-- the entry that is found of a group is its own
 abbrev pub EntryIsOwn : Type 0
 EntryIsOwn = (s : TreeState) (g : Group) (e : GroupEntry) → entry_of s g ≡ Some e → e.group ≡ g
 
@@ -30,22 +32,25 @@ pub record IsRootEntry (s : TreeState) (g : Group) : Type 0 where
   pub there : entry_of s g ≡ Some entry
   pub above : entry.parent ≡ None
 
+-- the root is in the tree and has no parent
 abbrev pub RootIsThere : Type 0
 RootIsThere = (s : TreeState) (g : Group) → IsWellFormed s → root_of s ≡ Some g → IsRootEntry s g
 
--- a parent is there and was made before its children, and a group that is nobody's parent has no children
+-- the parent of a group is in the tree and was made before it
 abbrev pub ParentIsThere : Type 0
 ParentIsThere =
     (s : TreeState) (g p : Group) (e : GroupEntry) → IsWellFormed s → entry_of s g ≡ Some e → e.parent ≡ Some p → (has_group s p ≡ true) × (p.serial < g.serial)
 
+-- a group that is nobody's parent has no children
 abbrev pub NoParentNoChildren : Type 0
 NoParentNoChildren =
     (s : TreeState) (g : Group) → IsWellFormed s → ((p : Group) (e : GroupEntry) → entry_of s p ≡ Some e → e.parent ≢ Some g) → has_children s g ≡ false
 
--- what is granted: all where nothing is requested, and what is requested where that is something of what the parent has
+-- a group that requests nothing is granted all
 abbrev pub GrantsAll : Type 0
 GrantsAll = (above : Ids) → granted set.empty above ≡ above
 
+-- a group that requests some of what its parent has is granted that
 abbrev pub GrantsWithin : Type 0
 GrantsWithin = (requested above : Ids) → requested ≢ set.empty → set.is_subset requested above ≡ true → granted requested above ≡ requested
 
@@ -59,11 +64,12 @@ pub record IsTwoBelowRoot (s : TreeState) (g : Group) (e above : GroupEntry) : T
   pub parent_there : entry_of s parent ≡ Some above
   pub parent_below : above.parent ≡ Some root
 
--- it has what it is granted of all that is online, and of all nodes, where its parent requests nothing
+-- a group two below the root has what it is granted of all that is online, and of all nodes, if its parent requests nothing
 pub record GrantedOfAll (s : TreeState) (g : Group) (e above : GroupEntry) : Type 0 where
   pub cpus : above.cpus ≡ set.empty → effective_cpus s g ≡ granted e.cpus s.online
   pub mems : above.mems ≡ set.empty → effective_mems s g ≡ granted e.mems s.nodes
 
+-- a group two below the root has what it is granted of all, if its parent requests nothing
 abbrev pub TwoBelowRoot : Type 0
 TwoBelowRoot = (s : TreeState) (g : Group) (e above : GroupEntry) → IsWellFormed s → IsTwoBelowRoot s g e above → GrantedOfAll s g e above
 
@@ -90,15 +96,16 @@ pub record StandAlike (s new : TreeState) : Type 0 where
   pub root : root_of new ≡ root_of s
   pub next_serial : new.next_serial ≡ s.next_serial
 
+-- a write leaves all groups where they stand
 abbrev pub WritesLeavePlaces : Type 0
 WritesLeavePlaces =
     ((s : TreeState) (g : Group) (cpus : Ids) → StandAlike s (with_cpus s g cpus)) × ((s : TreeState) (g : Group) (mems : Ids) → StandAlike s (with_mems s g mems))
 
--- a group that is there has a serial that was given, and no serial is given twice: what is there of a serial that was given
--- before was there before
+-- a group that is in the tree has a serial that was given
 abbrev pub SerialIsGiven : Type 0
 SerialIsGiven = (s : TreeState) (g : Group) → IsWellFormed s → has_group s g ≡ true → g.serial < s.next_serial
 
+-- the next serial does not fall, and a group of a serial that was given before stands as it did
 pub record KeepsSerials (s new : TreeState) : Type 0 where
   pub rise : s.next_serial ≤ new.next_serial
   pub same : (g : Group) (e : GroupEntry) → g.serial < s.next_serial → entry_of new g ≡ Some e → StandsAs s g e
@@ -110,13 +117,15 @@ pub record ChangesKeepSerials (s : TreeState) : Type 0 where
   pub mems : (g : Group) (mems : Ids) → KeepsSerials s (with_mems s g mems)
   pub online : (online : Ids) → KeepsSerials s (with_online s online)
 
+-- no change of a tree gives a serial twice
 abbrev pub SerialsGivenOnce : Type 0
 SerialsGivenOnce = (s : TreeState) → ChangesKeepSerials s
 
--- a write of one group changes what that group requests, and no other entry
+-- a write of a group's CPUs changes what that group requests, and no other entry
 abbrev pub CpusWritten : Type 0
 CpusWritten = (s : TreeState) (g : Group) (cpus : Ids) (p : Group) → entry_of (with_cpus s g cpus) p ≡ option_map (requesting_cpus g cpus) (entry_of s p)
 
+-- a write of a group's memory nodes changes what that group requests, and no other entry
 abbrev pub MemsWritten : Type 0
 MemsWritten = (s : TreeState) (g : Group) (mems : Ids) (p : Group) → entry_of (with_mems s g mems) p ≡ option_map (requesting_mems g mems) (entry_of s p)
 
@@ -136,6 +145,7 @@ pub record MemsRequested (s : TreeState) (g : Group) (mems : Ids) : Type 0 where
   pub cpus : (p : Group) → requested_cpus (with_mems s g mems) p ≡ requested_cpus s p
   pub there : (p : Group) → has_group (with_mems s g mems) p ≡ has_group s p
 
+-- behind a write the group requests what was written, and what else is requested stays
 abbrev pub WritesRequest : Type 0
 WritesRequest = ((s : TreeState) (g : Group) (cpus : Ids) → CpusRequested s g cpus) × ((s : TreeState) (g : Group) (mems : Ids) → MemsRequested s g mems)
 
@@ -150,6 +160,7 @@ pub record GroupAdded (s new : TreeState) (parent : Group) (name : List ℕ) (g 
   pub cpus : (p : Group) → requested_cpus new p ≡ requested_cpus s p
   pub mems : (p : Group) → requested_mems new p ≡ requested_mems s p
 
+-- a new group requests nothing, and all others stay
 abbrev pub AddedLeaves : Type 0
 AddedLeaves = (s new : TreeState) (parent : Group) (name : List ℕ) (g : Group) → AddsGroup s parent name g new → GroupAdded s new parent name g
 
@@ -158,6 +169,7 @@ pub record GroupRemoved (s : TreeState) (g : Group) : Type 0 where
   pub gone : entry_of (without_group s g) g ≡ None
   pub others : (p : Group) → same_group g p ≡ false → entry_of (without_group s g) p ≡ entry_of s p
 
+-- a removed group is there no more, and all others stay
 abbrev pub RemovedLeaves : Type 0
 RemovedLeaves = (s : TreeState) (g : Group) → GroupRemoved s g
 
@@ -168,6 +180,7 @@ pub record IsChild (s : TreeState) (parent : Group) (name : List ℕ) (g : Group
   pub below : entry.parent ≡ Some parent
   pub named : entry.name ≡ name
 
+-- a child that is found by its name is a child of that group, and has that name
 abbrev pub FoundIsChild : Type 0
 FoundIsChild = (s : TreeState) (parent : Group) (name : List ℕ) (g : Group) → IsWellFormed s → child_of s parent name ≡ Some g → IsChild s parent name g
 
@@ -179,11 +192,14 @@ pub record StaysWellFormed (s : TreeState) : Type 0 where
   pub mems : (g : Group) (mems : Ids) → IsWellFormed (with_mems s g mems)
   pub online : (online : Ids) → IsWellFormed (with_online s online)
 
+-- each change of a tree leaves a tree
 abbrev pub ChangesStayWellFormed : Type 0
 ChangesStayWellFormed = (s : TreeState) → IsWellFormed s → StaysWellFormed s
 
+-- a tree of its root alone is one
 abbrev pub FirstIsWellFormed : Type 0
 FirstIsWellFormed = (online nodes : Ids) (first_serial : ℕ) (s : TreeState) → IsFirstTree online nodes first_serial s → IsWellFormed s
 
+-- in each tree what is in effect is the recursion up the path
 abbrev pub WellFormedRunsUp : Type 0
 WellFormedRunsUp = (s : TreeState) → IsWellFormed s → RunsUpThePath s

@@ -1,4 +1,5 @@
--- The groups of a cpuset tree as a plain value (cgroup v2, cpuset).
+-- The groups of a cpuset tree as a plain value.
+-- From: cgroup v2, cpuset.
 use Rattle.std.specs.Prelude.{ℕ, List, Option, refl}
 use Rattle.std.specs.Coded.{Coded, code_by, coded×, coded_ℕ, coded_list, coded_option}
 use Rattle.cpu_set.specs.Ids.{Ids, ids_code}

@@ -14,7 +14,8 @@ abbrev pub IsFalling : ℕ → List GroupEntry → Type 0
 IsFalling next [] = Unit {0}
 IsFalling next (e ∷ older) = (e.group.serial < next) × ParentIsAmong e.parent older × IsFalling e.group.serial older
 
--- no serial was given twice nor will be, each group but the root has its parent in the tree, and there is a root
+-- serials fall, so none was given twice nor will be. Each group but the root has its parent in the tree, which is older.
+-- There is a root.
 pub record IsWellFormed (s : TreeState) : Type 0 where
   pub falling : IsFalling s.next_serial s.groups
   pub rooted : is_some (root_among s.groups) ≡ true

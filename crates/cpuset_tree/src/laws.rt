@@ -7,7 +7,7 @@ ghost use Rattle.cpuset_tree.specs.TreeLaws.{ChangesStayWellFormed, FirstIsWellF
 
 use crate::SERIAL_LIMIT;
 
-/// What each change leaves of a tree.
+/// What each change leaves of a tree, whatever the call answers. No serial is given twice.
 pub fn changes()
     ensures cpus { CpusWritten }
     ensures mems { MemsWritten }

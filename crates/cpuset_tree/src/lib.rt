@@ -1,6 +1,11 @@
 //! The groups of a modelled kernel, each with the CPUs and memory nodes that it requests and those that it
 //! has in effect, as the kernel's cgroup-v2 page tells of `cpuset.cpus`, `cpuset.cpus.effective`,
 //! `cpuset.mems` and `cpuset.mems.effective`.
+//!
+//! # Proved
+//!
+//! - Effective sets are those of the recursion up the path, after any list of calls. The tree keeps them, so that a read
+//!   lends one at any depth; a write works out anew only those that it may change.
 #![tactic(auto)]
 
 mod fault;

@@ -25,6 +25,6 @@ is_allowed m cpus homes c = is_free m cpus c && nat_lt (weight m homes c) 255
 unfoldable pub allowed_by : Layout → Ids → Ids → Ids
 allowed_by m cpus homes = whole_in m (those (is_allowed m cpus homes) CPU_LIMIT)
 
--- those of a section
+-- the CPUs that a section allows
 abbrev pub allowed_of : Layout → Section → Ids
 allowed_of m s = allowed_by m (named s.cpus) (homes_of m s.mems)

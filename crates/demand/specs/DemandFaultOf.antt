@@ -1,4 +1,5 @@
 -- What is wrong with a CPU section on a machine: the checks in their order, of which the first that fails decides.
+-- From: the order is ours.
 use Rattle.std.specs.Prelude.{ℕ, ℤ, ◌*◌, Bool, not, ◌&&◌, ◌||◌, nat_lt, List, [], ◌∷◌, Option, Some, None, is_some, option_map}
 use Rattle.std.specs.FinSet as set
 use Rattle.faults.specs.First.{when, first_of}
@@ -58,7 +59,7 @@ is_pinned s = is_some (limit_of s.quota) || not (is_empty (named s.cpus))
 unfoldable pub allowed_fault : Layout → Section → Option DemandFault
 allowed_fault m s = when (is_pinned s && is_empty (allowed_of m s)) NothingAllowed
 
--- the first fault
+-- the first fault of a CPU section on a machine
 abbrev pub demand_fault : Layout → Section → Option DemandFault
 demand_fault m s = first_of (
     cpus_fault m s.cpus

@@ -21,7 +21,8 @@ abbrev pub AsksForCores : ℕ → Kind → Type 0
 AsksForCores threads (Pinned count) = (cores : ℕ) × (count ≡ cores * threads)
 AsksForCores threads Shared = Unit {0}
 
--- homes that exist; allowed CPUs that are present, not reserved and in reach of a home; of each core all CPUs are allowed, or none
+-- homes that exist; allowed CPUs that are present, not reserved and in reach of a home; all CPUs of a core are allowed, or
+-- none
 pub record FitsMachine (m : Layout) (d : Demand) : Type 0 where
   pub kind : FitsKind d.kind d.allowed
   pub cores : AsksForCores m.threads d.kind

@@ -20,7 +20,7 @@ IsKind threads (Some limit) period allowed s Shared = ⊥
 IsKind threads None period allowed s (Pinned count) = (is_pinned s ≡ true) × (count ≡ set.len allowed)
 IsKind threads None period allowed s Shared = is_pinned s ≡ false
 
--- the homes, the allowed CPUs, which are none of a shared container, and the count
+-- the homes, the allowed CPUs and the count; a shared container has no allowed CPUs
 pub record IsDemand (m : Layout) (s : Section) (d : Demand) : Type 0 where
   pub homes : d.homes ≡ homes_of m s.mems
   pub allowed : d.allowed ≡ (if is_pinned s then allowed_of m s else set.empty)

@@ -1,4 +1,5 @@
--- What `quota` and `period` mean where they are absent or out of the ordinary.
+-- What `quota` and `period` mean if they are absent or out of the ordinary.
+-- From: the kernel's cgroup-v2 page, `cpu.max`.
 use Rattle.std.specs.Prelude.{ℕ, zero, suc, ℤ, pos, negsuc, ◌*◌, ◌/◌, ◌≤◌, Option, Some, None}
 use Rattle.cpu_set.specs.declared.TheConstants.{CPU_LIMIT}
 use Rattle.demand.specs.AsksFor.{AsksFor}

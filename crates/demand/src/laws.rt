@@ -9,7 +9,7 @@ pub fn no_quota_asks_for_two_counts()
     ensures { IsOneCount }
 {}
 
-/// A period is 100,000 microseconds long where a config gives none or zero.
+/// A period is 100,000 microseconds long if a config gives none or zero.
 pub fn the_limits()
     ensures period { DEFAULT_PERIOD ≡ 100_000 }
 {}

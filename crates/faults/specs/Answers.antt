@@ -3,7 +3,7 @@ use Rattle.std.specs.Prelude.{◌≡◌, Option, Some, None, Result, Ok, Err}
 use Rattle.faults.specs.declared.or_memory.OrMemory.{OrMemory}
 use Rattle.faults.specs.declared.or_memory.OrMemory.TheVariants.{Memory, Fault}
 
--- this fault is answered, and a value where there is none, unless an allocation failed
+-- this fault is answered, or a value if there is none, unless an allocation failed
 abbrev pub Reports : {T F : Type 0} → Result T (OrMemory F) → Option F → Type 0
 Reports (Ok x) fault = fault ≡ None
 Reports (Err Memory) fault = Unit {0}
@@ -15,7 +15,8 @@ Gives (Ok x) expected = expected ≡ Ok x
 Gives (Err Memory) expected = Unit {0}
 Gives (Err (Fault e)) expected = expected ≡ Err e
 
--- the checks for this fault stand before the first allocation: where there is one, an allocation failure is no answer, nor is a value
+-- the checks for this fault come before the first allocation: if there is a fault, the answer is no allocation failure and no
+-- value
 abbrev pub ChecksFirst : {T F : Type 0} → Result T (OrMemory F) → Option F → Type 0
 ChecksFirst (Ok x) fault = fault ≡ None
 ChecksFirst (Err Memory) fault = fault ≡ None

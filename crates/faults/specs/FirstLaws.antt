@@ -3,7 +3,7 @@ use Rattle.std.proofs.Common.{◌≡◌, ℕ, zero, suc, ◌<◌, inl, inr, Opti
 use Rattle.std.proofs.lemmas.Bool.{cases_lt}
 use Rattle.faults.specs.First.{first_below}
 
--- where no number below n has a fault, there is none
+-- if no number below n has a fault, there is none
 abbrev pub NoneWhereNone : Type 0 → Type 0
 NoneWhereNone A = (n : ℕ) (f : ℕ → Option A) → ((k : ℕ) → k < n → f k ≡ None) → first_below n f ≡ None
 

@@ -1,4 +1,5 @@
 -- The members of a JSON object.
+-- From: that null counts as absent is ours.
 use Rattle.std.specs.Prelude.{ℕ, List, Option, Some, None, option_map, option_and_then}
 use Rattle.std.specs.Borrow.{Bor}
 use Rattle.serde_json.specs.Data.{Data, null, boolean, number, string, array, object}

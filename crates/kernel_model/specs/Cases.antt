@@ -1,4 +1,5 @@
 -- One case for each call of a kernel: what it answers, and what it changes.
+-- From: cgroup v2 for groups; ours for processes and counts.
 use Rattle.std.specs.Prelude.{◌≡◌, ℕ, Bool, true, false, cond, List, Option, None, Result, Ok, Err}
 use Rattle.std.specs.FinSet as set
 use Rattle.faults.specs.declared.or_memory.OrMemory.{OrMemory}
@@ -24,7 +25,7 @@ abbrev pub is_failed : KernelFault → Bool
 is_failed Failed = true
 is_failed fault = false
 
--- by how much the count of failures rises where a write answers this: by one where it failed
+-- by how much the count of failures rises: by one if the write failed, else by nothing
 abbrev pub rise : {A : Type 0} → Result A KernelFault → ℕ
 rise (Ok value) = 0
 rise (Err fault) = cond (is_failed fault) 1 0
@@ -61,6 +62,7 @@ pub record InTable (Does : TableState → Type 0) (old new : KernelState) : Type
 abbrev pub MakesGroupOf : KernelState → Group → List ℕ → Group → KernelState → Type 0
 MakesGroupOf old parent name g = InTree (AddsGroup old.tree parent name g) (counted old)
 
+-- a group is made
 abbrev pub MakesGroup : KernelState → Group → List ℕ → Result Group (OrMemory KernelFault) → KernelState → Type 0
 MakesGroup old parent name = GrowingWrites (make_refusal old parent name) (MakesGroupOf old parent name) old
 
@@ -68,10 +70,11 @@ MakesGroup old parent name = GrowingWrites (make_refusal old parent name) (Makes
 abbrev pub RemovesGroup : KernelState → Group → Result (Unit {0}) KernelFault → KernelState → Type 0
 RemovesGroup old g = Writes (remove_refusal old g) (λ _ new. new ≡ record (counted old) { tree = without_group old.tree g }) old
 
--- what a group requests is written
+-- what CPUs a group requests is written
 abbrev pub WritesCpus : KernelState → Group → Ids → Result (Unit {0}) KernelFault → KernelState → Type 0
 WritesCpus old g cpus = Writes (write_refusal old g) (λ _ new. new ≡ record (counted old) { tree = with_cpus old.tree g cpus }) old
 
+-- what memory nodes a group requests is written
 abbrev pub WritesMems : KernelState → Group → Ids → Result (Unit {0}) KernelFault → KernelState → Type 0
 WritesMems old g mems = Writes (write_refusal old g) (λ _ new. new ≡ record (counted old) { tree = with_mems old.tree g mems }) old
 
@@ -79,6 +82,7 @@ WritesMems old g mems = Writes (write_refusal old g) (λ _ new. new ≡ record (
 abbrev pub SpawnsIn : KernelState → Group → ℕ → KernelState → Type 0
 SpawnsIn old g pid = InTable (AddsProcess old.table g pid pid) (counted old)
 
+-- a first process is made, which belongs to itself
 abbrev pub Spawns : KernelState → Group → Result ℕ (OrMemory KernelFault) → KernelState → Type 0
 Spawns old g = GrowingWrites (spawn_refusal old g) (SpawnsIn old g) old
 
@@ -90,6 +94,7 @@ EndsGroup old g = Writes (end_refusal old g) (λ _ new. new ≡ record (counted 
 abbrev pub ForksIn : KernelState → ℕ → ℕ → KernelState → Type 0
 ForksIn old parent pid = InTable (ForksOf old.table parent pid) old
 
+-- a process forks; this is no write, and is not counted as one
 abbrev pub Forks : KernelState → ℕ → Result ℕ (OrMemory KernelFault) → KernelState → Type 0
 Forks old parent = Grows (fork_refusal old parent) (ForksIn old parent) old
 

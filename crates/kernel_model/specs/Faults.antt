@@ -8,7 +8,7 @@ use Rattle.proctable.specs.declared.ProcFault.TheVariants as proc
 use Rattle.kernel_model.specs.declared.fault.KernelFault.{KernelFault}
 use Rattle.kernel_model.specs.declared.fault.KernelFault.TheVariants.{NoGroup, Exists, HasChildren, IsRoot, NoSerials, NoPids, NoProcess}
 
--- a refusal of the tree
+-- the kernel's refusal that stands for one of the tree
 abbrev pub of_tree : TreeFault → KernelFault
 of_tree tree.NoGroup = NoGroup
 of_tree tree.Exists = Exists
@@ -20,7 +20,7 @@ abbrev pub of_tree_error : OrMemory TreeFault → OrMemory KernelFault
 of_tree_error Memory = Memory
 of_tree_error (Fault fault) = Fault (of_tree fault)
 
--- a refusal of the table
+-- the kernel's refusal that stands for one of the table
 abbrev pub of_proc : ProcFault → KernelFault
 of_proc proc.NoPids = NoPids
 of_proc proc.NoProcess = NoProcess

@@ -1,4 +1,4 @@
--- A kernel as a plain value: what each call of the trait `Kernel` answers and changes is said of it.
+-- A kernel as a plain value: what each call of the trait `Kernel` answers and changes.
 use Rattle.std.specs.Prelude.{◌≡◌, ℕ, ◌+◌, refl}
 use Rattle.std.specs.Coded.{Coded, code_by, coded×, coded_ℕ}
 use Rattle.cpu_set.specs.Ids.{Ids, ids_code}
@@ -36,7 +36,7 @@ counted k = record k { writes = k.writes + 1 }
 abbrev pub failed : KernelState → KernelState
 failed k = record k { failures = k.failures + 1; writes = k.writes + 1 }
 
--- a kernel of the root group alone, of serial 0, with no process, where no write was made
+-- a kernel on which no write was made: the root group alone, of serial 0, and no process
 pub record IsFirstKernel (present reserved online nodes : Ids) (first_pid : ℕ) (k : KernelState) : Type 0 where
   pub first_tree : IsFirstTree online nodes 0 k.tree
   pub first_table : k.table ≡ table_at first_pid

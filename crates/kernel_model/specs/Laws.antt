@@ -64,8 +64,8 @@ pub record WritesKeepTree : Type 0 where
   pub spawn : (old new : KernelState) (g : Group) (r : Result ℕ (OrMemory KernelFault)) → Spawns old g r new → new.tree ≡ old.tree
   pub end : (old new : KernelState) (g : Group) (r : Result (Unit {0}) KernelFault) → EndsGroup old g r new → new.tree ≡ old.tree
 
--- what a write of a group's CPUs leaves, whatever it answers: they are what the group requests where it is Ok, the tree is
--- as it was where it is not, and all other groups, all memory nodes and the places of all groups are as they were
+-- what a write of a group's CPUs leaves, whatever it answers. If it is Ok the group requests them, else the tree is as it
+-- was. All other groups, all memory nodes and all places stay.
 pub record CpusWriteLeaves (old : KernelState) (g : Group) (cpus : Ids) (r : Result (Unit {0}) KernelFault) (new : KernelState) : Type 0 where
   pub own : IfOk r (λ _. requested_cpus new.tree g ≡ cpus)
   pub refused : OnErr r (new.tree ≡ old.tree)
@@ -96,6 +96,7 @@ pub record RemoveLeaves (old : KernelState) (g : Group) (r : Result (Unit {0}) K
   pub refused : OnErr r (new.tree ≡ old.tree)
   pub apart : (p : Group) → same_group g p ≡ false → entry_of new.tree p ≡ entry_of old.tree p
 
+-- what each write of groups leaves of the groups, whatever it answers
 pub record WritesLeaveGroups : Type 0 where
   pub make : (old new : KernelState) (parent : Group) (name : List ℕ) (r : Result Group (OrMemory KernelFault)) → MakesGroup old parent name r new
       → MakeLeaves old parent name r new
@@ -118,7 +119,7 @@ pub record ForkLeaves (old : KernelState) (parent : ℕ) (r : Result ℕ (OrMemo
   pub made : IfOk r (ForkAdds old new parent)
   pub refused : OnErr r (new.table ≡ old.table)
 
--- the processes of a group are the only ones that end with it, and then it has none
+-- only the processes of a group end with it, and then it has none
 pub record EndLeaves (old : KernelState) (g : Group) (r : Result (Unit {0}) KernelFault) (new : KernelState) : Type 0 where
   pub ended : IfOk r (λ _. SomeEnd old.table new.table (λ p. same_group p.group g))
   pub empty : IfOk r (λ _. count_in new.table g ≡ 0)
@@ -129,13 +130,14 @@ pub record ExitLeaves (old : KernelState) (pid : ℕ) (r : Result (Unit {0}) Ker
   pub ended : IfOk r (λ _. SomeEnd old.table new.table (ends_with pid))
   pub refused : OnErr r (new.table ≡ old.table)
 
+-- what each call on processes leaves of them, whatever it answers
 pub record CallsLeaveProcesses : Type 0 where
   pub spawn : (old new : KernelState) (g : Group) (r : Result ℕ (OrMemory KernelFault)) → Spawns old g r new → SpawnLeaves old g r new
   pub end : (old new : KernelState) (g : Group) (r : Result (Unit {0}) KernelFault) → IsWellFormed old → EndsGroup old g r new → EndLeaves old g r new
   pub fork : (old new : KernelState) (parent : ℕ) (r : Result ℕ (OrMemory KernelFault)) → Forks old parent r new → ForkLeaves old parent r new
   pub exit : (old new : KernelState) (pid : ℕ) (r : Result (Unit {0}) KernelFault) → IsWellFormed old → Exits old pid r new → ExitLeaves old pid r new
 
--- a write that fails is counted, and no other
+-- a write that fails is counted as a failure, and no other
 pub record WritesCount : Type 0 where
   pub make : (old new : KernelState) (parent : Group) (name : List ℕ) (r : Result Group (OrMemory KernelFault)) → MakesGroup old parent name r new
       → new.failures ≡ old.failures + rise_or_memory r
@@ -145,7 +147,7 @@ pub record WritesCount : Type 0 where
   pub spawn : (old new : KernelState) (g : Group) (r : Result ℕ (OrMemory KernelFault)) → Spawns old g r new → new.failures ≡ old.failures + rise_or_memory r
   pub end : (old new : KernelState) (g : Group) (r : Result (Unit {0}) KernelFault) → EndsGroup old g r new → new.failures ≡ old.failures + rise r
 
--- each write is counted, whatever it answers
+-- each write is counted as a write, whatever it answers
 pub record CountsEachWrite : Type 0 where
   pub make : (old new : KernelState) (parent : Group) (name : List ℕ) (r : Result Group (OrMemory KernelFault)) → MakesGroup old parent name r new
       → new.writes ≡ old.writes + 1
@@ -169,6 +171,7 @@ pub record NothingAgainst (k : KernelState) : Type 0 where
   pub offline : (cpu : ℕ) → (offline_refusal k cpu ≡ None) ↔ ((set.contains k.present cpu ≡ true) × (set.contains k.reserved cpu ≡ false))
   pub online : (cpu : ℕ) → (online_refusal k cpu ≡ None) ↔ (set.contains k.present cpu ≡ true)
 
+-- in each kernel it is known when nothing stands against a call
 abbrev pub CallsAreFree : Type 0
 CallsAreFree = (k : KernelState) → NothingAgainst k
 
@@ -218,6 +221,7 @@ abbrev pub OnlineCause : KernelState → ℕ → KernelFault → Type 0
 OnlineCause k cpu NoCpu = set.contains k.present cpu ≡ false
 OnlineCause k cpu fault = ⊥
 
+-- each refusal of a call has its cause, and no call is refused for anything else
 pub record HasCauses (k : KernelState) : Type 0 where
   pub make : (parent : Group) (name : List ℕ) (fault : KernelFault) → make_refusal k parent name ≡ Some fault → MakeCause k parent name fault
   pub remove : (g : Group) (fault : KernelFault) → remove_refusal k g ≡ Some fault → RemoveCause k g fault
@@ -229,6 +233,7 @@ pub record HasCauses (k : KernelState) : Type 0 where
   pub offline : (cpu : ℕ) (fault : KernelFault) → offline_refusal k cpu ≡ Some fault → OfflineCause k cpu fault
   pub online : (cpu : ℕ) (fault : KernelFault) → online_refusal k cpu ≡ Some fault → OnlineCause k cpu fault
 
+-- in each kernel each refusal has its cause
 abbrev pub RefusalsHaveCauses : Type 0
 RefusalsHaveCauses = (k : KernelState) → HasCauses k
 
@@ -252,21 +257,24 @@ pub record CasesKeep (old new : KernelState) : Type 0 where
   pub offline : (cpu : ℕ) (r : Result (Unit {0}) KernelFault) → GoesOffline old cpu r new → StepKeeps old new
   pub online : (cpu : ℕ) (r : Result (Unit {0}) KernelFault) → ComesOnline old cpu r new → StepKeeps old new
 
+-- each case leaves a kernel, and the machine's part of it, and gives no pid and no serial twice
 abbrev pub EachCaseKeeps : Type 0
 EachCaseKeeps = (old new : KernelState) → IsWellFormed old → CasesKeep old new
 
+-- each call leaves a kernel, and the machine's part of it, and gives no pid and no serial twice
 abbrev pub StepsKeep : Type 0
 StepsKeep = (old new : KernelState) (call : Call) (r : Result Reply (OrMemory KernelFault)) → IsWellFormed old → Step old call r new → StepKeeps old new
 
--- and so does each list of calls
+-- each list of calls leaves a kernel, and the machine's part of it, and gives no pid and no serial twice
 abbrev pub RunsKeep : Type 0
 RunsKeep = (old new : KernelState) (calls : List Call) (replies : List (Result Reply (OrMemory KernelFault))) → IsWellFormed old → Run old calls replies new
     → StepKeeps old new
 
--- a group that is not there has no process, and so a new one has none
+-- a group that is not there has no process; so a new one has none
 abbrev pub EmptyWhereNoGroup : Type 0
 EmptyWhereNoGroup = (k : KernelState) (g : Group) → IsWellFormed k → has_group k.tree g ≡ false → count_in k.table g ≡ 0
 
+-- a kernel on which nothing was done is one, if some CPUs are reserved, these are online, and online ones are present
 abbrev pub FirstIsWellFormed : Type 0
 FirstIsWellFormed =
     (present reserved online nodes : Ids) (first_pid : ℕ) (k : KernelState) → reserved ≢ set.empty → set.is_subset reserved online ≡ true

@@ -150,7 +150,7 @@ pub trait Kernel {
         ensures { ComesOnline (state self.old) cpu result (state self.new) };
 }
 
-/// The CPUs that a group requests, where the caller knows that it is in the tree.
+/// The CPUs that a group requests, if the caller knows that it is in the tree.
 pub fn requested<K: Kernel>(kernel: &K, group: Group) -> &IdSet
     requires { has_group (K.state kernel.now).tree group ≡ true }
     ensures { result.now ≡ requested_cpus (K.state kernel.now).tree group }

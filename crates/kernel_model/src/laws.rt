@@ -19,13 +19,14 @@ pub fn cases()
     ensures each { CountsEachWrite }
 {}
 
-/// When a call is not refused, and why it is where it is.
+/// When nothing stands against a call, and what does if it is refused.
 pub fn refusals()
     ensures free { CallsAreFree }
     ensures causes { RefusalsHaveCauses }
 {}
 
-/// What each call and each list of calls keeps.
+/// What each call and each list of calls keeps. No pid and no serial is given twice, and every process is in a group that
+/// is there.
 pub fn runs()
     ensures first { FirstIsWellFormed }
     ensures empty { EmptyWhereNoGroup }

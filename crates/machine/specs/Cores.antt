@@ -8,7 +8,7 @@ use Rattle.machine.specs.Layout.{Layout}
 use Rattle.machine.specs.Nodes.{IsOfNode}
 use Rattle.machine.specs.Present.{present, IsPresent}
 
--- the lowest CPU of the core that has this CPU; a number of no core stands for itself
+-- the core of a CPU, by its lowest CPU; a number of no core stands for itself
 abbrev pub core_of : Layout → ℕ → ℕ
 core_of m cpu = slice_index_or m.lowest cpu cpu
 
@@ -32,13 +32,13 @@ cpus_of_cores m cores = those (λ cpu. set.contains cores (core_of m cpu)) CPU_L
 unfoldable pub whole_in : Layout → Ids → Ids
 whole_in m cpus = set.retain cpus (λ cpu. set.is_subset (cpus_of_core m (core_of m cpu)) cpus)
 
--- Whole: of each core a set has all CPUs or none.
+-- whole: of each core a set has all CPUs or none
 abbrev pub IsWhole : Layout → Ids → Type 0
 IsWhole m cpus =
     (a b : ℕ) → IsPresent m a → IsPresent m b → core_of m a ≡ core_of m b → set.contains cpus a ≡ set.contains cpus b
 
--- What holds of the cores of each machine: each is within a node and has as many CPUs as each other; all CPUs of it are reserved, or none; and a
--- number that is no CPU of the machine is of none.
+-- what holds of the cores of each machine: each is within a node, and each has as many CPUs as each other. All CPUs of a core
+-- are reserved, or none. A number that is no CPU of the machine is of no core.
 pub record AreCores (m : Layout) : Type 0 where
   pub room : length m.lowest ≡ CPU_LIMIT
   pub lowest : (cpu : ℕ) → core_of m cpu ≤ cpu

@@ -1,4 +1,5 @@
 -- The cores that a machine file lists, and what may be wrong with them.
+-- From: the order is ours.
 use Rattle.std.specs.Prelude.{ℕ, not, ◌&&◌, ◌||◌, ◌==◌, Bool, cond, List, [], ◌∷◌, length, take, map, fold, slice_index_or, Option, Some, None, option_map, unwrap_or}
 use Rattle.std.specs.List.{list_all, list_any}
 use Rattle.std.specs.FinSet as set
@@ -23,7 +24,7 @@ least_of core = unwrap_or (least_that (set.contains core)) 0
 unfoldable pub lowest_in : List Ids → ℕ → ℕ
 lowest_in cores cpu = fold (λ lowest core. cond (set.contains core cpu) (least_of core) lowest) cpu cores
 
--- that of each CPU number
+-- the lowest CPU of each CPU's core, as a list of cores says
 abbrev pub lowest_of : List Ids → List ℕ
 lowest_of cores = map (lowest_in cores) cpus
 
@@ -38,7 +39,8 @@ is_within reserved size left core =
     (set.len core == size)
     && (set.is_subset core (set.difference left reserved) || set.is_subset core (set.intersection left reserved))
 
--- these may be the CPUs of a core: one at least, as many as core 0 has, left by the earlier cores, all of them reserved or none, and of one node
+-- these may be the CPUs of a core: one at least, and as many as core 0 has. Earlier cores left them. All of them are reserved
+-- or none, and they are of one node.
 abbrev pub is_core : List Ids → Ids → ℕ → Ids → Ids → Bool
 is_core nodes reserved size left core =
     not (is_empty core) && is_within reserved size left core && list_any (λ node. set.is_subset core node) nodes
@@ -66,7 +68,7 @@ left_fault nodes cores =
 abbrev pub lists_fault : List Data → Option MachineFault
 lists_fault items = when (not (list_all is_list items)) (BadField Cores)
 
--- the first fault of the cores; where there is no such member, there is none
+-- the first thing that is wrong with listed cores; if there is no such member, there is none
 unfoldable pub cores_fault : List Ids → Ids → Option Data → Option MachineFault
 cores_fault nodes reserved None = None
 cores_fault nodes reserved (Some d) = first_of (

@@ -40,7 +40,8 @@ pub record HasCores (cpus : Ids) (d : Data) : Type 0 where
   pub lists : list_all is_list (items_of d) ≡ true
   pub shared_out : AreSharedOut cpus (map listed (items_of d))
 
--- The value has the members of a machine file.
+-- the value has the members of a machine file, each of its kind; no CPU is offline that is not present; if cores are listed,
+-- all CPUs are shared out between them
 pub record HasMembers (slit : Option Table) (d : Data) : Type 0 where
   pub object : is_some (as_object d) ≡ true
   pub nodes : is_some (option_and_then as_array (nodes_member d)) ≡ true

@@ -7,7 +7,8 @@ use Rattle.machine.specs.Distances.{AreEntries}
 use Rattle.machine.specs.Layout.{Layout, node_count}
 use Rattle.machine.specs.Present.{present}
 
--- What holds of each machine: no CPU is in two nodes, and the reserved CPUs, of which there is one at least, are online at boot.
+-- What holds of each machine that is read: 1 to 128 nodes, no CPU in two, allowed distances, and cores (`AreCores`). Some
+-- CPUs are reserved, and these are online at boot. Online CPUs are present.
 pub record IsSound (m : Layout) : Type 0 where
   pub some : 1 ≤ node_count m
   pub few : node_count m ≤ NODE_LIMIT

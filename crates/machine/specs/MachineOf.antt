@@ -1,4 +1,5 @@
 -- The machine that a text describes, with or without a SLIT beside it, or the first thing that is wrong with it.
+-- From: the order is ours.
 use Rattle.std.specs.Prelude.{ℕ, not, cond, nat_lt, List, [], ◌∷◌, length, map, Option, Some, None, is_some, Result, Err}
 use Rattle.std.specs.FinSet as set
 use Rattle.faults.specs.First.{when, first_of, unless}

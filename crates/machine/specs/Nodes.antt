@@ -8,7 +8,7 @@ use Rattle.machine.specs.Layout.{Layout, node_count, cpus_of}
 abbrev pub nodes_of : Layout → Ids
 nodes_of m = those (λ _. true) (node_count m)
 
--- Node i has the CPU.
+-- node i has the CPU
 pub record IsOfNode (m : Layout) (cpu i : ℕ) : Type 0 where
   pub is_node : i < node_count m
   pub has_cpu : set.contains (cpus_of m i) cpu ≡ true

@@ -7,7 +7,7 @@ use Rattle.machine.specs.Layout.{Layout, node_count, distance}
 use Rattle.machine.specs.Nodes.{IsOfNode, node_of}
 use Rattle.machine.specs.Present.{IsPresent}
 
--- Nodes of the machine, at least one.
+-- nodes of the machine, at least one
 pub record AreHomes (m : Layout) (homes : Ids) : Type 0 where
   pub some : homes ≢ set.empty
   pub nodes : (h : ℕ) → set.contains homes h ≡ true → h < node_count m
@@ -21,7 +21,7 @@ pub record IsLeast (m : Layout) (homes : Ids) (i w : ℕ) : Type 0 where
 abbrev pub IsWeight : Layout → Ids → ℕ → ℕ → Type 0
 IsWeight m homes cpu w = (i : ℕ) × IsOfNode m cpu i × IsLeast m homes i w
 
--- the same weight, computed: the least of the distances from the CPU's node to the homes
+-- the weight of a CPU, computed: the least of the distances from its node to the homes
 unfoldable pub weight : Layout → Ids → ℕ → ℕ
 weight m homes cpu = fold min 255 (map (distance m (node_of m cpu)) (members homes))
 
@@ -29,7 +29,7 @@ weight m homes cpu = fold min 255 (map (distance m (node_of m cpu)) (members hom
 abbrev pub HaveOneWeight : Layout → Ids → Type 0
 HaveOneWeight m cpus = (homes : Ids) (a b : ℕ) → set.contains cpus a ≡ true → set.contains cpus b ≡ true → weight m homes a ≡ weight m homes b
 
--- at each node its weight, which is that of its CPUs; behind the nodes the greatest distance
+-- a list of weights: at each node that of its CPUs, and behind the nodes the greatest distance
 pub record AreWeights (m : Layout) (homes : Ids) (weights : List ℕ) : Type 0 where
   pub room : length weights ≡ NODE_LIMIT
   pub least : (i : ℕ) → i < node_count m → IsLeast m homes i (slice_index_or weights i 255)

@@ -32,7 +32,7 @@ CoresAreWhole = (m : Layout) (cores : Ids) → InRange (present m) → IsWhole m
 abbrev pub CoresStayApart : Type 0
 CoresStayApart = (m : Layout) (cores others : Ids) → IsDisjoint cores others → IsDisjoint (cpus_of_cores m cores) (cpus_of_cores m others)
 
--- each is the lowest CPU of a core
+-- each number is the lowest CPU of a core
 abbrev pub AreLowest : Layout → Ids → Type 0
 AreLowest m cores = (c : ℕ) → set.contains cores c ≡ true → IsPresent m c × (core_of m c ≡ c)
 

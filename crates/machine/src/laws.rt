@@ -7,15 +7,15 @@ ghost use Rattle.machine.specs.SoundIsRead.{SoundIsRead};
 
 use crate::{MAX_BYTES, NODE_LIMIT};
 
-/// The law that no machine is refused without a cause: a text that has the members of a machine file,
-/// each of its kind and no CPU offline that is not present, and says a machine that is sound, describes
-/// that machine.
+/// No machine is refused without a cause. Take a text whose members are there, each of its kind, and in which no CPU is
+/// offline that is not present. If it lists cores, the present CPUs are shared out between them. If it says a sound
+/// machine, it is read as that machine.
 pub fn sound_machines_are_read()
     ensures { SoundIsRead }
 {}
 
-/// What is whole in a set of CPUs is within the set, is all of it where it is whole, and is the CPUs of the cores of which the
-/// set has all; the CPUs of cores are whole, and those of cores that share none share none.
+/// What is whole in a set is within it, and all of it if the set is whole. It is the CPUs of the cores of which the set has
+/// all. The CPUs of cores are whole. Cores that share none have CPUs that share none.
 pub fn whole_laws()
     ensures within { WholeIsWithin }
     ensures all { WholeIsAll }
@@ -24,8 +24,8 @@ pub fn whole_laws()
     ensures apart { CoresStayApart }
 {}
 
-/// The cores in a set are CPUs of the set, each the lowest of its core; a set within another has no core that the other has not;
-/// cores are in the CPUs of those cores alone, and the CPUs of cores that are in a set are in the set.
+/// The cores in a set are named by their lowest CPUs, which the set has. A larger set has no fewer cores. Cores and their
+/// CPUs stand for one another.
 pub fn core_laws()
     ensures within { CoresAreWithin }
     ensures lowest { CoresAreLowest }
@@ -34,8 +34,8 @@ pub fn core_laws()
     ensures filled { CoresFillWithin }
 {}
 
-/// n cores have n times as many CPUs as one, and so has what is whole in a set; and what is the same of all CPUs of a core, as
-/// their distance to a container's homes is, sums up to so many times that of the cores.
+/// n cores have n × `threads` CPUs, and so has what is whole in a set. If f is the same for all CPUs of a core (their
+/// weight is), its sum over the CPUs is `threads` times that over the cores.
 pub fn core_counts()
     ensures cores { CoresAreAlike }
     ensures whole { WholeIsCounted }
@@ -43,7 +43,7 @@ pub fn core_counts()
     ensures near { CoresAreNear }
 {}
 
-/// Where a core has one CPU, each set is whole, and is the set of its cores and of their CPUs.
+/// With one CPU to a core each set is whole, and is the set of its cores and of their CPUs.
 pub fn single_cores()
     ensures whole { AllAreWhole }
     ensures cores { CpusAreCores }

@@ -103,8 +103,12 @@ impl Machine {
         json: &[u8],
         slit: Option<&Slit>,
     ) -> Result<Machine, OrMemory<MachineFault>>
+        // The machine that the text describes, with or without a SLIT beside it. Else the first fault in the written order.
         ensures machine { Gives result (machine_of (option_map (λ s. s.now) slit.entry) json.now) }
+        // Every machine that it returns is sound. No CPU is in two nodes. Each core is within a node and has `threads`
+        // CPUs, all of them reserved or none. A machine without `cores` has cores of one CPU, by the same definitions.
         ensures sound { IfOk result IsSound }
+        // If there are too many bytes or none, or they are not UTF-8, it makes no allocation.
         ensures memory { ChecksFirst result (text_fault json.now) }
     {
         if json.len() > MAX_BYTES {
@@ -208,6 +212,7 @@ impl Machine {
         requires { node < node_count self.now }
         ensures is { result ≡ cpus_of self.now node }
         ensures alike { HaveOneWeight self.now result }
+        // These are the present CPUs whose node it is.
         ensures members { (c : ℕ) → set.contains result c ≡ (set.contains (present self.now) c && (node_of self.now c == node)) }
     {
         self.cpus_at(node)
@@ -241,8 +246,8 @@ impl Machine {
         self.threads == 1
     }
 
-    /// The cores of which the set has all CPUs, each by its lowest CPU; the set itself where each CPU is a core of its own. O(c)
-    /// of c CPUs in the set.
+    /// The cores of which the set has all CPUs, each by its lowest CPU. It is the set itself if each CPU is a core of its
+    /// own. O(c) of c CPUs in the set.
     pub fn cores_in(&self, cpus: &IdSet) -> IdSet
         ensures is { result ≡ cores_in self.now cpus.now }
         ensures sound { IsSound self.now }
@@ -298,7 +303,7 @@ impl Machine {
         self.siblings[cpu as usize]
     }
 
-    /// The CPUs of the cores with these lowest CPUs; the set itself where each CPU is a core of its own. O(c) of c CPUs.
+    /// The CPUs of the cores with these lowest CPUs. It is the set itself if each CPU is a core of its own. O(c) of c CPUs.
     pub fn cpus_of_cores(&self, cores: &IdSet) -> IdSet
         ensures is { result ≡ cpus_of_cores self.now cores.now }
         ensures sound { IsSound self.now }
@@ -331,10 +336,11 @@ impl Machine {
         }
     }
 
-    /// The CPUs of those cores of which the set has all CPUs; the set itself where each CPU is a core of its own. O(c) of c CPUs
-    /// in the set.
+    /// The CPUs of those cores of which the set has all CPUs. It is the set itself if each CPU is a core of its own. O(c)
+    /// of c CPUs in the set.
     pub fn whole_in(&self, cpus: IdSet) -> IdSet
         ensures is { result ≡ whole_in self.now cpus }
+        // What it returns is whole.
         ensures whole { IsWhole self.now result }
         ensures sound { IsSound self.now }
     {
@@ -374,8 +380,8 @@ impl Machine {
         self.distances[i * count + j]
     }
 
-    /// The weight of the CPU for a container with these home nodes: the least of the distances from the
-    /// CPU's node to a home, [`UNREACHABLE`] where there is no way to any of them. O(n) of n nodes.
+    /// The weight of the CPU for a container with these home nodes: the least of the distances from the CPU's node to a
+    /// home. It is [`UNREACHABLE`] if there is no way to any of them. O(n) of n nodes.
     #[tactic(auto, unfolding(crate::proofs::WeightLaws::least_below))]
     pub fn weight(&self, homes: &IdSet, cpu: u16) -> u8
         requires present { IsPresent self.now cpu }
@@ -450,6 +456,7 @@ impl Machine {
     /// O(n * h) of n nodes and h homes, and O(n) where each node is a home.
     pub fn in_reach(&self, homes: &IdSet) -> IdSet
         requires { AreHomes self.now homes.now }
+        // These weigh less than 255.
         ensures { (c : ℕ) → set.contains result c ≡ (set.contains (present self.now) c && nat_lt (weight self.now homes.now c) 255) }
     {
         let weights = self.weights(homes);

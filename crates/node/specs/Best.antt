@@ -17,7 +17,7 @@ use Rattle.node.specs.Owners.{is_pinned}
 use Rattle.node.specs.Status.{is_live}
 use Rattle.node.specs.Rows.{requested_by}
 
--- exactly so many CPUs, all allowed and online, and of each core all or none
+-- exactly as many CPUs as are asked for, all allowed and online, and of each core all or none
 pub record AreOwn (k : KernelState) (m : Layout) (d : Demand) (count : ℕ) (cpus : Ids) : Type 0 where
   pub size : set.len cpus ≡ count
   pub each : (cpu : ℕ) → set.contains cpus cpu ≡ true → (set.contains d.allowed cpu ≡ true) × (set.contains k.tree.online cpu ≡ true)
@@ -27,6 +27,7 @@ pub record AreOwn (k : KernelState) (m : Layout) (d : Demand) (count : ℕ) (cpu
 abbrev pub is_asking : KernelState → List ℕ × ContainerState → Bool
 is_asking k e = is_live k e.1 && is_pinned e.1.demand.kind
 
+-- the live pinned containers, in the order of creation
 abbrev pub asking : NodeState → List (List ℕ × ContainerState)
 asking n = filter (is_asking n.kernel) n.containers
 
@@ -35,8 +36,8 @@ abbrev pub wanted_by : Kind → ℕ
 wanted_by (Pinned count) = count
 wanted_by Shared = 0
 
--- sets that the live pinned containers could have: for each exactly as many CPUs as it asks for, of whole cores, all allowed and
--- none shared
+-- sets that the live pinned containers could have. Each has exactly as many CPUs as the container asks for, of whole cores,
+-- all allowed and none shared.
 pub record CouldHave (n : NodeState) (sets : List Ids) : Type 0 where
   pub numbers : AllByRecursion InRange sets
   pub own : AllZip (λ e cpus. AreOwn n.kernel n.machine e.1.demand (wanted_by e.1.demand.kind) cpus) (asking n) sets
@@ -46,17 +47,19 @@ pub record CouldHave (n : NodeState) (sets : List Ids) : Type 0 where
 abbrev pub distance : Layout → List ℕ × ContainerState → Ids → ℕ
 distance m e cpus = sum_by (λ cpu. weight m e.1.demand.homes cpu) (members cpus)
 
+-- how far such sets are from the nearest homes, all together
 abbrev pub total_distance : NodeState → List Ids → ℕ
 total_distance n sets = sum_by (λ p. distance n.machine p.0 p.1) (zip (asking n) sets)
 
--- how many of the cores of these CPUs the container's group does not request as a whole yet; and how many move in all
+-- how many cores of a set the container's group does not request as a whole
 abbrev pub moved_by : KernelState → Layout → List ℕ × ContainerState → Ids → ℕ
 moved_by k m e cpus = set.len (set.difference (cores_in m cpus) (cores_in m (requested_by k e)))
 
+-- how many cores of such sets move in all, over the live pinned containers
 abbrev pub moved : NodeState → List Ids → ℕ
 moved n sets = sum_by (λ p. moved_by n.kernel n.machine p.0 p.1) (zip (asking n) sets)
 
--- sets that the containers could have, at this distance; none are nearer, and of those that are as near none move fewer cores
+-- sets that they could have, at this distance; none are nearer, and none that are as near move fewer cores
 pub record IsBest (n : NodeState) (total : ℕ) (sets : List Ids) : Type 0 where
   pub could : CouldHave n sets
   pub far : total ≡ total_distance n sets

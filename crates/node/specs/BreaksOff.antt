@@ -1,4 +1,4 @@
--- What a rebalance leaves of which a write failed.
+-- What a rebalance leaves if a write failed.
 use Rattle.std.specs.Prelude.{◌≡◌, ◌+◌, ℕ, List, None, Result, Err, map}
 use Rattle.cpu_set.specs.Ids.{Ids}
 use Rattle.certificate.specs.IsLeast.{IsLeast}
@@ -17,9 +17,9 @@ use Rattle.node.specs.Best.{IsBest}
 use Rattle.node.specs.Entries.{opened}
 use Rattle.node.specs.Tells.{IsTold}
 
--- the plan was the best, and the certificate tells it; what each container of the hand-over requests is what it did before, or
--- what it keeps of that, or what the plan gives it; nothing else changed in the kernel but its counts; what is requested is safe;
--- and no hand-over is open
+-- what a rebalance leaves if a write failed. The plan was the best, and the certificate tells it. Each container of the
+-- hand-over requests what it did before, what it keeps of that, or what the plan gives it. Nothing else changed in the kernel
+-- but its counts. What is requested is safe, and no hand-over is open.
 pub record IsBrokenOff (old : NodeState) (new : NodeState) : Type 0 where
   pub sets : List Ids
   pub total : ℕ
@@ -33,7 +33,7 @@ pub record IsBrokenOff (old : NodeState) (new : NodeState) : Type 0 where
   pub ongoing : new.ongoing ≡ None
   pub same : new.containers ≡ old.containers
 
--- that, where the kernel refused a write of the rebalance
+-- a rebalance leaves that if the kernel refused a write
 abbrev pub BreaksOff : NodeState → Result Outcome (OrMemory NodeFault) → NodeState → Type 0
 BreaksOff old (Err (Fault (Kernel fault))) new = IsBrokenOff old new
 BreaksOff old answer new = Unit {0}

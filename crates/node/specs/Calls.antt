@@ -1,4 +1,5 @@
 -- The calls of a node, each a relation by cases on what it answers.
+-- From: OCI Runtime Specification 1.0.2, runtime.md, Operations.
 use Rattle.std.specs.Prelude.{◌≡◌, ◌⊎◌, ◌++◌, ◌||◌, ◌&&◌, ℕ, Bool, true, false, not, List, [], ◌∷◌, Some, None, Result, Ok, Err, codes}
 use Rattle.std.specs.Map.{set_value, remove_entry}
 use Rattle.std.specs.Str.{bytes_eq}
@@ -32,6 +33,7 @@ Opens old machine n =
     (root : Group) × (root_of old.tree ≡ Some root) × FindsOrMakes old root (codes "numarun") (Ok n.parent) n.kernel
     × (n ≡ record { kernel = n.kernel; machine = machine; parent = n.parent; containers = []; pool = machine.reserved; phase = Settled; ongoing = None; last = None })
 
+-- no node over a kernel: finding or making its group was refused
 abbrev pub OpensNot : KernelState → OrMemory KernelFault → KernelState → Type 0
 OpensNot old error new = (root : Group) × (root_of old.tree ≡ Some root) × FindsOrMakes old root (codes "numarun") (Err error) new
 

@@ -26,16 +26,16 @@ abbrev pub IsMore : Event → Type 0
 IsMore (StepOn answer) = answer ≡ Ok More
 IsMore event = Unit {0}
 
--- the hand-over is still open; each step made one write less to come, and nothing one more; at first at most two for each
--- container were to come; and where these steps and one more are two for each container, the next one ends it
+-- the hand-over is still open. Each step made one write less to come, and nothing one more. At first at most two for each
+-- container were to come. If these steps and one more are two for each container, the next one ends it.
 pub record GoesOn (o : Ongoing) (old : NodeState) (events : List Event) (new : NodeState) : Type 0 where
   pub still : new.ongoing ≡ Some o
   pub falls : steps_in events + writes_to_come o.targets new.kernel ≤ writes_to_come o.targets old.kernel
   pub few : writes_to_come o.targets old.kernel ≤ 2 * length o.targets.entries
   pub ends : 2 * length o.targets.entries ≤ steps_in events + 1 → (r : Result Progress NodeFault) (after : NodeState) → StepsOn new r after → after.ongoing ≡ None
 
--- so a hand-over ends within two steps for each container, whatever calls and events fall between them, and one of no
--- container with its first step
+-- a hand-over ends within two steps for each container, whatever calls and events fall between them; one of no container ends
+-- with its first step
 abbrev pub HandoversEnd : Type 0
 HandoversEnd =
     (old : NodeState) (o : Ongoing) (events : List Event) (new : NodeState) → IsNode old → old.ongoing ≡ Some o → Run old events new

@@ -17,8 +17,8 @@ pool_of online sets = fold set.difference online sets
 abbrev pub Target : Type 0
 Target = (List ℕ × ContainerState) × Ids
 
--- each live container, a pinned one with the next set of the plan, a shared one with the pool; in the order in which they
--- were created
+-- what a plan gives each live container, in the order of creation. A pinned one gets the next set of the plan, and a shared
+-- one the pool.
 abbrev pub targets_in : KernelState → Ids → List (List ℕ × ContainerState) → List Ids → List Target
 targets_in k pool [] sets = []
 targets_in k pool (e ∷ later) sets =
@@ -44,6 +44,7 @@ plan_targets n sets = targets_in n.kernel (plan_pool n sets) n.containers sets
 abbrev pub plan_entries : NodeState → List Ids → List Entry
 plan_entries n sets = entries_in n.kernel (plan_pool n sets) n.containers sets
 
+-- the hand-over to a plan, with what each group requests when it begins
 abbrev pub opened : NodeState → List Ids → Ongoing
 opened n sets = record {
   targets = record { entries = plan_entries n sets; reserved = n.machine.reserved };

@@ -53,9 +53,9 @@ effective_sets k (e ∷ later) = cond (is_asking k e) (effective k e ∷ effecti
 abbrev pub is_in_any : List Ids → ℕ → Bool
 is_in_any sets cpu = list_any (λ cpus. set.contains cpus cpu) sets
 
--- after a plan of this total: each live container has exactly the CPUs that it asked for, all allowed and none shared, and a
--- pinned one of each core all or none; what they have is the best that they could have, at this distance to the home nodes; the
--- pool is the online CPUs that are in none of these sets; and the same containers live as before
+-- after a plan of this total. Each live container has exactly the CPUs that it asked for, all allowed and none shared. A
+-- pinned one has of each core all or none. What they have is the best that they could have, at this distance to the home
+-- nodes. The pool is the online CPUs that are in none of these sets. The same containers live as before.
 pub record IsRebalanced (old : NodeState) (total : ℕ) (new : NodeState) : Type 0 where
   pub served : AllByRecursion (IsServed new.kernel new.machine new.pool) new.containers
   pub alone : Pairwise (AreAlone new.kernel) new.containers
@@ -68,7 +68,7 @@ pub record IsRebalanced (old : NodeState) (total : ℕ) (new : NodeState) : Type
 abbrev pub is_allowed : KernelState → Layout → ℕ → List ℕ × ContainerState → Bool
 is_allowed k m cpu e = set.contains (whole_in m (available k.tree.online e.1.demand)) cpu
 
--- some of the live pinned containers, each named once by its place among them, that together ask for more CPUs than they may have
+-- some live pinned containers, each named once by its place among them, ask together for more CPUs than they may have
 pub record AreShort (old : NodeState) (members : List ℕ) (wanted : ℕ) (allowed : Ids) : Type 0 where
   pub rising : IsStrictlyIncreasing members
   pub there : All (λ k. k < length (asking old)) members
@@ -76,7 +76,7 @@ pub record AreShort (old : NodeState) (members : List ℕ) (wanted : ℕ) (allow
   pub has : (cpu : ℕ) → set.contains allowed cpu ≡ list_any (is_allowed old.kernel old.machine cpu) (filter_map (slice_get (asking old)) members)
   pub more : set.len allowed < wanted
 
--- after a shortage: some are short, so that no sets at all would do for the live pinned containers; and all is as before but for
+-- after a shortage: some are short, so that no sets at all would do for the live pinned containers; all is as before but for
 -- what was worked out last
 pub record IsShort (old : NodeState) (wanted : ℕ) (allowed : Ids) (new : NodeState) : Type 0 where
   pub members : List ℕ
@@ -84,8 +84,8 @@ pub record IsShort (old : NodeState) (wanted : ℕ) (allowed : Ids) (new : NodeS
   pub could_not : (sets : List Ids) → CouldHave old sets → ⊥
   pub same : new ≡ record old { last = new.last }
 
--- what stands after a rebalance that answers this; of its refusals each has its cause, and nothing changed but where a write of
--- the kernel failed
+-- what stands after a rebalance, by its answer. Each refusal has its cause. It changes nothing, unless a write of the kernel
+-- failed.
 abbrev pub Headline : NodeState → Result Outcome (OrMemory NodeFault) → NodeState → Type 0
 Headline old (Ok (Plan total)) new = IsRebalanced old total new
 Headline old (Ok (Short wanted allowed)) new = IsShort old wanted allowed new

@@ -38,7 +38,7 @@ pub record IsMachine (m : Layout) : Type 0 where
   pub sound : IsSound m
   pub in_range : InRange (present m)
 
--- the kernel runs on the machine
+-- the kernel has the CPUs, the reserved CPUs and the nodes of the machine
 pub record IsOfMachine (k : KernelState) (m : Layout) : Type 0 where
   pub present : k.present ≡ present m
   pub reserved : k.reserved ≡ m.reserved
@@ -98,18 +98,18 @@ pub record IsAsked (m : Layout) (e : List ℕ × ContainerState) : Type 0 where
   pub id : IsId e.0
   pub fits : FitsMachine m e.1.demand
 
--- its weights count moves besides the distance, and its own check accepts it: values and prices prove its plan to cost its
--- total, or its rows are within their limits and its members are short
+-- a certificate whose weights count moves and which its own check accepts. Values and prices prove its plan to cost its
+-- total; or its rows are within their limits and its members are short.
 abbrev pub ProvesItself : Certificate → Type 0
 ProvesItself (Plan rows sets prices total weights) = (weights ≡ WithMoves) × (are_scaled rows ≡ true) × IsProved rows sets prices total
 ProvesItself (Short rows members weights) = (weights ≡ WithMoves) × (are_scaled rows ≡ true) × IsTrue (rows_fit rows) × IsShortage rows members
 
--- and it can be written, in numbers and sets that their types hold
+-- a certificate that proves itself and can be written, in numbers and sets such as its types hold
 abbrev pub IsKept : Certificate → Type 0
 IsKept c = CanWrite c × IsHeld c × ProvesItself c
 
--- and the kernel runs on the machine, with no more containers than there may be; a hand-over that is open is theirs; and what
--- was worked out last can be written and proves itself
+-- what holds of each node: its machine is one, the kernel runs on it, and `Holds`. There are no more containers than there
+-- may be. An open hand-over is of all live containers. What was worked out last can be written and proves itself.
 pub record IsNode (n : NodeState) : Type 0 where
   pub layout : IsMachine n.machine
   pub machine : IsOfMachine n.kernel n.machine

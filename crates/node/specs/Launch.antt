@@ -10,7 +10,8 @@ use Rattle.kernel_model.specs.declared.KernelFault.{KernelFault}
 use Rattle.kernel_model.specs.KernelState.{KernelState}
 use Rattle.kernel_model.specs.Cases.{MakesGroup, WritesCpus, WritesMems, Spawns}
 
--- the first call is refused and that is the answer, or the second is made in the state that the first left
+-- one call behind another: the first is refused and that is the answer, or the second is made in the state that the first
+-- left
 abbrev pub Then : {A B F : Type 0} → (Result A F → KernelState → Type 0) → (A → KernelState → Result B F → KernelState → Type 0)
     → Result B F → KernelState → Type 0
 Then {A} {B} {F} First Second r new =
@@ -27,6 +28,7 @@ abbrev pub FindsOr : Option Group → KernelState → Group → List ℕ → Res
 FindsOr (Some g) old parent name r new = (r ≡ Ok g) × (new ≡ old)
 FindsOr None old parent name r new = MakesGroup old parent name r new
 
+-- the group of a name below its parent is found, or it is made
 abbrev pub FindsOrMakes : KernelState → Group → List ℕ → Result Group (OrMemory KernelFault) → KernelState → Type 0
 FindsOrMakes old parent name = FindsOr (child_of old.tree parent name) old parent name
 
@@ -34,11 +36,11 @@ FindsOrMakes old parent name = FindsOr (child_of old.tree parent name) old paren
 abbrev pub WritesSets : KernelState → Group → Ids → Ids → Result (Unit {0}) KernelFault → KernelState → Type 0
 WritesSets old g cpus mems = Then (WritesCpus old g cpus) (λ _ mid. WritesMems mid g mems)
 
--- and then a first process is made in it
+-- a group's sets are written, and then a first process is made in it
 abbrev pub StartsIn : KernelState → Group → Ids → Ids → Result ℕ (OrMemory KernelFault) → KernelState → Type 0
 StartsIn old g cpus mems = Then (AtOnce (WritesSets old g cpus mems)) (λ _ mid. Spawns mid g)
 
--- the group and the pid of the process in it
+-- the kernel's calls of `create` in their order, with the group and the pid of the process in it
 abbrev pub Launches : KernelState → Group → List ℕ → Ids → Ids → Result (Group × ℕ) (OrMemory KernelFault) → KernelState → Type 0
 Launches old parent name cpus mems (Ok made) new = (mid : KernelState) × FindsOrMakes old parent name (Ok made.0) mid × StartsIn mid made.0 cpus mems (Ok made.1) new
 Launches old parent name cpus mems (Err error) new =

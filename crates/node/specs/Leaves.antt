@@ -16,10 +16,12 @@ abbrev pub fault_rise : NodeFault → ℕ
 fault_rise (Kernel fault) = cond (is_failed fault) 1 0
 fault_rise fault = 0
 
+-- by how much a call raises the count of failures, by its answer
 abbrev pub rise_of : {A : Type 0} → Result A NodeFault → ℕ
 rise_of (Ok value) = 0
 rise_of (Err fault) = fault_rise fault
 
+-- the same of a call that allocates
 abbrev pub rise_or_memory : {A : Type 0} → Result A (OrMemory NodeFault) → ℕ
 rise_or_memory (Ok value) = 0
 rise_or_memory (Err Memory) = 0
@@ -31,7 +33,8 @@ pub record LeavesAtMostAGroup (old : KernelState) (parent : Group) (name : List 
   pub groups : (g : Group) → (entry_of new.tree g ≡ entry_of old.tree g) ⊎ (child_of new.tree parent name ≡ Some g)
   pub empty : (g : Group) → child_of new.tree parent name ≡ Some g → count_in new.table g ≡ 0
 
--- what `create` and `adopt` leave where they are refused: all as it was, or at most a group once it wanted memory or the kernel refused
+-- what a refused `create` or `adopt` leaves: all as it was, or at most a group, once an allocation failed or the kernel
+-- refused
 abbrev pub CreateLeaves : NodeState → List ℕ → Result ℕ (OrMemory NodeFault) → NodeState → Type 0
 CreateLeaves old id (Ok pid) new = Unit {0}
 CreateLeaves old id (Err Memory) new = LeavesAtMostAGroup old.kernel old.parent id new.kernel × (new ≡ record old { kernel = new.kernel })

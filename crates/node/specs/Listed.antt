@@ -1,4 +1,5 @@
 -- The containers with their statuses, in the order in which they were created.
+-- From: OCI Runtime Specification 1.0.2, runtime.md, Query State.
 use Rattle.std.specs.Prelude.{◌≡◌, ℕ, Bool, true, false, List, Option, Some, None, map, refl}
 use Rattle.std.specs.Coded.{Coded, code_by, coded×, coded_ℕ, coded_bool, coded_list, coded_option}
 use Rattle.kernel_model.specs.KernelState.{KernelState}
@@ -10,7 +11,7 @@ use Rattle.node.specs.Status.{status_of}
 abbrev pub entry_listed : KernelState → List ℕ × ContainerState → List ℕ × Status
 entry_listed k e = (e.0, status_of k e.1)
 
--- `list`: each id with its status
+-- what `list` answers: each id with its status
 abbrev pub listed : NodeState → List (List ℕ × Status)
 listed n = map (entry_listed n.kernel) n.containers
 

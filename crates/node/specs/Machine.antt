@@ -32,7 +32,7 @@ use Rattle.node.specs.Listed.{listed}
 use Rattle.node.specs.Sets.{HasSets}
 use Rattle.node.specs.RebalanceLeaves.{RebalanceLeaves}
 
--- a call with its answer, or an event of the kernel with its answer; after the calls that may change something those that
+-- a call with its answer, or an event of the kernel with its answer; behind those that may change something come those that
 -- only read
 pub data Event : Type 0 where
   Create : List ℕ → List ℕ → List ℕ → Result ℕ (OrMemory NodeFault) → Event
@@ -81,7 +81,7 @@ Step old (Exit pid answer) new = Exits old.kernel pid answer new.kernel × InKer
 Step old (Offline cpu answer) new = GoesOffline old.kernel cpu answer new.kernel × InKernel old new
 Step old (Online cpu answer) new = ComesOnline old.kernel cpu answer new.kernel × InKernel old new
 
--- steps one after another
+-- steps, one after another
 abbrev pub Run : NodeState → List Event → NodeState → Type 0
 Run old [] new = new ≡ old
 Run old (event ∷ later) new = (mid : NodeState) × Step old event mid × Run mid later new
@@ -94,14 +94,14 @@ FirstIsNode = (k : KernelState) (m : Layout) (n : NodeState) → IsWellFormed k 
 abbrev pub RunsKeep : Type 0
 RunsKeep = (old : NodeState) (events : List Event) (new : NodeState) → IsNode old → Run old events new → IsNode new
 
--- so after each of them no live pinned container requests a CPU of another live one, but reserved ones, and each live one
+-- after each of them no live pinned container requests a CPU of another live one, but reserved ones, and each live one
 -- requests some
 abbrev pub RunsStaySafe : Type 0
 RunsStaySafe =
     (old : NodeState) (events : List Event) (new : NodeState) → IsNode old → Run old events new
     → IsSafe new.kernel new.kernel.reserved (map (λ o. o.holder) (owners_of new.containers))
 
--- and where each live one then requests a CPU that is online, the same holds of the CPUs that are in effect for them
+-- if each live container then requests a CPU that is online, the same holds of the CPUs in effect for them
 abbrev pub RunsStayApart : Type 0
 RunsStayApart =
     (old : NodeState) (events : List Event) (new : NodeState) → IsNode old → Run old events new
@@ -113,15 +113,15 @@ abbrev pub IsOneStep : Event → Type 0
 IsOneStep (StepOn answer) = Unit {0}
 IsOneStep event = ⊥
 
--- a rebalance that hands over leaves what `begin`, which writes nothing, and then steps alone leave, so that what holds after
--- each of these holds of what it leaves, wherever a write fails
+-- a rebalance that hands over leaves what `begin`, which writes nothing, and then steps alone leave. What holds after each of
+-- these holds of what it leaves, wherever a write fails.
 abbrev pub RebalancesAreSteps : Type 0
 RebalancesAreSteps =
     (old : NodeState) (total : ℕ) (answer : Result (Unit {0}) KernelFault) (new : NodeState) → Moves old total answer new
     → (steps : List Event) × AllByRecursion IsOneStep steps × Run old (Begin (Ok (Plan total)) ∷ steps) new
 
--- and after any list of them a rebalance leaves what the headline says of its answer, with what the certificate tells of that and
--- what a failed write leaves
+-- after any list of them a rebalance leaves what the headline says of its answer. With it stand what the certificate tells
+-- and what a failed write leaves.
 abbrev pub RunsRebalance : Type 0
 RunsRebalance =
     (first : NodeState) (events : List Event) (old : NodeState) (answer : Result Outcome (OrMemory NodeFault)) (new : NodeState)

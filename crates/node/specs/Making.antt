@@ -59,7 +59,8 @@ launch_states old parent name cpus mems (Err error) new (inl refused) = found_st
 launch_states old parent name cpus mems (Err error) new (inr (g, mid, found, starts)) =
     found_states (child_of old.tree parent name) old parent name (Ok g) mid found ++ start_states mid g cpus mems (Err error) new starts
 
--- the states in which a new container is made; none where it is refused before the kernel is called
+-- the states of the kernel in the midst of a `create` or an `adopt`, one after each single call; none if it is refused before
+-- the kernel is called
 abbrev pub place_states : (cpus : Ids) (old : NodeState) (id bundle config : List ℕ) (r : Result ℕ (OrMemory NodeFault)) (new : NodeState)
     → Places cpus old id bundle config r new → List KernelState
 place_states cpus old id bundle config (Ok pid) new c =
@@ -90,16 +91,16 @@ PlacesAreCalls =
     (made : Places cpus old id bundle config r new)
     → AreCalls old.kernel (place_states cpus old id bundle config r new made) new.kernel
 
--- and in each of them what is requested is safe, of all containers that are there after it: also of the one that it makes
+-- in each of these states what is requested is safe, of all containers that are there after it: also of the one that it makes
 abbrev pub PlacesStaySafe : Type 0
 PlacesStaySafe =
     (cpus : Ids) (old : NodeState) (id bundle config : List ℕ) (r : Result ℕ (OrMemory NodeFault)) (new : NodeState)
     (made : Places cpus old id bundle config r new) → IsNode old
     → AllByRecursion (λ k. IsSafe k k.reserved (map (λ o. o.holder) (owners_of new.containers))) (place_states cpus old id bundle config r new made)
 
--- what a refusal of the kernel can be, of a `create` or an `adopt` against which nothing stood: a write failed, and is
--- counted; or no serial was left for a group of this id, and there was none, and then all is as before but the count of
--- writes; or no pid was left
+-- what a refusal of the kernel can be, of a `create` or an `adopt` against which nothing stood. A write failed, which is
+-- counted. Or no serial was left for a group of this id, and there was none; then all is as before but the count of writes.
+-- Or no pid was left.
 abbrev pub LateCause : NodeState → List ℕ → KernelFault → NodeState → Type 0
 LateCause old id Failed new = new.kernel.failures ≡ old.kernel.failures + 1
 LateCause old id NoSerials new =
@@ -107,25 +108,27 @@ LateCause old id NoSerials new =
 LateCause old id NoPids new = LAST_PID < old.kernel.table.next_pid
 LateCause old id fault new = ⊥
 
--- the kernel refuses nothing else of them
+-- the kernel refuses a `create` or an `adopt` for nothing else
 abbrev pub PlacesFailLate : Type 0
 PlacesFailLate =
     (cpus : Ids) (old : NodeState) (id bundle config : List ℕ) (fault : KernelFault) (new : NodeState) → IsNode old
     → Places cpus old id bundle config (Err (Fault (Kernel fault))) new → LateCause old id fault new
 
--- an `update` goes through its states call by call, and what is requested is safe in each of them
+-- an `update` goes through its states call by call, so that none is left out
 abbrev pub UpdatesAreCalls : Type 0
 UpdatesAreCalls =
     (old : NodeState) (id bundle config : List ℕ) (r : Result (Unit {0}) (OrMemory NodeFault)) (new : NodeState) (made : Updates old id bundle config r new)
     → AreCalls old.kernel (update_states old id bundle config r new made) new.kernel
 
+-- in each state of an `update` what is requested is safe
 abbrev pub UpdatesStaySafe : Type 0
 UpdatesStaySafe =
     (old : NodeState) (id bundle config : List ℕ) (r : Result (Unit {0}) (OrMemory NodeFault)) (new : NodeState) (made : Updates old id bundle config r new)
     → IsNode old
     → AllByRecursion (λ k. IsSafe k k.reserved (map (λ o. o.holder) (owners_of new.containers))) (update_states old id bundle config r new made)
 
--- where a write of it fails, the container asks for what it did, and its group requests what it did or the reserved CPUs
+-- if a write of an `update` fails, the container asks for what it did, and its group requests what it did or the reserved
+-- CPUs
 pub record IsAsBefore (old : NodeState) (id : List ℕ) (new : NodeState) : Type 0 where
   pub container : ContainerState
   pub there : container_of old id ≡ Some container
@@ -134,6 +137,7 @@ pub record IsAsBefore (old : NodeState) (id : List ℕ) (new : NodeState) : Type
       ⊎ (requested_cpus new.kernel.tree container.group ≡ old.machine.reserved)
   pub counted : new.kernel.failures ≡ old.kernel.failures + 1
 
+-- if a write of an `update` fails, it leaves the container as before
 abbrev pub UpdatesFail : Type 0
 UpdatesFail =
     (old : NodeState) (id bundle config : List ℕ) (fault : KernelFault) (new : NodeState) → IsNode old

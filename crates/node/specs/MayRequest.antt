@@ -10,7 +10,7 @@ use Rattle.node.specs.Owners.{is_pinned}
 use Rattle.node.specs.Rows.{requested_by}
 use Rattle.node.specs.Status.{is_live}
 
--- a live container keeps the CPU from a new one: it requests it, and one of both is pinned
+-- a live container keeps a CPU from a new one: it requests it, and one of both is pinned
 abbrev pub keeps : KernelState → Bool → ℕ → List ℕ × ContainerState → Bool
 keeps k pinned cpu e = is_live k e.1 && ((is_pinned e.1.demand.kind || pinned) && set.contains (requested_by k e) cpu)
 
@@ -23,12 +23,12 @@ is_free_cpu n pinned cpu =
 abbrev pub AreFreeCpus : NodeState → Bool → Ids → Type 0
 AreFreeCpus n pinned cpus = (cpu : ℕ) → set.contains cpus cpu ≡ true → is_free_cpu n pinned cpu ≡ true
 
--- some CPUs, each of which it may request
+-- some CPUs, each of which a new container may request
 pub record MayRequest (n : NodeState) (pinned : Bool) (cpus : Ids) : Type 0 where
   pub some : cpus ≢ set.empty
   pub free : AreFreeCpus n pinned cpus
 
--- the least of the CPUs that it may not request
+-- the least of the CPUs that a new container may not request
 pub record IsLeastTaken (n : NodeState) (pinned : Bool) (cpus : Ids) (cpu : ℕ) : Type 0 where
   pub there : set.contains cpus cpu ≡ true
   pub taken : is_free_cpu n pinned cpu ≡ false

@@ -1,4 +1,4 @@
--- A node as a plain value: what each of its calls answers and changes is said of it.
+-- A node as a plain value: what each of its calls answers and changes.
 use Rattle.std.proofs.Common.{inl, inr}
 use Rattle.std.specs.Prelude.{◌≡◌, ◌⊎◌, ℕ, Bool, true, false, List, Option, Some, None, refl}
 use Rattle.std.specs.Coded.{Coded, code_by, coded×, coded⊎, coded_ℕ, coded_bool, coded_list, coded_option}
@@ -38,9 +38,9 @@ pub record Ongoing : Type 0 where
   pub targets : Targets
   pub requested_at_begin : List Ids
 
--- the kernel and the machine; the group below which the containers' groups are; the containers by their ids, in the order
--- in which they were created; the CPUs that no plan gave to a container; how the last hand-over stands, and itself while
--- it is open; and what was worked out last
+-- a node as a plain value: the kernel and the machine, and the group below which the containers' groups are. The containers
+-- by their ids, in the order of creation. The pool: the CPUs that no plan gave to a container. The phase of the last
+-- hand-over, and itself while it is open, with what each group requested when it began. The last certificate.
 pub record NodeState : Type 0 where
   pub kernel : KernelState
   pub machine : Layout

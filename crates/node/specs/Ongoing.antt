@@ -21,13 +21,13 @@ pub record Leads (Rest : List Entry → Type 0) (h : Holder) (entries : List Ent
   pub of : holder_of entry ≡ h
   pub rest : Rest later
 
--- each container has its entry, in their order, except for those whose first process has ended; and no other entry is there
+-- an open hand-over has an entry of each live container, in their order, and no other
 abbrev pub AreOf : KernelState → List Entry → List Owner → Type 0
 AreOf k entries [] = entries ≡ []
 AreOf k entries (o ∷ later) =
     Leads (λ rest. AreOf k rest later) o.holder entries ⊎ ((is_alive k.table o.holder.pid ≡ false) × AreOf k entries later)
 
--- its group requests what it did at first, or what it keeps of that, or its target
+-- a container's group requests what it did at first, what it keeps of that, or its target
 abbrev pub IsSince : KernelState → Ids → Entry → Ids → Type 0
 IsSince k reserved e found = (held k e ≡ found) ⊎ (held k e ≡ kept reserved e.target found) ⊎ (held k e ≡ e.target)
 
@@ -43,8 +43,8 @@ abbrev pub Stands : KernelState → List Owner → Bool → Option Ongoing → T
 Stands k owners underway (Some o) = (underway ≡ true) × IsOngoing k owners o
 Stands k owners underway None = underway ≡ false
 
--- what a failed write leaves of a hand-over: each of its containers requests what it did at first, or what it keeps of that,
--- or its target; and nothing else changed in the kernel but its counts
+-- what a failed write leaves of a hand-over. Each of its containers requests what it did at first, what it keeps of that, or
+-- its target. Nothing else changed in the kernel but its counts.
 pub record IsBroken (o : Ongoing) (old new : KernelState) : Type 0 where
   pub since : AllZip (IsSince new new.reserved) o.targets.entries o.requested_at_begin
   pub rest : KeepsRest o.targets old new

@@ -17,7 +17,8 @@ use Rattle.node.specs.Headline.{effective_sets}
 use Rattle.node.specs.Tells.{TellsPlan}
 use Rattle.node.specs.Rebalance.{Lacks}
 
--- the distance and the moves that a certificate claims, or how many CPUs its members ask for and how many are there
+-- the verdict of a certificate: the distance and the moves that it claims, or how many CPUs its members want and how many
+-- there are
 abbrev pub verdict_of : Certificate → Verdict
 verdict_of (certificate.Plan rows sets prices total weights) = plan_verdict total weights
 verdict_of (certificate.Short rows members weights) = Short (asked (chosen rows members)) (length (offered (chosen rows members)))
@@ -26,15 +27,15 @@ verdict_of (certificate.Short rows members weights) = Short (asked (chosen rows 
 abbrev pub LastIsProved : Type 0
 LastIsProved = (n : NodeState) → IsNode n → (c : Certificate) → n.last ≡ Some c → IsVerdict (text_of c) (verdict_of c)
 
--- and after a rebalance that plans it proves a distance and as the moves how many cores the sets in effect moved; the total that
--- was answered is that distance, for each CPU that a core has
+-- after a rebalance that plans, the text proves a distance, and as the moves how many cores the sets in effect moved. The
+-- total that was answered is that distance, for each CPU that a core has.
 abbrev pub TotalIsProved : Type 0
 TotalIsProved = (old n : NodeState) (total : ℕ) → IsNode n → TellsPlan old total n → (c : Certificate) → n.last ≡ Some c
     → (distance : ℕ) × (total ≡ distance * old.machine.threads)
     × IsVerdict (text_of c) (Moves distance (moved old (effective_sets n.kernel n.containers)))
 
--- after one that answers a shortage it proves how many cores are asked for and how many there are; what was answered is so many
--- CPUs for each CPU that a core has
+-- after one that answers a shortage, the text proves how many cores are asked for and how many there are. Each of the two,
+-- for each CPU that a core has, is the count that was answered.
 abbrev pub ShortIsProved : Type 0
 ShortIsProved = (old n : NodeState) (wanted : ℕ) (allowed : Ids) → IsNode n → Lacks old wanted allowed n → (c : Certificate) → n.last ≡ Some c
     → (cores : ℕ) × (there : ℕ) × (wanted ≡ cores * old.machine.threads) × (set.len allowed ≡ there * old.machine.threads)

@@ -33,8 +33,8 @@ use Rattle.node.specs.Rows.{as_cpus, rows_of, scaled_rows_of, planned, lacking}
 use Rattle.node.specs.Best.{moved, IsBest}
 use Rattle.node.specs.Entries.{plan_pool, opened}
 
--- what a node's scaled rows come to: a plan of cores whose CPUs are the best sets that the containers could have, as a least plan
--- of these rows, with the cores' distance and their moves as its total; or a shortage of them
+-- what a node's scaled rows come to as a plan of cores. Their CPUs are the best sets that the containers could have. It is a
+-- least plan of these rows, with the cores' distance and their moves as its total.
 pub record IsAnswer (n : NodeState) (rows : List RowView) (plan : List Ids) (prices : PricesView) (whole : ℕ) : Type 0 where
   pub rows_are : rows ≡ scaled_rows_of n
   pub decides : DecidesPlan rows plan prices whole
@@ -42,13 +42,14 @@ pub record IsAnswer (n : NodeState) (rows : List RowView) (plan : List Ids) (pri
   pub best : IsBest n (distance_of whole * n.machine.threads) (as_cpus n.machine plan)
   pub parts : AreParts whole (distance_of whole) (moved n (as_cpus n.machine plan))
 
+-- what a node's scaled rows come to: such a plan, or a shortage of them
 abbrev pub ComesTo : NodeState → Certificate → Type 0
 ComesTo n (certificate.Plan rows plan prices whole weights) = (weights ≡ WithMoves) × IsAnswer n rows plan prices whole
 ComesTo n (certificate.Short rows members weights) = (weights ≡ WithMoves) × (rows ≡ scaled_rows_of n) × DecidesShort rows members
 
--- a plan of cores whose CPUs are the best sets that the containers could have, as a least plan of the rows and of the scaled
--- rows, whose certificate can be written and proves itself; the total is the cores' distance, for each CPU that a core has; the
--- hand-over to the CPUs is open, and nothing is written yet
+-- a plan was made. Its cores' CPUs are the best sets that the containers could have. The cores are a least plan of the rows
+-- and of the scaled rows, whose certificate can be written and proves itself. The total is the cores' distance, for each CPU
+-- that a core has. The hand-over to the CPUs is open, and nothing is written yet.
 pub record Begun (old : NodeState) (total : ℕ) (new : NodeState) : Type 0 where
   pub plan : List Ids
   pub prices : PricesView
@@ -85,7 +86,7 @@ pub record Lacks (old : NodeState) (wanted : ℕ) (allowed : Ids) (new : NodeSta
   pub need : IsNeed old.machine (scaled_rows_of old) members wanted allowed
   pub is : new ≡ record old { last = Some (lacking old members) }
 
--- `begin`
+-- `begin`: what it answers, and what the node is then
 abbrev pub Begins : NodeState → Result Outcome (OrMemory NodeFault) → NodeState → Type 0
 Begins old (Ok (Plan total)) new = Begun old total new
 Begins old (Ok (Short wanted allowed)) new = Lacks old wanted allowed new
@@ -105,7 +106,7 @@ pub record Stepped (old : NodeState) (r : Result Progress KernelFault) (phase : 
   pub steps : Steps handover.targets old.kernel r new.kernel
   pub is : new ≡ record old { kernel = new.kernel; phase = phase; ongoing = ongoing }
 
--- `step`: the write that is due; the hand-over ends where nothing is due after it, or where the write failed
+-- `step`: the write that is due; the hand-over ends if nothing is due after it, or if the write failed
 abbrev pub StepsOn : NodeState → Result Progress NodeFault → NodeState → Type 0
 StepsOn old (Ok More) new = Stepped old (Ok More) old.phase old.ongoing new
 StepsOn old (Ok Done) new = Stepped old (Ok Done) Settled None new
@@ -113,7 +114,7 @@ StepsOn old (Err (Kernel fault)) new = Stepped old (Err fault) Unsettled None ne
 StepsOn old (Err NoHandover) new = (is_underway old.phase ≡ false) × (new ≡ old)
 StepsOn old (Err fault) new = ⊥
 
--- so many steps, after each of which more are to come
+-- n steps, after each of which more are to come
 abbrev pub StepsMore : ℕ → NodeState → NodeState → Type 0
 StepsMore zero old new = new ≡ old
 StepsMore (suc n) old new = (mid : NodeState) × StepsOn old (Ok More) mid × StepsMore n mid new
@@ -136,7 +137,7 @@ pub record Moves (old : NodeState) (total : ℕ) (r : Result (Unit {0}) KernelFa
   pub begun : Begun old total mid
   pub finishes : Finishes mid r new
 
--- `rebalance`
+-- `rebalance`: what `begin` and steps until the hand-over ends leave
 abbrev pub Rebalances : NodeState → Result Outcome (OrMemory NodeFault) → NodeState → Type 0
 Rebalances old (Ok (Plan total)) new = Moves old total (Ok tt) new
 Rebalances old (Ok (Short wanted allowed)) new = Lacks old wanted allowed new

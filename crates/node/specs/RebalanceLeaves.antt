@@ -8,7 +8,7 @@ use Rattle.node.specs.Headline.{Headline}
 use Rattle.node.specs.Tells.{Tells}
 use Rattle.node.specs.BreaksOff.{BreaksOff}
 
--- what the host has, what the certificate tells of it, and what is left where a write failed
+-- all of this after a rebalance: what the host has, what the certificate tells of it, and what is left if a write failed
 pub record RebalanceLeaves (old : NodeState) (answer : Result Outcome (OrMemory NodeFault)) (new : NodeState) : Type 0 where
   pub headline : Headline old answer new
   pub told : Tells old answer new

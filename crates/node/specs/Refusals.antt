@@ -1,4 +1,5 @@
 -- What stands against each call, each cause with what was looked at before it and was no cause.
+-- From: the order is ours.
 use Rattle.std.specs.Prelude.{◌≡◌, ◌⊎◌, ◌<◌, ◌≤◌, ℕ, true, false, List, length, None, is_some, Result, Ok, Err}
 use Rattle.cpu_set.specs.Ids.{Ids}
 use Rattle.config_json.specs.declared.Config.{Config as Said}
@@ -12,7 +13,7 @@ use Rattle.node.specs.Owners.{is_pinned}
 use Rattle.node.specs.MayRequest.{IsLeastTaken}
 use Rattle.node.specs.Wanted.{Says, ConfigCause}
 
--- the id is one, no container has it, and there may be one more
+-- a container of this id may be created: the id is one, no container has it, and there may be one more
 pub record IsFree (n : NodeState) (id : List ℕ) : Type 0 where
   pub settled : is_underway n.phase ≡ false
   pub valid : IsId id
@@ -27,11 +28,11 @@ IdCause n id IdInUse = (is_underway n.phase ≡ false) × IsId id × (is_some (c
 IdCause n id TooManyContainers = (is_underway n.phase ≡ false) × IsId id × (container_of n id ≡ None) × (CONTAINER_LIMIT ≤ length n.containers)
 IdCause n id fault = ⊥
 
--- what stands against creating it, before anything is written
+-- what stands against creating a container, before anything is written
 abbrev pub CreateCause : NodeState → List ℕ → List ℕ → NodeFault → Type 0
 CreateCause n id config fault = IdCause n id fault ⊎ (IsFree n id × ConfigCause n.machine config fault)
 
--- the least of these CPUs that it may not request, where nothing else stands against it
+-- the least of these CPUs that a new container may not request, if nothing else stands against it
 pub record IsTakenFrom (cpus : Ids) (n : NodeState) (id config : List ℕ) (cpu : ℕ) : Type 0 where
   pub said : Said
   pub asked : Asked

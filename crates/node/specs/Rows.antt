@@ -15,10 +15,11 @@ use Rattle.rows.specs.Scaled.{scaled}
 use Rattle.node.specs.NodeState.{ContainerState, NodeState}
 use Rattle.node.specs.Status.{is_live}
 
--- the cores of which each of these sets has all CPUs, and the CPUs of the cores of each; a core is named by its lowest CPU
+-- sets of CPUs as the cores of which each has all CPUs; a core is named by its lowest CPU
 abbrev pub as_cores : Layout → List Ids → List Ids
 as_cores m sets = map (cores_in m) sets
 
+-- sets of cores as their CPUs
 abbrev pub as_cpus : Layout → List Ids → List Ids
 as_cpus m plan = map (cpus_of_cores m) plan
 
@@ -26,14 +27,16 @@ as_cpus m plan = map (cpus_of_cores m) plan
 abbrev pub row_of_container : KernelState → Layout → List ℕ × ContainerState → Option RowView
 row_of_container k m e = cond (is_live k e.1) (row_of m k.tree.online e.0 e.1.demand) None
 
--- in the order in which they were created
+-- the rows of the live pinned containers by distance, over cores, in the order of creation
 abbrev pub rows_in : KernelState → Layout → List (List ℕ × ContainerState) → List RowView
 rows_in k m containers = filter_map (row_of_container k m) containers
 
+-- the rows of a node by distance
 abbrev pub rows_of : NodeState → List RowView
 rows_of n = rows_in n.kernel n.machine n.containers
 
--- the CPUs that a container's group requests; while no plan was made since it was created, these are the reserved ones
+-- the CPUs that a container's group requests; before its first plan these are the reserved ones, or those that it was adopted
+-- with
 abbrev pub requested_by : KernelState → List ℕ × ContainerState → Ids
 requested_by k e = requested_cpus k.tree e.1.group
 
@@ -44,12 +47,14 @@ scaled_row_of_container k m e = option_map (scaled (cores_in m (requested_by k e
 abbrev pub scaled_rows_in : KernelState → Layout → List (List ℕ × ContainerState) → List RowView
 scaled_rows_in k m containers = filter_map (scaled_row_of_container k m) containers
 
+-- the same rows, with a move for each core that the container does not request as a whole
 abbrev pub scaled_rows_of : NodeState → List RowView
 scaled_rows_of n = scaled_rows_in n.kernel n.machine n.containers
 
--- the certificates of a plan of cores and of a shortage of these rows
+-- the certificate of a plan of cores
 abbrev pub planned : NodeState → List Ids → PricesView → ℕ → Certificate
 planned n plan prices whole = certificate.Plan (scaled_rows_of n) plan prices whole WithMoves
 
+-- the certificate of a shortage of the scaled rows
 abbrev pub lacking : NodeState → List ℕ → Certificate
 lacking n members = certificate.Short (scaled_rows_of n) members WithMoves

@@ -21,7 +21,8 @@ reads_for id (Adopt own bundle config cpus (Ok pid)) = bytes_eq own id
 reads_for id (Update own bundle config (Ok done)) = bytes_eq own id
 reads_for id event = false
 
--- the event made this very container, of its bundle and this config; or it was an `update` to these, and one before it made it
+-- the event read this config for this very container: it made it, of its bundle and this config; or it was an `update` to
+-- these, and one before it made it
 abbrev pub IsReadBy : List Event → Event → List ℕ × ContainerState → List ℕ → Type 0
 IsReadBy earlier event e config =
     (event ≡ Create e.0 e.1.bundle config (Ok e.1.pid))
@@ -37,8 +38,8 @@ pub record IsAskedIn (events : List Event) (e : List ℕ × ContainerState) (con
   pub read : IsReadBy earlier its e config
   pub last : AllByRecursion (λ event. reads_for e.0 event ≡ false) later
 
--- what it asks for is what the config says that was read for it last, by the event that made it or by an `update`; and whether it
--- can be started is what the config says with which it was made
+-- a container asks for what the config says that was read for it last, by the event that made it or by an `update`. Whether
+-- it can be started is what the config says with which it was made.
 pub record IsSaid (events : List Event) (m : Layout) (e : List ℕ × ContainerState) : Type 0 where
   pub config : List ℕ
   pub said : Said
@@ -51,7 +52,7 @@ pub record IsSaid (events : List Event) (m : Layout) (e : List ℕ × ContainerS
   pub first_said_so : config_of first_config ≡ Ok first_said
   pub runnable : e.1.runnable ≡ first_said.runnable
 
--- so it is with each container after any list of calls and events from none on
+-- each container is such after any list of calls and events from none on
 abbrev pub ContainersAreSaid : Type 0
 ContainersAreSaid = (first : NodeState) (events : List Event) (new : NodeState) → first.containers ≡ [] → Run first events new
     → AllByRecursion (IsSaid events new.machine) new.containers

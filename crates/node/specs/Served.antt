@@ -23,8 +23,8 @@ use Rattle.node.specs.Headline.{effective}
 use Rattle.node.specs.Machine.{Event, Run}
 use Rattle.node.specs.Said.{IsAskedIn}
 
--- these are as many CPUs as the CPU section of a config asks for, of whole cores, all of those that it allows and online; of one
--- that asks for none of its own they are the pool, which is not empty
+-- these CPUs are as many as the CPU section of a config asks for, of whole cores, all allowed by it and online. If it asks
+-- for none of its own they are the pool, which is not empty.
 abbrev pub AreAsked : Layout → KernelState → Ids → Section → Ids → Bool → Type 0
 AreAsked m k pool s cpus true =
     IsKind m.threads (limit_of s.quota) (period_of s.period) (allowed_of m s) s (Pinned (set.len cpus)) × IsWhole m cpus
@@ -39,7 +39,7 @@ pub record HasAsked (events : List Event) (m : Layout) (k : KernelState) (pool :
   pub said_so : config_of config ≡ Ok said
   pub has : is_live k e.1 ≡ true → AreAsked m k pool said.cpu (effective k e) (is_pinned said.cpu)
 
--- so it is with each container once a rebalance answered a plan, after any list of calls and events from none on
+-- each container has what it asked for once a rebalance answered a plan, after any list of calls and events from none on
 abbrev pub RunsServeConfigs : Type 0
 RunsServeConfigs =
     (first : NodeState) (events : List Event) (old : NodeState) (total : ℕ) (new : NodeState) → IsNode first → first.containers ≡ [] → Run first events old

@@ -1,4 +1,5 @@
 -- What can be asked of a container.
+-- From: OCI Runtime Specification 1.0.2, runtime.md, Query State.
 use Rattle.std.specs.Prelude.{◌≡◌, ℕ, List, Some, None, Result, Ok, Err}
 use Rattle.cpuset_tree.specs.declared.Group.{Group}
 use Rattle.cpuset_tree.specs.Groups.{requested_cpus, requested_mems}
@@ -18,7 +19,7 @@ sets_at k g = record {
   effective_mems = effective_mems k.tree g;
 }
 
--- `sets`: those of the container's group
+-- what `sets` answers: the sets of the container's group
 abbrev pub HasSets : NodeState → List ℕ → Result Sets NodeFault → Type 0
 HasSets n id (Ok sets) = (c : ContainerState) × (container_of n id ≡ Some c) × (sets ≡ sets_at n.kernel c.group)
 HasSets n id (Err fault) = (fault ≡ NoContainer) × (container_of n id ≡ None)

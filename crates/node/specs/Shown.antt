@@ -1,4 +1,5 @@
--- The state of a container as JSON (OCI Runtime Specification 1.0.2, runtime.md, "State").
+-- The state of a container as JSON.
+-- From: OCI Runtime Specification 1.0.2, runtime.md, State and Query State.
 use Rattle.std.specs.Prelude.{◌≡◌, ℕ, true, List, Some, None, is_some, Result, Ok, Err, codes, String, string_bytes}
 use Rattle.std.specs.declared.alloc.Global.{Global}
 use Rattle.serde_json.specs.Data.{Data, number, unsigned, string, object, member, no_members}
@@ -13,6 +14,7 @@ use Rattle.node.specs.declared.fault.NodeFault.TheVariants.{NoContainer}
 use Rattle.node.specs.NodeState.{ContainerState, NodeState, container_of}
 use Rattle.node.specs.Status.{status_of}
 
+-- a status as a word
 abbrev pub status_text : Status → List ℕ
 status_text Created = codes "created"
 status_text Running = codes "running"
@@ -36,7 +38,7 @@ state_by status id c = live_data id c.bundle c.pid (status_text status)
 abbrev pub state_of : KernelState → List ℕ → ContainerState → Data
 state_of k id c = state_by (status_of k c) id c
 
--- `state`: the compact text of it
+-- what `state` answers: the compact text of it
 abbrev pub Shows : NodeState → List ℕ → Result (String Global) (OrMemory NodeFault) → Type 0
 Shows n id (Ok text) = (c : ContainerState) × (container_of n id ≡ Some c) × (string_bytes text ≡ compact_text (state_of n.kernel id c))
 Shows n id (Err Memory) = is_some (container_of n id) ≡ true

@@ -16,8 +16,8 @@ use Rattle.node.specs.Rows.{as_cores, rows_of, planned, lacking}
 use Rattle.node.specs.Best.{moved}
 use Rattle.node.specs.Headline.{effective_sets, AreShort}
 
--- what was worked out last is this plan, told by its cores: its total is the distance of these and how many move, packed, and
--- the CPUs are that far for each CPU that a core has
+-- what was worked out last is a plan of the cores of these sets. Its total is their distance, and how many move, packed. This
+-- distance, for each CPU that a core has, is the total that is told.
 pub record IsTold (n : NodeState) (sets : List Ids) (total : ℕ) (last : Option Certificate) : Type 0 where
   pub prices : PricesView
   pub whole : ℕ
@@ -26,14 +26,14 @@ pub record IsTold (n : NodeState) (sets : List Ids) (total : ℕ) (last : Option
   pub counts : total ≡ distance * n.machine.threads
   pub is : last ≡ Some (planned n (as_cores n.machine sets) prices whole)
 
--- after a plan of this total: the certificate tells the cores of the very sets that are in effect, which are a plan of least cost
--- of the rows; the total is that cost, for each CPU that a core has
+-- what the certificate tells after a plan of this total: the cores of the very sets that are in effect. They are a plan of
+-- least cost of the rows, and the total is that cost, for each CPU that a core has.
 pub record TellsPlan (old : NodeState) (total : ℕ) (new : NodeState) : Type 0 where
   pub told : IsTold old (effective_sets new.kernel new.containers) total new.last
   pub least : IsLeast (rows_of old) (as_cores old.machine (effective_sets new.kernel new.containers))
   pub costs : total ≡ cost (rows_of old) (as_cores old.machine (effective_sets new.kernel new.containers)) * old.machine.threads
 
--- after a shortage: the certificate names containers that are short by these numbers, and the rows have no plan
+-- what the certificate tells after a shortage: containers that are short by these numbers, and that the rows have no plan
 pub record TellsShortage (old : NodeState) (wanted : ℕ) (allowed : Ids) (new : NodeState) : Type 0 where
   pub members : List ℕ
   pub short : AreShort old members wanted allowed

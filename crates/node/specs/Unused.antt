@@ -12,7 +12,7 @@ pub record IsFreeChild (s : TreeState) (e : GroupEntry) : Type 0 where
   pub cpus : e.cpus ≡ set.empty
   pub mems : e.mems ≡ set.empty
 
--- it has no process, and no group but the root and children of it that request nothing and have none
+-- the kernel has no process, and no group but the root and children of it that request nothing and have none
 pub record IsUnused (k : KernelState) : Type 0 where
   pub processes : k.table.live ≡ []
   pub groups : (g : Group) (e : GroupEntry) → entry_of k.tree g ≡ Some e → (e.parent ≡ None) ⊎ IsFreeChild k.tree e

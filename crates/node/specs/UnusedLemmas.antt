@@ -1,4 +1,4 @@
--- A kernel of which nothing was asked yet can be a node's.
+-- A kernel on which nothing was done yet can be a node's.
 use Rattle.std.proofs.Common.{◌≡◌, inl, ℕ, true, false, cond, List, [], Option, Some, None, Err, IfErr, codes, refl, sym, ap, subst, ◌∙◌, arith}
 use Rattle.std.proofs.lemmas.Option.{none-some}
 use Rattle.cpu_set.specs.Ids.{Ids}
@@ -24,14 +24,15 @@ use Rattle.node.specs.IsNode.{IsOfMachine}
 use Rattle.node.specs.Launch.{FindsOr}
 use Rattle.node.specs.Unused.{IsUnused}
 
--- a first kernel is unused, and of the machine whose CPUs and nodes it has
+-- a first kernel is one that no node has used yet
 abbrev pub FirstIsUnused : Type 0
 FirstIsUnused = (present reserved online nodes : Ids) (first_pid : ℕ) (k : KernelState) → IsFirstKernel present reserved online nodes first_pid k → IsUnused k
 
+-- a first kernel is of the machine whose CPUs and nodes it has
 abbrev pub FirstIsOfMachine : Type 0
 FirstIsOfMachine = (m : Layout) (online : Ids) (first_pid : ℕ) (k : KernelState) → IsFirstKernel (present m) m.reserved online (nodes_of m) first_pid k → IsOfMachine k m
 
--- where none of its writes failed, an allocation failure is all that can stand against a node over it
+-- if none of its writes failed, an allocation failure is all that can stand against a node over it
 abbrev pub FirstWantsMemory : Type 0
 FirstWantsMemory =
     (present reserved online nodes : Ids) (first_pid : ℕ) (k : KernelState) (error : OrMemory KernelFault) (new : KernelState)

@@ -22,13 +22,13 @@ use Rattle.node.specs.Status.{is_live}
 use Rattle.node.specs.Launch.{Then}
 use Rattle.node.specs.Wanted.{Says, ConfigCause}
 
--- the container is live, and no hand-over is open
+-- a config may be read again: the container is live, and no hand-over is open
 pub record MayUpdate (n : NodeState) (id : List ℕ) (c : ContainerState) : Type 0 where
   pub settled : is_underway n.phase ≡ false
   pub there : container_of n id ≡ Some c
   pub live : is_live n.kernel c ≡ true
 
--- what stands against reading its config again
+-- what stands against reading a container's config again
 abbrev pub UpdateCause : NodeState → List ℕ → List ℕ → NodeFault → Type 0
 UpdateCause n id config Busy = is_underway n.phase ≡ true
 UpdateCause n id config NoContainer = (is_underway n.phase ≡ false) × (container_of n id ≡ None)
@@ -44,6 +44,7 @@ MadeIf false old Call r new = (r ≡ Ok tt) × (new ≡ old)
 abbrev pub becomes_pinned : Asked → Asked → Bool
 becomes_pinned before after = not (is_pinned before.kind) && is_pinned after.kind
 
+-- a shared container becomes pinned, and requests other CPUs than the reserved ones
 abbrev pub gives_way : KernelState → Ids → ContainerState → Asked → Bool
 gives_way k reserved c asked = becomes_pinned c.demand asked && not (is_same (requested_cpus k.tree c.group) reserved)
 
@@ -51,7 +52,7 @@ gives_way k reserved c asked = becomes_pinned c.demand asked && not (is_same (re
 abbrev pub moves_home : Asked → Asked → Bool
 moves_home before after = not (is_same before.homes after.homes)
 
--- in the first case the reserved CPUs are written, and then in the second the memory nodes
+-- the writes of an `update`: the reserved CPUs if the container gives way, and then the memory nodes if the homes differ
 abbrev pub Rewrites : KernelState → Ids → ContainerState → Asked → Result (Unit {0}) KernelFault → KernelState → Type 0
 Rewrites old reserved c asked =
     Then (MadeIf (gives_way old reserved c asked) old (WritesCpus old c.group reserved))
@@ -80,15 +81,15 @@ pub record NotUpdated (old : NodeState) (id config : List ℕ) (fault : KernelFa
   pub rewrites : Rewrites old.kernel old.machine.reserved container asked (Err fault) new.kernel
   pub is : new ≡ record old { kernel = new.kernel }
 
--- `update`
+-- `update`, by cases on its answer
 abbrev pub Updates : NodeState → List ℕ → List ℕ → List ℕ → Result (Unit {0}) (OrMemory NodeFault) → NodeState → Type 0
 Updates old id bundle config (Ok _) new = Updated old id bundle config new
 Updates old id bundle config (Err Memory) new = (c : ContainerState) × MayUpdate old id c × (bytes_fault config ≡ None) × (new ≡ old)
 Updates old id bundle config (Err (Fault (Kernel fault))) new = (fault ≡ Failed) × NotUpdated old id config fault new
 Updates old id bundle config (Err (Fault fault)) new = UpdateCause old id config fault × (new ≡ old)
 
--- a container before and after: its homes stay, and it asks for no CPUs of its own then, or did before, or its group requests the
--- reserved ones already
+-- a container before and after an `update` that needs no write. Its homes stay. It does not ask for CPUs of its own, or did
+-- before, or its group requests the reserved ones already.
 pub record NeedsNoWrite (old : NodeState) (before after : ContainerState) : Type 0 where
   pub homes : before.demand.homes ≡ after.demand.homes
   pub cpus : (is_pinned after.demand.kind ≡ false) ⊎ (is_pinned before.demand.kind ≡ true) ⊎ (requested_cpus old.kernel.tree before.group ≡ old.machine.reserved)
@@ -113,6 +114,7 @@ rewrite_states old reserved c asked r new (inr (done, mid, first, second)) =
     made_states (gives_way old reserved c asked) old (WritesCpus old c.group reserved) (Ok done) mid first
     ++ made_states (moves_home c.demand asked) mid (WritesMems mid c.group asked.homes) r new second
 
+-- the states of the kernel after each write of an `update`
 abbrev pub update_states : (old : NodeState) (id bundle config : List ℕ) (r : Result (Unit {0}) (OrMemory NodeFault)) (new : NodeState)
     → Updates old id bundle config r new → List KernelState
 update_states old id bundle config (Ok done) new u = rewrite_states old.kernel old.machine.reserved u.container u.asked (Ok tt) new.kernel u.rewrites

@@ -5,12 +5,14 @@ use Rattle.node.specs.declared.container.Container.{Container}
 use Rattle.node.specs.declared.ongoing.Ongoing.{Ongoing as Kept}
 use Rattle.node.specs.NodeState.{ContainerState, Ongoing}
 
+-- a container of the code as a plain value
 abbrev pub seen : Container → ContainerState
 seen c = record { bundle = string_bytes c.bundle; demand = c.demand; runnable = c.runnable; group = c.group; pid = c.pid; started = c.started }
 
 abbrev pub entry_seen : String Global × Container → List ℕ × ContainerState
 entry_seen e = (string_bytes e.0, seen e.1)
 
+-- the containers of the code as plain values
 abbrev pub all_seen : List (String Global × Container) → List (List ℕ × ContainerState)
 all_seen entries = map entry_seen entries
 

@@ -31,7 +31,8 @@ Asks m said (Ok asked) = IsDemand m said.cpu asked × FitsMachine m asked
 Asks m said (Err (Demand fault)) = demand_fault m said.cpu ≡ Some fault
 Asks m said (Err fault) = ⊥
 
--- whether it can be started, and what it asks for, given how it was read: the reading alone may want memory
+-- what a container asks for, and whether it can be started, given how its config was read; an allocation failure comes of the
+-- reading alone
 abbrev pub Wants : Layout → Result Said (OrMemory ConfigFault) → Result (Bool × Asked) (OrMemory NodeFault) → Type 0
 Wants m (Ok said) (Ok wanted) = (wanted.0 ≡ said.runnable) × Asks m said (Ok wanted.1)
 Wants m (Ok said) (Err (or.Fault fault)) = Asks m said (Err fault)
@@ -39,7 +40,7 @@ Wants m (Ok said) (Err or.Memory) = ⊥
 Wants m (Err or.Memory) answer = answer ≡ Err or.Memory
 Wants m (Err (or.Fault fault)) answer = answer ≡ Err (or.Fault (Config fault))
 
--- the same of the bytes: an allocation failure is no answer where a fault shows in them
+-- the same of a config's bytes: an allocation failure is no answer if a fault shows in them
 abbrev pub Reads : Layout → List ℕ → Result (Bool × Asked) (OrMemory NodeFault) → Type 0
 Reads m config (Ok wanted) = (said : Said) × (wanted.0 ≡ said.runnable) × Says m config said wanted.1 × (bytes_fault config ≡ None)
 Reads m config (Err or.Memory) = bytes_fault config ≡ None

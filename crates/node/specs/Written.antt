@@ -15,23 +15,22 @@ use Rattle.node.specs.Status.{is_live}
 use Rattle.node.specs.Entries.{opened}
 use Rattle.node.specs.Headline.{effective_sets}
 
--- one where the call is done or its write failed, and none where it is refused before
+-- one writing call if the call is done or its write failed, and none if it is refused before
 abbrev pub one_write : Result (Unit {0}) NodeFault → ℕ
 one_write (Ok _) = 1
 one_write (Err (Kernel fault)) = 1
 one_write (Err fault) = 0
 
--- a node over a kernel asks for its group's write where there is no such group below the root, whatever that answers, and
--- else for none
+-- a node over a kernel makes one writing call if its group is not there yet, whatever that answers, and else none
 abbrev pub OpenWrites : KernelState → KernelState → Type 0
 OpenWrites old new =
     (root : Group) × (root_of old.tree ≡ Some root) × (new.writes ≡ old.writes + cond (is_some (child_of old.tree root (codes "numarun"))) 0 1)
 
--- a launch makes the group if it is not there yet, writes its CPUs and its memory nodes, and makes a process in it
+-- a launch makes the group if it is not there, writes its CPUs and its memory nodes, and makes a process in it
 abbrev pub launch_writes : KernelState → Group → List ℕ → ℕ
 launch_writes k parent name = cond (is_some (child_of k.tree parent name)) 0 1 + 3
 
--- `create` and `adopt` make the writes of a launch, or some of them where one is not done, or none
+-- `create` and `adopt` make the writes of a launch; if they are not done they make some of these, or none
 abbrev pub CreateWrites : NodeState → List ℕ → Result ℕ (OrMemory NodeFault) → NodeState → Type 0
 CreateWrites old id (Ok pid) new = new.kernel.writes ≡ old.kernel.writes + launch_writes old.kernel old.parent id
 CreateWrites old id (Err error) new = new.kernel.writes ≤ old.kernel.writes + launch_writes old.kernel old.parent id
@@ -40,12 +39,14 @@ CreateWrites old id (Err error) new = new.kernel.writes ≤ old.kernel.writes + 
 abbrev pub live_count : NodeState → ℕ
 live_count n = length (filter (λ e. is_live n.kernel e.1) n.containers)
 
--- `rebalance` makes at most two for each live container that succeed, and where one fails that one too; to a plan it makes
--- exactly the writes that the hand-over to the sets which are in effect after it had to come; none where there is no plan
+-- to a plan a `rebalance` makes exactly the writes of the hand-over to the sets then in effect: at most two for each live
+-- container
 pub record PlanWrites (old : NodeState) (new : NodeState) : Type 0 where
   pub exact : new.kernel.writes ≡ old.kernel.writes + writes_to_come (opened old (effective_sets new.kernel new.containers)).targets old.kernel
   pub few : new.kernel.writes ≤ old.kernel.writes + 2 * live_count old
 
+-- how many writing calls a `rebalance` makes. To a plan those, and none if there is no plan. If a write fails, at most one
+-- more than two for each live container.
 abbrev pub RebalanceWrites : NodeState → Result Outcome (OrMemory NodeFault) → NodeState → Type 0
 RebalanceWrites old (Ok (Plan total)) new = PlanWrites old new
 RebalanceWrites old (Ok (Short wanted allowed)) new = new.kernel.writes ≡ old.kernel.writes

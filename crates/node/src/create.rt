@@ -135,8 +135,8 @@ impl<K: Kernel + Drop> Node<K> {
         Ok(pid)
     }
 
-    /// Creates a container of a bundle with this config: its group on the reserved CPUs and its homes, and in it its
-    /// first process, whose pid is returned.
+    /// Creates a container of a bundle with this config. Its group is on the reserved CPUs and its homes, and in it its
+    /// first process is made, whose pid is returned.
     ///
     /// # Errors
     /// In this order: `Busy`, `BadId`, `IdInUse`, `TooManyContainers`, `Config`, `Demand`; and then of the kernel
@@ -149,14 +149,20 @@ impl<K: Kernel + Drop> Node<K> {
         bundle: &str,
         config: &[u8],
     ) -> Result<u32, OrMemory<NodeFault>>
+        // It answers the first thing that stands against it, in the written order. Else it makes the kernel's calls in
+        // theirs. These are the group, found by its name or made, its CPUs, its memory nodes, and only then the first
+        // process.
         ensures creates { Creates self.old id.now bundle.now config.now result self.new }
+        // If a cause of its own refuses it, nothing changes. If an allocation fails or the kernel refuses, it leaves at
+        // most a group of that id without a process. The next `create` of the id finds it.
         ensures leaves { CreateLeaves self.old id.now result self.new }
         ensures counted { self.new.kernel.failures ≡ self.old.kernel.failures + rise_or_memory result }
-        // The writing calls that a launch makes, and no other.
+        // It makes four writing calls, or three if the group is there. If it is refused it makes at most these.
         ensures made { CreateWrites self.old id.now result self.new }
-        // A refusal of the kernel has one of these causes.
+        // The kernel refuses in three cases only. A write fails, no serial for a group of this id is left, or no pid is
+        // left. If no serial is left, only the count of writes changes.
         ensures late { (fault : KernelFault) → result ≡ Err (Fault (Kernel fault)) → LateCause self.old id.now fault self.new }
-        // The reserved CPUs are never taken.
+        // It never answers that a CPU is not free.
         ensures never { (cpu : ℕ) → result ≢ Err (Fault (NotFree cpu)) }
     {
         self.holds();
@@ -164,8 +170,8 @@ impl<K: Kernel + Drop> Node<K> {
         self.place(id, bundle, config, reserved)
     }
 
-    /// Takes up a container of a bundle with this config that has these CPUs already: as `create`, but what its group
-    /// requests first are these and not the reserved ones, so that nothing changes for it.
+    /// Takes up a container of a bundle with this config that has these CPUs already. It is as `create`, but its group
+    /// requests these at first and not the reserved ones, so that nothing changes for it.
     ///
     /// # Errors
     /// In this order: those of `create` up to `Demand`, `NotFree`, and then those of the kernel, as `create` has them.
@@ -177,12 +183,17 @@ impl<K: Kernel + Drop> Node<K> {
         cpus: IdSet,
     ) -> Result<u32, OrMemory<NodeFault>>
         requires { cpus ≢ set.empty }
+        // It is `create` on CPUs that the container has already, in place of the reserved ones. Both are one relation,
+        // `Places`, with these CPUs as its argument. It makes a container only on CPUs that it may request, and else
+        // refuses the least that it may not. Such a CPU is not present; or it is not reserved, a live container requests
+        // it, and one of the two is pinned (`MayRequest`, `IsLeastTaken`).
         ensures adopts { Adopts self.old id.now bundle.now config.now cpus result self.new }
+        // It leaves what `create` does.
         ensures leaves { CreateLeaves self.old id.now result self.new }
         ensures counted { self.new.kernel.failures ≡ self.old.kernel.failures + rise_or_memory result }
-        // The writing calls that a launch makes, and no other.
+        // It makes as many writing calls as `create`.
         ensures made { CreateWrites self.old id.now result self.new }
-        // A refusal of the kernel has one of these causes.
+        // The kernel refuses in the same cases.
         ensures late { (fault : KernelFault) → result ≡ Err (Fault (Kernel fault)) → LateCause self.old id.now fault self.new }
     {
         self.holds();

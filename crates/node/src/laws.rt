@@ -12,27 +12,27 @@ ghost use Rattle.node.specs.UnusedLemmas.{FirstIsUnused, FirstIsOfMachine, First
 
 use crate::{CONTAINER_LIMIT, GROUP_NAME};
 
-/// Which kernels a node can be made over: those of which nothing was asked yet, and which have the machine's CPUs and nodes.
-/// Where no write of such a kernel fails, an allocation failure is the only error of making a node over it.
+/// A node can be made over every new `ModelKernel` of the machine. That is a kernel of which nothing was asked yet, and
+/// which has the machine's CPUs and nodes. An allocation failure is all that can stand against one if no write of the
+/// kernel fails.
 pub fn first_kernels()
     ensures unused { FirstIsUnused }
     ensures machine { FirstIsOfMachine }
     ensures memory { FirstWantsMemory }
 {}
 
-/// What holds of a node holds of a new one, and after any list of its calls and of the kernel's events, with all their
-/// refusals. So after each of them no CPU but reserved ones is requested for a live pinned container and for another live
-/// one.
+/// What holds of a node holds of a new one, and after any list of its calls and of the kernel's events, of plain values.
+/// All their refusals are among them, and the calls that only read. What is safe is safe after each of them.
 ///
-/// A rebalance that hands over leaves what `begin` and single steps leave, each of which makes at most one write; this holds
-/// after each of them, and so of what is left wherever a write fails. After each write of `create` and
-/// of `adopt` it holds by [`each_create`], and of `update` by [`each_update`]; each other call makes at most one.
+/// A rebalance which hands over leaves what `begin` and single steps leave, each of which makes at most one write. What is
+/// safe is safe after each of these, and so wherever a write fails. After each write of `create` and of `adopt` it is by
+/// [`each_create`], and of `update` by [`each_update`]. Each other call makes at most one.
 ///
-/// Where after such a list each live container requests a CPU that is online, the same holds of the CPUs that are in effect
-/// for them.
+/// A container asks for what the config says that was read for it last. The event that made it read that, a `create` or an
+/// `adopt`; or an `update` did behind that one. No event after it that was not refused read another for its id. Whether it
+/// can be started is what the config says with which it was made (`said`).
 ///
-/// And what a container asks for is what the config says that was read for it last: by the event that made it, a `create` or
-/// an `adopt`, or by the last `update` of it that was not refused.
+/// If each live container then requests an online CPU, the sets in effect are safe as the requested ones are (`apart`).
 pub fn runs()
     ensures first { FirstIsNode }
     ensures keep { RunsKeep }
@@ -42,77 +42,69 @@ pub fn runs()
     ensures said { ContainersAreSaid }
 {}
 
-/// How long a hand-over lasts that is stepped, whatever calls and events fall between its steps.
-///
-/// It stays open while they return that more are to come, and it ends within two steps for each of its containers; one that
-/// has none ends with its first step.
+/// A hand-over that is stepped ends within two steps for each container, whatever calls and events fall between them. One
+/// of no container ends with its first step.
 pub fn each_handover()
     ensures { HandoversEnd }
 {}
 
-/// The kernel in the midst of `create` and of `adopt`, whatever these return. Both make a container on CPUs
-/// that it may request, `create` on the reserved ones.
+/// A `create` or an `adopt`, whatever it returns, is single calls of the kernel. What is safe is safe after each of them.
 ///
-/// From the kernel before it to the one that it leaves there are single calls alone, and after each of them no CPU but
-/// reserved ones is requested for a live pinned container and for another live one, and each live one requests some.
-///
-/// The kernel refuses it only where a write fails, which is counted, or where no serial for a new group or no pid is left.
+/// The kernel refuses it only if a write fails, which is counted, or if no serial for a new group or no pid is left.
 pub fn each_create()
     ensures single { PlacesAreCalls }
     ensures safe { PlacesStaySafe }
     ensures late { PlacesFailLate }
 {}
 
-/// The kernel in the midst of `update`, whatever that returns.
-///
-/// From the kernel before it to the one that it leaves there are single calls alone, two at most, and after each of them no CPU
-/// but reserved ones is requested for a live pinned container and for another live one, and each live one requests some.
-///
-/// Where a write fails, the container asks for what it did, and requests what it did or the reserved CPUs.
+/// An `update`, whatever it returns, is single calls of the kernel, two at most. What is safe is safe after each of them.
+/// If a write fails, the container asks for what it did, and requests what it did or the reserved CPUs.
 pub fn each_update()
     ensures single { UpdatesAreCalls }
     ensures safe { UpdatesStaySafe }
     ensures fails { UpdatesFail }
 {}
 
-/// The headline: what a rebalance leaves, after any list of calls and events.
+/// The headline: what a rebalance leaves, after any list of calls and events. With it stand what the certificate tells of
+/// that and what is left if a write failed.
 ///
-/// After a plan each live container has exactly the CPUs that it asked for, of whole cores, all allowed and none shared, at a
-/// total distance to the home nodes that no plan undercuts, and what the kernel has in effect is that plan; among all plans
-/// of that total none moves fewer cores; the pool is the online CPUs that it leaves. A shortage names containers that
-/// together ask for more CPUs than the whole cores that they may have offer.
+/// After a plan each live container has exactly the CPUs that it asked for, of whole cores, all allowed and none shared. No
+/// plan undercuts their total distance to the home nodes, and among all plans of that total none moves fewer cores. What
+/// the kernel has in effect is that plan, and the pool is the online CPUs that it leaves.
 ///
-/// With it stands what the certificate tells of that, and what is left where a write failed.
+/// A shortage names containers that together ask for more CPUs than the whole cores that they may have offer.
 pub fn each_rebalance()
     ensures { RunsRebalance }
 {}
 
-/// What a plan gives to a container, after any list of calls and events from a node of no container on, by the config that was
-/// read for it last.
+/// What a plan gives to a container, by the config that was read for it last. It holds after any list of calls and events
+/// from a node of no container on.
 ///
-/// Where that asks for CPUs of its own, the container has in effect as many as it asks for, of whole cores, all of those
-/// that it allows and online; else it has the pool, which is not empty.
+/// If the config asks for CPUs of its own, the container has as many in effect, of whole cores, all allowed by it and
+/// online. Else it has the pool, which is not empty.
 pub fn what_configs_get()
     ensures { RunsServeConfigs }
 {}
 
-/// Whose the rows of a node's problem are: each is a live pinned container's, in their order, and says for each core how far it
-/// is and whether it moves, so that a shortage of the rows is one of these containers.
+/// Whose the rows of a node's problem are: each is a live pinned container's, in their order. A row says for each core how
+/// far it is and whether it moves. A shortage of the rows is one of these containers.
 pub fn whose_rows()
     ensures rows { RowsAreAsking }
     ensures scaled { ScaledRowsAreAsking }
     ensures short { ShortStands }
 {}
 
-/// Where each core has one CPU, as on a machine that tells no cores, cores say nothing: each set is whole, plans of cores are plans
-/// of CPUs, and what moves is CPUs.
+/// If each core has one CPU, as on a machine that tells no cores, each set is whole, the certificate names CPUs, and CPUs
+/// move.
 pub fn without_cores()
     ensures { WithoutCores }
 {}
 
-/// The text of what a node worked out last proves its verdict to whoever checks it; after a rebalance that is a distance and how
-/// many cores moved, or how many cores are asked for and how many there are, and what was answered is that for each CPU that a
-/// core has.
+/// The text of what a node worked out last proves its verdict to whoever checks it.
+///
+/// After a plan that is a distance, with how many cores the sets in effect moved. The total that was answered is that
+/// distance, for each CPU that a core has (`total`). After a shortage it is how many cores are asked for and how many there
+/// are, and what was answered is their CPUs (`short`).
 pub fn certificates_prove()
     ensures last { LastIsProved }
     ensures total { TotalIsProved }

@@ -1,5 +1,11 @@
 //! Containers on one NUMA host: their lifecycle (OCI Runtime Specification 1.0.2, runtime.md), and optimal plans
 //! that give them exclusive CPUs, over a kernel that pins them.
+//!
+//! # Proved
+//!
+//! - The state of a node is a plain value, and each call is one relation by cases on what it answers.
+//! - A failure of the kernel is answered exactly if its count of failures rose by one (`counted`).
+//! - `fork`, `exit`, `offline` and `online_cpu` are the kernel's cases. `pool` and `phase` are told as they are.
 #![tactic(auto)]
 
 mod begin;

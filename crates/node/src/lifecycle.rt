@@ -35,6 +35,7 @@ impl<K: Kernel + Drop> Node<K> {
     /// # Errors
     /// In this order: `NoContainer`, `NotCreated`, `NotRunnable`.
     pub fn start(&mut self, id: &str) -> Result<(), NodeFault>
+        // It changes what it is for and nothing else, and makes no writing call.
         ensures { Starts self.old id.now result self.new }
     {
         let Some(container) = find(&self.containers, id) else {
@@ -94,9 +95,11 @@ impl<K: Kernel + Drop> Node<K> {
     /// # Errors
     /// In this order: `BadSignal`, `NoContainer`, `NotLive`; or `Failed` of the kernel, where nothing ended.
     pub fn kill(&mut self, id: &str, signal: &str) -> Result<(), NodeFault>
+        // It changes what it is for and nothing else. The only thing that the kernel answers in it is that its write
+        // failed.
         ensures kills { Kills self.old id.now signal.now result self.new }
         ensures counted { self.new.kernel.failures ≡ self.old.kernel.failures + rise_of result }
-        // One writing call of the kernel, or none where the refusal is the node's own.
+        // It makes one writing call, or none if the refusal is the node's own.
         ensures made { self.new.kernel.writes ≡ self.old.kernel.writes + one_write result }
     {
         self.kill_body(id, signal)
@@ -107,9 +110,11 @@ impl<K: Kernel + Drop> Node<K> {
     /// # Errors
     /// In this order: `Busy`, `NoContainer`, `NotStopped`; or `Failed` of the kernel, where nothing is removed.
     pub fn delete(&mut self, id: &str) -> Result<(), NodeFault>
+        // It changes what it is for and nothing else. The only thing that the kernel answers in it is that its write
+        // failed.
         ensures deletes { Deletes self.old id.now result self.new }
         ensures counted { self.new.kernel.failures ≡ self.old.kernel.failures + rise_of result }
-        // One writing call of the kernel, or none where the refusal is the node's own.
+        // It makes one writing call, or none if the refusal is the node's own.
         ensures made { self.new.kernel.writes ≡ self.old.kernel.writes + one_write result }
     {
         self.delete_body(id)

@@ -99,15 +99,16 @@ impl<K: Kernel + Drop> Node<K> {
         requires machine { IsOfMachine (K.state kernel) machine }
         requires unused { IsUnused (K.state kernel) }
         ensures opened { IfOk result (λ n. Opens (K.state kernel) machine n) }
+        // If the kernel refuses its group, it hands kernel and machine back.
         ensures refused { IfErr result (λ r. OpensNot (K.state kernel) r.error (K.state r.kernel)) }
         ensures back { IfErr result (λ r. r.machine ≡ machine) }
         ensures counted { MatchResult result (λ n. n.kernel.failures ≡ (K.state kernel).failures)
             (λ r. (K.state r.kernel).failures ≡ (K.state kernel).failures + error_rise r.error) }
-        // One writing call where there is no group of the node's, and else none.
+        // It makes one writing call if there is no such group, and else none.
         ensures made { MatchResult result (λ n. OpenWrites (K.state kernel) n.kernel) (λ r. OpenWrites (K.state kernel) (K.state r.kernel)) }
         // A kernel that is handed back may be used again.
         ensures again { IfErr result (λ r. IsOfMachine (K.state r.kernel) machine × IsUnused (K.state r.kernel)) }
-        // A refusal of the kernel has one of these causes.
+        // The kernel refuses in two cases only: a write fails, or there is no such group and no serial is left for it.
         ensures late { IfErr result (λ r. (fault : KernelFault) → r.error ≡ Fault fault → OpenCause (K.state kernel) fault (K.state r.kernel)) }
     {
         let _ = machine.threads();
@@ -139,6 +140,10 @@ impl<K: Kernel + Drop> Node<K> {
     /// request are safe: outside the reserved CPUs no CPU is requested for a live pinned container and for another live
     /// one, and no live one requests none.
     pub fn holds(&self)
+        // The node's group is `numarun` below the root, and requests nothing. Each container's group is a child of it, of
+        // the container's id, and no group is below that. Every live process belongs to a container. There are at most
+        // 1,024 containers. What is requested is safe, as under `apply_plan`. A hand-over that is open is of all live
+        // containers.
         ensures { IsNode self.now }
     {
         let _ = &self.parent;

@@ -65,6 +65,7 @@ impl<K: Kernel + Drop> Node<K> {
     /// # Errors
     /// `NoContainer`.
     pub fn sets(&self, id: &str) -> Result<Sets, NodeFault>
+        // They are the container's requested and effective sets.
         ensures { HasSets self.now id.now result }
     {
         match find(&self.containers, id) {

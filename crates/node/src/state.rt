@@ -79,6 +79,7 @@ impl<K: Kernel + Drop> Node<K> {
     /// # Errors
     /// `NoContainer`, or an allocation failure.
     pub fn state(&self, id: &str) -> Result<String, OrMemory<NodeFault>>
+        // The members are written in their order.
         ensures { Shows self.now id.now result }
     {
         let Some(container) = find(&self.containers, id) else {

@@ -132,8 +132,8 @@ impl<K: Kernel + Drop> Node<K> {
     }
 
     /// Reads the config of a live container again, of this bundle: its bundle and what it asks for are the new ones from
-    /// then on, and it keeps the CPUs that its group requests until the next plan. One that had no CPUs of its own and now
-    /// asks for some is written to the reserved CPUs first, where it requests others. Whether it can be started stays.
+    /// then on. It keeps the CPUs that its group requests until the next plan. One that had no CPUs of its own and now asks
+    /// for some is written to the reserved CPUs first, if it requests others. Whether it can be started stays.
     ///
     /// # Errors
     /// In this order: `Busy`, `NoContainer`, `NotLive`, `Config`, `Demand`; or `Failed` of the kernel, after which it asks for
@@ -144,13 +144,16 @@ impl<K: Kernel + Drop> Node<K> {
         bundle: &str,
         config: &[u8],
     ) -> Result<(), OrMemory<NodeFault>>
+        // Its demand and its bundle are the new ones from then on. If a shared one becomes pinned and requests others, the
+        // reserved CPUs are written first. Its memory nodes are written if the homes differ.
         ensures updates { Updates self.old id.now bundle.now config.now result self.new }
         ensures counted { self.new.kernel.failures ≡ self.old.kernel.failures + rise_or_memory result }
-        // Two writing calls of the kernel at most.
+        // It makes two writing calls at most.
         ensures few { self.new.kernel.writes ≤ self.old.kernel.writes + 2 }
-        // And none where its homes stay, and it becomes shared, or stays what it was, or requests the reserved CPUs already.
+        // It makes none if the homes stay and the container becomes shared, stays pinned or shared as it was, or requests
+        // the reserved CPUs already.
         ensures none { IfOk result (λ done. WritesNoMore self.old id.now self.new) }
-        // What a write that fails leaves.
+        // If a write fails, the container asks for what it did and requests what it did or the reserved CPUs.
         ensures fails { (fault : KernelFault) → result ≡ Err (Fault (Kernel fault)) → IsAsBefore self.old id.now self.new }
     {
         self.holds();

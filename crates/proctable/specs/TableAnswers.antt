@@ -37,5 +37,6 @@ Spawns old g = Grows (spawn_refusal old) (λ pid. AddsProcess old g pid pid) old
 abbrev pub ForksOf : TableState → ℕ → ℕ → TableState → Type 0
 ForksOf old parent pid new = (p : Process) × (process_of old parent ≡ Some p) × AddsProcess old p.group p.first pid new
 
+-- a process is made, which belongs to its parent's first process and is in the same group
 abbrev pub Forks : TableState → ℕ → Result ℕ (OrMemory ProcFault) → TableState → Type 0
 Forks old parent = Grows (fork_refusal old parent) (ForksOf old parent) old

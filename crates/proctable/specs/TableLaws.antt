@@ -15,18 +15,21 @@ pub record ProcessAdded (t new : TableState) (g : Group) (first pid : ℕ) : Typ
   pub others : (q : ℕ) → q ≢ pid → process_of new q ≡ process_of t q
   pub differs : (q : ℕ) → is_alive t q ≡ true → q ≢ pid
 
+-- a new process is there, and all others stay
 abbrev pub AddedLeaves : Type 0
 AddedLeaves = (t new : TableState) (g : Group) (first pid : ℕ) → AddsProcess t g first pid new → ProcessAdded t new g first pid
 
--- after the end of some: those that do not end stay, those that end are there no more, and none comes
+-- some processes end: those that do not end stay, those that end are there no more, and none comes
 pub record SomeEnd (t new : TableState) (ends : Process → Bool) : Type 0 where
   pub stay : (q : ℕ) (p : Process) → process_of t q ≡ Some p → ends p ≡ false → process_of new q ≡ Some p
   pub end : (q : ℕ) (p : Process) → process_of t q ≡ Some p → ends p ≡ true → process_of new q ≡ None
   pub none : (q : ℕ) → process_of t q ≡ None → process_of new q ≡ None
 
+-- after the end of a process those that belong to it are gone with it, and all others stay
 abbrev pub ExitedLeaves : Type 0
 ExitedLeaves = (t : TableState) (pid : ℕ) → IsWellFormed t → SomeEnd t (after_exit t pid) (ends_with pid)
 
+-- after the end of a group's processes all others stay
 abbrev pub EndedLeaves : Type 0
 EndedLeaves = (t : TableState) (g : Group) → IsWellFormed t → SomeEnd t (ended_in t g) (λ p. same_group p.group g)
 
@@ -34,10 +37,11 @@ EndedLeaves = (t : TableState) (g : Group) → IsWellFormed t → SomeEnd t (end
 abbrev pub EndedIsEmpty : Type 0
 EndedIsEmpty = (t : TableState) (g : Group) → count_in (ended_in t g) g ≡ 0
 
--- a process that is found is the one of that pid, and its pid was given
+-- a process that is found is the one of that pid
 abbrev pub FoundHasPid : Type 0
 FoundHasPid = (t : TableState) (q : ℕ) (p : Process) → process_of t q ≡ Some p → p.pid ≡ q
 
+-- the pid of a live process was given
 abbrev pub PidIsGiven : Type 0
 PidIsGiven = (t : TableState) (q : ℕ) → IsWellFormed t → is_alive t q ≡ true → q < t.next_pid
 
@@ -45,7 +49,7 @@ PidIsGiven = (t : TableState) (q : ℕ) → IsWellFormed t → is_alive t q ≡ 
 abbrev pub NoneWhereNoneCounted : Type 0
 NoneWhereNoneCounted = (t : TableState) (g : Group) → count_in t g ≡ 0 → (q : ℕ) (p : Process) → process_of t q ≡ Some p → same_group p.group g ≡ false
 
--- and a group that no process is in has none that is counted
+-- a group that no process is in has none that is counted
 abbrev pub NoneCountedWhereNone : Type 0
 NoneCountedWhereNone =
     (t : TableState) (g : Group) → IsWellFormed t → ((q : ℕ) (p : Process) → process_of t q ≡ Some p → same_group p.group g ≡ false) → count_in t g ≡ 0
@@ -54,7 +58,7 @@ NoneCountedWhereNone =
 abbrev pub LiveBelong : Type 0
 LiveBelong = (t : TableState) (q : ℕ) (p : Process) → IsWellFormed t → process_of t q ≡ Some p → Belongs t.live p
 
--- a group has no process where all that it has would belong to one that is not alive
+-- a group has no process if all that it has would belong to one that is not alive
 abbrev pub EmptyOnceFirstEnded : Type 0
 EmptyOnceFirstEnded =
     (t : TableState) (g : Group) (first : ℕ) → IsWellFormed t → is_alive t first ≡ false
@@ -67,8 +71,10 @@ pub record StaysWellFormed (t : TableState) : Type 0 where
   pub exited : (pid : ℕ) → IsWellFormed (after_exit t pid)
   pub ended : (g : Group) → IsWellFormed (ended_in t g)
 
+-- each change of a table leaves a table
 abbrev pub ChangesStayWellFormed : Type 0
 ChangesStayWellFormed = (t : TableState) → IsWellFormed t → StaysWellFormed t
 
+-- a table without processes is one
 abbrev pub FirstIsWellFormed : Type 0
 FirstIsWellFormed = (first_pid : ℕ) → IsWellFormed (first_table first_pid)

@@ -21,7 +21,7 @@ abbrev pub AllBelong : List Process → List Process → Type 0
 AllBelong live [] = Unit {0}
 AllBelong live (p ∷ later) = Belongs live p × AllBelong live later
 
--- no pid was given twice nor will be, and each process belongs to a live first process of its group
+-- pids rise, so none was given twice nor will be; each process belongs to a live first process of its group
 pub record IsWellFormed (t : TableState) : Type 0 where
   pub rising : RisesBelow 0 t.next_pid t.live
   pub belong : AllBelong t.live t.live

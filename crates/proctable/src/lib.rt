@@ -1,4 +1,9 @@
 //! The live processes of a modelled kernel: each has a pid, a group, and the first process that it belongs to.
+//!
+//! # Proved
+//!
+//! - A process that has ended keeps its place in the table until it is packed. It is an invariant of the table that at most
+//!   half of the places are of ended processes, so what is kept follows what lives.
 #![tactic(auto)]
 
 mod fault;

@@ -1,4 +1,5 @@
 -- The line that standard error gets of something that is wrong.
+-- From: UTF-8's control characters below 160; the line is ours.
 use Rattle.std.specs.Prelude.{ℕ, ◌/◌, ◌%◌, ◌==◌, ◌&&◌, ◌||◌, Bool, nat_le, nat_lt, if◌then◌else◌, List, [], ◌∷◌, ◌++◌, codes, get_or}
 
 -- the control characters of ASCII
@@ -34,6 +35,6 @@ shown_behind before (b ∷ rest) = shown_byte before b (get_or rest 0 0) ++ show
 abbrev pub shown_name : List ℕ → List ℕ
 shown_name name = shown_behind 0 name
 
--- what it is of, and what is wrong with it
+-- the line that standard error gets of something that is wrong: what it is of, and what is wrong with it
 abbrev pub error_line : List ℕ → List ℕ → List ℕ
 error_line of wrong = codes "error: " ++ (shown_name of ++ (codes ": " ++ (wrong ++ codes "\n")))

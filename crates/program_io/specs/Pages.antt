@@ -16,11 +16,11 @@ Sends contents old new bytes = Appends (contents_of contents old) (contents_of c
 abbrev pub TakesFront : Option (List ℕ) → Option (List ℕ) → List ℕ → Type 0
 TakesFront old new bytes = (n : ℕ) × (n ≤ length bytes) × Appends old new (take n bytes)
 
--- the page took a front of the bytes
+-- the page took a prefix of the bytes
 abbrev pub Takes : {W : Type 0} → (W → Option (List ℕ)) → Page W → Page W → List ℕ → Type 0
 Takes contents old new bytes = TakesFront (contents_of contents old) (contents_of contents new) bytes
 
--- the page took a front of the bytes, and all of them where it had room for them
+-- the page took a prefix of the bytes, and all of them if it had room for them
 abbrev pub TakesIfRoom : {W : Type 0} → (W → Option (List ℕ)) → Page W → Page W → List ℕ → Type 0
 TakesIfRoom contents old new bytes =
     Takes contents old new bytes

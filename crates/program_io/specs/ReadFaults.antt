@@ -5,7 +5,7 @@ use Rattle.std.specs.declared.io.ErrorKind.TheVariants.{NotFound, IsADirectory, 
 use Rattle.program_io.specs.declared.read_fault.ReadFault.{ReadFault}
 use Rattle.program_io.specs.declared.read_fault.ReadFault.TheVariants.{NoSuchFile, Directory, Forbidden, Failed, TooManyBytes, TooManyReads}
 
--- the reason in words
+-- a reason in words
 abbrev pub reason_of : ReadFault → List ℕ
 reason_of NoSuchFile = codes "no such file"
 reason_of Directory = codes "is a directory"
@@ -14,7 +14,7 @@ reason_of Failed = codes "can't be read"
 reason_of TooManyBytes = codes "has more than 67108864 bytes"
 reason_of TooManyReads = codes "took more than 1000000 reads"
 
--- the system told it by an error of this kind, and no bound was passed
+-- this reason stands for an error of this kind that the system told, and no bound was passed
 abbrev pub IsTold : ErrorKind → ReadFault → Type 0
 IsTold kind NoSuchFile = kind ≡ NotFound
 IsTold kind Directory = kind ≡ IsADirectory

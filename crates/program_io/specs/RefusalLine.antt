@@ -84,6 +84,6 @@ text_of (arguments.One first) = arguments_text (first ∷ [])
 text_of (arguments.Two first second) = arguments_text (first ∷ second ∷ [])
 text_of (arguments.Word word) = word_text word.now
 
--- the line of a title and its arguments
+-- the line that a refusal of an input is printed as: its title and its arguments
 abbrev pub refusal_line : Refusal → List ℕ
 refusal_line why = (codes "refused " ++ title_of why) ++ (arguments_of why ++ codes "\n")

@@ -31,7 +31,7 @@ LacksRoom old new = (taken : List ℕ) × (0 < length taken) × (length taken �
 abbrev pub PassesBound : Option (List ℕ) → Option (List ℕ) → Type 0
 PassesBound old new = (taken : List ℕ) × (length taken ≡ MOST_BYTES + 1) × Consumes old new taken
 
--- how far an input was read that is answered so
+-- how far an input was read that could not be read to its end, by the answer
 abbrev pub StopsWith : Option (List ℕ) → Option (List ℕ) → OrMemory ReadFault → Type 0
 StopsWith old new Memory = LacksRoom old new
 StopsWith old new (Fault TooManyBytes) = PassesBound old new

@@ -25,6 +25,8 @@ pub enum ReadFault {
 impl ReadFault {
     /// The reason that the system tells.
     pub fn told(kind: ErrorKind) -> ReadFault
+        // A failed opening or read is told by the kind of its error (`IsTold`): no such file, a directory, permission
+        // denied, and another.
         ensures { IsTold kind result }
     {
         match kind {

@@ -23,10 +23,14 @@ pub(crate) const PIECE: usize = 8192;
 /// than [`MOST_BYTES`] bytes; `Memory` where an allocation for them failed. The reader then gave what was read so far,
 /// at most [`MOST_BYTES`] bytes, and one more where there are too many.
 pub fn read_all<R: Read>(alloc: Global, reader: &mut R) -> Result<Vec<u8>, OrMemory<ReadFault>>
+    // It gives the reader's bytes whole.
     ensures bytes { IfOk result (λ bytes. IfSome (R.remaining reader.old) (λ all. bytes.items ≡ all)) }
     ensures end { OnOk result (IsAtEnd (R.remaining reader.new)) }
     ensures size { IfOk result (λ bytes. vec_len bytes ≤ MOST_BYTES) }
+    // It gives the whole only if fewer reads than are made at most can have brought it.
     ensures reads { IfOk result (λ bytes. IsReadBy bytes.items) }
+    // Else it fails within its bounds. 'Too many bytes' comes only if there are. 'Too many reads' comes only if the input
+    // had at least 1,000,000 bytes, and no more than 1,000,000 reads can bring.
     ensures err { IfErr result (StopsWith (R.remaining reader.old) (R.remaining reader.new)) }
 {
     let mut bytes = Vec::new(alloc);

@@ -8,7 +8,8 @@ use Rattle.rows.specs.declared.cache.CachedOffers.{CachedOffers}
 use Rattle.rows.specs.Offers.{offers_of}
 use Rattle.rows.specs.Scaled.{parted}
 
--- they are those of the cores in the CPUs for the homes, and parts that are kept are those for the cores in what is held
+-- offers that were kept are those of the cores in their CPUs for their homes; parts that were kept are those for the cores in
+-- what is held
 pub record IsCached (m : Layout) (w : CachedOffers) : Type 0 where
   pub offers : w.offers ≡ offers_of m w.homes (cores_in m w.cpus)
   pub parts : IfSome w.parts (λ p. p.offers ≡ flat_map (parted (cores_in m p.held)) w.offers)

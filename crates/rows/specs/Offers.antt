@@ -22,6 +22,6 @@ has_some offer = nat_lt 0 (set.len offer.cpus)
 abbrev pub offers_below : Layout → Ids → Ids → ℕ → List Offer
 offers_below m homes cpus n = filter has_some (map (offer_at m homes cpus) (range_with_len 0 n))
 
--- and for each distance at which a node can be reached
+-- an offer for each distance at which a node can be reached, rising, with the CPUs there
 unfoldable pub offers_of : Layout → Ids → Ids → List Offer
 offers_of m homes cpus = offers_below m homes cpus 255

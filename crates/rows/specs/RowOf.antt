@@ -14,7 +14,7 @@ use Rattle.rows.specs.Offers.{offers_of}
 abbrev pub available : Ids → Demand → Ids
 available online d = set.intersection d.allowed online
 
--- and the cores of which it may get all, each by its lowest CPU
+-- the cores of which a container is allowed all CPUs and all are online, each by its lowest CPU
 abbrev pub offered : Layout → Ids → Demand → Ids
 offered m online d = cores_in m (available online d)
 
@@ -22,6 +22,6 @@ abbrev pub row_of_kind : Layout → Ids → List ℕ → Demand → Kind → Opt
 row_of_kind m online id d (Pinned count) = Some (record { id = id; demand = count / m.threads; offers = offers_of m d.homes (offered m online d) })
 row_of_kind m online id d Shared = None
 
--- the row of a container that asks for CPUs of its own: it counts cores
+-- the row of a container that asks for CPUs of its own: its demand in cores, and the offers of the cores that it may get
 abbrev pub row_of : Layout → Ids → List ℕ → Demand → Option RowView
 row_of m online id d = row_of_kind m online id d d.kind

@@ -24,7 +24,8 @@ kept held o = record { weight = packed o.weight 0; cpus = set.intersection o.cpu
 abbrev pub moved : Ids → Offer → Offer
 moved held o = record { weight = packed o.weight 1; cpus = set.difference o.cpus held }
 
--- those of the two that have a CPU
+-- an offer in two parts: the CPUs that are held, and those that are not, which are a move each. A part without a CPU is left
+-- out.
 abbrev pub parted : Ids → Offer → List Offer
 parted held o = filter has_some (kept held o ∷ moved held o ∷ [])
 
@@ -32,32 +33,32 @@ parted held o = filter has_some (kept held o ∷ moved held o ∷ [])
 abbrev pub scaled : Ids → RowView → RowView
 scaled held row = record { id = row.id; demand = row.demand; offers = flat_map (parted held) row.offers }
 
--- a CPU weighs what it weighs in the row as the distance, and a move where it is not held
+-- in a scaled row a CPU weighs its distance, as in the row, and a move if it is not held
 abbrev pub ScaledRowsWeigh : Type 0
 ScaledRowsWeigh =
     (held : Ids) (row : RowView) (cpu : ℕ)
     → weight (scaled held row) cpu ≡ option_map (λ w. packed w (cond (set.contains held cpu) 0 1)) (weight row cpu)
 
--- its distance is what it weighs in the row
+-- by distance a CPU weighs what it weighs in the row
 abbrev pub DistancesStay : Type 0
 DistancesStay = (held : Ids) (row : RowView) (cpu : ℕ) → weight (with_weights distance_of (scaled held row)) cpu ≡ weight row cpu
 
--- and it is one move where it is not held, and none where it is
+-- by moves a CPU weighs 1 if it is not held, and else 0
 abbrev pub MovesAreUnheld : Type 0
 MovesAreUnheld =
     (held : Ids) (row : RowView) (cpu : ℕ)
     → weight (with_weights moves_of (scaled held row)) cpu ≡ option_map (λ _. cond (set.contains held cpu) 0 1) (weight row cpu)
 
--- a scaled row of distances is within the limits where the row is
+-- a scaled row of distances is within the limits if the row is
 abbrev pub ScaledRowsFit : Type 0
 ScaledRowsFit =
     (held : Ids) (row : RowView) → are_distances row.offers ≡ true → row_fits row ≡ true
     → row_fits (scaled held row) ≡ true
 
--- the parts of offers that rise do
+-- offers that rise do so when they are parted
 abbrev pub PartsRise : Type 0
 PartsRise = (held : Ids) (offers : List Offer) → AreRising offers → AreRising (flat_map (parted held) offers)
 
--- and they are scaled
+-- parted offers are scaled: no CPU of them is more than one move
 abbrev pub PartsAreScaled : Type 0
 PartsAreScaled = (held : Ids) (offers : List Offer) → list_all is_scaled (flat_map (parted held) offers) ≡ true

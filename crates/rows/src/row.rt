@@ -34,8 +34,15 @@ pub fn scaled_row_of(
 ) -> Result<Option<Row>, AllocError>
     requires fits { FitsMachine machine.now demand.now }
     requires cache { All (IsCached machine.now) cache.old.items }
+    // The row that is made asks for as many cores as the demand has. The row of its distances has one offer for each
+    // distance, rising. It is over the cores that the container may get as a whole and that are online as a whole. In the
+    // row that is made each weight is the distance, and a move if the container does not hold all CPUs of the core. A
+    // shared container has no row.
     ensures row { IfOk result (λ row. row ≡ option_map (scaled (cores_in machine.now held.now)) (row_of machine.now online.now id.now demand.now)) }
+    // The row is within the limits of the checks.
     ensures fits { IfOk result (λ row. IfSome row (λ r. IsTrue (row_fits r))) }
+    // In the list that it leaves, each entry has the offers of the cores in its CPUs for its homes. It may have their
+    // parts, for one that holds the CPUs that it names.
     ensures cache { All (IsCached machine.now) cache.new.items }
 {
     let Kind::Pinned(count) = demand.kind else {

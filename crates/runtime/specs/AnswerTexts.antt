@@ -17,14 +17,16 @@ use Rattle.runtime.specs.RefusalLine.{refusal_line}
 use Rattle.runtime.specs.declared.refusal.Refusal.{Refusal}
 use Rattle.runtime.specs.declared.refusal.Refusal.TheVariants.{Memory, Node}
 
--- the refusal that stands for an error of a call
+-- the refusal that stands for an error of a call of the node
 abbrev pub of_either : OrMemory NodeFault → Refusal
 of_either either.Memory = Memory
 of_either (either.Fault fault) = Node fault
 
+-- the refusal that stands for an error of an event of the kernel
 abbrev pub of_kernel_fault : KernelFault → Refusal
 of_kernel_fault fault = Node (Kernel fault)
 
+-- the refusal that stands for an error of an event of the kernel that allocates
 abbrev pub of_kernel : OrMemory KernelFault → Refusal
 of_kernel either.Memory = Memory
 of_kernel (either.Fault fault) = of_kernel_fault fault
@@ -37,6 +39,7 @@ answer_text text refusal (Err error) = refusal_line (refusal error)
 abbrev pub done_line : Unit {0} → List ℕ
 done_line done = codes "ok\n"
 
+-- the text of a pid
 abbrev pub pid_line : ℕ → List ℕ
 pid_line pid = codes "pid " ++ (decimal pid ++ codes "\n")
 
@@ -48,6 +51,7 @@ set_text s = if is_empty s then codes "-" else list_text s
 abbrev pub both_text : List ℕ → Ids → Ids → List ℕ
 both_text label requested effective = (label ++ set_text requested) ++ (codes " effective " ++ set_text effective)
 
+-- the text of a container's sets, requested and in effect
 abbrev pub sets_line : Sets → List ℕ
 sets_line sets = both_text (codes "cpus ") sets.cpus sets.effective_cpus ++ (both_text (codes " mems ") sets.mems sets.effective_mems ++ codes "\n")
 
@@ -55,9 +59,11 @@ sets_line sets = both_text (codes "cpus ") sets.cpus sets.effective_cpus ++ (bot
 abbrev pub entry_line : List ℕ × Status → List ℕ
 entry_line e = e.0 ++ (codes " " ++ (status_text e.1 ++ codes "\n"))
 
+-- the text of `list`: a line for each container, and the end
 abbrev pub listing_text : List (List ℕ × Status) → List ℕ
 listing_text entries = flat_map entry_line entries ++ codes "end\n"
 
+-- the text of a phase
 abbrev pub phase_line : Phase → List ℕ
 phase_line Settled = codes "settled\n"
 phase_line Underway = codes "underway\n"

@@ -50,7 +50,7 @@ abbrev pub AnswersCreate : (List ℕ → Option (List ℕ) → Type 0) → NodeS
 AnswersCreate finds old id bundle text new =
     WantsMemory old text new ⊎ ((found : Option (List ℕ)) × finds bundle found × AnswersFound old id bundle found text new)
 
--- the CPUs that a list names; or why the command refuses it: it is no list, or it names none
+-- the CPUs that the list of an `adopt` names; or why the command refuses it: it is no list, or it names none
 abbrev pub NamesCpus : List ℕ → Result Ids Refusal → Type 0
 NamesCpus list (Ok cpus) = (first_fault CPU_LIMIT list ≡ None) × IsSetOf list cpus × (cpus ≢ set.empty)
 NamesCpus list (Err (BadSet error)) = first_fault CPU_LIMIT list ≡ Some error
@@ -138,7 +138,7 @@ abbrev pub AnswersCertificate : NodeState → List ℕ → NodeState → Type 0
 AnswersCertificate old text new =
     (r : Result Certificate NodeFault) × ShowsCertificate old r × (text ≡ answer_text text_of Node r) × (new ≡ old)
 
--- the answer to a command: that of the node's own call, as its text
+-- which text answers a command, and what the runtime is then: an answer that the node's own call may give, as its text
 abbrev pub AnswersBy : (List ℕ → Option (List ℕ) → Type 0) → NodeState → Asked → List ℕ → NodeState → Type 0
 AnswersBy finds old (ask.create id bundle) text new = AnswersCreate finds old id bundle text new
 AnswersBy finds old (ask.adopt id bundle list) text new = AnswersAdopt finds old id bundle list text new
@@ -159,10 +159,10 @@ AnswersBy finds old (ask.exit pid) text new = AnswersExit old pid text new
 AnswersBy finds old (ask.offline cpu) text new = AnswersOffline old cpu text new
 AnswersBy finds old (ask.online cpu) text new = AnswersOnline old cpu text new
 
--- by what is told of the bundles, and that stays
+-- the text answers a command by what is told of the bundles; that stays
 abbrev pub Answered : RuntimeState → Asked → List ℕ → RuntimeState → Type 0
 Answered old command text new = AnswersBy (IsFound old.told) old.node command text new.node × (new ≡ record old { node = new.node })
 
--- by what is told of the bundles and what looks at them may find, and what is told stays
+-- the text answers a command by what is told of the bundles and what looks at them may find; what is told stays
 abbrev pub AnsweredBy : (List ℕ → Option (List ℕ) → Type 0) → RuntimeState → Asked → List ℕ → RuntimeState → Type 0
 AnsweredBy finds old command text new = AnswersBy (IsSeen finds old.told) old.node command text new.node × (new ≡ record old { node = new.node })

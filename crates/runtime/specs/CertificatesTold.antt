@@ -19,9 +19,10 @@ use Rattle.runtime.specs.Answered.{Answered}
 use Rattle.runtime.specs.RuntimeState.{RuntimeState}
 use Rattle.runtime.specs.ScriptLaws.{AreCalls}
 
--- the verdict on what was told last, with one call or event more, by cores: of a plan the total, and how many cores move from
--- what was requested before to the sets that are then in effect, or that a `begin` is to bring about; of a shortage how many are
--- asked for and how many are allowed; a rebalance whose write failed has worked out another and told none
+-- the verdict on what was told last, with one call or event more, by cores. Of a plan it is the total and how many cores
+-- move, from what was requested before to the sets then in effect. After a `begin` these are the sets that it is to bring
+-- about. Of a shortage it is how many are asked for and how many are allowed. A rebalance whose write failed has worked out
+-- another and told none.
 abbrev pub told_with : Option Verdict → (old : NodeState) (event : Event) (new : NodeState) → Step old event new → Option Verdict
 told_with told old (Rebalance (Ok (Plan total))) new step = Some (proves.Moves (total / old.machine.threads) (moved old (effective_sets new.kernel new.containers)))
 told_with told old (Rebalance (Ok (Short wanted allowed))) new step = Some (proves.Short (wanted / old.machine.threads) (set.len allowed / old.machine.threads))
@@ -30,13 +31,13 @@ told_with told old (Begin (Ok (Plan total))) new step = Some (proves.Moves (tota
 told_with told old (Begin (Ok (Short wanted allowed))) new step = Some (proves.Short (wanted / old.machine.threads) (set.len allowed / old.machine.threads))
 told_with told old event new step = told
 
--- and with many
+-- the verdict on what many calls and events told last
 abbrev pub told_last : Option Verdict → (old : NodeState) (events : List Event) (new : NodeState) → Run old events new → Option Verdict
 told_last told old [] new run = told
 told_last told old (event ∷ later) new (mid, step, run) = told_last (told_with told old event mid step) mid later new run
 
 -- whatever lines of a script over a node were answered before, the text that answers `certificate` proves the verdict on what
--- the calls of these lines told last
+-- their calls told last
 abbrev pub CertificatesAreTold : Type 0
 CertificatesAreTold = (first old new : RuntimeState) (lines : List (List ℕ)) (text printed : List ℕ) (verdict : Verdict)
     → IsNode first.node → Runs Answered first lines text old → (calls : AreCalls first lines text old)

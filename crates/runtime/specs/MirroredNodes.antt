@@ -15,19 +15,21 @@ use Rattle.node.specs.NodeState.{NodeState}
 use Rattle.node.specs.Owners.{owners_of}
 use Rattle.runtime.specs.Boots.{IsKernelOf, beginning_of}
 
--- where the writes of this machine's kernel are made: below this root, where these nodes have memory, in a tree that is opened so
+-- where the writes of this machine's kernel are made: below this root, where these nodes have memory, in a tree that is
+-- opened so
 abbrev pub site_of : Layout → List ℕ → Ids → Bool → Site
 site_of m root memory adopt = record { root = root; memory = memory; adopt = adopt; first = beginning_of m }
 
--- there are files, opened so, of which all that was asked, from the beginning on, is what the calls of the node's kernel stand for, in
--- their order, from its beginning on; where they do what they answer each group's files have what it requests, and that is safe
+-- all that was asked of the files, which were opened so, is what the calls of the node's kernel stand for. They stand in
+-- their order, from its beginning on. If the files do what they answer, each group's have what it requests, and that is safe.
 pub record IsMirroredNode {F : Type 0} (asked : F → Bool → List Asked → Type 0) (site : Site) (n : NodeState) : Type 0 where
   pub files : F
   pub mirrored : IsMirrored asked site n.kernel files
   pub stands : FilesStand asked site n.kernel files
   pub safe : IsSafe n.kernel n.kernel.reserved (map (λ o. o.holder) (owners_of n.containers))
 
--- no node was made of a machine, as a kernel like this refused its group; all that was asked of its files is what that call stands for
+-- no node was made of a machine, since a kernel like this refused its group; all that was asked of its files is what that
+-- call stands for
 pub record IsNotBooted {F : Type 0} (asked : F → Bool → List Asked → Type 0) (site : Site) (m : Layout) (error : OrMemory KernelFault) : Type 0 where
   pub first : KernelState
   pub its : IsKernelOf m first

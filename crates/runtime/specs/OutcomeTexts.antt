@@ -55,10 +55,11 @@ abbrev pub end_lines : Ids → Outcome → List ℕ
 end_lines pool (Plan total) = pool_lines pool
 end_lines pool (Short wanted allowed) = codes "end\n"
 
--- an outcome, with the containers of the last certificate and the pool
+-- the text of a plan or a shortage, with the containers of the last certificate and the pool
 abbrev pub outcome_text : NodeState → Outcome → List ℕ
 outcome_text n outcome = first_line outcome ++ (last_lines n.machine n.last ++ end_lines n.pool outcome)
 
+-- the text of a step
 abbrev pub progress_line : Progress → List ℕ
 progress_line More = codes "more\n"
 progress_line Done = codes "done\n"

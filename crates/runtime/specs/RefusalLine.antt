@@ -52,11 +52,12 @@ title_of (refusal.BadSet error) = codes "E102 BadSet"
 title_of refusal.NoCpus = codes "E103 NoCpus"
 title_of refusal.NoBundle = codes "E111 NoBundle"
 
--- what stands behind the name
+-- what stands behind the name of a refusal
 abbrev pub arguments_of : Refusal → List ℕ
 arguments_of (refusal.Node fault) = node_arguments fault
 arguments_of (refusal.BadSet error) = list_argument error
 arguments_of why = []
 
+-- the line that a refused command is answered by
 abbrev pub refusal_line : Refusal → List ℕ
 refusal_line why = (codes "refused " ++ title_of why) ++ (arguments_of why ++ codes "\n")

@@ -59,8 +59,8 @@ event_text new (Exit pid answer) = answer_text done_line of_kernel_fault answer
 event_text new (Offline cpu answer) = answer_text done_line of_kernel_fault answer
 event_text new (Online cpu answer) = answer_text done_line of_kernel_fault answer
 
--- the call or event that a command asks for: that of a `create`, an `adopt` or an `update` with the config that is found of the bundle, and
--- of an `adopt` with the CPUs that the list names
+-- the call or event that a command asks for. Of a `create`, an `adopt` or an `update` it has the config that is found of the
+-- bundle. Of an `adopt` it has the CPUs that the list names.
 abbrev pub IsFor : Told → Asked → Event → Type 0
 IsFor told (ask.create id bundle) event =
     (config : List ℕ) × (answer : Result ℕ (OrMemory NodeFault)) × IsFound told bundle (Some config) × (event ≡ Create id bundle config answer)
@@ -85,7 +85,7 @@ IsFor told (ask.exit pid) event = (answer : Result (Unit {0}) KernelFault) × (e
 IsFor told (ask.offline cpu) event = (answer : Result (Unit {0}) KernelFault) × (event ≡ Offline cpu answer)
 IsFor told (ask.online cpu) event = (answer : Result (Unit {0}) KernelFault) × (event ≡ Online cpu answer)
 
--- this one, once, and the text of its answer
+-- a command makes this one, once, and prints the text of its answer
 pub record IsCall (told : Told) (command : Asked) (old : NodeState) (text : List ℕ) (new : NodeState) : Type 0 where
   pub event : Event
   pub its : IsFor told command event
@@ -104,17 +104,18 @@ MakesNone told (ask.adopt id bundle list) text =
 MakesNone told (ask.update id bundle) text = FindsNone told bundle text
 MakesNone told command text = ⊥
 
--- a command refused with no call
+-- a command is refused with no call
 abbrev pub IsNoCall : Told → Asked → NodeState → List ℕ → NodeState → Type 0
 IsNoCall told command old text new = MakesNone told command text × (new ≡ old)
 
--- what answers a command is the text of the call or event that it asks for, also of a call that only reads; but for a `create`,
--- an `adopt` or an `update` for which no config was found, and an `adopt` whose list names no CPUs
+-- a command is answered by the text of the call or event that it asks for, also of a call that only reads. Two exceptions
+-- make no call. The bundle of a `create`, an `adopt` or an `update` is not found, or an allocation for its config failed. The
+-- list of an `adopt` names no CPUs.
 abbrev pub CommandsAreCalls : Type 0
 CommandsAreCalls = (old new : RuntimeState) (command : Asked) (text : List ℕ) → Answered old command text new
     → IsCall old.told command old.node text new.node ⊎ IsNoCall old.told command old.node text new.node
 
--- the calls and events that a command makes, and the text that it prints: one, or none
+-- the calls and events that a command makes, one or none, and the text that it prints
 abbrev pub CommandMakes : Told → NodeState → Asked → List Event → List ℕ → NodeState → Type 0
 CommandMakes told old command events text new =
     ((call : IsCall told command old text new) × (events ≡ call.event ∷ [])) ⊎ (IsNoCall told command old text new × (events ≡ []))
@@ -125,20 +126,20 @@ RequestMakes told old nothing events text new = (events ≡ []) × (text ≡ [])
 RequestMakes told old bad events text new = (events ≡ []) × (text ≡ codes "refused E110 BadLine\n") × (new ≡ old)
 RequestMakes told old (asks command) events text new = CommandMakes told old command events text new
 
--- as one that is too long
+-- what a line makes and prints; one that is too long makes none and is refused
 abbrev pub LineMakes : Told → NodeState → Option (List ℕ) → List Event → List ℕ → NodeState → Type 0
 LineMakes told old None events text new = (events ≡ []) × (text ≡ codes "refused E112 LineTooLong\n") × (new ≡ old)
 LineMakes told old (Some line) events text new = RequestMakes told old (request_of (words_of line)) events text new
 
--- those of each line one after another, and so the texts
+-- what lines make and print, one after another
 abbrev pub LinesMake : Told → NodeState → List (List ℕ) → List Event → List ℕ → NodeState → Type 0
 LinesMake told old [] events text new = (events ≡ []) × (text ≡ []) × (new ≡ old)
 LinesMake told old (line ∷ lines) events text new = (mid : NodeState) × (here later : List Event) × (first more : List ℕ)
     × LineMakes told old (kept line) here first mid × LinesMake told mid lines later more new
     × (events ≡ here ++ later) × (text ≡ first ++ more)
 
--- the lines make these calls and events and print the text: at most one a line, which lead from the one node to the other;
--- and what is told of the bundles stays
+-- the lines make these calls and events, at most one a line, and print the text. These lead from the one node to the other,
+-- and what is told of the bundles stays.
 pub record AreCalls (old : RuntimeState) (lines : List (List ℕ)) (text : List ℕ) (new : RuntimeState) : Type 0 where
   pub events : List Event
   pub made : LinesMake old.told old.node lines events text new.node
@@ -146,42 +147,43 @@ pub record AreCalls (old : RuntimeState) (lines : List (List ℕ)) (text : List 
   pub run : Run old.node events new.node
   pub told : new.told ≡ old.told
 
--- answered lines are such
+-- answered lines are calls and events in this way
 abbrev pub LinesAreCalls : Type 0
 LinesAreCalls = (old new : RuntimeState) (lines : List (List ℕ)) (text : List ℕ) → Runs Answered old lines text new → AreCalls old lines text new
 
 -- whatever lines of a script over a node were answered before, a rebalance leaves what the headline says of an outcome or a
--- refusal, with what the certificate tells and what a failed write leaves, and its answer is the text of that
+-- refusal. With it stand what the certificate tells and what a failed write leaves. Its answer is the text of that.
 abbrev pub RebalancesAreTold : Type 0
 RebalancesAreTold = (first old new : RuntimeState) (lines : List (List ℕ)) (text answer : List ℕ)
     → IsNode first.node → Runs Answered first lines text old → Answered old ask.rebalance answer new
     → (r : Result Outcome (OrMemory NodeFault)) × RebalanceLeaves old.node r new.node × (answer ≡ answer_text (outcome_text new.node) of_either r)
 
--- so an answer that begins as a plan's does is the text of a plan, of which these hold
+-- an answer that begins with `plan total` is the text of a plan, and these hold of it
 abbrev pub PlansAreTold : Type 0
 PlansAreTold = (first old new : RuntimeState) (lines : List (List ℕ)) (text more : List ℕ)
     → IsNode first.node → Runs Answered first lines text old → Answered old ask.rebalance (codes "plan total " ++ more) new
     → (total : ℕ) × RebalanceLeaves old.node (Ok (Plan total)) new.node × (codes "plan total " ++ more ≡ outcome_text new.node (Plan total))
 
--- and one that begins as a shortage's does is the text of a shortage, of which they hold
+-- an answer that begins with `short demand` is the text of a shortage, and they hold of it
 abbrev pub ShortagesAreTold : Type 0
 ShortagesAreTold = (first old new : RuntimeState) (lines : List (List ℕ)) (text more : List ℕ)
     → IsNode first.node → Runs Answered first lines text old → Answered old ask.rebalance (codes "short demand " ++ more) new
     → (wanted : ℕ) × (allowed : Ids) × RebalanceLeaves old.node (Ok (Short wanted allowed)) new.node × (codes "short demand " ++ more ≡ outcome_text new.node (Short wanted allowed))
 
--- an answer to `begin` that begins so is the text of a plan too: the best that the containers could have, whose hand-over is open
+-- an answer to `begin` that begins with `plan total` is the text of the best plan that the containers could have, whose
+-- hand-over is open
 abbrev pub BegunAreTold : Type 0
 BegunAreTold = (old new : RuntimeState) (more : List ℕ) → Answered old ask.begin (codes "plan total " ++ more) new
     → (total : ℕ) × Begun old.node total new.node × (codes "plan total " ++ more ≡ outcome_text new.node (Plan total))
 
--- and one that begins as a shortage's does is the text of a shortage, of containers that live and ask for CPUs of their own, whom
--- the certificate names
+-- an answer to `begin` that begins with `short demand` is the text of a shortage. The certificate names live containers that
+-- ask for CPUs of their own.
 abbrev pub BegunShortAreTold : Type 0
 BegunShortAreTold = (old new : RuntimeState) (more : List ℕ) → IsNode old.node → Answered old ask.begin (codes "short demand " ++ more) new
     → (wanted : ℕ) × (allowed : Ids) × IsShort old.node wanted allowed new.node × TellsShortage old.node wanted allowed new.node × (codes "short demand " ++ more ≡ outcome_text new.node (Short wanted allowed))
 
--- a rebalance in the midst of a script: what was answered before it and behind it, and that it left what the headline says, with
--- what the certificate tells and what a failed write leaves
+-- a rebalance in the midst of a script: what was answered before it and behind it. It left what the headline says, with what
+-- the certificate tells and what a failed write leaves.
 pub record IsRebalanceOf (first : RuntimeState) (before after : List (List ℕ)) (text : List ℕ) (last : RuntimeState) : Type 0 where
   pub old : RuntimeState
   pub new : RuntimeState
@@ -193,7 +195,7 @@ pub record IsRebalanceOf (first : RuntimeState) (before after : List (List ℕ))
   pub rest : Runs Answered new after later last
   pub told : text ≡ earlier ++ (answer_text (outcome_text new.node) of_either outcome ++ later)
 
--- each line of a script that asks for one is such
+-- each line of a whole script that asks for a rebalance is such
 abbrev pub ScriptsRebalance : Type 0
 ScriptsRebalance = (first last : RuntimeState) (before after : List (List ℕ)) (line text : List ℕ) → IsNode first.node
     → kept line ≡ Some line → request_of (words_of line) ≡ asks ask.rebalance → Runs Answered first (before ++ line ∷ after) text last

@@ -35,6 +35,7 @@ pub fn kernel_of(alloc: Global, machine: &Machine) -> Result<ModelKernel, AllocE
 /// An allocation failure: of a kernel that is new, and of which no write fails, nothing else refuses the
 /// node's group.
 pub fn boot(alloc: Global, machine: Machine) -> Result<Node<ModelKernel>, AllocError>
+    // It is made over a new `ModelKernel` of the machine (`Boots`). The only error is an allocation failure.
     ensures { IfOk result (Boots machine) }
 {
     let kernel = kernel_of(alloc, &machine)?;
@@ -51,8 +52,8 @@ pub fn boot(alloc: Global, machine: Machine) -> Result<Node<ModelKernel>, AllocE
     }
 }
 
-/// A node with no container, over a modelled kernel that has the machine's CPUs and nodes and whose writes are made in this
-/// tree too, of which nothing was asked yet.
+/// A node with no container, over a modelled kernel that has the machine's CPUs and nodes. Its writes are made in this tree
+/// too, of which nothing was asked yet.
 ///
 /// # Errors
 /// An allocation failure, or `Failed` where the folder of the node's group can't be made.
@@ -63,8 +64,14 @@ pub fn boot_mirrored<F: GroupFiles + Drop, S: Sited>(
 ) -> Result<Node<MirroredKernel<F, S>>, OrMemory<KernelFault>>
     requires site { S.site ≡ site_of machine (string_bytes tree.root) tree.memory tree.adopt }
     requires unasked { F.asked tree.files tree.adopt [] }
+    // The same as `boot`, over a `MirroredKernel`.
     ensures boots { IfOk result (Boots machine) }
+    // Its place is the one that it is told (`IsMirroredNode`, `site_of`). That is the root, the nodes that have memory, how
+    // the files are opened, and this machine's first kernel.
     ensures mirrored { IfOk result (λ node. IsMirroredNode F.asked S.site node) }
+    // Else an allocation failed, or the kernel refused the node's group. Then all that was asked of the files is what that
+    // one call stands for (`IsNotBooted`). An allocation failure for a path is such a refusal, and nothing was asked then.
+    // So a body that always answers it meets the contract too; tests show that it makes a node (`tests/cgroup.sh`).
     ensures err { IfErr result (λ error. (error ≡ Memory) ⊎ IsNotBooted F.asked S.site machine error) }
 {
     let inner = kernel_of(alloc, &machine)?;

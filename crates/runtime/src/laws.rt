@@ -8,19 +8,27 @@ ghost use Rattle.runtime.specs.ScriptLaws.{BegunAreTold, BegunShortAreTold, Comm
 
 use crate::{Bundles, FIRST_PID};
 
-/// Each command of a script is answered by the text of the call or event that it asks for, also where it only reads; but a
-/// `create`, an `adopt` or an `update` for which no config was found makes no call, nor an `adopt` whose list names no
-/// CPUs. So answered lines are at most one call or event each.
+/// The text which answers a command is that of the call or event that it asks for. For a `create`, an `adopt` or an
+/// `update` that is the call with the config that is found of its bundle. It holds of calls that only read too. The
+/// exception is one of these that is refused with no call. Its bundle is not found, an allocation for its config failed, or
+/// the list of an `adopt` names no CPUs.
+///
+/// So the answered lines of a script are a list of calls and events of the node, at most one a line. What they print is the
+/// texts of these, with the refusals of the lines that make none.
 pub fn lines_are_calls()
     ensures commands { CommandsAreCalls }
     ensures lines { LinesAreCalls }
 {}
 
-/// The headline of a rebalance that a script asks for, whatever lines were answered before it: the text that answers it
-/// is that of an outcome or of a refusal, and the node is then as the headline says of this. A text that begins with
-/// `plan total` is a plan's: among all plans of that total none moves fewer CPUs. One that begins with `short demand` is a
-/// shortage's. So it is with each line of a whole script that asks for a rebalance. A text that answers `begin` and begins with
-/// `plan total` is that of a plan, than which none that the containers could have is nearer, and none as near moves fewer.
+/// The headline, with `told` and `broken`, for the text that answers a `rebalance`, whatever lines were answered before it.
+/// So it holds for each line of a whole script that asks for one.
+///
+/// A text that begins as a plan's does is a plan's, and one that begins as a shortage's does is a shortage's. So after a
+/// line that answers `plan total N` no sets of that total which the containers could have move fewer CPUs.
+///
+/// An answer to `begin` that begins so is the text of a plan too, the best that the containers could have. Its hand-over is
+/// open, and nothing is written yet. One that begins as a shortage's does is the text of a shortage of live containers that
+/// ask for CPUs of their own.
 pub fn rebalances_are_told()
     ensures told { RebalancesAreTold }
     ensures plans { PlansAreTold }
@@ -33,15 +41,18 @@ pub fn rebalances_are_told()
     node::laws::whose_rows();
 }
 
-/// The answers of a runtime over bundles of which it is said what looks at them may find are answers by what is told of them, so
-/// all that is said here of scripts holds of those too.
+/// What is answered by what looks at bundles may find is answered as the laws here have it, by what is told of the bundles.
 pub fn looks_are_told<B: Bundles>()
     ensures { LooksAreTold B.finds }
 {}
 
-/// What a script plans for the containers of its bundles, from a node of no container on: the headline holds of each line that
-/// asks for a rebalance, and after a plan each container that lives has in effect what the bytes of its bundle's config ask for,
-/// as the lines before it read them last.
+/// The headline and the configs in one statement, by a script's lines and the bundles' bytes. It speaks of each line that
+/// asks for a `rebalance`, from a node of no container on.
+///
+/// After a plan each live container has in effect as many CPUs as its config asks for, or the pool. Those that it asks for
+/// are online, and the config allows them. An earlier line asked for the container with its bundle, or for its config to be
+/// read again. The config is what is found of that bundle, and of the calls that the lines made none read one for the
+/// container later (`last`).
 pub fn scripts_serve_configs()
     ensures { ScriptsServeConfigs }
 {
@@ -49,8 +60,11 @@ pub fn scripts_serve_configs()
     node::laws::what_configs_get();
 }
 
-/// The text that answers `certificate` proves the verdict on what was told last to whoever checks it: of a plan its total, and
-/// how many CPUs it moves.
+/// The text that answers `certificate` proves the verdict on what was told last. Of a plan that is its total, and how many
+/// cores it moves. Of a shortage it is its numbers.
+///
+/// Both are by cores: the numbers that were answered, divided by how many CPUs a core has. If a `rebalance` failed at a
+/// write since then, nothing was told.
 pub fn certificates_are_told()
     ensures { CertificatesAreTold }
 {
@@ -59,7 +73,7 @@ pub fn certificates_are_told()
     node::laws::certificates_prove();
 }
 
-/// A node from the beginning, on a sound machine, is one of which all holds that the laws of nodes ask for.
+/// All these laws hold of a node from the beginning, on a sound machine.
 pub fn booted_nodes()
     ensures { BootsNodes }
 {

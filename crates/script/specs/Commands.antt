@@ -24,6 +24,7 @@ pub data Asked : Type 0 where
   offline : (cpu : ℕ) → Asked
   online : (cpu : ℕ) → Asked
 
+-- a command of the code as a plain value
 abbrev pub asked : Command → Asked
 asked (command.Create id bundle) = create id.now bundle.now
 asked (command.Adopt id bundle cpus) = adopt id.now bundle.now cpus.now

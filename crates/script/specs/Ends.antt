@@ -32,11 +32,12 @@ pub record Replies {S E : Type 0} (Answers : List ℕ → S → Type 0) (out out
   pub answers : Answers text new
   pub written : WritesPart out out' result text
 
--- so many reads gave these bytes, each one of them at least and as many as are asked for at once at most
+-- n reads gave these bytes: each one byte at least, and 8,192 at most
 abbrev pub IsGivenBy : ℕ → List ℕ → Type 0
 IsGivenBy reads input = (reads ≤ length input) × (length input ≤ reads * PIECE)
 
--- the whole input was read, by fewer reads than are made at most, as one more met the end; and each of its lines was answered
+-- the script came to its end: the whole input was read, by fewer reads than are made at most, as one more met the end; each
+-- of its lines was answered
 pub record Ends {S : Type 0} (most : ℕ) (Answers : S → Asked → List ℕ → S → Type 0) (read read' out out' : Option (List ℕ)) (old new : S) : Type 0 where
   pub input : List ℕ
   pub text : List ℕ
@@ -48,7 +49,8 @@ pub record Ends {S : Type 0} (most : ℕ) (Answers : S → Asked → List ℕ �
   pub run : Runs Answers old (lines_of input) text new
   pub went_out : Appends out out' text
 
--- so many reads gave bytes, and each line of these was answered, except for the last, whose end was not read
+-- a read failed, or as many as are made have not come to the end. n reads gave bytes, and each line of these was answered,
+-- except for the last, whose end was not read.
 pub record EndsUnread {S : Type 0} (Answers : S → Asked → List ℕ → S → Type 0) (read read' out out' : Option (List ℕ)) (reads : ℕ) (old new : S) : Type 0 where
   pub input : List ℕ
   pub lines : List (List ℕ)
@@ -60,8 +62,8 @@ pub record EndsUnread {S : Type 0} (Answers : S → Asked → List ℕ → S →
   pub run : Runs Answers old lines text new
   pub went_out : Appends out out' text
 
--- all lines before one were answered; that one was run, as the last of the input only where it ended, and of its answer a front went out;
--- and no more reads gave the input than are made at most
+-- a write failed. All lines before one were answered; that one was run, and of its answer a prefix went out. It is the
+-- unfinished last line only if the script ended there. No more reads gave the input than are made at most.
 pub record EndsUnwritten {S : Type 0} (most : ℕ) (Answers : S → Asked → List ℕ → S → Type 0) (read read' out out' : Option (List ℕ)) (old new : S) : Type 0 where
   pub input : List ℕ
   pub before : List (List ℕ)
@@ -80,7 +82,8 @@ pub record EndsUnwritten {S : Type 0} (most : ℕ) (Answers : S → Asked → Li
   pub answered : AnswersLine Answers mid (kept line) answer new
   pub written : SendsLast out out' text answer
 
--- at most so many reads are made: the whole script was run, a read failed before the last one that is made, as many as are made all gave bytes, or a write failed
+-- how a script ends, by n reads at most. It was run whole, a read failed before the nth, n reads all gave bytes, or a write
+-- failed.
 abbrev pub EndsBy : {S : Type 0} → ℕ → (S → Asked → List ℕ → S → Type 0) → Option (List ℕ) → Option (List ℕ) → Option (List ℕ) → Option (List ℕ) → S → Result (Unit {0}) ScriptFault → S → Type 0
 EndsBy most Answers read read' out out' old (Ok done) new = Ends most Answers read read' out out' old new
 EndsBy most Answers read read' out out' old (Err (Read kind)) new = (reads : ℕ) × (reads < most) × EndsUnread Answers read read' out out' reads old new

@@ -19,11 +19,11 @@ is_blank byte = byte == 32 || (byte == 9 || byte == 13)
 abbrev pub is_some_word : List ℕ → Bool
 is_some_word word = nat_lt 0 (length word)
 
--- what stands between the blanks of a line, where that is anything
+-- what stands between the blanks of a line, if that is anything
 abbrev pub words_of : List ℕ → List (List ℕ)
 words_of line = filter is_some_word (slice_split is_blank line)
 
--- the line, unless it has more bytes than a line may have
+-- the line, unless it has more than 8,192 bytes
 abbrev pub kept : List ℕ → Option (List ℕ)
 kept line = if nat_le (length line) MOST_LINE_BYTES then Some line else None
 

@@ -17,19 +17,20 @@ pub data Wanted : Type 0 where
   bad : Wanted
   asks : Asked → Wanted
 
+-- a request of the code as a plain value
 abbrev pub wanted : Request → Wanted
 wanted request.Nothing = nothing
 wanted request.BadLine = bad
 wanted (request.Asks command) = asks (asked command)
 
--- a word as a text, where it is UTF-8
+-- a word as a text, if it is UTF-8
 abbrev pub text_of : List ℕ → Option (List ℕ)
 text_of word = if is_utf8 word then Some word else None
 
 abbrev pub fitting : ℕ → Option ℕ
 fitting n = if nat_lt n (2 ^ 32) then Some n else None
 
--- the number that a word writes in decimal digits, one or more of them and nothing else, where it fits 32 bits
+-- the number of 32 bits that a word writes in decimal digits, one or more of them and nothing else
 abbrev pub number_of : List ℕ → Option ℕ
 number_of word = if nat_lt 0 (length word) && list_all is_ascii_digit word then fitting (digits_value 10 word) else None
 
@@ -77,7 +78,7 @@ abbrev pub longest_command : List ℕ → Option (List ℕ × (List ℕ × List 
 longest_command name None = None
 longest_command name (Some texts) = triple_command name texts
 
--- the command of a name and the words behind it
+-- the command that a name and the words behind it are, by their number
 abbrev pub command_of : List ℕ → List (List ℕ) → Option Asked
 command_of name [] = bare_command name
 command_of name (word ∷ []) = short_command name word
@@ -93,7 +94,7 @@ abbrev pub asks_for : Option Asked → Wanted
 asks_for None = bad
 asks_for (Some command) = asks command
 
--- what a line of these words asks for
+-- what a line of these words asks for: nothing, a command, or nothing that can be done
 abbrev pub request_of : List (List ℕ) → Wanted
 request_of [] = nothing
 request_of (name ∷ words) = asks_for (command_by (text_of name) words)

@@ -10,7 +10,8 @@ pub fn no_text_is_bad()
     ensures { NoTextIsBad }
 {}
 
-/// A script has at most 1,000,000 reads to come to its end, each of 8,192 bytes at most, and a line of it at most 8,192 bytes.
+/// A script has at most 1,000,000 reads to come to its end, each of 8,192 bytes at most. A line of it has at most 8,192
+/// bytes.
 pub fn the_limits()
     ensures reads { MOST_READS ≡ 1000000 }
     ensures piece { PIECE ≡ 8192 }

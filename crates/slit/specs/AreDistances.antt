@@ -1,3 +1,4 @@
+-- From: ACPI, System Locality Information Table.
 use Rattle.std.specs.Prelude.{◌≡◌, ℕ, ◌<◌, ◌≤◌, ◌*◌, length}
 use Rattle.slit.specs.declared.TheConstants.{MAX_LOCALITIES}
 use Rattle.slit.specs.Table.{Table, distance}
@@ -12,7 +13,8 @@ pub record IsEntry (i j entry : ℕ) : Type 0 where
 abbrev pub IsRow : Table → ℕ → Type 0
 IsRow t i = (j : ℕ) → j < t.localities → IsEntry i j (distance t i j)
 
--- Distances between as many localities as a table may have, each as the standard allows it.
+-- distances between as many localities as a table may have, each as the standard allows it: 10 on the diagonal and else 10 to
+-- 255
 pub record AreDistances (t : Table) : Type 0 where
   pub some : 1 ≤ t.localities
   pub few : t.localities ≤ MAX_LOCALITIES

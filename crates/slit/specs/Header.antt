@@ -1,3 +1,4 @@
+-- From: ACPI, System Locality Information Table.
 use Rattle.std.specs.Prelude.{◌≡◌, ℕ, ◌+◌, ◌*◌, ◌≤◌, ◌%◌, List, length, take, drop, sum, codes, IsTrue, nat_eq}
 use Rattle.std.specs.Int.{from_le_bytes, w32, w64}
 use Rattle.std.specs.List.{starts_with}

@@ -1,3 +1,4 @@
+-- From: the order is ours.
 use Rattle.std.specs.Prelude.{ℕ, List, [], ◌∷◌, Option}
 use Rattle.faults.specs.First.{first_of}
 use Rattle.slit.specs.declared.fault.SlitFault.{SlitFault}

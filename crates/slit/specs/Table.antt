@@ -1,6 +1,7 @@
+-- From: ACPI, System Locality Information Table.
 use Rattle.std.specs.Prelude.{ℕ, ◌+◌, ◌*◌, List, slice_index}
 
--- so many localities, and the distances between them by rows
+-- the number of localities, and the distances between them by rows
 pub record Table : Type 0 where
   pub localities : ℕ
   pub entries : List ℕ

@@ -8,6 +8,10 @@
 //!
 //! Numbers of several bytes are little-endian. The revision and the names in the header are not looked
 //! at, and bytes past the table's length are ignored.
+//!
+//! # Proved
+//!
+//! - The standard's numbers (44, 10, 255) stand in the definitions.
 #![tactic(auto)]
 
 mod entries;

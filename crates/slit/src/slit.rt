@@ -38,9 +38,13 @@ impl Slit {
     /// An allocation failure, or the first fault in the order of [`SlitFault`]: of the header, and then entry by entry in rows.
     /// It allocates only where there is no fault.
     pub fn read(alloc: Global, bytes: &[u8]) -> Result<Slit, OrMemory<SlitFault>>
+        // The first fault of the bytes, with row and column.
         ensures fault { Reports result (slit_fault bytes.now) }
+        // If the bytes are at fault, it makes no allocation.
         ensures memory { ChecksFirst result (slit_fault bytes.now) }
+        // A table that is returned is the one that the bytes describe.
         ensures table { IfOk result (Describes bytes.now) }
+        // Bytes that describe a table are answered by it, unless an allocation failed.
         ensures only { (t : Table) → Describes bytes.now t → Gives result (Ok t) }
     {
         let count = check_header(bytes)?;

@@ -29,7 +29,9 @@ pub record DecidesShort (rows : List RowView) (members : List ℕ) : Type 0 wher
   pub shortage : IsShortage rows members
   pub none : HasNoPlan rows
 
--- one of both, of these very rows, whose weights are said to count this
+-- a certificate of these very rows, whose weights are said to count this. Either a least plan that proves itself and is dealt
+-- as twins ought to be; it has a price for each class whose price is not 0, and no others. Or a shortage, if there is no
+-- plan.
 abbrev pub Decides : List RowView → Weights → Certificate → Type 0
 Decides rows weights (Plan own sets prices total said) = (own ≡ rows) × (said ≡ weights) × DecidesPlan rows sets prices total
 Decides rows weights (Short own members said) = (own ≡ rows) × (said ≡ weights) × DecidesShort rows members

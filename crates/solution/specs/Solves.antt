@@ -33,8 +33,8 @@ abbrev pub IsDealtPlan : Certificate → Type 0
 IsDealtPlan (Plan rows sets prices total weights) = IsDealt rows sets
 IsDealtPlan (Short rows members weights) = Unit {0}
 
--- a certificate of version 1 of these very rows, which its own check accepts: no plan of the rows costs less than its plan, or
--- they have no plan
+-- a certificate of version 1 of these very rows, which its own check accepts. No plan of the rows costs less than its plan,
+-- or they have no plan.
 pub record IsSolution (rows : List RowView) (c : Certificate) : Type 0 where
   pub rows_are : rows_of c ≡ rows
   pub version : weights_of c ≡ Plain
@@ -51,8 +51,8 @@ HasRows text fit = (rows : List RowView) × IsProblemText text rows × (rows_fit
 abbrev pub Solves : List ℕ → List ℕ → Type 0
 Solves text written = (rows : List RowView) × (c : Certificate) × IsProblemText text rows × IsText written c × IsSolution rows c
 
--- the text stands for no rows, or for rows past the limits; an allocation failed at a line that can follow those before it, or with
--- rows that are within the limits
+-- why a text has no solution: it stands for no rows, or for rows past the limits. Or an allocation failed, at a line that can
+-- follow those before it or with rows that are within the limits.
 abbrev pub IsUnsolved : List ℕ → OrMemory VerdictFault → Type 0
 IsUnsolved text Memory = ProblemAsksForMemory text ⊎ HasRows text true
 IsUnsolved text (Fault (BadText bad)) = IsFirstBadProblemLine text bad.line

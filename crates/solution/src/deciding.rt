@@ -19,11 +19,14 @@ pub fn decide(alloc: Global, problem: Problem, weights: Weights) -> Result<Certi
     requires fit { IsTrue (rows_fit problem) }
     requires writable { AreWritable problem }
 
-    // A plan of these rows that costs the least, as its values and prices prove, or a shortage, where there is no plan.
+    // The certificate has these very rows, and says that the weights count what it was told. It is a plan that no plan
+    // undercuts, proved by its values and prices. It is dealt as twins ought to be, with a price for each class of twins
+    // whose price is not 0 and no others. Or it is a shortage, if there is no plan at all.
     ensures decided { IfOk result (Decides problem weights) }
 
-    // It can be written as text, in numbers that its types hold.
+    // The certificate can be written as text.
     ensures can { IfOk result CanWrite }
+    // Its numbers and sets are such as their types hold.
     ensures held { IfOk result IsHeld }
 {
     certificate::laws::what_is_within_the_limits();

@@ -39,6 +39,7 @@ impl Solution {
     /// # Errors
     /// As [`write_text`]: a prefix of the text then went out.
     pub fn write<W: Write>(&self, w: &mut W) -> io::Result<()>
+        // On an error a prefix of the text went out.
         ensures { Writes (W.contents w.old) (W.contents w.new) result self.now }
     {
         write_text(&self.certificate, w)

@@ -11,6 +11,7 @@ use Rattle.std.specs.Prelude.{slice_range}
 use Rattle.tagged_sets.specs.declared.tagged_sets.Head.{Head}
 use Rattle.std.specs.FinSet as set
 
+-- the ranges of a set, rising and as long as possible
 unfoldable pub ranges_of_set : Ids → List (ℕ × ℕ)
 ranges_of_set s = ranges_of (members s)
 
@@ -38,6 +39,6 @@ abbrev pub AreKept : {T : Type 0} → List (ℕ × ℕ) → ℕ → List (Head T
 AreKept ranges start [] = start ≡ length ranges
 AreKept ranges start (h ∷ more) = (start ≤ h.end) × IsOfSet (slice_range ranges start h.end) × AreKept ranges h.end more
 
--- one of the sets has the number
+-- one of some sets with tags has the number
 abbrev pub in_any : {T : Type 0} → List (T × Ids) → ℕ → Bool
 in_any sets n = list_any (λ p. set.contains p.1 n) sets

@@ -2,6 +2,14 @@
 //!
 //! A set of a few ranges takes a few bytes, however many CPUs there may be. A contract sees [`TaggedSets`] as the list
 //! of the tags and the sets.
+//!
+//! # Proved
+//!
+//! - `TaggedSets` is a list of sets with tags, to which sets are added, also those of another list (`push_from`). If an
+//!   allocation fails nothing changes.
+//! - It gives the tag, the set and the ranges of each, all CPUs in one of them (`all`), and a copy. `is_same` says exactly
+//!   whether two such lists are the same.
+//! - How sets are kept no contract mentions.
 #![tactic(auto)]
 
 mod tag;

@@ -35,24 +35,25 @@ pub record IsWithinTurns (rows : List RowView) (turns : ℕ) : Type 0 where
 abbrev pub is_sought : List RowView → List Ids → List ℕ → ℕ → Bool
 is_sought rows classes members g = list_any (λ k. is_some (class_weight rows classes k g)) members
 
--- how many classes these rows have weights for
+-- how many classes some rows have weights for
 abbrev pub sought : List RowView → List Ids → List ℕ → ℕ
 sought rows classes members = total (λ g. cond {A = ℕ} (is_sought rows classes members g) 1 0) (length classes)
 
--- the turns of a shortage: two for each row before a member, and in the last search one for each member and for each class that
--- members have weights for; and as many as there are rows and classes at most, for each CPU that is asked for
+-- the turns of a shortage: at least two for each row before a member; in the last search one for each member, and for each
+-- class that members have weights for. At most as many as there are rows and classes, for each CPU that is asked for.
 pub record AreShortTurns (rows : List RowView) (members : List ℕ) (turns : ℕ) : Type 0 where
   pub classes : List Ids
   pub grouping : IsGrouping rows classes
   pub at_least : (k : ℕ) → Contains members k → 2 * k + (length members + sought rows classes members) ≤ turns
   pub within : turns ≤ asked rows * (length rows + length classes)
 
--- a plan that its values and prices prove to be of least cost, that cost the total; or a shortage
+-- what the checks accept: a plan that its values and prices prove to be of least cost, with that cost as the total; or a
+-- shortage
 abbrev pub IsRight : List RowView → Answer → Type 0
 IsRight rows (Plan sets prices total turns) = IsProved rows sets prices total
 IsRight rows (Short members turns) = IsShortage rows members.items
 
--- a plan where there is one, and none is less; and a shortage only where there is none
+-- a plan if there is one, and none costs less; a shortage only if there is none
 abbrev pub IsDecided : List RowView → Answer → Type 0
 IsDecided rows (Plan sets prices total turns) = IsLeast rows sets
 IsDecided rows (Short members turns) = HasNoPlan rows
@@ -68,7 +69,8 @@ ArePricesOfClasses rows (Plan sets prices total turns) =
     IsPricedByClass rows prices.of_cpu × All (λ p. (0 < p.amount) × (0 < set.len p.cpus)) prices.of_cpu
 ArePricesOfClasses rows (Short members turns) = Unit {0}
 
--- the first and the last of a path for each row of a plan, and not more than the bound; or those of a shortage
+-- the turns of an answer. A plan has at least the first and the last of a path for each row, and at most the bound. A
+-- shortage has its own.
 abbrev pub AreTurns : List RowView → Answer → Type 0
 AreTurns rows (Plan sets prices total turns) = (2 * length rows ≤ turns) × IsWithinTurns rows turns
 AreTurns rows (Short members turns) = AreShortTurns rows members.items turns

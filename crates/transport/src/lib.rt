@@ -26,6 +26,10 @@
 //! for: O(demands * rows * classes) steps at worst. Memory is allocated for each CPU, row and class, each row that holds CPUs
 //! of a class, each offer of rows whose offers do not rise, and each class of the offers that a search has come to; and for each
 //! block of such classes, which has one of them at least, where searches look at a row's classes again and again.
+//!
+//! # Proved
+//!
+//! - All of this is for rows within the limits. The only refusal is an allocation failure.
 #![tactic(auto)]
 
 mod arcs;

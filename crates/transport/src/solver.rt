@@ -26,22 +26,23 @@ use twins::{Classes, deal, group, kinds_of, prices_of};
 pub fn solve(alloc: Global, problem: &Problem) -> Result<Answer, AllocError>
     requires { IsTrue (rows_fit problem.now) }
 
-    // A plan that its values and prices prove to cost the least, or a shortage: what `check_plan` and
-    // `check_shortage` accept.
+    // A plan with its cost, which its dual variables (values and prices) prove to be least; or a shortage. `check_plan` and
+    // `check_shortage` accept both.
     ensures right { IfOk result (IsRight problem.now) }
 
-    // Hence a plan wherever there is one, and none costs less; and a shortage only where there is none.
+    // **There is a plan in the answer wherever there is one at all**, and none costs less. There is a shortage only if
+    // there is no plan.
     ensures decided { IfOk result (IsDecided problem.now) }
 
-    // Of CPUs that are alike to all rows the lower ones go to the earlier rows.
+    // Twins go to the rows in order, the lower CPU first.
     ensures dealt { IfOk result (AreTwinsDealt problem.now) }
 
-    // A price for each class of twins whose price is not 0, and no others.
+    // Each class of twins whose price is not 0 has one price, and there are no other prices.
     ensures priced { IfOk result (ArePricesOfClasses problem.now) }
 
-    // At most as many turns as there are rows and classes, for each CPU that is asked for. At least two for each
-    // row of a plan; for a shortage two for each row before its last member, one for each member, and one for
-    // each class that a member has a weight for.
+    // A turn is a row or class that a search takes up. There are at most (rows + classes) × CPUs asked for. For a plan
+    // there are at least 2 × rows. For a shortage there are at least 2 × rows before its last member. One more comes for
+    // each member, and one for each class that a member has a weight for.
     ensures turns { IfOk result (AreTurns problem.now) }
 {
     solve_body(alloc, problem)

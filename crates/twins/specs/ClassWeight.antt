@@ -12,8 +12,8 @@ use Rattle.twins.specs.IsGrouping.{class_at, IsGrouping}
 abbrev pub weight_at : List RowView → ℕ → ℕ → Option ℕ
 weight_at rows k cpu = option_and_then (λ row. weight row cpu) (slice_get rows k)
 
--- the weight that row k has for the least CPU of the class: that of the offer which has this CPU
--- (where a row has two offers of one weight a class may lie in both, so an offer need not be whole classes)
+-- what a CPU of a class costs row k: the weight of its least CPU. If a row has two offers of one weight a class may lie in
+-- both, so an offer need not be whole classes.
 abbrev pub class_weight : List RowView → List Ids → ℕ → ℕ → Option ℕ
 class_weight rows classes k g = option_and_then (weight_at rows k) (least_that (set.contains (class_at classes g)))
 

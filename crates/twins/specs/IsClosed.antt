@@ -1,4 +1,5 @@
 -- Rows that together may have only some of the classes.
+-- From: Hall's condition.
 use Rattle.std.specs.Prelude.{◌≡◌, ℕ, ◌<◌, Bool, true, if◌then◌else◌, Some, List, All, Contains, length, sum_by}
 use Rattle.std.specs.List.{range_with_len}
 use Rattle.std.specs.List.Sorted.{IsStrictlyIncreasing}
@@ -13,14 +14,14 @@ use Rattle.twins.specs.ClassWeight.{class_weight}
 abbrev pub taken_size : List Ids → (ℕ → Bool) → ℕ
 taken_size classes taken = sum_by (λ g. if taken g then set.len (class_at classes g) else 0) (range_with_len 0 (length classes))
 
--- these rows, each once, have weights only for classes that pass, and ask for more CPUs than those have
+-- rows, each once, that have weights only for classes that pass, and ask for more CPUs than those have
 pub record IsClosed (rows : List RowView) (classes : List Ids) (members : List ℕ) (taken : ℕ → Bool) : Type 0 where
   pub rising : IsStrictlyIncreasing members
   pub there : All (λ k. k < length rows) members
   pub only : (k g w : ℕ) → Contains members k → class_weight rows classes k g ≡ Some w → taken g ≡ true
   pub short : taken_size classes taken < asked (chosen rows members)
 
--- such rows are a shortage
+-- rows that ask for more than their classes have are a shortage
 abbrev pub ClosedRowsAreShort : Type 0
 ClosedRowsAreShort =
     (rows : List RowView) (classes : List Ids) (members : List ℕ) (taken : ℕ → Bool)

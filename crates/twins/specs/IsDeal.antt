@@ -10,8 +10,8 @@ use Rattle.twins.specs.IsGrouping.{class_at, IsGrouping}
 use Rattle.twins.specs.Holdings.{cell, share_of}
 use Rattle.twins.specs.declared.holders.Share.{Share}
 
--- each row has as many CPUs of each class as it holds and no others, no CPU is in two rows,
--- and of two CPUs of a class, where a row has the higher one, it or an earlier row has the lower one
+-- each row has as many CPUs of each class as it holds and no others, and no CPU is in two rows. If a row has the higher of
+-- two CPUs of a class, it or an earlier row has the lower one.
 pub record IsDeal (classes : List Ids) (holdings : List (List Share)) (sets : List Ids) : Type 0 where
   pub in_range : All InRange sets
   pub counts : (k g : ℕ) → k < length sets → set.len (set.intersection (slice_index_or sets k set.empty) (class_at classes g)) ≡ cell holdings k g

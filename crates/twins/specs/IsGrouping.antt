@@ -12,8 +12,8 @@ use Rattle.certificate.specs.PlanFault.{is_held}
 abbrev pub class_at : List Ids → ℕ → Ids
 class_at classes g = slice_index_or classes g set.empty
 
--- each CPU with a weight in some row is in one class and no other CPU is in any, no class is empty,
--- and each class is all the twins of each of its CPUs
+-- the CPUs with a weight in some row, in classes. Each is in one class, no other CPU is in any, and no class is empty. A
+-- class is all the twins of each of its CPUs.
 pub record IsGrouping (rows : List RowView) (classes : List Ids) : Type 0 where
   pub in_range : All InRange classes
   pub not_empty : All (λ s. 0 < set.len s) classes

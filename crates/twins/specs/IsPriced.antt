@@ -1,5 +1,6 @@
 -- What a search over classes finds: how many CPUs of each class the rows hold, and the numbers which show that no plan
 -- costs less.
+-- From: linear programming duality.
 use Rattle.std.specs.Prelude.{◌≡◌, ℕ, ◌+◌, ◌<◌, ◌≤◌, ◌==◌, if◌then◌else◌, Some, List, [], ◌∷◌, ◌++◌, All, IsTrue, length, slice_index, slice_index_or, sum_by}
 use Rattle.std.specs.FinSet as set
 use Rattle.cpu_set.specs.Ids.{Ids}
@@ -14,8 +15,9 @@ use Rattle.twins.specs.Holdings.{share_of, cell, held_of}
 use Rattle.twins.specs.IsDeal.{IsDeal}
 use Rattle.twins.specs.declared.holders.Share.{Share}
 
--- each row holds as many CPUs as it asks for; no weight with its class's price is below its row's value, and where a row
--- holds CPUs of a class it is equal; a class of which some CPU is held by no row has the price 0
+-- how many CPUs of each class the rows hold, with values and prices of classes which show that no plan costs less. Each row
+-- holds as many CPUs as it asks for. No weight with its class's price is below its row's value, and it is equal for CPUs that
+-- are held. A class of which some CPU is held by no row has the price 0.
 pub record IsPriced (rows : List RowView) (classes : List Ids) (holdings : List (List Share)) (values prices : List ℕ) : Type 0 where
   pub long : length holdings ≡ length classes
   pub rows_in : All (All (λ s. s.row < length rows)) holdings

@@ -3,6 +3,7 @@ use Rattle.std.specs.Prelude.{◌≡◌, ℕ, ◌<◌, ◌≤◌, ◌⊎◌, Lis
 use Rattle.certificate.specs.RowView.{RowView}
 use Rattle.certificate.specs.declared.rows.Offer.{Offer}
 
+-- the offers of row k
 abbrev pub offers_of : List RowView → ℕ → List Offer
 offers_of rows k = slice_index_or (map (λ r. r.offers) rows) k []
 
@@ -16,7 +17,7 @@ pub record IsKindOf (rows : List RowView) (kinds : List ℕ) (k j : ℕ) : Type 
   pub same : offers_of rows j ≡ offers_of rows k
   pub first : kind_at kinds j ≡ j
 
--- the kinds of the first rows
+-- a representative for each of the first rows: a row that is no later, has the same offers, and represents itself
 pub record AreKinds (rows : List RowView) (upto : ℕ) (kinds : List ℕ) : Type 0 where
   pub long : length kinds ≡ upto
   pub each : (k : ℕ) → k < upto → IsKindOf rows kinds k (kind_at kinds k)

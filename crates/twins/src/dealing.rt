@@ -33,6 +33,8 @@ pub fn deal(
     requires rows { All (All (λ share. share.row < rows)) holdings.now }
     requires room { (g : ℕ) → held_of holdings.now g ≤ set.len (class_at classes.now g) }
     ensures long { IfOk result (λ sets. length sets.items ≡ rows) }
+    // Each row has as many CPUs of each class as it is to hold, and no CPU is in two rows. Of two CPUs of a class the lower
+    // one goes to the earlier row.
     ensures dealt { IfOk result (λ sets. IsDeal classes.now holdings.now sets.items) }
 {
     deal_body(alloc, rows, classes.sets.as_slice(), holdings)

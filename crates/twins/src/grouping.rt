@@ -38,6 +38,7 @@ use std::alloc::{AllocError, Global};
 pub fn group(alloc: Global, problem: &Problem, kinds: &[usize]) -> Result<Classes, AllocError>
     requires fit { IsTrue (list_all row_fits problem.now) }
     requires kinds { AreKinds problem.now (length problem.now) kinds.now }
+    // The CPUs with a weight in some row are in classes. Each class is all the CPUs that every row weighs alike.
     ensures grouped { IfOk result (λ classes. IsGrouping problem.now classes) }
     ensures few { IfOk result (λ classes. length classes ≤ CPU_LIMIT) }
 {

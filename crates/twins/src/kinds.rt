@@ -6,13 +6,15 @@ use certificate::Row;
 use cpu_set::CPU_LIMIT;
 use std::alloc::{AllocError, Global};
 
-/// For each row the first of its kind: an earlier one with the same offers, or itself where none is known.
+/// For each row the first of its kind: an earlier one with the same offers, or itself if none is known.
 ///
 /// Each row is compared with one earlier row alone: the latest whose first offer has a first range with the same end.
 ///
 /// # Errors
 /// An allocation failure.
 pub fn kinds_of(alloc: Global, rows: &[Row]) -> Result<Vec<usize>, AllocError>
+    // Each row gets a representative: a row that is no later, has the same offers, and represents itself. Two rows with the
+    // same offers may get two.
     ensures { IfOk result (λ kinds. AreKinds rows.now (length rows.now) kinds.items) }
 {
     let mut kinds = Vec::with_capacity(alloc, rows.len())?;

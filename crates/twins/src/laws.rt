@@ -4,23 +4,23 @@ ghost use Rattle.twins.specs.IsDeal.{DealOfTwinsIsDealt};
 ghost use Rattle.twins.specs.IsPriced.{ClassesProvePlans};
 ghost use Rattle.twins.specs.IsClosed.{ClosedRowsAreShort};
 
-/// The weight of a class in a row is that of each of its CPUs.
+/// A class has one weight in each row.
 pub fn members_weigh_the_same()
     ensures { MembersWeighTheSame }
 {}
 
-/// Where CPUs of classes of twins are dealt to rows, so are the twins.
+/// Twins are dealt by the rule if classes are.
 pub fn deals_of_twins_are_dealt()
     ensures { DealOfTwinsIsDealt }
 {}
 
-/// Where rows hold as many CPUs of classes as they ask for, and values and prices of the classes show that
-/// no plan costs less, the CPUs dealt are a least plan, by the same values and prices.
+/// Take values and prices of classes, within the limits, which fit what the rows hold. They prove the plan that is dealt,
+/// in the check's own words, and no price is of an empty set.
 pub fn classes_prove_plans()
     ensures { ClassesProvePlans }
 {}
 
-/// Rows that have weights only for some classes, and ask for more CPUs than those have, are a shortage.
+/// Rows which may have only some classes, and ask for more CPUs than those have, are a shortage.
 pub fn closed_rows_are_short()
     ensures { ClosedRowsAreShort }
 {}
