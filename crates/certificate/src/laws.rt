@@ -10,7 +10,9 @@ ghost use Rattle.certificate.specs.ShortageFault.{shortage_fault};
 ghost use Rattle.certificate.specs.Verdict.{certificate_fault, plan_verdict};
 ghost use Rattle.certificate.specs.Worked.{two_rows, held, priced, certificate_of, three_rows, moves_certificate};
 
-use crate::{CheckFault, Verdict, Weights, MAX_AMOUNT, MAX_DEMAND, MAX_ROWS, MAX_WEIGHT, MOVE_SCALE};
+use crate::{
+    CheckFault, MAX_AMOUNT, MAX_DEMAND, MAX_ROWS, MAX_WEIGHT, MOVE_SCALE, Verdict, Weights,
+};
 
 /// Weak duality: no plan costs less than a bound, for any rows, values and prices. Hence a plan whose
 /// cost is such a bound is least.

@@ -49,7 +49,8 @@ left_out true true passes f = refl
 left_out true false passes f = sym (f refl)
 left_out false rest passes f = refl
 
-is_in-filter : (p : ℕ → Bool) (ks : List ℕ) (q : ℕ) → is_in (filter p ks) q ≡ (is_in ks q && p q)
+-- the numbers of a list that pass a test
+pub is_in-filter : (p : ℕ → Bool) (ks : List ℕ) (q : ℕ) → is_in (filter p ks) q ≡ (is_in ks q && p q)
 is_in-filter p [] q = refl
 is_in-filter p (k ∷ ks) q = by_test (p k) refl (is_in-filter p ks q)
   where
@@ -60,18 +61,26 @@ is_in-filter p (k ∷ ks) q = by_test (p k) refl (is_in-filter p ks q)
 pub intersection-listed : (ks js : List ℕ) → set.intersection (listed ks) (listed js) ≡ listed (filter (is_in js) ks)
 intersection-listed ks js =
     same_members _ _ (λ q.
-        contains-intersection (listed ks) (listed js) q
-        ∙ (λ i. contains-listed ks i q && contains-listed js i q)
-        ∙ sym (is_in-filter (is_in js) ks q)
-        ∙ sym (ap (λ test. test q) (contains-listed (filter (is_in js) ks))))
+    contains-intersection (listed ks) (listed js) q
+    ∙ (λ i. contains-listed ks i q && contains-listed js i q)
+    ∙ sym (is_in-filter (is_in js) ks q)
+    ∙ sym (ap (λ test. test q) (contains-listed (filter (is_in js) ks))))
+
+pub retain-listed : (ks : List ℕ) (p : ℕ → Bool) → set.retain (listed ks) p ≡ listed (filter p ks)
+retain-listed ks p =
+    same_members _ _ (λ q.
+    set.contains-retain (listed ks) p q (λ x tie. ap p (sym (set.nat_cmp-IsAntisymmetric q x tie)))
+    ∙ (λ i. contains-listed ks i q && p q)
+    ∙ sym (is_in-filter p ks q)
+    ∙ sym (ap (λ test. test q) (contains-listed (filter p ks))))
 
 pub union-listed : (ks js : List ℕ) → set.union (listed ks) (listed js) ≡ listed (ks ++ js)
 union-listed ks js =
     same_members _ _ (λ q.
-        contains-union (listed ks) (listed js) q
-        ∙ (λ i. contains-listed ks i q || contains-listed js i q)
-        ∙ sym (list_any-append (λ k. nat_eq k q) ks js)
-        ∙ sym (ap (λ test. test q) (contains-listed (ks ++ js))))
+    contains-union (listed ks) (listed js) q
+    ∙ (λ i. contains-listed ks i q || contains-listed js i q)
+    ∙ sym (list_any-append (λ k. nat_eq k q) ks js)
+    ∙ sym (ap (λ test. test q) (contains-listed (ks ++ js))))
 
 each_passes : (p : ℕ → Bool) (ks : List ℕ) → ((q : ℕ) → is_in ks q ≡ true → p q ≡ true) → list_all p ks ≡ true
 each_passes p [] each = refl
