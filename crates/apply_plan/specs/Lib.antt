@@ -20,3 +20,4 @@ pub mod HandoverLemmas
 pub mod EventLemmas
 pub mod RunLemmas
 pub mod EffectLemmas
+pub mod Worked

@@ -1,7 +1,11 @@
 //! What hand-overs keep at every moment, and when they end: laws over the definitions alone. Nothing here runs.
+ghost use Rattle.std.specs.Prelude.{◌≡◌, [], ◌∷◌};
+ghost use Rattle.cpuset_tree.specs.Worked.{web, batch};
+ghost use Rattle.apply_plan.specs.DueWrite.{due};
 ghost use Rattle.apply_plan.specs.Runs.{StaysSafe, StaysBetween, EndsWithin, FewToCome};
 ghost use Rattle.apply_plan.specs.OneStep.{StepsLeave};
 ghost use Rattle.apply_plan.specs.Effects.{TargetsTakeEffect, SafeInEffect};
+ghost use Rattle.apply_plan.specs.Worked.{swap, both_live, one_lives, write};
 
 /// Any list of events while a hand-over is open: its steps, failing ones too, forks and ends of processes, CPUs that go
 /// and come, and writes of other groups.
@@ -28,4 +32,16 @@ pub fn steps()
 pub fn effects()
     ensures targets { TargetsTakeEffect }
     ensures safe { SafeInEffect }
+{}
+
+/// Worked rows of docs/formats.md, "Scripts": the writes of a hand-over in which two containers swap their CPUs, each one
+/// evaluated from what the containers request then.
+pub fn worked()
+    ensures keeps_part { due swap (both_live (2 ∷ 3 ∷ []) (1 ∷ [])) ≡ Some (write web (2 ∷ [])) }
+    ensures keeps_none { due swap (both_live (3 ∷ []) (1 ∷ [])) ≡ Some (write web (0 ∷ [])) }
+    ensures each_gives_back { due swap (both_live (2 ∷ []) (1 ∷ [])) ≡ Some (write batch (0 ∷ [])) }
+    ensures first_takes { due swap (both_live (2 ∷ []) (0 ∷ [])) ≡ Some (write web (1 ∷ 2 ∷ [])) }
+    ensures second_takes { due swap (both_live (1 ∷ 2 ∷ []) (0 ∷ [])) ≡ Some (write batch (3 ∷ [])) }
+    ensures done { due swap (both_live (1 ∷ 2 ∷ []) (3 ∷ [])) ≡ None }
+    ensures ended { due swap (one_lives (2 ∷ 3 ∷ []) (1 ∷ [])) ≡ Some (write batch (0 ∷ [])) }
 {}

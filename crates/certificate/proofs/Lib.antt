@@ -1,3 +1,4 @@
+pub mod ListedOffers
 pub mod Rising
 pub mod RowFaults
 pub mod CostSums

@@ -39,3 +39,4 @@ pub mod Offers
 pub mod OfferLaws
 pub mod ScaledLaws
 pub mod TwoCosts
+pub mod Worked

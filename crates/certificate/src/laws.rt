@@ -1,11 +1,18 @@
 //! What a proved plan, a shortage and a cost mean, and the limits: laws over the definitions alone. Nothing here runs.
-ghost use Rattle.std.specs.Prelude.{◌≡◌};
+ghost use Rattle.std.specs.Prelude.{◌≡◌, [], ◌∷◌};
 ghost use Rattle.certificate.specs.AreWithin.{RowsFitMeans, LimitsMean};
 ghost use Rattle.certificate.specs.Laws.{NoPlanBelowBound, ProvedIsLeast, ShortageLeavesNoPlan, ProvedHasNoFault, FaultlessIsProved};
 ghost use Rattle.certificate.specs.WeighSame.{SameWeightsSamePlans, SameWeightsSameCosts};
 ghost use Rattle.certificate.specs.Scaled.{CostSplits, SamePlans, MovesAreFew, LeastIsNearest};
+ghost use Rattle.certificate.specs.Cost.{cost};
+ghost use Rattle.certificate.specs.PlanFault.{plan_fault};
+ghost use Rattle.certificate.specs.ShortageFault.{shortage_fault};
+ghost use Rattle.certificate.specs.Verdict.{certificate_fault, plan_verdict};
+ghost use Rattle.certificate.specs.Worked.{two_rows, held, priced, certificate_of, three_rows, moves_certificate};
 
-use crate::{MAX_AMOUNT, MAX_DEMAND, MAX_ROWS, MAX_WEIGHT, MOVE_SCALE};
+use crate::{
+    CheckFault, MAX_AMOUNT, MAX_DEMAND, MAX_ROWS, MAX_WEIGHT, MOVE_SCALE, Verdict, Weights,
+};
 
 /// Weak duality: no plan costs less than a bound, for any rows, values and prices. Hence a plan whose
 /// cost is such a bound is least.
@@ -56,4 +63,21 @@ pub fn the_limits()
     ensures weight { MAX_WEIGHT ≡ 33_554_431 }
     ensures amount { MAX_AMOUNT ≡ 1_099_511_627_776 }
     ensures scale { MOVE_SCALE ≡ 65_536 }
+{}
+
+/// Worked rows of docs/formats.md, "Certificates": the definitions, evaluated.
+pub fn worked()
+    ensures costs { cost two_rows (held (2 ∷ []) (1 ∷ [])) ≡ 23 }
+    ensures costs_more { cost two_rows (held (1 ∷ []) (2 ∷ [])) ≡ 60 }
+    ensures yes { certificate_fault (certificate_of 23) ≡ None }
+    ensures other_total { certificate_fault (certificate_of 24) ≡ Some CheckFault.Gap }
+    ensures wrong_count { plan_fault two_rows (held (1 ∷ 2 ∷ []) (1 ∷ [])) (priced 11 13) ≡ Some (CheckFault.WrongCount 0) }
+    ensures not_allowed { plan_fault two_rows (held (3 ∷ []) (1 ∷ [])) (priced 11 13) ≡ Some (CheckFault.NotAllowed 0 3) }
+    ensures held_twice { plan_fault two_rows (held (1 ∷ []) (1 ∷ [])) (priced 11 13) ≡ Some (CheckFault.HeldTwice 1) }
+    ensures too_high { plan_fault two_rows (held (2 ∷ []) (1 ∷ [])) (priced 11 14) ≡ Some (CheckFault.ValueTooHigh 1 1) }
+    ensures gap { plan_fault two_rows (held (2 ∷ []) (1 ∷ [])) (priced 11 12) ≡ Some CheckFault.Gap }
+    ensures short { shortage_fault three_rows (0 ∷ 1 ∷ []) ≡ None }
+    ensures not_short { shortage_fault three_rows (0 ∷ 2 ∷ []) ≡ Some CheckFault.NoShortage }
+    ensures yes_with_moves { certificate_fault moves_certificate ≡ None }
+    ensures told { plan_verdict 1310720 Weights.WithMoves ≡ Verdict.Moves 20 0 }
 {}

@@ -13,3 +13,4 @@ pub mod Ranges
 pub mod RangesFrom
 pub mod RangeLaws
 pub mod SetRanges
+pub mod ListedSets

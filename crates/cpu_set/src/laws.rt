@@ -1,6 +1,9 @@
 //! How sets, their least CPUs and their counts hang together: laws over the definitions alone. Nothing here runs.
-ghost use Rattle.std.specs.Prelude.{◌≡◌};
+ghost use Rattle.std.specs.Prelude.{◌≡◌, [], ◌∷◌};
+ghost use Rattle.std.specs.FinSet as set;
 ghost use Rattle.cpu_set.specs.LeastLaws.{LeastIsLeast, LeastPasses, NoneWhereNone, LeastIsFirst, LeastOfDifference, LeastOfBoth};
+ghost use Rattle.cpu_set.specs.Members.{members};
+ghost use Rattle.cpu_set.specs.Ranges.{ranges_of};
 ghost use Rattle.cpu_set.specs.SetLaws.{EmptyWhereNone, DisjointWhereMeetIsEmpty, SubsetWhereNoneIsLeft, MembersAreCounted};
 
 use crate::CPU_LIMIT;
@@ -26,6 +29,12 @@ pub fn set_laws()
     ensures disjoint { DisjointWhereMeetIsEmpty }
     ensures subset { SubsetWhereNoneIsLeft }
     ensures counted { MembersAreCounted }
+{}
+
+/// Worked rows: the definitions, evaluated.
+pub fn worked()
+    ensures members { members (set.from_list (5 ∷ 1 ∷ 2 ∷ 1 ∷ [])) ≡ 1 ∷ 2 ∷ 5 ∷ [] }
+    ensures ranges { ranges_of (0 ∷ 1 ∷ 2 ∷ 7 ∷ []) ≡ (0, 2) ∷ (7, 7) ∷ [] }
 {}
 
 /// Numbers are below 4,096.

@@ -12,3 +12,4 @@ pub mod WellFormedLemmas
 pub mod TreeLemmas
 pub mod Kept
 pub mod Near
+pub mod Worked

@@ -4,3 +4,4 @@ pub mod HomeNodes
 pub mod FreeCpus
 pub mod Rounding
 pub mod Asked
+pub mod ListedCpus

@@ -7,3 +7,4 @@ pub mod Allowed
 pub mod DemandFaultOf
 pub mod IsDemand
 pub mod FitsMachine
+pub mod Worked

@@ -2,7 +2,7 @@
 //! the NUMA nodes of its memory.
 //!
 //! The numbers come from `linux.resources.cpu` of its config (OCI Runtime Specification 1.0.2,
-//! config-linux.md, "CPU") and from the machine. No call takes memory.
+//! config-linux.md, "CPU") and from the machine. No call allocates.
 #![tactic(auto)]
 
 mod allowed;

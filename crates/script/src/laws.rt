@@ -1,5 +1,8 @@
 //! Which lines are refused, and the limits of a script: laws over the definitions alone. Nothing here runs.
-ghost use Rattle.std.specs.Prelude.{◌≡◌};
+ghost use Rattle.std.specs.Prelude.{◌≡◌, codes};
+ghost use Rattle.script.specs.Commands as command;
+ghost use Rattle.script.specs.Lines.{words_of};
+ghost use Rattle.script.specs.Requests.{request_of, nothing, bad, asks};
 ghost use Rattle.script.specs.TextLaws.{NoTextIsBad};
 
 use crate::line_buffer::MOST_LINE_BYTES;
@@ -16,4 +19,19 @@ pub fn the_limits()
     ensures reads { MOST_READS ≡ 1000000 }
     ensures piece { PIECE ≡ 8192 }
     ensures line { MOST_LINE_BYTES ≡ 8192 }
+{}
+
+/// Worked rows of docs/formats.md, "Scripts": the definitions, evaluated.
+pub fn worked()
+    ensures no_words { request_of (words_of (codes "  ")) ≡ nothing }
+    ensures no_command { request_of (words_of (codes "Rebalance")) ≡ bad }
+    ensures bare { request_of (words_of (codes " rebalance ")) ≡ asks command.rebalance }
+    ensures two_texts { request_of (words_of (codes "create web images/web")) ≡ asks (command.create (codes "web") (codes "images/web")) }
+    ensures three_texts { request_of (words_of (codes "adopt web b 2-3,6")) ≡ asks (command.adopt (codes "web") (codes "b") (codes "2-3,6")) }
+    ensures too_few { request_of (words_of (codes "create web")) ≡ bad }
+    ensures too_many { request_of (words_of (codes "list web")) ≡ bad }
+    ensures leading_zeros { request_of (words_of (codes "exit 007")) ≡ asks (command.exit 7) }
+    ensures sign { request_of (words_of (codes "exit +7")) ≡ bad }
+    ensures largest { request_of (words_of (codes "offline 4294967295")) ≡ asks (command.offline 4294967295) }
+    ensures too_large { request_of (words_of (codes "offline 4294967296")) ≡ bad }
 {}

@@ -6,3 +6,4 @@ pub mod HeaderFault
 pub mod EntriesFault
 pub mod Describes
 pub mod SlitFaultOf
+pub mod Worked

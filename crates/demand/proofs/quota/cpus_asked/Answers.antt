@@ -1,5 +1,4 @@
-use Rattle.std.proofs.Common.{◌≡◌, ◌*◌, ◌≤◌, ◌<◌, ap, sym, ◌∙◌, arith}
-use Rattle.cpu_set.specs.declared.TheConstants.{CPU_LIMIT}
+use Rattle.std.proofs.Common.{arith}
 use Rattle.demand.proofs.Rounding.{rounded}
 use Rattle.demand.proofs.quota.cpus_asked.Goals as goal
 
