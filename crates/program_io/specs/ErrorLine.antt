@@ -1,5 +1,5 @@
 -- The line that standard error gets of something that is wrong.
-use Rattle.std.specs.Prelude.{ℕ, ◌/◌, ◌%◌, ◌==◌, ◌&&◌, ◌||◌, Bool, nat_le, nat_lt, if◌then◌else◌, List, [], ◌∷◌, ◌++◌, codes, get_or}
+use Rattle.std.specs.Prelude.{ℕ, ◌/◌, ◌%◌, ◌==◌, ◌&&◌, ◌||◌, Bool, nat_le, nat_lt, if◌then◌else◌, List, [], ◌∷◌, ◌++◌, codes, decimal, get_or}
 
 -- the control characters of ASCII
 abbrev pub is_control : ℕ → Bool
@@ -37,3 +37,8 @@ shown_name name = shown_behind 0 name
 -- what it is of, and what is wrong with it
 abbrev pub error_line : List ℕ → List ℕ → List ℕ
 error_line of wrong = codes "error: " ++ (shown_name of ++ (codes ": " ++ (wrong ++ codes "\n")))
+
+-- the same of a text, and at which line and column
+abbrev pub error_at : List ℕ → List ℕ → (line column : ℕ) → List ℕ
+error_at of wrong line column =
+    codes "error: " ++ (shown_name of ++ (codes ": " ++ (wrong ++ (codes ", line " ++ (decimal line ++ (codes " column " ++ (decimal column ++ codes "\n")))))))
