@@ -1,2 +1,3 @@
+pub mod Flaws
 pub mod JsonOf
 pub mod Members

@@ -3,8 +3,10 @@
 //! The text is read by `serde_json`. Contracts name the value by that crate's own reading of the bytes.
 #![tactic(auto)]
 
+mod flaw;
 mod lookup;
 mod parsing;
 
+pub use flaw::{Flaw, FlawKind, flaw_in};
 pub use lookup::{inner, member};
 pub use parsing::parse;

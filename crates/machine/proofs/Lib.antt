@@ -10,6 +10,7 @@ pub mod NodeSteps
 pub mod PlaceLaws
 pub mod Reaching
 pub mod RowSteps
+pub mod SmallSets
 pub mod SoundLaws
 pub mod SubsetLaws
 pub mod TwiceLaws

@@ -24,3 +24,4 @@ pub mod CoresFault
 pub mod MachineOf
 pub mod HasMembers
 pub mod SoundIsRead
+pub mod Worked

@@ -1,6 +1,6 @@
 -- The line that standard error gets of something that is wrong.
 -- From: UTF-8's control characters below 160; the line is ours.
-use Rattle.std.specs.Prelude.{ℕ, ◌/◌, ◌%◌, ◌==◌, ◌&&◌, ◌||◌, Bool, nat_le, nat_lt, if◌then◌else◌, List, [], ◌∷◌, ◌++◌, codes, get_or}
+use Rattle.std.specs.Prelude.{ℕ, ◌/◌, ◌%◌, ◌==◌, ◌&&◌, ◌||◌, Bool, nat_le, nat_lt, if◌then◌else◌, List, [], ◌∷◌, ◌++◌, codes, decimal, get_or}
 
 -- the control characters of ASCII
 abbrev pub is_control : ℕ → Bool
@@ -38,3 +38,8 @@ shown_name name = shown_behind 0 name
 -- the line that standard error gets of something that is wrong: what it is of, and what is wrong with it
 abbrev pub error_line : List ℕ → List ℕ → List ℕ
 error_line of wrong = codes "error: " ++ (shown_name of ++ (codes ": " ++ (wrong ++ codes "\n")))
+
+-- the same of a text, and at which line and column
+abbrev pub error_at : List ℕ → List ℕ → (line column : ℕ) → List ℕ
+error_at of wrong line column =
+    codes "error: " ++ (shown_name of ++ (codes ": " ++ (wrong ++ (codes ", line " ++ (decimal line ++ (codes " column " ++ (decimal column ++ codes "\n")))))))

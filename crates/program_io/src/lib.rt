@@ -18,7 +18,7 @@ mod reading;
 mod refusal;
 
 pub use input::{Input, Opened, Source};
-pub use output::{put_error_line, put_number_line};
+pub use output::{put_error_at, put_error_line, put_number_line};
 pub use page::Page;
 pub use read_fault::ReadFault;
 pub use reading::{MOST_BYTES, MOST_READS, read_all};

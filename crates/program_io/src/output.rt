@@ -1,6 +1,6 @@
 //! Lines of output, and numbers in them.
 ghost use Rattle.std.specs.Prelude.{◌≡◌, ◌<◌, ◌++◌, [], ◌∷◌, codes, decimal, get_or};
-ghost use Rattle.program_io.specs.ErrorLine.{error_line, hex_digit, is_behind_lead, is_control, is_lead, shown_byte, shown_name};
+ghost use Rattle.program_io.specs.ErrorLine.{error_at, error_line, hex_digit, is_behind_lead, is_control, is_lead, shown_byte, shown_name};
 ghost use Rattle.byte_output.specs.Output.{Writes};
 
 use byte_output::{put, put_all, put_number};
@@ -33,6 +33,34 @@ fn put_reason<'a, W: Write>(wrong: &'a [u8], w: &mut W) -> io::Result<()>
     ensures { Writes (W.contents w.old) (W.contents w.new) result (codes ": " ++ (wrong.now ++ codes "\n")) }
 {
     put_all(&[b": ".as_slice(), wrong, b"\n".as_slice()], w)
+}
+
+/// Writes the line of an error in a text, as [`put_error_line`] does, and at which line and column it is.
+///
+/// # Errors
+/// That of the first write that fails or takes no byte; a prefix of the line then went out.
+pub fn put_error_at<W: Write>(
+    of: &[u8],
+    wrong: &[u8],
+    line: u64,
+    column: u64,
+    w: &mut W,
+) -> io::Result<()>
+    ensures { Writes (W.contents w.old) (W.contents w.new) result (error_at of.now wrong.now line column) }
+{
+    put(b"error: ", w)?;
+    put_name(of, w)?;
+    put(b": ", w)?;
+    put(wrong, w)?;
+    put_place(line, column, w)
+}
+
+fn put_place<W: Write>(line: u64, column: u64, w: &mut W) -> io::Result<()>
+    ensures { Writes (W.contents w.old) (W.contents w.new) result
+        (codes ", line " ++ (decimal line ++ (codes " column " ++ (decimal column ++ codes "\n")))) }
+{
+    put_number(b", line ", line, b" column ", w)?;
+    put_number(b"", column, b"\n", w)
 }
 
 /// Writes a name, with each control character by its number.
