@@ -87,9 +87,7 @@ impl<F: GroupFiles> Mirror<F> {
         ensures named { IsNamed name.now result }
     {
         if self.inner.makable(parent, name).is_err() {
-            let answer = self.inner.make_group(parent, name);
-            self.inner.never_fails();
-            return answer;
+            return self.inner.make_group(parent, name);
         }
         if !is_name(name.as_bytes()) {
             return Err(OrMemory::Fault(self.fail()));
@@ -99,7 +97,6 @@ impl<F: GroupFiles> Mirror<F> {
             return Err(OrMemory::Fault(self.fail()));
         };
         let answer = self.inner.make_group(parent, name);
-        self.inner.never_fails();
         if let Err(OrMemory::Memory) = answer {
             let _ = self.folders.unmake_folder(path.as_str());
         }
@@ -119,9 +116,7 @@ impl<F: GroupFiles> Mirror<F> {
                 return Err(self.fail());
             }
         }
-        let answer = self.inner.remove_group(group);
-        self.inner.never_fails();
-        answer
+        self.inner.remove_group(group)
     }
 
     /// Writes what a group requests of CPUs, and looks whether it has them in effect.
@@ -145,7 +140,6 @@ impl<F: GroupFiles> Mirror<F> {
             return Err(self.fail());
         }
         let answer = self.inner.write_cpus(group, cpus);
-        self.inner.never_fails();
         if answer.is_ok()
             && let Ok(ids) = self.inner.effective_cpus(group)
         {
@@ -184,9 +178,7 @@ impl<F: GroupFiles> Mirror<F> {
         if asked.is_err() {
             return Err(self.fail());
         }
-        let answer = self.inner.write_mems(group, mems);
-        self.inner.never_fails();
-        answer
+        self.inner.write_mems(group, mems)
     }
 
     /// A first process, of which nothing is asked.
@@ -206,17 +198,13 @@ impl<F: GroupFiles> Mirror<F> {
         ensures root { place_of self.old.inner.tree group ≡ None → Asks F.asked self.old.folders [] self.new.folders }
     {
         if self.inner.requested_cpus(group).is_err() {
-            let answer = self.inner.end_group(group);
-            self.inner.never_fails();
-            return answer;
+            return self.inner.end_group(group);
         }
         let (root, kernel) = (self.root.as_str(), &self.inner);
         if end_all(self.alloc, &mut self.folders, root, kernel, group).is_err() {
             return Err(self.fail());
         }
-        let answer = self.inner.end_group(group);
-        self.inner.never_fails();
-        answer
+        self.inner.end_group(group)
     }
 
     /// A process forks; nothing is asked.
