@@ -1,4 +1,4 @@
--- A kernel whose writes are asked of folders and files too.
+-- A kernel whose writes are asked of files too.
 use Rattle.std.specs.Prelude.{⊤, ℕ, ◌+◌, List, [], ◌∷◌, ◌⊎◌, Bool, Option, Some, None, Result, Ok, Err}
 use Rattle.faults.specs.declared.OrMemory.{OrMemory}
 use Rattle.faults.specs.declared.OrMemory.TheVariants.{Memory, Fault}
@@ -8,7 +8,7 @@ use Rattle.kernel_model.specs.KernelState.{KernelState}
 use Rattle.cgroup_tree.specs.Asked.{Deed, Asked, done, refused, Asks}
 use Rattle.cgroup_tree.specs.Paths.{IsName}
 
--- the model, with as many more writes and failures as the folders refused; these never came to the model
+-- the model, with as many writes and failures more as were refused by the files and never came to the model
 abbrev pub mirrored : ℕ → KernelState → KernelState
 mirrored n k = record k { failures = k.failures + n; writes = k.writes + n }
 

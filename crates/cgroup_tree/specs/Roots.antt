@@ -10,8 +10,8 @@ use Rattle.cpu_set.specs.Ids.{Ids}
 use Rattle.cpu_set.specs.declared.TheConstants.{CPU_LIMIT}
 use Rattle.cpu_list.specs.FirstFault.{first_fault}
 use Rattle.cpu_list.specs.ListText.{IsSetOf}
-use Rattle.cgroup_tree.specs.declared.root.RootFault.{RootFault}
-use Rattle.cgroup_tree.specs.declared.root.RootFault.TheVariants as root_fault
+use Rattle.cgroup_tree.specs.declared.fault.RootFault.{RootFault}
+use Rattle.cgroup_tree.specs.declared.fault.RootFault.TheVariants as root_fault
 
 -- what a look at a path may find: whether it is a folder; whether another program has it; what the file has, or none if it is
 -- not there; or the kind of error by which the look failed

@@ -10,7 +10,7 @@ pub record Shown (F : Type 0) : Type 0 where
   pub memory : Ids
   pub inner : KernelState
   pub failed : ℕ
-  pub folders : F
+  pub files : F
 
 -- it is stored as the tuple of its fields
 abbrev pub shown_code : {F : Type 0} → Coded F → Coded (Shown F)
@@ -18,6 +18,6 @@ shown_code {F} code =
     code_by
     (List ℕ × (Ids × (KernelState × (ℕ × F))))
     (coded× (coded_list coded_ℕ) (coded× ids_code (coded× kernel_code (coded× coded_ℕ code))))
-    (λ k. (k.root, (k.memory, (k.inner, (k.failed, k.folders)))))
-    (λ p. record { root = p.0; memory = p.1.0; inner = p.1.1.0; failed = p.1.1.1.0; folders = p.1.1.1.1 })
+    (λ k. (k.root, (k.memory, (k.inner, (k.failed, k.files)))))
+    (λ p. record { root = p.0; memory = p.1.0; inner = p.1.1.0; failed = p.1.1.1.0; files = p.1.1.1.1 })
     (λ _. refl)

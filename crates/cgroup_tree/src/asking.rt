@@ -1,4 +1,4 @@
-//! What folders are asked for where a kernel makes a write.
+//! What files are asked for where a kernel makes a write.
 ghost use Rattle.std.specs.Prelude.{◌≡◌, ◌++◌, [], None, IfOk, string_bytes};
 ghost use Rattle.cpuset_tree.specs.Effective.{granted};
 ghost use Rattle.cpuset_tree.specs.Places.{place_of};
@@ -35,93 +35,93 @@ pub fn with_memory(mems: &IdSet, memory: &IdSet) -> IdSet
 /// Writes a set into a file of a group, where the group is there and not the root.
 pub fn write_list<F: GroupFiles>(
     alloc: Global,
-    folders: &mut F,
+    files: &mut F,
     root: &str,
     kernel: &ModelKernel,
     group: Group,
     file: &str,
     ids: &IdSet,
 ) -> io::Result<()>
-    ensures { TriesWhere F.asked folders.old (place_of kernel.now.tree group)
-        (Written (root.now ++ (folder kernel.now.tree group ++ file.now)) (list_line ids.now)) result folders.new }
+    ensures { TriesWhere F.asked files.old (place_of kernel.now.tree group)
+        (Written (root.now ++ (folder kernel.now.tree group ++ file.now)) (list_line ids.now)) result files.new }
 {
     if kernel.place(group).is_none() {
         return Ok(());
     }
     let path = path_of(alloc, root, kernel, group, file)?;
     let line = line_of(alloc, ids)?;
-    folders.write_file(path.as_str(), line.as_bytes())
+    files.write_file(path.as_str(), line.as_bytes())
 }
 
 /// Ends all processes of a group that is there. Those of the root are left: its folder has no file for that.
 pub fn end_all<F: GroupFiles>(
     alloc: Global,
-    folders: &mut F,
+    files: &mut F,
     root: &str,
     kernel: &ModelKernel,
     group: Group,
 ) -> io::Result<()>
-    ensures tries { Tries F.asked folders.old (Written (root.now ++ (folder kernel.now.tree group ++ kill_file)) kill_line) result folders.new }
-    ensures root { place_of kernel.now.tree group ≡ None → Asks F.asked folders.old [] folders.new }
+    ensures tries { Tries F.asked files.old (Written (root.now ++ (folder kernel.now.tree group ++ kill_file)) kill_line) result files.new }
+    ensures root { place_of kernel.now.tree group ≡ None → Asks F.asked files.old [] files.new }
 {
     if kernel.place(group).is_none() {
         return Err(io::Error::from(ErrorKind::Unsupported));
     }
     let path = path_of(alloc, root, kernel, group, KILL_FILE)?;
-    folders.write_file(path.as_str(), KILL_LINE.as_bytes())
+    files.write_file(path.as_str(), KILL_LINE.as_bytes())
 }
 
 /// Removes the folder of a group.
 pub fn remove_folder<F: GroupFiles>(
     alloc: Global,
-    folders: &mut F,
+    files: &mut F,
     root: &str,
     kernel: &ModelKernel,
     group: Group,
 ) -> io::Result<()>
-    ensures { Tries F.asked folders.old (Removed (root.now ++ (folder kernel.now.tree group ++ []))) result folders.new }
+    ensures { Tries F.asked files.old (Removed (root.now ++ (folder kernel.now.tree group ++ []))) result files.new }
 {
     let path = path_of(alloc, root, kernel, group, "")?;
-    folders.remove_folder(path.as_str())
+    files.remove_folder(path.as_str())
 }
 
 /// Makes the folder of a new group, whose parent's groups get the controller before; the folder's path.
 pub fn make_folder<F: GroupFiles>(
     alloc: Global,
-    folders: &mut F,
+    files: &mut F,
     root: &str,
     kernel: &ModelKernel,
     parent: Group,
     name: &str,
 ) -> io::Result<String>
-    ensures both { TriesBoth F.asked folders.old
+    ensures both { TriesBoth F.asked files.old
         (Written (root.now ++ (folder kernel.now.tree parent ++ controls_file)) controls_line)
-        (Made (root.now ++ (folder kernel.now.tree parent ++ below name.now))) result folders.new }
+        (Made (root.now ++ (folder kernel.now.tree parent ++ below name.now))) result files.new }
     ensures path { IfOk result (λ path. string_bytes path ≡ root.now ++ (folder kernel.now.tree parent ++ below name.now)) }
 {
     let controls = path_of(alloc, root, kernel, parent, CONTROLS_FILE)?;
     let path = path_below(alloc, root, kernel, parent, name)?;
-    folders.write_file(controls.as_str(), CONTROLS_LINE.as_bytes())?;
-    folders.make_folder(path.as_str())?;
+    files.write_file(controls.as_str(), CONTROLS_LINE.as_bytes())?;
+    files.make_folder(path.as_str())?;
     Ok(path)
 }
 
 /// Looks whether what a group has in effect is what the kernel's model says, where no allocation for that fails.
 pub fn compare_list<F: GroupFiles>(
     alloc: Global,
-    folders: &mut F,
+    files: &mut F,
     root: &str,
     kernel: &ModelKernel,
     group: Group,
     file: &str,
     ids: &IdSet,
 )
-    ensures { Asks F.asked folders.old [] folders.new }
+    ensures { Asks F.asked files.old [] files.new }
 {
     if let (Ok(path), Ok(line)) = (
         path_of(alloc, root, kernel, group, file),
         line_of(alloc, ids),
     ) {
-        folders.compare_line(path.as_str(), line.as_bytes());
+        files.compare_line(path.as_str(), line.as_bytes());
     }
 }

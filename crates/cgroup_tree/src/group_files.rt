@@ -1,10 +1,10 @@
-//! What folders and files are asked for.
+//! What the folders and files of groups are asked for.
 ghost use Rattle.std.specs.Prelude.{Bool, List, [], ◌∷◌};
 ghost use Rattle.cgroup_tree.specs.Asked.{Asked, Asks, Made, Removed, Unmade, Written, is_made};
 
 use std::io;
 
-/// GroupFiles and files that can be made, removed and written, as those of a cgroup tree.
+/// Folders and files that can be made, removed and written, as those of a cgroup tree.
 ///
 /// What they hold is not said, since no contract can say what a file system does. What they were asked for is: which
 /// calls were made so far, the newest first, and which of them were refused.

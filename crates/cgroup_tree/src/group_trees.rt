@@ -3,8 +3,7 @@ ghost use Rattle.std.specs.Prelude.{ℕ, List, [], MatchOption, MatchResult, fal
 ghost use Rattle.std.specs.IoError.{error_kind};
 ghost use Rattle.cgroup_tree.specs.Roots.{Fails, Finding, Has, IsFolder, IsTaken};
 
-use crate::GroupFiles;
-use cpu_set::IdSet;
+use crate::{Difference, GroupFiles};
 use std::alloc::Global;
 use std::io;
 
@@ -54,8 +53,8 @@ pub trait GroupTrees {
             (λ text. finds self.now path.now (Has (option_map (λ bytes. bytes.items) text)))
             (λ error. finds self.now path.now (Fails (error_kind error))) };
 
-    /// Tells the operator something of a file of the root, and the numbers that it is about, if there are any.
-    fn tell(&self, root: &str, file: &str, what: &str, numbers: &IdSet);
+    /// Tells the operator by what the file of this path differs from what a machine's has.
+    fn tell(&self, path: &str, difference: Difference<'_>);
 
     /// Names to the operator each folder in this one.
     fn name_folders(&self, alloc: Global, path: &str);

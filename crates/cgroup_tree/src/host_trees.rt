@@ -2,9 +2,9 @@
 ghost use Rattle.std.specs.Prelude.{◌≡◌, ⊤};
 
 use crate::shown::Shown;
-use crate::{GroupTrees, HostFiles};
+use crate::{Difference, GroupTrees, HostFiles};
 use cpu_list::print;
-use cpu_set::IdSet;
+use cpu_set::CPU_LIMIT;
 use std::alloc::Global;
 use std::fs::{File, TryLockError};
 use std::io::ErrorKind;
@@ -99,12 +99,21 @@ impl<'a, R: Files<File = File> + AllocGlobal + Clock + Eprint + Clone + Drop> Gr
         }
     }
 
-    fn tell(&self, root: &str, file: &str, what: &str, numbers: &IdSet) {
-        let Ok(list) = print(self.rt.alloc(), numbers) else {
-            return;
+    fn tell(&self, path: &str, difference: Difference<'_>) {
+        let (what, numbers) = match difference {
+            Difference::Lacks(numbers) => ("lacks", numbers),
+            Difference::HasBesides(numbers) => ("has besides", numbers),
+            Difference::NoList => {
+                let _ = eprintln!(self.rt;
+                    "error: {}: is no list of numbers below {CPU_LIMIT}",
+                    Shown(path)
+                );
+                return;
+            }
         };
-        let space = if numbers.is_empty() { "" } else { " " };
-        let _ = eprintln!(self.rt; "error: {}{file}: {what}{space}{list}", Shown(root));
+        if let Ok(list) = print(self.rt.alloc(), numbers) {
+            let _ = eprintln!(self.rt; "error: {}: {what} {list}", Shown(path));
+        }
     }
 
     fn name_folders(&self, _alloc: Global, path: &str) {

@@ -30,6 +30,8 @@
 #![tactic(auto)]
 
 mod asking;
+mod difference;
+mod fault;
 mod group_files;
 mod group_trees;
 mod host_files;
@@ -42,10 +44,12 @@ mod root;
 mod shown;
 mod sited;
 
+pub use difference::Difference;
+pub use fault::RootFault;
 pub use group_files::GroupFiles;
 pub use group_trees::GroupTrees;
 pub use host_files::HostFiles;
 pub use host_trees::HostTrees;
 pub use mirrored_kernel::MirroredKernel;
-pub use root::{OpenTree, RootFault, open_tree};
+pub use root::{OpenTree, open_tree};
 pub use sited::Sited;

@@ -33,7 +33,7 @@ pub struct Mirror<F: GroupFiles> {
     /// What each call returns and changes.
     pub inner: ModelKernel,
     /// What the writes are asked of.
-    pub folders: F,
+    pub files: F,
     /// How many of them were refused.
     pub failed: WriteCount,
 }
@@ -45,12 +45,12 @@ impl<F: GroupFiles> Mirror<F> {
         inner: ModelKernel,
         root: String,
         memory: IdSet,
-        folders: F,
+        files: F,
     ) -> Mirror<F>
         ensures inner { result.inner ≡ inner }
         ensures root { result.root ≡ root }
         ensures memory { result.memory ≡ memory }
-        ensures folders { result.folders ≡ folders }
+        ensures files { result.files ≡ files }
         ensures failed { result.failed.writes ≡ 0 }
     {
         Mirror {
@@ -58,7 +58,7 @@ impl<F: GroupFiles> Mirror<F> {
             root,
             memory,
             inner,
-            folders,
+            files,
             failed: WriteCount::none(),
         }
     }
@@ -70,7 +70,7 @@ impl<F: GroupFiles> Mirror<F> {
         ensures inner { self.new.inner ≡ self.old.inner }
         ensures root { self.new.root ≡ self.old.root }
         ensures memory { self.new.memory ≡ self.old.memory }
-        ensures folders { self.new.folders ≡ self.old.folders }
+        ensures files { self.new.files ≡ self.old.files }
     {
         self.failed = self.failed.one_more();
         KernelFault::Failed
@@ -79,29 +79,26 @@ impl<F: GroupFiles> Mirror<F> {
     /// Makes a group, once the files have made its folder; that is removed again where its allocation in the model fails.
     pub fn make_group(&mut self, parent: Group, name: &str) -> Result<Group, OrMemory<KernelFault>>
         ensures case { MakesGroup (mirrored self.old.failed.writes self.old.inner) parent name.now result (mirrored self.new.failed.writes self.new.inner) }
-        ensures asks { MirrorsBoth F.asked self.old.folders
+        ensures asks { MirrorsBoth F.asked self.old.files
             (Written (string_bytes self.old.root ++ (folder self.old.inner.tree parent ++ controls_file)) controls_line)
             (Made (string_bytes self.old.root ++ (folder self.old.inner.tree parent ++ below name.now)))
-            (Unmade (string_bytes self.old.root ++ (folder self.old.inner.tree parent ++ below name.now))) result self.new.folders }
+            (Unmade (string_bytes self.old.root ++ (folder self.old.inner.tree parent ++ below name.now))) result self.new.files }
         ensures same { (self.new.root ≡ self.old.root) × (self.new.memory ≡ self.old.memory) }
         ensures named { IsNamed name.now result }
     {
         if self.inner.makable(parent, name).is_err() {
-            let answer = self.inner.make_group(parent, name);
-            self.inner.never_fails();
-            return answer;
+            return self.inner.make_group(parent, name);
         }
         if !is_name(name.as_bytes()) {
             return Err(OrMemory::Fault(self.fail()));
         }
         let (root, kernel) = (self.root.as_str(), &self.inner);
-        let Ok(path) = make_folder(self.alloc, &mut self.folders, root, kernel, parent, name) else {
+        let Ok(path) = make_folder(self.alloc, &mut self.files, root, kernel, parent, name) else {
             return Err(OrMemory::Fault(self.fail()));
         };
         let answer = self.inner.make_group(parent, name);
-        self.inner.never_fails();
         if let Err(OrMemory::Memory) = answer {
-            let _ = self.folders.unmake_folder(path.as_str());
+            let _ = self.files.unmake_folder(path.as_str());
         }
         answer
     }
@@ -109,32 +106,30 @@ impl<F: GroupFiles> Mirror<F> {
     /// Removes a group, once the files have removed its folder.
     pub fn remove_group(&mut self, group: Group) -> Result<(), KernelFault>
         ensures case { RemovesGroup (mirrored self.old.failed.writes self.old.inner) group result (mirrored self.new.failed.writes self.new.inner) }
-        ensures asks { Mirrors F.asked self.old.folders
-            (Removed (string_bytes self.old.root ++ (folder self.old.inner.tree group ++ []))) result self.new.folders }
+        ensures asks { Mirrors F.asked self.old.files
+            (Removed (string_bytes self.old.root ++ (folder self.old.inner.tree group ++ []))) result self.new.files }
         ensures same { (self.new.root ≡ self.old.root) × (self.new.memory ≡ self.old.memory) }
     {
         if self.inner.removable(group).is_ok() {
             let (root, kernel) = (self.root.as_str(), &self.inner);
-            if remove_folder(self.alloc, &mut self.folders, root, kernel, group).is_err() {
+            if remove_folder(self.alloc, &mut self.files, root, kernel, group).is_err() {
                 return Err(self.fail());
             }
         }
-        let answer = self.inner.remove_group(group);
-        self.inner.never_fails();
-        answer
+        self.inner.remove_group(group)
     }
 
     /// Writes what a group requests of CPUs, and looks whether it has them in effect.
     pub fn write_cpus(&mut self, group: Group, cpus: IdSet) -> Result<(), KernelFault>
         ensures case { WritesCpus (mirrored self.old.failed.writes self.old.inner) group cpus result (mirrored self.new.failed.writes self.new.inner) }
-        ensures asks { Mirrors F.asked self.old.folders
-            (Written (string_bytes self.old.root ++ (folder self.old.inner.tree group ++ cpus_file)) (list_line cpus)) result self.new.folders }
+        ensures asks { Mirrors F.asked self.old.files
+            (Written (string_bytes self.old.root ++ (folder self.old.inner.tree group ++ cpus_file)) (list_line cpus)) result self.new.files }
         ensures same { (self.new.root ≡ self.old.root) × (self.new.memory ≡ self.old.memory) }
     {
         let (root, kernel) = (self.root.as_str(), &self.inner);
         let asked = write_list(
             self.alloc,
-            &mut self.folders,
+            &mut self.files,
             root,
             kernel,
             group,
@@ -145,14 +140,13 @@ impl<F: GroupFiles> Mirror<F> {
             return Err(self.fail());
         }
         let answer = self.inner.write_cpus(group, cpus);
-        self.inner.never_fails();
         if answer.is_ok()
             && let Ok(ids) = self.inner.effective_cpus(group)
         {
             let (root, kernel) = (self.root.as_str(), &self.inner);
             compare_list(
                 self.alloc,
-                &mut self.folders,
+                &mut self.files,
                 root,
                 kernel,
                 group,
@@ -166,15 +160,15 @@ impl<F: GroupFiles> Mirror<F> {
     /// Writes what a group requests of nodes, of which the files get those that have memory.
     pub fn write_mems(&mut self, group: Group, mems: IdSet) -> Result<(), KernelFault>
         ensures case { WritesMems (mirrored self.old.failed.writes self.old.inner) group mems result (mirrored self.new.failed.writes self.new.inner) }
-        ensures asks { Mirrors F.asked self.old.folders
-            (Written (string_bytes self.old.root ++ (folder self.old.inner.tree group ++ mems_file)) (list_line (granted mems self.old.memory))) result self.new.folders }
+        ensures asks { Mirrors F.asked self.old.files
+            (Written (string_bytes self.old.root ++ (folder self.old.inner.tree group ++ mems_file)) (list_line (granted mems self.old.memory))) result self.new.files }
         ensures same { (self.new.root ≡ self.old.root) × (self.new.memory ≡ self.old.memory) }
     {
         let (root, kernel) = (self.root.as_str(), &self.inner);
         let nodes = with_memory(&mems, &self.memory);
         let asked = write_list(
             self.alloc,
-            &mut self.folders,
+            &mut self.files,
             root,
             kernel,
             group,
@@ -184,15 +178,13 @@ impl<F: GroupFiles> Mirror<F> {
         if asked.is_err() {
             return Err(self.fail());
         }
-        let answer = self.inner.write_mems(group, mems);
-        self.inner.never_fails();
-        answer
+        self.inner.write_mems(group, mems)
     }
 
     /// A first process, of which nothing is asked.
     pub fn spawn(&mut self, group: Group) -> Result<u32, OrMemory<KernelFault>>
         ensures case { Spawns (mirrored self.old.failed.writes self.old.inner) group result (mirrored self.new.failed.writes self.new.inner) }
-        ensures same { (self.new.root ≡ self.old.root) × (self.new.memory ≡ self.old.memory) × (self.new.folders ≡ self.old.folders) }
+        ensures same { (self.new.root ≡ self.old.root) × (self.new.memory ≡ self.old.memory) × (self.new.files ≡ self.old.files) }
     {
         self.inner.spawn(group)
     }
@@ -200,29 +192,25 @@ impl<F: GroupFiles> Mirror<F> {
     /// Ends a group's processes. Those of the root are left: its folder has no file for that.
     pub fn end_group(&mut self, group: Group) -> Result<(), KernelFault>
         ensures case { EndsGroup (mirrored self.old.failed.writes self.old.inner) group result (mirrored self.new.failed.writes self.new.inner) }
-        ensures asks { Mirrors F.asked self.old.folders
-            (Written (string_bytes self.old.root ++ (folder self.old.inner.tree group ++ kill_file)) kill_line) result self.new.folders }
+        ensures asks { Mirrors F.asked self.old.files
+            (Written (string_bytes self.old.root ++ (folder self.old.inner.tree group ++ kill_file)) kill_line) result self.new.files }
         ensures same { (self.new.root ≡ self.old.root) × (self.new.memory ≡ self.old.memory) }
-        ensures root { place_of self.old.inner.tree group ≡ None → Asks F.asked self.old.folders [] self.new.folders }
+        ensures root { place_of self.old.inner.tree group ≡ None → Asks F.asked self.old.files [] self.new.files }
     {
         if self.inner.requested_cpus(group).is_err() {
-            let answer = self.inner.end_group(group);
-            self.inner.never_fails();
-            return answer;
+            return self.inner.end_group(group);
         }
         let (root, kernel) = (self.root.as_str(), &self.inner);
-        if end_all(self.alloc, &mut self.folders, root, kernel, group).is_err() {
+        if end_all(self.alloc, &mut self.files, root, kernel, group).is_err() {
             return Err(self.fail());
         }
-        let answer = self.inner.end_group(group);
-        self.inner.never_fails();
-        answer
+        self.inner.end_group(group)
     }
 
     /// A process forks; nothing is asked.
     pub fn fork(&mut self, parent: u32) -> Result<u32, OrMemory<KernelFault>>
         ensures case { Forks (mirrored self.old.failed.writes self.old.inner) parent result (mirrored self.new.failed.writes self.new.inner) }
-        ensures same { (self.new.root ≡ self.old.root) × (self.new.memory ≡ self.old.memory) × (self.new.folders ≡ self.old.folders) }
+        ensures same { (self.new.root ≡ self.old.root) × (self.new.memory ≡ self.old.memory) × (self.new.files ≡ self.old.files) }
     {
         self.inner.fork(parent)
     }
@@ -230,7 +218,7 @@ impl<F: GroupFiles> Mirror<F> {
     /// A process ends; nothing is asked.
     pub fn exit(&mut self, pid: u32) -> Result<(), KernelFault>
         ensures case { Exits (mirrored self.old.failed.writes self.old.inner) pid result (mirrored self.new.failed.writes self.new.inner) }
-        ensures same { (self.new.root ≡ self.old.root) × (self.new.memory ≡ self.old.memory) × (self.new.folders ≡ self.old.folders) }
+        ensures same { (self.new.root ≡ self.old.root) × (self.new.memory ≡ self.old.memory) × (self.new.files ≡ self.old.files) }
     {
         self.inner.exit(pid)
     }
@@ -238,7 +226,7 @@ impl<F: GroupFiles> Mirror<F> {
     /// A CPU goes offline; nothing is asked.
     pub fn offline(&mut self, cpu: u32) -> Result<(), KernelFault>
         ensures case { GoesOffline (mirrored self.old.failed.writes self.old.inner) cpu result (mirrored self.new.failed.writes self.new.inner) }
-        ensures same { (self.new.root ≡ self.old.root) × (self.new.memory ≡ self.old.memory) × (self.new.folders ≡ self.old.folders) }
+        ensures same { (self.new.root ≡ self.old.root) × (self.new.memory ≡ self.old.memory) × (self.new.files ≡ self.old.files) }
     {
         self.inner.offline(cpu)
     }
@@ -246,7 +234,7 @@ impl<F: GroupFiles> Mirror<F> {
     /// A CPU comes online; nothing is asked.
     pub fn online_cpu(&mut self, cpu: u32) -> Result<(), KernelFault>
         ensures case { ComesOnline (mirrored self.old.failed.writes self.old.inner) cpu result (mirrored self.new.failed.writes self.new.inner) }
-        ensures same { (self.new.root ≡ self.old.root) × (self.new.memory ≡ self.old.memory) × (self.new.folders ≡ self.old.folders) }
+        ensures same { (self.new.root ≡ self.old.root) × (self.new.memory ≡ self.old.memory) × (self.new.files ≡ self.old.files) }
     {
         self.inner.online_cpu(cpu)
     }

@@ -47,10 +47,10 @@ impl<F: GroupFiles, S: Sited> Model for MirroredKernel<F, S> {
       memory = k.mirror.memory;
       inner = k.mirror.inner;
       failed = k.mirror.failed.writes;
-      folders = k.mirror.folders;
+      files = k.mirror.files;
     } };
 
-    ghost invariant = { λ k. IsMirroredAt F.asked S.site (string_bytes k.mirror.root) k.mirror.memory (mirrored k.mirror.failed.writes k.mirror.inner) k.mirror.folders };
+    ghost invariant = { λ k. IsMirroredAt F.asked S.site (string_bytes k.mirror.root) k.mirror.memory (mirrored k.mirror.failed.writes k.mirror.inner) k.mirror.files };
 }
 
 impl<F: GroupFiles, S: Sited> MirroredKernel<F, S> {
@@ -60,28 +60,28 @@ impl<F: GroupFiles, S: Sited> MirroredKernel<F, S> {
         inner: ModelKernel,
         root: String,
         memory: IdSet,
-        folders: F,
+        files: F,
     ) -> MirroredKernel<F, S>
         requires first { Begins S.site.first inner }
         requires root { string_bytes root ≡ S.site.root }
         requires memory { memory ≡ S.site.memory }
-        requires unasked { F.asked folders S.site.adopt [] }
+        requires unasked { F.asked files S.site.adopt [] }
         ensures inner { result.inner ≡ inner }
         ensures root { result.root ≡ string_bytes root }
         ensures memory { result.memory ≡ memory }
-        ensures folders { result.folders ≡ folders }
+        ensures files { result.files ≡ files }
         ensures failed { result.failed ≡ 0 }
     {
         inner.root();
         MirroredKernel {
-            mirror: Mirror::new(alloc, inner, root, memory, folders),
+            mirror: Mirror::new(alloc, inner, root, memory, files),
             site: PhantomData,
         }
     }
 
     /// All that was asked of the files is what the calls of this kernel stand for, in their order; nothing runs.
     pub fn is_mirrored(&self)
-        ensures mirrored { IsMirrored F.asked S.site (mirrored self.now.failed self.now.inner) self.now.folders }
+        ensures mirrored { IsMirrored F.asked S.site (mirrored self.now.failed self.now.inner) self.now.files }
         ensures root { self.now.root ≡ S.site.root }
         ensures memory { self.now.memory ≡ S.site.memory }
     {
@@ -90,7 +90,7 @@ impl<F: GroupFiles, S: Sited> MirroredKernel<F, S> {
 
     /// Each group's files have what it requests, if files do what they answer and nobody else writes; nothing runs.
     pub fn files_stand(&self)
-        ensures { FilesStand F.asked S.site (mirrored self.now.failed self.now.inner) self.now.folders }
+        ensures { FilesStand F.asked S.site (mirrored self.now.failed self.now.inner) self.now.files }
     {
         self.is_mirrored();
     }
@@ -101,10 +101,10 @@ impl<F: GroupFiles, S: Sited> Kernel for MirroredKernel<F, S> {
 
     fn make_group(&mut self, parent: Group, name: &str) -> Result<Group, OrMemory<KernelFault>>
         ensures case { MakesGroup (mirrored self.old.failed self.old.inner) parent name.now result (mirrored self.new.failed self.new.inner) }
-        ensures asks { MirrorsBoth F.asked self.old.folders
+        ensures asks { MirrorsBoth F.asked self.old.files
             (Written (self.old.root ++ (folder self.old.inner.tree parent ++ controls_file)) controls_line)
             (Made (self.old.root ++ (folder self.old.inner.tree parent ++ below name.now)))
-            (Unmade (self.old.root ++ (folder self.old.inner.tree parent ++ below name.now))) result self.new.folders }
+            (Unmade (self.old.root ++ (folder self.old.inner.tree parent ++ below name.now))) result self.new.files }
         ensures named { IsNamed name.now result }
     {
         self.mirror.make_group(parent, name)
@@ -112,24 +112,24 @@ impl<F: GroupFiles, S: Sited> Kernel for MirroredKernel<F, S> {
 
     fn remove_group(&mut self, group: Group) -> Result<(), KernelFault>
         ensures case { RemovesGroup (mirrored self.old.failed self.old.inner) group result (mirrored self.new.failed self.new.inner) }
-        ensures asks { Mirrors F.asked self.old.folders
-            (Removed (self.old.root ++ (folder self.old.inner.tree group ++ []))) result self.new.folders }
+        ensures asks { Mirrors F.asked self.old.files
+            (Removed (self.old.root ++ (folder self.old.inner.tree group ++ []))) result self.new.files }
     {
         self.mirror.remove_group(group)
     }
 
     fn write_cpus(&mut self, group: Group, cpus: IdSet) -> Result<(), KernelFault>
         ensures case { WritesCpus (mirrored self.old.failed self.old.inner) group cpus result (mirrored self.new.failed self.new.inner) }
-        ensures asks { Mirrors F.asked self.old.folders
-            (Written (self.old.root ++ (folder self.old.inner.tree group ++ cpus_file)) (list_line cpus)) result self.new.folders }
+        ensures asks { Mirrors F.asked self.old.files
+            (Written (self.old.root ++ (folder self.old.inner.tree group ++ cpus_file)) (list_line cpus)) result self.new.files }
     {
         self.mirror.write_cpus(group, cpus)
     }
 
     fn write_mems(&mut self, group: Group, mems: IdSet) -> Result<(), KernelFault>
         ensures case { WritesMems (mirrored self.old.failed self.old.inner) group mems result (mirrored self.new.failed self.new.inner) }
-        ensures asks { Mirrors F.asked self.old.folders
-            (Written (self.old.root ++ (folder self.old.inner.tree group ++ mems_file)) (list_line (granted mems self.old.memory))) result self.new.folders }
+        ensures asks { Mirrors F.asked self.old.files
+            (Written (self.old.root ++ (folder self.old.inner.tree group ++ mems_file)) (list_line (granted mems self.old.memory))) result self.new.files }
     {
         self.mirror.write_mems(group, mems)
     }
@@ -141,8 +141,8 @@ impl<F: GroupFiles, S: Sited> Kernel for MirroredKernel<F, S> {
     /// The root's processes are not ended: its folder has no file for that.
     fn end_group(&mut self, group: Group) -> Result<(), KernelFault>
         ensures case { EndsGroup (mirrored self.old.failed self.old.inner) group result (mirrored self.new.failed self.new.inner) }
-        ensures asks { Mirrors F.asked self.old.folders
-            (Written (self.old.root ++ (folder self.old.inner.tree group ++ kill_file)) kill_line) result self.new.folders }
+        ensures asks { Mirrors F.asked self.old.files
+            (Written (self.old.root ++ (folder self.old.inner.tree group ++ kill_file)) kill_line) result self.new.files }
     {
         self.mirror.end_group(group)
     }

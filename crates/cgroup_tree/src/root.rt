@@ -5,7 +5,7 @@ ghost use Rattle.cpu_set.specs.Ids.{Ids};
 ghost use Rattle.cpu_list.specs.FirstFault.{first_fault};
 ghost use Rattle.cgroup_tree.specs.Roots.{AnswersRoot, CantRead, Has, IsListOf, LooksAtControllers, LooksAtCpus, LooksAtFolder, LooksAtLock, LooksAtMachine, LooksAtMems, names_cpuset};
 
-use crate::GroupTrees;
+use crate::{Difference, GroupTrees, RootFault};
 use cpu_set::{CPU_LIMIT, IdSet};
 use std::alloc::{AllocError, Global};
 use std::io;
@@ -20,47 +20,6 @@ const MEMS_IN_EFFECT: &str = "/cpuset.mems.effective";
 
 /// The group of all containers.
 const GROUP: &str = "/numarun";
-
-/// Why a tree is not taken.
-#[derive(Clone, Copy, Debug, PartialEq, Eq)]
-pub enum RootFault {
-    /// E1: an allocation failed.
-    Memory,
-    /// E50: another program has it.
-    Taken,
-    /// E113: the root is no folder, or a file of it can't be read.
-    Unread(ErrorKind),
-    /// E115: its groups can't have cpusets of their own: `cgroup.controllers` is there and does not name `cpuset`.
-    NoCpuset,
-    /// E116: what says its CPUs in effect is there and names others than those that are online, or a node in effect is none of
-    /// the machine's; so is what is no list.
-    OtherMachine,
-}
-
-impl From<io::Error> for RootFault {
-    ghost use Rattle.std.specs.IoError.{error_kind};
-    ghost use Rattle.cgroup_tree.specs.Roots.{IsFaultOf};
-
-    ghost from_gives = { λ error fault. IsFaultOf (error_kind error) fault };
-
-    fn from(error: io::Error) -> RootFault {
-        match error.kind() {
-            ErrorKind::OutOfMemory => RootFault::Memory,
-            kind => RootFault::Unread(kind),
-        }
-    }
-}
-
-impl From<AllocError> for RootFault {
-    ghost use Rattle.std.specs.Prelude.{◌≡◌};
-    ghost use Rattle.cgroup_tree.specs.declared.root.RootFault.TheVariants.{Memory};
-
-    ghost from_gives = { λ _ fault. fault ≡ Memory };
-
-    fn from(_error: AllocError) -> RootFault {
-        RootFault::Memory
-    }
-}
 
 /// A cgroup v2 tree that is open.
 #[derive(Drop)]
@@ -186,7 +145,15 @@ fn look_at_cpus<T: GroupTrees>(
     if is_list_of(text.as_slice(), online) {
         Ok(())
     } else {
-        tell_others(trees, root, CPUS_IN_EFFECT, text.as_slice(), online, online);
+        tell_others(
+            alloc,
+            trees,
+            root,
+            CPUS_IN_EFFECT,
+            text.as_slice(),
+            online,
+            online,
+        );
         Err(RootFault::OtherMachine)
     }
 }
@@ -206,6 +173,7 @@ fn look_at_mems<T: GroupTrees>(
         Some(memory) => Ok(memory),
         None => {
             tell_others(
+                alloc,
                 trees,
                 root,
                 MEMS_IN_EFFECT,
@@ -218,9 +186,10 @@ fn look_at_mems<T: GroupTrees>(
     }
 }
 
-/// Tells the operator by what a file's text makes its root another machine's: which numbers it lacks of the least that it has to
-/// have, and which it has besides the most; or that it is no list of numbers below `CPU_LIMIT`.
+/// Tells the operator by what a file's text makes its root another machine's, where no allocation for that fails: which numbers it
+/// lacks of the least that it has to have, and which it has besides the most; or that it is no list.
 fn tell_others<T: GroupTrees>(
+    alloc: Global,
     trees: &T,
     root: &str,
     file: &str,
@@ -228,24 +197,19 @@ fn tell_others<T: GroupTrees>(
     least: &IdSet,
     most: &IdSet,
 ) {
-    match set_in(text) {
-        Some(found) => {
-            tell_numbers(trees, root, file, "lacks", &least.minus(&found));
-            tell_numbers(trees, root, file, "has besides", &found.minus(most));
-        }
-        None => trees.tell(
-            root,
-            file,
-            "is no list of numbers below 4096",
-            &IdSet::empty(),
-        ),
+    let Ok(path) = path_below(alloc, root, file) else {
+        return;
+    };
+    let Some(found) = set_in(text) else {
+        trees.tell(path.as_str(), Difference::NoList);
+        return;
+    };
+    let (lacks, besides) = (least.minus(&found), found.minus(most));
+    if !lacks.is_empty() {
+        trees.tell(path.as_str(), Difference::Lacks(&lacks));
     }
-}
-
-/// The same of these numbers, if there are any.
-fn tell_numbers<T: GroupTrees>(trees: &T, root: &str, file: &str, what: &str, numbers: &IdSet) {
-    if !numbers.is_empty() {
-        trees.tell(root, file, what, numbers);
+    if !besides.is_empty() {
+        trees.tell(path.as_str(), Difference::HasBesides(&besides));
     }
 }
 

@@ -29,3 +29,4 @@ pub mod RefusalLemmas
 pub mod KernelLemmas
 pub mod Names
 pub mod NameLemmas
+pub mod Worked

@@ -2,7 +2,7 @@
 use Rattle.std.proofs.Common.{◌≡◌, ℕ, Bool, true, false, cond, ◌&&◌, List, [], ◌∷◌, refl, sym, ap, ◌∙◌, subst}
 use Rattle.std.proofs.lemmas.Bool.{both_ways, and_from}
 use Rattle.std.proofs.lemmas.Option.{same_Some, none-some}
-use Rattle.std.specs.Prelude.{Option, Some, None, Result, Ok, find, option_map, nat_eq}
+use Rattle.std.specs.Prelude.{Option, Some, None, Result, find, option_map, nat_eq}
 use Rattle.std.specs.Cmp.Lexicographic.{pointwise}
 use Rattle.std.proofs.lemmas.Slice.Eq.{bytes_eq-Decides}
 use Rattle.faults.specs.declared.or_memory.OrMemory.{OrMemory}

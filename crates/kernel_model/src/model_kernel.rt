@@ -4,6 +4,7 @@ ghost use Rattle.cpu_set.specs.Members.{IsCpu};
 ghost use Rattle.proctable.specs.declared.TheConstants.{LAST_PID};
 ghost use Rattle.cpuset_tree.specs.Places.{place_of, place_behind};
 ghost use Rattle.kernel_model.specs.KernelState.{IsFirstKernel};
+ghost use Rattle.kernel_model.specs.Cases.{MakesGroup, RemovesGroup, WritesCpus, WritesMems, EndsGroup};
 ghost use Rattle.kernel_model.specs.Refusals.{make_refusal, remove_refusal};
 
 use crate::count::WriteCount;
@@ -137,12 +138,18 @@ fn present_cpu(present: &IdSet, cpu: u32) -> Option<u16>
 impl Kernel for ModelKernel {
     ghost state = { λ k. k };
 
-    fn make_group(&mut self, parent: Group, name: &str) -> Result<Group, OrMemory<KernelFault>> {
+    fn make_group(&mut self, parent: Group, name: &str) -> Result<Group, OrMemory<KernelFault>>
+        ensures case { MakesGroup self.old parent name.now result self.new }
+        ensures never_fails { self.new.failures ≡ 0 }
+    {
         self.writes = self.writes.one_more();
         self.tree.make(parent, name).map_err(of_tree)
     }
 
-    fn remove_group(&mut self, group: Group) -> Result<(), KernelFault> {
+    fn remove_group(&mut self, group: Group) -> Result<(), KernelFault>
+        ensures case { RemovesGroup self.old group result self.new }
+        ensures never_fails { self.new.failures ≡ 0 }
+    {
         self.writes = self.writes.one_more();
         if self.table.count_in(group) > 0 {
             self.tree.removable(group)?;
@@ -151,12 +158,18 @@ impl Kernel for ModelKernel {
         Ok(self.tree.remove(group)?)
     }
 
-    fn write_cpus(&mut self, group: Group, cpus: IdSet) -> Result<(), KernelFault> {
+    fn write_cpus(&mut self, group: Group, cpus: IdSet) -> Result<(), KernelFault>
+        ensures case { WritesCpus self.old group cpus result self.new }
+        ensures never_fails { self.new.failures ≡ 0 }
+    {
         self.writes = self.writes.one_more();
         Ok(self.tree.write_cpus(group, cpus)?)
     }
 
-    fn write_mems(&mut self, group: Group, mems: IdSet) -> Result<(), KernelFault> {
+    fn write_mems(&mut self, group: Group, mems: IdSet) -> Result<(), KernelFault>
+        ensures case { WritesMems self.old group mems result self.new }
+        ensures never_fails { self.new.failures ≡ 0 }
+    {
         self.writes = self.writes.one_more();
         Ok(self.tree.write_mems(group, mems)?)
     }
@@ -169,7 +182,10 @@ impl Kernel for ModelKernel {
         self.table.spawn(group).map_err(of_proc)
     }
 
-    fn end_group(&mut self, group: Group) -> Result<(), KernelFault> {
+    fn end_group(&mut self, group: Group) -> Result<(), KernelFault>
+        ensures case { EndsGroup self.old group result self.new }
+        ensures never_fails { self.new.failures ≡ 0 }
+    {
         self.writes = self.writes.one_more();
         if !self.tree.contains(group) {
             return Err(KernelFault::NoGroup);

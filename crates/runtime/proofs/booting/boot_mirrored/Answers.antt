@@ -41,6 +41,6 @@ returns-in-Err-clause-err g c =
           (rw c.new-kernel.ensures.inner c.in_ok-inner.ensures);
       kernel = mirrored refused.failed refused.inner;
       refused = c.in-Err.ensures.refused;
-      files = refused.folders;
+      files = refused.files;
       mirrored = c.is_mirrored-in-Err.ensures.mirrored;
     })

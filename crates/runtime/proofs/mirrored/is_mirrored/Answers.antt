@@ -5,7 +5,7 @@ pub returns : goal.returns
 returns g c =
     let kernel = c.kernel-kernel.result.now in
     record {
-      files = kernel.folders;
+      files = kernel.files;
       mirrored = rw c.kernel-kernel.ensures at c.is_mirrored.ensures.mirrored;
       stands = rw c.kernel-kernel.ensures at c.files_stand.ensures;
       safe = c.holds.ensures.holds.safe;

@@ -7,6 +7,6 @@ use Rattle.cgroup_tree.proofs.mirrored_kernel.MirroredKernel.new.Goals as goal
 pub invariant_of-result : goal.invariant_of-result
 invariant_of-result g c =
     let m = c.new.result in
-    starts g.F.GroupFiles.asked g.S.Sited.site _ _ m.failed.writes m.inner c.args.inner m.folders c.new.ensures.inner c.new.ensures.failed
+    starts g.F.GroupFiles.asked g.S.Sited.site _ _ m.failed.writes m.inner c.args.inner m.files c.new.ensures.inner c.new.ensures.failed
     c.root.ensures.well_formed c.requires.first (ap string_bytes c.new.ensures.root ∙ c.requires.root) (c.new.ensures.memory ∙ c.requires.memory)
-    (rw c.new.ensures.folders c.requires.unasked)
+    (rw c.new.ensures.files c.requires.unasked)
