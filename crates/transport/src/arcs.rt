@@ -13,7 +13,7 @@ ghost use Rattle.transport.specs.Orders.{weighted_at, weighted_in, AreAllWeighte
 
 use crate::Representatives;
 use certificate::{Offer, Offers};
-use cpu_set::{CPU_LIMIT, WordSet};
+use cpu_set::WordSet;
 use std::alloc::{AllocError, Global};
 
 /// For how many arcs there is room at first, at most.
@@ -59,7 +59,7 @@ pub(crate) struct SortedArcs {
     pub(crate) cursor: usize,
     /// How many looks at arcs that are in no block scans may have taken, since some were put in blocks.
     pub(crate) looks: usize,
-    /// How many of the arcs lie in one block with the arc before.
+    /// So many of the arcs, or more, lie in one block with the arc before.
     pub(crate) joined: usize,
 }
 
@@ -182,8 +182,8 @@ fn comes_to_last(arcs: &[Arc], upto: usize, limit: Option<u64>) -> bool {
     }
 }
 
-/// Adds the classes of an offer, at its weight, in the order of their first CPUs; says how many of them lie in one block with
-/// the one before: the first CPUs of both lie in one word of 64.
+/// Adds the classes of an offer, at its weight, in the order of their first CPUs; says how many of them, at least, lie in one
+/// block with the one before. A block has first CPUs that lie in one word of 64: all but one for each word that they span.
 fn push_arcs(
     arcs: &mut Vec<Arc>,
     offer: &Offer,
@@ -194,19 +194,18 @@ fn push_arcs(
         → IsOpening ws offers firsts.now weighted opened arcs.old.items arcs.new.items None) }
 {
     let there = firsts.among(&offer.cpus);
-    let mut joined: usize = 0;
-    let mut word = CPU_LIMIT / 64;
+    let before = arcs.len();
     let mut next = there.first();
+    let first = next;
+    let mut last: u16 = 0;
     while let Some(cpu) = next {
         let class = firsts.class_of(cpu);
         arcs.push(Arc { weight, class })?;
-        if cpu / 64 == word {
-            joined = joined.saturating_add(1);
-        }
-        word = cpu / 64;
+        last = cpu;
         next = there.next_after(cpu);
     }
-    Ok(joined)
+    let words = (last / 64).saturating_sub(first.unwrap_or(0) / 64) as usize + 1;
+    Ok(arcs.len().saturating_sub(before).saturating_sub(words))
 }
 
 /// Adds the classes of the arcs from one place up to another to the blocks of the arcs before them.
