@@ -32,7 +32,7 @@ use Rattle.node.specs.Updates.{Updates}
 use Rattle.node.specs.Calls.{Ended, Places, Starts, Kills, Deletes}
 use Rattle.node.specs.Rebalance.{Begins, StepsOn, Rebalances}
 use Rattle.node.specs.Machine.{Event, Step, Run}
-use Rattle.node.specs.Machine.Event.{Create, Adopt, Update, Start, Kill, Delete, Rebalance, Begin, StepOn, State, ListAll, SetsOf, Pool, PhaseIs, ShowCertificate, Fork, Exit, Offline, Online}
+use Rattle.node.specs.Machine.Event.{Create, Adopt, Update, Start, Kill, Delete, Rebalance, Begin, StepOn, Ask, Fork, Exit, Offline, Online}
 use Rattle.node.specs.Ending.{step_in, steps_in, IsMore, HandoversEnd}
 use Rattle.node.proofs.StepLemmas.{its_steps, open_now, leaves}
 use Rattle.node.proofs.MachineLemmas.{runs_keep}
@@ -142,12 +142,7 @@ module _ (law : StepsLeave) (ends : EndsWithin) (o : Ongoing) (old : NodeState) 
     goes (Rebalance answer) s more = rebalance_goes answer s
     goes (Begin answer) s more = begin_goes answer s
     goes (StepOn answer) s more = stepped (subst (λ (r : Result Progress NodeFault). StepsOn old r new) more s)
-    goes (State id answer) s more = unchanged s.1
-    goes (ListAll answer) s more = unchanged s.1
-    goes (SetsOf id answer) s more = unchanged s.1
-    goes (Pool answer) s more = unchanged s.1
-    goes (PhaseIs answer) s more = unchanged s.1
-    goes (ShowCertificate answer) s more = unchanged s.1
+    goes (Ask question) s more = unchanged s.1
     goes (Fork parent answer) s more = called (ap (λ (n : NodeState). n.ongoing) s.1) (call.Fork parent) tt (reply_of reply.Pid answer) (answer, refl, s.0)
     goes (Exit pid answer) s more =
         called (ap (λ (n : NodeState). n.ongoing) s.1) (call.Exit pid) tt (reply_at_once (λ _. reply.Done) answer) (answer, refl, s.0)

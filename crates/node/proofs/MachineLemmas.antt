@@ -22,7 +22,7 @@ use Rattle.node.specs.Updates.{Updates}
 use Rattle.node.specs.Calls.{NotLaunched, Ended, Places, Starts, Kills, Deletes}
 use Rattle.node.specs.Rebalance.{StepsOn, StepsMore, Ends}
 use Rattle.node.specs.Machine.{Event, Step, IsOneStep, Run, RunsKeep, RunsStaySafe, RunsStayApart, RebalancesAreSteps, RunsRebalance}
-use Rattle.node.specs.Machine.Event.{Create, Adopt, Update, Start, Kill, Delete, Rebalance, Begin, StepOn, State, ListAll, SetsOf, Pool, PhaseIs, ShowCertificate, Fork, Exit, Offline, Online}
+use Rattle.node.specs.Machine.Event.{Create, Adopt, Update, Start, Kill, Delete, Rebalance, Begin, StepOn, Ask, Fork, Exit, Offline, Online}
 use Rattle.node.proofs.NodeLemmas.{fork_node, exit_node, offline_node, online_node, end_node, remove_refused_node, created_node, not_created_node, updated_node, not_updated_node, deleted_node, started_node}
 use Rattle.node.proofs.StepLemmas.{more_node, ended_node}
 use Rattle.node.proofs.HeadlineLemmas.{free_parents, begins_node, rebalances_node, rebalance_leaves}
@@ -127,12 +127,7 @@ module _ (old : NodeState) (h : IsNode old) (new : NodeState) where
   step_keeps law (Rebalance answer) s = rebalances_node old h law answer new s
   step_keeps law (Begin answer) s = begins_node old h answer new s
   step_keeps law (StepOn answer) s = stepped law answer s
-  step_keeps law (State id answer) s = unchanged s.1
-  step_keeps law (ListAll answer) s = unchanged s.1
-  step_keeps law (SetsOf id answer) s = unchanged s.1
-  step_keeps law (Pool answer) s = unchanged s.1
-  step_keeps law (PhaseIs answer) s = unchanged s.1
-  step_keeps law (ShowCertificate answer) s = unchanged s.1
+  step_keeps law (Ask question) s = unchanged s.1
   step_keeps law (Fork parent answer) s = moved (record old { kernel = new.kernel }) s.1 (fork_node old h new.kernel parent answer s.0)
   step_keeps law (Exit pid answer) s = moved (record old { kernel = new.kernel }) s.1 (exit_node old h new.kernel pid answer s.0)
   step_keeps law (Offline cpu answer) s = moved (record old { kernel = new.kernel }) s.1 (offline_node old h new.kernel cpu answer s.0)

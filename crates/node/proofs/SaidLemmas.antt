@@ -26,7 +26,7 @@ use Rattle.node.specs.Updates.{Updates}
 use Rattle.node.specs.Calls.{Places, Starts, Kills, Deletes}
 use Rattle.node.specs.Rebalance.{Begins, StepsOn, StepsMore, Moves, Rebalances}
 use Rattle.node.specs.Machine.{Event, Step, Run}
-use Rattle.node.specs.Machine.Event.{Create, Adopt, Update, Start, Kill, Delete, Rebalance, Begin, StepOn, State, ListAll, SetsOf, Pool, PhaseIs, ShowCertificate, Fork, Exit, Offline, Online}
+use Rattle.node.specs.Machine.Event.{Create, Adopt, Update, Start, Kill, Delete, Rebalance, Begin, StepOn, Ask, Fork, Exit, Offline, Online}
 use Rattle.node.specs.Said.{IsMadeOf, reads_for, IsAskedIn, IsSaid, ContainersAreSaid}
 use Rattle.node.proofs.ContainerLemmas.{split, all_started, each_left}
 use Rattle.node.proofs.ListLemmas.{all_push, all_map, pairs_push}
@@ -410,24 +410,9 @@ module _ (done : List Event) (old new : NodeState) where
   event_said (StepOn answer) s h =
       step_keeps (SaidOf (done ++ StepOn answer ∷ [])) old new answer s
       (none_more done (StepOn answer) old (λ key. refl) h)
-  event_said (State id answer) s h =
-      moved (SaidOf (done ++ State id answer ∷ [])) old new s.1
-      (none_more done (State id answer) old (λ key. refl) h)
-  event_said (ListAll answer) s h =
-      moved (SaidOf (done ++ ListAll answer ∷ [])) old new s.1
-      (none_more done (ListAll answer) old (λ key. refl) h)
-  event_said (SetsOf id answer) s h =
-      moved (SaidOf (done ++ SetsOf id answer ∷ [])) old new s.1
-      (none_more done (SetsOf id answer) old (λ key. refl) h)
-  event_said (Pool answer) s h =
-      moved (SaidOf (done ++ Pool answer ∷ [])) old new s.1
-      (none_more done (Pool answer) old (λ key. refl) h)
-  event_said (PhaseIs answer) s h =
-      moved (SaidOf (done ++ PhaseIs answer ∷ [])) old new s.1
-      (none_more done (PhaseIs answer) old (λ key. refl) h)
-  event_said (ShowCertificate answer) s h =
-      moved (SaidOf (done ++ ShowCertificate answer ∷ [])) old new s.1
-      (none_more done (ShowCertificate answer) old (λ key. refl) h)
+  event_said (Ask question) s h =
+      moved (SaidOf (done ++ Ask question ∷ [])) old new s.1
+      (none_more done (Ask question) old (λ key. refl) h)
   event_said (Fork parent answer) s h =
       moved (SaidOf (done ++ Fork parent answer ∷ [])) (record old { kernel = new.kernel }) new s.1
       (none_more done (Fork parent answer) old (λ key. refl) h)

@@ -26,6 +26,7 @@ pub mod Written
 pub mod Asking
 pub mod WithoutCores
 pub mod Proved
+pub mod Questions
 pub mod Machine
 pub mod Said
 pub mod Served

@@ -1,7 +1,6 @@
--- The node machine: calls and events with their answers, one after another, those that only read among them.
-use Rattle.std.specs.Prelude.{◌≡◌, ℕ, List, [], ◌∷◌, map, Result, Ok, String}
+-- The node machine: calls and events with their answers, one after another, questions among them.
+use Rattle.std.specs.Prelude.{◌≡◌, ℕ, List, [], ◌∷◌, map, Result, Ok}
 use Rattle.std.specs.List.{AllByRecursion}
-use Rattle.std.specs.declared.alloc.Global.{Global}
 use Rattle.cpu_set.specs.Ids.{Ids}
 use Rattle.cpuset_tree.specs.Effective.{effective_cpus}
 use Rattle.kernel_model.specs.declared.KernelFault.{KernelFault}
@@ -9,31 +8,25 @@ use Rattle.kernel_model.specs.KernelState.{KernelState}
 use Rattle.kernel_model.specs.WellFormed.{IsWellFormed}
 use Rattle.kernel_model.specs.Cases.{Forks, Exits, GoesOffline, ComesOnline}
 use Rattle.machine.specs.Layout.{Layout}
-use Rattle.certificate.specs.declared.certificates.Certificate.{Certificate}
 use Rattle.faults.specs.declared.OrMemory.{OrMemory}
 use Rattle.apply_plan.specs.declared.Progress.{Progress}
 use Rattle.apply_plan.specs.Holders.{AreSafe, IsSafe}
 use Rattle.apply_plan.specs.Effects.{HasOnline}
 use Rattle.node.specs.declared.fault.NodeFault.{NodeFault}
-use Rattle.node.specs.declared.container.Status.{Status}
 use Rattle.node.specs.declared.outcome.Outcome.{Outcome}
 use Rattle.node.specs.declared.outcome.Outcome.TheVariants.{Plan}
-use Rattle.node.specs.declared.phase.Phase.{Phase}
-use Rattle.node.specs.declared.sets.Sets.{Sets}
 use Rattle.node.specs.NodeState.{NodeState}
 use Rattle.node.specs.Owners.{owners_of}
 use Rattle.node.specs.IsNode.{IsMachine, IsOfMachine, IsNode}
 use Rattle.node.specs.Unused.{IsUnused}
 use Rattle.node.specs.Updates.{Updates}
 use Rattle.node.specs.Calls.{Opens, Creates, Adopts, Starts, Kills, Deletes}
-use Rattle.node.specs.Rebalance.{Begins, StepsOn, Rebalances, Moves, ShowsCertificate}
-use Rattle.node.specs.Shown.{Shows}
-use Rattle.node.specs.Listed.{listed}
-use Rattle.node.specs.Sets.{HasSets}
+use Rattle.node.specs.Rebalance.{Begins, StepsOn, Rebalances, Moves}
+use Rattle.node.specs.Questions.{Question, Answers}
 use Rattle.node.specs.RebalanceLeaves.{RebalanceLeaves}
 
--- a call with its answer, or an event of the kernel with its answer; behind those that may change something come those that
--- only read
+-- a call with its answer, or an event of the kernel with its answer; after the calls that may change something those that
+-- only read, as one
 pub data Event : Type 0 where
   Create : List ℕ → List ℕ → List ℕ → Result ℕ (OrMemory NodeFault) → Event
   Adopt : List ℕ → List ℕ → List ℕ → Ids → Result ℕ (OrMemory NodeFault) → Event
@@ -44,12 +37,7 @@ pub data Event : Type 0 where
   Rebalance : Result Outcome (OrMemory NodeFault) → Event
   Begin : Result Outcome (OrMemory NodeFault) → Event
   StepOn : Result Progress NodeFault → Event
-  State : List ℕ → Result (String Global) (OrMemory NodeFault) → Event
-  ListAll : List (List ℕ × Status) → Event
-  SetsOf : List ℕ → Result Sets NodeFault → Event
-  Pool : Ids → Event
-  PhaseIs : Phase → Event
-  ShowCertificate : Result Certificate NodeFault → Event
+  Ask : Question → Event
   Fork : ℕ → Result ℕ (OrMemory KernelFault) → Event
   Exit : ℕ → Result (Unit {0}) KernelFault → Event
   Offline : ℕ → Result (Unit {0}) KernelFault → Event
@@ -70,12 +58,7 @@ Step old (Delete id answer) new = Deletes old id answer new
 Step old (Rebalance answer) new = Rebalances old answer new
 Step old (Begin answer) new = Begins old answer new
 Step old (StepOn answer) new = StepsOn old answer new
-Step old (State id answer) new = Shows old id answer × (new ≡ old)
-Step old (ListAll answer) new = (answer ≡ listed old) × (new ≡ old)
-Step old (SetsOf id answer) new = HasSets old id answer × (new ≡ old)
-Step old (Pool answer) new = (answer ≡ old.pool) × (new ≡ old)
-Step old (PhaseIs answer) new = (answer ≡ old.phase) × (new ≡ old)
-Step old (ShowCertificate answer) new = ShowsCertificate old answer × (new ≡ old)
+Step old (Ask question) new = Answers old question × (new ≡ old)
 Step old (Fork parent answer) new = Forks old.kernel parent answer new.kernel × InKernel old new
 Step old (Exit pid answer) new = Exits old.kernel pid answer new.kernel × InKernel old new
 Step old (Offline cpu answer) new = GoesOffline old.kernel cpu answer new.kernel × InKernel old new

@@ -36,8 +36,11 @@ fn gives_way<K: Kernel>(
     requires { has_group (K.state kernel.now).tree container.now.group ≡ true }
     ensures { result ≡ gives_way (K.state kernel.now) reserved.now (seen container.now) demand.now }
 {
-    let requests = *requested(kernel, container.group);
-    becomes_pinned(&container.demand, demand) && !(requests == *reserved)
+    if !becomes_pinned(&container.demand, demand) {
+        return false;
+    }
+    let requests = requested(kernel, container.group);
+    !(*requests == *reserved)
 }
 
 /// Whether its homes are others now.

@@ -22,7 +22,8 @@ use Rattle.node.specs.IsNode.{IsNode}
 use Rattle.node.specs.Listed.{listed}
 use Rattle.node.specs.NodeState.{NodeState}
 use Rattle.node.specs.Rebalance.{Begins, Begun}
-use Rattle.node.specs.Machine.{Event, Create, Adopt, Update, Start, Kill, Delete, Rebalance, Begin, StepOn, State, ListAll, SetsOf, Pool, PhaseIs, ShowCertificate, Fork, Exit, Offline, Online, Step, Run, RunsRebalance}
+use Rattle.node.specs.Machine.{Event, Create, Adopt, Update, Start, Kill, Delete, Rebalance, Begin, StepOn, Ask, Fork, Exit, Offline, Online, Step, Run, RunsRebalance}
+use Rattle.node.specs.Questions.{Question, State, ListAll, SetsOf, Pool, PhaseIs, ShowCertificate}
 use Rattle.script.specs.Commands.{Asked}
 use Rattle.script.specs.Commands as ask
 use Rattle.script.specs.Lines.{kept, words_of}
@@ -37,6 +38,15 @@ use Rattle.runtime.specs.RuntimeState.{RuntimeState, Told}
 use Rattle.runtime.specs.declared.refusal.Refusal.{Refusal}
 use Rattle.runtime.specs.declared.refusal.Refusal.TheVariants.{Memory, Node, NoBundle}
 
+-- the text of what a question was answered
+abbrev pub question_text : Question → List ℕ
+question_text (State id answer) = answer_text state_line of_either answer
+question_text (ListAll answer) = listing_text answer
+question_text (SetsOf id answer) = answer_text sets_line Node answer
+question_text (Pool answer) = set_text answer
+question_text (PhaseIs answer) = phase_line answer
+question_text (ShowCertificate answer) = answer_text text_of Node answer
+
 -- the text of what a call or an event answered, in the node that it left
 abbrev pub event_text : NodeState → Event → List ℕ
 event_text new (Create id bundle config answer) = answer_text pid_line of_either answer
@@ -48,12 +58,7 @@ event_text new (Delete id answer) = answer_text done_line Node answer
 event_text new (Rebalance answer) = answer_text (outcome_text new) of_either answer
 event_text new (Begin answer) = answer_text (outcome_text new) of_either answer
 event_text new (StepOn answer) = answer_text progress_line Node answer
-event_text new (State id answer) = answer_text state_line of_either answer
-event_text new (ListAll answer) = listing_text answer
-event_text new (SetsOf id answer) = answer_text sets_line Node answer
-event_text new (Pool answer) = set_text answer
-event_text new (PhaseIs answer) = phase_line answer
-event_text new (ShowCertificate answer) = answer_text text_of Node answer
+event_text new (Ask question) = question_text question
 event_text new (Fork parent answer) = answer_text pid_line of_kernel answer
 event_text new (Exit pid answer) = answer_text done_line of_kernel_fault answer
 event_text new (Offline cpu answer) = answer_text done_line of_kernel_fault answer
@@ -72,14 +77,14 @@ IsFor told (ask.update id bundle) event =
 IsFor told (ask.start id) event = (answer : Result (Unit {0}) NodeFault) × (event ≡ Start id answer)
 IsFor told (ask.kill id signal) event = (answer : Result (Unit {0}) NodeFault) × (event ≡ Kill id signal answer)
 IsFor told (ask.delete id) event = (answer : Result (Unit {0}) NodeFault) × (event ≡ Delete id answer)
-IsFor told (ask.state id) event = (answer : Result (String Global) (OrMemory NodeFault)) × (event ≡ State id answer)
-IsFor told ask.list event = (answer : List (List ℕ × Status)) × (event ≡ ListAll answer)
-IsFor told (ask.sets id) event = (answer : Result Sets NodeFault) × (event ≡ SetsOf id answer)
+IsFor told (ask.state id) event = (answer : Result (String Global) (OrMemory NodeFault)) × (event ≡ Ask (State id answer))
+IsFor told ask.list event = (answer : List (List ℕ × Status)) × (event ≡ Ask (ListAll answer))
+IsFor told (ask.sets id) event = (answer : Result Sets NodeFault) × (event ≡ Ask (SetsOf id answer))
 IsFor told ask.rebalance event = (answer : Result Outcome (OrMemory NodeFault)) × (event ≡ Rebalance answer)
 IsFor told ask.begin event = (answer : Result Outcome (OrMemory NodeFault)) × (event ≡ Begin answer)
 IsFor told ask.step event = (answer : Result Progress NodeFault) × (event ≡ StepOn answer)
-IsFor told ask.phase event = (answer : Phase) × (event ≡ PhaseIs answer)
-IsFor told ask.certificate event = (answer : Result Certificate NodeFault) × (event ≡ ShowCertificate answer)
+IsFor told ask.phase event = (answer : Phase) × (event ≡ Ask (PhaseIs answer))
+IsFor told ask.certificate event = (answer : Result Certificate NodeFault) × (event ≡ Ask (ShowCertificate answer))
 IsFor told (ask.fork pid) event = (answer : Result ℕ (OrMemory KernelFault)) × (event ≡ Fork pid answer)
 IsFor told (ask.exit pid) event = (answer : Result (Unit {0}) KernelFault) × (event ≡ Exit pid answer)
 IsFor told (ask.offline cpu) event = (answer : Result (Unit {0}) KernelFault) × (event ≡ Offline cpu answer)
@@ -221,14 +226,14 @@ is_call told old (ask.update id bundle) text new (inr (Some config, found, (r, h
 is_call told old (ask.start id) text new (r, h, e) = inl (record { event = Start id r; its = (r, refl); step = h; answer = e })
 is_call told old (ask.kill id signal) text new (r, h, e) = inl (record { event = Kill id signal r; its = (r, refl); step = h; answer = e })
 is_call told old (ask.delete id) text new (r, h, e) = inl (record { event = Delete id r; its = (r, refl); step = h; answer = e })
-is_call told old (ask.state id) text new (r, h, e, same) = inl (record { event = State id r; its = (r, refl); step = (h, same); answer = e })
-is_call told old ask.list text new h = inl (record { event = ListAll (listed old); its = (listed old, refl); step = (refl, h.1); answer = h.0 })
-is_call told old (ask.sets id) text new (r, h, e, same) = inl (record { event = SetsOf id r; its = (r, refl); step = (h, same); answer = e })
+is_call told old (ask.state id) text new (r, h, e, same) = inl (record { event = Ask (State id r); its = (r, refl); step = (h, same); answer = e })
+is_call told old ask.list text new h = inl (record { event = Ask (ListAll (listed old)); its = (listed old, refl); step = (refl, h.1); answer = h.0 })
+is_call told old (ask.sets id) text new (r, h, e, same) = inl (record { event = Ask (SetsOf id r); its = (r, refl); step = (h, same); answer = e })
 is_call told old ask.rebalance text new (r, h, e) = inl (record { event = Rebalance r; its = (r, refl); step = h; answer = e })
 is_call told old ask.begin text new (r, h, e) = inl (record { event = Begin r; its = (r, refl); step = h; answer = e })
 is_call told old ask.step text new (r, h, e) = inl (record { event = StepOn r; its = (r, refl); step = h; answer = e })
-is_call told old ask.phase text new h = inl (record { event = PhaseIs old.phase; its = (old.phase, refl); step = (refl, h.1); answer = h.0 })
-is_call told old ask.certificate text new (r, h, e, same) = inl (record { event = ShowCertificate r; its = (r, refl); step = (h, same); answer = e })
+is_call told old ask.phase text new h = inl (record { event = Ask (PhaseIs old.phase); its = (old.phase, refl); step = (refl, h.1); answer = h.0 })
+is_call told old ask.certificate text new (r, h, e, same) = inl (record { event = Ask (ShowCertificate r); its = (r, refl); step = (h, same); answer = e })
 is_call told old (ask.fork pid) text new (r, h, rest, e) = inl (record { event = Fork pid r; its = (r, refl); step = (h, rest); answer = e })
 is_call told old (ask.exit pid) text new (r, h, rest, e) = inl (record { event = Exit pid r; its = (r, refl); step = (h, rest); answer = e })
 is_call told old (ask.offline cpu) text new (r, h, rest, e) = inl (record { event = Offline cpu r; its = (r, refl); step = (h, rest); answer = e })
