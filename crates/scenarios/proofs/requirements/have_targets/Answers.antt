@@ -1,8 +1,8 @@
 use Rattle.std.proofs.Common.{sym, subst, ◌∙◌}
 use Rattle.std.proofs.lemmas.Bool.{false≢true}
 use Rattle.apply_plan.specs.Targets.{HaveSomeTarget}
-use Rattle.apply_plan.proofs.ConditionLemmas.{cut_first, some_by_test, none_by_test}
-use Rattle.apply_plan.proofs.conditions.have_targets.Goals as goal
+use Rattle.scenarios.proofs.ConditionLemmas.{cut_first, some_by_test, none_by_test}
+use Rattle.scenarios.proofs.requirements.have_targets.Goals as goal
 
 pub returns-then-is_empty : goal.returns-then-is_empty
 returns-then-is_empty c =

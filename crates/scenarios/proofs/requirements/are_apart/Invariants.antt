@@ -1,8 +1,8 @@
 use Rattle.std.proofs.Common.{◌↔◌, length}
 use Rattle.apply_plan.specs.Holders.{Pairwise}
 use Rattle.apply_plan.specs.Targets.{AreTargetsApart}
-use Rattle.apply_plan.specs.Free.{AreFree}
-use Rattle.apply_plan.proofs.conditions.are_apart.Given as goal
+use Rattle.scenarios.specs.Free.{AreFree}
+use Rattle.scenarios.proofs.requirements.are_apart.Given as goal
 
 -- those before this one are apart, and what is left to show is that those from here on stay apart from them
 abbrev pub invariant-loop-rest : goal.invariant-loop-rest

@@ -4,8 +4,8 @@ use Rattle.std.specs.Prelude.{is_ok}
 use Rattle.cpuset_tree.specs.Groups.{same_group, has_group, requested_cpus}
 use Rattle.cpuset_tree.specs.GroupLemmas.{same_group_itself}
 use Rattle.kernel_model.specs.declared.KernelFault.TheVariants.{NoGroup}
-use Rattle.apply_plan.proofs.ConditionLemmas.{ok_behind, read_is_there, not_root, is_the_root}
-use Rattle.apply_plan.proofs.conditions.is_placed.Goals as goal
+use Rattle.scenarios.proofs.ConditionLemmas.{ok_behind, read_is_there, not_root, is_the_root}
+use Rattle.scenarios.proofs.requirements.is_placed.Goals as goal
 
 pub returns-then-ne : goal.returns-then-ne
 returns-then-ne g c =

@@ -2,7 +2,7 @@
 use Rattle.std.specs.Prelude.{◌≡◌, ℕ, true, cond, List, [], ◌∷◌}
 use Rattle.std.specs.FinSet as set
 use Rattle.cpu_set.specs.Ids.{Ids}
-use Rattle.apply_plan.specs.declared.entry.Entry.{Entry}
+use Rattle.apply_plan.specs.declared.Entry.{Entry}
 
 -- outside the reserved CPUs a pinned one meets nothing that any is to have, and another nothing that a pinned one is
 abbrev pub IsFree : Ids → Ids → Ids → Entry → Type 0

@@ -1,8 +1,8 @@
 use Rattle.std.proofs.Common.{◌≡◌, cond, sym, ap, ◌∙◌}
 use Rattle.std.specs.FinSet as set
-use Rattle.apply_plan.proofs.ConditionLemmas.{meets_within}
-use Rattle.apply_plan.proofs.conditions.is_free.Goals as goal
-use Rattle.apply_plan.proofs.conditions.is_free.Goals.{then-entry, else-entry}
+use Rattle.scenarios.proofs.ConditionLemmas.{meets_within}
+use Rattle.scenarios.proofs.requirements.is_free.Goals as goal
+use Rattle.scenarios.proofs.requirements.is_free.Goals.{then-entry, else-entry}
 
 pub returns : goal.returns
 returns c =

@@ -1,7 +1,7 @@
 use Rattle.std.proofs.Common.{◌≡◌, ◌↔◌, false, length}
 use Rattle.std.specs.List.{AllByRecursion}
 use Rattle.cpuset_tree.specs.Groups.{same_group}
-use Rattle.apply_plan.proofs.conditions.is_among.Given as goal
+use Rattle.scenarios.proofs.requirements.is_among.Given as goal
 
 abbrev pub invariant-loop-rest : goal.invariant-loop-rest
 invariant-loop-rest l = AllByRecursion (λ e. same_group l.group e.group ≡ false) l.rest ↔ AllByRecursion (λ e. same_group l.group e.group ≡ false) l.entries

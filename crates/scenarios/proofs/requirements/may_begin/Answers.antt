@@ -2,9 +2,9 @@ use Rattle.std.proofs.Common.{◌≡◌, true, false, not, sym, ap, ◌∙◌}
 use Rattle.std.proofs.lemmas.Bool.{false≢true}
 use Rattle.apply_plan.specs.Holders.{Pairwise}
 use Rattle.apply_plan.specs.Targets.{HaveOtherGroups, HaveSomeTarget}
-use Rattle.apply_plan.proofs.ConditionLemmas.{some_by_test, none_by_test}
-use Rattle.apply_plan.proofs.conditions.may_begin.Goals as goal
-use Rattle.apply_plan.proofs.conditions.may_begin.Goals.{then-not-is_empty, else-not-is_empty, then-have_targets, else-have_targets}
+use Rattle.scenarios.proofs.ConditionLemmas.{some_by_test, none_by_test}
+use Rattle.scenarios.proofs.requirements.may_begin.Goals as goal
+use Rattle.scenarios.proofs.requirements.may_begin.Goals.{then-not-is_empty, else-not-is_empty, then-have_targets, else-have_targets}
 
 pub returns-then-have_other_groups : goal.returns-then-have_other_groups
 returns-then-have_other_groups c =

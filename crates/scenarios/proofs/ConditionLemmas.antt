@@ -16,11 +16,11 @@ use Rattle.cpuset_tree.specs.Groups.{same_group, entry_among, is_root, is_root_e
 use Rattle.cpuset_tree.specs.TreeWellFormed.{ParentIsAmong, IsFalling, IsWellFormed}
 use Rattle.cpuset_tree.specs.GroupLemmas.{same_group-equal, entry_among-here, entry_among-there}
 use Rattle.cpuset_tree.specs.TreeLemmas.{root_is_there}
-use Rattle.apply_plan.specs.declared.entry.Entry.{Entry}
+use Rattle.apply_plan.specs.declared.Entry.{Entry}
 use Rattle.apply_plan.specs.Holders.{Pairwise}
 use Rattle.apply_plan.specs.Targets.{AreTargetsApart}
 use Rattle.apply_plan.specs.KeptLemmas.{is_empty-empty}
-use Rattle.apply_plan.specs.Free.{IsFree, with_pinned, AreFree}
+use Rattle.scenarios.specs.Free.{IsFree, with_pinned, AreFree}
 use Rattle.apply_plan.specs.ListLemmas.{all_map, all_map2, all_of}
 
 -- what is in two sets is in a set exactly where their meeting is within that

@@ -2,8 +2,8 @@ use Rattle.std.proofs.Common.{not, sym, ap, subst, ◌∙◌}
 use Rattle.std.proofs.lemmas.Bool.{false≢true}
 use Rattle.apply_plan.specs.Holders.{Pairwise}
 use Rattle.apply_plan.specs.Targets.{HaveOtherGroups}
-use Rattle.apply_plan.proofs.ConditionLemmas.{cut_first}
-use Rattle.apply_plan.proofs.conditions.have_other_groups.Goals as goal
+use Rattle.scenarios.proofs.ConditionLemmas.{cut_first}
+use Rattle.scenarios.proofs.requirements.have_other_groups.Goals as goal
 
 pub returns-then-is_among : goal.returns-then-is_among
 returns-then-is_among c =

@@ -1,16 +1,16 @@
-//! Whether a hand-over may begin and go on: what its calls require, as tests.
+//! Whether a hand-over may begin and go on: what the calls of `apply_plan` require, as tests.
 ghost use Rattle.std.specs.Prelude.{◌≡◌, ◌↔◌, false, not, IsTrue};
 ghost use Rattle.std.specs.List.{AllByRecursion};
 ghost use Rattle.cpuset_tree.specs.Groups.{same_group};
 ghost use Rattle.apply_plan.specs.Holders.{Pairwise};
 ghost use Rattle.apply_plan.specs.Targets.{HaveOtherGroups, AreTargetsApart, HaveSomeTarget, IsHandover, IsPlaced, ArePlaced};
-ghost use Rattle.apply_plan.specs.Free.{IsFree};
+ghost use Rattle.scenarios.specs.Free.{IsFree};
 
-use crate::Entry;
+use apply_plan::Entry;
 use cpu_set::IdSet;
 use kernel_model::{Group, Kernel};
 
-/// Whether a hand-over of these entries may begin, as [`crate::Handover::new`] requires: each group is there once,
+/// Whether a hand-over of these entries may begin, as [`apply_plan::Handover::new`] requires: each group is there once,
 /// outside the reserved CPUs the target of a pinned container meets no other, and no target is empty, nor are the
 /// reserved CPUs.
 ///
