@@ -1,3 +1,2 @@
-pub mod ConditionLemmas
 pub mod WalkLemmas
 pub mod FinishLemmas

@@ -1,5 +1,4 @@
 pub mod Holders
-pub mod Free
 pub mod Kept
 pub mod KeptLemmas
 pub mod Targets

@@ -6,13 +6,11 @@
 //! [`Handover::finish`] makes all of them.
 #![tactic(auto)]
 
-mod conditions;
 mod entry;
 mod handover;
 pub mod laws;
 mod scan;
 mod walks;
 
-pub use conditions::{are_placed, may_begin};
 pub use entry::Entry;
 pub use handover::{Handover, Progress};

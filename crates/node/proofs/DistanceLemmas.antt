@@ -13,7 +13,7 @@ use Rattle.cpu_set.specs.Members.{InRange, cpus, members}
 use Rattle.cpu_set.specs.Pointwise.{contains-intersection, is_subset-contains, contains-is_subset}
 use Rattle.kernel_model.specs.KernelState.{KernelState}
 use Rattle.machine.specs.Cores.{cores_in, cpus_of_cores, IsWhole}
-use Rattle.machine.specs.CoreCounts.{cores_are_alike, cores_in_range, len-whole_in, single_cpus_of_cores}
+use Rattle.machine.specs.CoreCounts.{cores_are_alike, cores_in_range, len-whole_in}
 use Rattle.machine.specs.CoreSums.{cores_weigh_alike, cores_are_near}
 use Rattle.machine.specs.Layout.{Layout}
 use Rattle.machine.specs.Present.{present, IsPresent}
@@ -246,15 +246,6 @@ module _ (k : KernelState) (m : Layout) (h : IsMachine m) (online : (c : ℕ) �
     back_to_cores (row ∷ rows) (e ∷ es) (s ∷ plan) of meets =
         ap (λ t. t ∷ as_cores m (as_cpus m plan)) (cores_in-cpus_of_cores m s h.sound.cores h.in_range (meets_lowest row e s of.0 meets.0))
         ∙ ap (λ ts. s ∷ ts) (back_to_cores rows es plan of.1 meets.1)
-
--- where a core has one CPU, a plan of cores is one of CPUs
-pub single_plan : (m : Layout) → IsMachine m → m.threads ≡ 1 → (rows : List RowView) (plan : List Ids) → AllZip Meets rows plan → as_cpus m plan ≡ plan
-single_plan m h one [] [] meets = refl
-single_plan m h one [] (s ∷ plan) meets = absurd meets
-single_plan m h one (row ∷ rows) [] meets = refl
-single_plan m h one (row ∷ rows) (s ∷ plan) meets =
-    ap (λ t. t ∷ as_cpus m plan) (single_cpus_of_cores m s h.sound.cores one meets.0.in_range)
-    ∙ ap (λ ts. s ∷ ts) (single_plan m h one rows plan meets.1)
 
 -- only present CPUs are online
 pub online_there : (n : NodeState) → IsNode n → (c : ℕ) → set.contains n.kernel.tree.online c ≡ true → IsPresent n.machine c

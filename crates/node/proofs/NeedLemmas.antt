@@ -21,9 +21,9 @@ use Rattle.certificate.specs.RowView.{RowView}
 use Rattle.certificate.specs.declared.limits.TheConstants.{MAX_DEMAND, MAX_ROWS}
 use Rattle.machine.specs.Cores.{core_of, cpus_of_core}
 use Rattle.machine.specs.CoreCounts.{core_in_range}
+use Rattle.machine.specs.Layout.{Layout}
 use Rattle.machine.specs.Present.{IsPresent}
-use Rattle.node.specs.NodeState.{NodeState}
-use Rattle.node.specs.IsNode.{IsNode}
+use Rattle.node.specs.IsNode.{IsMachine}
 use Rattle.node.proofs.AskingLemmas.{all_given, fewer_given}
 use Rattle.node.proofs.ListLemmas.{all_of}
 
@@ -39,26 +39,26 @@ len_small : (s : Ids) → InRange s → set.len s ≤ CPU_LIMIT
 len_small s in_range = omega (arith, length-members s in_range, filter_shorter (set.contains s) cpus, length-cpus)
 
 -- a core has no more CPUs than a machine
-module _ (n : NodeState) (h : IsNode n) where
-  by_one : (c : ℕ) → IsPresent n.machine c → n.machine.threads ≤ CPU_LIMIT
+module _ (m : Layout) (h : IsMachine m) where
+  by_one : (c : ℕ) → IsPresent m c → m.threads ≤ CPU_LIMIT
   by_one c there =
-      let count : set.len (cpus_of_core n.machine (core_of n.machine c)) ≡ n.machine.threads = h.layout.sound.cores.threads c there in
-      omega (arith, count, len_small (cpus_of_core n.machine (core_of n.machine c)) (core_in_range n.machine (core_of n.machine c) h.layout.in_range))
+      let count : set.len (cpus_of_core m (core_of m c)) ≡ m.threads = h.sound.cores.threads c there in
+      omega (arith, count, len_small (cpus_of_core m (core_of m c)) (core_in_range m (core_of m c) h.in_range))
 
-  reserved_there : (c : ℕ) → set.contains n.machine.reserved c ≡ true → IsPresent n.machine c
+  reserved_there : (c : ℕ) → set.contains m.reserved c ≡ true → IsPresent m c
   reserved_there c has =
-      is_subset-contains n.machine.online _ h.layout.sound.online_present c (is_subset-contains n.machine.reserved n.machine.online h.layout.sound.reserved_online c has)
+      is_subset-contains m.online _ h.sound.online_present c (is_subset-contains m.reserved m.online h.sound.reserved_online c has)
 
-  pub threads_few : n.machine.threads ≤ CPU_LIMIT
+  pub threads_few : m.threads ≤ CPU_LIMIT
   threads_few =
-      elim (cases_lt CPU_LIMIT n.machine.threads) [
-        | inl more ↦ absurd (h.layout.sound.reserved_some (empty_of_none n.machine.reserved (λ c _. none_there c more)))
+      elim (cases_lt CPU_LIMIT m.threads) [
+        | inl more ↦ absurd (h.sound.reserved_some (empty_of_none m.reserved (λ c _. none_there c more)))
         | inr few ↦ omega (arith, few)
       ]
     where
-      none_there : (c : ℕ) → CPU_LIMIT < n.machine.threads → set.contains n.machine.reserved c ≡ false
-      none_there c more = by (set.contains n.machine.reserved c) refl where
-        by : (b : Bool) → set.contains n.machine.reserved c ≡ b → b ≡ false
+      none_there : (c : ℕ) → CPU_LIMIT < m.threads → set.contains m.reserved c ≡ false
+      none_there c more = by (set.contains m.reserved c) refl where
+        by : (b : Bool) → set.contains m.reserved c ≡ b → b ≡ false
         by true has = absurd (let few = by_one c (reserved_there c has) in omega (arith, few, more))
         by false has = refl
 

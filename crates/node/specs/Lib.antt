@@ -17,6 +17,8 @@ pub mod OpenCause
 pub mod Leaves
 pub mod Best
 pub mod Entries
+pub mod Kept
+pub mod Named
 pub mod Rebalance
 pub mod Headline
 pub mod Tells

@@ -23,7 +23,7 @@ pub data Question : Type 0 where
   PhaseIs : Phase → Question
   ShowCertificate : Result Certificate NodeFault → Question
 
--- so the node answers it
+-- what the node answers to a question
 abbrev pub Answers : NodeState → Question → Type 0
 Answers n (State id answer) = Shows n id answer
 Answers n (ListAll answer) = answer ≡ listed n

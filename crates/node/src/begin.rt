@@ -1,11 +1,14 @@
 //! From the cores of a plan to the hand-over to their CPUs.
 ghost use Rattle.std.specs.Prelude.{◌≡◌, ◌++◌, ◌∷◌, List, ℕ, true, drop, map, slice_index_or, option_to_list, IfOk};
+ghost use Rattle.std.specs.List.{AllByRecursion};
 ghost use Rattle.std.specs.FinSet as set;
 ghost use Rattle.std.specs.Slice.Iter.{iter_rest};
+ghost use Rattle.cpu_set.specs.Members.{InRange};
 ghost use Rattle.apply_plan.specs.Targets.{ArePlaced};
 ghost use Rattle.apply_plan.specs.DueWrite.{held};
 ghost use Rattle.node.specs.NodeState.{ContainerState};
 ghost use Rattle.node.specs.Entries.{pool_of, entries_in};
+ghost use Rattle.node.specs.Kept.{AreKept};
 ghost use Rattle.node.specs.Rows.{as_cpus};
 ghost use Rattle.node.specs.Viewed.{seen, all_seen};
 
@@ -37,6 +40,25 @@ fn as_cpus(alloc: Global, machine: &Machine, plan: &[IdSet]) -> Result<Vec<IdSet
         sets.push(machine.cpus_of_cores(cores))?;
     }
     Ok(sets)
+}
+
+/// The CPUs that are kept of a plan: those of its cores, or none where a core has one CPU, since the plan has them.
+fn kept_cpus(alloc: Global, machine: &Machine, plan: &[IdSet]) -> Result<Vec<IdSet>, AllocError>
+    ensures { IfOk result (λ kept. AreKept machine.now plan.now kept.items) }
+{
+    if machine.threads() == 1 {
+        return Ok(Vec::new(alloc));
+    }
+    as_cpus(alloc, machine, plan)
+}
+
+/// The CPUs of a plan of which these are kept.
+pub fn shown_cpus<'a>(machine: &Machine, plan: &'a [IdSet], kept: &'a [IdSet]) -> &'a [IdSet]
+    requires plan { AllByRecursion InRange plan.now }
+    requires kept { AreKept machine.now plan.now kept.now }
+    ensures { result.now ≡ as_cpus machine.now plan.now }
+{
+    if machine.threads() == 1 { plan } else { kept }
 }
 
 /// The next of the sets; the empty one where none is left.
@@ -121,18 +143,26 @@ impl<K: Kernel + Drop> Node<K> {
     ghost use Rattle.node.specs.Ongoing.{IsOngoing};
     ghost use Rattle.node.specs.Viewed.{seen_ongoing};
 
-    /// The pool that a plan of cores leaves, and the hand-over to their CPUs.
-    pub(crate) fn opening(&self, plan: &[IdSet]) -> Result<(IdSet, Ongoing), AllocError>
-        requires { IsPlan (rows_of self.now) plan.now }
+    /// The pool that a plan of cores leaves, of whose CPUs these are kept, and the hand-over to them.
+    pub(crate) fn opening(
+        &self,
+        plan: &[IdSet],
+        kept: &[IdSet],
+    ) -> Result<(IdSet, Ongoing), AllocError>
+        requires plan { IsPlan (rows_of self.now) plan.now }
+        requires kept { AreKept self.now.machine plan.now kept.now }
         ensures pool { IfOk result (λ p. p.0 ≡ plan_pool self.now (as_cpus self.now.machine plan.now)) }
         ensures ongoing { IfOk result (λ p. seen_ongoing p.1 ≡ opened self.now (as_cpus self.now.machine plan.now)) }
         ensures stands { IfOk result (λ p. IsOngoing self.now.kernel (owners_of self.now.containers) (seen_ongoing p.1)) }
     {
-        if self.machine.threads() == 1 {
-            return self.opening_to(plan);
-        }
-        let sets = as_cpus(self.alloc, &self.machine, plan)?;
-        self.opening_to(sets.as_slice())
+        self.opening_to(shown_cpus(&self.machine, plan, kept))
+    }
+
+    /// The CPUs that are kept of a plan of cores.
+    pub(crate) fn kept_of(&self, plan: &[IdSet]) -> Result<Vec<IdSet>, AllocError>
+        ensures { IfOk result (λ kept. AreKept self.now.machine plan.now kept.items) }
+    {
+        kept_cpus(self.alloc, &self.machine, plan)
     }
 
     /// The pool that these sets of CPUs leave, and the hand-over to them.

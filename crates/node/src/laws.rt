@@ -1,16 +1,21 @@
 //! What holds over all runs of a node, the headline first of all: laws over the definitions alone. Nothing here runs.
-ghost use Rattle.std.specs.Prelude.{◌≡◌, codes};
+ghost use Rattle.std.specs.Prelude.{◌≡◌, true, false, [], codes};
 ghost use Rattle.node.specs.Asking.{RowsAreAsking, ScaledRowsAreAsking, ShortStands};
+ghost use Rattle.node.specs.Calls.{is_ending};
 ghost use Rattle.node.specs.Ending.{HandoversEnd};
-ghost use Rattle.node.specs.Machine.{FirstIsNode, RunsKeep, RunsStaySafe, RunsStayApart, RebalancesAreSteps, RunsRebalance};
+ghost use Rattle.node.specs.FaultTitle.{node_title};
+ghost use Rattle.node.specs.Machine.{Ask, Step, FirstIsNode, RunsKeep, RunsStaySafe, RunsStayApart, RebalancesAreSteps, RunsRebalance};
 ghost use Rattle.node.specs.Making.{PlacesAreCalls, PlacesFailLate, PlacesStaySafe, UpdatesAreCalls, UpdatesFail, UpdatesStaySafe};
+ghost use Rattle.node.specs.NodeState.{NodeState};
 ghost use Rattle.node.specs.Proved.{LastIsProved, TotalIsProved, ShortIsProved};
+ghost use Rattle.node.specs.Questions.{Answers, ListAll, PhaseIs, SetsOf};
 ghost use Rattle.node.specs.Said.{ContainersAreSaid};
 ghost use Rattle.node.specs.Served.{RunsServeConfigs};
+ghost use Rattle.node.specs.Status.{status_by};
 ghost use Rattle.node.specs.WithoutCores.{WithoutCores};
 ghost use Rattle.node.specs.UnusedLemmas.{FirstIsUnused, FirstIsOfMachine, FirstWantsMemory};
 
-use crate::{CONTAINER_LIMIT, GROUP_NAME};
+use crate::{CONTAINER_LIMIT, GROUP_NAME, NodeFault, Status};
 
 /// A node can be made over every new `ModelKernel` of the machine. That is a kernel of which nothing was asked yet, and
 /// which has the machine's CPUs and nodes. An allocation failure is all that can stand against one if no write of the
@@ -117,4 +122,18 @@ pub fn certificates_prove()
 pub fn the_limits()
     ensures containers { CONTAINER_LIMIT ≡ 1_024 }
     ensures name { GROUP_NAME.now ≡ codes "numarun" }
+{}
+
+/// Worked rows of docs/formats.md, "Scripts" and "Refusals": the definitions, evaluated.
+pub fn worked()
+    ensures ends { is_ending (codes "SIGTERM") ≡ true }
+    ensures ends_by_number { is_ending (codes "9") ≡ true }
+    ensures does_not_end { is_ending (codes "HUP") ≡ false }
+    ensures created { status_by true false ≡ Status.Created }
+    ensures running { status_by true true ≡ Status.Running }
+    ensures stopped { status_by false true ≡ Status.Stopped }
+    ensures question { (n : NodeState) → Step n (Ask (PhaseIs n.phase)) n }
+    ensures nobody { (n : NodeState) → Answers (record n { containers = [] }) (ListAll []) }
+    ensures unknown { (n : NodeState) → Answers (record n { containers = [] }) (SetsOf (codes "a") (Err NodeFault.NoContainer)) }
+    ensures refused { node_title NodeFault.NotRunnable ≡ codes "E96 NotRunnable" }
 {}

@@ -1,8 +1,5 @@
-ghost use Rattle.std.specs.Prelude.{◌≡◌, ◌+◌, IsTrue, IfOk, IfErr, MatchResult};
-ghost use Rattle.cpu_set.specs.Ids.{Ids};
-ghost use Rattle.cpu_set.specs.Members.{InRange};
+ghost use Rattle.std.specs.Prelude.{◌≡◌, ◌+◌, IfOk, IfErr, MatchResult};
 ghost use Rattle.faults.specs.declared.OrMemory.TheVariants.{Fault};
-ghost use Rattle.machine.specs.Cores.{cpus_of_cores};
 ghost use Rattle.node.specs.IsNode.{IsOfMachine};
 ghost use Rattle.node.specs.Unused.{IsUnused};
 
@@ -38,17 +35,18 @@ pub struct Node<K: Kernel + Drop> {
     pub(crate) phase: Phase,
     pub(crate) ongoing: Option<Ongoing>,
     pub(crate) last: Option<Certificate>,
+    pub(crate) kept: Vec<IdSet>,
 }
 
 impl<K: Kernel + Drop> Model for Node<K> {
     ghost use Rattle.node.specs.NodeState.{NodeState, node_code};
-    ghost use Rattle.node.specs.IsNode.{IsNode};
 
     ghost Value = { NodeState };
 
     ghost coded = { node_code };
 
     ghost use Rattle.std.specs.Prelude.{option_map};
+    ghost use Rattle.node.specs.Kept.{Keeps};
     ghost use Rattle.node.specs.Viewed.{all_seen, seen_ongoing};
 
     ghost view = { λ n. record {
@@ -62,7 +60,7 @@ impl<K: Kernel + Drop> Model for Node<K> {
       last = n.last;
     } };
 
-    ghost invariant = { λ n. IsNode (record {
+    ghost invariant = { λ n. Keeps (record {
       kernel = K.state n.kernel;
       machine = n.machine;
       parent = n.parent;
@@ -71,7 +69,7 @@ impl<K: Kernel + Drop> Model for Node<K> {
       phase = n.phase;
       ongoing = option_map seen_ongoing n.ongoing;
       last = n.last;
-    }) };
+    }) n.kept.items };
 }
 
 /// Why there is no node, with what it was to be made of.
@@ -125,6 +123,7 @@ impl<K: Kernel + Drop> Node<K> {
                 phase: Phase::Settled,
                 ongoing: None,
                 last: None,
+                kept: Vec::new(alloc),
             }),
             Err(error) => Err(NotOpened {
                 kernel,
@@ -161,20 +160,6 @@ impl<K: Kernel + Drop> Node<K> {
         ensures { result ≡ self.now.pool }
     {
         self.pool
-    }
-
-    /// The CPUs of the cores with these lowest CPUs, by which a certificate names cores.
-    pub fn cpus_of(&self, cores: &IdSet) -> IdSet
-        ensures { result ≡ cpus_of_cores self.now.machine cores.now }
-    {
-        self.machine.cpus_of_cores(cores)
-    }
-
-    /// Whether each CPU is a core of its own, so that the cores which a certificate names are CPUs.
-    pub fn cores_are_cpus(&self) -> bool
-        ensures { IsTrue result → (cores : Ids) → InRange cores → cpus_of_cores self.now.machine cores ≡ cores }
-    {
-        self.machine.threads() == 1
     }
 
     /// How far the last hand-over has come.

@@ -6,6 +6,7 @@ ghost use Rattle.cpu_set.specs.declared.TheConstants.{CPU_LIMIT};
 ghost use Rattle.certificate.specs.IsShortage.{IsShortage};
 ghost use Rattle.certificate_text.specs.Written.{CanWrite, IsHeld};
 ghost use Rattle.node.specs.IsNode.{ProvesItself, IsKept};
+ghost use Rattle.node.specs.Kept.{KeepsCpus};
 ghost use Rattle.node.specs.NodeState.{is_underway};
 ghost use Rattle.node.specs.Leaves.{rise_or_memory};
 ghost use Rattle.node.specs.Owners.{owners_of};
@@ -39,7 +40,6 @@ fn in_cpus(cores: u64, threads: u32) -> u64
 
 /// How many CPUs the members of a shortage ask for together, and those of the cores that one of them may get.
 fn need_of(machine: &Machine, problem: &Problem, members: &[usize]) -> (u64, IdSet)
-    requires threads { machine.now.threads ≤ CPU_LIMIT }
     requires fit { IsTrue (rows_fit problem.now) }
     requires short { IsShortage problem.now members.now }
     ensures { IsNeed machine.now problem.now members.now result.0 result.1 }
@@ -75,12 +75,14 @@ impl<K: Kernel + Drop> Node<K> {
         self.machine.threads()
     }
 
-    /// Keeps the certificate of what was worked out.
-    fn keep(&mut self, certificate: Certificate)
-        requires { IsKept certificate }
+    /// Keeps the certificate of what was worked out, and these CPUs of it.
+    fn keep(&mut self, certificate: Certificate, kept: Vec<IdSet>)
+        requires can { IsKept certificate }
+        requires cpus { KeepsCpus self.old.machine (Some certificate) kept.items }
         ensures { self.new ≡ record self.old { last = Some certificate } }
     {
         self.last = Some(certificate);
+        self.kept = kept;
     }
 
     /// What the problem comes to: the best plan, or a shortage.
@@ -99,24 +101,25 @@ impl<K: Kernel + Drop> Node<K> {
         ensures { WorksOut self.old result self.new }
     {
         let certificate = self.answer()?;
-        let outcome = match &certificate {
+        let (outcome, kept) = match &certificate {
             Certificate::Plan { plan, total, .. } => {
-                let (pool, ongoing) = self.opening(plan.sets.as_slice())?;
+                let cores = plan.sets.as_slice();
+                let kept = self.kept_of(cores)?;
+                let (pool, ongoing) = self.opening(cores, kept.as_slice())?;
                 self.open_to(pool, ongoing);
                 let distance = Cost::unpack(*total).distance;
-                Outcome::Plan(in_cpus(distance, self.threads()))
+                (Outcome::Plan(in_cpus(distance, self.threads())), kept)
             }
             Certificate::Short {
                 problem,
                 members,
                 ..
             } => {
-                let _ = self.threads();
                 let (asked, allowed) = need_of(&self.machine, problem, members.rows.as_slice());
-                Outcome::Short { asked, allowed }
+                (Outcome::Short { asked, allowed }, Vec::new(self.alloc))
             }
         };
-        self.keep(certificate);
+        self.keep(certificate, kept);
         Ok(outcome)
     }
 

@@ -5,8 +5,7 @@ use Rattle.std.specs.List.{flat_map}
 use Rattle.std.proofs.lemmas.Option.{slice_get_read}
 use Rattle.cpu_set.specs.Ids.{Ids}
 use Rattle.certificate.specs.RowView.{RowView}
-use Rattle.machine.specs.Layout.{Layout}
-use Rattle.runtime.specs.OutcomeTexts.{core_line, member_line}
+use Rattle.runtime.specs.OutcomeTexts.{hold_line, member_line}
 
 -- an element that was read, and those after it
 drop_at : {A : Type 0} (xs : List A) (k : ℕ) (x : A) → k < length xs → x ≡ get_or xs k x → drop k xs ≡ x ∷ drop (k + 1) xs
@@ -15,9 +14,9 @@ drop_at xs k x below e =
     drop-cons xs k x below ∙ ap (λ y. y ∷ drop (suc k) xs) (sym e) ∙ ap (λ n. x ∷ drop n xs) next
 
 -- the lines of a plan from one row on begin with that row's
-pub hold_next : (m : Layout) (rows : List RowView) (sets : List Ids) (k : ℕ) (row : RowView) (s : Ids) → k < length rows → k < length sets → row ≡ get_or rows k row → s ≡ get_or sets k s
-    → flat_map (core_line m) (zip (drop k rows) (drop k sets)) ≡ core_line m (row, s) ++ flat_map (core_line m) (zip (drop (k + 1) rows) (drop (k + 1) sets))
-hold_next m rows sets k row s a b e f =
+pub hold_next : (rows : List RowView) (sets : List Ids) (k : ℕ) (row : RowView) (s : Ids) → k < length rows → k < length sets → row ≡ get_or rows k row → s ≡ get_or sets k s
+    → flat_map hold_line (zip (drop k rows) (drop k sets)) ≡ hold_line (row, s) ++ flat_map hold_line (zip (drop (k + 1) rows) (drop (k + 1) sets))
+hold_next rows sets k row s a b e f =
     let r : drop k rows ≡ row ∷ drop (k + 1) rows = drop_at rows k row a e in
     let t : drop k sets ≡ s ∷ drop (k + 1) sets = drop_at sets k s b f in
     rw (r, t) refl

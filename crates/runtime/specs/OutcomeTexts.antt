@@ -1,40 +1,47 @@
 -- The texts of plans and shortages.
-use Rattle.std.specs.Prelude.{ℕ, List, [], ◌++◌, Option, Some, None, codes, decimal, zip}
+use Rattle.std.specs.Prelude.{◌≡◌, ◌<◌, ℕ, List, [], ◌++◌, Option, Some, None, All, codes, decimal, length, zip}
 use Rattle.std.specs.List.{flat_map}
 use Rattle.cpu_set.specs.Ids.{Ids}
 use Rattle.machine.specs.Layout.{Layout}
-use Rattle.machine.specs.Cores.{cpus_of_cores}
 use Rattle.certificate.specs.RowView.{RowView}
 use Rattle.certificate.specs.declared.certificates.Certificate.{Certificate}
 use Rattle.certificate.specs.declared.certificates.Certificate.TheVariants as certificate
 use Rattle.certificate_text.specs.CertificateText.{id_at}
 use Rattle.apply_plan.specs.declared.Progress.{Progress}
 use Rattle.apply_plan.specs.declared.Progress.TheVariants.{More, Done}
+use Rattle.node.specs.declared.named.Named.{Named}
+use Rattle.node.specs.declared.named.Named.TheVariants.{Holders, Members}
 use Rattle.node.specs.declared.outcome.Outcome.{Outcome}
 use Rattle.node.specs.declared.outcome.Outcome.TheVariants.{Plan, Short}
 use Rattle.node.specs.NodeState.{NodeState}
+use Rattle.node.specs.Rows.{as_cpus}
 use Rattle.runtime.specs.AnswerTexts.{set_text}
 
 -- what a plan gives a container
 abbrev pub hold_line : RowView × Ids → List ℕ
 hold_line p = (codes "hold " ++ (p.0.id ++ codes " ")) ++ (set_text p.1 ++ codes "\n")
 
--- the same of a certificate's row, which has cores by their lowest CPUs
-abbrev pub core_line : Layout → RowView × Ids → List ℕ
-core_line m p = hold_line (p.0, cpus_of_cores m p.1)
-
 -- a container that is short
 abbrev pub member_line : List RowView → ℕ → List ℕ
 member_line rows k = codes "member " ++ (id_at rows k ++ codes "\n")
 
--- a line for each container that a certificate names
+-- a line for each container that a certificate names, whose rows have cores by their lowest CPUs
 abbrev pub container_lines : Layout → Certificate → List ℕ
-container_lines m (certificate.Plan rows sets prices total weights) = flat_map (core_line m) (zip rows sets)
+container_lines m (certificate.Plan rows plan prices total weights) = flat_map hold_line (zip rows (as_cpus m plan))
 container_lines m (certificate.Short rows members weights) = flat_map (member_line rows) members
 
 abbrev pub last_lines : Layout → Option Certificate → List ℕ
 last_lines m (Some c) = container_lines m c
 last_lines m None = []
+
+-- the same as the program has it: a set for each row, or members among the rows; and their lines
+abbrev pub AreInPlace : Named → Type 0
+AreInPlace (Holders rows sets) = length sets.now ≡ length rows.now
+AreInPlace (Members rows members) = All (λ k. k < length rows.now) members.now
+
+abbrev pub named_lines : Named → List ℕ
+named_lines (Holders rows sets) = flat_map hold_line (zip rows.now sets.now)
+named_lines (Members rows members) = flat_map (member_line rows.now) members.now
 
 -- the total; or what is asked for, and what is allowed
 abbrev pub total_line : ℕ → List ℕ

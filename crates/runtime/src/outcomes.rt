@@ -1,16 +1,15 @@
 //! The texts of plans and shortages.
-ghost use Rattle.std.specs.Prelude.{◌≡◌, ◌<◌, ◌++◌, All, codes, length, zip};
+ghost use Rattle.std.specs.Prelude.{◌≡◌, ◌<◌, ◌++◌, All, IsSome, codes, length, zip};
 ghost use Rattle.std.specs.List.{flat_map};
 ghost use Rattle.byte_output.specs.Output.{Writes};
-ghost use Rattle.certificate_text.specs.Written.{CanWrite};
-ghost use Rattle.runtime.specs.OutcomeTexts.{container_lines, core_line, end_lines, first_line, hold_line, last_lines, member_line, need_line, outcome_text, pool_lines, progress_line, total_line};
+ghost use Rattle.runtime.specs.OutcomeTexts.{AreInPlace, end_lines, first_line, hold_line, member_line, named_lines, need_line, outcome_text, pool_lines, progress_line, total_line};
 
 use crate::answers::{put_labelled, put_set};
 use byte_output::{put, put_all, put_number};
-use certificate::{Certificate, Row};
+use certificate::Row;
 use cpu_set::IdSet;
 use kernel_model::Kernel;
-use node::{Node, Outcome, Progress};
+use node::{Named, Node, Outcome, Progress};
 use std::io;
 use std::io::Write;
 
@@ -25,34 +24,13 @@ fn put_hold<W: Write>(row: &Row, cpus: &IdSet, w: &mut W) -> io::Result<()>
     put(b"\n", w)
 }
 
-/// Writes the line of a row of a plan, with the CPUs of its cores.
-fn put_cores<K: Kernel + Drop, W: Write>(
-    node: &Node<K>,
-    row: &Row,
-    cores: &IdSet,
-    w: &mut W,
-) -> io::Result<()>
-    ensures { Writes (W.contents w.old) (W.contents w.new) result (core_line node.now.machine (row.now, cores.now)) }
-{
-    if node.cores_are_cpus() {
-        cores.stays_below_the_limit();
-        return put_hold(row, cores, w);
-    }
-    put_hold(row, &node.cpus_of(cores), w)
-}
-
-/// Writes a line for each row of a plan, with the CPUs of its cores.
-fn put_holds<K: Kernel + Drop, W: Write>(
-    node: &Node<K>,
-    rows: &[Row],
-    sets: &[IdSet],
-    w: &mut W,
-) -> io::Result<()>
+/// Writes a line for each row of a plan, with its CPUs.
+fn put_holds<W: Write>(rows: &[Row], sets: &[IdSet], w: &mut W) -> io::Result<()>
     requires { length sets.now ≡ length rows.now }
-    ensures { Writes (W.contents w.old) (W.contents w.new) result (flat_map (core_line node.now.machine) (zip rows.now sets.now)) }
+    ensures { Writes (W.contents w.old) (W.contents w.new) result (flat_map hold_line (zip rows.now sets.now)) }
 {
     for (k, row) in rows.iter().enumerate() {
-        put_cores(node, row, &sets[k], w)?;
+        put_hold(row, &sets[k], w)?;
     }
     Ok(())
 }
@@ -76,24 +54,14 @@ fn put_members<W: Write>(rows: &[Row], members: &[usize], w: &mut W) -> io::Resu
     Ok(())
 }
 
-/// Writes a line for each container that the certificate names.
-fn put_containers<K: Kernel + Drop, W: Write>(
-    node: &Node<K>,
-    certificate: &Certificate,
-    w: &mut W,
-) -> io::Result<()>
-    requires { CanWrite certificate.now }
-    ensures { Writes (W.contents w.old) (W.contents w.new) result (container_lines node.now.machine certificate.now) }
+/// Writes a line for each container that is named.
+fn put_named<W: Write>(named: Named<'_>, w: &mut W) -> io::Result<()>
+    requires { AreInPlace named }
+    ensures { Writes (W.contents w.old) (W.contents w.new) result (named_lines named.entry) }
 {
-    match certificate {
-        Certificate::Plan { problem, plan, .. } => {
-            put_holds(node, problem.rows.as_slice(), plan.sets.as_slice(), w)
-        }
-        Certificate::Short {
-            problem,
-            members,
-            ..
-        } => { put_members(problem.rows.as_slice(), members.rows.as_slice(), w) }
+    match named {
+        Named::Holders { rows, sets } => put_holds(rows, sets, w),
+        Named::Members { rows, members } => put_members(rows, members, w),
     }
 }
 
@@ -136,26 +104,17 @@ fn put_last<W: Write>(outcome: &Outcome, pool: &IdSet, w: &mut W) -> io::Result<
     }
 }
 
-/// Writes a line for each container that the last certificate names.
-fn put_named<K: Kernel + Drop, W: Write>(node: &Node<K>, w: &mut W) -> io::Result<()>
-    ensures { Writes (W.contents w.old) (W.contents w.new) result (last_lines node.now.machine node.now.last) }
-{
-    match node.certificate() {
-        Ok(certificate) => put_containers(node, certificate, w),
-        Err(_) => Ok(()),
-    }
-}
-
-/// Writes an outcome with the containers that its certificate names.
+/// Writes an outcome, which the node worked out last, with the containers that it names.
 pub fn put_outcome<K: Kernel + Drop, W: Write>(
     outcome: &Outcome,
     node: &Node<K>,
     w: &mut W,
 ) -> io::Result<()>
+    requires { IsSome node.now.last }
     ensures { Writes (W.contents w.old) (W.contents w.new) result (outcome_text node.now outcome.now) }
 {
     put_first(outcome, w)?;
-    put_named(node, w)?;
+    put_named(node.named(), w)?;
     put_last(outcome, &node.pool(), w)
 }
 

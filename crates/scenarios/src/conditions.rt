@@ -1,5 +1,6 @@
 //! Hand-overs whose conditions are tested before they are called.
-use apply_plan::{Entry, Handover, Progress, are_placed, may_begin};
+use crate::requirements::{are_placed, may_begin};
+use apply_plan::{Entry, Handover, Progress};
 use cpu_set::IdSet;
 use kernel_model::{Kernel, KernelFault};
 

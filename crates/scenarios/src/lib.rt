@@ -6,5 +6,7 @@ mod calls;
 mod conditions;
 #[cfg(test)]
 mod hand_over;
+mod requirements;
 
 pub use conditions::{finish, handover, step, step_out};
+pub use requirements::{are_placed, may_begin};

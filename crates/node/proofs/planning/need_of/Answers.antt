@@ -3,7 +3,7 @@ use Rattle.std.specs.FinSet as set
 use Rattle.certificate.specs.IsShortage.{asked, chosen, offered, is_offered}
 use Rattle.certificate.specs.IsShown.{IsShown}
 use Rattle.node.proofs.AskingLemmas.{offered_len}
-use Rattle.node.proofs.NeedLemmas.{asked_small}
+use Rattle.node.proofs.NeedLemmas.{asked_small, threads_few}
 use Rattle.node.proofs.planning.need_of.Goals as goal
 
 pub unreachable-requires : goal.unreachable-requires
@@ -22,6 +22,10 @@ pub in_cpus-requires-clause-cores : goal.in_cpus-requires-clause-cores
 in_cpus-requires-clause-cores c =
     let small : asked (chosen c.args.problem.now c.args.members.now) < 2 ^ 48 = asked_small c.args.problem.now c.args.members.now c.requires.fit c.requires.short in
     omega (arith, small, c.in-Ok.ensures.shown.asks)
+
+pub in_cpus-requires-clause-threads : goal.in_cpus-requires-clause-threads
+in_cpus-requires-clause-threads c =
+    omega (arith, c.threads.ensures.is, threads_few c.args.machine.now (record { sound = c.threads.ensures.sound; in_range = c.threads.ensures.in_range }))
 
 pub returns : goal.returns
 returns c =

@@ -4,7 +4,11 @@ use Rattle.runtime.specs.Answered.{AnswersBegin}
 use Rattle.runtime.specs.AnswerTexts.{of_either}
 use Rattle.runtime.specs.OutcomeTexts.{outcome_text}
 use Rattle.runtime.specs.RefusalLine.{refusal_line}
+use Rattle.runtime.proofs.NamedLines.{begun_last}
 use Rattle.runtime.proofs.plans.begin.Goals as goal
+
+pub put_outcome-requires : goal.put_outcome-requires
+put_outcome-requires g c = begun_last c.args.node.now c.begin.new.self c.in-Ok.outcome c.in-Ok.ensures
 
 pub returns-in-Ok : goal.returns-in-Ok
 returns-in-Ok g c =

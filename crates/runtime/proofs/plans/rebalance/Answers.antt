@@ -4,7 +4,11 @@ use Rattle.runtime.specs.Answered.{AnswersRebalance}
 use Rattle.runtime.specs.AnswerTexts.{of_either}
 use Rattle.runtime.specs.OutcomeTexts.{outcome_text}
 use Rattle.runtime.specs.RefusalLine.{refusal_line}
+use Rattle.runtime.proofs.NamedLines.{rebalanced_last}
 use Rattle.runtime.proofs.plans.rebalance.Goals as goal
+
+pub put_outcome-requires : goal.put_outcome-requires
+put_outcome-requires g c = rebalanced_last c.args.node.now c.rebalance.new.self c.in-Ok.outcome c.in-Ok.ensures.told
 
 pub returns-in-Ok : goal.returns-in-Ok
 returns-in-Ok g c =

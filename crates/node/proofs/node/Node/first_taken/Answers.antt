@@ -9,7 +9,7 @@ returns-then-is_empty g c =
     (c.if-is_empty.ensures.0 refl)
 
 pub kept_in-kept-requires : goal.kept_in-kept-requires
-kept_in-kept-requires g c = all_there _ c.self.invariant
+kept_in-kept-requires g c = all_there _ c.self.invariant.node
 
 pub returns : goal.returns
 returns g c =

@@ -9,15 +9,21 @@ returns-then-not-first_alive g c =
     kill_dead _ _ c.self.view_is c.args.id.now c.args.signal.now (sym c.if-not-is_ending.ensures) (seen c.in-Some.container.now) (sym c.in-Some.ensures) (sym c.if-not-first_alive.ensures)
 
 pub invariant_of-self : goal.invariant_of-self
-invariant_of-self g c = end_node _ c.self.invariant _ _ _ c.end_group.ensures
+invariant_of-self g c = record {
+  node = end_node _ c.self.invariant.node _ _ _ c.end_group.ensures;
+  cpus = c.self.invariant.cpus;
+}
 
 pub returns-in-Err : goal.returns-in-Err
 returns-in-Err g c =
     kill_refused _ _ c.self.view_is c.args.id.now c.args.signal.now (sym c.if-not-is_ending.ensures) (seen c.in-Some.container.now) (sym c.in-Some.ensures) (sym c.if-not-first_alive.ensures)
-    (g.K.Kernel.state c.end_group.new.self) c.self.invariant c.in-Err.fault c.in-Err.ensures
+    (g.K.Kernel.state c.end_group.new.self) c.self.invariant.node c.in-Err.fault c.in-Err.ensures
 
 pub invariant_of-self-2 : goal.invariant_of-self-2
-invariant_of-self-2 g c = end_node _ c.self.invariant _ _ _ c.end_group.ensures
+invariant_of-self-2 g c = record {
+  node = end_node _ c.self.invariant.node _ _ _ c.end_group.ensures;
+  cpus = c.self.invariant.cpus;
+}
 
 pub returns : goal.returns
 returns g c =

@@ -15,9 +15,11 @@ pub find_or_make-requires : goal.find_or_make-requires
 find_or_make-requires g c = root_there (g.K.Kernel.state c.args.kernel) c.root-root.result c.root-root.ensures.well_formed c.root-root.ensures.root
 
 pub invariant_of-result : goal.invariant_of-result
-invariant_of-result g c =
-    first_node (g.K.Kernel.state c.args.kernel) (g.K.Kernel.state c.find_or_make.new.kernel) c.requires.unused c.root-root.ensures.well_formed c.root-root.result c.root-root.ensures.root
-    c.args.machine (record { sound = c.threads.ensures.sound; in_range = c.threads.ensures.in_range }) c.requires.machine c.in-Ok.parent c.reserved.result _ (ap all_seen c.new.ensures.empty) c.in-Ok.ensures
+invariant_of-result g c = record {
+  node = first_node (g.K.Kernel.state c.args.kernel) (g.K.Kernel.state c.find_or_make.new.kernel) c.requires.unused c.root-root.ensures.well_formed c.root-root.result c.root-root.ensures.root
+      c.args.machine (record { sound = c.threads.ensures.sound; in_range = c.threads.ensures.in_range }) c.requires.machine c.in-Ok.parent c.reserved.result _ (ap all_seen c.new.ensures.empty) c.in-Ok.ensures;
+  cpus = tt;
+}
 
 pub returns-in-Ok-clause-made : goal.returns-in-Ok-clause-made
 returns-in-Ok-clause-made g c = (

@@ -11,9 +11,11 @@ returns-then-not-container g c =
     start_not_runnable _ _ c.self.view_is c.args.id.now (seen c.in-Some.container.now) (sym c.in-Some.ensures) (sym c.if-not-is_created.ensures) c.if-not-container.true
 
 pub invariant_of-self : goal.invariant_of-self
-invariant_of-self g c =
-    start_node _ _ c.self.view_is c.args.id.now (seen c.in-Some.container.now) (sym c.in-Some.ensures) _
-    (c.mark_started.ensures (seen c.in-Some.container.now) (sym c.in-Some.ensures)) c.self.invariant
+invariant_of-self g c = record {
+  node = start_node _ _ c.self.view_is c.args.id.now (seen c.in-Some.container.now) (sym c.in-Some.ensures) _
+      (c.mark_started.ensures (seen c.in-Some.container.now) (sym c.in-Some.ensures)) c.self.invariant.node;
+  cpus = c.self.invariant.cpus;
+}
 
 pub returns : goal.returns
 returns g c =

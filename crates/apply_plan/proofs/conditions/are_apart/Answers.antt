@@ -1,5 +1,0 @@
-use Rattle.apply_plan.proofs.ConditionLemmas.{free_is_apart}
-use Rattle.apply_plan.proofs.conditions.are_apart.Goals as goal
-
-pub loop-rest-init : goal.loop-rest-init
-loop-rest-init c = rw (c.empty-any.ensures, c.empty-pinned.ensures) (free_is_apart c.args.reserved.now c.args.entries.now)
