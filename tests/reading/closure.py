@@ -31,10 +31,10 @@ CLAUSES = [
     ("scripts_serve_configs", "runtime", "laws.rt", "scripts_serve_configs", ""),
     ("run_mirrored", "runtime", "mirrored.rt", "run_mirrored", "mirrored"),
     ("boot_mirrored", "runtime", "booting.rt", "boot_mirrored", "site boots mirrored"),
-    ("do_pin", "cli", "pinning.rt", "do_pin", ""),
+    ("do_run_mirrored", "cli", "mirroring.rt", "do_run_mirrored", ""),
 ]
 # Of these only the pages are listed.
-LONG = {"each_rebalance", "scripts_serve_configs", "do_pin"}
+LONG = {"each_rebalance", "scripts_serve_configs", "do_run_mirrored"}
 
 
 def imports(lines):
@@ -277,7 +277,7 @@ SAYS = {
     "scripts_serve_configs": "the same, from a script's text and the configs' bytes",
     "run_mirrored": "`run --cgroup`: what the tree's files are asked for, and what they then have",
     "boot_mirrored": "that it begins so, at this root and on this machine",
-    "do_pin": "all that `run --cgroup` does, by its arguments, files and streams",
+    "do_run_mirrored": "all that `run --cgroup` does, by its arguments, files and streams",
 }
 
 

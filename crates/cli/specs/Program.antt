@@ -28,7 +28,7 @@ use Rattle.program_io.specs.Readings.{Reading, Reads}
 use Rattle.cli.specs.Ready.{SetsUp, refusal_of}
 use Rattle.cli.specs.Roots.{IsNotRooted, root_line, root_note, unrooted_of}
 use Rattle.program_io.specs.RefusalLine.{refusal_line}
-use Rattle.cli.specs.RunAnswer.{Plays, PlaysIn, is_unread}
+use Rattle.cli.specs.RunAnswer.{Plays, PlaysMirrored, is_unread}
 use Rattle.cli.specs.Says.{Complains, Says}
 use Rattle.cli.specs.Tells.{Checks, Lists, Solves, Tabulates}
 use Rattle.cli.specs.declared.console.Console.{Console}
@@ -65,9 +65,9 @@ module _ {W E : Type 0} (out : W → Option (List ℕ)) (err : E → Option (Lis
       × Plays finds most n told script script' (contents_of out old.out) (contents_of out mid.out) end × (mid.err ≡ old.err) × Finishes out err mid new status end
 
   -- the script was run so over a node whose kernel's writes are made in files too
-  abbrev pub PerformsIn : {F : Type 0} → (F → Bool → List FileCall → Type 0) → Site → (Text → Option Text → Type 0) → ℕ → NodeState → Told → Option (List ℕ) → Option (List ℕ) → Type 0
-  PerformsIn asked site finds most n told script script' = (mid : Console W E) × (end : Result (Unit {0}) ScriptFault)
-      × PlaysIn asked site finds most n told script script' (contents_of out old.out) (contents_of out mid.out) end × (mid.err ≡ old.err) × Finishes out err mid new status end
+  abbrev pub PerformsMirrored : {F : Type 0} → (F → Bool → List FileCall → Type 0) → Site → (Text → Option Text → Type 0) → ℕ → NodeState → Told → Option (List ℕ) → Option (List ℕ) → Type 0
+  PerformsMirrored asked site finds most n told script script' = (mid : Console W E) × (end : Result (Unit {0}) ScriptFault)
+      × PlaysMirrored asked site finds most n told script script' (contents_of out old.out) (contents_of out mid.out) end × (mid.err ≡ old.err) × Finishes out err mid new status end
 
   -- one of the two files is refused
   abbrev pub Refuses : Text → Option Text → Unready → Type 0
@@ -83,9 +83,9 @@ module _ {W E : Type 0} (out : W → Option (List ℕ)) (err : E → Option (Lis
 
   -- the script was run over a new node of the machine, whose kernel's writes are made in this place too; or its group can't
   -- be made there
-  abbrev pub PinsAt : {F : Type 0} → (F → Bool → List FileCall → Type 0) → Layout → Site → (Text → Option Text → Type 0) → Told → Option (List ℕ) → Option (List ℕ) → Type 0
-  PinsAt asked m site finds told script script' =
-      ((n : NodeState) × Boots m n × PerformsIn asked site finds (2 ^ 64 - 1) n told script script')
+  abbrev pub ScriptsMirroredAt : {F : Type 0} → (F → Bool → List FileCall → Type 0) → Layout → Site → (Text → Option Text → Type 0) → Told → Option (List ℕ) → Option (List ℕ) → Type 0
+  ScriptsMirroredAt asked m site finds told script script' =
+      ((n : NodeState) × Boots m n × PerformsMirrored asked site finds (2 ^ 64 - 1) n told script script')
       ⊎ ((error : OrMemory KernelFault) × ((error ≡ Memory) ⊎ IsNotBooted asked site m error) × Says out err old new status (root_line (unrooted_of error)) 1 [])
 
   -- the files that may be opened under a name, the errors by which that may fail, and what the reading of one may answer
@@ -102,10 +102,10 @@ module _ {W E : Type 0} (out : W → Option (List ℕ)) (err : E → Option (Lis
     module _ {F : Type 0} (asked : F → Bool → List FileCall → Type 0) (finds : Text → Finding → Type 0) where
       -- the same as `Scripts` in a cgroup tree, below the root that is named, opened with folders of a run before or without;
       -- or the root is refused
-      abbrev pub Pins : (Text → Option Text → Type 0) → Told → Option (List ℕ) → Option (List ℕ) → Text → Option Text → Text → Bool → Type 0
-      Pins sees told script script' machine table root adopt =
+      abbrev pub ScriptsMirrored : (Text → Option Text → Type 0) → Told → Option (List ℕ) → Option (List ℕ) → Text → Option Text → Text → Bool → Type 0
+      ScriptsMirrored sees told script script' machine table root adopt =
           ((m : Layout) × SetsUp opens fails gives machine table (Ok m)
-          × (((memory : Ids) × AnswersRoot finds root m.online (nodes_of m) (Ok memory) × PinsAt asked m (site_of m root memory adopt) sees told script script')
+          × (((memory : Ids) × AnswersRoot finds root m.online (nodes_of m) (Ok memory) × ScriptsMirroredAt asked m (site_of m root memory adopt) sees told script script')
           ⊎ ((why : Unrooted) × IsNotRooted finds root m why × RefusesRoot root why)))
           ⊎ ((why : Unready) × SetsUp opens fails gives machine table (Err why) × Refuses machine table why)
 
@@ -115,7 +115,7 @@ module _ {W E : Type 0} (out : W → Option (List ℕ)) (err : E → Option (Lis
       Does sees input script (list text) = Lists out err old new status text
       Does sees input script (slit file) = Tabulates out err old new status (reads_named (Reads opens fails gives) input file) (shown file)
       Does sees input script (run machine table None adopt) = (script' : Option (List ℕ)) × Scripts sees None script script' machine table
-      Does sees input script (run machine table (Some root) adopt) = (script' : Option (List ℕ)) × Pins sees None script script' machine table root adopt
+      Does sees input script (run machine table (Some root) adopt) = (script' : Option (List ℕ)) × ScriptsMirrored sees None script script' machine table root adopt
       Does sees input script (solve file) = Solves out err old new status (reads_named (Reads opens fails gives) input (name_of file)) (shown (name_of file))
 
   -- the help or the version goes to standard output with status 0, and what a mistake is to standard error with

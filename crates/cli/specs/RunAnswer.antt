@@ -26,6 +26,6 @@ Plays finds most n told read read' out out' end =
 
 -- the script is run so over a node whose kernel's writes are made in files too. At the end all that these were asked for is
 -- what the calls of the node's kernel stand for, in their order, in this place.
-abbrev pub PlaysIn : {F : Type 0} → (F → Bool → List Asked → Type 0) → Site → (List ℕ → Option (List ℕ) → Type 0) → ℕ → NodeState → Told → Option (List ℕ) → Option (List ℕ) → Option (List ℕ) → Option (List ℕ) → Result (Unit {0}) ScriptFault → Type 0
-PlaysIn asked site finds most n told read read' out out' end =
+abbrev pub PlaysMirrored : {F : Type 0} → (F → Bool → List Asked → Type 0) → Site → (List ℕ → Option (List ℕ) → Type 0) → ℕ → NodeState → Told → Option (List ℕ) → Option (List ℕ) → Option (List ℕ) → Option (List ℕ) → Result (Unit {0}) ScriptFault → Type 0
+PlaysMirrored asked site finds most n told read read' out out' end =
     (final : RuntimeState) × EndsBy most (AnsweredBy finds) read read' out out' (record { node = n; told = told }) end final × IsMirroredNode asked site final.node

@@ -10,7 +10,7 @@
 //!   not answer.
 //! - `Folders` reads as the config of a bundle the file `BUNDLE/config.json` and no other (`IsConfigOf`). By that `start`
 //!   says with which bytes each `create`, `adopt` and `update` of a script calls the node. They are those that may be read
-//!   of the file of this name in the BUNDLE that the line names (`Scripts` and `Pins` by `IsConfigIn`). Or there is no such
+//!   of the file of this name in the BUNDLE that the line names (`Scripts` and `ScriptsMirrored` by `IsConfigIn`). Or there is no such
 //!   file, or none that can be read.
 //! - The laws `check_spellings` and so on are plain spellings of each command, each with what it asks for and without a
 //!   mistake.
@@ -24,9 +24,9 @@ mod console;
 mod distances;
 mod folders;
 mod list;
+mod mirroring;
 mod note;
 mod opens;
-mod pinning;
 mod printed;
 mod program;
 mod run;
@@ -44,8 +44,8 @@ pub use console::Console;
 pub use distances::do_slit;
 pub use folders::Folders;
 pub use list::do_list;
+pub use mirroring::{Root, do_run_mirrored};
 pub use opens::{Disk, NamedFile, Opens};
-pub use pinning::{Root, do_pin};
 pub use program::run_program;
 pub use run::do_run;
 pub use solve::do_solve;

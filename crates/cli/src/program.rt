@@ -10,8 +10,8 @@ use crate::console::{Console, MISUSED, print_then_note};
 use crate::distances::slit_named;
 use crate::folders::Folders;
 use crate::list::do_list;
+use crate::mirroring::{Root, do_run_mirrored};
 use crate::opens::Opens;
-use crate::pinning::{Root, do_pin};
 use crate::run::do_run;
 use crate::solve::solve_named;
 use crate::words::{Grammar, Words, parse};
@@ -96,7 +96,7 @@ fn run_in<F: Opens, T: GroupTrees + Drop, R: Read + Input, W: Write, E: Write>(
         None => do_run(alloc, machine, table, files, bundles, &mut script, console),
         Some(path) => {
             let root = Root { path, adopt };
-            do_pin(
+            do_run_mirrored(
                 alloc,
                 machine,
                 table,

@@ -26,6 +26,7 @@ pub record NamesMembers (n : NodeState) (rows : List RowView) (members : List �
   pub last : n.last ≡ Some (certificate.Short rows members weights)
   pub among : All (λ k. k < length rows) members
 
+-- whom the plan or the shortage names that was worked out last
 abbrev pub Names : NodeState → Named → Type 0
 Names n (Holders rows sets) = NamesHolders n rows.now sets.now
 Names n (Members rows members) = NamesMembers n rows.now members.now

@@ -34,11 +34,12 @@ abbrev pub last_lines : Layout → Option Certificate → List ℕ
 last_lines m (Some c) = container_lines m c
 last_lines m None = []
 
--- the same as the program has it: a set for each row, or members among the rows; and their lines
+-- whom an outcome names, as the program has it: a set for each row, or members among the rows
 abbrev pub AreInPlace : Named → Type 0
 AreInPlace (Holders rows sets) = length sets.now ≡ length rows.now
 AreInPlace (Members rows members) = All (λ k. k < length rows.now) members.now
 
+-- the lines of whom an outcome names
 abbrev pub named_lines : Named → List ℕ
 named_lines (Holders rows sets) = flat_map hold_line (zip rows.now sets.now)
 named_lines (Members rows members) = flat_map (member_line rows.now) members.now

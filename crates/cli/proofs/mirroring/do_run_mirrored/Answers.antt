@@ -1,6 +1,6 @@
 -- The script was run in the tree, or its group can't be made, or the root or a file is refused.
 use Rattle.std.proofs.Common.{inl, inr}
-use Rattle.cli.proofs.pinning.do_pin.Goals as goal
+use Rattle.cli.proofs.mirroring.do_run_mirrored.Goals as goal
 
 pub returns-in-Ok-open_below : goal.returns-in-Ok-open_below
 returns-in-Ok-open_below g c = inl (
@@ -9,7 +9,7 @@ returns-in-Ok-open_below g c = inl (
   inl (
     c.in-Ok-open_below.tree.memory,
     c.in-Ok-open_below.ensures.answers,
-    rw (c.in-Ok-open_below.ensures.root, c.in-Ok-open_below.ensures.adopt) at c.pin_in.ensures,
+    rw (c.in-Ok-open_below.ensures.root, c.in-Ok-open_below.ensures.adopt) at c.run_mirrored_in.ensures,
   ),
 )
 

@@ -3,9 +3,9 @@ ghost use Rattle.std.specs.Prelude.{◌≡◌, [], IfOk, MatchResult, option_map
 ghost use Rattle.machine.specs.Nodes.{nodes_of};
 ghost use Rattle.cgroup_tree.specs.Roots.{AnswersRoot};
 ghost use Rattle.runtime.specs.MirroredNodes.{site_of};
-ghost use Rattle.cli.specs.Program.{Pins, PinsAt};
+ghost use Rattle.cli.specs.Program.{ScriptsMirrored, ScriptsMirroredAt};
 ghost use Rattle.cli.specs.Roots.{IsNotRooted, root_note};
-ghost use Rattle.cli.specs.RunAnswer.{PlaysIn};
+ghost use Rattle.cli.specs.RunAnswer.{PlaysMirrored};
 ghost use Rattle.cli.specs.declared.note.Note.{Note};
 ghost use Rattle.cli.specs.Notes.{note_text};
 
@@ -34,7 +34,7 @@ pub struct Root<'a> {
 
 /// Runs a script as [`do_run`](crate::do_run) does, and makes each kernel write below this root too; or prints why one of
 /// the files or the root is refused. No number of reads is too many.
-pub fn do_pin<F: Opens, T: GroupTrees + Drop, B: Bundles + Drop, R: Read, W: Write, E: Write>(
+pub fn do_run_mirrored<F: Opens, T: GroupTrees + Drop, B: Bundles + Drop, R: Read, W: Write, E: Write>(
     alloc: Global,
     machine: &str,
     table: Option<&str>,
@@ -46,19 +46,19 @@ pub fn do_pin<F: Opens, T: GroupTrees + Drop, B: Bundles + Drop, R: Read, W: Wri
     console: &mut Console<W, E>,
 ) -> u8
     // It is the same as `do_run` in a cgroup tree, by 2^64 - 1 reads. Or it refuses its root, by what was found of it
-    // (`IsNotRooted`), or the node's group can't be made there (`PinsAt`). At the end of a script its node is mirrored
-    // (`PlaysIn`), as `runtime` says it. Its place is below ROOT, in files opened with `--adopt` or without, with the nodes
+    // (`IsNotRooted`), or the node's group can't be made there (`ScriptsMirroredAt`). At the end of a script its node is mirrored
+    // (`PlaysMirrored`), as `runtime` says it. Its place is below ROOT, in files opened with `--adopt` or without, with the nodes
     // that were found to have memory. `start`, which the program calls, says the same. It takes the one value that gives
     // access to trees and opens its files once: the program is handed one. What the notes of the system's refusals are on
     // standard error it does not say: they go past its page. Nor does any clause say which folders of a run before it names
     // to the operator.
-    ensures { Pins W.contents E.contents console.old console.new result (F.opens files.now) (F.fails files.now) F.File.gives
+    ensures { ScriptsMirrored W.contents E.contents console.old console.new result (F.opens files.now) (F.fails files.now) F.File.gives
         T.Files.asked (T.finds trees) B.finds (B.told bundles) (R.remaining script.old) (R.remaining script.new)
         machine.now (option_map (λ name. name.now) table.entry) root.entry.path.now root.entry.adopt }
 {
     match set_up(alloc, machine, table, files) {
         Ok(found) => match open_below(alloc, &found, root, trees) {
-            Ok(tree) => pin_in::<Brand, T::Files, B, R, W, E>(
+            Ok(tree) => run_mirrored_in::<Brand, T::Files, B, R, W, E>(
                 alloc, found, tree, bundles, script, console,
             ),
             Err(why) => print_then_note(&why, REFUSED, &note_of(root.path, why), console),
@@ -90,7 +90,7 @@ fn open_below<T: GroupTrees + Drop>(
 
 /// Runs the script that the reader has left over the machine, in this tree, of which nothing was asked yet; or prints why the group
 /// of all containers can't be made there.
-fn pin_in<S: Sited, F: GroupFiles + Drop, B: Bundles + Drop, R: Read, W: Write, E: Write>(
+fn run_mirrored_in<S: Sited, F: GroupFiles + Drop, B: Bundles + Drop, R: Read, W: Write, E: Write>(
     alloc: Global,
     machine: Machine,
     tree: OpenTree<F>,
@@ -100,12 +100,12 @@ fn pin_in<S: Sited, F: GroupFiles + Drop, B: Bundles + Drop, R: Read, W: Write, 
 ) -> u8
     requires site { S.site ≡ site_of machine (string_bytes tree.root) tree.memory tree.adopt }
     requires unasked { F.asked tree.files tree.adopt [] }
-    ensures { PinsAt W.contents E.contents console.old console.new result F.asked machine
+    ensures { ScriptsMirroredAt W.contents E.contents console.old console.new result F.asked machine
         (site_of machine (string_bytes tree.root) tree.memory tree.adopt) B.finds (B.told bundles) (R.remaining script.old) (R.remaining script.new) }
 {
     match boot_mirrored::<F, S>(alloc, machine, tree) {
         Ok(node) => {
-            let end = play_below(node, bundles, script, &mut console.out, u64::MAX);
+            let end = play_mirrored(node, bundles, script, &mut console.out, u64::MAX);
             finish(end, console)
         }
         Err(error) => print_then_note(&Unrooted::from(error), REFUSED, &None, console),
@@ -114,14 +114,14 @@ fn pin_in<S: Sited, F: GroupFiles + Drop, B: Bundles + Drop, R: Read, W: Write, 
 
 /// Runs the script that the reader has left over a node whose kernel writes are made in files too, by so many reads at most, and
 /// writes its answers.
-fn play_below<F: GroupFiles + Drop, S: Sited, B: Bundles + Drop, R: Read, W: Write>(
+fn play_mirrored<F: GroupFiles + Drop, S: Sited, B: Bundles + Drop, R: Read, W: Write>(
     node: Node<MirroredKernel<F, S>>,
     bundles: B,
     script: &mut R,
     w: &mut W,
     most_reads: u64,
 ) -> Result<(), ScriptFault>
-    ensures { PlaysIn F.asked S.site B.finds most_reads node (B.told bundles) (R.remaining script.old) (R.remaining script.new) (W.contents w.old) (W.contents w.new) result }
+    ensures { PlaysMirrored F.asked S.site B.finds most_reads node (B.told bundles) (R.remaining script.old) (R.remaining script.new) (W.contents w.old) (W.contents w.new) result }
 {
     let mut runner = Runner::new(node, bundles);
     run_mirrored(&mut runner, script, w, most_reads)

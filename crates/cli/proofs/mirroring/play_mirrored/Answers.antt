@@ -1,4 +1,4 @@
-use Rattle.cli.proofs.pinning.play_below.Goals as goal
+use Rattle.cli.proofs.mirroring.play_mirrored.Goals as goal
 
 pub returns : goal.returns
 returns g c = (c.run_mirrored.new.runner, rw c.new-runner.ensures at c.run_mirrored.ensures.ends, c.run_mirrored.ensures.mirrored)
