@@ -123,8 +123,9 @@ impl SortedArcs {
         prove!(self.opened < offers.len());
         let weighted_offer = self.order.weighted_offer(offers, self.opened);
         let offer = offers.offer(weighted_offer.offer);
-        let joined = push_arcs(&mut self.arcs, &offer, firsts, weighted_offer.weight)?;
-        self.joined = self.joined.saturating_add(joined);
+        let before = self.arcs.len();
+        push_arcs(&mut self.arcs, &offer, firsts, weighted_offer.weight)?;
+        self.joined = self.joined.saturating_add(joined_from(&self.arcs, firsts, before));
         self.opened += 1;
         Ok(())
     }
@@ -144,8 +145,12 @@ impl SortedArcs {
         ensures arcs { OnOk result (self.new.arcs ≡ self.old.arcs) }
         ensures cursor { OnOk result (self.new.cursor ≡ self.old.cursor) }
     {
+        // The first test alone decides in each scan of a row whose CPUs all weigh something else.
+        if self.joined == 0 || self.joined.saturating_mul(FEW_JOINED) < self.arcs.len() {
+            return Ok(());
+        }
         let left = self.cursor.saturating_sub(self.blocked);
-        if left == 0 || self.joined.saturating_mul(FEW_JOINED) < self.arcs.len() {
+        if left == 0 {
             return Ok(());
         }
         let to_last = comes_to_last(&self.arcs, self.cursor, limit);
@@ -182,30 +187,40 @@ fn comes_to_last(arcs: &[Arc], upto: usize, limit: Option<u64>) -> bool {
     }
 }
 
-/// Adds the classes of an offer, at its weight, in the order of their first CPUs; says how many of them, at least, lie in one
-/// block with the one before. A block has first CPUs that lie in one word of 64: all but one for each word that they span.
+/// Adds the classes of an offer, at its weight, in the order of their first CPUs.
 fn push_arcs(
     arcs: &mut Vec<Arc>,
     offer: &Offer,
     firsts: &Representatives,
     weight: u32,
-) -> Result<usize, AllocError>
+) -> Result<(), AllocError>
     ensures { OnOk result ((ws : ℕ → Option ℕ) (offers : List Offer) (weighted : List WeightedOffer) (opened : ℕ) → CanOpen ws offers firsts.now weighted opened offer.now weight arcs.old.items
         → IsOpening ws offers firsts.now weighted opened arcs.old.items arcs.new.items None) }
 {
     let there = firsts.among(&offer.cpus);
-    let before = arcs.len();
     let mut next = there.first();
-    let first = next;
-    let mut last: u16 = 0;
     while let Some(cpu) = next {
         let class = firsts.class_of(cpu);
         arcs.push(Arc { weight, class })?;
-        last = cpu;
         next = there.next_after(cpu);
     }
-    let words = (last / 64).saturating_sub(first.unwrap_or(0) / 64) as usize + 1;
-    Ok(arcs.len().saturating_sub(before).saturating_sub(words))
+    Ok(())
+}
+
+/// How many of an offer's arcs, the last ones from this place on, lie in one block with the one before, at least: all but one for
+/// each word of 64 that their first CPUs span.
+fn joined_from(arcs: &[Arc], firsts: &Representatives, from: usize) -> usize {
+    if arcs.len() <= from.saturating_add(1) {
+        return 0;
+    }
+    let last = word_of(firsts, arcs[arcs.len() - 1]);
+    let words = last.saturating_sub(word_of(firsts, arcs[from])) as usize + 1;
+    (arcs.len() - from).saturating_sub(words)
+}
+
+/// The word of 64 that the first CPU of an arc's class lies in.
+fn word_of(firsts: &Representatives, arc: Arc) -> u16 {
+    firsts.first(arc.class).unwrap_or(0) / 64
 }
 
 /// Adds the classes of the arcs from one place up to another to the blocks of the arcs before them.

@@ -14,7 +14,7 @@ returns c = record {
       can_open ws _ _ residual c.args.self.now _ _ h c.requires.more
       (offer_read _ (weighted_in c.args.offers.now c.args.self.now.order) c.args.self.now.opened _ _ c.weighted_offer-weighted_offer.ensures (weighted_within _ _ _ _ h.order.weighted (omega (arith, c.requires.more, h.order.long)) c.weighted_offer-weighted_offer.ensures) c.offer-offer.ensures)
       (ap (λ (b : WeightedOffer). b.weight) c.weighted_offer-weighted_offer.ensures) in
-      sorted_opened ws _ _ residual c.args.self.now _ h c.requires.more (c.in_ok-joined.ensures ws _ _ _ can) refl refl refl refl refl;
+      sorted_opened ws _ _ residual c.args.self.now _ h c.requires.more (c.in_ok-push_arcs.ensures ws _ _ _ can) refl refl refl refl refl;
   opened = refl;
   further =
       let h = c.requires.sorted_arcs.2 in
@@ -22,5 +22,5 @@ returns c = record {
       can_open c.requires.sorted_arcs.0 _ _ c.requires.sorted_arcs.1 c.args.self.now _ _ h c.requires.more
       (offer_read _ (weighted_in c.args.offers.now c.args.self.now.order) c.args.self.now.opened _ _ c.weighted_offer-weighted_offer.ensures (weighted_within _ _ _ _ h.order.weighted (omega (arith, c.requires.more, h.order.long)) c.weighted_offer-weighted_offer.ensures) c.offer-offer.ensures)
       (ap (λ (b : WeightedOffer). b.weight) c.weighted_offer-weighted_offer.ensures) in
-      record { cursor = omega arith; arcs = λ i lt. (c.in_ok-joined.ensures c.requires.sorted_arcs.0 _ _ _ can).kept i (omega (arith, lt, h.cursor_in)) };
+      record { cursor = omega arith; arcs = λ i lt. (c.in_ok-push_arcs.ensures c.requires.sorted_arcs.0 _ _ _ can).kept i (omega (arith, lt, h.cursor_in)) };
 }
