@@ -1,2 +1,3 @@
 pub mod JsonOf
 pub mod Members
+pub mod Numbers
