@@ -1,5 +1,5 @@
 -- Each fault has its cause.
-use Rattle.std.proofs.Common.{◌≡◌, ◌⊎◌, ℕ, zero, suc, ◌<◌, Bool, true, false, not, ◌&&◌, Option, Some, None, option_map, option_and_then, List, [], ◌∷◌, length, take, get_or, refl, sym, ◌∙◌, subst, inl, inr, arith, All, slice_get, nat_eq}
+use Rattle.std.proofs.Common.{◌≡◌, ◌⊎◌, ℕ, zero, suc, ◌<◌, Bool, true, false, not, ◌&&◌, Option, Some, None, option_and_then, List, [], ◌∷◌, length, take, get_or, refl, sym, ◌∙◌, subst, inl, inr, arith, All, slice_get, nat_eq}
 use Rattle.std.specs.List.{AllZip, AllPairs}
 use Rattle.std.specs.Option.{option_or, option_zip}
 use Rattle.std.specs.FinSet as set
@@ -7,6 +7,7 @@ use Rattle.std.proofs.lemmas.Bool.{eqb-true, eqb-false}
 use Rattle.std.proofs.lemmas.Option.{slice_get-get_or, slice_get_read, get_or_from_slice_get}
 use Rattle.std.proofs.lemmas.List.{get_or-take, length-take}
 use Rattle.faults.specs.First.{when, first_below}
+use Rattle.faults.specs.Tests.{passed, none_below, mapped}
 use Rattle.cpu_set.specs.Ids.{Ids, IsDisjoint}
 use Rattle.cpu_set.specs.Members.{InRange}
 use Rattle.cpu_set.specs.Least.{least_that}
@@ -22,7 +23,7 @@ use Rattle.certificate.specs.declared.price_lists.Price.{Price}
 use Rattle.certificate.specs.declared.check_faults.CheckFault.{CheckFault}
 use Rattle.certificate.specs.declared.check_faults.CheckFault.TheVariants.{WrongCount, NotAllowed, HeldTwice, ValueTooHigh}
 use Rattle.certificate.proofs.LimitFacts.{limit_facts}
-use Rattle.certificate.proofs.Exact.{passed, none_below, all_zip, at_both_is, row_fault-says, apart_below, value_fault-says}
+use Rattle.certificate.proofs.Exact.{all_zip, at_both_is, row_fault-says, apart_below, value_fault-says}
 
 -- ---- which fault it is
 
@@ -33,10 +34,6 @@ first_or_rest (Some y) b x e = inl e
 pub only : {A : Type 0} (a : Option A) (x : A) → option_or a None ≡ Some x → a ≡ Some x
 only None x e = e
 only (Some y) x e = e
-
-mapped : {A B : Type 0} (f : A → B) (a : Option A) (y : B) → option_map f a ≡ Some y → (x : A) × (a ≡ Some x) × (f x ≡ y)
-mapped f None y e = absurd (cc)
-mapped f (Some x) y e = (x, refl, cc)
 
 pub failed : {A : Type 0} (b : Bool) (fault found : A) → when (not b) fault ≡ Some found → (b ≡ false) × (fault ≡ found)
 failed true fault found e = absurd (cc)

@@ -1,15 +1,16 @@
 -- What is proved has no fault, and what has none is proved.
-use Rattle.std.proofs.Common.{◌≡◌, ℕ, zero, suc, ◌+◌, ◌<◌, ◌≤◌, Bool, true, false, not, ◌&&◌, Option, Some, None, option_map, is_some, Result, Ok, Err, IfOk, OnOk, List, [], ◌∷◌, length, take, get_or, refl, sym, ap, ◌∙◌, subst, inl, inr, arith, All, slice_get, nat_eq, nat_lt}
+use Rattle.std.proofs.Common.{◌≡◌, ℕ, zero, suc, ◌+◌, ◌<◌, ◌≤◌, Bool, true, false, not, ◌&&◌, Option, Some, None, option_map, is_some, Result, Ok, Err, IfOk, OnOk, List, [], ◌∷◌, length, take, get_or, refl, sym, ap, ◌∙◌, subst, arith, All, slice_get, nat_eq, nat_lt}
 use Rattle.std.specs.List.{AllZip, AllPairs}
-use Rattle.std.specs.Option.{option_or, option_map_or}
+use Rattle.std.specs.Option.{option_map_or}
 use Rattle.std.specs.Result.{result_err}
 use Rattle.std.specs.FinSet as set
-use Rattle.std.proofs.lemmas.Bool.{true≢false, false≢true, eq-eqb, eqb-true, ltb-false, le-ltb, cases_lt, both_ways, and_from}
+use Rattle.std.proofs.lemmas.Bool.{eq-eqb, eqb-true, ltb-false, le-ltb, both_ways, and_from}
 use Rattle.std.proofs.lemmas.Option.{get_or_from_slice_get}
 use Rattle.std.proofs.lemmas.List.{get_or_default, get_or-take, length-take}
 use Rattle.std.proofs.lemmas.List.Folds.{list_any_at, Any-from_list_any}
-use Rattle.faults.specs.First.{when, first_below}
+use Rattle.faults.specs.First.{when}
 use Rattle.faults.specs.FirstLaws.{first_below-none}
+use Rattle.faults.specs.Tests.{never_both, without, none_left, none_of_both, unmapped, passed, none_below}
 use Rattle.cpu_set.specs.Ids.{Ids, IsDisjoint}
 use Rattle.cpu_set.specs.Members.{InRange}
 use Rattle.cpu_set.specs.Least.{least_that}
@@ -28,37 +29,13 @@ use Rattle.certificate.specs.PlanFault.{is_not_allowed, row_fault, at_both, rows
 use Rattle.certificate.specs.declared.price_lists.Price.{Price}
 use Rattle.certificate.specs.declared.check_faults.CheckFault.{CheckFault}
 use Rattle.certificate.specs.declared.check_faults.CheckFault.TheVariants.{BadProblem, WrongCount, NotAllowed, HeldTwice, ValueTooHigh, Gap}
-use Rattle.certificate.specs.Tests.{not_both}
 use Rattle.certificate.proofs.LimitFacts.{limit_facts}
 use Rattle.certificate.proofs.Duality.{no_plan_below_bound}
 
 -- ---- no fault, in parts
 
-pub none_of_both : {A : Type 0} (a b : Option A) → option_or a b ≡ None → (a ≡ None) × (b ≡ None)
-none_of_both None b e = (refl, e)
-none_of_both (Some x) b e = absurd (cc)
-
-pub unmapped : {A B : Type 0} (f : A → B) (a : Option A) → option_map f a ≡ None → a ≡ None
-unmapped f None e = refl
-unmapped f (Some x) e = absurd (cc)
-
-pub passed : {A : Type 0} (b : Bool) (fault : A) → when (not b) fault ≡ None → b ≡ true
-passed true fault e = refl
-passed false fault e = absurd (cc)
-
 no_when : {A : Type 0} (b : Bool) (fault : A) → b ≡ true → when (not b) fault ≡ None
 no_when b fault e = rw e refl
-
-pub none_below :
-    {A : Type 0} (n : ℕ) (f : ℕ → Option A) → first_below n f ≡ None → (k : ℕ) → k < n → f k ≡ None
-unfolding first_below
-none_below zero f none k lt = absurd (omega arith)
-none_below (suc n) f none k lt =
-    let parts : (first_below n f ≡ None) × (f n ≡ None) = none_of_both (first_below n f) (f n) none in
-    elim (cases_lt k n) [
-      | inl below ↦ none_below n f parts.0 k below
-      | inr last ↦ let same : n ≡ k = omega arith in ap f (sym same) ∙ parts.1
-    ]
 
 -- ---- two lists, place by place
 
@@ -89,15 +66,6 @@ within (a ∷ xs) (suc k) x e = omega (arith, within xs k x e)
 
 -- ---- a row and its set
 
-no_weight : (a b : Bool) → (a && not b) ≡ false → a ≡ true → b ≡ true
-no_weight true true e has = refl
-no_weight true false e has = absurd (true≢false e)
-no_weight false b e has = absurd (false≢true has)
-
-has_weight : (a b : Bool) → (a ≡ true → b ≡ true) → (a && not b) ≡ false
-has_weight true b f = ap not (f refl)
-has_weight false b f = refl
-
 pub row_fault-says : (k : ℕ) (row : RowView) (s : Ids) → InRange s → row_fault k row s ≡ None → Meets row s
 unfolding row_fault
 row_fault-says k row s in_range none =
@@ -106,13 +74,13 @@ row_fault-says k row s in_range none =
     record {
       in_range = in_range;
       size = eqb-true _ _ (passed (nat_eq (set.len s) row.demand) (WrongCount k) first.0);
-      allowed = λ c member. no_weight (set.contains s c) (is_some (weight row c)) (least-none_says (is_not_allowed row s) (unmapped (NotAllowed k) _ second.0) c (in_range c member)) member;
+      allowed = λ c member. without (set.contains s c) (is_some (weight row c)) (least-none_says (is_not_allowed row s) (unmapped (NotAllowed k) _ second.0) c (in_range c member)) member;
     }
 
 row_fault-none : (k : ℕ) (row : RowView) (s : Ids) → Meets row s → row_fault k row s ≡ None
 unfolding row_fault
 row_fault-none k row s meets =
-    rw (eq-eqb (set.len s) row.demand meets.size, least-none (is_not_allowed row s) (λ c is_cpu. has_weight (set.contains s c) (is_some (weight row c)) (meets.allowed c)))
+    rw (eq-eqb (set.len s) row.demand meets.size, least-none (is_not_allowed row s) (λ c is_cpu. none_left (set.contains s c) (is_some (weight row c)) (meets.allowed c)))
     refl
 
 pub rows_fault-says : (rows : List RowView) (sets : List Ids) → length sets ≡ length rows → All InRange sets → rows_fault rows sets ≡ None → AllZip Meets rows sets
@@ -152,7 +120,7 @@ apart_fault-none : (sets : List Ids) → AllPairs IsDisjoint sets → apart_faul
 unfolding apart_fault
 apart_fault-none sets apart =
     first_below-none (length sets) (twice_fault sets)
-    (λ k lt. ap (option_map HeldTwice) (least-none _ (λ c is_cpu. not_both _ _ (λ here held. meets_none k lt c here held))))
+    (λ k lt. ap (option_map HeldTwice) (least-none _ (λ c is_cpu. never_both _ _ (λ here held. meets_none k lt c here held))))
   where
     meets_none : (k : ℕ) → k < length sets → (c : ℕ) → set.contains (get_or sets k set.empty) c ≡ true → is_held (take k sets) c ≡ true → ⊥
     meets_none k lt c here held =

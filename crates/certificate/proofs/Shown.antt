@@ -3,6 +3,7 @@ use Rattle.std.proofs.Common.{◌≡◌, ℕ, not, Some, None, Result, Ok, Err, 
 use Rattle.std.specs.Result.{result_err}
 use Rattle.std.proofs.lemmas.Bool.{ltb-true, ltb-false, lt-ltb}
 use Rattle.faults.specs.First.{when}
+use Rattle.faults.specs.Tests.{none_of_both, passed}
 use Rattle.certificate.specs.RowView.{RowView}
 use Rattle.certificate.specs.IsShortage.{chosen, asked, offered, HasNoPlan}
 use Rattle.certificate.specs.IsShown.{IsShown}
@@ -12,7 +13,6 @@ use Rattle.certificate.specs.IsCause.{IsShortageCause}
 use Rattle.certificate.specs.declared.check_faults.CheckFault.{CheckFault}
 use Rattle.certificate.specs.declared.check_faults.CheckFault.TheVariants.{BadProblem, NoShortage}
 use Rattle.certificate.proofs.LimitFacts.{number_facts, numbered}
-use Rattle.certificate.proofs.Exact.{none_of_both, passed}
 use Rattle.certificate.proofs.Causes.{first_or_rest, only, failed}
 use Rattle.certificate.proofs.Hall.{shortage_leaves_no_plan}
 

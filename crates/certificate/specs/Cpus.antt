@@ -1,19 +1,14 @@
 -- Sums over all CPUs, and over the members of a set.
 use Rattle.std.proofs.Common.{◌≡◌, ℕ, ◌*◌, ◌≤◌, cond, length, refl, sym, ap, ◌∙◌, sum_by, arith}
-use Rattle.std.specs.List.{range_with_len}
 use Rattle.std.specs.FinSet as set
 use Rattle.std.proofs.lemmas.List.Sums.{length-filter}
 use Rattle.std.proofs.lemmas.List.FromFn.{length-range_with_len}
+use Rattle.cpu_set.specs.LeastLaws.{cpus_from}
 use Rattle.cpu_set.specs.Ids.{Ids}
 use Rattle.cpu_set.specs.Members.{IsCpu, InRange, cpus}
 use Rattle.cpu_set.specs.SetLaws.{length-members}
 use Rattle.cpu_set.specs.declared.TheConstants.{CPU_LIMIT}
 use Rattle.certificate.specs.Sums.{sum_by_times, sum_by-range-le}
-
--- all CPUs, as a range of any length that is theirs
-pub cpus_from : (n : ℕ) → n ≡ CPU_LIMIT → cpus ≡ range_with_len 0 n
-unfolding cpus
-cpus_from n e = ap (λ k. range_with_len 0 k) (sym e)
 
 ordered : (f g : ℕ → ℕ) (n : ℕ) → n ≡ CPU_LIMIT → ((x : ℕ) → IsCpu x → f x ≤ g x) → sum_by f cpus ≤ sum_by g cpus
 ordered f g n e below = rw (cpus_from n e) (sum_by-range-le f g 0 n (λ x lt. below x (omega arith)))

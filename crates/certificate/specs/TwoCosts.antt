@@ -1,5 +1,5 @@
 -- What scaled weights mean.
-use Rattle.std.proofs.Common.{◌≡◌, ℕ, ◌+◌, ◌*◌, ◌≤◌, Bool, true, false, cond, Option, Some, None, option_map, unwrap_or, IsSome, List, [], ◌∷◌, map, zip, sum_by, refl, sym, ap, ◌∙◌, arith}
+use Rattle.std.proofs.Common.{◌≡◌, ℕ, ◌+◌, ◌*◌, ◌≤◌, Bool, true, false, cond, Option, Some, None, option_map, unwrap_or, IsSome, List, [], ◌∷◌, map, zip, sum_by, sym, ap, ◌∙◌, arith}
 use Rattle.std.specs.Prelude.{find}
 use Rattle.std.specs.List.{AllZip, list_all}
 use Rattle.std.specs.FinSet as set
@@ -15,10 +15,10 @@ use Rattle.certificate.specs.IsPlan.{Meets, IsPlan}
 use Rattle.certificate.specs.PlanFault.{is_held}
 use Rattle.certificate.specs.declared.rows.Offer.{Offer}
 use Rattle.certificate.specs.declared.limits.TheConstants.{MOVE_SCALE}
-use Rattle.certificate.specs.Packed.{packed, distance_of, moves_of, packed-parts, no_farther}
+use Rattle.certificate.specs.Packed.{distance_of, moves_of, packed-parts, no_farther}
 use Rattle.certificate.specs.Scaled.{with_weight, with_weights, by_distance, by_moves, is_scaled, are_scaled, CostSplits, SamePlans, MovesAreFew, LeastIsNearest}
 use Rattle.certificate.specs.ScaledLaws.{weight_with}
-use Rattle.certificate.specs.Tests.{and_left, and_right}
+use Rattle.certificate.specs.Tests.{and_left, and_right, one_at_most}
 use Rattle.certificate.specs.Sums.{sum_by_same, sum_by_plus, sum_by_times, sum_by-constant}
 use Rattle.certificate.specs.Cpus.{sum_by-cpus-le, length-cpus}
 use Rattle.certificate.specs.Apart.{sums_of_sets}
@@ -123,15 +123,11 @@ moves_are_held (row ∷ rows) (s ∷ sets) scaled =
       moves_are_held rows sets (and_right _ _ scaled),
     )
 
-one_or_none : (b : Bool) → cond b 1 0 ≤ 1
-one_or_none true = omega arith
-one_or_none false = omega arith
-
 held_are_few : (sets : List Ids) → sum_by (λ c. cond (is_held sets c) 1 0) cpus ≤ CPU_LIMIT
 held_are_few sets =
     omega (
       arith,
-      sum_by-cpus-le (λ c. cond (is_held sets c) 1 0) (λ _. 1) (λ c is_cpu. one_or_none (is_held sets c)),
+      sum_by-cpus-le (λ c. cond (is_held sets c) 1 0) (λ _. 1) (λ c is_cpu. one_at_most (is_held sets c)),
       sum_by-constant {X = ℕ} 1 cpus,
       length-cpus,
     )

@@ -1,10 +1,9 @@
 -- A certificate's lines, taken one after another, make the certificate.
-use Rattle.std.proofs.Common.{◌≡◌, ℕ, zero, suc, ◌+◌, ◌<◌, ◌≤◌, Bool, true, false, not, ◌&&◌, ◌++◌, List, [], ◌∷◌, map, length, drop, get_or, Option, Some, None, cond, refl, sym, ap, ◌∙◌, subst, arith, length-append}
-use Rattle.std.proofs.lemmas.Bool.{and_from, cond-true, cond-false, false_from_ne_true, not_from_false}
+use Rattle.std.proofs.Common.{◌≡◌, ℕ, zero, suc, ◌+◌, ◌<◌, ◌≤◌, true, false, not, ◌&&◌, ◌++◌, List, [], ◌∷◌, map, length, drop, get_or, Option, Some, None, refl, sym, ap, ◌∙◌, subst, arith, length-append}
+use Rattle.std.proofs.lemmas.Bool.{and_from, cond-true, cond-false, false_from_ne_true, not_from_false, eq-eqb}
 use Rattle.std.specs.Prelude.{◌==◌, slice_get, option_and_then}
 use Rattle.std.specs.List.{All, AllPairs}
 use Rattle.std.specs.Str.{bytes_eq}
-use Rattle.std.proofs.lemmas.Bool.Decides.{nat_tests}
 use Rattle.std.proofs.lemmas.Slice.Eq.{bytes_eq-Decides}
 use Rattle.std.proofs.lemmas.List.{append-nil, append_assoc}
 use Rattle.std.proofs.lemmas.List.Kept.{AllPairs-from_increasing}
@@ -27,9 +26,6 @@ use Rattle.certificate_text.proofs.RowIds.{IsNew, Differ, has_id_from_new, new_a
 -- the draft in its body
 abbrev pub body : Weights → List RowView → List Ids → List ℕ → List Price → DraftView
 body weights rows sets values prices = record { stage = Body; rows = rows; sets = sets; values = values; prices = prices; members = []; from = 0; total = 0; weights = weights }
-
-same_length : (m n : ℕ) → m ≡ n → (m == n) ≡ true
-same_length m n h = grind (arith, nat_tests)
 
 -- one step, where the next draft is known
 run_step : (d e : DraftView) (l : LineView) (ls : List LineView) → next d l ≡ Some e → run d (l ∷ ls) ≡ run e ls
@@ -88,7 +84,7 @@ run_holds weights rows done (row ∷ more) sets (s ∷ sets') values [] ls e a b
 take_price : (weights : Weights) (rows : List RowView) (sets : List Ids) (values : List ℕ) (prices : List Price) (p : Price) → length sets ≡ length rows
     → next (body weights rows sets values prices) (PriceLine p) ≡ Some (body weights rows sets values (prices ++ p ∷ []))
 take_price weights rows sets values prices p h =
-    cond-true (length sets == length rows) (Some (body weights rows sets values (prices ++ p ∷ []))) None (same_length (length sets) (length rows) h)
+    cond-true (length sets == length rows) (Some (body weights rows sets values (prices ++ p ∷ []))) None (eq-eqb (length sets) (length rows) h)
 
 run_prices : (weights : Weights) (rows : List RowView) (sets : List Ids) (values : List ℕ) (prices more : List Price) (ls : List LineView) → length sets ≡ length rows
     → run (body weights rows sets values prices) (map PriceLine more ++ ls) ≡ run (body weights rows sets values (prices ++ more)) ls
@@ -106,7 +102,7 @@ pub take_total : (d : DraftView) (total : ℕ) → d.stage ≡ Body → length d
     → next d (TotalLine d.weights total) ≡ Some (record d { stage = Totalled; total = total })
 take_total d total b h =
     let e : DraftView = record d { stage = Totalled; total = total } in
-    let tests = and_from (is_held d) (are_same d.weights d.weights) (same_length (length d.sets) (length d.rows) h) (same_self d.weights) in
+    let tests = and_from (is_held d) (are_same d.weights d.weights) (eq-eqb (length d.sets) (length d.rows) h) (same_self d.weights) in
     let taken : next_in_body d (TotalLine d.weights total) ≡ Some e = cond-true (is_held d && are_same d.weights d.weights) (Some e) None tests in
     subst (λ (stage : Stage). next_at stage d (TotalLine d.weights total) ≡ Some e) (sym b) taken
 

@@ -4,16 +4,12 @@ use Rattle.std.proofs.lemmas.Bool.{cond-true, cond-false}
 use Rattle.std.specs.Prelude.{slice_get, is_some, IsSome}
 use Rattle.std.specs.Str.{bytes_eq}
 use Rattle.std.proofs.lemmas.Option.{none-some, same_Some}
+use Rattle.faults.specs.Tests.{left_over}
 use Rattle.certificate.specs.RowView.{RowView}
 use Rattle.certificate_text.specs.declared.stage.Stage.{Stage}
 use Rattle.certificate_text.specs.declared.stage.Stage.TheVariants.{Start, Body, Totalled, Planned, Named, Shown}
-use Rattle.certificate_text.specs.Line.{RowLine, TotalLine, ShortLine}
-use Rattle.certificate_text.specs.DraftView.{DraftView, has_id, has_no_plan, is_held, number_in, number_of, takes_members, takes_members_at, takes_row, takes_row_at, with_member, next_in_body, next_at, next}
-
-both : (a b : Bool) → a ≡ true → b ≡ false → (a && not b) ≡ true
-both true false p q = refl
-both true true p q = absurd (grind arith)
-both false b p q = absurd (grind arith)
+use Rattle.certificate_text.specs.Line.{RowLine, ShortLine}
+use Rattle.certificate_text.specs.DraftView.{DraftView, has_id, has_no_plan, number_in, number_of, takes_members, takes_members_at, takes_row, takes_row_at, with_member, next_in_body, next_at, next}
 
 old : (a b : Bool) → b ≡ true → (a && not b) ≡ false
 old true true h = refl
@@ -29,7 +25,7 @@ pub row_more : (d : DraftView) (row : RowView) → d.stage ≡ Body → has_no_p
     → next d (RowLine row) ≡ Some (record d { rows = d.rows ++ row ∷ [] })
 row_more d row b n h =
     let e : DraftView = record d { rows = d.rows ++ row ∷ [] } in
-    let some : next_in_body d (RowLine row) ≡ Some e = cond-true (has_no_plan d && not (has_id row.id d.rows)) (Some e) None (both (has_no_plan d) (has_id row.id d.rows) n h) in
+    let some : next_in_body d (RowLine row) ≡ Some e = cond-true (has_no_plan d && not (has_id row.id d.rows)) (Some e) None (left_over (has_no_plan d) (has_id row.id d.rows) n h) in
     subst (λ (s : Stage). next_at s d (RowLine row) ≡ Some e) (sym b) some
 
 pub is_some_of : {A : Type 0} (o : Option A) (x : A) → o ≡ Some x → IsSome o

@@ -12,6 +12,7 @@ use Rattle.std.proofs.lemmas.Str.Ascii.{IsAscii-from_all}
 use Rattle.std.proofs.lemmas.List.Folds.{list_any-append, list_all_at}
 use Rattle.std.proofs.lemmas.Slice.Eq.{bytes_eq-Decides}
 use Rattle.std.proofs.lemmas.Map.Text.{is_eq-slice_cmp}
+use Rattle.faults.specs.Tests.{or_no}
 use Rattle.certificate_text.specs.IdWord.{is_id_letter, IsId}
 use Rattle.certificate.specs.RowView.{RowView}
 use Rattle.certificate_text.specs.DraftRead.{keeps_id}
@@ -41,13 +42,9 @@ cond-true true false = refl
 cond-true false true = refl
 cond-true false false = refl
 
-or_false : (b : Bool) → (b || false) ≡ b
-or_false true = refl
-or_false false = refl
-
 pub has_id_more : (id : List ℕ) (rows : List RowView) (row : RowView) → has_id id (rows ++ row ∷ []) ≡ (has_id id rows || bytes_eq id row.id)
 has_id_more id rows row =
-    list_any-append (λ r. bytes_eq id r.id) rows (row ∷ []) ∙ ap (λ b. list_any (λ r. bytes_eq id r.id) rows || b) (or_false (bytes_eq id row.id))
+    list_any-append (λ r. bytes_eq id r.id) rows (row ∷ []) ∙ ap (λ b. list_any (λ r. bytes_eq id r.id) rows || b) (or_no (bytes_eq id row.id))
 
 -- a key more in the set, and its row more in the list
 pub ids_more : (rows : List RowView) (row : RowView) (key : Bor (List ℕ)) (s n : BTreeSet (Bor (List ℕ)))

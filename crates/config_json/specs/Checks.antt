@@ -1,8 +1,8 @@
 -- The two checks that a member may fail: it is required and absent, or it is of another kind than its reader takes.
-use Rattle.std.specs.Prelude.{ℕ, ℤ, Option, Some, None, is_some, not, option_and_then}
+use Rattle.std.specs.Prelude.{ℤ, Option, Some, None, is_some, not, option_and_then}
 use Rattle.faults.specs.First.{when}
 use Rattle.serde_json.specs.Data.{Data}
-use Rattle.serde_json.specs.Find.{as_number, as_i64, as_u64}
+use Rattle.serde_json.specs.Find.{as_number, as_i64}
 use Rattle.config_json.specs.declared.fault.ConfigFault.{ConfigFault}
 use Rattle.config_json.specs.declared.fault.ConfigFault.TheVariants.{Missing, BadField}
 use Rattle.config_json.specs.declared.field.Field.{Field}
@@ -10,10 +10,6 @@ use Rattle.config_json.specs.declared.field.Field.{Field}
 -- the number as a signed one of 64 bits, where it is written as a whole number that fits
 abbrev pub signed_of : Data → Option ℤ
 signed_of d = option_and_then as_i64 (as_number d)
-
--- likewise as an unsigned one
-abbrev pub unsigned_of : Data → Option ℕ
-unsigned_of d = option_and_then as_u64 (as_number d)
 
 -- a required member is absent
 abbrev pub missing_fault : Field → Option Data → Option ConfigFault

@@ -4,7 +4,8 @@ use Rattle.std.specs.Prelude.{ℕ, ℤ, List, Option, option_and_then, codes}
 use Rattle.serde_json.specs.Data.{Data}
 use Rattle.serde_json.specs.Find.{as_str}
 use Rattle.config_json.specs.Members.{cpu_member}
-use Rattle.config_json.specs.Checks.{signed_of, unsigned_of}
+use Rattle.json_text.specs.Numbers.{unsigned_of}
+use Rattle.config_json.specs.Checks.{signed_of}
 
 -- `linux.resources.cpu`: the quota and its period in microseconds, and the lists of CPUs and memory nodes as text
 pub record Section : Type 0 where

@@ -9,7 +9,8 @@ use Rattle.config_json.specs.declared.fault.ConfigFault.{ConfigFault}
 use Rattle.config_json.specs.declared.fault.ConfigFault.TheVariants.{NotObject}
 use Rattle.config_json.specs.declared.field.Field.TheVariants.{OciVersion, Root, RootPath, Linux, Resources, Cpu, Quota, Period, Cpus, Mems}
 use Rattle.config_json.specs.Members.{version_of, root_of, root_path_of, linux_of, resources_of, cpu_of, cpu_member}
-use Rattle.config_json.specs.Checks.{signed_of, unsigned_of, missing_fault, kind_fault}
+use Rattle.json_text.specs.Numbers.{unsigned_of}
+use Rattle.config_json.specs.Checks.{signed_of, missing_fault, kind_fault}
 use Rattle.semver.specs.Parse.{version_parts}
 use Rattle.config_json.specs.VersionFault.{version_fault_of, is_plain}
 

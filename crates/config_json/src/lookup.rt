@@ -4,7 +4,8 @@ ghost use Rattle.std.specs.Result.{result_err};
 ghost use Rattle.serde_json.specs.Find.{as_object, as_str};
 ghost use Rattle.serde_json.specs.View.{view};
 ghost use Rattle.json_text.specs.Members.{seen};
-ghost use Rattle.config_json.specs.Checks.{signed_of, unsigned_of, missing_fault, other_kind, kind_fault};
+ghost use Rattle.json_text.specs.Numbers.{unsigned_of};
+ghost use Rattle.config_json.specs.Checks.{signed_of, missing_fault, other_kind, kind_fault};
 
 use crate::fault::ConfigFault;
 use crate::field::Field;

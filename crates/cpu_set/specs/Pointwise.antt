@@ -1,6 +1,6 @@
 -- What each operation on sets of numbers means, number by number.
 use Rattle.std.specs.Prelude.{◌≡◌, ℕ, Bool, true, false, not, ◌&&◌, ◌||◌, ◌==◌, refl}
-use Rattle.std.proofs.lemmas.Bool.{false≢true}
+use Rattle.std.proofs.lemmas.Bool.{and_from, and_parts}
 use Rattle.std.proofs.Common.{sym, ap, ◌∙◌}
 use Rattle.std.specs.Bool.{Decides}
 use Rattle.std.specs.Ordering.{nat_cmp}
@@ -38,14 +38,6 @@ is_subset-contains = set.is_subset-contains nat_cmp_total
 pub contains-is_subset : (s t : Ids) → ((q : ℕ) → set.contains s q ≡ true → set.contains t q ≡ true) → set.is_subset s t ≡ true
 contains-is_subset = set.contains-is_subset nat_cmp_total
 
-and_parts : (a b : Bool) → (a && b) ≡ true → (a ≡ true) × (b ≡ true)
-and_parts true true e = (refl, refl)
-and_parts true false e = (refl, e)
-and_parts false b e = (e, absurd (false≢true e))
-
-both : (a b : Bool) → a ≡ true → b ≡ true → (a && b) ≡ true
-both a b e f = rw e f
-
 one_way : (s t : Ids) (q : ℕ) (a b : Bool) → set.contains s q ≡ a → set.contains t q ≡ b → (a ≡ true → b ≡ true) → (b ≡ true → a ≡ true) → a ≡ b
 one_way s t q true b p r f g = sym (f refl)
 one_way s t q false true p r f g = g refl
@@ -61,4 +53,4 @@ within_itself : (s t : Ids) → s ≡ t → set.is_subset s t ≡ true
 within_itself s t e = contains-is_subset s t (λ q member. rw (← e) member)
 
 pub is_same_decides : (s t : Ids) → Decides (is_same s t) (s ≡ t)
-is_same_decides s t = (same_subsets s t, λ e. both _ _ (within_itself s t e) (within_itself t s (sym e)))
+is_same_decides s t = (same_subsets s t, λ e. and_from _ _ (within_itself s t e) (within_itself t s (sym e)))

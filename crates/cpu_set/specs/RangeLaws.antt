@@ -4,8 +4,9 @@ use Rattle.std.specs.List.{range_with_len}
 use Rattle.std.proofs.lemmas.Bool.{cases_Bool, cases_eq, eqb-true, cond-true, cond-false, cond_both, eq-eqb, ne_eqb, eqb-false}
 use Rattle.std.proofs.lemmas.Bool.Decides.{nat_tests}
 use Rattle.std.specs.FinSet as set
+use Rattle.cpu_set.specs.LeastLaws.{cpus_from}
 use Rattle.cpu_set.specs.Ids.{Ids}
-use Rattle.cpu_set.specs.Members.{cpus, members}
+use Rattle.cpu_set.specs.Members.{members}
 use Rattle.cpu_set.specs.Ranges.{ranges_of, with_number, AreRuns, in_ranges}
 use Rattle.cpu_set.specs.RangesFrom.{ranges_from}
 use Rattle.cpu_set.specs.declared.TheConstants.{CPU_LIMIT}
@@ -129,14 +130,10 @@ in_ranges-among p n (suc count) q =
     (λ e. ap (λ rs. in_ranges rs q) (step_out p n count e) ∙ later ∙ one_out n count q (p q) (λ same. ap p same ∙ e))
     (cases_Bool (p n))
 
--- the ranges of a set from a number on
-cpus_are : (n : ℕ) → n ≡ CPU_LIMIT → cpus ≡ range_with_len 0 n
-unfolding cpus
-cpus_are n e = ap (range_with_len 0) (sym e)
-
 pub ranges_from-is : (s : Ids) (n count : ℕ) → count + n ≡ CPU_LIMIT → ranges_from s n ≡ ranges_among (set.contains s) n count
 unfolding ranges_from
 ranges_from-is s n count e = let left : CPU_LIMIT - n ≡ count = omega arith in ap (ranges_among (set.contains s) n) left
 
+-- the ranges of a set from a number on
 pub members_ranges : (s : Ids) (n : ℕ) → n ≡ CPU_LIMIT → ranges_of (members s) ≡ ranges_from s 0
-members_ranges s n e = ap (λ ns. ranges_of (filter (set.contains s) ns)) (cpus_are n e) ∙ sym (ranges_from-is s 0 n (omega arith))
+members_ranges s n e = ap (λ ns. ranges_of (filter (set.contains s) ns)) (cpus_from n e) ∙ sym (ranges_from-is s 0 n (omega arith))

@@ -3,6 +3,7 @@ use Rattle.std.proofs.Common.{◌≡◌, ℕ, ◌<◌, ◌≤◌, List, [], ◌�
 use Rattle.std.proofs.lemmas.Bool.{cases_eq}
 use Rattle.std.proofs.lemmas.Option.{same_Some}
 use Rattle.std.specs.Prelude.{◌≢◌, Option, Some}
+use Rattle.faults.specs.Tests.{mapped}
 use Rattle.slab.specs.Slab.{Slab, get}
 use Rattle.cpu_set.specs.Ids.{Ids}
 use Rattle.cpuset_tree.specs.declared.groups.Group.{Group}
@@ -10,7 +11,7 @@ use Rattle.cpuset_tree.specs.declared.groups.Cgroup.{Cgroup}
 use Rattle.cpuset_tree.specs.declared.groups.Resource.{Resource}
 use Rattle.cpuset_tree.specs.declared.groups.Resource.TheVariants.{Cpus, Mems}
 use Rattle.cpuset_tree.specs.Kept.{listed, IsInOrder, KeepsEffective, AllKept, AreParentsUpTo, effective_kept, stands, with_effective, passed, IsGranted, ElsewhereGranted, ChangesAt, bare, OnlyKeptDiffers}
-use Rattle.cpuset_tree.proofs.PlaceLemmas.{SamePlaces, SamePlaces-from_kept, mapped_from, same_from_change, IsInOrder-same}
+use Rattle.cpuset_tree.proofs.PlaceLemmas.{SamePlaces, SamePlaces-from_kept, same_from_change, IsInOrder-same}
 use Rattle.cpuset_tree.proofs.ParentLemmas.{was_there, AreParentsUpTo-same}
 use Rattle.cpuset_tree.proofs.RefreshLemmas.{at_parent, kept_among, stands-effective, stands_alike, own_change, passed_changed, passed_bare}
 
@@ -48,7 +49,7 @@ module _ (r : Resource) (mid new : Slab Cgroup) (top : Ids) (g : Group) (change 
     granted key m at other =
         ⊎_elim
         (λ e.
-        let was = mapped_from (passed r mid top g.serial) (get mid g.key) m (sym change.changed ∙ ap (get new) (sym e) ∙ at) in
+        let was = mapped (passed r mid top g.serial) (get mid g.key) m (sym change.changed ∙ ap (get new) (sym e) ∙ at) in
         let is : with_effective r (stands r mid top was.0) was.0 ≡ m = sym (passed_changed r mid top g.serial was.0 (own_change g was.0 (here was.0 was.1))) ∙ was.2 in
         let parent : m.parent ≡ was.0.parent = ap (λ (x : Cgroup). x.parent) (sym is) ∙ given_parent r (stands r mid top was.0) was.0 in
         subst (λ (x : Cgroup). IsGranted r new top x) is (given_granted r mid new top was.0 (λ p of. other_kept p (other p (parent ∙ of)))))

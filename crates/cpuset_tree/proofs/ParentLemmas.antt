@@ -3,15 +3,16 @@ use Rattle.std.proofs.Common.{◌≡◌, ℕ, ◌≤◌, sym, ap, ◌∙◌, sub
 use Rattle.std.proofs.lemmas.Bool.{cases_eq}
 use Rattle.std.proofs.lemmas.Option.{same_Some, none-some}
 use Rattle.std.specs.Prelude.{Option, Some, None, option_map}
+use Rattle.faults.specs.Tests.{mapped}
 use Rattle.slab.specs.Slab.{Slab, get, Updates}
 use Rattle.cpuset_tree.specs.declared.groups.Group.{Group}
 use Rattle.cpuset_tree.specs.declared.groups.Cgroup.{Cgroup}
 use Rattle.cpuset_tree.specs.Kept.{AreParentsUpTo}
-use Rattle.cpuset_tree.proofs.PlaceLemmas.{place, SamePlaces, mapped_from}
+use Rattle.cpuset_tree.proofs.PlaceLemmas.{place, SamePlaces}
 
 -- where groups and parents stay, a group that is there was there
 pub was_there : (old new : Slab Cgroup) → SamePlaces old new → (key : ℕ) (n : Cgroup) → get new key ≡ Some n → (m : Cgroup) × (get old key ≡ Some m) × (place m ≡ place n)
-was_there old new same key n at = mapped_from place (get old key) (place n) (sym (same key) ∙ ap (option_map place) at)
+was_there old new same key n at = mapped place (get old key) (place n) (sym (same key) ∙ ap (option_map place) at)
 
 pub AreParentsUpTo-same : (old new : Slab Cgroup) (newest : ℕ) → SamePlaces old new → AreParentsUpTo old newest → AreParentsUpTo new newest
 AreParentsUpTo-same old new newest same bound key n p at of =

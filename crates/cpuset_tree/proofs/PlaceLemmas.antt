@@ -1,10 +1,10 @@
 -- A change that leaves each group and its parent where they are keeps the order.
 use Rattle.std.proofs.Common.{◌≡◌, ℕ, ◌<◌, true, false, List, [], ◌∷◌, refl, sym, ap, ◌∙◌, subst, map}
 use Rattle.std.proofs.lemmas.Bool.{cases_eq}
-use Rattle.std.proofs.lemmas.Option.{same_Some, none-some}
 use Rattle.std.specs.Prelude.{Option, Some, None, is_some, is_none, option_map, find, ◌==◌}
 use Rattle.std.proofs.Common.{⊎_elim}
 use Rattle.std.specs.List.{list_any}
+use Rattle.faults.specs.Tests.{mapped}
 use Rattle.slab.specs.Slab.{Slab, get}
 use Rattle.cpuset_tree.specs.declared.groups.Group.{Group}
 use Rattle.cpuset_tree.specs.declared.groups.Cgroup.{Cgroup}
@@ -23,10 +23,6 @@ entry_place e = (e.group, e.parent)
 
 abbrev pub SamePlaces : Slab Cgroup → Slab Cgroup → Type 0
 SamePlaces old new = (key : ℕ) → option_map place (get new key) ≡ option_map place (get old key)
-
-pub mapped_from : {A B : Type 0} (f : A → B) (o : Option A) (y : B) → option_map f o ≡ Some y → (x : A) × (o ≡ Some x) × (f x ≡ y)
-mapped_from f None y e = absurd (none-some y e)
-mapped_from f (Some x) y e = (x, refl, same_Some (f x) y e)
 
 is_some-option_map : {A B : Type 0} (f : A → B) (o : Option A) → is_some (option_map f o) ≡ is_some o
 is_some-option_map f None = refl
@@ -109,7 +105,7 @@ module _ (old new : Slab Cgroup) (same : SamePlaces old new) where
   pub IsInOrder-same : (next : ℕ) (keys : List ℕ) → IsInOrder old next keys → IsInOrder new next keys
   IsInOrder-same next [] _ = tt
   IsInOrder-same next (k ∷ older) (m, at, knows, below, parent, rest) =
-      let moved : (n : Cgroup) × (get new k ≡ Some n) × (place n ≡ place m) = mapped_from place (get new k) (place m) (same k ∙ ap (option_map place) at) in
+      let moved : (n : Cgroup) × (get new k ≡ Some n) × (place n ≡ place m) = mapped place (get new k) (place m) (same k ∙ ap (option_map place) at) in
       let group : moved.0.group ≡ m.group = ap (λ q. q.0) moved.2 in
       let up : moved.0.parent ≡ m.parent = ap (λ q. q.1) moved.2 in (
         moved.0,

@@ -2,6 +2,7 @@
 use Rattle.std.proofs.Common.{◌≡◌, ℕ, List, [], ◌∷◌, if◌then◌else◌, refl, sym, ap, ◌∙◌, subst}
 use Rattle.std.proofs.lemmas.Option.{same_Some, none-some}
 use Rattle.std.specs.Prelude.{Option, Some, None, option_map}
+use Rattle.faults.specs.Tests.{mapped}
 use Rattle.slab.specs.Slab.{Slab, get}
 use Rattle.cpu_set.specs.Ids.{Ids}
 use Rattle.cpuset_tree.specs.declared.groups.Group.{Group}
@@ -13,7 +14,6 @@ use Rattle.cpuset_tree.specs.TreeState.{GroupEntry}
 use Rattle.cpuset_tree.specs.Groups.{same_group}
 use Rattle.cpuset_tree.specs.Effective.{standing, effective}
 use Rattle.cpuset_tree.specs.Kept.{entry_of_kept, before, listed, share_of, requested_of, AllKept}
-use Rattle.cpuset_tree.proofs.PlaceLemmas.{mapped_from}
 
 -- a group, its parent, and its share of a resource
 abbrev pub Held : Type 0
@@ -61,7 +61,7 @@ module _ (r : Resource) (old new : Slab Cgroup) (same : SameHeld r old new) (top
   AllKept-same [] kept = tt
   AllKept-same (k ∷ older) kept = (
     (λ n at.
-        let was : (m : Cgroup) × (get old k ≡ Some m) × (held r m ≡ held r n) = mapped_from (held r) (get old k) (held r n) (sym (same k) ∙ ap (option_map (held r)) at) in
+        let was : (m : Cgroup) × (get old k ≡ Some m) × (held r m ≡ held r n) = mapped (held r) (get old k) (held r n) (sym (same k) ∙ ap (option_map (held r)) at) in
         subst (λ (h : Held). keeps h (effective (requested_of r) top (listed new older))) was.2
         (subst (λ (f : Group → Ids). keeps (held r was.0) f) (sym (effective-same older)) (kept.0 was.0 was.1))),
     AllKept-same older kept.1,

@@ -1,7 +1,6 @@
 -- The free CPUs and the allowed ones, number by number.
-use Rattle.std.proofs.Common.{◌≡◌, ℕ, ◌*◌, ◌<◌, Bool, true, false, not, ◌&&◌, ◌||◌, nat_lt, refl, sym, ap, ◌∙◌, arith}
-use Rattle.std.proofs.lemmas.Bool.{false≢true, and_parts, not-true}
-use Rattle.std.proofs.lemmas.Bool.Decides.{nat_tests}
+use Rattle.std.proofs.Common.{◌≡◌, ℕ, ◌*◌, ◌<◌, Bool, true, false, not, ◌&&◌, ◌||◌, nat_lt, refl, sym, ap, ◌∙◌}
+use Rattle.std.proofs.lemmas.Bool.{false≢true, and_parts, not-true, ltb-true, lt-ltb}
 use Rattle.std.specs.FinSet as set
 use Rattle.cpu_set.specs.Ids.{Ids, is_empty}
 use Rattle.cpu_set.specs.Members.{InRange}
@@ -56,18 +55,12 @@ free_is_present m cpus c free = (and_parts _ _ (and_parts _ _ free).0).0
 pub free_is_unreserved : (m : Layout) (cpus : Ids) (c : ℕ) → is_free m cpus c ≡ true → set.contains m.reserved c ≡ false
 free_is_unreserved m cpus c free = not-true _ (and_parts _ _ free).1
 
-lower : (a b : ℕ) → nat_lt a b ≡ true → a < b
-lower a b is = grind (arith, nat_tests)
-
 free_in_reach : (free known near below : Bool) → (free ≡ true → known ≡ true) → (free ≡ true → below ≡ true) → (free && (known && near)) ≡ (below && (free && near))
 free_in_reach true true near true present in_range = refl
 free_in_reach true true near false present in_range = absurd (false≢true (in_range refl))
 free_in_reach true false near below present in_range = absurd (false≢true (present refl))
 free_in_reach false known near true present in_range = refl
 free_in_reach false known near false present in_range = refl
-
-below_limit : (c limit : ℕ) → c < limit → nat_lt c limit ≡ true
-below_limit c limit lt = grind (arith, nat_tests)
 
 -- the free CPUs that are in reach, and whole cores of them, are the allowed ones
 pub allowed_meet :
@@ -81,7 +74,7 @@ allowed_meet m cpus homes free reach are_free in_range are_reached =
     ∙ ap (λ b. b && set.contains reach c) (are_free c)
     ∙ ap (λ b. is_free m cpus c && b) (are_reached c)
     ∙ free_in_reach (is_free m cpus c) (set.contains (present m) c) (nat_lt (weight m homes c) 255) (nat_lt c CPU_LIMIT)
-    (free_is_present m cpus c) (λ is. below_limit c CPU_LIMIT (in_range c (are_free c ∙ is)))
+    (free_is_present m cpus c) (λ is. lt-ltb c CPU_LIMIT (in_range c (are_free c ∙ is)))
     ∙ sym (contains-those (is_allowed m cpus homes) CPU_LIMIT c)))
 
 -- what holds of an allowed CPU
@@ -96,7 +89,7 @@ given m cpus homes c is =
     record {
       present = free_is_present m cpus c parts.0;
       unreserved = free_is_unreserved m cpus c parts.0;
-      in_reach = lower _ _ parts.1;
+      in_reach = ltb-true _ _ parts.1;
     }
 
 pub allowed_is_given : (m : Layout) (cpus homes : Ids) (c : ℕ) → set.contains (allowed_by m cpus homes) c ≡ true → IsGiven m homes c

@@ -1,6 +1,6 @@
 -- Home nodes are nodes of the machine, and there is one.
-use Rattle.std.proofs.Common.{◌≡◌, ◌≢◌, ℕ, ◌<◌, ◌≤◌, true, false, nat_lt, sym, ap, ◌∙◌, arith, eq-eqb}
-use Rattle.std.proofs.lemmas.Bool.{false≢true, ne_eqb}
+use Rattle.std.proofs.Common.{◌≡◌, ◌≢◌, ℕ, ◌≤◌, true, false, nat_lt, sym, ap, ◌∙◌, arith, eq-eqb}
+use Rattle.std.proofs.lemmas.Bool.{false≢true, ne_eqb, ltb-true}
 use Rattle.std.proofs.lemmas.Bool.Decides.{nat_tests}
 use Rattle.std.specs.Ordering.{nat_cmp}
 use Rattle.std.specs.FinSet as set
@@ -25,16 +25,13 @@ pub nodes_some : (s : Ids) (count : ℕ) → ((n : ℕ) → set.contains s n ≡
 nodes_some s count each some e =
     false≢true (sym (contains-empty 0) ∙ ap (λ t. set.contains t 0) (sym e) ∙ each 0 ∙ first_node count some)
 
-node_below : (n count : ℕ) → nat_lt n count ≡ true → n < count
-node_below n count is = grind (arith, nat_tests)
-
 -- named nodes are homes where there is one
 pub named_homes :
     (m : Layout) (s nodes : Ids) → (s ≡ set.empty → ⊥) → ((n : ℕ) → set.contains nodes n ≡ nat_lt n (node_count m))
     → ((n : ℕ) → set.contains s n ≡ true → set.contains nodes n ≡ true) → AreHomes m s
 named_homes m s nodes some each known = record {
   some = some;
-  nodes = λ h has. node_below h (node_count m) (sym (each h) ∙ known h has);
+  nodes = λ h has. ltb-true h (node_count m) (sym (each h) ∙ known h has);
 }
 
 -- all nodes are homes

@@ -1,7 +1,7 @@
 -- The least member of one set that is not in another.
-use Rattle.std.proofs.Common.{◌≡◌, ℕ, Bool, true, false, not, ◌&&◌, Some, None, refl, sym, ◌∙◌, arith}
+use Rattle.std.proofs.Common.{◌≡◌, ℕ, true, Some, None, sym, ◌∙◌, arith}
 use Rattle.std.specs.FinSet as set
-use Rattle.std.proofs.lemmas.Bool.{false≢true}
+use Rattle.faults.specs.Tests.{without}
 use Rattle.cpu_set.specs.Ids.{Ids, NoneFrom, IsFirstFrom}
 use Rattle.cpu_set.specs.LeastLaws.{least-difference}
 use Rattle.cpu_set.specs.Members.{IsCpu}
@@ -16,13 +16,8 @@ least_other-none s known none = least-difference s known None (none, tt)
 pub least_other-some : (s known : Ids) (n : ℕ) → IsFirstFrom (set.difference s known) 0 n → IsCpu n → least_other s known ≡ Some n
 least_other-some s known n first is_cpu = least-difference s known (Some n) (first, is_cpu)
 
-known_too : (a b : Bool) → (a && not b) ≡ false → a ≡ true → b ≡ true
-known_too true true none has = refl
-known_too true false none has = absurd (false≢true (sym none))
-known_too false b none has = absurd (false≢true has)
-
 -- where the difference is empty, each member is in the other set
 pub all_known : (s known : Ids) → NoneFrom (set.difference s known) 0 → (n : ℕ) → set.contains s n ≡ true → set.contains known n ≡ true
-all_known s known none n has = known_too _ _ (sym (contains-difference s known n) ∙ none n (omega arith)) has
+all_known s known none n has = without _ _ (sym (contains-difference s known n) ∙ none n (omega arith)) has
 
 pub ruleset least_others = (least_other-none, least_other-some)

@@ -1,3 +1,4 @@
 pub mod Flaws
 pub mod JsonOf
 pub mod Members
+pub mod Numbers

@@ -1,54 +1,30 @@
 -- Cores that are listed without fault are the cores of a machine.
-use Rattle.std.proofs.Common.{◌≡◌, ◌≢◌, ℕ, zero, suc, ◌+◌, ◌<◌, ◌≤◌, ◌⊎◌, inl, inr, Bool, true, false, cond, not, ◌&&◌, List, [], ◌∷◌, length, get_or, map, take, Option, Some, None, refl, sym, ap, ◌∙◌, arith}
-use Rattle.std.specs.Prelude.{◌||◌, ◌==◌, AllPairs, MatchOption, fold, unwrap_or, option_map}
-use Rattle.std.specs.List.{list_any, range_with_len}
-use Rattle.std.specs.Option.{option_or}
-use Rattle.std.proofs.lemmas.Bool.{cases_lt, cases_eq, false≢true, true≢false}
+use Rattle.std.proofs.Common.{◌≡◌, ℕ, zero, suc, ◌+◌, ◌<◌, ◌≤◌, ◌⊎◌, inl, inr, Bool, true, false, cond, not, ◌&&◌, List, [], ◌∷◌, length, get_or, map, take, Option, Some, None, refl, sym, ap, ◌∙◌, arith}
+use Rattle.std.specs.Prelude.{◌||◌, ◌==◌, AllPairs, MatchOption, fold, unwrap_or}
+use Rattle.std.proofs.lemmas.Bool.{cases_lt, false≢true, true≢false, false_from_ne_true, and_from, and_parts, eq-eqb, eqb-true}
 use Rattle.std.proofs.lemmas.Bool.Decides.{nat_tests}
 use Rattle.std.proofs.lemmas.List.{get_or_default, get_or_past}
 use Rattle.std.proofs.lemmas.List.Folds.{Any-from_list_any}
 use Rattle.std.proofs.lemmas.List.FromFn.{get_or-map-range_with_len, length-map-range_with_len}
-use Rattle.std.proofs.lemmas.Option.{none-some}
 use Rattle.std.specs.Ordering.{nat_cmp}
 use Rattle.std.specs.Cmp.{nat_cmp_total}
 use Rattle.std.specs.FinSet as set
-use Rattle.faults.specs.First.{when, first_of, first_below}
+use Rattle.faults.specs.Tests.{without, none_below, none_of_both, unmapped, passed, same_tests}
 use Rattle.serde_json.specs.Data.{Data}
 use Rattle.cpu_set.specs.Ids.{Ids, IsDisjoint, is_empty}
-use Rattle.cpu_set.specs.Least.{least_that}
+use Rattle.cpu_set.specs.Least.{least_that, least_of}
 use Rattle.cpu_set.specs.LeastLaws.{NonePasses, IsLeastThat, least-passes, least-none_says, cpus_from}
 use Rattle.cpu_set.specs.Members.{IsCpu, InRange, cpus}
 use Rattle.cpu_set.specs.Pointwise.{same_members, contains-empty, contains-insert, contains-difference, contains-intersection, is_subset-contains}
 use Rattle.cpu_set.specs.declared.TheConstants.{CPU_LIMIT}
-use Rattle.machine.specs.declared.fault.MachineFault.{MachineFault}
 use Rattle.machine.specs.Cores.{core_of, cpus_of_core, AreCores}
-use Rattle.machine.specs.CoresFault.{least_of, lowest_in, lowest_of, size_of, is_core, core_fault, left_by, first_core_fault, left_fault, lists_fault, cores_fault}
+use Rattle.machine.specs.CoresFault.{lowest_in, lowest_of, size_of, is_core, core_fault, left_by, first_core_fault, left_fault, cores_fault}
 use Rattle.machine.specs.Listed.{listed}
 use Rattle.machine.specs.Members.{items_of, items_in}
 use Rattle.machine.specs.Layout.{Layout}
-use Rattle.machine.specs.Nodes.{IsOfNode}
 use Rattle.machine.specs.Present.{union_of, present, IsPresent}
-use Rattle.machine.specs.WholeLaws.{contains-kept, both_true, and_true, one_way, number_test, same_number}
+use Rattle.machine.specs.WholeLaws.{contains-kept}
 use Rattle.machine.specs.NodeLaws.{IsOfNode-IsPresent, of_one_node, union_of-at, found_in}
-
-or_none : {A : Type 0} (a b : Option A) → option_or a b ≡ None → (a ≡ None) × (b ≡ None)
-or_none None b e = (refl, e)
-or_none (Some x) b e = absurd (none-some x (sym e))
-
--- where there is no first fault below n, none of them has a fault
-pub each_none : {A : Type 0} (n : ℕ) (f : ℕ → Option A) → first_below n f ≡ None → (k : ℕ) → k < n → f k ≡ None
-unfolding first_below
-each_none zero f none k lt = absurd (omega arith)
-each_none (suc n) f none k lt =
-    let p = or_none (first_below n f) (f n) none in
-    elim (cases_lt k n) [
-      | inl before ↦ each_none n f p.0 k before
-      | inr last ↦ let is : k ≡ n = omega arith in ap f is ∙ p.1
-    ]
-
-pub when_none : {A : Type 0} (b : Bool) (a : A) → when (not b) a ≡ None → b ≡ true
-when_none true a e = refl
-when_none false a e = absurd (none-some a (sym e))
 
 -- ---- the least CPU of a core
 
@@ -99,16 +75,12 @@ fold_last (x ∷ xs) zero c a lt has none =
 fold_last (x ∷ xs) (suc k) c a lt has none =
     fold_last xs k c (pick c a x) (omega arith) has (λ j after lt. none (suc j) (omega arith) (omega arith))
 
-false_where_not : (b : Bool) → (b ≡ true → ⊥) → b ≡ false
-false_where_not true f = absurd (f refl)
-false_where_not false f = refl
-
 pub lowest_in-at :
     (cores : List Ids) (k c : ℕ) → AllPairs IsDisjoint cores → k < length cores → set.contains (get_or cores k set.empty) c ≡ true
     → lowest_in cores c ≡ least_of (get_or cores k set.empty)
 unfolding lowest_in
 lowest_in-at cores k c apart lt has =
-    fold_last cores k c c lt has (λ j after within. false_where_not _ (apart k j set.empty after within c has))
+    fold_last cores k c c lt has (λ j after within. false_from_ne_true _ (apart k j set.empty after within c has))
 
 pub lowest_in-below : (cores : List Ids) (c : ℕ) → IsCpu c → lowest_in cores c ≤ c
 unfolding lowest_in
@@ -155,24 +127,24 @@ pub left_and : (left reserved core : Ids) → ((set.is_subset core (set.differen
     × (((c : ℕ) → set.contains core c ≡ true → set.contains reserved c ≡ true) ⊎ ((c : ℕ) → set.contains core c ≡ true → set.contains reserved c ≡ false)))
 left_and left reserved core (inl outside) =
     let each : (c : ℕ) → set.contains core c ≡ true → (set.contains left c ≡ true) × (not (set.contains reserved c) ≡ true) =
-    λ c has. both_true _ _ (sym (contains-difference left reserved c) ∙ is_subset-contains core _ outside c has) in
+    λ c has. and_parts _ _ (sym (contains-difference left reserved c) ∙ is_subset-contains core _ outside c has) in
     (λ c has. (each c has).0, inr (λ c has. not_true _ (each c has).1))
 left_and left reserved core (inr inside) =
     let each : (c : ℕ) → set.contains core c ≡ true → (set.contains left c ≡ true) × (set.contains reserved c ≡ true) =
-    λ c has. both_true _ _ (sym (contains-intersection left reserved c) ∙ is_subset-contains core _ inside c has) in
+    λ c has. and_parts _ _ (sym (contains-intersection left reserved c) ∙ is_subset-contains core _ inside c has) in
     (λ c has. (each c has).0, inl (λ c has. (each c has).1))
 
 pub is_core-fit : (nodes : List Ids) (reserved : Ids) (size : ℕ) (left core : Ids) → is_core nodes reserved size left core ≡ true → IsFit nodes reserved size left core
 is_core-fit nodes reserved size left core is =
-    let p = both_true _ _ is in
-    let q = both_true _ _ p.0 in
-    let r = both_true _ _ q.1 in
+    let p = and_parts _ _ is in
+    let q = and_parts _ _ p.0 in
+    let r = and_parts _ _ q.1 in
     let sides = left_and left reserved core (one_of_two _ _ r.1) in
     let found = Any-from_list_any (λ node. set.is_subset core node) nodes p.1 in
     let same : get_or nodes found.0 set.empty ≡ found.1 = get_or_default nodes found.0 set.empty found.1 found.2 ∙ found.3 in
     record {
       some = not_true _ q.0;
-      size_is = same_number _ _ r.0;
+      size_is = eqb-true _ _ r.0;
       within = sides.0;
       reserved_or_not = sides.1;
       node = (found.0, found.2, λ c has. ap (λ s. set.contains s c) same ∙ is_subset-contains core found.1 found.4 c has);
@@ -233,13 +205,13 @@ unfolding cpus_of_core
 core_is m cores shared is c k at =
     same_members _ _ (λ q.
     contains-kept (present m) (λ p. core_of m p == core_of m c) q
-    ∙ one_way _ _ (kept q) (is_kept q))
+    ∙ same_tests _ _ (kept q) (is_kept q))
   where
     kept : (q : ℕ) → (set.contains (present m) q && (core_of m q == core_of m c)) ≡ true → set.contains (get_or cores k set.empty) q ≡ true
     kept q is_kept =
-        let p = both_true (set.contains (present m) q) (core_of m q == core_of m c) is_kept in
+        let p = and_parts (set.contains (present m) q) (core_of m q == core_of m c) is_kept in
         let found = find_core m cores shared is q p.0 in
-        let same : core_of m q ≡ core_of m c = same_number (core_of m q) (core_of m c) p.1 in
+        let same : core_of m q ≡ core_of m c = eqb-true (core_of m q) (core_of m c) p.1 in
         let here : found.0 ≡ k = one_core cores (core_of m c) found.0 k shared.apart found.1.lt at.lt
         (ap (set.contains (get_or cores found.0 set.empty)) (sym same) ∙ found.1.least) at.least in
         ap (λ j. set.contains (get_or cores j set.empty) q) (sym here) ∙ found.1.has
@@ -247,7 +219,7 @@ core_is m cores shared is c k at =
     is_kept : (q : ℕ) → set.contains (get_or cores k set.empty) q ≡ true → (set.contains (present m) q && (core_of m q == core_of m c)) ≡ true
     is_kept q has =
         let other = in_core m cores shared is q k at.lt has in
-        and_true _ _ (shared.within k at.lt q has) (number_test _ _ (other.lowest ∙ sym at.lowest))
+        and_from _ _ (shared.within k at.lt q has) (eq-eqb _ _ (other.lowest ∙ sym at.lowest))
 
 -- what is in no core stands for itself
 pub lowest_in-absent : (cores : List Ids) (c : ℕ) → ((k : ℕ) → k < length cores → set.contains (get_or cores k set.empty) c ≡ false) → lowest_in cores c ≡ c
@@ -260,7 +232,7 @@ stands_for_itself m cores shared is c absent =
     elim (cases_lt c CPU_LIMIT) [
       | inl lt ↦
           ap (λ xs. get_or xs c c) is ∙ lowest_of-at cores c c lt
-          ∙ lowest_in-absent cores c (λ k within. false_where_not _ (λ has. false≢true (sym absent ∙ shared.within k within c has)))
+          ∙ lowest_in-absent cores c (λ k within. false_from_ne_true _ (λ has. false≢true (sym absent ∙ shared.within k within c has)))
       | inr past ↦ let room : length m.lowest ≤ c = omega (arith, ap length is, lowest_of-long cores) in get_or_past m.lowest c c room
     ]
 
@@ -354,10 +326,10 @@ pub AreListed-no_fault :
 unfolding first_core_fault core_fault
 AreListed-no_fault nodes reserved cores in_range apart none all =
     let each : (k : ℕ) → k < length cores → IsFit nodes reserved (size_of cores) (left_by nodes (take k cores)) (get_or cores k set.empty) =
-    λ k lt. is_core-fit _ _ _ _ _ (when_none _ _ (each_none (length cores) _ none k lt)) in
+    λ k lt. is_core-fit _ _ _ _ _ (passed _ _ (none_below (length cores) _ none k lt)) in
     let parts : (k : ℕ) → k < length cores → (c : ℕ) → set.contains (get_or cores k set.empty) c ≡ true
     → (set.contains (union_of nodes) c ≡ true) × (not (set.contains (union_of (take k cores)) c) ≡ true) =
-    λ k lt c has. both_true _ _ (sym (contains-difference (union_of nodes) (union_of (take k cores)) c) ∙ (each k lt).within c has) in
+    λ k lt c has. and_parts _ _ (sym (contains-difference (union_of nodes) (union_of (take k cores)) c) ∙ (each k lt).within c has) in
     record {
       nodes_apart = apart;
       fit = λ k lt. record {
@@ -378,20 +350,11 @@ AreListed-no_fault nodes reserved cores in_range apart none all =
       };
     }
 
-no_map : {A B : Type 0} (f : A → B) (found : Option A) → option_map f found ≡ None → found ≡ None
-no_map f None e = refl
-no_map f (Some x) e = absurd (none-some (f x) (sym e))
-
-in_both : (a b : Bool) → (a && not b) ≡ false → a ≡ true → b ≡ true
-in_both true true e has = refl
-in_both true false e has = absurd (false≢true (sym e))
-in_both false b e has = absurd (false≢true has)
-
 -- no present CPU is left
 none_left : (nodes cores : List Ids) → InRange (union_of nodes) → left_fault nodes cores ≡ None → (c : ℕ) → set.contains (union_of nodes) c ≡ true → set.contains (union_of cores) c ≡ true
 unfolding left_fault
 none_left nodes cores in_range none c has =
-    in_both _ _ (least-none_says (λ q. set.contains (union_of nodes) q && not (set.contains (union_of cores) q)) (no_map _ _ none) c (in_range c has)) has
+    without _ _ (least-none_says (λ q. set.contains (union_of nodes) q && not (set.contains (union_of cores) q)) (unmapped _ _ none) c (in_range c has)) has
 
 -- cores that are read without fault, or that are not there
 pub AreCores-read :
@@ -401,6 +364,6 @@ unfolding cores_fault
 AreCores-read m None in_range apart none is threads = AreCores-none m is threads
 AreCores-read m (Some d) in_range apart none is threads =
     let cores = map listed (items_of d) in
-    let p = or_none _ _ (or_none _ _ (or_none _ _ none).1).1 in
+    let p = none_of_both _ _ (none_of_both _ _ (none_of_both _ _ none).1).1 in
     AreCores-listed m cores
-    (AreListed-no_fault m.nodes m.reserved cores in_range apart p.0 (none_left m.nodes cores in_range (or_none _ _ p.1).0)) is threads
+    (AreListed-no_fault m.nodes m.reserved cores in_range apart p.0 (none_left m.nodes cores in_range (none_of_both _ _ p.1).0)) is threads

@@ -1,7 +1,7 @@
 -- Sets of cores and of their CPUs, made core by core.
-use Rattle.std.proofs.Common.{◌≡◌, ℕ, ◌+◌, ◌<◌, ◌≤◌, inl, inr, Bool, true, false, not, ◌&&◌, nat_lt, List, length, get_or, Option, Some, None, refl, sym, ap, ◌∙◌, arith}
+use Rattle.std.proofs.Common.{◌≡◌, ℕ, ◌+◌, ◌<◌, ◌≤◌, inl, inr, Bool, true, false, ◌&&◌, nat_lt, List, Option, Some, None, refl, sym, ap, ◌∙◌, arith}
 use Rattle.std.specs.Prelude.{◌||◌, ◌==◌, IfSome}
-use Rattle.std.proofs.lemmas.Bool.{cases_lt, cases_eq, false≢true, true≢false, ne_eqb}
+use Rattle.std.proofs.lemmas.Bool.{cases_lt, cases_eq, true≢false, ne_eqb, false_from_ne_true, and_from, and_parts, eq-eqb, eqb-true}
 use Rattle.std.proofs.lemmas.Bool.Decides.{nat_tests}
 use Rattle.std.specs.FinSet as set
 use Rattle.cpu_set.specs.Ids.{Ids}
@@ -11,8 +11,8 @@ use Rattle.cpu_set.specs.declared.TheConstants.{CPU_LIMIT}
 use Rattle.machine.specs.Cores.{core_of, cpus_of_core, is_core_in, cores_in, cpus_of_cores, AreCores}
 use Rattle.machine.specs.Index.{IsFirstOf}
 use Rattle.machine.specs.Layout.{Layout}
-use Rattle.machine.specs.Present.{present, IsPresent}
-use Rattle.machine.specs.WholeLaws.{both_true, and_true, number_test, same_number, contains-cpus_of_core, contains-cores_in, contains-cpus_of_cores, present_sibling, core_of_core}
+use Rattle.machine.specs.Present.{present}
+use Rattle.machine.specs.WholeLaws.{contains-cpus_of_core, contains-cores_in, contains-cpus_of_cores, core_of_core}
 use Rattle.machine.proofs.Marking.{IsPassed, IsAhead, IsNext, next_is_member, nothing_between, is_ahead}
 
 -- ---- those members of a set that pass a test, picked in rising order
@@ -142,26 +142,22 @@ rises lowest core cpu next is_cpu first =
 pub has_all :
     (m : Layout) (core : ℕ) (cpus : Ids) (next : ℕ) → InRange (present m) → core_of m core ≡ core → HasBelow m core cpus next → (next < CPU_LIMIT → ⊥) → is_core_in m cpus core ≡ true
 has_all m core cpus next in_range own below end =
-    and_true _ _ (number_test _ _ own)
+    and_from _ _ (eq-eqb _ _ own)
     (contains-is_subset (cpus_of_core m core) cpus (λ q in_core.
-    let p = both_true _ _ (sym (contains-cpus_of_core m core q) ∙ in_core) in
+    let p = and_parts _ _ (sym (contains-cpus_of_core m core q) ∙ in_core) in
     let is_cpu : q < CPU_LIMIT = in_range q p.0 in
     below.had q (elim (cases_lt q next) [
       | inl lt ↦ lt
       | inr past ↦ absurd (end (omega arith))
-    ]) is_cpu (same_number _ _ p.1)))
-
-false_of : (b : Bool) → (b ≡ true → ⊥) → b ≡ false
-false_of true f = absurd (f refl)
-false_of false f = refl
+    ]) is_cpu (eqb-true _ _ p.1)))
 
 pub lacks_one :
     (m : Layout) (core : ℕ) (cpus : Ids) (next : ℕ) → AreCores m → HasBelow m core cpus next → next < CPU_LIMIT → set.contains cpus next ≡ false → is_core_in m cpus core ≡ false
 lacks_one m core cpus next are below lt lacking =
-    false_of _ (λ has.
-    let p = both_true _ _ has in
+    false_from_ne_true _ (λ has.
+    let p = and_parts _ _ has in
     true≢false (sym (is_subset-contains (cpus_of_core m core) cpus p.1 next
-    (contains-cpus_of_core m core next ∙ and_true _ _ (is_present (set.contains (present m) next) refl) (number_test _ _ (below.is lt)))) ∙ lacking))
+    (contains-cpus_of_core m core next ∙ and_from _ _ (is_present (set.contains (present m) next) refl) (eq-eqb _ _ (below.is lt)))) ∙ lacking))
   where
     is_present : (b : Bool) → set.contains (present m) next ≡ b → set.contains (present m) next ≡ true
     is_present true there = there
@@ -222,7 +218,7 @@ IsAdded-more m core old cpus added next more are lt is first =
         | inl less ↦ other q (λ e. omega arith) ∙ are.below q less
         | inr not_less ↦ elim (cases_eq next q) [
           | inl same ↦
-              each q ∙ ap (λ b. b || set.contains cpus q) (number_test _ _ (sym same))
+              each q ∙ ap (λ b. b || set.contains cpus q) (eq-eqb _ _ (sym same))
               ∙ or_here (set.contains old q) q CPU_LIMIT core (core_of m q) (omega arith) (ap (core_of m) (sym same) ∙ are.is lt)
           | inr differs ↦
               other q (λ e. differs (sym e)) ∙ are.above q (omega arith)
@@ -274,7 +270,7 @@ AreFilled-none m cores cpus next none is = record {
 }
 
 new_core : (b : Bool) (core other : ℕ) (c : Bool) → other ≡ core → c ≡ true → (false || (b && (other == core))) ≡ (b && c)
-new_core true core other c is has = number_test _ _ is ∙ sym has
+new_core true core other c is has = eq-eqb _ _ is ∙ sym has
 new_core false core other c is has = refl
 
 pub AreFilled-more :

@@ -1,6 +1,6 @@
 -- Reading the cores one by one.
-use Rattle.std.proofs.Common.{◌≡◌, ℕ, ◌+◌, ◌<◌, ◌≤◌, inl, inr, Bool, true, false, cond, not, ◌&&◌, List, [], ◌∷◌, ◌++◌, length, get_or, map, take, Option, Some, None, refl, sym, ap, ◌∙◌, arith}
-use Rattle.std.specs.Prelude.{◌||◌, fold, option_map, is_some}
+use Rattle.std.proofs.Common.{◌≡◌, ℕ, ◌+◌, ◌<◌, inl, inr, Bool, true, false, cond, not, ◌&&◌, List, [], ◌∷◌, ◌++◌, length, get_or, map, take, Option, Some, None, refl, sym, ap, ◌∙◌, arith}
+use Rattle.std.specs.Prelude.{◌||◌, option_map, is_some}
 use Rattle.std.proofs.lemmas.Bool.{cases_lt}
 use Rattle.std.proofs.lemmas.List.{take_more, take_all, ext_get_or, get_or-map, length-map}
 use Rattle.std.proofs.lemmas.List.Sums.{fold_push}
@@ -16,7 +16,8 @@ use Rattle.cpu_set.specs.Pointwise.{same_members, contains-empty, contains-union
 use Rattle.cpu_set.specs.declared.TheConstants.{CPU_LIMIT}
 use Rattle.machine.specs.declared.fault.MachineFault.{MachineFault}
 use Rattle.machine.specs.declared.fault.MachineFault.TheVariants.{BadCore, NoCore}
-use Rattle.machine.specs.CoresFault.{least_of, lowest_in, lowest_of, size_of, is_core, core_fault, left_by, first_core_fault, left_fault}
+use Rattle.cpu_set.specs.Least.{least_of}
+use Rattle.machine.specs.CoresFault.{lowest_in, lowest_of, size_of, is_core, core_fault, left_by, first_core_fault, left_fault}
 use Rattle.machine.specs.Listed.{listed}
 use Rattle.machine.specs.Present.{union_of}
 use Rattle.machine.proofs.CoreLaws.{lowest_of-at, lowest_of-long, lowest_in-none}

@@ -1,5 +1,5 @@
 -- The items of an array, as the JSON value has them and as the code goes over them.
-use Rattle.std.proofs.Common.{◌≡◌, ℕ, ◌<◌, ◌≤◌, inl, inr, true, false, arith, List, [], ◌∷◌, map, length, get_or, refl, sym, ap, ◌∙◌}
+use Rattle.std.proofs.Common.{◌≡◌, ℕ, ◌<◌, ◌≤◌, inl, inr, true, arith, List, [], ◌∷◌, map, length, get_or, refl, sym, ap, ◌∙◌}
 use Rattle.std.proofs.lemmas.List.{get_or-map, length-map}
 use Rattle.std.proofs.lemmas.List.Folds.{list_all-map, list_all_at}
 use Rattle.std.proofs.lemmas.Bool.{cases_Bool, false≢true}

@@ -1,8 +1,8 @@
 -- A JSON value that has its members and says a sound machine has no fault.
 use Rattle.std.proofs.Common.{◌≡◌, ℕ, suc, ◌<◌, ◌≤◌, ◌≢◌, Bool, true, false, not, ◌&&◌, List, [], ◌∷◌, length, get_or, map, take, Option, Some, None, refl, sym, ap, ◌∙◌, nat_lt, arith}
 use Rattle.std.specs.Prelude.{◌||◌, ◌==◌, AllPairs, is_some, unwrap_or, option_map}
-use Rattle.std.specs.List.{list_all, list_any, flat_map}
-use Rattle.std.proofs.lemmas.Bool.{false≢true, true≢false, false_from_ne_true}
+use Rattle.std.specs.List.{list_all, flat_map}
+use Rattle.std.proofs.lemmas.Bool.{false≢true, true≢false, false_from_ne_true, eq-eqb, and_from}
 use Rattle.std.proofs.lemmas.Bool.Decides.{nat_tests}
 use Rattle.std.proofs.lemmas.Grind.{common_steps}
 use Rattle.std.proofs.lemmas.List.{get_or-map, get_or-take, length-map, length-take, take-map}
@@ -10,13 +10,14 @@ use Rattle.std.proofs.lemmas.List.Folds.{list_any_at}
 use Rattle.std.specs.FinSet as set
 use Rattle.faults.specs.First.{when}
 use Rattle.faults.specs.FirstLaws.{first_below-none}
+use Rattle.faults.specs.Tests.{never_both}
 use Rattle.serde_json.specs.Data.{Data, null}
 use Rattle.serde_json.specs.Find.{as_array, as_str}
 use Rattle.cpu_set.specs.Ids.{Ids, IsDisjoint}
 use Rattle.cpu_set.specs.Least.{least_that}
 use Rattle.cpu_set.specs.LeastLaws.{least-none, least-none_says, least-some_says}
 use Rattle.cpu_set.specs.Members.{InRange}
-use Rattle.cpu_set.specs.Pointwise.{contains-difference, contains-intersection, is_subset-contains, contains-is_subset}
+use Rattle.cpu_set.specs.Pointwise.{contains-difference, contains-intersection, contains-is_subset}
 use Rattle.cpu_set.specs.SetLaws.{empty_of_none}
 use Rattle.cpu_set.specs.Those.{contains-those}
 use Rattle.cpu_set.specs.declared.TheConstants.{CPU_LIMIT}
@@ -43,7 +44,6 @@ use Rattle.machine.specs.Nodes.{IsOfNode}
 use Rattle.machine.specs.NodesFault.{twice_fault, node_fault, first_node_fault, nodes_fault}
 use Rattle.machine.specs.Present.{union_of, present, IsPresent}
 use Rattle.machine.specs.SoundIsRead.{SoundIsRead}
-use Rattle.machine.specs.WholeLaws.{and_true, number_test}
 use Rattle.machine.proofs.BootLaws.{reserved_fault-none}
 use Rattle.machine.proofs.CoreLaws.{AreShared, in_core, core_is}
 use Rattle.machine.specs.NodeLaws.{IsPresent-IsOfNode, of_one_node, union_of-has, found_in}
@@ -56,15 +56,10 @@ list_fault-none field d is = rw is refl
 
 -- ---- nodes
 
-not_both : (a b : Bool) → (a ≡ true → b ≡ true → ⊥) → (a && b) ≡ false
-not_both true true f = absurd (f refl refl)
-not_both true false f = refl
-not_both false b f = refl
-
 twice_fault-apart : (earlier cpus : Ids) → IsDisjoint cpus earlier → twice_fault earlier cpus ≡ None
 unfolding twice_fault
 twice_fault-apart earlier cpus apart =
-    ap (option_map CpuTwice) (least-none _ (λ c is_cpu. not_both _ _ (apart c)))
+    ap (option_map CpuTwice) (least-none _ (λ c is_cpu. never_both _ _ (apart c)))
 
 before_k : (sets : List Ids) (i k : ℕ) → i < length (take k sets) → k < length sets → i < k
 before_k sets i k within lt = omega (arith, length-take k sets)
@@ -109,9 +104,6 @@ each_passes : (p : Data → Bool) (ds : List Data) → ((k : ℕ) → k < length
 each_passes p [] each = refl
 each_passes p (d ∷ ds) each = rw (each 0 (omega arith), each_passes p ds (λ k lt. each (suc k) (omega arith))) refl
 
-same_test : (m n : ℕ) → m ≡ n → (m == n) ≡ true
-same_test m n e = grind (arith, nat_tests)
-
 entry_fault-none : (i j : ℕ) (o : Option ℕ) → is_some o ≡ true → IsEntry i j (unwrap_or o 0) → entry_fault i j o ≡ None
 entry_fault-none i j None some is = absurd (false≢true some)
 entry_fault-none i j (Some d) some is = grind (arith, common_steps)
@@ -120,8 +112,8 @@ shape_fault-none : (n : ℕ) (d : Data) → IsSquare n d → shape_fault n (item
 unfolding shape_fault
 shape_fault-none n d h =
     let arrays = each_passes (λ row. is_some (as_array row)) (items_of d) (λ k lt. h.arrays k (omega (arith, h.rows))) in
-    let columns = each_passes (λ row. length (items_of row) == n) (items_of d) (λ k lt. same_test _ _ (h.columns k (omega (arith, h.rows)))) in
-    rw (arrays, same_test _ _ h.rows, columns) refl
+    let columns = each_passes (λ row. length (items_of row) == n) (items_of d) (λ k lt. eq-eqb _ _ (h.columns k (omega (arith, h.rows)))) in
+    rw (arrays, eq-eqb _ _ h.rows, columns) refl
 
 columns :
     (n : ℕ) (d : Data) → IsSquare n d → (k : ℕ) → k < length (items_of d) → length (items_of (get_or (items_of d) k null)) ≡ n
@@ -143,7 +135,7 @@ distances_fault-none :
 unfolding distances_fault
 distances_fault-none (Some t) (Some d) n h are = absurd h
 distances_fault-none None None n h are = absurd h
-distances_fault-none (Some t) None n h are = rw (same_test t.localities n h) refl
+distances_fault-none (Some t) None n h are = rw (eq-eqb t.localities n h) refl
 distances_fault-none None (Some d) n h are = rw (h.array, shape_fault-none n d h, rows_fault-none n d h are) refl
 
 -- ---- reserved and offline
@@ -192,7 +184,7 @@ is_subset-split : (core left reserved : Ids) (b : Bool) → ((c : ℕ) → set.c
     → ((c : ℕ) → set.contains core c ≡ true → set.contains reserved c ≡ b)
     → (set.is_subset core (set.difference left reserved) || set.is_subset core (set.intersection left reserved)) ≡ true
 is_subset-split core left reserved true within same =
-    or_last _ _ (contains-is_subset core _ (λ c has. contains-intersection left reserved c ∙ and_true _ _ (within c has) (same c has)))
+    or_last _ _ (contains-is_subset core _ (λ c has. contains-intersection left reserved c ∙ and_from _ _ (within c has) (same c has)))
   where
     or_last : (a b : Bool) → b ≡ true → (a || b) ≡ true
     or_last true b e = refl
@@ -230,7 +222,7 @@ core_fault-none m cores k sound shared is threads lt some =
     let same : (q : ℕ) → set.contains core q ≡ true → core_of m q ≡ low = λ q has. (in_core m cores shared is q k lt has).lowest ∙ sym at.lowest in
     let of_node = IsPresent-IsOfNode m low (there low at.least) in
     is_core-all m.nodes m.reserved (size_of cores) _ core (is_empty-some core some)
-    (and_true _ _ (number_test _ _ (ap set.len (sym (core_is m cores shared is one.0 k at)) ∙ sound.cores.threads one.0 (there one.0 one.1) ∙ threads))
+    (and_from _ _ (eq-eqb _ _ (ap set.len (sym (core_is m cores shared is one.0 k at)) ∙ sound.cores.threads one.0 (there one.0 one.1) ∙ threads))
     (is_subset-split core _ m.reserved (set.contains m.reserved low) (within_left m.nodes cores k shared lt)
     (λ q has. sym (sound.cores.reserved q (there q has)) ∙ ap (set.contains m.reserved) (same q has))))
     (list_any_at (λ node. set.is_subset core node) m.nodes of_node.0 set.empty of_node.1.is_node

@@ -1,8 +1,8 @@
 -- CPUs are of one node just where the same node is written at each of them.
-use Rattle.std.proofs.Common.{◌≡◌, ℕ, ◌<◌, Bool, true, false, not, ◌&&◌, List, [], length, get_or, refl, sym, ap, ◌∙◌, eq-eqb, arith}
-use Rattle.std.specs.Prelude.{◌||◌, ◌==◌, ◌↔◌, IsTrue, Some, unwrap_or}
+use Rattle.std.proofs.Common.{◌≡◌, ℕ, Bool, true, false, not, ◌&&◌, List, get_or, refl, sym, ap, ◌∙◌, eq-eqb}
+use Rattle.std.specs.Prelude.{◌↔◌, IsTrue, Some, unwrap_or}
 use Rattle.std.specs.List.{list_any}
-use Rattle.std.proofs.lemmas.Bool.{false≢true}
+use Rattle.std.proofs.lemmas.Bool.{false≢true, and_parts}
 use Rattle.std.proofs.lemmas.List.{get_or_default}
 use Rattle.std.proofs.lemmas.List.Folds.{Any-from_list_any, list_any_at}
 use Rattle.std.specs.FinSet as set
@@ -12,10 +12,10 @@ use Rattle.cpu_set.specs.LeastLaws.{least-first}
 use Rattle.cpu_set.specs.Members.{IsCpu}
 use Rattle.cpu_set.specs.Pointwise.{contains-empty, is_subset-contains, contains-is_subset}
 use Rattle.cpu_set.specs.SetLaws.{empty_of_none}
-use Rattle.machine.specs.WholeLaws.{both_true}
 use Rattle.machine.proofs.CoreLaws.{left_and, one_of_two}
 use Rattle.machine.proofs.SubsetLaws.{is_empty-some}
-use Rattle.machine.specs.CoresFault.{least_of, is_within, is_core}
+use Rattle.cpu_set.specs.Least.{least_of}
+use Rattle.machine.specs.CoresFault.{is_within, is_core}
 use Rattle.machine.specs.Index.{ArePlaces}
 use Rattle.machine.specs.Present.{union_of}
 use Rattle.machine.specs.NodeLaws.{found_in}
@@ -91,7 +91,7 @@ some_empty core c has = is_empty-some core (λ none. false≢true (sym (contains
 -- the CPUs of a core are within all that are left
 is_within-left : (reserved : Ids) (size : ℕ) (left core all : Ids) → is_within reserved size left core ≡ true → set.is_subset left all ≡ true → set.is_subset core all ≡ true
 is_within-left reserved size left core all within left_within =
-    let sides = left_and left reserved core (one_of_two _ _ (both_true _ _ within).1) in
+    let sides = left_and left reserved core (one_of_two _ _ (and_parts _ _ within).1) in
     contains-is_subset core all (λ c has. is_subset-contains left all left_within c (sides.0 c has))
 
 pub is_core-apart :

@@ -1,6 +1,6 @@
 -- The weights of all nodes, and the CPUs in reach.
 use Rattle.std.proofs.Common.{◌≡◌, ℕ, suc, ◌+◌, ◌<◌, ◌≤◌, inl, inr, Bool, true, false, cond, not, ◌&&◌, ◌||◌, ◌==◌, nat_lt, nat_le, min, List, length, get_or, replicate, refl, sym, ap, ◌∙◌, arith}
-use Rattle.std.proofs.lemmas.Bool.{cases_lt, true≢false}
+use Rattle.std.proofs.lemmas.Bool.{cases_lt, true≢false, lt-ltb}
 use Rattle.std.proofs.lemmas.Bool.Decides.{nat_tests}
 use Rattle.std.proofs.lemmas.List.{length-set, length-replicate, get_or-replicate, get_or_past, get_or-set_same, get_or-set_other}
 use Rattle.std.proofs.Math.ListN.{set as set_at}
@@ -13,9 +13,9 @@ use Rattle.machine.specs.Layout.{Layout, node_count, cpus_of, distance}
 use Rattle.machine.specs.Nodes.{node_of}
 use Rattle.machine.specs.Present.{present}
 use Rattle.machine.specs.Lowered.{AreLocal, AreLowered}
-use Rattle.machine.specs.Weight.{AreHomes, IsLeast, weight, AreWeights}
+use Rattle.machine.specs.Weight.{AreHomes, IsLeastDistance, weight, AreWeights}
 use Rattle.machine.specs.NodeLaws.{IsPresent-IsOfNode, IsOfNode-IsPresent, node_found}
-use Rattle.machine.proofs.WeightLaws.{least_below, least_below-IsLeast, weight-least_below}
+use Rattle.machine.proofs.WeightLaws.{least_below, least_below-IsLeastDistance, weight-least_below}
 
 pub AreLowered-more :
     (m : Layout) (home : ℕ) (old new more : List ℕ) (n w : ℕ) → AreLowered m home old new n → n < NODE_LIMIT
@@ -91,7 +91,7 @@ pub AreLeast-all :
     → AreWeights m homes weights
 AreLeast-all m homes weights n sound are least all = record {
   room = least.room;
-  least = λ i lt. rw (least.each i lt, all) (least_below-IsLeast m homes i sound are lt);
+  least = λ i lt. rw (least.each i lt, all) (least_below-IsLeastDistance m homes i sound are lt);
   each = λ cpu is.
       let some = IsPresent-IsOfNode m cpu is in
       let at : node_of m cpu ≡ some.0 = node_found m cpu some.0 sound some.1 in
@@ -125,7 +125,7 @@ AreLocal-more weights more n are few written =
     }
 
 -- a home is nearest to itself
-local_least : (m : Layout) (homes : Ids) (i w : ℕ) → IsSound m → AreHomes m homes → i < node_count m → set.contains homes i ≡ true → IsLeast m homes i w → w ≡ 10
+local_least : (m : Layout) (homes : Ids) (i w : ℕ) → IsSound m → AreHomes m homes → i < node_count m → set.contains homes i ≡ true → IsLeastDistance m homes i w → w ≡ 10
 local_least m homes i w sound are lt home least =
     let low : w ≤ distance m i i = least.least i home in
     let own : distance m i i ≡ 10 = (sound.distances.rows i lt i lt).diagonal refl in
@@ -134,14 +134,11 @@ local_least m homes i w sound are lt home least =
     let high : 10 ≤ distance m i some.0 = (sound.distances.rows i lt some.0 (are.nodes some.0 some.1)).not_reserved in
     omega arith
 
-is_local : (m : Layout) (homes : Ids) (i : ℕ) → IsSound m → AreHomes m homes → i < node_count m → set.contains homes i ≡ true → IsLeast m homes i 10
+is_local : (m : Layout) (homes : Ids) (i : ℕ) → IsSound m → AreHomes m homes → i < node_count m → set.contains homes i ≡ true → IsLeastDistance m homes i 10
 is_local m homes i sound are lt home = record {
   reached = (i, home, sym ((sound.distances.rows i lt i lt).diagonal refl));
   least = λ h is_home. (sound.distances.rows i lt h (are.nodes h is_home)).not_reserved;
 }
-
-node_below : (n count : ℕ) → n < count → nat_lt n count ≡ true
-node_below n count lt = grind (arith, nat_tests)
 
 -- where each node is a home, each weighs as much as the distance within a node
 pub AreLocal-all :
@@ -149,7 +146,7 @@ pub AreLocal-all :
     → set.is_subset nodes homes ≡ true → AreLocal (node_count m) weights → AreWeights m homes weights
 AreLocal-all m homes nodes weights sound are each within local =
     let home : (i : ℕ) → i < node_count m → set.contains homes i ≡ true =
-    λ i lt. is_subset-contains nodes homes within i (each i ∙ node_below i (node_count m) lt) in
+    λ i lt. is_subset-contains nodes homes within i (each i ∙ lt-ltb i (node_count m) lt) in
     record {
       room = local.room;
       least = λ i lt. rw (local.local i lt) (is_local m homes i sound are lt (home i lt));
@@ -159,7 +156,7 @@ AreLocal-all m homes nodes weights sound are each within local =
           let lt : node_of m cpu < node_count m = let below = some.1.is_node in omega arith in
           local.local (node_of m cpu) lt
           ∙ sym (weight-least_below m homes cpu sound are
-          ∙ local_least m homes (node_of m cpu) _ sound are lt (home (node_of m cpu) lt) (least_below-IsLeast m homes (node_of m cpu) sound are lt));
+          ∙ local_least m homes (node_of m cpu) _ sound are lt (home (node_of m cpu) lt) (least_below-IsLeastDistance m homes (node_of m cpu) sound are lt));
       beyond = local.beyond;
     }
 

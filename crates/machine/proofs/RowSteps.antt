@@ -5,8 +5,7 @@ use Rattle.std.specs.Prelude.{◌==◌, IfOk}
 use Rattle.std.proofs.lemmas.Nat.{mul-le}
 use Rattle.std.proofs.Math.Nat.{suc-mul}
 use Rattle.std.proofs.Math.Seq.{take-suc}
-use Rattle.std.proofs.lemmas.Bool.{cases_lt, cases_Bool, false≢true}
-use Rattle.std.proofs.lemmas.Bool.Decides.{nat_tests}
+use Rattle.std.proofs.lemmas.Bool.{cases_lt, cases_Bool, false≢true, eqb-true}
 use Rattle.std.proofs.lemmas.List.{take_more, take_all, map-append, length-map, get_or-map, flat_map_more}
 use Rattle.std.proofs.lemmas.List.Concat.{get_or-flat_map}
 use Rattle.std.proofs.lemmas.List.Folds.{list_all_at}
@@ -18,13 +17,14 @@ use Rattle.slit.specs.Table.{distance, table}
 use Rattle.machine.specs.declared.fault.MachineFault.{MachineFault}
 use Rattle.machine.specs.declared.TheConstants.{NODE_LIMIT}
 use Rattle.machine.specs.declared.table.TheConstants.{ENTRY_LIMIT}
-use Rattle.machine.specs.Distances.{number_of, entry_of, row_entries, AreEntries, IsRowAllowed, AreRowsAllowed}
+use Rattle.json_text.specs.Numbers.{unsigned_of}
+use Rattle.machine.specs.Distances.{entry_of, row_entries, AreEntries, IsRowAllowed, AreRowsAllowed}
 use Rattle.machine.specs.DistancesFault.{entry_fault, row_fault, rows_fault}
 use Rattle.machine.specs.Members.{items_of}
 
 -- the fault of the entry in column j of row i
 abbrev pub cell_fault : ℕ → List Data → ℕ → Option MachineFault
-cell_fault i ds j = entry_fault i j (number_of (get_or ds j null))
+cell_fault i ds j = entry_fault i j (unsigned_of (get_or ds j null))
 
 -- the entries of row i before column j are without fault, and added to what was there
 pub record AreCellsRead (i : ℕ) (ds : List Data) (j : ℕ) (old new : List ℕ) : Type 0 where
@@ -136,16 +136,13 @@ rows_before ds n (suc i) each within =
     ∙ length-append (flat_map row_entries (take i ds)) (row_entries (get_or ds i null))
     ∙ rw (so_far, one) (sym (suc-mul i n))
 
-same_number : (m n : ℕ) → (m == n) ≡ true → m ≡ n
-same_number m n e = grind (arith, nat_tests)
-
 -- rows of n entries each have n entries each
 columns :
     (ds : List Data) (n : ℕ) → list_all (λ row. length (items_of row) == n) ds ≡ true
     → (k : ℕ) → k < length ds → length (items_of (get_or ds k null)) ≡ n
 columns ds n all k lt =
     elim (cases_Bool (length (items_of (get_or ds k null)) == n)) [
-      | inl yes_ ↦ same_number _ _ yes_
+      | inl yes_ ↦ eqb-true _ _ yes_
       | inr no_ ↦ absurd (false≢true (sym (list_all_at (λ row. length (items_of row) == n) ds k null lt no_) ∙ all))
     ]
 

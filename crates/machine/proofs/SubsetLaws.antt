@@ -1,8 +1,9 @@
 -- Which sets are within which.
-use Rattle.std.proofs.Common.{◌≡◌, Bool, true, false, ◌&&◌, ◌↔◌, ◌≢◌, not, refl, sym, ap, ◌∙◌, eq-eqb}
+use Rattle.std.proofs.Common.{◌≡◌, Bool, true, false, ◌↔◌, ◌≢◌, not, refl, sym, ap, ◌∙◌, eq-eqb}
 use Rattle.std.proofs.lemmas.Bool.{true≢false, false≢true, false_from_ne_true, ne_eqb, and_parts}
 use Rattle.std.specs.Ordering.{nat_cmp}
 use Rattle.std.specs.FinSet as set
+use Rattle.faults.specs.Tests.{left_over}
 use Rattle.cpu_set.specs.Ids.{Ids, is_empty}
 use Rattle.cpu_set.specs.Pointwise.{contains-difference, is_subset-contains, contains-is_subset}
 
@@ -15,9 +16,6 @@ is_subset-trans r s t inner outer =
 pub is_subset-difference : (s t : Ids) → set.is_subset (set.difference s t) s ≡ true
 is_subset-difference s t =
     contains-is_subset (set.difference s t) s (λ q left. (and_parts _ _ (sym (contains-difference s t q) ∙ left)).0)
-
-left_over : (a b : Bool) → a ≡ true → b ≡ false → (a && not b) ≡ true
-left_over a b e f = rw (e, f) refl
 
 -- what is taken away from a set without r leaves r
 pub is_subset-left :

@@ -15,7 +15,7 @@ use Rattle.machine.specs.declared.TheConstants.{NODE_LIMIT}
 use Rattle.machine.specs.IsSound.{IsSound}
 use Rattle.machine.specs.Layout.{Layout, node_count, distance}
 use Rattle.machine.specs.Nodes.{node_of}
-use Rattle.machine.specs.Weight.{AreHomes, IsLeast, weight}
+use Rattle.machine.specs.Weight.{AreHomes, IsLeastDistance, weight}
 
 -- the least distance from node i to a home below n, and the greatest distance where there is none
 unfoldable pub least_below : Layout → Ids → ℕ → ℕ → ℕ
@@ -147,10 +147,10 @@ no_homes m homes are none =
     true≢false (sym member ∙ none q (are.nodes q member)))))
 
 -- the least of all nodes' distances is that to a home
-pub least_below-IsLeast :
+pub least_below-IsLeastDistance :
     (m : Layout) (homes : Ids) (i : ℕ) → IsSound m → AreHomes m homes → i < node_count m
-    → IsLeast m homes i (least_below m homes i (node_count m))
-least_below-IsLeast m homes i sound are is_node =
+    → IsLeastDistance m homes i (least_below m homes i (node_count m))
+least_below-IsLeastDistance m homes i sound are is_node =
     let below = least_below-IsLeastBelow m homes i (node_count m) (λ h lt. (sound.distances.rows i is_node h lt).at_most) in
     record {
       reached = elim below.reached [

@@ -1,14 +1,15 @@
 -- How many CPUs cores have: each as many as the others.
-use Rattle.std.proofs.Common.{◌≡◌, ℕ, zero, suc, ◌+◌, ◌-◌, ◌*◌, ◌<◌, ◌≤◌, inl, inr, Bool, true, false, cond, not, ◌&&◌, nat_lt, subst, refl, sym, ap, ◌∙◌, arith}
+use Rattle.std.proofs.Common.{◌≡◌, ℕ, zero, suc, ◌+◌, ◌-◌, ◌*◌, inl, inr, Bool, true, false, cond, not, ◌&&◌, nat_lt, subst, refl, sym, ap, ◌∙◌, arith}
 use Rattle.std.specs.Prelude.{◌||◌, ◌==◌}
-use Rattle.std.proofs.lemmas.Bool.{true≢false, cases_eq, ne_eqb}
+use Rattle.std.proofs.lemmas.Bool.{true≢false, cases_eq, ne_eqb, ltb-true, and_from, and_parts, lt-ltb, eq-eqb, eqb-true}
 use Rattle.std.specs.Cmp.{nat_cmp_total}
 use Rattle.std.proofs.lemmas.Bool.Decides.{nat_tests}
 use Rattle.std.proofs.Math.Nat.{suc-mul}
 use Rattle.std.proofs.Math.Numerals.{add-one}
 use Rattle.std.specs.FinSet as set
+use Rattle.faults.specs.Tests.{and_no, and_yes, same_tests}
 use Rattle.cpu_set.specs.Ids.{Ids, IsDisjoint}
-use Rattle.cpu_set.specs.Members.{IsCpu, InRange}
+use Rattle.cpu_set.specs.Members.{InRange}
 use Rattle.cpu_set.specs.Pointwise.{same_members, contains-empty, contains-remove, is_subset-contains, contains-is_subset}
 use Rattle.cpu_set.specs.SetLaws.{len-those_more, len-those_none, those-contains}
 use Rattle.cpu_set.specs.Those.{those, contains-those}
@@ -16,7 +17,7 @@ use Rattle.cpu_set.specs.declared.TheConstants.{CPU_LIMIT}
 use Rattle.machine.specs.Cores.{core_of, cpus_of_core, cores_in, cpus_of_cores, whole_in, AreCores}
 use Rattle.machine.specs.Layout.{Layout}
 use Rattle.machine.specs.Present.{present, IsPresent}
-use Rattle.machine.specs.WholeLaws.{AreLowest, both_true, and_true, one_way, number_test, same_number, below_test, contains-cpus_of_core, contains-cores_in, contains-cpus_of_cores, in_own_core, present_sibling, whole_in-whole, cpus_of_cores-cores_in, cores_in-lowest}
+use Rattle.machine.specs.WholeLaws.{AreLowest, contains-cpus_of_core, contains-cores_in, contains-cpus_of_cores, in_own_core, present_sibling, whole_in-whole, cpus_of_cores-cores_in, cores_in-lowest}
 
 -- each core has as many CPUs as there are to a core, so cores have that many times as many
 abbrev pub CoresAreAlike : Type 0
@@ -61,13 +62,10 @@ len-apart s t u in_s in_t in_u apart is =
 -- ---- cores one by one
 
 pub core_in_range : (m : Layout) (core : ℕ) → InRange (present m) → InRange (cpus_of_core m core)
-core_in_range m core in_range c has = in_range c (both_true _ _ (sym (contains-cpus_of_core m core c) ∙ has)).0
-
-below_limit : (c n : ℕ) → nat_lt c n ≡ true → c < n
-below_limit c n lt = grind (arith, nat_tests)
+core_in_range m core in_range c has = in_range c (and_parts _ _ (sym (contains-cpus_of_core m core c) ∙ has)).0
 
 pub cores_in_range : (m : Layout) (cores : Ids) → InRange (cpus_of_cores m cores)
-cores_in_range m cores c has = below_limit c CPU_LIMIT (both_true _ _ (sym (contains-cpus_of_cores m cores c) ∙ has)).0
+cores_in_range m cores c has = ltb-true c CPU_LIMIT (and_parts _ _ (sym (contains-cpus_of_cores m cores c) ∙ has)).0
 
 spread : (p e s : Bool) → (p && (e || s)) ≡ ((p && s) || (p && e))
 spread true true true = refl
@@ -79,11 +77,11 @@ spread false e s = refl
 -- a number in range that has this core is a CPU of it
 of_core : (m : Layout) (core c : ℕ) → AreCores m → InRange (present m) → IsPresent m core → (nat_lt c CPU_LIMIT && (core_of m c == core)) ≡ set.contains (cpus_of_core m core) c
 of_core m core c are in_range there =
-    one_way _ _
+    same_tests _ _
     (λ has.
-    let p = both_true (nat_lt c CPU_LIMIT) (core_of m c == core) has in
-    and_true _ _ (present_sibling m c are (ap (set.contains (present m)) (same_number _ _ p.1) ∙ there)) p.1)
-    (λ has. let p = both_true (set.contains (present m) c) (core_of m c == core) has in and_true _ _ (below_test _ _ (in_range c p.0)) p.1)
+    let p = and_parts (nat_lt c CPU_LIMIT) (core_of m c == core) has in
+    and_from _ _ (present_sibling m c are (ap (set.contains (present m)) (eqb-true _ _ p.1) ∙ there)) p.1)
+    (λ has. let p = and_parts (set.contains (present m) c) (core_of m c == core) has in and_from _ _ (lt-ltb _ _ (in_range c p.0)) p.1)
     ∙ sym (contains-cpus_of_core m core c)
 
 -- the CPUs of one core more are those of the others, and its own
@@ -100,9 +98,9 @@ more_cpus m cores more core are in_range there is c =
 
 pub more_apart : (m : Layout) (cores : Ids) (core : ℕ) → set.contains cores core ≡ false → IsDisjoint (cpus_of_cores m cores) (cpus_of_core m core)
 more_apart m cores core new c in_cores in_core =
-    let p = both_true _ _ (sym (contains-cpus_of_cores m cores c) ∙ in_cores) in
-    let q = both_true _ _ (sym (contains-cpus_of_core m core c) ∙ in_core) in
-    true≢false (sym p.1 ∙ ap (set.contains cores) (same_number _ _ q.1) ∙ new)
+    let p = and_parts _ _ (sym (contains-cpus_of_cores m cores c) ∙ in_cores) in
+    let q = and_parts _ _ (sym (contains-cpus_of_core m core c) ∙ in_core) in
+    true≢false (sym p.1 ∙ ap (set.contains cores) (eqb-true _ _ q.1) ∙ new)
 
 one_more :
     (m : Layout) (cores more : Ids) (core : ℕ) → AreCores m → InRange (present m) → IsPresent m core → core_of m core ≡ core
@@ -120,17 +118,9 @@ not_below_itself n b = grind (arith, nat_tests)
 below_more : (q n m : ℕ) (b v : Bool) → m ≡ n + 1 → (q ≡ n → b ≡ v) → (nat_lt q m && b) ≡ (((q == n) && v) || (nat_lt q n && b))
 below_more q n m b v next f = grind (arith, nat_tests)
 
-pub and_one : (a : Bool) → (a && true) ≡ a
-and_one true = refl
-and_one false = refl
-
 pub and_none : (a b : Bool) → ((a && false) || b) ≡ b
 and_none true b = refl
 and_none false b = refl
-
-and_no : (a : Bool) → (a && false) ≡ false
-and_no true = refl
-and_no false = refl
 
 plus_one : (k l t : ℕ) → l ≡ k + 1 → k * t + t ≡ l * t
 plus_one k l t is = let e : l ≡ suc k = omega arith in rw e (omega (arith, suc-mul k t))
@@ -156,7 +146,7 @@ counted_more :
     → set.len (cpus_of_cores m old) ≡ set.len old * m.threads → set.len (cpus_of_cores m new) ≡ set.len new * m.threads
 counted_more m old new n true are in_range lowest apart each more before =
     let there = lowest refl in
-    one_more m old new n are in_range there.0 there.1 apart (λ c. each c ∙ ap (λ b. b || set.contains old c) (and_one (c == n)))
+    one_more m old new n are in_range there.0 there.1 apart (λ c. each c ∙ ap (λ b. b || set.contains old c) (and_yes (c == n)))
     ∙ ap (λ k. k + m.threads) before
     ∙ plus_one (set.len old) (set.len new) m.threads more
 counted_more m old new n false are in_range lowest apart each more before =
@@ -211,14 +201,14 @@ one_member s a b one has_a has_b =
       | inl same ↦ sym same
       | inr other ↦
           absurd (none_has (set.remove s a) b (set.empty_of_len _ (less_one s a one has_a))
-          (contains-remove s a b ∙ and_true _ _ (ap not (ne_eqb b a other)) has_b))
+          (contains-remove s a b ∙ and_from _ _ (ap not (ne_eqb b a other)) has_b))
     ]
 
 -- where a core has one CPU, each CPU is a core of its own
 own_by : (m : Layout) (c : ℕ) (b : Bool) → AreCores m → m.threads ≡ 1 → set.contains (present m) c ≡ b → core_of m c ≡ c
 own_by m c true are one there =
     one_member (cpus_of_core m (core_of m c)) (core_of m c) c (are.threads c there ∙ one)
-    (contains-cpus_of_core m (core_of m c) (core_of m c) ∙ and_true _ _ (are.is_present c there) (number_test _ _ (are.same c there)))
+    (contains-cpus_of_core m (core_of m c) (core_of m c) ∙ and_from _ _ (are.is_present c there) (eq-eqb _ _ (are.same c there)))
     (in_own_core m c there)
 own_by m c false are one absent = are.absent c absent
 
@@ -243,19 +233,19 @@ pub single_cores_in : CpusAreCores
 single_cores_in m s are one =
     same_members (cores_in m s) s (λ c.
     contains-cores_in m s c
-    ∙ one_way _ _ (λ has. (both_true (set.contains s c) _ has).0)
+    ∙ same_tests _ _ (λ has. (and_parts (set.contains s c) _ has).0)
     (λ has.
     let own : core_of m c ≡ c = own_core m c are one in
-    and_true _ _ has
-    (and_true _ _ (number_test _ _ own)
+    and_from _ _ has
+    (and_from _ _ (eq-eqb _ _ own)
     (contains-is_subset (cpus_of_core m c) s (λ q in_core.
-    let r = both_true _ _ (sym (contains-cpus_of_core m c q) ∙ in_core) in
-    ap (set.contains s) (sym (own_core m q are one) ∙ same_number _ _ r.1) ∙ has)))))
+    let r = and_parts _ _ (sym (contains-cpus_of_core m c q) ∙ in_core) in
+    ap (set.contains s) (sym (own_core m q are one) ∙ eqb-true _ _ r.1) ∙ has)))))
 
 pub single_cpus_of_cores : CoresAreCpus
 single_cpus_of_cores m s are one in_range =
     same_members (cpus_of_cores m s) s (λ c.
     contains-cpus_of_cores m s c
-    ∙ one_way _ _
-    (λ has. ap (set.contains s) (sym (own_core m c are one)) ∙ (both_true (nat_lt c CPU_LIMIT) _ has).1)
-    (λ has. and_true _ _ (below_test _ _ (in_range c has)) (ap (set.contains s) (own_core m c are one) ∙ has)))
+    ∙ same_tests _ _
+    (λ has. ap (set.contains s) (sym (own_core m c are one)) ∙ (and_parts (nat_lt c CPU_LIMIT) _ has).1)
+    (λ has. and_from _ _ (lt-ltb _ _ (in_range c has)) (ap (set.contains s) (own_core m c are one) ∙ has)))

@@ -1,27 +1,28 @@
 -- Sums over the CPUs of cores.
-use Rattle.std.proofs.Common.{◌≡◌, ℕ, zero, suc, ◌+◌, ◌*◌, ◌<◌, Bool, true, false, cond, ◌&&◌, nat_lt, List, [], ◌∷◌, length, filter, refl, sym, ap, ◌∙◌, arith}
+use Rattle.std.proofs.Common.{◌≡◌, ℕ, zero, suc, ◌+◌, ◌*◌, Bool, true, false, cond, ◌&&◌, nat_lt, List, [], ◌∷◌, length, filter, refl, sym, ap, ◌∙◌, arith}
 use Rattle.std.specs.Prelude.{◌||◌, ◌==◌}
 use Rattle.std.specs.List.{sum_by}
-use Rattle.std.proofs.lemmas.Bool.{true≢false}
+use Rattle.std.proofs.lemmas.Bool.{true≢false, and_parts, eqb-true}
 use Rattle.std.proofs.lemmas.Bool.Decides.{nat_tests}
 use Rattle.std.proofs.lemmas.List.Sums.{sum_by-cons}
 use Rattle.std.specs.Cmp.{nat_cmp_total}
 use Rattle.std.specs.Ordering.{nat_cmp}
 use Rattle.std.specs.FinSet as set
+use Rattle.faults.specs.Tests.{or_no, and_yes}
 use Rattle.cpu_set.specs.Ids.{Ids}
 use Rattle.cpu_set.specs.Members.{InRange, members, cpus}
 use Rattle.cpu_set.specs.Pointwise.{same_members, contains-empty, contains-insert}
 use Rattle.cpu_set.specs.SetLaws.{length-members, those-contains}
 use Rattle.cpu_set.specs.Those.{those, contains-those}
 use Rattle.cpu_set.specs.declared.TheConstants.{CPU_LIMIT}
-use Rattle.machine.specs.CoreCounts.{more_cpus, more_apart, core_in_range, not_below_itself, those_more, and_one, and_none}
+use Rattle.machine.specs.CoreCounts.{more_cpus, more_apart, core_in_range, not_below_itself, those_more, and_none}
 use Rattle.machine.specs.Cores.{core_of, cpus_of_core, cpus_of_cores, AreCores}
 use Rattle.machine.specs.IsSound.{IsSound}
 use Rattle.machine.specs.Layout.{Layout}
 use Rattle.machine.specs.NodeLaws.{IsPresent-IsOfNode, node_found, weight_by_node}
 use Rattle.machine.specs.Present.{present, IsPresent}
 use Rattle.machine.specs.Weight.{weight}
-use Rattle.machine.specs.WholeLaws.{AreLowest, both_true, same_number, contains-cpus_of_core, contains-cpus_of_cores}
+use Rattle.machine.specs.WholeLaws.{AreLowest, contains-cpus_of_core, contains-cpus_of_cores}
 
 -- what is the same of all CPUs of a core sums up over the CPUs of cores to as many times that over the cores as a core has CPUs
 abbrev pub CoresWeighAlike : Type 0
@@ -87,13 +88,9 @@ module _ (f : ℕ → ℕ) where
 one : ℕ → Ids
 one n = set.insert set.empty n
 
-number_or : (a : Bool) → (a || false) ≡ a
-number_or true = refl
-number_or false = refl
-
 contains-one : (n c : ℕ) → set.contains (one n) c ≡ (c == n)
 unfolding one
-contains-one n c = contains-insert set.empty n c ∙ ap (λ b. (c == n) || b) (contains-empty c) ∙ number_or (c == n)
+contains-one n c = contains-insert set.empty n c ∙ ap (λ b. (c == n) || b) (contains-empty c) ∙ or_no (c == n)
 
 len-one : (n : ℕ) → set.len (one n) ≡ 1
 unfolding one
@@ -125,17 +122,17 @@ module _ (m : Layout) (cores : Ids) (f : ℕ → ℕ) (are : AreCores m) (in_ran
   sums_with old new n there own apart is before =
       let core : over f (cpus_of_core m n) ≡ m.threads * f n =
       over_alike f (cpus_of_core m n) (f n) (core_in_range m n in_range) (λ c has.
-      let p = both_true _ _ (sym (contains-cpus_of_core m n c) ∙ has) in
-      sym (alike c p.0) ∙ ap f (same_number _ _ p.1))
+      let p = and_parts _ _ (sym (contains-cpus_of_core m n c) ∙ has) in
+      sym (alike c p.0) ∙ ap f (eqb-true _ _ p.1))
       ∙ ap (λ k. k * f n) (ap (λ k. set.len (cpus_of_core m k)) (sym own) ∙ are.threads n there) in
       let single : over f (one n) ≡ 1 * f n =
-      over_alike f (one n) (f n) (λ c has. in_range c (ap (set.contains (present m)) (same_number _ _ (sym (contains-one n c) ∙ has)) ∙ there))
-      (λ c has. ap f (same_number _ _ (sym (contains-one n c) ∙ has)))
+      over_alike f (one n) (f n) (λ c has. in_range c (ap (set.contains (present m)) (eqb-true _ _ (sym (contains-one n c) ∙ has)) ∙ there))
+      (λ c has. ap f (eqb-true _ _ (sym (contains-one n c) ∙ has)))
       ∙ ap (λ k. k * f n) (len-one n) in
       let more : over f new ≡ over f old + 1 * f n =
       over_split f old (one n) new
       (λ c. is c ∙ or_turned (c == n) (set.contains old c) ∙ ap (λ b. set.contains old c || b) (sym (contains-one n c)))
-      (λ c in_old in_one. true≢false (sym in_old ∙ ap (set.contains old) (same_number _ _ (sym (contains-one n c) ∙ in_one)) ∙ apart))
+      (λ c in_old in_one. true≢false (sym in_old ∙ ap (set.contains old) (eqb-true _ _ (sym (contains-one n c) ∙ in_one)) ∙ apart))
       ∙ ap (λ k. over f old + k) single in
       more_sums _ _ _ _ (over f old) (f n) m.threads
       (over_split f (cpus_of_cores m old) (cpus_of_core m n) (cpus_of_cores m new) (more_cpus m old new n are in_range there is) (more_apart m old n apart))
@@ -144,7 +141,7 @@ module _ (m : Layout) (cores : Ids) (f : ℕ → ℕ) (are : AreCores m) (in_ran
   sums_more : (old new : Ids) (n : ℕ) (v : Bool) → (v ≡ true → IsPresent m n × (core_of m n ≡ n)) → set.contains old n ≡ false
       → ((c : ℕ) → set.contains new c ≡ (((c == n) && v) || set.contains old c)) → Sums old → Sums new
   sums_more old new n true low apart is before =
-      sums_with old new n (low refl).0 (low refl).1 apart (λ c. is c ∙ ap (λ b. b || set.contains old c) (and_one (c == n))) before
+      sums_with old new n (low refl).0 (low refl).1 apart (λ c. is c ∙ ap (λ b. b || set.contains old c) (and_yes (c == n))) before
   sums_more old new n false low apart is before =
       let same : new ≡ old = same_members new old (λ c. is c ∙ and_none (c == n) (set.contains old c)) in
       rw same before

@@ -1,12 +1,12 @@
 -- The cores that a machine file lists, and what may be wrong with them.
 -- From: the order is ours.
-use Rattle.std.specs.Prelude.{ℕ, not, ◌&&◌, ◌||◌, ◌==◌, Bool, cond, List, [], ◌∷◌, length, take, map, fold, slice_index_or, Option, Some, None, option_map, unwrap_or}
+use Rattle.std.specs.Prelude.{ℕ, not, ◌&&◌, ◌||◌, ◌==◌, Bool, cond, List, [], ◌∷◌, length, take, map, fold, slice_index_or, Option, Some, None, option_map}
 use Rattle.std.specs.List.{list_all, list_any}
 use Rattle.std.specs.FinSet as set
 use Rattle.faults.specs.First.{when, first_of, first_below}
-use Rattle.serde_json.specs.Data.{Data, null}
+use Rattle.serde_json.specs.Data.{Data}
 use Rattle.cpu_set.specs.Ids.{Ids, is_empty}
-use Rattle.cpu_set.specs.Least.{least_that}
+use Rattle.cpu_set.specs.Least.{least_that, least_of}
 use Rattle.cpu_set.specs.Members.{cpus}
 use Rattle.machine.specs.declared.fault.MachineFault.{MachineFault}
 use Rattle.machine.specs.declared.fault.MachineFault.TheVariants.{BadField, BadCore, NoCore}
@@ -15,10 +15,6 @@ use Rattle.machine.specs.KindFaults.{array_fault}
 use Rattle.machine.specs.Listed.{is_list, listed}
 use Rattle.machine.specs.Members.{items_of}
 use Rattle.machine.specs.Present.{union_of}
-
--- the least CPU of a core
-abbrev pub least_of : Ids → ℕ
-least_of core = unwrap_or (least_that (set.contains core)) 0
 
 -- the lowest CPU of the core that has this CPU; where none has it, it is a core of its own
 unfoldable pub lowest_in : List Ids → ℕ → ℕ

@@ -1,19 +1,15 @@
 -- The distances that a machine file or a SLIT gives.
-use Rattle.std.specs.Prelude.{◌≡◌, ℕ, ◌<◌, ◌*◌, List, length, map, Option, Some, None, option_and_then, unwrap_or, slice_index_or}
+use Rattle.std.specs.Prelude.{◌≡◌, ℕ, ◌<◌, ◌*◌, List, length, map, Option, Some, None, unwrap_or, slice_index_or}
 use Rattle.std.specs.List.{flat_map}
 use Rattle.serde_json.specs.Data.{Data, null}
-use Rattle.serde_json.specs.Find.{as_number, as_u64}
+use Rattle.json_text.specs.Numbers.{unsigned_of}
 use Rattle.slit.specs.AreDistances.{IsEntry, IsRow}
 use Rattle.slit.specs.Table.{Table, table}
 use Rattle.machine.specs.Members.{items_of, items_in}
 
--- the number as an unsigned one of 64 bits, where it is written as a whole number that fits
-abbrev pub number_of : Data → Option ℕ
-number_of d = option_and_then as_u64 (as_number d)
-
 -- an entry of a row
 abbrev pub entry_of : Data → ℕ
-entry_of d = unwrap_or (number_of d) 0
+entry_of d = unwrap_or (unsigned_of d) 0
 
 -- the entries of a row
 abbrev pub row_entries : Data → List ℕ

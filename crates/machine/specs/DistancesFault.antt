@@ -7,7 +7,7 @@ use Rattle.slit.specs.Table.{Table}
 use Rattle.machine.specs.declared.fault.MachineFault.{MachineFault}
 use Rattle.machine.specs.declared.fault.MachineFault.TheVariants.{BadField, BothDistances, NoDistances, WrongSize, BadDistance}
 use Rattle.machine.specs.declared.field.Field.TheVariants.{Distances}
-use Rattle.machine.specs.Distances.{number_of}
+use Rattle.json_text.specs.Numbers.{unsigned_of}
 use Rattle.machine.specs.KindFaults.{array_fault}
 use Rattle.machine.specs.Members.{items_of}
 
@@ -18,7 +18,7 @@ entry_fault i j (Some d) = when (not (cond (i == j) (d == 10) (nat_le 10 d && na
 
 -- the first fault in row i
 unfoldable pub row_fault : ℕ → List Data → Option MachineFault
-row_fault i cells = first_below (length cells) (λ j. entry_fault i j (number_of (slice_index_or cells j null)))
+row_fault i cells = first_below (length cells) (λ j. entry_fault i j (unsigned_of (slice_index_or cells j null)))
 
 -- the first fault of the entries, by rows
 unfoldable pub rows_fault : List Data → Option MachineFault

@@ -6,7 +6,7 @@ use Rattle.cpu_set.specs.Ids.{Ids, IsDisjoint}
 use Rattle.serde_json.specs.Data.{Data, null}
 use Rattle.serde_json.specs.Find.{as_array, as_object}
 use Rattle.slit.specs.Table.{Table}
-use Rattle.machine.specs.Distances.{number_of}
+use Rattle.json_text.specs.Numbers.{unsigned_of}
 use Rattle.machine.specs.Listed.{is_list, listed, listed_in}
 use Rattle.machine.specs.MachineOf.{said_by}
 use Rattle.machine.specs.Members.{nodes_member, distances_member, reserved_member, offline_member, cores_member, items_of, items_in}
@@ -19,7 +19,7 @@ pub record IsSquare (n : ℕ) (d : Data) : Type 0 where
   pub arrays : (i : ℕ) → i < n → is_some (as_array (slice_index_or (items_of d) i null)) ≡ true
   pub columns : (i : ℕ) → i < n → length (items_of (slice_index_or (items_of d) i null)) ≡ n
   pub numbers : (i j : ℕ) → i < n → j < n
-      → is_some (number_of (slice_index_or (items_of (slice_index_or (items_of d) i null)) j null)) ≡ true
+      → is_some (unsigned_of (slice_index_or (items_of (slice_index_or (items_of d) i null)) j null)) ≡ true
 
 -- the distances between n nodes stand in one of the two places
 abbrev pub HasDistances : Option Table → Option Data → ℕ → Type 0

@@ -1,19 +1,16 @@
 -- The set of a list is that of the numbers which it names.
-use Rattle.std.proofs.Common.{◌≡◌, ℕ, ◌<◌, ◌≤◌, inl, inr, Bool, true, false, ◌&&◌, nat_lt, List, [], ◌∷◌, None, refl, sym, ap, ◌∙◌, arith}
+use Rattle.std.proofs.Common.{◌≡◌, ℕ, ◌<◌, ◌≤◌, inl, inr, Bool, true, false, ◌&&◌, nat_lt, List, [], ◌∷◌, refl, sym, ap, ◌∙◌, arith}
 use Rattle.std.specs.Prelude.{◌||◌, nat_le}
 use Rattle.std.specs.List.{list_any, AllByRecursion}
 use Rattle.std.proofs.lemmas.Bool.{false≢true}
 use Rattle.std.proofs.lemmas.Bool.Decides.{nat_tests}
-use Rattle.cpu_list.specs.ListText.{names, piece_names, range_names, range_of, number_of, item_of, pieces, IsItem, IsList, IsSetOf}
+use Rattle.cpu_list.specs.ItemFaults.{range_of-nil}
+use Rattle.cpu_list.specs.ListText.{names, piece_names, range_names, range_of, item_of, pieces, IsItem, IsList, IsSetOf}
 use Rattle.cpu_set.specs.Those.{contains-those}
 use Rattle.cpu_set.specs.Ids.{Ids}
 use Rattle.cpu_set.specs.Pointwise.{same_members}
 use Rattle.cpu_set.specs.declared.TheConstants.{CPU_LIMIT}
 use Rattle.machine.specs.Listed.{set_of}
-
-range_of-nil : range_of [] ≡ None
-unfolding range_of number_of
-range_of-nil = refl
 
 range_within : (limit n first last : ℕ) → last < limit → (nat_le first n && nat_le n last) ≡ true → n < limit
 range_within limit n first last below named = grind (arith, nat_tests)

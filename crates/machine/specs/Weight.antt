@@ -13,13 +13,13 @@ pub record AreHomes (m : Layout) (homes : Ids) : Type 0 where
   pub nodes : (h : ℕ) → set.contains homes h ≡ true → h < node_count m
 
 -- The least distance from node i to a home.
-pub record IsLeast (m : Layout) (homes : Ids) (i w : ℕ) : Type 0 where
+pub record IsLeastDistance (m : Layout) (homes : Ids) (i w : ℕ) : Type 0 where
   pub reached : (h : ℕ) × (set.contains homes h ≡ true) × (w ≡ distance m i h)
   pub least : (h : ℕ) → set.contains homes h ≡ true → w ≤ distance m i h
 
 -- the weight of a CPU for these homes: the least distance from its node to a home
 abbrev pub IsWeight : Layout → Ids → ℕ → ℕ → Type 0
-IsWeight m homes cpu w = (i : ℕ) × IsOfNode m cpu i × IsLeast m homes i w
+IsWeight m homes cpu w = (i : ℕ) × IsOfNode m cpu i × IsLeastDistance m homes i w
 
 -- the weight of a CPU, computed: the least of the distances from its node to the homes
 unfoldable pub weight : Layout → Ids → ℕ → ℕ
@@ -32,6 +32,6 @@ HaveOneWeight m cpus = (homes : Ids) (a b : ℕ) → set.contains cpus a ≡ tru
 -- a list of weights: at each node that of its CPUs, and behind the nodes the greatest distance
 pub record AreWeights (m : Layout) (homes : Ids) (weights : List ℕ) : Type 0 where
   pub room : length weights ≡ NODE_LIMIT
-  pub least : (i : ℕ) → i < node_count m → IsLeast m homes i (slice_index_or weights i 255)
+  pub least : (i : ℕ) → i < node_count m → IsLeastDistance m homes i (slice_index_or weights i 255)
   pub each : (cpu : ℕ) → IsPresent m cpu → slice_index_or weights (node_of m cpu) 255 ≡ weight m homes cpu
   pub beyond : (i : ℕ) → node_count m ≤ i → slice_index_or weights i 255 ≡ 255

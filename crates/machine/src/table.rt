@@ -7,7 +7,8 @@ ghost use Rattle.serde_json.specs.View.{view};
 ghost use Rattle.slit.specs.AreDistances.{IsEntry};
 ghost use Rattle.json_text.specs.Members.{seen};
 ghost use Rattle.machine.specs.Members.{items_of};
-ghost use Rattle.machine.specs.Distances.{number_of, entry_of, row_entries, distances_in, AreEntries, IsRowAllowed, AreRowsAllowed};
+ghost use Rattle.json_text.specs.Numbers.{unsigned_of};
+ghost use Rattle.machine.specs.Distances.{entry_of, row_entries, distances_in, AreEntries, IsRowAllowed, AreRowsAllowed};
 ghost use Rattle.machine.specs.DistancesFault.{entry_fault, row_fault, rows_fault, shape_fault, distances_fault};
 
 use crate::fault::MachineFault;
@@ -148,7 +149,7 @@ fn read_row(
 
 /// The entry in row `i` and column `j`.
 fn read_entry(cell: &Value, i: usize, j: usize) -> Result<u8, MachineFault>
-    ensures fault { entry_fault i j (number_of (view cell.now)) ≡ result_err result }
+    ensures fault { entry_fault i j (unsigned_of (view cell.now)) ≡ result_err result }
     ensures entry { IfOk result (λ d. d ≡ entry_of (view cell.now)) }
     ensures allowed { IfOk result (IsEntry i j) }
 {

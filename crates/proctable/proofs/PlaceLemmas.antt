@@ -2,11 +2,11 @@
 use Rattle.std.proofs.Common.{◌≡◌, ◌≢◌, ℕ, zero, suc, ◌+◌, ◌<◌, ◌≤◌, Bool, true, false, not, ◌&&◌, ◌||◌, List, [], ◌∷◌, ◌++◌, length, get_or, set, filter, refl, sym, ap, ◌∙◌, subst, arith, eq-eqb, zero-add, length-append}
 use Rattle.std.proofs.lemmas.Bool.{both_ways, ne_eqb, cond-true, cond-false, or_left}
 use Rattle.std.proofs.lemmas.Bool.Decides.{nat_tests}
-use Rattle.std.proofs.lemmas.Option.{same_Some, none-some}
+use Rattle.std.proofs.lemmas.Option.{same_Some}
 use Rattle.std.proofs.lemmas.Cmp.{ranked}
 use Rattle.std.proofs.lemmas.List.Sorted.{IsNonDecreasingBy-from_default}
 use Rattle.std.proofs.lemmas.List.Sums.{sum_by-cons}
-use Rattle.std.specs.Prelude.{Option, Some, None, Result, Ok, Err, IfOk, IfErr, is_some, cond, count_by, ◌==◌}
+use Rattle.std.specs.Prelude.{Some, None, Result, Ok, Err, IfOk, IfErr, is_some, cond, count_by, ◌==◌}
 use Rattle.std.specs.List.Sorted.{IsSearchInRange, IsBinarySearchResult, IsNonDecreasingBy}
 use Rattle.std.specs.Ordering.{nat_cmp, ordering_index}
 use Rattle.proctable.specs.declared.processes.Process.{Process}
@@ -15,7 +15,7 @@ use Rattle.proctable.specs.Processes.{process_among}
 use Rattle.proctable.specs.TableChanges.{ends_with}
 use Rattle.proctable.specs.TableWellFormed.{RisesBelow, Belongs, AllBelong}
 use Rattle.proctable.specs.Kept.{live_of, alive_in, over, PidsRise, nobody, pid_at, AreEnded, EndsAlone}
-use Rattle.proctable.specs.ProcessLemmas.{process-here, process-there, process-below, process-pid, rises_from}
+use Rattle.proctable.specs.ProcessLemmas.{process-here, process-there, process-below, rises_from}
 
 -- one that has ended is passed over, and one that lives is not
 pub live_ended : (s : Slot) (later : List Slot) → s.ended ≡ true → live_of (s ∷ later) ≡ live_of later

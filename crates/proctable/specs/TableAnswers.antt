@@ -1,5 +1,5 @@
 -- What each call of a table answers: the first thing that stands against it, in the order written here, or what it is for.
-use Rattle.std.specs.Prelude.{◌≡◌, ℕ, false, nat_lt, if◌then◌else◌, not, Option, Some, None, Result, Ok, Err}
+use Rattle.std.specs.Prelude.{◌≡◌, ℕ, false, nat_lt, if◌then◌else◌, not, Option, Some, None, Result}
 use Rattle.faults.specs.declared.or_memory.OrMemory.{OrMemory}
 use Rattle.faults.specs.Calls.{Grows}
 use Rattle.cpuset_tree.specs.declared.Group.{Group}

@@ -1,10 +1,11 @@
 -- The offers of a row fit the limits, and what a CPU weighs among them.
 use Rattle.std.proofs.Common.{◌≡◌, ℕ, zero, suc, ◌+◌, ◌*◌, ◌/◌, ◌<◌, ◌≤◌, Bool, true, false, cond, ◌&&◌, ◌==◌, nat_le, Some, None, List, ◌∷◌, map, filter, refl, sym, ap, ◌∙◌, inl, inr, arith}
 use Rattle.std.specs.List.{range_with_len, list_all}
-use Rattle.std.proofs.lemmas.Bool.{cases_eq, false≢true, and_from}
+use Rattle.std.proofs.lemmas.Bool.{cases_eq, and_from}
 use Rattle.std.proofs.lemmas.Bool.Decides.{nat_tests}
 use Rattle.std.proofs.Math.Nat.{mul-div_cancel, suc-mul}
 use Rattle.std.specs.FinSet as set
+use Rattle.certificate.specs.Tests.{and_left}
 use Rattle.cpu_set.specs.Ids.{Ids}
 use Rattle.cpu_set.specs.Pointwise.{same_members, contains-empty, contains-intersection, is_subset-contains}
 use Rattle.machine.specs.Cores.{cores_in}
@@ -118,13 +119,9 @@ module _ (m : Layout) (homes cpus : Ids) where
   weighs c true has near = own_weight c 0 255 has (omega arith) (near refl)
   weighs c false none near = no_weight c 0 255 none
 
-left_part : (a b : Bool) → (a && b) ≡ true → a ≡ true
-left_part true b is = refl
-left_part false b is = absurd (false≢true is)
-
 -- what is available is allowed
 pub allowed_part : (allowed online cpus : Ids) (c : ℕ) → cpus ≡ set.intersection allowed online → set.contains cpus c ≡ true → set.contains allowed c ≡ true
-allowed_part allowed online cpus c is has = left_part _ _ (sym (contains-intersection allowed online c) ∙ ap (λ s. set.contains s c) (sym is) ∙ has)
+allowed_part allowed online cpus c is has = and_left _ _ (sym (contains-intersection allowed online c) ∙ ap (λ s. set.contains s c) (sym is) ∙ has)
 
 -- the cores of what is available are CPUs of it
 pub offered_part : (m : Layout) (allowed online : Ids) (c : ℕ) → set.contains (cores_in m (set.intersection allowed online)) c ≡ true → set.contains allowed c ≡ true

@@ -4,7 +4,7 @@ use Rattle.std.specs.FinSet as set
 use Rattle.std.specs.Cmp.{nat_cmp_total}
 use Rattle.std.specs.Prelude.{slice_set as set_at}
 use Rattle.std.proofs.lemmas.List.{length_push, get_or_push, get_or_append_left, get_or_read, length-set, get_or-set_same, get_or-set_other}
-use Rattle.std.proofs.lemmas.Bool.{cases_eq, cases_lt, cases_Bool, or_cases, or_left, or_right}
+use Rattle.std.proofs.lemmas.Bool.{cases_eq, cases_lt, cases_Bool, or_cases, or_left, or_right, eqb-true}
 use Rattle.std.proofs.lemmas.Bool.Decides.{nat_tests}
 use Rattle.cpu_set.specs.Ids.{Ids}
 use Rattle.cpu_set.specs.Pointwise.{contains-empty, contains-insert, contains-remove}
@@ -40,9 +40,6 @@ in_blocks_at blocks at block cpu w lt its has weight = record { index = at; bloc
 or_same : (a : Bool) (n : ℕ) → (a || (n == n)) ≡ true
 or_same a n = grind (arith, nat_tests)
 
-pub equal : (a b : ℕ) → (a == b) ≡ true → a ≡ b
-equal a b on = grind (arith, nat_tests)
-
 -- a CPU more in one block
 module _ (blocks : List Block) (at : ℕ) (block changed : Block) (cpu weight : ℕ) (lt : at < length blocks) (its : (d : Block) → get_or blocks at d ≡ block) (weighs : block.weight ≡ weight) (still : changed.weight ≡ weight)
     (grows : (q : ℕ) → set.contains changed.firsts q ≡ (set.contains block.firsts q || (q == cpu))) where
@@ -72,7 +69,7 @@ module _ (blocks : List Block) (at : ℕ) (block changed : Block) (cpu weight : 
           let its_weight : weight ≡ w = sym still ∙ ap (λ (x : Block). x.weight) same ∙ b.weight in
           elim (or_cases _ _ (sym (grows c) ∙ on)) [
             | inl was ↦ inl (in_blocks_at blocks at block c w lt its was (weighs ∙ its_weight))
-            | inr is ↦ inr (equal c cpu is, sym its_weight)
+            | inr is ↦ inr (eqb-true c cpu is, sym its_weight)
           ]
 
   pub extended_kept : (c w : ℕ) → InBlocks blocks c w → InBlocks extended c w
@@ -128,7 +125,7 @@ module _ (blocks : List Block) (firsts : Ids) (cpu weight : ℕ) (one : (q : ℕ
     | inr late ↦ (let e : b.index ≡ length blocks = omega (arith, late, b.within, more_long) in
         let same : fresh ≡ b.block = sym (get_or_push blocks fresh fresh b.index (sym e)) ∙ b.its fresh in
         let on : set.contains firsts c ≡ true = subst (λ (x : Block). set.contains x.firsts c ≡ true) (sym same) b.has in
-        inr (equal c cpu (sym (one c) ∙ on), sym b.weight ∙ ap (λ (x : Block). x.weight) (sym same)))
+        inr (eqb-true c cpu (sym (one c) ∙ on), sym b.weight ∙ ap (λ (x : Block). x.weight) (sym same)))
   ]
 
   pub pushed_kept : (c w : ℕ) → InBlocks blocks c w → InBlocks longer c w
@@ -332,7 +329,7 @@ passed_better ws s old new firsts cpus b h = record {
 pub passed_inserted : (old new : Ids) (cpu value reach : ℕ) → new ≡ set.insert old cpu → value ≡ reach → IsPassedToo old new cpu value reach
 passed_inserted old new cpu value reach grown e = record {
   only = λ q on. elim (or_cases _ _ (sym (contains-insert old cpu q) ∙ subst (λ s. set.contains s q ≡ true) grown on)) [
-    | inl is ↦ inr (equal q cpu is, e)
+    | inl is ↦ inr (eqb-true q cpu is, e)
     | inr was ↦ inl was
   ];
   kept = λ q on. rw grown (contains-insert old cpu q ∙ or_right (q == cpu) _ on);

@@ -1,15 +1,11 @@
 -- The first CPUs of sets, and what finds the set again.
-use Rattle.std.specs.Prelude.{◌≡◌, ℕ, ◌<◌, true, List, length, unwrap_or}
+use Rattle.std.specs.Prelude.{◌≡◌, ℕ, ◌<◌, true, List, length}
 use Rattle.std.specs.FinSet as set
 use Rattle.cpu_set.specs.Ids.{Ids}
-use Rattle.cpu_set.specs.Least.{least_that}
+pub use Rattle.cpu_set.specs.Least.{least_of as first_of}
 use Rattle.cpu_set.specs.Members.{IsCpu}
 use Rattle.cpu_set.specs.declared.TheConstants.{CPU_LIMIT}
 use Rattle.transport.specs.Numbers.{number, IsIn}
-
--- the least CPU, and 0 for an empty set
-abbrev pub first_of : Ids → ℕ
-first_of s = unwrap_or (least_that (set.contains s)) 0
 
 -- the first CPUs up to some place are those of the set, and each leads to its place
 pub record IsIndex (cpus : List ℕ) (s : Ids) (class_of : List ℕ) (upto : ℕ) : Type 0 where

@@ -1,8 +1,9 @@
 -- How many classes of twins there are.
-use Rattle.std.proofs.Common.{◌≡◌, ℕ, suc, ◌<◌, ◌≤◌, Bool, true, false, cond, List, [], ◌∷◌, length, sum_by, refl, arith}
+use Rattle.std.proofs.Common.{◌≡◌, ℕ, suc, ◌<◌, ◌≤◌, cond, List, [], ◌∷◌, length, sum_by, refl, arith}
 use Rattle.std.specs.Prelude.{All}
 use Rattle.std.specs.FinSet as set
 use Rattle.std.proofs.lemmas.List.Sums.{sum_by-cons}
+use Rattle.certificate.specs.Tests.{one_at_most}
 use Rattle.cpu_set.specs.Ids.{Ids}
 use Rattle.cpu_set.specs.Members.{InRange, cpus}
 use Rattle.cpu_set.specs.declared.TheConstants.{CPU_LIMIT}
@@ -37,17 +38,13 @@ members_summed (s ∷ sets) in_range =
       members_summed sets (λ k d lt. in_range (suc k) d (omega arith)),
     )
 
-at_most_1 : (b : Bool) → cond {A = ℕ} b 1 0 ≤ 1
-at_most_1 true = omega arith
-at_most_1 false = omega arith
-
 -- there are no more classes than CPUs
 pub few_classes : (rows : List RowView) (classes : List Ids) → IsGrouping rows classes → length classes ≤ CPU_LIMIT
 few_classes rows classes grouping =
     let swapped : sum_by (λ s. sum_by (λ c. cond (set.contains s c) 1 0) cpus) classes ≡ sum_by (times_in classes) cpus =
     sum_by_swap (λ (s : Ids) (c : ℕ). cond {A = ℕ} (set.contains s c) 1 0) classes cpus in
     let once : sum_by (times_in classes) cpus ≤ sum_by (λ _. 1) cpus =
-    sum_by-cpus-le (times_in classes) (λ _. 1) (λ c is_cpu. omega (arith, times_of_apart classes c grouping.apart, at_most_1 (is_held classes c))) in
+    sum_by-cpus-le (times_in classes) (λ _. 1) (λ c is_cpu. omega (arith, times_of_apart classes c grouping.apart, one_at_most (is_held classes c))) in
     omega (
       arith,
       no_more_than_members classes grouping.not_empty,

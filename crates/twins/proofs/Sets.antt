@@ -11,7 +11,7 @@ use Rattle.cpu_set.specs.SetLaws.{length-members}
 use Rattle.cpu_set.specs.declared.TheConstants.{CPU_LIMIT}
 use Rattle.certificate.specs.Cpus.{sum_by-cpus-le, length-cpus}
 use Rattle.certificate.specs.Sums.{sum_by_same, sum_by_plus, sum_by-constant}
-use Rattle.certificate.specs.Tests.{and_left}
+use Rattle.certificate.specs.Tests.{and_left, one_at_most}
 use Rattle.certificate.specs.IsDealt.{Holds}
 
 -- an empty set has no member
@@ -50,17 +50,13 @@ len_split s t in_range =
     ∙ ap (λ b. cond {A = ℕ} (set.contains (set.intersection s t) c) 1 0 + cond {A = ℕ} b 1 0) (sym (contains-difference s t c)))
     ∙ sum_by_plus (λ c. cond {A = ℕ} (set.contains (set.intersection s t) c) 1 0) (λ c. cond {A = ℕ} (set.contains (set.difference s t) c) 1 0) cpus)
 
-at_most : (b : Bool) → cond {A = ℕ} b 1 0 ≤ 1
-at_most true = omega arith
-at_most false = omega arith
-
 -- a set has no more members than there are CPUs
 pub len_small : (s : Ids) → InRange s → set.len s ≤ CPU_LIMIT
 len_small s in_range =
     omega (
       arith,
       len_sum s in_range,
-      sum_by-cpus-le (λ c. cond {A = ℕ} (set.contains s c) 1 0) (λ _. 1) (λ c is_cpu. at_most (set.contains s c)),
+      sum_by-cpus-le (λ c. cond {A = ℕ} (set.contains s c) 1 0) (λ _. 1) (λ c is_cpu. one_at_most (set.contains s c)),
       sum_by-constant {X = ℕ} 1 cpus,
       length-cpus,
     )

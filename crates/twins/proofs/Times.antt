@@ -3,6 +3,7 @@ use Rattle.std.proofs.Common.{◌≡◌, ℕ, zero, suc, ◌+◌, ◌<◌, ◌�
 use Rattle.std.specs.FinSet as set
 use Rattle.std.specs.List.{AllPairs}
 use Rattle.std.proofs.lemmas.List.Sums.{sum_by-cons, sum_by_push}
+use Rattle.certificate.specs.Tests.{one_at_most}
 use Rattle.cpu_set.specs.Ids.{Ids, IsDisjoint}
 use Rattle.certificate.specs.PlanFault.{is_held}
 use Rattle.twins.specs.IsPart.{times_in, IsPutTo}
@@ -25,14 +26,10 @@ twice (s ∷ sets) c zero (suc j) d lt within has_i has_j =
 twice (s ∷ sets) c (suc i) (suc j) d lt within has_i has_j =
     omega (arith, sum_by-cons (λ (t : Ids). cond (set.contains t c) 1 0) s sets, twice sets c i j d (omega arith) (omega arith) has_i has_j)
 
-at_most_once : (b : Bool) → cond b 1 0 ≤ 1
-at_most_once true = omega arith
-at_most_once false = omega arith
-
 -- sets that have each CPU at most once are apart
 pub apart_of_times : (sets : List Ids) (offered : ℕ → Bool) → ((c : ℕ) → times_in sets c ≡ cond (offered c) 1 0) → AllPairs IsDisjoint sets
 apart_of_times sets offered once i j d lt within c has_i has_j =
-    absurd (omega (arith, twice sets c i j d lt within has_i has_j, once c, at_most_once (offered c)))
+    absurd (omega (arith, twice sets c i j d lt within has_i has_j, once c, one_at_most (offered c)))
 
 held_of_times : (sets : List Ids) (c : ℕ) (b : Bool) → times_in sets c ≡ cond b 1 0 → is_held sets c ≡ b
 held_of_times [] c true once = absurd (omega arith)

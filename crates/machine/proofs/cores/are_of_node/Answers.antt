@@ -1,4 +1,4 @@
-use Rattle.std.proofs.Common.{◌≡◌, ◌<◌, ℕ, Option, length, subst, refl, sym, ap, ◌∙◌, arith}
+use Rattle.std.proofs.Common.{◌≡◌, ◌<◌, ℕ, Option, subst, refl, ap, arith}
 use Rattle.std.proofs.lemmas.Bool.{false≢true}
 use Rattle.cpu_set.specs.Members.{IsCpu}
 use Rattle.machine.proofs.Marking.{AreOfNode, AreOfNode-none, AreOfNode-more, AreOfNode-all, place, place_rises}

@@ -1,8 +1,6 @@
-use Rattle.std.proofs.Common.{◌≡◌, map, take, refl, sym, ap, ◌∙◌, arith, true, get_or, Some, None}
-use Rattle.std.specs.FinSet as set
+use Rattle.std.proofs.Common.{map, take, refl, sym, ap, ◌∙◌, Some, None}
 use Rattle.serde_json.specs.View.{view}
 use Rattle.machine.specs.Listed.{listed}
-use Rattle.machine.specs.Present.{union_of}
 use Rattle.machine.proofs.CoreSteps.{AreCoresRead-none, AreCoresRead-more, AreCoresRead-fault, AreCoresRead-all, left_fault-first, left_within, fault_none, fault_some, not_some, listed_at, listed_within, listed_last}
 use Rattle.machine.proofs.ItemLaws.{item_view, item_within, item_last}
 use Rattle.machine.proofs.cores.read_each.Goals as goal

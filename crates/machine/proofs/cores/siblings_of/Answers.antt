@@ -1,7 +1,7 @@
-use Rattle.std.proofs.Common.{◌≡◌, ◌+◌, ◌-◌, ◌<◌, ◌≤◌, ℕ, List, length, get_or, refl, sym, ap, ◌∙◌, arith}
+use Rattle.std.proofs.Common.{◌≡◌, ◌+◌, ◌-◌, ◌<◌, ◌≤◌, ℕ, List, length, get_or, refl, sym, arith}
 use Rattle.std.proofs.lemmas.List.{get_or_default}
 use Rattle.cpu_set.specs.declared.TheConstants.{CPU_LIMIT}
-use Rattle.machine.proofs.Siblings.{at, AreLinked, AreLinked-none, AreLinked-more, AreLinked-all}
+use Rattle.machine.proofs.Siblings.{at, AreLinked, AreLinked-none, AreLinked-more}
 use Rattle.machine.proofs.cores.siblings_of.Goals as goal
 
 -- the lowest CPU of a core is a CPU number

@@ -1,10 +1,10 @@
 use Rattle.std.proofs.Common.{◌≡◌, ◌≤◌, true, length, MatchOption, refl, sym, ◌∙◌, subst, inl, inr, arith}
-use Rattle.std.proofs.lemmas.Bool.{or_cases}
+use Rattle.std.proofs.lemmas.Bool.{or_cases, eqb-true}
 use Rattle.std.specs.FinSet as set
 use Rattle.cpu_set.specs.Pointwise.{contains-insert}
 use Rattle.transport.specs.Numbers.{number}
 use Rattle.transport.specs.Blocks.{IsFirstOf}
-use Rattle.transport.proofs.Blocks.{equal, noted_more, noted_past}
+use Rattle.transport.proofs.Blocks.{noted_more, noted_past}
 use Rattle.transport.proofs.Numbers.{read_number}
 use Rattle.transport.proofs.search.note_taken.Goals as goal
 use Rattle.transport.proofs.search.note_taken.Goals.{After-first, in-Some, in_default}
@@ -26,7 +26,7 @@ loop-at-preserved c =
             elim (or_cases _ _ (sym (contains-insert s w.in-Some.cpu cpu) ∙ there)) [
               | inl is ↦
                   let first : IsFirstOf c.args.firsts.now (number order c.loop-at.at) w.in-Some.cpu = subst (λ r. MatchOption r (length c.args.firsts.now ≤ number order c.loop-at.at) (IsFirstOf c.args.firsts.now (number order c.loop-at.at))) w.in-Some.is place in
-                  inr (record { at = c.loop-at.at; within = omega (arith, c.loop-at-test.true, c.len-listed.ensures, c.args.tree_classes.now.order.ok.0); first = subst (IsFirstOf c.args.firsts.now (number order c.loop-at.at)) (sym (equal cpu w.in-Some.cpu is)) first })
+                  inr (record { at = c.loop-at.at; within = omega (arith, c.loop-at-test.true, c.len-listed.ensures, c.args.tree_classes.now.order.ok.0); first = subst (IsFirstOf c.args.firsts.now (number order c.loop-at.at)) (sym (eqb-true cpu w.in-Some.cpu is)) first })
               | inr was ↦ c.loop-at.invariant.only cpu was
             ]
         | in_default w ↦ c.loop-at.invariant.only cpu (subst (λ x. set.contains x cpu ≡ true) w.taken_firsts-is on)

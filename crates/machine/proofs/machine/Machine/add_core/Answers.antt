@@ -1,4 +1,3 @@
-use Rattle.std.proofs.Common.{◌+◌, sym, ◌∙◌, arith}
 use Rattle.machine.proofs.CoreSets.{IsAdded-more}
 use Rattle.machine.proofs.machine.Machine.add_core.Goals as goal
 

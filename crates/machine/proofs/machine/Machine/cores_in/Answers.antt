@@ -1,15 +1,14 @@
-use Rattle.std.proofs.Common.{◌≡◌, ◌<◌, ◌+◌, ℕ, Option, subst, sym, ap, ◌∙◌, arith}
-use Rattle.cpu_set.specs.Members.{IsCpu}
+use Rattle.std.proofs.Common.{ℕ, Option, subst, sym, ◌∙◌}
+use Rattle.std.proofs.lemmas.Bool.{eqb-true}
 use Rattle.machine.specs.Cores.{is_core_in}
 use Rattle.machine.specs.CoreCounts.{single_cores_in}
-use Rattle.machine.specs.WholeLaws.{same_number}
 use Rattle.machine.proofs.CoreSets.{IsPicked, IsPicked-none, IsPicked-more, added_one, left_out, cores_in-picked}
 use Rattle.machine.proofs.machine.Machine.cores_in.Goals.{then-has_core, else-has_core}
 use Rattle.machine.proofs.machine.Machine.cores_in.Goals as goal
 
 pub returns-then-is_single-clause-is : goal.returns-then-is_single-clause-is
 returns-then-is_single-clause-is c =
-    sym (single_cores_in c.args.self.now c.args.cpus.now c.is_single.ensures.sound.cores (same_number _ _ (sym c.is_single.ensures.is ∙ c.if-is_single.true)))
+    sym (single_cores_in c.args.self.now c.args.cpus.now c.is_single.ensures.sound.cores (eqb-true _ _ (sym c.is_single.ensures.is ∙ c.if-is_single.true)))
 
 pub loop-next-init : goal.loop-next-init
 loop-next-init c = IsPicked-none _ _ _ _ c.empty-cores.ensures (c.first-next.ensures.first, c.first-next.ensures.in_range)

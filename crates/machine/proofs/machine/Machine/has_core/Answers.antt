@@ -1,4 +1,4 @@
-use Rattle.std.proofs.Common.{sym, ap, ◌∙◌, arith}
+use Rattle.std.proofs.Common.{sym, ◌∙◌, arith}
 use Rattle.machine.proofs.CoreSets.{has_all, lacks_one}
 use Rattle.machine.proofs.machine.Machine.has_core.Goals as goal
 

@@ -1,6 +1,6 @@
 use Rattle.std.proofs.Common.{◌≡◌, sym, ap, ◌∙◌, arith}
 use Rattle.machine.specs.Layout.{node_count}
-use Rattle.machine.proofs.WeightLaws.{least_below, least_below-IsLeast, weight-least_below}
+use Rattle.machine.proofs.WeightLaws.{least_below, least_below-IsLeastDistance, weight-least_below}
 use Rattle.machine.proofs.machine.Machine.weight.Goals as goal
 
 pub returns-clause-is : goal.returns-clause-is
@@ -16,5 +16,5 @@ returns-clause-least c =
       c.node_of-node.result,
       c.node_of-node.ensures.node,
       rw (c.loop-home.invariant, all)
-          (least_below-IsLeast _ _ _ c.count-home-end.ensures.sound c.requires.homes c.node_of-node.ensures.node.is_node),
+          (least_below-IsLeastDistance _ _ _ c.count-home-end.ensures.sound c.requires.homes c.node_of-node.ensures.node.is_node),
     )

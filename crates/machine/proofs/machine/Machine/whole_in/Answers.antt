@@ -1,7 +1,8 @@
 use Rattle.std.proofs.Common.{ap, sym, ◌∙◌}
+use Rattle.std.proofs.lemmas.Bool.{eqb-true}
 use Rattle.machine.specs.CoreCounts.{all_are_whole}
 use Rattle.machine.specs.Cores.{cpus_of_cores}
-use Rattle.machine.specs.WholeLaws.{cpus_of_cores-cores_in, whole_in-IsWhole, same_number}
+use Rattle.machine.specs.WholeLaws.{cpus_of_cores-cores_in, whole_in-IsWhole}
 use Rattle.machine.proofs.machine.Machine.whole_in.Goals as goal
 
 pub returns-clause-is : goal.returns-clause-is
@@ -14,7 +15,7 @@ returns-clause-whole c = rw (returns-clause-is c) (whole_in-IsWhole c.args.self.
 
 pub returns-then-is_single-clause-is : goal.returns-then-is_single-clause-is
 returns-then-is_single-clause-is c =
-    sym (all_are_whole c.args.self.now c.args.cpus c.is_single.ensures.sound.cores (same_number _ _ (sym c.is_single.ensures.is ∙ c.if-is_single.true)))
+    sym (all_are_whole c.args.self.now c.args.cpus c.is_single.ensures.sound.cores (eqb-true _ _ (sym c.is_single.ensures.is ∙ c.if-is_single.true)))
 
 pub returns-then-is_single-clause-whole : goal.returns-then-is_single-clause-whole
 returns-then-is_single-clause-whole c = rw (returns-then-is_single-clause-is c) (whole_in-IsWhole c.args.self.now c.args.cpus)

@@ -1,5 +1,5 @@
 use Rattle.std.proofs.Common.{◌≡◌, ◌≢◌, List, not, sym, ap, ◌∙◌, subst}
-use Rattle.std.specs.Prelude.{Some, true, is_some}
+use Rattle.std.specs.Prelude.{Some, true}
 use Rattle.proctable.specs.declared.processes.Process.{Process}
 use Rattle.proctable.specs.TableState.{TableState}
 use Rattle.proctable.specs.Processes.{process_of, is_alive}

@@ -1,13 +1,12 @@
-use Rattle.std.proofs.Common.{◌≡◌, List, not, ◌&&◌, filter, sym, ap, ◌∙◌, subst, rules, arith}
+use Rattle.std.proofs.Common.{List, not, ◌&&◌, sym, ap, ◌∙◌, subst, rules, arith}
 use Rattle.std.proofs.lemmas.Fn.{filter_same}
-use Rattle.cpuset_tree.specs.Groups.{same_group}
 use Rattle.proctable.specs.declared.processes.Process.{Process}
 use Rattle.proctable.specs.declared.slots.Slot.{Slot}
 use Rattle.proctable.specs.TableState.{TableState}
-use Rattle.proctable.specs.TableChanges.{ends_with, exited, ended_in}
+use Rattle.proctable.specs.TableChanges.{ends_with, exited}
 use Rattle.proctable.specs.TableWellFormed.{AllBelong}
 use Rattle.proctable.specs.Kept.{live_of, IsSound}
-use Rattle.proctable.specs.ProcessLemmas.{AllBelong-filter, together-exited, together-ended}
+use Rattle.proctable.specs.ProcessLemmas.{AllBelong-filter, together-exited}
 use Rattle.proctable.proofs.PlaceLemmas.{live_filter, pids_filter, none_ended, alive_first}
 use Rattle.proctable.proofs.processes.ProcTable.end_with.Goals as goal
 

@@ -1,0 +1,72 @@
+-- What tests that are put together say, and checks that are: what several crates need besides the kit's own lemmas.
+use Rattle.std.proofs.Common.{◌≡◌, ℕ, zero, suc, ◌<◌, Bool, true, false, not, ◌&&◌, ◌||◌, Option, Some, None, option_map, inl, inr, refl, sym, ap, ◌∙◌, arith}
+use Rattle.std.proofs.lemmas.Bool.{true≢false, false≢true, false_from_ne_true, cases_lt}
+use Rattle.std.specs.Option.{option_or}
+use Rattle.faults.specs.First.{when, first_below}
+
+pub and_no : (a : Bool) → (a && false) ≡ false
+and_no true = refl
+and_no false = refl
+
+pub and_yes : (a : Bool) → (a && true) ≡ a
+and_yes true = refl
+and_yes false = refl
+
+pub or_no : (a : Bool) → (a || false) ≡ a
+or_no true = refl
+or_no false = refl
+
+pub or_assoc : (a b c : Bool) → ((a || b) || c) ≡ (a || (b || c))
+or_assoc true b c = refl
+or_assoc false b c = refl
+
+pub never_both : (a b : Bool) → (a ≡ true → b ≡ true → ⊥) → (a && b) ≡ false
+never_both true b never = false_from_ne_true b (never refl)
+never_both false b never = refl
+
+-- one test without another
+pub without : (a b : Bool) → (a && not b) ≡ false → a ≡ true → b ≡ true
+without true true e is = refl
+without true false e is = absurd (true≢false e)
+without false b e is = absurd (false≢true is)
+
+pub none_left : (a b : Bool) → (a ≡ true → b ≡ true) → (a && not b) ≡ false
+none_left true b f = ap not (f refl)
+none_left false b f = refl
+
+pub left_over : (a b : Bool) → a ≡ true → b ≡ false → (a && not b) ≡ true
+left_over a b e f = rw (e, f) refl
+
+-- two tests that hold of one another are one
+pub same_tests : (a b : Bool) → (a ≡ true → b ≡ true) → (b ≡ true → a ≡ true) → a ≡ b
+same_tests true b f g = sym (f refl)
+same_tests false true f g = g refl
+same_tests false false f g = refl
+
+-- checks that found no fault
+module _ {A : Type 0} where
+  pub none_of_both : (a b : Option A) → option_or a b ≡ None → (a ≡ None) × (b ≡ None)
+  none_of_both None b e = (refl, e)
+  none_of_both (Some x) b e = absurd (cc)
+
+  pub passed : (b : Bool) (fault : A) → when (not b) fault ≡ None → b ≡ true
+  passed true fault e = refl
+  passed false fault e = absurd (cc)
+
+  pub none_below : (n : ℕ) (f : ℕ → Option A) → first_below n f ≡ None → (k : ℕ) → k < n → f k ≡ None
+  unfolding first_below
+  none_below zero f none k lt = absurd (omega arith)
+  none_below (suc n) f none k lt =
+      let parts : (first_below n f ≡ None) × (f n ≡ None) = none_of_both (first_below n f) (f n) none in
+      elim (cases_lt k n) [
+        | inl below ↦ none_below n f parts.0 k below
+        | inr last ↦ let same : n ≡ k = omega arith in ap f (sym same) ∙ parts.1
+      ]
+
+  pub unmapped : {B : Type 0} (f : A → B) (a : Option A) → option_map f a ≡ None → a ≡ None
+  unmapped f None e = refl
+  unmapped f (Some x) e = absurd (cc)
+
+  pub mapped : {B : Type 0} (f : A → B) (a : Option A) (y : B) → option_map f a ≡ Some y → (x : A) × (a ≡ Some x) × (f x ≡ y)
+  mapped f None y e = absurd (cc)
+  mapped f (Some x) y e = (x, refl, cc)
