@@ -7,6 +7,7 @@ mod arguments;
 mod check;
 mod command_line;
 mod console;
+mod defect;
 mod distances;
 mod folders;
 mod list;
