@@ -1,8 +1,9 @@
 """Compares what programs answer to single inputs with tables: `compare.py PROGRAM TOOLS`.
 
-An input is a line of its kind and its text, and below it stands the answer, each line behind `| `. The text has the escapes of
-Python's bytes; `<N TEXT>` is TEXT so many times, and `<FILE>` what a file of examples/ holds. `fronts A B KIND TEXT` is each
-front of the text, from A bytes to B. The kinds are explained in the tables. Besides, inputs of each command that have as many bytes
+An input is a line of its kind and its text, and below it stands the answer, each line behind `| `, and what standard error says of
+the file, behind `! `. The text has the escapes of Python's bytes; `<N TEXT>` is TEXT so many times, and `<FILE>` what a file of
+examples/ holds. `fronts A B KIND TEXT` is each front of the text, from A bytes to B; where it ends is by Python's JSON. The kinds are
+explained in the tables. Besides, inputs of each command that have as many bytes
 as are read at a time, one less and one more: the last byte of each counts."""
 
 import json
@@ -43,29 +44,50 @@ def inputs(table):
         kind, _, rest = line.partition(b" ")
         if kind == b"|":
             found[-1][2].append(repeated(rest).decode())
+        elif kind == b"!":
+            found[-1][2].append(line.decode())
         elif line and not line.startswith(b"#"):
             found.append((kind.decode(), rest, []))
     for kind, rest, answer in found:
         if kind == "fronts":
             first, last, kind, rest = rest.split(b" ", 3)
             for length in range(int(first), int(last) + 1):
-                yield kind.decode(), text_of(kind.decode(), rest)[:length], answer
+                front = text_of(kind.decode(), rest)[:length]
+                yield kind.decode(), front, answer + [f"! ends too early, {end_of(front)}"]
         else:
             yield kind, text_of(kind, rest), answer
 
 
+def end_of(front):
+    """Where the front of a text ends: at its end, or where a word or a string begins that has no end."""
+    try:
+        json.loads(front)
+    except json.JSONDecodeError as why:
+        return f"line {why.lineno} column {min(why.colno, len(front))}"
+    return "nowhere"
+
+
+def noted(done):
+    """What standard error says of files, by their names."""
+    return re.findall(r"^error: (.*?): (.*)$", done.stderr.decode(), re.MULTILINE)
+
+
 def answered(words, given=b""):
-    """The lines of an answer; its status is 0, or 1 where it is a refusal."""
+    """The lines of an answer, and what is said of a file; the status is 0, or 1 where it is a refusal."""
     done = run(words, given)
-    if done.stderr or done.returncode != done.stdout.startswith(b"refused"):
+    notes = noted(done)
+    if done.stderr.count(b"\n") != len(notes) or done.returncode != done.stdout.startswith(b"refused"):
         return [str(done)[:1000]]
-    return done.stdout.decode().splitlines()
+    return done.stdout.decode().splitlines() + [f"! {note}" for _, note in notes]
 
 
 def scripted(words, script):
-    """The lines that answer a script."""
+    """The lines that answer a script, and what is said of each config."""
     done = run(words, script)
-    return done.stdout.decode().splitlines() if (done.returncode, done.stderr) == (0, b"") else [str(done)[:1000]]
+    notes = noted(done)
+    if done.returncode or done.stderr.count(b"\n") != len(notes):
+        return [str(done)[:1000]], {}
+    return done.stdout.decode().splitlines(), dict(notes)
 
 
 def by_distance(row):
@@ -88,11 +110,14 @@ class Machine:
         commands = [line for k in range(len(self.configs))
                     for line in (f"create c b{k}", "start c", "sets c", "rebalance", "certificate", "kill c 9", "delete c")]
         bundles = {f"b{k}": config for k, config in enumerate(self.configs)}
-        lines = scripted([program] + place(self.text, self.table, bundles), "\n".join(commands).encode())
-        for _ in self.configs:
+        lines, notes = scripted([program] + place(self.text, self.table, bundles), "\n".join(commands).encode())
+        for k in range(len(self.configs)):
             created, started, sets, *lines = lines + [""] * 3
             certificate, lines = self.certificate(lines)
-            yield created if created.startswith("refused") else self.shown(started, sets, certificate)
+            note = [f"! {notes.pop(name)}" for name in [f"b{k}/config.json"] if name in notes]
+            yield [created if created.startswith("refused") else self.shown(started, sets, certificate)] + note
+        if notes:
+            yield [str(notes)]
 
     @staticmethod
     def certificate(lines):
@@ -134,7 +159,8 @@ class Inputs:
         return answered([self.program] + place(text, None, {}), b"rebalance")
 
     def run(self, text):
-        return scripted([self.program] + place(MACHINE, None, {}), text)
+        lines, notes = scripted([self.program] + place(MACHINE, None, {}), text)
+        return lines + [str(notes)] * bool(notes)
 
     def written(self, what, text):
         """What writers of some widths have in the end, of which each has a prefix of it before, and so many bytes for each write."""
@@ -203,7 +229,7 @@ class Inputs:
             self.machines[-1].table = text
         else:
             self.machines[-1].configs.append(CONFIG % text if kind == "cpu" else text)
-            self.machines[-1].expected += answer
+            self.machines[-1].expected.append(answer)
 
 
 def rows_of(size, head, count, held):
@@ -239,7 +265,8 @@ def sized(tried):
         compare(f"slit of {size} bytes", tried.slit(table), ["localities 90", *matrix])
         text = MACHINE[:-1].ljust(size - 1) + b"}"
         compare(f"machine of {size} bytes", tried.machine(text), ["plan total 0", "pool 0-7", "end"])
-        compare(f"machine of {size} bytes, cut", tried.machine(text[:-1]), ["refused E25 NotJson"])
+        cut = ["refused E25 NotJson", f"! ends too early, line 1 column {size - 1}"]
+        compare(f"machine of {size} bytes, cut", tried.machine(text[:-1]), cut)
     return f"{7 * len(SIZES)} sizes"
 
 
@@ -257,10 +284,11 @@ def main(program, tools):
                     compare(text[:1000], getattr(tried, kind)(text), answer)
         counts.append(sized(tried))
         for machine in tried.machines:
-            for config, found, expected in zip(machine.configs, machine.found(tried.program), machine.expected):
-                compare((machine.text[:300], config[:1000]), found, expected)
-            if len(machine.configs) != len(machine.expected):
-                sys.exit(f"inputs: {len(machine.configs)} configs with {len(machine.expected)} answers")
+            found = list(machine.found(tried.program))
+            for config, answer, expected in zip(machine.configs, found, machine.expected):
+                compare((machine.text[:300], config[:1000]), answer, expected)
+            if not len(machine.configs) == len(machine.expected) == len(found):
+                sys.exit(f"inputs: {len(machine.configs)} configs with {len(machine.expected)} answers, {found[len(machine.configs):]}")
         os.chdir("/")
     print("inputs:", ", ".join(counts))
 

@@ -11,7 +11,7 @@ import sys
 import tempfile
 
 from second_runtime import CPUS, NODES, Machine, Runtime, config_of, read_slit
-from transcripts import Transcript, run
+from transcripts import Transcript, run, unwanted
 
 MEMORY = "refused E1 Memory"
 
@@ -59,12 +59,13 @@ def each_refused(program, library, told, name):
             number += 1
             done, was = refused(program, library, words, b"\n".join(told.script), number, refusals)
             output = done.stdout.decode()
-            if done.stderr == b"" and (done.returncode, output) == (0, whole):
+            plain = not unwanted(done, notes_lack=True)
+            if plain and (done.returncode, output) == (0, whole):
                 if not was:
                     break
-            elif done.stderr == b"" and done.returncode == 0 and output in known:
+            elif plain and done.returncode == 0 and output in known:
                 seen.add(told.script[known[output]].split(b" ")[0].decode())
-            elif done.stderr == b"" and output == MEMORY + "\n":
+            elif plain and output == MEMORY + "\n":
                 statuses += str(done.returncode)
             else:
                 sys.exit(f"allocation failures: {name}, allocation {number}: {str(done)[:3000]}")

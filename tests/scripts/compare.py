@@ -11,7 +11,7 @@ import tempfile
 from collections import Counter
 
 from second_runtime import Machine, Runtime, config_of, print_list, read_slit
-from transcripts import config, difference, doubted, place, run
+from transcripts import config, difference, doubted, place, run, unwanted
 
 SCRIPTS = 700
 PLANNED = 250
@@ -245,7 +245,7 @@ def compared(program, seen, machine, slit, bundles, script):
     runtime = Runtime(Machine(machine, None if slit is None else read_slit(slit)), config_of)
     wrong = difference(runtime, script, done.stdout, seen.note) or doubted(program, done.stdout)
     seen.numbers.update(runtime.seen)
-    if wrong or done.returncode or done.stderr:
+    if wrong or done.returncode or unwanted(done):
         sys.exit(f"compare: {machine!r}\n{bundles}\n{script}\n{wrong}\nstatus {done.returncode}, {done.stderr!r}")
 
 

@@ -19,6 +19,9 @@ from second_runtime import Wrong, check, numbers
 # Lines of the longest answer: a certificate of 1,024 rows with a price for each CPU.
 LONGEST = 2 * 1024 + 4096 + 3
 
+# What standard error says of a config that is no JSON.
+NOTE = re.compile(rb"^error: .*/config\.json: (is not UTF-8|ends too early|is no JSON), line [1-9][0-9]* column [0-9]+\n", re.MULTILINE)
+
 
 def config(section):
     told = {"ociVersion": "1.0.2", "root": {"path": "rootfs"}, "process": {"args": ["run"]}}
@@ -106,6 +109,13 @@ def place(machine, slit, bundles):
 
 def run(program, words, script, **more):
     return programs.run([program] + words, script, **more)
+
+
+def unwanted(done, notes_lack=False):
+    """What is wrong with standard error: it has a note for each refusal of a config that is no JSON, and nothing else."""
+    rest, notes = NOTE.subn(b"", done.stderr)
+    refusals = done.stdout.count(b"refused E56 NotJson\n")
+    return rest or (notes > refusals if notes_lack else notes != refusals)
 
 
 def difference(runtime, script, output, note=lambda line, answer: None):

@@ -14,7 +14,7 @@ from collections import Counter
 
 from compare import list_text, some
 from second_runtime import Machine, Runtime, Wrong, config_of, numbers, print_list
-from transcripts import config, difference, doubted, place, run
+from transcripts import config, difference, doubted, place, run, unwanted
 
 SCRIPTS = 300
 THREADS = [1, 2, 2, 2, 3, 4, 8]
@@ -202,7 +202,7 @@ def tried(program, seen):
     if told.threads == 1 and not wrong:
         alone = run(program, place(told.file(), None, bundles), b"\n".join(script))
         wrong = None if alone.stdout == done.stdout else f"without cores: {alone}"
-    if wrong or done.returncode or done.stderr:
+    if wrong or done.returncode or unwanted(done):
         sys.exit(f"whole cores: {told.file(cores=told.listed())!r}\n{told.sections}\n{script}\n{wrong}\nstatus {done.returncode}, {done.stderr!r}")
     seen.update(runtime.seen)
 
@@ -228,7 +228,7 @@ def answers(program, threads, machine, bundles, script):
     done = run(program, place(machine, None, bundles), b"\n".join(script))
     wrong = difference(Runtime(Machine(machine, None), config_of), script, done.stdout, lambda line, answer: found.append(answer))
     wrong = wrong or doubted(program, done.stdout, threads)
-    if wrong or done.returncode or done.stderr:
+    if wrong or done.returncode or unwanted(done):
         sys.exit(f"whole cores: {threads} CPUs a core: {str(wrong)[:3000]}, status {done.returncode}, {done.stderr[:300]!r}")
     return found
 

@@ -9,7 +9,7 @@ import tempfile
 import threading
 
 from second_runtime import Machine, Runtime, config_of, read_slit
-from transcripts import SECONDS, Transcript, difference, doubted, run
+from transcripts import SECONDS, Transcript, difference, doubted, run, unwanted
 
 WORKED = os.path.join(os.path.dirname(os.path.abspath(__file__)), "worked")
 
@@ -45,7 +45,7 @@ def check(program, told):
         output = typed(program, words, told, [len(answer.texts[0]) for answer in told.answers])
     else:
         done = run(program, words, b"\n".join(told.script))
-        if (done.returncode, done.stderr) != (0, b""):
+        if done.returncode or unwanted(done):
             return str(done)
         output = done.stdout
     answers, wrong = told.cut(output.decode().split("\n")[:-1])

@@ -3,6 +3,7 @@ pub mod Asked
 pub mod CheckAnswer
 pub mod CommandLine
 pub mod Configs
+pub mod Defects
 pub mod ListAnswer
 pub mod Mistakes
 pub mod Named

@@ -1,7 +1,10 @@
 -- What standard error says beside an answer.
 use Rattle.std.specs.Prelude.{List, [], ℕ, Option, Some, None, Result, Ok, Err, bytes_eq, codes, if◌then◌else◌}
 use Rattle.clap.specs.Words.{Text}
-use Rattle.program_io.specs.ErrorLine.{error_line}
+use Rattle.json_text.specs.declared.flaw.Flaw.{Flaw}
+use Rattle.json_text.specs.declared.flaw.FlawKind.{FlawKind}
+use Rattle.json_text.specs.declared.flaw.FlawKind.TheVariants.{NotUtf8, CutShort, NotJson}
+use Rattle.program_io.specs.ErrorLine.{error_at, error_line}
 use Rattle.program_io.specs.ReadFaults.{reason_of}
 use Rattle.cli.specs.declared.note.Note.{Note}
 use Rattle.program_io.specs.declared.read_fault.ReadFault.{ReadFault}
@@ -23,9 +26,24 @@ shown name = if bytes_eq name (codes "-") then standard_input else name
 abbrev pub unread_line : Text → ReadFault → List ℕ
 unread_line name fault = error_line name (reason_of fault)
 
+-- the same, and at which line and column where it is a text
+abbrev pub told_of : Text → List ℕ → Option (ℕ × ℕ) → List ℕ
+told_of name reason None = error_line name reason
+told_of name reason (Some place) = error_at name reason place.0 place.1
+
 abbrev pub note_text : Option Note → List ℕ
 note_text None = []
-note_text (Some note) = error_line note.name.now note.reason.now
+note_text (Some note) = told_of note.name.now note.reason.now note.place
+
+-- how a text fails to be JSON
+abbrev pub flaw_words : FlawKind → List ℕ
+flaw_words NotUtf8 = codes "is not UTF-8"
+flaw_words CutShort = codes "ends too early"
+flaw_words NotJson = codes "is no JSON"
+
+-- of a text that is called so, and where
+abbrev pub flaw_line : Text → Flaw → List ℕ
+flaw_line name flaw = error_at name (flaw_words flaw.kind) flaw.line flaw.column
 
 -- what standard error says beside a refusal of the input that is called so
 abbrev pub note_of : Text → Refusal → List ℕ

@@ -1,5 +1,5 @@
 -- What the program does: which bytes go to which stream, and its exit status.
-use Rattle.std.specs.Prelude.{◌≡◌, ◌⊎◌, ℕ, ◌-◌, ◌^◌, List, [], Bool, true, false, Option, Some, None, Result, Ok, Err, bytes_eq, codes, unwrap_or}
+use Rattle.std.specs.Prelude.{◌≡◌, ◌⊎◌, ℕ, ◌-◌, ◌^◌, List, [], Bool, Option, Some, None, Result, Ok, Err, unwrap_or}
 use Rattle.std.specs.declared.io.ErrorKind.{ErrorKind as SystemKind}
 use Rattle.cgroup_tree.specs.Asked.{Asked as FileCall}
 use Rattle.cgroup_tree.specs.Roots.{AnswersRoot, Finding}
@@ -20,6 +20,7 @@ use Rattle.runtime.specs.RuntimeState.{Told}
 use Rattle.script.specs.declared.running.TheConstants.{MOST_READS}
 use Rattle.script.specs.declared.script_fault.ScriptFault.{ScriptFault}
 use Rattle.cli.specs.Asked.{Asked, asked_for, check, list, run, slit, solve}
+use Rattle.cli.specs.Defects.{defect_line}
 use Rattle.cli.specs.Mistakes.{mistakes}
 use Rattle.cli.specs.Named.{name_of, reads_named}
 use Rattle.cli.specs.Notes.{note_of, shown, standard_input, unread_line, unwritten_line}
@@ -42,10 +43,11 @@ use Rattle.cli.specs.declared.unready.Unready.TheVariants as unready
 abbrev pub IsRequest : ErrorKind → Type 0
 IsRequest kind = (kind ≡ DisplayHelp) ⊎ (kind ≡ DisplayVersion)
 
--- the name of the file that is refused, the machine's or the table's
-abbrev pub name_in : Text → Option Text → Unready → Text
-name_in machine table (unready.Machine why) = machine
-name_in machine table (unready.Slit why) = unwrap_or table []
+-- what standard error says beside the refusal of the machine file or of the table
+abbrev pub note_in : Text → Option Text → Unready → List ℕ
+note_in machine table (unready.Machine why) = note_of machine why
+note_in machine table (unready.NotJson defect) = defect_line machine defect
+note_in machine table (unready.Slit why) = note_of (unwrap_or table []) why
 
 -- the streams where the script ended and at the end of the program
 module _ {W E : Type 0} (out : W → Option (List ℕ)) (err : E → Option (List ℕ)) (mid new : Console W E) (status : ℕ) where
@@ -71,7 +73,7 @@ module _ {W E : Type 0} (out : W → Option (List ℕ)) (err : E → Option (Lis
 
   -- one of the two files is refused
   abbrev pub Refuses : Text → Option Text → Unready → Type 0
-  Refuses machine table why = Says out err old new status (refusal_line (refusal_of why)) 1 (note_of (name_in machine table why) (refusal_of why))
+  Refuses machine table why = Says out err old new status (refusal_line (refusal_of why)) 1 (note_in machine table why)
 
   -- the allocation of a node failed
   abbrev pub LacksRoom : Type 0

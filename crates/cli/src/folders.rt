@@ -1,10 +1,11 @@
 //! Bundles that are folders.
-ghost use Rattle.std.specs.Prelude.{◌≡◌, IfOk, None, option_map};
+ghost use Rattle.std.specs.Prelude.{◌≡◌, IfOk, None, option_map, string_bytes};
 ghost use Rattle.runtime.specs.Found.{IsFound};
-ghost use Rattle.cli.specs.Configs.{IsConfigIn, IsConfigOf};
+ghost use Rattle.cli.specs.Configs.{IsConfigIn, IsConfigOf, config_path};
 
 use crate::opens::Opens;
 use faults::OrMemory;
+use json_text::flaw_in;
 use program_io::Input;
 use runtime::Bundles;
 use std::alloc::{AllocError, Global};
@@ -29,6 +30,15 @@ impl<'a, F> Folders<'a, F> {
     }
 }
 
+/// Where the config of a bundle is.
+fn path_in(alloc: Global, bundle: &str) -> Result<String, AllocError>
+    ensures { IfOk result (λ path. string_bytes path ≡ config_path bundle.now) }
+{
+    let mut path = String::from_str(alloc, bundle)?;
+    path.push_str(CONFIG)?;
+    Ok(path)
+}
+
 impl<F: Opens> Bundles for Folders<'_, F> {
     ghost finds = { IsConfigIn F.opens F.fails F.File.gives };
 
@@ -39,8 +49,7 @@ impl<F: Opens> Bundles for Folders<'_, F> {
         ensures config { IfOk result (λ found. IsConfigOf (F.opens self.old.files.now) (F.fails self.old.files.now) F.File.gives
             bundle.now (option_map (λ config. config.items) found)) }
     {
-        let mut path = String::from_str(self.alloc, bundle)?;
-        path.push_str(CONFIG)?;
+        let path = path_in(self.alloc, bundle)?;
         let file = match self.files.open(path.as_str()) {
             Ok(file) => file,
             Err(_) => return Ok(None),
@@ -49,6 +58,14 @@ impl<F: Opens> Bundles for Folders<'_, F> {
             Ok(bytes) => Ok(Some(bytes)),
             Err(OrMemory::Memory) => Err(AllocError),
             Err(OrMemory::Fault(_)) => Ok(None),
+        }
+    }
+
+    fn tell_not_json(&self, bundle: &str, config: &[u8]) {
+        if let Ok(Some(flaw)) = flaw_in(self.alloc, config)
+            && let Ok(path) = path_in(self.alloc, bundle)
+        {
+            self.files.tell(self.alloc, path.as_str(), flaw);
         }
     }
 }

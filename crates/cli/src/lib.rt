@@ -12,6 +12,7 @@
 //!   says with which bytes each `create`, `adopt` and `update` of a script calls the node. They are those that may be read
 //!   of the file of this name in the BUNDLE that the line names (`Scripts` and `ScriptsMirrored` by `IsConfigIn`). Or there is no such
 //!   file, or none that can be read.
+//! - No clause says what standard error gets of a config that is no JSON. The refusal, and what changes, are as without it.
 //! - The laws `check_spellings` and so on are plain spellings of each command, each with what it asks for and without a
 //!   mistake.
 #![tactic(auto)]
@@ -21,6 +22,7 @@ mod arguments;
 mod check;
 mod command_line;
 mod console;
+mod defect;
 mod distances;
 mod folders;
 mod list;

@@ -135,14 +135,8 @@ fn note_of(root: &str, why: Unrooted) -> Option<Note<'_>>
     ensures { note_text result ≡ root_note root.now why }
 {
     match why {
-        Unrooted::Unread(fault) => Some(Note {
-            name: root,
-            reason: fault.reason(),
-        }),
-        Unrooted::Taken => Some(Note {
-            name: root,
-            reason: TAKEN,
-        }),
+        Unrooted::Unread(fault) => Some(Note::new(root, fault.reason())),
+        Unrooted::Taken => Some(Note::new(root, TAKEN)),
         _ => None,
     }
 }

@@ -1,9 +1,12 @@
-ghost use Rattle.std.specs.Prelude.{◌≡◌, option_map};
-ghost use Rattle.cli.specs.Notes.{note_of, note_text};
+ghost use Rattle.std.specs.Prelude.{◌≡◌, Some, option_map};
+ghost use Rattle.byte_output.specs.Output.{Writes};
+ghost use Rattle.cli.specs.Notes.{flaw_line, flaw_words, note_of, note_text};
+ghost use Rattle.program_io.specs.ErrorLine.{error_line};
 ghost use Rattle.cli.specs.declared.note.Note.{Note};
 
 use crate::printed::Printed;
-use program_io::{Refusal, put_error_line};
+use json_text::{Flaw, FlawKind};
+use program_io::{Refusal, put_error_at, put_error_line};
 use std::io;
 use std::io::Write;
 
@@ -12,6 +15,8 @@ use std::io::Write;
 pub struct Note<'a> {
     pub name: &'a str,
     pub reason: &'a str,
+    /// The line and the column where it is wrong, of a text.
+    pub place: Option<(u64, u64)>,
 }
 
 impl<'a> Note<'a> {
@@ -20,12 +25,53 @@ impl<'a> Note<'a> {
         ensures { note_text result ≡ note_of name.now refusal }
     {
         match refusal {
-            Refusal::ReadFault(fault) => Some(Note {
-                name,
-                reason: fault.reason(),
-            }),
+            Refusal::ReadFault(fault) => Some(Note::new(name, fault.reason())),
             _ => None,
         }
+    }
+
+    /// The note on an input that is called so, which is refused for this reason.
+    pub fn new(name: &'a str, reason: &'a str) -> Note<'a>
+        ensures { note_text (Some result) ≡ error_line name.now reason.now }
+    {
+        Note {
+            name,
+            reason,
+            place: None,
+        }
+    }
+
+    /// The note on a text that is called so and is no JSON.
+    pub fn of_flaw(name: &'a str, flaw: Flaw) -> Note<'a>
+        ensures { note_text (Some result) ≡ flaw_line name.now flaw }
+    {
+        Note {
+            name,
+            reason: flaw_words(flaw.kind),
+            place: Some((flaw.line as u64, flaw.column as u64)),
+        }
+    }
+
+    /// Writes the line of the note.
+    fn write<W: Write>(&self, w: &mut W) -> io::Result<()>
+        ensures { Writes (W.contents w.old) (W.contents w.new) result (note_text (Some self.now)) }
+    {
+        let (name, reason) = (self.name.as_bytes(), self.reason.as_bytes());
+        match self.place {
+            Some((line, column)) => put_error_at(name, reason, line, column, w),
+            None => put_error_line(name, reason, w),
+        }
+    }
+}
+
+/// How a text fails to be JSON, in words.
+fn flaw_words(kind: FlawKind) -> &'static str
+    ensures { result.now ≡ flaw_words kind }
+{
+    match kind {
+        FlawKind::NotUtf8 => "is not UTF-8",
+        FlawKind::CutShort => "ends too early",
+        FlawKind::NotJson => "is no JSON",
     }
 }
 
@@ -34,7 +80,7 @@ impl Printed for Option<Note<'_>> {
 
     fn print<W: Write>(&self, w: &mut W) -> io::Result<()> {
         match self {
-            Some(note) => put_error_line(note.name.as_bytes(), note.reason.as_bytes(), w),
+            Some(note) => note.write(w),
             None => Ok(()),
         }
     }

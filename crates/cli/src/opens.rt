@@ -3,9 +3,13 @@ ghost use Rattle.std.specs.Prelude.{◌≡◌, ℕ, List, IfErr, IfOk, ⊤};
 ghost use Rattle.std.specs.IoError.{error_kind};
 ghost use Rattle.std.specs.declared.io.ErrorKind.{ErrorKind};
 
+use crate::note::Note;
+use crate::printed::Printed;
+use json_text::Flaw;
 use program_io::{Input, Source};
+use std::alloc::Global;
 use std::rt::Files;
-use std::{fs, io};
+use std::{fs, io, str};
 
 /// What opens files by their names.
 pub trait Opens {
@@ -21,6 +25,9 @@ pub trait Opens {
     fn open(&self, name: &str) -> io::Result<Self::File>
         ensures ok { IfOk result (opens self.now name.now) }
         ensures err { IfErr result (λ error. fails self.now name.now (error_kind error)) };
+
+    /// Tells the operator, if that is possible, what keeps the file of this name from being JSON.
+    fn tell(&self, alloc: Global, name: &str, flaw: Flaw);
 }
 
 /// The system's files. What they hold is not known.
@@ -39,7 +46,7 @@ impl<'a, R> Disk<'a, R> {
     }
 }
 
-impl<R: Files> Opens for Disk<'_, R> {
+impl<R: Files + Eprint> Opens for Disk<'_, R> {
     type File = R::File;
 
     ghost opens = { λ _ _ _. ⊤ };
@@ -48,6 +55,15 @@ impl<R: Files> Opens for Disk<'_, R> {
 
     fn open(&self, name: &str) -> io::Result<R::File> {
         fs::open(self.rt, name)
+    }
+
+    fn tell(&self, alloc: Global, name: &str, flaw: Flaw) {
+        let mut line = Vec::new(alloc);
+        if Some(Note::of_flaw(name, flaw)).print(&mut line).is_ok()
+            && let Ok(text) = str::from_utf8(line.as_slice())
+        {
+            let _ = eprint!(self.rt; "{text}");
+        }
     }
 }
 

@@ -1,16 +1,18 @@
 //! `numarun run`.
 ghost use Rattle.std.specs.Prelude.{◌≡◌, IfErr, IfOk, option_map};
-ghost use Rattle.cli.specs.Program.{Finishes, Refuses, Scripts, name_in};
+ghost use Rattle.cli.specs.Notes.{note_text};
+ghost use Rattle.cli.specs.Program.{Finishes, Refuses, Scripts, note_in};
 ghost use Rattle.cli.specs.Ready.{IsBadTable, IsReady, IsTableIn, Readies, SetsUp};
 ghost use Rattle.cli.specs.RunAnswer.{Plays, is_unread};
 
 use crate::answer::answer_in;
 use crate::console::{Console, REFUSED, UNWRITTEN, print_then_note};
+use crate::defect::Defect;
 use crate::note::{Note, STANDARD_INPUT};
 use crate::opens::Opens;
 use crate::unready::Unready;
 use kernel_model::Kernel;
-use machine::Machine;
+use machine::{Machine, MachineFault};
 use node::Node;
 use program_io::{Input, ReadFault, Refusal};
 use runtime::{Bundles, Runner, boot};
@@ -34,8 +36,9 @@ pub fn do_run<F: Opens, B: Bundles + Drop, R: Read, W: Write, E: Write>(
 ) -> u8
     // It refuses the machine file or the table beside it, each for its own fault (`SetsUp`). An allocation failure for the
     // machine is told only if the reading answered it, or if no fault shows before the JSON is read (`text_fault`). One for
-    // its node is told only if the machine was accepted. Or it runs the script over a node with no container, on a kernel
-    // of that machine in which nothing was done yet. What is written then is what `script` and `runtime` say of the
+    // its node is told only if the machine was accepted. Beside E25 standard error says which of its causes holds
+    // (`IsDefectOf`): the file is too long, it is no JSON, or it is JSON. If memory is short it names all of them. Or it runs
+    // the script over a node with no container, on a kernel of that machine in which nothing was done yet. What is written then is what `script` and `runtime` say of the
     // answers. If the script can't be read, a last line says so, and standard error tells the fault that ended it
     // (`Finishes`, `is_unread`).
     ensures { Scripts W.contents E.contents console.old console.new result (F.opens files.now) (F.fails files.now) F.File.gives
@@ -64,17 +67,22 @@ pub fn refuse<W: Write, E: Write>(
     ensures { Refuses W.contents E.contents console.old console.new result machine.now (option_map (λ name. name.now) table.entry) unready }
 {
     let refusal = unready.refusal();
-    let note = Note::beside(refusal, name_in(machine, table, unready));
-    print_then_note(&refusal, REFUSED, &note, console)
+    print_then_note(
+        &refusal,
+        REFUSED,
+        &note_in(machine, table, unready),
+        console,
+    )
 }
 
-/// The name of the file that is refused.
-fn name_in<'a>(machine: &'a str, table: Option<&'a str>, unready: Unready) -> &'a str
-    ensures { result.now ≡ name_in machine.now (option_map (λ name. name.now) table.entry) unready }
+/// The note beside the refusal of one of the two files, where there is one.
+fn note_in<'a>(machine: &'a str, table: Option<&'a str>, unready: Unready) -> Option<Note<'a>>
+    ensures { note_text result ≡ note_in machine.now (option_map (λ name. name.now) table.entry) unready }
 {
     match unready {
-        Unready::Machine(_) => machine,
-        Unready::Slit(_) => table.unwrap_or(""),
+        Unready::Machine(refusal) => Note::beside(refusal, machine),
+        Unready::NotJson(defect) => Some(defect.note(machine)),
+        Unready::Slit(refusal) => Note::beside(refusal, table.unwrap_or("")),
     }
 }
 
@@ -115,6 +123,9 @@ fn ready<I: Input>(alloc: Global, machine: I, table: Option<I>) -> Result<Machin
     };
     match described(alloc, text.as_slice(), table.as_ref()) {
         Ok(machine) => Ok(machine),
+        Err(refusal) if refusal == Refusal::Machine(MachineFault::NotJson) => {
+            Err(Unready::NotJson(Defect::of(alloc, text.as_slice())))
+        }
         Err(refusal) => Err(Unready::Machine(refusal)),
     }
 }

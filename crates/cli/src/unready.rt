@@ -1,9 +1,13 @@
+use crate::defect::Defect;
+use machine::MachineFault;
 use program_io::Refusal;
 
 /// Why a script is not begun: what is wrong with the machine file, or with the distance table beside it.
 #[derive(Clone, Copy)]
 pub enum Unready {
     Machine(Refusal),
+    /// E25: the machine file is no JSON object of its size.
+    NotJson(Defect),
     Slit(Refusal),
 }
 
@@ -17,6 +21,7 @@ impl Unready {
     {
         match self {
             Unready::Machine(refusal) | Unready::Slit(refusal) => refusal,
+            Unready::NotJson(_) => Refusal::Machine(MachineFault::NotJson),
         }
     }
 }

@@ -46,6 +46,9 @@ impl Flaw {
 /// An allocation failure.
 #[tactic(auto, using(crate::proofs::TextTests::utf8_tests), unfolding(crate::specs::JsonOf::json_of))]
 pub fn flaw_in(alloc: Global, bytes: &[u8]) -> Result<Option<Flaw>, AllocError>
+    // It says whether the bytes are JSON, and of others whether they are UTF-8. What line and column it names, and whether it
+    // says that the text ends too early, no clause tells: `serde_json` promises neither. Tests compare the places with those
+    // that Python's JSON finds.
     ensures { IfOk result (IsFlawIn bytes.now) }
 {
     match Value::from_slice(alloc, bytes) {

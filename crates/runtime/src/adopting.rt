@@ -7,6 +7,7 @@ ghost use Rattle.runtime.specs.Found.{IsSeen};
 use crate::answers::put_pid;
 use crate::bundles::Bundles;
 use crate::refusal::Refusal;
+use crate::refused_config::refused_config;
 use cpu_list::read;
 use cpu_set::{CPU_LIMIT, IdSet};
 use kernel_model::Kernel;
@@ -41,15 +42,16 @@ pub fn adopt<K: Kernel + Drop, B: Bundles, W: Write>(
     ensures same { B.told bundles.new ≡ B.told bundles.old }
 {
     match bundles.config(bundle) {
-        Ok(Some(config)) => adopt_from(node, id, bundle, config.as_slice(), list, w),
+        Ok(Some(config)) => adopt_from(node, bundles, id, bundle, config.as_slice(), list, w),
         Ok(None) => Refusal::NoBundle.write(w),
         Err(_) => Refusal::Memory.write(w),
     }
 }
 
 /// Takes up a container of the bundle with this config, which has the CPUs of the list.
-fn adopt_from<K: Kernel + Drop, W: Write>(
+fn adopt_from<K: Kernel + Drop, B: Bundles, W: Write>(
     node: &mut Node<K>,
+    bundles: &B,
     id: &str,
     bundle: &str,
     config: &[u8],
@@ -64,6 +66,6 @@ fn adopt_from<K: Kernel + Drop, W: Write>(
     };
     match node.adopt(id, bundle, config, cpus) {
         Ok(pid) => put_pid(pid, w),
-        Err(error) => Refusal::from(error).write(w),
+        Err(error) => refused_config(error, bundles, bundle, config).write(w),
     }
 }

@@ -37,4 +37,7 @@ impl Bundles for BundleList<'_> {
         }
         Ok(None)
     }
+
+    /// There is nobody to tell.
+    fn tell_not_json(&self, _bundle: &str, _config: &[u8]) {}
 }

@@ -20,4 +20,7 @@ pub trait Bundles {
         ensures found { IfOk result (λ found. IsFound (told self.old) bundle.now (option_map (λ config. config.items) found)) }
         ensures seen { IfOk result (λ found. finds bundle.now (option_map (λ config. config.items) found)) }
         ensures same { told self.new ≡ told self.old };
+
+    /// Tells the operator, if that is possible, where the config of a bundle, these bytes, stops being JSON.
+    fn tell_not_json(&self, bundle: &str, config: &[u8]);
 }

@@ -7,6 +7,7 @@ ghost use Rattle.runtime.specs.Found.{IsSeen};
 use crate::answers::{put_done, put_pid};
 use crate::bundles::Bundles;
 use crate::refusal::Refusal;
+use crate::refused_config::refused_config;
 use kernel_model::Kernel;
 use node::Node;
 use std::io;
@@ -24,15 +25,16 @@ pub fn create<K: Kernel + Drop, B: Bundles, W: Write>(
     ensures same { B.told bundles.new ≡ B.told bundles.old }
 {
     match bundles.config(bundle) {
-        Ok(Some(config)) => create_from(node, id, bundle, config.as_slice(), w),
+        Ok(Some(config)) => create_from(node, bundles, id, bundle, config.as_slice(), w),
         Ok(None) => Refusal::NoBundle.write(w),
         Err(_) => Refusal::Memory.write(w),
     }
 }
 
 /// Creates a container of the bundle with this config.
-fn create_from<K: Kernel + Drop, W: Write>(
+fn create_from<K: Kernel + Drop, B: Bundles, W: Write>(
     node: &mut Node<K>,
+    bundles: &B,
     id: &str,
     bundle: &str,
     config: &[u8],
@@ -42,7 +44,7 @@ fn create_from<K: Kernel + Drop, W: Write>(
 {
     match node.create(id, bundle, config) {
         Ok(pid) => put_pid(pid, w),
-        Err(error) => Refusal::from(error).write(w),
+        Err(error) => refused_config(error, bundles, bundle, config).write(w),
     }
 }
 

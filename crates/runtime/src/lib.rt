@@ -27,6 +27,7 @@ mod outcomes;
 mod plans;
 mod queries;
 mod refusal;
+mod refused_config;
 mod runner;
 mod updating;
 

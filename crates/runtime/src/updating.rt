@@ -7,6 +7,7 @@ ghost use Rattle.runtime.specs.Found.{IsSeen};
 use crate::answers::put_done;
 use crate::bundles::Bundles;
 use crate::refusal::Refusal;
+use crate::refused_config::refused_config;
 use kernel_model::Kernel;
 use node::Node;
 use std::io;
@@ -24,15 +25,16 @@ pub fn update<K: Kernel + Drop, B: Bundles, W: Write>(
     ensures same { B.told bundles.new ≡ B.told bundles.old }
 {
     match bundles.config(bundle) {
-        Ok(Some(config)) => update_from(node, id, bundle, config.as_slice(), w),
+        Ok(Some(config)) => update_from(node, bundles, id, bundle, config.as_slice(), w),
         Ok(None) => Refusal::NoBundle.write(w),
         Err(_) => Refusal::Memory.write(w),
     }
 }
 
 /// Reads the config of a container again, of the bundle with this config.
-fn update_from<K: Kernel + Drop, W: Write>(
+fn update_from<K: Kernel + Drop, B: Bundles, W: Write>(
     node: &mut Node<K>,
+    bundles: &B,
     id: &str,
     bundle: &str,
     config: &[u8],
@@ -42,6 +44,6 @@ fn update_from<K: Kernel + Drop, W: Write>(
 {
     match node.update(id, bundle, config) {
         Ok(()) => put_done(w),
-        Err(error) => Refusal::from(error).write(w),
+        Err(error) => refused_config(error, bundles, bundle, config).write(w),
     }
 }

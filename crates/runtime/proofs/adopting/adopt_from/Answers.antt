@@ -19,4 +19,4 @@ pub returns-in-Err-adopt : goal.returns-in-Err-adopt
 returns-in-Err-adopt g c =
     Replies-written (AnswersTaken c.args.node.now c.args.id.now c.args.bundle.now c.args.list.now (Some c.args.config.now)) _ _ _ _ (refusal_line (of_either c.in-Err-adopt.error))
     (Ok c.in-Ok.cpus, c.in-Ok.ensures, (Err c.in-Err-adopt.error, c.in-Err-adopt.ensures.adopts, c.in-Err-adopt.ensures.made, refl))
-    (rw c.from.ensures at c.write-in-Err-adopt.ensures)
+    (rw c.refused_config.ensures at c.write-in-Err-adopt.ensures)

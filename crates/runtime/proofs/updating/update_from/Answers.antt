@@ -13,4 +13,4 @@ returns-in-Ok g c =
 pub returns-in-Err : goal.returns-in-Err
 returns-in-Err g c =
     Replies-written (AnswersRead c.args.node.now c.args.id.now c.args.bundle.now (Some c.args.config.now)) _ _ _ _ (refusal_line (of_either c.in-Err.error))
-    (Err c.in-Err.error, c.in-Err.ensures.updates, refl) (rw c.from.ensures at c.write.ensures)
+    (Err c.in-Err.error, c.in-Err.ensures.updates, refl) (rw c.refused_config.ensures at c.write.ensures)
