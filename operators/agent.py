@@ -265,7 +265,7 @@ class Agent:
         one = self.held.pop(name)
         self.forget(name)
         self.tree.forget(one.seen.path)
-        if self.taken and one.seen.told.folder is not None:
+        if self.taken and one.seen.told.folder is not None and not self.mending.came_anew(one):
             self.taken.forget(one.seen.path)
         self.say(f"ended {name}")
         return one

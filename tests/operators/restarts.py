@@ -54,30 +54,31 @@ site, steps = "{site}", 0
 run = subprocess.Popen(["{program}", *sys.argv[1:]], stdin=subprocess.PIPE, close_fds=False)
 for line in sys.stdin.buffer:
     steps += line == b"step\\n"
-    if line == b"step\\n" and steps == 1:  # a container comes back in the place of `a`, and its config is not there yet
-        for name in ("g/a", "root/numarun/a"):
-            os.rename(f"{{site}}/{{name}}", f"{{site}}/old-{{name.replace('/', '-')}}")
-        os.rename(f"{{site}}/new", f"{{site}}/root/numarun/a")
-    if steps == 2:
+    if line == b"step\\n" and steps == 1:  # a container comes back in the place of `a`, and its config is not there yet; `b` comes
+        for old, new in (("g/a", "old-a"), ("root/numarun/a", "old-group"), ("anew", "root/numarun/a"), ("b", "g/b")):
+            os.rename(f"{{site}}/{{old}}", f"{{site}}/{{new}}")
+    killed = {killed}
+    if killed:
         os.kill(os.getppid(), signal.SIGKILL)
     run.stdin.write(line)
     run.stdin.flush()
-    if steps == 2:
+    if killed:
         break
 run.stdin.close()
 run.wait()
 """
 
 
-def killed_behind_a_late_write(told_at_once=False):
-    """A plan moves `a`, whose group is another one by then, and the agent is killed behind the last write. The next one does not know what
-    the group has by that plan, nor which container it is: nobody gets CPUs that it shares with it."""
+def late(killed):
+    """A plan moves `a`, whose group is another one by then, and the agent is killed behind the last write, or later in its next look."""
     site = Site()
     site.come("a", 1)
     site.run()
-    site.make_group(None, group="../new")
+    site.make_group(None, group="../anew")
+    site.come("b", "2")
+    os.rename(site.at("g/b"), site.at("b"))
     with open(site.at("proxy"), "w") as file:
-        file.write(LATE.format(site=site.folder, program=IN_FOLDERS))
+        file.write(LATE.format(site=site.folder, program=IN_FOLDERS, killed=killed))
     os.chmod(site.at("proxy"), 0o755)
     site.online("0,2-7")
     agent = Open(site, "--program", site.at("proxy"))
@@ -86,15 +87,27 @@ def killed_behind_a_late_write(told_at_once=False):
     while site.has("a") != ["2"] and time.monotonic() < until:
         time.sleep(0.01)
     check("the new group has what was meant for the one before", site.has("a"), ["2"])
-    if told_at_once:
-        site.come("a", 2, group=False)
-        check("one that is told at once keeps it", (site.run()[0], site.has("a")), (0, ["2-3"]))
-        return
-    site.come("b", "2")
+    return site
+
+
+BEHIND_THE_WRITE, IN_THE_NEXT_LOOK = "steps == 2", "line.startswith(b'create b ')"
+
+
+def killed_and_told():
+    """One that is told at once has what it got so, since nobody else has it, until there is a plan."""
+    site = late(BEHIND_THE_WRITE)
+    site.come("a", 2, group=False)
+    status, lines = site.run()
+    check("told at once", (status, of(lines, "late", "adopt"), site.has("a", "b")), (0, [f"adopt a {site.at('work/bundles/told/a')} 2"], ["3-4", "2"]))
+
+
+def killed_behind_a_late_write(killed=BEHIND_THE_WRITE, name="a"):
+    """The next agent does not know what the group has by that plan, nor which container it is: nobody gets CPUs that it shares with it."""
+    site = late(killed)
     agent = Open(site)
     lines = agent.until("done")
-    check("nobody shares it", (of(lines, "late"), site.has("a", "b")),
-          (["late a: 2 of the one before: on the reserved CPUs until it is told"], ["0", "2"]))
+    said = f"late {name or site.at('root/numarun/a')}: 2 of the one before: on the reserved CPUs until it is told"
+    check("nobody shares it", (of(lines, "late"), site.has("a", "b")), ([said], ["0", "2"]))
     agent.process.kill()
     agent.process.wait()
     check("and at one more start", (site.run()[0], site.has("a", "b")), (0, ["0", "2"]))
@@ -103,6 +116,11 @@ def killed_behind_a_late_write(told_at_once=False):
     check("once it is told", (status, site.has("a", "b")), (0, ["3", "2"]))
     status, out, _ = told("agent.py", "--release", "--cgroup", site.at("root"), "--work", site.at("work"))
     check("given back", (status, site.has("a", "b")), (0, ["", ""]))
+
+
+def killed_in_the_next_look():
+    """The same where the agent has seen that `a` ended, and is killed before it has looked at the new group."""
+    killed_behind_a_late_write(IN_THE_NEXT_LOOK, name=None)
 
 
 def late_in_a_slice():
@@ -114,9 +132,9 @@ def late_in_a_slice():
     site.come("top", 1, linux={"cgroupsPath": "/machine.slice/top"})
     rest = ("--rest", "machine.slice")
     check("held by itself", (site.run(*rest)[0], site.file("machine.slice/pods")), (0, "0,3-7"))
-    site.make_group(None, "0,3-7", group="../new")
+    site.make_group(None, "0,3-7", group="../anew")
     os.rename(site.at("root/machine.slice/pods"), site.at("old"))
-    os.rename(site.at("new"), site.at("root/machine.slice/pods"))
+    os.rename(site.at("anew"), site.at("root/machine.slice/pods"))
     site.come("pod", 2, linux={"cgroupsPath": "/machine.slice/pods/pod"})
     status, lines = site.run(*rest)
     check("let go", (status, site.file("machine.slice/pods"), len(read_list(site.file("machine.slice/pods/pod"), "pod"))), (0, "", 2))
@@ -214,10 +232,9 @@ def refused_at_first():
                   (1, [f"refused {fault}: new {site.at('g/new')}: it runs on the pool"], True, set(range(8)) - read_list(site.has("a")[0], "a")))
 
 
-PARTS = (in_a_look, in_a_look_with_more, killed_behind_a_late_write, late_in_a_slice, unreadable, unreadable_on_the_pool, refused_for_good, refused_at_first)
+PARTS = (in_a_look, in_a_look_with_more, killed_and_told, killed_behind_a_late_write, killed_in_the_next_look, late_in_a_slice, unreadable,
+         unreadable_on_the_pool, refused_for_good, refused_at_first)
 for part in PARTS:
     if not sys.argv[1:] or part.__name__ in sys.argv[1:]:
         part()
-        if part is killed_behind_a_late_write:
-            part(told_at_once=True)
 end("agent.py and what the one before left")
