@@ -113,7 +113,7 @@ class Agent:
     def told_of(self, name):
         """What a hook is told of a container; nothing as long as that is not decided."""
         one, said = self.held.get(name), self.open.get(("container", name))
-        if one is None:
+        if one is None or one.bare:
             return said if str(said).startswith(("refused", "failed")) else None
         if one.waits:
             return f"no place {said}" if said else None
@@ -179,6 +179,8 @@ class Agent:
         path, more = os.path.join(self.work, "machine.json"), ()
         self.online.choose_reserved()
         self.reserved, self.running = self.online.reserved, set(self.online.running)
+        if self.taken:
+            self.taken.known = frozenset(self.taken.groups)
         if not self.running:
             raise Refused(f"{self.words.machine}: none of its CPUs is there" + (f", or in effect in {self.tree.root}" if self.tree.root else ""))
         if self.tree.folder:
@@ -206,6 +208,7 @@ class Agent:
     def start_anew(self):
         """Takes up all that is there in a new run, since other CPUs are reserved by now."""
         self.numarun.close()
+        self.tree.before = {name: one.seen.path for name, one in self.held.items()}
         self.held, self.newcomers.refused, self.off, self.plans.pool, self.plans.tried, self.due = {}, {}, {}, None, None, True
         self.start()
 
@@ -222,14 +225,13 @@ class Agent:
         followed = [name for name, one in self.held.items() if self.follow(name, one, there[name])]
         taken = self.newcomers.take_all({name: seen for name, seen in there.items() if name not in self.held})
         self.mending.undo_late_writes(ended)
-        if self.ending:
-            self.due = True
-            return
-        if self.slices:
-            self.slices.let_go(self, {seen.path for seen in there.values()})
         if gone or followed or taken or events:
             self.due = True
             self.pauses.forget("plan")
+        if self.ending:
+            return
+        if self.slices:
+            self.slices.let_go(self, {seen.path for seen in there.values()})
         if self.unmade and self.pauses.over("update"):
             self.due, self.unmade = True, False
         if self.due and self.pauses.over("plan") and not self.newcomers.are_held_up(there):
@@ -246,9 +248,9 @@ class Agent:
                 self.off[words[0]] = kind
                 (self.running.add if kind == "online" else self.running.discard)(int(words[0]))
 
-    def forget(self, name):
-        """Nothing is there of a container any more, and nothing is left to be said of it."""
-        for kind in ("container", "stays", "drift", "squeezed"):
+    def forget(self, name, *kinds):
+        """Nothing is there of a container any more, and nothing is left to be said of it, or nothing of these kinds."""
+        for kind in kinds or ("container", "stays", "drift", "squeezed"):
             self.open.pop((kind, name), None)
         self.sight.absent.pop(name, None)
         self.newcomers.refused.pop(name, None)
@@ -263,7 +265,7 @@ class Agent:
         one = self.held.pop(name)
         self.forget(name)
         self.tree.forget(one.seen.path)
-        if self.taken and one.seen.told.folder is not None:
+        if self.taken and one.seen.told.folder is not None and not self.mending.came_anew(one):
             self.taken.forget(one.seen.path)
         self.say(f"ended {name}")
         return one
@@ -297,7 +299,7 @@ class Agent:
         if not self.tell_update(name, one, demand if demand.count is None else shared(demand.config), quiet=demand.count is not None):
             one.seen = one.seen._replace(stamp=None) if self.unmade else one.seen  # it is told again
             return False
-        one.demand, one.waits, one.wanted, one.nodes = demand, demand.count is not None, None, one.seen.nodes
+        one.demand, one.waits, one.wanted, one.nodes, one.bare = demand, demand.count is not None, None, one.seen.nodes, False
         self.settle(("container", name), "refused", "waits", "fewer", "keeps")
         return True
 

@@ -57,6 +57,13 @@ def staying(demand, cpus):
     return Demand(of_section(demand.config, cpus=print_list(cpus)), demand.count, None)
 
 
+def bare(cpus, nodes):
+    """A demand for just these CPUs, or for none of its own, on these nodes: of one whose config can't be told of."""
+    section = {**({"cpus": print_list(cpus)} if cpus else {}), **({"mems": print_list(nodes)} if nodes else {})}
+    config = {"ociVersion": "1.0.2", "root": {"path": "/"}, "annotations": {PIN: "true"}, "linux": {"resources": {"cpu": section}}}
+    return Demand(config, len(cpus) or None, None)
+
+
 def stays(config):
     return at(config, "annotations", STAY) == "true"
 

@@ -94,7 +94,8 @@ class Tree:
         self.folder = os.path.join(work, "tree")
         self.links = os.path.join(self.folder, "numarun")
         os.makedirs(self.links, exist_ok=True)
-        for name in os.listdir(self.links):
+        self.before = {name: self.linked(name) for name in os.listdir(self.links)}  # the groups of an agent before
+        for name in self.before:
             self.unlink(name)
         self.set_link(os.path.join(self.folder, "cgroup.controllers"), os.path.join(self.root, "cgroup.controllers"))
         self.last = {}  # what was read of a file, and its set
@@ -118,6 +119,10 @@ class Tree:
             os.unlink(link)
         if os.path.lexists(path):
             os.symlink(path, link)
+
+    def linked(self, name):
+        path = os.path.join(self.links, name)
+        return os.readlink(path) if os.path.islink(path) else None
 
     def link(self, name, path):
         self.unlink(name)
@@ -209,7 +214,7 @@ class Tree:
 class NoTree:
     """Stands for a tree where nothing is to be written: each group is there, and requests nothing."""
 
-    root, folder, locks = None, None, []
+    root, folder, locks, before = None, None, [], {}
 
     def link(self, name, path):
         return None

@@ -4,6 +4,7 @@ import os
 
 from common import print_list
 from groups import Absent
+from slices import is_below
 from taken import put
 
 
@@ -31,8 +32,25 @@ class Mending:
         for name, one in ended:
             path = one.seen.path
             if one.cpus and path not in paths and self.came_anew(one) and self.tree.listed(path) == one.cpus:
-                why = put(os.path.join(path, "cpuset.cpus"), print_list(self.agent.reserved))
-                self.agent.say(f"failed {why}" if why else f"late {name}: {print_list(one.cpus)} of the one before: on the reserved CPUs until it is told")
+                self.to_reserved(name, path, one.cpus)
+        if self.agent.taken and self.agent.taken.anew:
+            self.undo_writes_before(paths)
+
+    def undo_writes_before(self, paths):
+        """The same of groups that came while no agent looked: the one before may have been killed behind such a write."""
+        names = {path: name for name, path in self.tree.before.items()}
+        for path, system in self.agent.taken.anew.items():
+            cpus = self.tree.listed(path)
+            if system and path in self.agent.slices.on_the_way:
+                self.agent.taken.take_new(path, system)
+            elif not system and path not in paths and cpus - self.agent.reserved and is_below(path, self.tree.root):
+                self.to_reserved(names.get(path, path), path, cpus)
+        self.agent.taken.anew = {}
+
+    def to_reserved(self, name, path, cpus):
+        why = put(os.path.join(path, "cpuset.cpus"), print_list(self.agent.reserved))
+        self.agent.taken.take_new(path, False)
+        self.agent.say(f"failed {why}" if why else f"late {name}: {print_list(cpus)} of the one before: on the reserved CPUs until it is told")
 
     def came_anew(self, one):
         try:

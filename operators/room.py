@@ -125,7 +125,7 @@ class Room:
     def give(self, name, one, given, wanted):
         if not self.agent.tell_update(name, one, given):
             return
-        one.demand, one.wanted, one.waits, one.admitted, one.nodes = wanted, None, False, True, one.seen.nodes
+        one.demand, one.wanted, one.waits, one.admitted, one.nodes, one.bare = wanted, None, False, True, one.seen.nodes, False
         self.agent.due = True
         self.agent.open.pop(("container", name), None)
         self.agent.homes.say_home(name, one)

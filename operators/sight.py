@@ -5,7 +5,7 @@ import collections
 import os
 
 from common import Refused
-from demands import asked, homes_of, limited, other_limit
+from demands import asked, bare, homes_of, limited, other_limit
 from groups import Absent, parse
 
 # What is there of a container: the stamp of its config, its group's inode, what its group has of limits and nodes that its config has
@@ -56,11 +56,12 @@ class Sight:
         try:
             seen = self.seen(one, name, told)
         except Absent as why:
-            if one and self.lives(one):
+            seen = self.as_before(one, name, told)
+            if seen:
                 self.say_stays(name, why)
-                return one.seen
-            self.say_absent(name, why)
-            return None
+            else:
+                self.say_absent(name, why)
+            return seen
         self.agent.open.pop(("stays", name), None)
         self.absent.pop(name, None)
         self.agent.settle(("container", name), "absent", "None")
@@ -76,21 +77,32 @@ class Sight:
         if one and one.seen.stamp == stamp:
             config, path = one.seen.config, one.seen.path
         else:
-            config = self.parsed(file, one)
-            if config is None:
+            try:
+                config = parse(file)
+            except Absent:
+                if one is None or self.lives(one):
+                    raise
                 return one.seen
             path = self.tree.group(name, told.folder, config, told.group)
         inode = self.tree.inode(path)
         return Seen(stamp, inode, *self.limits(one, told, config, path), found.st_mtime_ns, told, config, path)
 
-    def parsed(self, file, one):
-        """A config; or nothing where it is that of a container that runs, and can't be read yet."""
-        try:
-            return parse(file)
-        except Absent:
-            if one is None:
-                raise
+    def as_before(self, one, name, told):
+        """One of which no config can be read now, and which this agent holds or the one before held: as it is, while it has a process."""
+        if one:
+            return one.seen if self.lives(one) else None
+        path = self.tree.before.get(name)
+        inode, *_, system = self.agent.taken.groups.get(path, [None, True]) if path else [None, True]
+        if system or not self.runs(path, inode):
             return None
+        cpus = self.tree.listed(path)
+        demand = bare(set() if cpus & self.agent.reserved else cpus, self.nodes_of(path))
+        return Seen(None, inode, None, None, 0, told._replace(bundle=""), demand.config, path)
+
+    def nodes_of(self, path):
+        """The nodes that a group requests, if the machine has them."""
+        nodes = self.tree.memory(path)
+        return nodes if nodes and self.are_known(nodes) else set()
 
     def limits(self, one, told, config, path):
         """The limit and the nodes of a container's group, where somebody gave it others than its config has."""

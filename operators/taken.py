@@ -24,18 +24,24 @@ def put(path, text):
 
 
 class Taken:
-    """By each group's path its inode, what it requested of CPUs and of nodes, and whether it is the system's own."""
+    """By each group's path its inode, what it requested of CPUs and of nodes, and whether it is the system's own. `anew` has whether they
+    are of those paths at which there is another group by now."""
 
     def __init__(self, work, cpus=(), nodes=()):
-        self.path, self.groups = os.path.join(work, "taken.json"), {}
-        self.all = [print_list(cpus), print_list(nodes)]
+        self.path, self.groups, self.anew = os.path.join(work, "taken.json"), {}, {}
+        self.all, self.known = [print_list(cpus), print_list(nodes)], frozenset()
         try:
             told = parse_text(read_text(self.path, RECORD_BYTES), self.path)
         except Refused:
             return
         self.all = self.all if cpus or not self.are_texts(told.get("all")) else told["all"]
         groups = told.get("groups") if isinstance(told.get("groups"), dict) else {}
-        self.groups = {path: entry for path, entry in groups.items() if self.is_entry(entry) and self.inode(path) == entry[0]}
+        for path, entry in groups.items():
+            inode = self.is_entry(entry) and self.inode(path)
+            if inode and inode == entry[0]:
+                self.groups[path] = entry
+            elif inode:
+                self.anew[path] = entry[3]
 
     @staticmethod
     def are_texts(told):
@@ -59,6 +65,11 @@ class Taken:
             self.groups[path] = [inode, *(self.requested(path, file) for file in FILES), path in system]
         if new:
             self.save()
+
+    def take_new(self, path, system):
+        """Keeps that a group which nobody looked at before requested nothing."""
+        self.groups[path] = [self.inode(path), "", "", system]
+        self.save()
 
     @staticmethod
     def requested(path, file):

@@ -11,7 +11,7 @@ top=$(cd "$(dirname "$0")/.." && pwd)
 scratch=$(mktemp -d) work=$scratch
 . "$top/tests/build-preloads.sh"
 export PROGRAM=$program GROUPS_LIBRARY=$scratch/groups.so
-lanes=("looks hwloc pictures explains dry-runs rests hooks installs packages peers moves manual" "agents" "changes homes" "troubles" "kills")
+lanes=("looks hwloc pictures explains dry-runs rests hooks installs packages peers moves manual lacking" "agents" "changes homes" "troubles restarts" "kills")
 [ -z "${TESTS:-}" ] || lanes=("$TESTS")
 
 # lane N TEST..: these, one after another, in a scratch folder of their own, up to the first that fails.

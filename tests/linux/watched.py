@@ -87,6 +87,12 @@ class Agent:
         self.process.wait()
 
 
+def release():
+    """Gives back all that was taken."""
+    command = [*words()[:3], "--release", "--cgroup", ROOT, "--work", WORK]
+    return subprocess.run(command, stdin=subprocess.DEVNULL, capture_output=True, text=True)
+
+
 def lines():
     return [line.split(" ", 1)[-1] for line in read(OUT).splitlines()]
 

@@ -222,8 +222,8 @@ def refused_sections():
     bundle = site.at("work/bundles/told/none")
     check("two that are refused", [line for line in lines if line.startswith(("refused", "adopt"))],
           [f"adopt none {bundle} 1", f"refused E63 NoSuchCpu 90: none {site.at('g/none')}: it runs on the pool",
-           f"refused E65 NoSuchNode 7: mems {site.at('g/mems')}"])
-    check("what they have", site.has("a", "none", "mems"), ["1-2", "0,3-7", ""])
+           f"refused E65 NoSuchNode 7: mems {site.at('g/mems')}: it runs on the pool"])
+    check("what they have", site.has("a", "none", "mems"), ["1-2", "0,3-7", "0,3-7"])
     site.come("new", "5", group=False)
     os.rename(site.at("g/new/config.json"), site.at("g/none/config.json"))
     agent.until("hold none")
@@ -360,6 +360,25 @@ def one_agent():
     agent.end(signal.SIGINT)
 
 
+def beside_a_run():
+    """An agent beside a run by hand, and a run beside an agent: who comes second is refused."""
+    site = Site()
+    site.come("a", 1)
+    more = ("--cgroup", site.at("root"), "--adopt")
+    by_hand = common.Run(IN_FOLDERS, site.at("machine.json"), None, more)
+    check("an agent beside a run", told("agent.py", *site.words("--rounds", "1")), (1, "", f"agent.py: {site.at('root')}: another agent or program has it\n"))
+    by_hand.close()
+    agent = Open(site)
+    agent.until("done")
+    try:
+        common.Run(IN_FOLDERS, site.at("machine.json"), None, more)
+        why = "taken"
+    except common.Refused as refused:
+        why = str(refused)
+    says = f"{site.at('machine.json')}: refused E50 KernelFault (error: {site.at('root')}: another program has it)"
+    check("a run beside an agent", (why, site.has("a"), agent.end()[0]), (says, ["1"], 0))
+
+
 def told_by_lines():
     """Events of standard input, with groups of their own."""
     site = Site()
@@ -431,7 +450,7 @@ def refusals():
 
 
 for part in (plain, restart, under_its_id, refused_writes, admission, fewer, who_is_pinned, named_cpus, refused_sections, pool_hook, flapping, storm,
-             rest, recorded, one_agent, told_by_lines, places, refusals):
+             rest, recorded, one_agent, beside_a_run, told_by_lines, places, refusals):
     if not sys.argv[1:] or part.__name__ in sys.argv[1:]:
         part()
 end("agent.py")

@@ -456,6 +456,11 @@ def bounded_certificates():
     site.run("--certificates", site.at("kept"), "--keep", "3")
     kept = sorted(os.listdir(site.at("kept")))
     check("three, and what is no certificate", (len(kept), kept[:2], kept[-1]), (4, ["2020-01-04T00-00-00.000Z.certificate", "2020-01-05T00-00-00.000Z.certificate"], "mine"))
+    os.truncate(site.at("kept/2020-01-05T00-00-00.000Z.certificate"), 256 << 20)
+    site.come("b", 1)
+    site.run("--certificates", site.at("kept"))
+    kept = [name for name in os.listdir(site.at("kept")) if name.startswith("2020")]
+    check("and 256 MiB", (kept, len(os.listdir(site.at("kept")))), ([], 3))
 
 
 PARTS = (gone_cpus, detour, among_several, limits, kept_place, other_configs, updated_groups, unseen, unseen_at_the_start, away_for_a_moment, late_write, no_work, drift, machines, no_reserved,

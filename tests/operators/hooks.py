@@ -86,7 +86,7 @@ def answered():
     check("no place for one that needs it", (status, out, err.startswith("hook.py: no place waits must"), os.path.exists(site.at("told/must"))), (1, "", True, False))
     prepared(site, "bad", linux={"resources": {"cpu": {"mems": "7"}}})
     status, out, err = ended(begun(site, "bad", "--wait", "15"))
-    check("refused", (status, out, err), (1, "", f"hook.py: refused E65 NoSuchNode 7: bad {site.at('told/bad')}\n"))
+    check("refused", (status, out, err), (1, "", f"hook.py: refused E65 NoSuchNode 7: bad {site.at('told/bad')}: it runs on the pool\n"))
     check("it ends", agent.end()[0], 1)
 
 

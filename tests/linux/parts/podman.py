@@ -1,71 +1,31 @@
 """Containers that podman runs by crun, and the agent over crun's state: who names CPUs is adopted where podman put it, who names no nodes
-of memory gets a home, podman update is followed, a restart is seen, and all is given back; and podman's hook waits for the agent."""
+of memory gets a home, podman update is followed, a restart is seen, and all is given back; podman's hook waits for the agent; and
+containers in slices that are held on the pool have in effect what they request, and nobody else has it."""
 
 import json
 import os
-import shutil
-import subprocess
 import sys
 
 sys.path[:0] = [os.path.join(os.path.dirname(os.path.abspath(__file__)), "..")]
 import tree
 import watched
 from of_crun import STATE
+from of_podman import begin, podman, prepare, process
 from tree import CPUS, ROOT, read, say
 from watched import runs_on
 
-TOLD, HOOKS, ROOTFS, OUT = "/tmp/told", "/tmp/hooks", "/tmp/rootfs", "/tmp/podman-out"
-CONFIG = {"containers.conf": """[containers]
-netns = "none"
-log_driver = "k8s-file"
-seccomp_profile = "unconfined"
-[engine]
-cgroup_manager = "cgroupfs"
-events_logger = "file"
-no_pivot_root = true
-runtime = "crun"
-conmon_path = ["/app/conmon"]
-[engine.runtimes]
-crun = ["/app/crun"]
-""", "storage.conf": """[storage]
-driver = "vfs"
-runroot = "/run/containers/storage"
-graphroot = "/var/lib/containers/storage"
-"""}
+TOLD, HOOKS = "/tmp/told", "/tmp/hooks"
+REST = ("--rest", "system.slice,user.slice,machine.slice")
 
 
-def prepare():
-    """What podman needs besides: its configuration, and a root for containers with one program."""
-    for place in ("/etc/containers", "/var/tmp", "/dev/shm", f"{ROOTFS}/etc", HOOKS, TOLD):
-        os.makedirs(place, exist_ok=True)
-    for name, text in CONFIG.items():
-        with open(f"/etc/containers/{name}", "w") as file:
-            file.write(text)
-    shutil.copy("/app/sleeper", f"{ROOTFS}/sleeper")
+def prepare_hooks():
+    for place in (HOOKS, TOLD):
+        os.makedirs(place)
     hook = {"path": "/bin/python3", "args": ["python3", "-SEB", f"{tree.REPOSITORY}/operators/hook.py", TOLD]}
     waits = {**hook, "args": [*hook["args"], "--wait", "300", "--agent", f"{watched.WORK}/hooks"]}
     for stage, one in (("createRuntime", waits), ("poststop", hook)):
         with open(f"{HOOKS}/{stage}.json", "w") as file:
             json.dump({"version": "1.0.0", "when": {"always": True}, "stages": [stage], "hook": one}, file)
-
-
-def podman(*words):
-    """What podman says. It goes through a file, since a container that runs on keeps a pipe open."""
-    with open(OUT, "w") as out:
-        done = subprocess.run(["/app/podman", *words], stdin=subprocess.DEVNULL, stdout=out, stderr=subprocess.STDOUT)
-    assert not done.returncode, (words, done.returncode, read(OUT), watched.lines()[-20:])
-    return read(OUT)
-
-
-def begin(name, *words, more=()):
-    podman(*more, "run", "-d", "--name", name, *words, "--rootfs", ROOTFS, "/sleeper")
-    return process(name)
-
-
-def process(name):
-    """A container's first process, and its group."""
-    pid = int(podman("inspect", "-f", "{{.State.Pid}}", name).splitlines()[-1])
-    return pid, read(f"/proc/{pid}/cgroup").split("::")[1].strip("/")
 
 
 def nodes(group):
@@ -96,8 +56,7 @@ def lifecycle():
     podman("rm", "-f", "-t", "0", "db")
     agent.until(lambda: runs_on(web, CPUS - {6, 7}), "its end")
     agent.end()
-    words = watched.words()
-    done = subprocess.run([*words[:3], "--release", "--cgroup", ROOT, "--work", watched.WORK], stdin=subprocess.DEVNULL, capture_output=True, text=True)
+    done = watched.release()
     assert not done.returncode and runs_on(web, CPUS) and runs_on(packets, {6, 7}), (done, tree.allowed(web), tree.allowed(packets))
     podman("rm", "-f", "-t", "0", "web", "packets")
 
@@ -113,10 +72,64 @@ def before_its_first_instruction():
     agent.end()
 
 
+def everybody():
+    """Each group below the root that has processes: what it has in effect, and where each of these may run, by the kernel's files alone."""
+    found = {}
+    for place, _, _ in os.walk(ROOT):
+        pids = tree.processes(place) if place != ROOT else []
+        if pids:
+            may = [cpus for cpus in map(tree.allowed, pids) if cpus is not None]
+            found[os.path.relpath(place, ROOT)] = tree.cpus(read(f"{place}/cpuset.cpus.effective")), may
+    return found
+
+
+def apart(pinned):
+    """Whether each of these groups has as many CPUs in effect as it asks for, its processes run there, and nobody else's do."""
+    groups, taken = everybody(), set()
+    for group, many in pinned.items():
+        has, may = groups.get(group, (set(), []))
+        if len(has) != many or has & (taken | tree.RESERVED) or has != tree.cpus(watched.requested(group)) or any(cpus != has for cpus in may):
+            return False
+        taken |= has
+    return not any((has | set().union(*may)) & taken for group, (has, may) in groups.items() if group not in pinned)
+
+
+def slice_of(name):
+    return tree.cpus(watched.requested(name)) or CPUS
+
+
+def in_slices():
+    """podman makes groups in slices that the agent holds on the pool: what is on the way to a pinned one is let go, and what is beside is held.
+    By its cgroupfs manager the last part of a parent's name is no slice."""
+    for name in ("system.slice/sshd.service", "machine.slice/other.service"):
+        watched.group(name)
+    agent = watched.Agent(*REST, watch=STATE)
+    _, web = begin("web", "--cgroup-parent", "machine.slice/pods")
+    _, pod = begin("pod", "--cpus", "2", "--cgroup-parent", "machine.slice/pods")
+    assert (os.path.dirname(pod), os.path.dirname(web)) == ("machine.slice/pods", "machine.slice/pods"), (pod, web)
+    agent.until(lambda: apart({pod: 2}) and len(everybody()) >= 4, "a container in a slice")
+    _, dock = begin("dock", "--cpus", "1", "--cgroup-parent", "/system.slice/docker")
+    agent.until(lambda: apart({pod: 2, dock: 1}), "one in another slice")
+    watched.group("machine.slice/pods/new.service")
+    agent.until(lambda: apart({pod: 2, dock: 1}) and len(slice_of("machine.slice/pods/new.service")) == 5, "who comes beside it")
+    podman("restart", "-t", "0", "pod")
+    agent.until(lambda: apart({pod: 2, dock: 1}), "podman restart")
+    podman("rm", "-f", "-t", "0", "pod")
+    agent.until(lambda: apart({dock: 1}) and slice_of("machine.slice") == CPUS - slice_of(dock), "its end: the slice is on the pool")
+    agent.end()
+    done = watched.release()
+    assert not done.returncode and all(cpus == CPUS for _, may in everybody().values() for cpus in may), (done, everybody())
+    podman("rm", "-f", "-t", "0", "web", "dock")
+    for name in ("machine.slice", "system.slice"):
+        tree.remove(f"{ROOT}/{name}")
+
+
 watched.begin()
 prepare()
+prepare_hooks()
 lifecycle()
 before_its_first_instruction()
+in_slices()
 assert "Traceback" not in read(watched.OUT), read(watched.OUT)[-2000:]
-say(f"podman: {podman('--version')}: four containers; a home, podman update, a restart, what is given back, and a hook that waits")
+say(f"podman: {podman('--version')}: seven containers; a home, podman update, a restart, what is given back, a hook that waits, and slices")
 tree.clear()

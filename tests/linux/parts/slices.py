@@ -2,7 +2,6 @@
 requests, everybody else is on the pool, and what was taken is given back."""
 
 import os
-import subprocess
 import sys
 
 sys.path[:0] = [os.path.join(os.path.dirname(os.path.abspath(__file__)), "..")]
@@ -51,8 +50,7 @@ write(f"{ROOT}/numarun/cpuset.cpus", "0-7")
 agent = watched.Agent(*REST)
 agent.until(lambda: all_hold(pinned, others), "a new start")
 agent.end()
-words = watched.words()
-done = subprocess.run([*words[:3], "--release", "--cgroup", ROOT, "--work", watched.WORK], stdin=subprocess.DEVNULL, capture_output=True, text=True)
+done = watched.release()
 assert done.returncode == 0, (done, watched.lines()[-20:])
 for pid in [*pinned.values(), *others]:
     assert watched.runs_on(pid, CPUS), (tree.allowed(pid), done.stdout)
