@@ -20,8 +20,8 @@ use Rattle.certificate.specs.Limits.{is_within_limits}
 use Rattle.certificate.specs.PlanFault.{is_not_allowed, row_fault, at_both, is_held, twice_fault, apart_fault, is_too_high, value_fault, values_fault}
 use Rattle.certificate.specs.IsCause.{IsMiscounted, HasNotAllowed, IsRowsCause, IsBelowAt, IsCause}
 use Rattle.certificate.specs.declared.price_lists.Price.{Price}
-use Rattle.certificate.specs.declared.check_faults.CheckFault.{CheckFault}
-use Rattle.certificate.specs.declared.check_faults.CheckFault.TheVariants.{WrongCount, NotAllowed, HeldTwice, ValueTooHigh}
+use Rattle.certificate.specs.declared.fault.CheckFault.{CheckFault}
+use Rattle.certificate.specs.declared.fault.CheckFault.TheVariants.{WrongCount, NotAllowed, HeldTwice, ValueTooHigh}
 use Rattle.certificate.proofs.LimitFacts.{limit_facts}
 use Rattle.certificate.proofs.Exact.{all_zip, at_both_is, row_fault-says, apart_below, value_fault-says}
 

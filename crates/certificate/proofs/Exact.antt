@@ -27,8 +27,8 @@ use Rattle.certificate.specs.IsProved.{IsProved}
 use Rattle.certificate.specs.Limits.{is_within_limits}
 use Rattle.certificate.specs.PlanFault.{is_not_allowed, row_fault, at_both, rows_fault, is_held, twice_fault, apart_fault, is_too_high, value_fault, values_fault, is_tight, plan_fault}
 use Rattle.certificate.specs.declared.price_lists.Price.{Price}
-use Rattle.certificate.specs.declared.check_faults.CheckFault.{CheckFault}
-use Rattle.certificate.specs.declared.check_faults.CheckFault.TheVariants.{BadProblem, WrongCount, NotAllowed, HeldTwice, ValueTooHigh, Gap}
+use Rattle.certificate.specs.declared.fault.CheckFault.{CheckFault}
+use Rattle.certificate.specs.declared.fault.CheckFault.TheVariants.{BadProblem, WrongCount, NotAllowed, HeldTwice, ValueTooHigh, Gap}
 use Rattle.certificate.proofs.LimitFacts.{limit_facts}
 use Rattle.certificate.proofs.Duality.{no_plan_below_bound}
 

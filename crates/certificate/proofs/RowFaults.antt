@@ -10,8 +10,8 @@ use Rattle.cpu_set.specs.Pointwise.{contains-intersection, contains-difference}
 use Rattle.certificate.specs.RowView.{RowView}
 use Rattle.certificate.specs.Weight.{weight}
 use Rattle.certificate.specs.PlanFault.{is_not_allowed, at_both, is_held, twice_fault}
-use Rattle.certificate.specs.declared.check_faults.CheckFault.{CheckFault}
-use Rattle.certificate.specs.declared.check_faults.CheckFault.TheVariants.{HeldTwice}
+use Rattle.certificate.specs.declared.fault.CheckFault.{CheckFault}
+use Rattle.certificate.specs.declared.fault.CheckFault.TheVariants.{HeldTwice}
 
 -- what is said of the two elements at a place
 pub at_both_read :

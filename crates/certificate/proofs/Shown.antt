@@ -10,8 +10,8 @@ use Rattle.certificate.specs.IsShown.{IsShown}
 use Rattle.certificate.specs.Limits.{is_shortage_within_limits}
 use Rattle.certificate.specs.ShortageFault.{shortage_fault}
 use Rattle.certificate.specs.IsCause.{IsShortageCause}
-use Rattle.certificate.specs.declared.check_faults.CheckFault.{CheckFault}
-use Rattle.certificate.specs.declared.check_faults.CheckFault.TheVariants.{BadProblem, NoShortage}
+use Rattle.certificate.specs.declared.fault.CheckFault.{CheckFault}
+use Rattle.certificate.specs.declared.fault.CheckFault.TheVariants.{BadProblem, NoShortage}
 use Rattle.certificate.proofs.LimitFacts.{number_facts, numbered}
 use Rattle.certificate.proofs.Causes.{first_or_rest, only, failed}
 use Rattle.certificate.proofs.Hall.{shortage_leaves_no_plan}

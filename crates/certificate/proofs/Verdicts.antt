@@ -18,8 +18,8 @@ use Rattle.certificate.specs.Packed.{packed, distance_of, moves_of, packed-parts
 use Rattle.certificate.specs.Scaled.{are_scaled, by_distance, by_moves}
 use Rattle.certificate.specs.TwoCosts.{cost_splits, moves_are_few, least_is_nearest}
 use Rattle.certificate.specs.ShortageFault.{shortage_fault}
-use Rattle.certificate.specs.declared.check_faults.CheckFault.{CheckFault}
-use Rattle.certificate.specs.declared.check_faults.CheckFault.TheVariants.{BadProblem, Gap}
+use Rattle.certificate.specs.declared.fault.CheckFault.{CheckFault}
+use Rattle.certificate.specs.declared.fault.CheckFault.TheVariants.{BadProblem, Gap}
 use Rattle.certificate.specs.declared.weights.Weights.{Weights}
 use Rattle.certificate.specs.declared.weights.Weights.TheVariants.{Plain, WithMoves}
 use Rattle.certificate.specs.declared.certificates.Certificate.TheVariants.{Plan as PlanCertificate, Short as ShortCertificate}

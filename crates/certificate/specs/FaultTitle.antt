@@ -1,7 +1,7 @@
 -- What is printed as the cause of a refusal of a certificate: its number and its name.
 use Rattle.std.specs.Prelude.{ℕ, List, codes}
-use Rattle.certificate.specs.declared.check_faults.CheckFault.{CheckFault}
-use Rattle.certificate.specs.declared.check_faults.CheckFault.TheVariants.{BadProblem, WrongCount, NotAllowed, HeldTwice, ValueTooHigh, Gap, NoShortage}
+use Rattle.certificate.specs.declared.fault.CheckFault.{CheckFault}
+use Rattle.certificate.specs.declared.fault.CheckFault.TheVariants.{BadProblem, WrongCount, NotAllowed, HeldTwice, ValueTooHigh, Gap, NoShortage}
 
 abbrev pub check_title : CheckFault → List ℕ
 check_title BadProblem = codes "E70 BadProblem"

@@ -14,8 +14,8 @@ use Rattle.certificate.specs.IsShortage.{chosen, asked, offered}
 use Rattle.certificate.specs.Limits.{is_within_limits, is_shortage_within_limits}
 use Rattle.certificate.specs.PlanFault.{is_not_allowed, is_held, is_too_high}
 use Rattle.certificate.specs.declared.price_lists.Price.{Price}
-use Rattle.certificate.specs.declared.check_faults.CheckFault.{CheckFault}
-use Rattle.certificate.specs.declared.check_faults.CheckFault.TheVariants.{BadProblem, WrongCount, NotAllowed, HeldTwice, ValueTooHigh, Gap, NoShortage}
+use Rattle.certificate.specs.declared.fault.CheckFault.{CheckFault}
+use Rattle.certificate.specs.declared.fault.CheckFault.TheVariants.{BadProblem, WrongCount, NotAllowed, HeldTwice, ValueTooHigh, Gap, NoShortage}
 
 -- place k of two lists is the first at which good fails, and there bad holds
 pub record IsFirstBad {A B : Type 0} (good bad : A → B → Type 0) (xs : List A) (ys : List B) (k : ℕ) : Type 0 where

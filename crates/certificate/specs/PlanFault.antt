@@ -14,8 +14,8 @@ use Rattle.certificate.specs.Price.{price, all_prices}
 use Rattle.certificate.specs.IsBound.{worth}
 use Rattle.certificate.specs.Limits.{is_within_limits}
 use Rattle.certificate.specs.declared.price_lists.Price.{Price}
-use Rattle.certificate.specs.declared.check_faults.CheckFault.{CheckFault}
-use Rattle.certificate.specs.declared.check_faults.CheckFault.TheVariants.{BadProblem, WrongCount, NotAllowed, HeldTwice, ValueTooHigh, Gap}
+use Rattle.certificate.specs.declared.fault.CheckFault.{CheckFault}
+use Rattle.certificate.specs.declared.fault.CheckFault.TheVariants.{BadProblem, WrongCount, NotAllowed, HeldTwice, ValueTooHigh, Gap}
 
 -- the set has the CPU, and the row has no weight for it
 abbrev pub is_not_allowed : RowView → Ids → ℕ → Bool

@@ -4,8 +4,8 @@ use Rattle.faults.specs.First.{when, first_of}
 use Rattle.certificate.specs.RowView.{RowView}
 use Rattle.certificate.specs.IsShortage.{chosen, asked, offered}
 use Rattle.certificate.specs.Limits.{is_shortage_within_limits}
-use Rattle.certificate.specs.declared.check_faults.CheckFault.{CheckFault}
-use Rattle.certificate.specs.declared.check_faults.CheckFault.TheVariants.{BadProblem, NoShortage}
+use Rattle.certificate.specs.declared.fault.CheckFault.{CheckFault}
+use Rattle.certificate.specs.declared.fault.CheckFault.TheVariants.{BadProblem, NoShortage}
 
 -- the first fault of a shortage: past the limits, or not more CPUs are asked for than are offered
 unfoldable pub shortage_fault : List RowView → List ℕ → Option CheckFault

@@ -15,8 +15,8 @@ use Rattle.certificate.specs.PlanFault.{plan_fault}
 use Rattle.certificate.specs.Packed.{packed, distance_of, moves_of}
 use Rattle.certificate.specs.Scaled.{are_scaled, by_distance, by_moves}
 use Rattle.certificate.specs.ShortageFault.{shortage_fault}
-use Rattle.certificate.specs.declared.check_faults.CheckFault.{CheckFault}
-use Rattle.certificate.specs.declared.check_faults.CheckFault.TheVariants.{BadProblem, Gap}
+use Rattle.certificate.specs.declared.fault.CheckFault.{CheckFault}
+use Rattle.certificate.specs.declared.fault.CheckFault.TheVariants.{BadProblem, Gap}
 use Rattle.certificate.specs.declared.limits.TheConstants.{MOVE_SCALE}
 use Rattle.certificate.specs.declared.certificates.Certificate.{Certificate}
 use Rattle.certificate.specs.declared.certificates.Certificate.TheVariants.{Plan as PlanCertificate, Short as ShortCertificate}

@@ -1,5 +1,5 @@
 //! The price of each CPU, in a table.
-ghost use Rattle.std.specs.Prelude.{◌≡◌, ℕ, ◌<◌, ◌≤◌, ◌&&◌, nat_le, cond, All, IsTrue, [], length, slice_index_or};
+ghost use Rattle.std.specs.Prelude.{◌≡◌, ℕ, ◌<◌, ◌&&◌, nat_le, cond, All, IsTrue, [], length, slice_index_or};
 ghost use Rattle.cpu_set.specs.Ranges.{in_ranges};
 ghost use Rattle.certificate.specs.Limits.{prices_fit};
 ghost use Rattle.certificate.specs.AreAmounts.{AreAmounts};

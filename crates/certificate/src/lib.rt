@@ -22,10 +22,10 @@
 
 mod amounts;
 mod certificates;
-mod check_faults;
 mod checking;
 mod checks;
 mod costs;
+mod fault;
 pub mod laws;
 mod limit_checks;
 mod limits;
@@ -44,10 +44,10 @@ mod value_checks;
 mod weights;
 
 pub use certificates::Certificate;
-pub use check_faults::CheckFault;
 pub use checking::{Verdict, check};
 pub use checks::check_plan;
 pub use costs::proved_cost;
+pub use fault::CheckFault;
 pub use limit_checks::rows_fit;
 pub use limits::{MAX_AMOUNT, MAX_DEMAND, MAX_ROWS, MAX_WEIGHT, MOVE_SCALE};
 pub use members::Members;

@@ -1,7 +1,7 @@
 //! The test that a problem, a plan and its prices, or the members of a shortage, can be checked at all.
-ghost use Rattle.std.specs.Prelude.{◌≡◌, nat_le, nat_lt, length};
+ghost use Rattle.std.specs.Prelude.{◌≡◌, nat_le, nat_lt};
 ghost use Rattle.std.specs.List.{list_all};
-ghost use Rattle.certificate.specs.Limits.{offers_fit, row_fits, rows_fit, prices_fit, values_fit, is_within_limits, is_rising, are_row_numbers, is_shortage_within_limits};
+ghost use Rattle.certificate.specs.Limits.{offers_fit, row_fits, rows_fit, prices_fit, values_fit, is_within_limits, is_rising, is_shortage_within_limits};
 
 use crate::{MAX_AMOUNT, MAX_DEMAND, MAX_ROWS, MAX_WEIGHT, Offers, PriceList, Prices, Row};
 use cpu_set::IdSet;

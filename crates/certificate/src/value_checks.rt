@@ -1,5 +1,5 @@
 //! The check that no row's value is above weight and price of a CPU that it may have.
-ghost use Rattle.std.specs.Prelude.{◌≡◌, ℕ, ◌<◌, ◌&&◌, nat_le, nat_lt, All, IsTrue, List, length, slice_index_or};
+ghost use Rattle.std.specs.Prelude.{◌≡◌, ◌<◌, ◌&&◌, nat_le, nat_lt, All, IsTrue, List, length, slice_index_or};
 ghost use Rattle.std.specs.List.{list_all, list_any};
 ghost use Rattle.std.specs.Result.{result_err};
 ghost use Rattle.cpu_set.specs.Least.{least_that};

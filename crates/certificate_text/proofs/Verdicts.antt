@@ -2,7 +2,7 @@
 use Rattle.std.proofs.Common.{◌≡◌, ℕ, List, Result, Ok, subst}
 use Rattle.certificate.specs.Verdict.{IsProvedCertificate}
 use Rattle.certificate.specs.declared.certificates.Certificate.{Certificate}
-use Rattle.certificate.specs.declared.check_faults.CheckFault.{CheckFault}
+use Rattle.certificate.specs.declared.fault.CheckFault.{CheckFault}
 use Rattle.certificate.specs.declared.checking.Verdict.{Verdict}
 use Rattle.certificate_text.specs.CertificateText.{IsText}
 use Rattle.certificate_text.specs.Verdict.{IsVerdict}

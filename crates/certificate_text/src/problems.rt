@@ -1,5 +1,5 @@
 //! Problems as text.
-ghost use Rattle.std.specs.Prelude.{ℕ, List, IfOk, IfErr};
+ghost use Rattle.std.specs.Prelude.{List, IfOk, IfErr};
 ghost use Rattle.certificate.specs.RowView.{RowView};
 ghost use Rattle.certificate_text.specs.ProblemError.{IsProblemError, IsProblemRead};
 ghost use Rattle.certificate_text.specs.ProblemText.{IsProblemText};

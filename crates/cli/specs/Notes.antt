@@ -7,7 +7,7 @@ use Rattle.json_text.specs.declared.flaw.FlawKind.TheVariants.{NotUtf8, CutShort
 use Rattle.program_io.specs.ErrorLine.{error_at, error_line}
 use Rattle.program_io.specs.ReadFaults.{reason_of}
 use Rattle.cli.specs.declared.note.Note.{Note}
-use Rattle.program_io.specs.declared.read_fault.ReadFault.{ReadFault}
+use Rattle.program_io.specs.declared.fault.ReadFault.{ReadFault}
 use Rattle.program_io.specs.declared.refusal.Refusal.{Refusal}
 use Rattle.program_io.specs.declared.refusal.Refusal.TheVariants as refusal
 
@@ -41,7 +41,7 @@ flaw_words NotUtf8 = codes "is not UTF-8"
 flaw_words CutShort = codes "ends too early"
 flaw_words NotJson = codes "is no JSON"
 
--- of a text that is called so, and where
+-- the line that says of a text of this name how it fails to be JSON, and where
 abbrev pub flaw_line : Text → Flaw → List ℕ
 flaw_line name flaw = error_at name (flaw_words flaw.kind) flaw.line flaw.column
 

@@ -18,7 +18,7 @@ use Rattle.runtime.specs.Boots.{Boots}
 use Rattle.runtime.specs.MirroredNodes.{IsNotBooted, site_of}
 use Rattle.runtime.specs.RuntimeState.{Told}
 use Rattle.script.specs.declared.running.TheConstants.{MOST_READS}
-use Rattle.script.specs.declared.script_fault.ScriptFault.{ScriptFault}
+use Rattle.script.specs.declared.fault.ScriptFault.{ScriptFault}
 use Rattle.cli.specs.Asked.{Asked, asked_for, check, list, run, slit, solve}
 use Rattle.cli.specs.Defects.{defect_line}
 use Rattle.cli.specs.Mistakes.{mistakes}
@@ -33,7 +33,7 @@ use Rattle.cli.specs.RunAnswer.{Plays, PlaysMirrored, is_unread}
 use Rattle.cli.specs.Says.{Complains, Says}
 use Rattle.cli.specs.Tells.{Checks, Lists, Solves, Tabulates}
 use Rattle.cli.specs.declared.console.Console.{Console}
-use Rattle.program_io.specs.declared.read_fault.ReadFault.{ReadFault}
+use Rattle.program_io.specs.declared.fault.ReadFault.{ReadFault}
 use Rattle.program_io.specs.declared.refusal.Refusal.TheVariants as refusal
 use Rattle.cli.specs.declared.unready.Unready.{Unready}
 use Rattle.cli.specs.declared.unrooted.Unrooted.{Unrooted}

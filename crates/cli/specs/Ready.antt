@@ -10,7 +10,7 @@ use Rattle.cli.specs.Defects.{IsDefectOf}
 use Rattle.program_io.specs.FaultRefusal.{read_refusal}
 use Rattle.program_io.specs.Readings.{IsUnopened, Reading}
 use Rattle.cli.specs.SlitAnswer.{IsTableOrRefusal}
-use Rattle.program_io.specs.declared.read_fault.ReadFault.{ReadFault}
+use Rattle.program_io.specs.declared.fault.ReadFault.{ReadFault}
 use Rattle.program_io.specs.declared.refusal.Refusal.{Refusal}
 use Rattle.program_io.specs.declared.refusal.Refusal.TheVariants as refusal
 use Rattle.cli.specs.declared.defect.Defect.{Defect}

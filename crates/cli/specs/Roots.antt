@@ -12,7 +12,7 @@ use Rattle.machine.specs.Nodes.{nodes_of}
 use Rattle.program_io.specs.ErrorLine.{error_line}
 use Rattle.program_io.specs.ReadFaults.{IsTold}
 use Rattle.program_io.specs.RefusalLine.{refusal_line}
-use Rattle.program_io.specs.declared.read_fault.ReadFault.{ReadFault}
+use Rattle.program_io.specs.declared.fault.ReadFault.{ReadFault}
 use Rattle.program_io.specs.declared.refusal.Refusal.TheVariants as refusal
 use Rattle.cli.specs.Notes.{note_of}
 use Rattle.cli.specs.declared.unrooted.Unrooted.{Unrooted}

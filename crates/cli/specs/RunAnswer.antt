@@ -7,11 +7,11 @@ use Rattle.runtime.specs.Answered.{AnsweredBy}
 use Rattle.runtime.specs.MirroredNodes.{IsMirroredNode}
 use Rattle.runtime.specs.RuntimeState.{RuntimeState, Told}
 use Rattle.script.specs.Ends.{EndsBy}
-use Rattle.script.specs.declared.script_fault.ScriptFault.{ScriptFault}
-use Rattle.script.specs.declared.script_fault.ScriptFault.TheVariants as fault
+use Rattle.script.specs.declared.fault.ScriptFault.{ScriptFault}
+use Rattle.script.specs.declared.fault.ScriptFault.TheVariants as fault
 use Rattle.program_io.specs.ReadFaults.{IsTold}
-use Rattle.program_io.specs.declared.read_fault.ReadFault.{ReadFault}
-use Rattle.program_io.specs.declared.read_fault.ReadFault.TheVariants.{TooManyReads}
+use Rattle.program_io.specs.declared.fault.ReadFault.{ReadFault}
+use Rattle.program_io.specs.declared.fault.ReadFault.TheVariants.{TooManyReads}
 
 -- why the script could not be read; none if an answer could not be written
 abbrev pub is_unread : ScriptFault → Option ReadFault → Type 0

@@ -1,5 +1,5 @@
 //! `numarun slit`.
-ghost use Rattle.std.specs.Prelude.{◌≡◌, ◌++◌, ◌<◌, codes};
+ghost use Rattle.std.specs.Prelude.{◌<◌};
 ghost use Rattle.std.specs.List.{flat_map, range_with_len};
 ghost use Rattle.slit.specs.Table.{distance};
 ghost use Rattle.byte_output.specs.Output.{Writes};

@@ -1,4 +1,4 @@
-ghost use Rattle.std.specs.Prelude.{◌≡◌, Some, option_map};
+ghost use Rattle.std.specs.Prelude.{◌≡◌, Some};
 ghost use Rattle.byte_output.specs.Output.{Writes};
 ghost use Rattle.cli.specs.Notes.{flaw_line, flaw_words, note_of, note_text};
 ghost use Rattle.program_io.specs.ErrorLine.{error_line};

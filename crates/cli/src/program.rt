@@ -1,5 +1,5 @@
 //! The program: words, files and streams in, answers and an exit status out.
-ghost use Rattle.std.specs.Prelude.{◌≡◌, map, option_map, string_bytes};
+ghost use Rattle.std.specs.Prelude.{map, option_map, string_bytes};
 ghost use Rattle.clap.specs.Words.{kind_of};
 ghost use Rattle.cli.specs.Asked.{asked, run, word_bytes};
 ghost use Rattle.cli.specs.Configs.{IsConfigIn};

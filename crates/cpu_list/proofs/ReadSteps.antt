@@ -5,7 +5,7 @@ use Rattle.std.specs.List.{before_first, list_any}
 use Rattle.std.specs.Option.{option_or, option_map}
 use Rattle.cpu_set.specs.Ids.{Ids}
 use Rattle.cpu_set.specs.Pointwise.{contains-empty}
-use Rattle.cpu_list.specs.declared.list_error.ListErrorKind.{ListErrorKind}
+use Rattle.cpu_list.specs.declared.fault.ListErrorKind.{ListErrorKind}
 use Rattle.cpu_list.specs.ListText.{is_comma, leading_blanks, item_of, names, piece_names, IsList, IsSetOf}
 use Rattle.cpu_list.specs.FirstFault.{item_fault, faults_from, first_fault}
 use Rattle.faults.specs.First.{first_of}

@@ -1,7 +1,7 @@
 -- What is printed as the cause of a refusal of a list: its number, or its number and its name.
 use Rattle.std.specs.Prelude.{ℕ, List, codes}
-use Rattle.cpu_list.specs.declared.list_error.ListErrorKind.{ListErrorKind}
-use Rattle.cpu_list.specs.declared.list_error.ListErrorKind.TheVariants.{BadItem, TooLarge, Descending}
+use Rattle.cpu_list.specs.declared.fault.ListErrorKind.{ListErrorKind}
+use Rattle.cpu_list.specs.declared.fault.ListErrorKind.TheVariants.{BadItem, TooLarge, Descending}
 
 abbrev pub list_code : ListErrorKind → List ℕ
 list_code BadItem = codes "E10"

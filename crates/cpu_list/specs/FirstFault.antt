@@ -2,9 +2,9 @@
 use Rattle.std.specs.Prelude.{◌≡◌, ℕ, ◌+◌, ◌<◌, ◌≤◌, ◌||◌, ◌⊎◌, ◌↔◌, nat_lt, nat_le, List, [], ◌∷◌, ◌++◌, length, sum_by, Option, Some, None, ◌≢◌, option_map}
 use Rattle.std.specs.List.{AllByRecursion}
 use Rattle.faults.specs.First.{when, first_of}
-use Rattle.cpu_list.specs.declared.list_error.ListError.{ListError}
-use Rattle.cpu_list.specs.declared.list_error.ListErrorKind.{ListErrorKind}
-use Rattle.cpu_list.specs.declared.list_error.ListErrorKind.TheVariants.{BadItem, TooLarge, Descending}
+use Rattle.cpu_list.specs.declared.fault.ListError.{ListError}
+use Rattle.cpu_list.specs.declared.fault.ListErrorKind.{ListErrorKind}
+use Rattle.cpu_list.specs.declared.fault.ListErrorKind.TheVariants.{BadItem, TooLarge, Descending}
 use Rattle.cpu_list.specs.ListText.{pieces, leading_blanks, item_of, range_of, IsItem, IsList}
 
 -- what is wrong with a range under a limit, the first cause that stands

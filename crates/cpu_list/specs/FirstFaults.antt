@@ -4,8 +4,8 @@ use Rattle.std.specs.List.{AllByRecursion}
 use Rattle.std.specs.Option.{option_or}
 use Rattle.std.proofs.lemmas.List.Sums.{sum_by-cons}
 use Rattle.faults.specs.First.{first_of}
-use Rattle.cpu_list.specs.declared.list_error.ListError.{ListError}
-use Rattle.cpu_list.specs.declared.list_error.ListErrorKind.{ListErrorKind}
+use Rattle.cpu_list.specs.declared.fault.ListError.{ListError}
+use Rattle.cpu_list.specs.declared.fault.ListErrorKind.{ListErrorKind}
 use Rattle.cpu_list.specs.ListText.{pieces, leading_blanks, item_of, IsItem}
 use Rattle.cpu_list.specs.FirstFault.{item_fault, faults_from, IsFaultOf, NoneWhereList, FirstDecides}
 use Rattle.cpu_list.specs.ItemFaults.{IsItem-from_None, None-from_IsItem, IsFaultOf-from_Some, Some-from_IsFaultOf}

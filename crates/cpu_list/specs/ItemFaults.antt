@@ -2,8 +2,8 @@
 use Rattle.std.proofs.Common.{◌≡◌, ℕ, ◌<◌, ◌≤◌, Bool, true, false, ◌||◌, leb, ltb, List, [], ◌∷◌, Option, Some, None, ◌⊎◌, inl, inr, refl, ap, ◌∙◌, arith}
 use Rattle.std.proofs.lemmas.Bool.{or_parts, or_cases, or_left, or_right, or_from, ltb-true, ltb-false, leb-true, leb-false, lt-ltb, le-ltb, le-leb, lt-leb}
 use Rattle.faults.specs.First.{when, first_of}
-use Rattle.cpu_list.specs.declared.list_error.ListErrorKind.{ListErrorKind}
-use Rattle.cpu_list.specs.declared.list_error.ListErrorKind.TheVariants.{BadItem, TooLarge, Descending}
+use Rattle.cpu_list.specs.declared.fault.ListErrorKind.{ListErrorKind}
+use Rattle.cpu_list.specs.declared.fault.ListErrorKind.TheVariants.{BadItem, TooLarge, Descending}
 use Rattle.cpu_list.specs.ListText.{range_of, number_of, IsItem}
 use Rattle.cpu_list.specs.FirstFault.{range_fault, item_fault, IsFaultOf}
 

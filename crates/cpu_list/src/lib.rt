@@ -1,14 +1,14 @@
 //! Sets of CPU or node numbers as text, as cpuset(7) writes them under List Format: `0-2,7`.
 #![tactic(auto)]
 
+mod fault;
 mod item;
 pub mod laws;
-mod list_error;
 mod printing;
 mod reading;
 mod writing;
 
-pub use list_error::{ListError, ListErrorKind};
+pub use fault::{ListError, ListErrorKind};
 pub use printing::print;
 pub use reading::read;
 pub use writing::write_list;

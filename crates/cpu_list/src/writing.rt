@@ -1,5 +1,5 @@
 //! A set as text, to a writer.
-ghost use Rattle.std.specs.Prelude.{◌≡◌, ◌≤◌, ◌++◌};
+ghost use Rattle.std.specs.Prelude.{◌++◌};
 ghost use Rattle.cpu_list.specs.CanonicalList.{range_text, list_text};
 ghost use Rattle.byte_output.specs.Output.{Writes};
 

@@ -13,7 +13,7 @@ use Rattle.machine.specs.Layout.{Layout}
 use Rattle.machine.specs.Present.{present}
 use Rattle.machine.specs.Weight.{AreHomes}
 use Rattle.demand.specs.declared.demand.Kind.TheVariants.{Pinned, Shared}
-use Rattle.demand.specs.declared.demand_fault.DemandFault.TheVariants.{NothingAllowed}
+use Rattle.demand.specs.declared.fault.DemandFault.TheVariants.{NothingAllowed}
 use Rattle.demand.specs.AsksFor.{AsksFor}
 use Rattle.demand.specs.Quota.{limit_of, period_of, IsCount}
 use Rattle.demand.specs.Homes.{homes_of}

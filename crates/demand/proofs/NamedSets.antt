@@ -2,7 +2,7 @@
 use Rattle.std.proofs.Common.{◌≡◌, ℕ, ◌≤◌, List, Some, None}
 use Rattle.std.specs.Prelude.{Result, Ok, Err, IfOk, MatchResult}
 use Rattle.cpu_set.specs.Ids.{Ids}
-use Rattle.cpu_list.specs.declared.list_error.ListError.{ListError}
+use Rattle.cpu_list.specs.declared.fault.ListError.{ListError}
 use Rattle.cpu_list.specs.ListText.{IsSetOf, IsList}
 use Rattle.cpu_list.specs.FirstFault.{first_fault, IsFirstFault}
 use Rattle.cpu_set.specs.declared.TheConstants.{CPU_LIMIT}

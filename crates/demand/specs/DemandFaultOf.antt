@@ -6,15 +6,15 @@ use Rattle.faults.specs.First.{when, first_of}
 use Rattle.cpu_set.specs.Ids.{Ids, is_empty}
 use Rattle.cpu_set.specs.Least.{least_that}
 use Rattle.cpu_set.specs.declared.TheConstants.{CPU_LIMIT}
-use Rattle.cpu_list.specs.declared.list_error.ListError.{ListError}
+use Rattle.cpu_list.specs.declared.fault.ListError.{ListError}
 use Rattle.cpu_list.specs.FirstFault.{first_fault}
 use Rattle.config_json.specs.SectionOf.{Section}
 use Rattle.machine.specs.declared.TheConstants.{NODE_LIMIT}
 use Rattle.machine.specs.Layout.{Layout}
 use Rattle.machine.specs.Present.{present}
 use Rattle.machine.specs.Nodes.{nodes_of}
-use Rattle.demand.specs.declared.demand_fault.DemandFault.{DemandFault}
-use Rattle.demand.specs.declared.demand_fault.DemandFault.TheVariants.{BadCpus, NoSuchCpu, BadMems, NoSuchNode, QuotaTooLarge, NothingAllowed}
+use Rattle.demand.specs.declared.fault.DemandFault.{DemandFault}
+use Rattle.demand.specs.declared.fault.DemandFault.TheVariants.{BadCpus, NoSuchCpu, BadMems, NoSuchNode, QuotaTooLarge, NothingAllowed}
 use Rattle.demand.specs.Quota.{limit_of, period_of, most_cpus}
 use Rattle.demand.specs.Named.{named}
 use Rattle.demand.specs.Allowed.{allowed_of}

@@ -1,7 +1,7 @@
 -- What is printed as the cause of a refusal of what a container asks for: its number and its name.
 use Rattle.std.specs.Prelude.{ℕ, List, codes}
-use Rattle.demand.specs.declared.demand_fault.DemandFault.{DemandFault}
-use Rattle.demand.specs.declared.demand_fault.DemandFault.TheVariants.{BadCpus, NoSuchCpu, BadMems, NoSuchNode, QuotaTooLarge, NothingAllowed}
+use Rattle.demand.specs.declared.fault.DemandFault.{DemandFault}
+use Rattle.demand.specs.declared.fault.DemandFault.TheVariants.{BadCpus, NoSuchCpu, BadMems, NoSuchNode, QuotaTooLarge, NothingAllowed}
 
 abbrev pub demand_title : DemandFault → List ℕ
 demand_title (BadCpus error) = codes "E62 BadCpus"

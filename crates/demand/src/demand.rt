@@ -1,11 +1,10 @@
 ghost use Rattle.std.specs.Prelude.{◌≡◌, ◌||◌, IfOk, is_some, not};
-ghost use Rattle.std.specs.FinSet as set;
 ghost use Rattle.cpu_set.specs.Ids.{is_empty};
 ghost use Rattle.demand.specs.DemandFaultOf.{demand_fault};
 ghost use Rattle.std.specs.Result.{result_err};
 
 use crate::allowed::allowed;
-use crate::demand_fault::DemandFault;
+use crate::fault::DemandFault;
 use crate::{lists, quota};
 use config_json::CpuSection;
 use cpu_set::IdSet;

@@ -6,7 +6,7 @@ ghost use Rattle.demand.specs.AsksFor.{AsksFor, IsOneCount};
 ghost use Rattle.demand.specs.DemandFaultOf.{demand_fault, quota_fault};
 ghost use Rattle.demand.specs.Homes.{homes_of};
 ghost use Rattle.demand.specs.Quota.{limit_of, period_of};
-ghost use Rattle.demand.specs.Worked.{two_nodes, with_quota, with_cpus, with_mems};
+ghost use Rattle.demand.specs.Worked.{two_nodes, with_cpus, with_mems};
 
 use crate::{DEFAULT_PERIOD, DemandFault};
 use cpu_list::ListErrorKind;

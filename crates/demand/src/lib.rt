@@ -7,11 +7,11 @@
 
 mod allowed;
 mod demand;
-mod demand_fault;
+mod fault;
 pub mod laws;
 mod lists;
 mod quota;
 
 pub use demand::{Demand, Kind};
-pub use demand_fault::DemandFault;
+pub use fault::DemandFault;
 pub use quota::DEFAULT_PERIOD;

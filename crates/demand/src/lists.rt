@@ -10,7 +10,7 @@ ghost use Rattle.demand.specs.Named.{named, text_of};
 ghost use Rattle.demand.specs.DemandFaultOf.{list_fault, cpus_fault, mems_fault};
 ghost use Rattle.std.specs.Result.{result_err};
 
-use crate::demand_fault::DemandFault;
+use crate::fault::DemandFault;
 use cpu_list::ListError;
 use cpu_set::{CPU_LIMIT, IdSet};
 use machine::{Machine, NODE_LIMIT};

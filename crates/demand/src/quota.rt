@@ -1,10 +1,10 @@
-ghost use Rattle.std.specs.Prelude.{◌≡◌, ℕ, ◌*◌, ◌<◌, ◌≤◌, ◌^◌, IfOk, IfSome, IfNone, is_some};
+ghost use Rattle.std.specs.Prelude.{◌≡◌, ◌*◌, ◌<◌, ◌≤◌, ◌^◌, IfOk, IfSome, IfNone, is_some};
 ghost use Rattle.demand.specs.AsksFor.{AsksFor};
 ghost use Rattle.demand.specs.Quota.{limit_of, period_of, most_cpus, IsCount};
 ghost use Rattle.demand.specs.DemandFaultOf.{quota_fault};
 ghost use Rattle.std.specs.Result.{result_err};
 
-use crate::demand_fault::DemandFault;
+use crate::fault::DemandFault;
 use cpu_set::CPU_LIMIT;
 
 /// The length of a period where a config gives none or zero, in microseconds: that of `cpu.max` in the

@@ -1,5 +1,5 @@
 //! The node of each CPU, written down once.
-ghost use Rattle.std.specs.Prelude.{◌≡◌, ℕ, ◌<◌, ◌≤◌, cond, length, map, slice_index_or, AllPairs};
+ghost use Rattle.std.specs.Prelude.{◌≡◌, ℕ, ◌≤◌, cond, length, map, slice_index_or, AllPairs};
 ghost use Rattle.std.specs.FinSet as set;
 ghost use Rattle.serde_json.specs.View.{view};
 ghost use Rattle.cpu_set.specs.Ids.{IsDisjoint};

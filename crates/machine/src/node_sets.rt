@@ -1,7 +1,6 @@
 //! The CPUs of each node, as the member `nodes` has them.
 ghost use Rattle.std.specs.Prelude.{◌≡◌, ◌≤◌, IfOk, OnOk, AllPairs, length, map};
 ghost use Rattle.std.specs.Result.{result_err};
-ghost use Rattle.std.specs.FinSet as set;
 ghost use Rattle.serde_json.specs.View.{view};
 ghost use Rattle.cpu_set.specs.Ids.{IsDisjoint};
 ghost use Rattle.machine.specs.declared.field.Field.TheVariants.{Nodes};

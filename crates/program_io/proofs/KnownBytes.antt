@@ -6,8 +6,8 @@ use Rattle.std.specs.declared.io.ErrorKind.{ErrorKind}
 use Rattle.program_io.specs.ReadFaults.{IsTold}
 use Rattle.program_io.specs.Readings.{IsReadingOfKnown}
 use Rattle.program_io.specs.StoppedReads.{IsGivenBy, LacksRoom, PassesBound, StopsEarly, StopsWith}
-use Rattle.program_io.specs.declared.read_fault.ReadFault.{ReadFault}
-use Rattle.program_io.specs.declared.read_fault.ReadFault.TheVariants.{NoSuchFile, Directory, Forbidden, Failed, TooManyBytes, TooManyReads}
+use Rattle.program_io.specs.declared.fault.ReadFault.{ReadFault}
+use Rattle.program_io.specs.declared.fault.ReadFault.TheVariants.{NoSuchFile, Directory, Forbidden, Failed, TooManyBytes, TooManyReads}
 use Rattle.program_io.specs.declared.reading.TheConstants.{MOST_BYTES, MOST_READS, PIECE}
 use Rattle.faults.specs.declared.or_memory.OrMemory.{OrMemory}
 use Rattle.faults.specs.declared.or_memory.OrMemory.TheVariants.{Memory, Fault}

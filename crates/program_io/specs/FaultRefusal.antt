@@ -1,7 +1,7 @@
 -- Which refusal stands for a fault of a layer below.
 use Rattle.certificate_text.specs.declared.checking.VerdictFault.{VerdictFault}
 use Rattle.certificate_text.specs.declared.checking.VerdictFault.TheVariants as verdict
-use Rattle.program_io.specs.declared.read_fault.ReadFault.{ReadFault}
+use Rattle.program_io.specs.declared.fault.ReadFault.{ReadFault}
 use Rattle.program_io.specs.declared.refusal.Refusal.{Refusal}
 use Rattle.program_io.specs.declared.refusal.Refusal.TheVariants as refusal
 use Rattle.faults.specs.declared.or_memory.OrMemory.{OrMemory}

@@ -2,8 +2,8 @@
 use Rattle.std.specs.Prelude.{◌≡◌, ◌≢◌, ℕ, List, codes}
 use Rattle.std.specs.declared.io.ErrorKind.{ErrorKind}
 use Rattle.std.specs.declared.io.ErrorKind.TheVariants.{NotFound, IsADirectory, PermissionDenied}
-use Rattle.program_io.specs.declared.read_fault.ReadFault.{ReadFault}
-use Rattle.program_io.specs.declared.read_fault.ReadFault.TheVariants.{NoSuchFile, Directory, Forbidden, Failed, TooManyBytes, TooManyReads}
+use Rattle.program_io.specs.declared.fault.ReadFault.{ReadFault}
+use Rattle.program_io.specs.declared.fault.ReadFault.TheVariants.{NoSuchFile, Directory, Forbidden, Failed, TooManyBytes, TooManyReads}
 
 -- a reason in words
 abbrev pub reason_of : ReadFault → List ℕ

@@ -4,8 +4,8 @@ use Rattle.std.specs.declared.io.ErrorKind.{ErrorKind}
 use Rattle.faults.specs.declared.or_memory.OrMemory.{OrMemory}
 use Rattle.faults.specs.declared.or_memory.OrMemory.TheVariants.{Memory, Fault}
 use Rattle.program_io.specs.ReadFaults.{IsTold}
-use Rattle.program_io.specs.declared.read_fault.ReadFault.{ReadFault}
-use Rattle.program_io.specs.declared.read_fault.ReadFault.TheVariants.{TooManyBytes, TooManyReads}
+use Rattle.program_io.specs.declared.fault.ReadFault.{ReadFault}
+use Rattle.program_io.specs.declared.fault.ReadFault.TheVariants.{TooManyBytes, TooManyReads}
 use Rattle.program_io.specs.declared.reading.TheConstants.{MOST_BYTES, MOST_READS}
 
 -- what the reading of an input answers: its bytes, or why they can't be had

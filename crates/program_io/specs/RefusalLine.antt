@@ -12,8 +12,8 @@ use Rattle.slit.specs.FaultTitle.{slit_title}
 use Rattle.slit.specs.declared.fault.SlitFault.{SlitFault}
 use Rattle.slit.specs.declared.fault.SlitFault.TheVariants.{TooShort, BadSignature, BadCount, BadLength, BadSum, ReservedValue, BadDiagonal}
 use Rattle.certificate.specs.FaultTitle.{check_title}
-use Rattle.certificate.specs.declared.check_faults.CheckFault.{CheckFault}
-use Rattle.certificate.specs.declared.check_faults.CheckFault.TheVariants.{BadProblem, WrongCount, NotAllowed, HeldTwice, ValueTooHigh, Gap, NoShortage}
+use Rattle.certificate.specs.declared.fault.CheckFault.{CheckFault}
+use Rattle.certificate.specs.declared.fault.CheckFault.TheVariants.{BadProblem, WrongCount, NotAllowed, HeldTwice, ValueTooHigh, Gap, NoShortage}
 use Rattle.program_io.specs.declared.refusal.Arguments.{Arguments}
 use Rattle.program_io.specs.declared.refusal.Arguments.TheVariants as arguments
 use Rattle.program_io.specs.declared.refusal.Refusal.{Refusal}

@@ -1,8 +1,8 @@
 -- What was read of an input that could not be read to its end.
 use Rattle.std.specs.Prelude.{◌≡◌, ℕ, ◌+◌, ◌*◌, ◌≤◌, ◌<◌, List, Option, length}
 use Rattle.std.specs.Io.KnownBytes.{Consumes}
-use Rattle.program_io.specs.declared.read_fault.ReadFault.{ReadFault}
-use Rattle.program_io.specs.declared.read_fault.ReadFault.TheVariants.{TooManyBytes, TooManyReads}
+use Rattle.program_io.specs.declared.fault.ReadFault.{ReadFault}
+use Rattle.program_io.specs.declared.fault.ReadFault.TheVariants.{TooManyBytes, TooManyReads}
 use Rattle.program_io.specs.declared.reading.TheConstants.{MOST_BYTES, MOST_READS, PIECE}
 use Rattle.faults.specs.declared.or_memory.OrMemory.{OrMemory}
 use Rattle.faults.specs.declared.or_memory.OrMemory.TheVariants.{Memory, Fault}

@@ -4,7 +4,7 @@ ghost use Rattle.std.specs.IoError.{error_kind};
 ghost use Rattle.std.specs.declared.io.ErrorKind.{ErrorKind};
 ghost use Rattle.program_io.specs.Readings.{IsReadingOfKnown, Reading};
 
-use crate::read_fault::ReadFault;
+use crate::fault::ReadFault;
 use crate::reading::read_all;
 use faults::OrMemory;
 use std::alloc::Global;

@@ -9,17 +9,17 @@
 //! - `read_whole` of a reader is `read_all` as a relation (`IsReadingOf`). An allocation failure is no answer to no bytes.
 #![tactic(auto)]
 
+mod fault;
 mod input;
 pub mod laws;
 mod output;
 mod page;
-mod read_fault;
 mod reading;
 mod refusal;
 
+pub use fault::ReadFault;
 pub use input::{Input, Opened, Source};
 pub use output::{put_error_at, put_error_line, put_number_line};
 pub use page::Page;
-pub use read_fault::ReadFault;
 pub use reading::{MOST_BYTES, MOST_READS, read_all};
 pub use refusal::Refusal;

@@ -1,5 +1,5 @@
 ghost use Rattle.std.specs.Prelude.{◌≡◌, ◌-◌, [], OnOk, length, min, take};
-ghost use Rattle.std.specs.Io.KnownBytes.{Appends, Keeps, WriteAppends};
+ghost use Rattle.std.specs.Io.KnownBytes.{Appends, Keeps};
 ghost use Rattle.program_io.specs.Pages.{TakesIfRoom, contents_of};
 
 use arrayvec::ArrayVec;

@@ -2,7 +2,7 @@ ghost use Rattle.std.specs.Prelude.{◌≡◌, ◌≤◌, IfErr, IfOk, IfSome, O
 ghost use Rattle.std.specs.Io.KnownBytes.{IsAtEnd};
 ghost use Rattle.program_io.specs.StoppedReads.{IsReadBy, StopsWith};
 
-use crate::read_fault::ReadFault;
+use crate::fault::ReadFault;
 use faults::OrMemory;
 use std::alloc::Global;
 use std::io::Read;

@@ -4,7 +4,7 @@ ghost use Rattle.program_io.specs.declared.refusal.Refusal.TheVariants.{List};
 ghost use Rattle.program_io.specs.RefusalLine.{arguments_of, arguments_text, check_arguments_of, machine_arguments_of, slit_arguments_of, refusal_line, text_of, title_of};
 ghost use Rattle.byte_output.specs.Output.{Writes};
 
-use crate::read_fault::ReadFault;
+use crate::fault::ReadFault;
 use byte_output::{put, put_all, put_argument, put_word};
 use certificate::CheckFault;
 use certificate_text::VerdictFault;

@@ -2,12 +2,12 @@
 use Rattle.std.specs.Prelude.{ℕ, List, [], ◌++◌, codes}
 use Rattle.byte_output.specs.Arguments.{number_text, word_text}
 use Rattle.cpu_list.specs.FaultTitle.{list_code}
-use Rattle.cpu_list.specs.declared.list_error.ListError.{ListError}
+use Rattle.cpu_list.specs.declared.fault.ListError.{ListError}
 use Rattle.config_json.specs.PathOf.{path_of}
 use Rattle.config_json.specs.declared.fault.ConfigFault.{ConfigFault}
 use Rattle.config_json.specs.declared.fault.ConfigFault.TheVariants as config
-use Rattle.demand.specs.declared.demand_fault.DemandFault.{DemandFault}
-use Rattle.demand.specs.declared.demand_fault.DemandFault.TheVariants as demand
+use Rattle.demand.specs.declared.fault.DemandFault.{DemandFault}
+use Rattle.demand.specs.declared.fault.DemandFault.TheVariants as demand
 use Rattle.faults.specs.FaultTitle.{memory_title}
 use Rattle.node.specs.FaultTitle.{node_title}
 use Rattle.node.specs.declared.fault.NodeFault.{NodeFault}

@@ -1,5 +1,5 @@
 //! The texts that answer commands.
-ghost use Rattle.std.specs.Prelude.{◌≡◌, ◌++◌, codes};
+ghost use Rattle.std.specs.Prelude.{◌++◌, codes};
 ghost use Rattle.byte_output.specs.Output.{Writes};
 ghost use Rattle.node.specs.Listed.{listed};
 ghost use Rattle.runtime.specs.AnswerTexts.{both_text, done_line, listing_text, phase_line, pid_line, set_text, sets_line};

@@ -5,8 +5,8 @@ use Rattle.script.specs.Commands.{Asked}
 use Rattle.script.specs.Lines.{kept, lines_of}
 use Rattle.script.specs.Runs.{AnswersLine, Runs}
 use Rattle.script.specs.declared.running.TheConstants.{PIECE}
-use Rattle.script.specs.declared.script_fault.ScriptFault.{ScriptFault}
-use Rattle.script.specs.declared.script_fault.ScriptFault.TheVariants.{Read, TooManyReads, Write}
+use Rattle.script.specs.declared.fault.ScriptFault.{ScriptFault}
+use Rattle.script.specs.declared.fault.ScriptFault.TheVariants.{Read, TooManyReads, Write}
 
 -- a prefix of the bytes went out, perhaps all of them
 pub record SendsPart (old new : Option (List ℕ)) (bytes : List ℕ) : Type 0 where

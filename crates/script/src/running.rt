@@ -8,7 +8,7 @@ ghost use Rattle.script.specs.Underway.{FeedsBy};
 use crate::command::Request;
 use crate::line_buffer::LineBuffer;
 use crate::request::read_request;
-use crate::script_fault::ScriptFault;
+use crate::fault::ScriptFault;
 use crate::target::Target;
 use byte_output::put;
 use memchr::memchr;

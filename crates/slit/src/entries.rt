@@ -1,7 +1,7 @@
 ghost use Rattle.std.specs.Prelude.{◌≡◌, ◌<◌, ◌≤◌, ◌*◌, ℕ, length, OnOk};
 ghost use Rattle.std.specs.Result.{result_err};
 ghost use Rattle.slit.specs.AreDistances.{IsEntry, IsRow};
-ghost use Rattle.slit.specs.Table.{Table, distance, table};
+ghost use Rattle.slit.specs.Table.{distance, table};
 ghost use Rattle.slit.specs.EntriesFault.{entry_fault, row_fault, entries_fault};
 
 use crate::{LOCAL, MAX_LOCALITIES, SlitFault};

@@ -8,7 +8,7 @@ use Rattle.certificate.specs.RowView.{RowView}
 use Rattle.certificate.specs.Verdict.{IsBest, IsProvedCertificate}
 use Rattle.certificate.specs.declared.certificates.Certificate.{Certificate}
 use Rattle.certificate.specs.declared.certificates.Certificate.TheVariants.{Plan, Short}
-use Rattle.certificate.specs.declared.check_faults.CheckFault.TheVariants.{BadProblem}
+use Rattle.certificate.specs.declared.fault.CheckFault.TheVariants.{BadProblem}
 use Rattle.certificate.specs.declared.checking.Verdict.{Verdict}
 use Rattle.certificate_text.specs.CertificateText.{IsText}
 use Rattle.certificate_text.specs.ProblemError.{IsFirstBadProblemLine, ProblemAsksForMemory}

@@ -1,5 +1,4 @@
 //! A kernel that is lent, so that it can be looked at once a node is done with it.
-ghost use Rattle.kernel_model.specs.KernelState.{KernelState};
 
 use cpu_set::IdSet;
 use faults::OrMemory;

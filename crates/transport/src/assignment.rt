@@ -1,5 +1,5 @@
 //! Who holds how many CPUs of which class, with the dual variables: what one search leaves to the next.
-ghost use Rattle.std.specs.Prelude.{◌≡◌, [], map, replicate, length, IfOk, ◌+◌, ◌<◌, ◌≤◌, ◌^◌, IsTrue, OnOk};
+ghost use Rattle.std.specs.Prelude.{◌≡◌, [], map, replicate, IfOk, ◌+◌, ◌<◌, ◌≤◌, ◌^◌, IsTrue, OnOk};
 ghost use Rattle.transport.specs.Assigning.{IsFirst};
 ghost use Rattle.twins.specs.Holdings.{share_of};
 ghost use Rattle.transport.specs.Shares.{HasNoShare, IsShareGiven, IsShareTaken};

@@ -1,9 +1,9 @@
 //! The tree of one search: the rows that are reached, and the classes by which they are.
-ghost use Rattle.std.specs.Prelude.{ℕ, ◌<◌, IfOk, OnOk, ◌≡◌, ◌+◌, ◌≤◌, false, length, true};
+ghost use Rattle.std.specs.Prelude.{ℕ, ◌<◌, IfOk, OnOk, ◌≡◌, false, length, true};
 ghost use Rattle.transport.specs.Settled.{IsFresh, IsTidy, AreNoneTaken};
 ghost use Rattle.transport.specs.Numbers.{IsEachOnce, IsListing, number, is_marked, IsIn};
 ghost use Rattle.transport.specs.Shares.{AllBelow, holders_of};
-ghost use Rattle.transport.specs.ReachedRows.{IsReachedRows, IsUnreached, IsReached, IsGrown, is_reached, bottleneck};
+ghost use Rattle.transport.specs.ReachedRows.{IsReachedRows, IsUnreached, IsReached, IsGrown, bottleneck};
 ghost use Rattle.transport.specs.States.{IsTakenUp};
 
 use crate::labels::{Labels, NEVER};

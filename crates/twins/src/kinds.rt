@@ -1,5 +1,5 @@
 //! Rows of one kind: those with the same offers, as rows of one home have.
-ghost use Rattle.std.specs.Prelude.{◌≡◌, ◌+◌, ◌<◌, IsTrue, IfOk, length};
+ghost use Rattle.std.specs.Prelude.{◌<◌, IfOk, length};
 ghost use Rattle.twins.specs.Kinds.{AreKinds, IsNextKind};
 
 use certificate::Row;

@@ -12,7 +12,7 @@ use Rattle.certificate.specs.Limits.{is_disjoint, offers_fit, row_fits, prices_f
 use Rattle.certificate.specs.PlanFault.{is_not_allowed, row_fault, rows_fault, apart_fault, is_too_high, values_fault, plan_fault}
 use Rattle.certificate.specs.ShortageFault.{shortage_fault}
 use Rattle.certificate.specs.Worked.{row_a, row_b, two_rows, held, priced, three_rows, row_with_moves}
-use Rattle.certificate.specs.declared.check_faults.CheckFault.TheVariants.{HeldTwice}
+use Rattle.certificate.specs.declared.fault.CheckFault.TheVariants.{HeldTwice}
 use Rattle.certificate.proofs.ListedOffers.{least_not_allowed, least_too_high, offered_by_two}
 use Rattle.certificate.proofs.laws.worked.Goals as goal
 

@@ -2,7 +2,7 @@ use Rattle.std.proofs.Common.{◌≡◌, None, option_map, ap, ◌∙◌, sym, a
 use Rattle.std.proofs.lemmas.List.{get_or_default}
 use Rattle.faults.specs.FirstLaws.{first_below-at, first_below-none}
 use Rattle.certificate.specs.PlanFault.{at_both, value_fault, values_fault}
-use Rattle.certificate.specs.declared.check_faults.CheckFault.TheVariants.{ValueTooHigh}
+use Rattle.certificate.specs.declared.fault.CheckFault.TheVariants.{ValueTooHigh}
 use Rattle.certificate.proofs.RowFaults.{at_both_read}
 use Rattle.certificate.proofs.Noting.{no_amounts}
 use Rattle.certificate.proofs.value_checks.check_values.Goals as goal

@@ -12,7 +12,7 @@ use Rattle.demand.specs.DemandFaultOf.{cpus_fault, mems_fault, quota_fault, allo
 use Rattle.demand.specs.Allowed.{allowed_by, allowed_of}
 use Rattle.demand.specs.Homes.{homes_of}
 use Rattle.demand.specs.Worked.{two_nodes, with_cpus}
-use Rattle.demand.specs.declared.demand_fault.DemandFault.TheVariants.{NoSuchNode, NothingAllowed}
+use Rattle.demand.specs.declared.fault.DemandFault.TheVariants.{NoSuchNode, NothingAllowed}
 use Rattle.demand.proofs.ListedCpus.{those-listed, named-listed, least_other-listed, present-listed, allowed_1_2, whole_1_2, allowed_none, whole_none}
 use Rattle.demand.proofs.laws.worked.Goals as goal
 

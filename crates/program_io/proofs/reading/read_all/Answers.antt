@@ -1,9 +1,9 @@
 -- Where the reader is stopped it gave what was read before, and the last piece.
-use Rattle.std.proofs.Common.{◌≡◌, ◌<◌, ◌∙◌, ◌++◌, ap, arith, rules, ◌+◌, ◌≤◌, drop, length, length-take, subst, sym, take}
+use Rattle.std.proofs.Common.{◌≡◌, ◌∙◌, ◌++◌, ap, arith, rules, ◌+◌, drop, length, length-take, take}
 use Rattle.std.proofs.lemmas.List.{take-append-le}
 use Rattle.std.proofs.lemmas.Result.{err_from_is_err_and}
-use Rattle.program_io.specs.declared.reading.TheConstants.{MOST_BYTES, MOST_READS, PIECE}
-use Rattle.program_io.proofs.KnownBytes.{HasGiven, HasGiven-more, HasGiven-none, LacksRoom-more, PassesBound-more, StopsWith-told}
+use Rattle.program_io.specs.declared.reading.TheConstants.{MOST_BYTES}
+use Rattle.program_io.proofs.KnownBytes.{HasGiven-more, HasGiven-none, LacksRoom-more, PassesBound-more, StopsWith-told}
 use Rattle.program_io.proofs.reading.read_all.Goals as goal
 
 pub loop-reads-init : goal.loop-reads-init
