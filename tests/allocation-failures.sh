@@ -72,6 +72,24 @@ each_failure "the version" 0 "1+2+" /dev/null --version
 each_failure "an unknown command" 2 "1+2+" /dev/null foo
 each_failure "a missing argument" 2 "1+2+" /dev/null list
 each_failure "an unknown option" 2 "1+2+" /dev/null check -f
+
+# A machine file that is no JSON is read once more, for the note: where memory is short then, the note names no place.
+printf '{"nodes":["0-3"],}' >"$work/flawed"
+number=0 first=0 second=0
+while :; do
+    number=$((number + 1))
+    refusing "$program" run "$work/flawed" </dev/null 3>"$work/refused" >"$work/output" 2>"$work/error"
+    got=$?
+    case $(cat "$work/output" "$work/error") in
+        "refused E1 Memory") first=$((first + 1)) ;;
+        $'refused E25 NotJson\n'"error: $work/flawed: is no JSON object of at most 1048576 bytes") second=$((second + 1)) ;;
+        $'refused E25 NotJson\n'"error: $work/flawed: is no JSON, line 1 column 18") [ -s "$work/refused" ] || break ;;
+        *) wrong "a machine file that is no JSON, allocation $number" $got ;;
+    esac
+done
+[ $first -gt 0 ] && [ $second -gt 0 ] || { echo "allocation failures: a machine file that is no JSON: $first and $second"; exit 1; }
+echo "allocation failures: a machine file that is no JSON: $((number - 1)) allocations, each refused in turn, $first and $second of them seen"
+
 python3 -B "$top/tests/scripts/allocation_failures.py" "$program" "$work/refuse.so" "$top/tests/scripts/worked/every-command" || exit 1
 
 # tools_failure NAME FAULTS INPUT WORD..: what a tool answers to these words and this standard input; where an allocation is refused,

@@ -2,9 +2,9 @@
 
 An input is a line of its kind and its text, and below it stands the answer, each line behind `| `, and what standard error says of
 the file, behind `! `. The text has the escapes of Python's bytes; `<N TEXT>` is TEXT so many times, and `<FILE>` what a file of
-examples/ holds. `fronts A B KIND TEXT` is each front of the text, from A bytes to B; where it ends is by Python's JSON. The kinds are
-explained in the tables. Besides, inputs of each command that have as many bytes
-as are read at a time, one less and one more: the last byte of each counts."""
+examples/ holds. `fronts A B KIND TEXT` is each front of the text, from A bytes to B; where a config ends is by Python's JSON. The
+kinds are explained in the tables. Besides, inputs of each command that have as many bytes as are read at a time, one less and one
+more: the last byte of each counts."""
 
 import json
 import os
@@ -53,7 +53,7 @@ def inputs(table):
             first, last, kind, rest = rest.split(b" ", 3)
             for length in range(int(first), int(last) + 1):
                 front = text_of(kind.decode(), rest)[:length]
-                yield kind.decode(), front, answer + [f"! ends too early, {end_of(front)}"]
+                yield kind.decode(), front, answer + [f"! ends too early, {end_of(front)}"] * (kind == b"config")
         else:
             yield kind, text_of(kind, rest), answer
 

@@ -23,7 +23,7 @@ def by_second_runtime(told, machine, program_output):
 
 def typed(program, words, told, lengths):
     """The answers to lines that are sent one after another."""
-    with subprocess.Popen([program] + words, stdin=subprocess.PIPE, stdout=subprocess.PIPE, bufsize=0) as shell:
+    with subprocess.Popen([program] + words, stdin=subprocess.PIPE, stdout=subprocess.PIPE, stderr=subprocess.DEVNULL, bufsize=0) as shell:
         alarm = threading.Timer(SECONDS, shell.kill)
         alarm.start()
         answers = open(shell.stdout.fileno(), "rb", closefd=False)
