@@ -1,4 +1,7 @@
 #!/usr/bin/env bash
-# Looks up what the pages name: each link and path, each crate, the headings of an index, the transcripts and the version.
+# Looks up what the pages name: each link and path, each crate, the headings of an index, the transcripts and the version; and
+# that nothing is imported which is not used.
 set -euo pipefail
-exec python3 -B "$(dirname "$0")/pages/look_up.py"
+folder=$(dirname "$0")/pages
+python3 -B "$folder/imports.py"
+exec python3 -B "$folder/look_up.py"

@@ -1,13 +1,16 @@
-"""Imports of pages and sources that nothing there uses: `imports.py` fails on the first ones, `imports.py --write` drops them."""
+"""No page of specs/ or proofs/ and no source imports what nothing there uses.
+
+imports.py          fails where one does
+imports.py --write  drops what is not used
+"""
 
 import pathlib
 import re
 import sys
 
 TOP = pathlib.Path(__file__).resolve().parents[2]
-# A line that imports names, and its own comment if it has one.
+# A line that imports names.
 USE = re.compile(r"^(?P<head> *(?:ghost )?use [\w.]+)(?:\.\{(?P<names>.*)\}| as (?P<other>\w+))(?P<end>;?)$")
-WORD = re.compile(r"[^\s(){}\[\],;.λ]+")
 
 
 def used(name, text):
@@ -31,26 +34,21 @@ def kept(line, text):
     return f"{use['head']}.{{{', '.join(left)}}}{use['end']}" if left else None
 
 
-def looked_through(path):
-    """The lines of a file without the imports that nothing uses, and how many names went."""
-    lines = path.read_text(encoding="utf-8").splitlines()
-    text = "\n".join(re.sub(r"(--|//).*", "", line) for line in lines if not USE.match(line) or " pub use" in line)
-    new = [kept(line, text) for line in lines]
-    return lines, new
-
-
 def main():
-    wrong = []
+    wrong, write = [], "--write" in sys.argv
     for path in sorted((TOP / "crates").glob("*/*/**/*")):
-        if path.suffix not in (".antt", ".rt") or "/out/" in str(path):
+        if path.suffix not in (".antt", ".rt") or "out" in path.relative_to(TOP).parts:
             continue
-        lines, new = looked_through(path)
-        if lines != new:
-            wrong += [f"{path.relative_to(TOP)}: {a}" for a, b in zip(lines, new) if a != b]
-            if "--write" in sys.argv:
-                path.write_text("\n".join(line for line in new if line is not None) + "\n", encoding="utf-8")
-    print("\n".join(wrong))
-    print(len(wrong))
+        lines = path.read_text(encoding="utf-8").splitlines()
+        text = "\n".join(re.sub(r"(--|//).*", "", line) for line in lines if not USE.match(line))
+        new = [kept(line, text) for line in lines]
+        if lines == new:
+            continue
+        wrong += [f"{path.relative_to(TOP)}: {line.strip()}" for line, left in zip(lines, new) if line != left]
+        if write:
+            path.write_text("".join(f"{line}\n" for line in new if line is not None), encoding="utf-8")
+    if wrong and not write:
+        sys.exit("\n".join(["imports that nothing uses:", *wrong]))
 
 
 main()

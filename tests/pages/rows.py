@@ -127,8 +127,8 @@ def claims(lines):
 
 def doc(lines, at, whole):
     """The first paragraph of a function's doc, or all of it up to its first heading."""
-    while lines[at - 1].strip().startswith("#["):
-        at -= 1
+    while lines[at - 1].endswith("]"):
+        at = next(first for first in range(at - 1, -1, -1) if lines[first].strip().startswith("#["))
     said = []
     for line in above(lines, at, "///"):
         if line.startswith("# ") or not (line or whole):

@@ -24,8 +24,8 @@ pub enum Progress {
 
 /// Containers on their way to the CPUs that they are to have.
 ///
-/// Of n entries a step looks at O(n) and `finish` at O(n) in all, each time by two reads of the kernel at most: what the group
-/// requests, and whether the first process is alive.
+/// Of n entries a step looks at O(n) and `finish` at O(n) in all, each time by two reads of the kernel at most: what
+/// the group requests, and whether the first process is alive.
 #[derive(Debug, Drop)]
 pub struct Handover {
     entries: Vec<Entry>,
@@ -101,7 +101,8 @@ impl Handover {
         // Each that succeeds is one less, and one that fails none.
         ensures lowers { Lowers self.old (K.state kernel.old) result (K.state kernel.new) }
         // It makes one writing call if a write is due, and else none.
-        ensures made { (K.state kernel.new).writes ≡ (K.state kernel.old).writes + made_by_step self.old (K.state kernel.old) }
+        ensures made { (K.state kernel.new).writes ≡ (K.state kernel.old).writes
+            + made_by_step self.old (K.state kernel.old) }
         // Each container requests what it did at first, what it keeps of that, or its target.
         ensures between { (first : KernelState) → Between self.old first (K.state kernel.old)
             → Between self.old first (K.state kernel.new) }
@@ -124,8 +125,8 @@ impl Handover {
         self.take_all_targets(kernel)
     }
 
-    /// Makes all writes that are to come, up to the first that fails: what [`step`](Handover::step) leaves, called until
-    /// nothing is due.
+    /// Makes all writes that are to come, up to the first that fails: what [`step`](Handover::step) leaves, called
+    /// until nothing is due.
     ///
     /// Looks each entry through twice, where single steps look all of them through for each write. Allocates nothing.
     ///
@@ -147,7 +148,8 @@ impl Handover {
         ensures all { IsOk result → (K.state kernel.new).writes ≡ (K.state kernel.old).writes
             + writes_to_come self.old (K.state kernel.old) }
         // That is at most two for each entry, and the one that failed.
-        ensures few { (K.state kernel.new).writes ≤ (K.state kernel.old).writes + 2 * length self.old.entries + rise result }
+        ensures few { (K.state kernel.new).writes ≤ (K.state kernel.old).writes + 2 * length self.old.entries
+            + rise result }
         // Each container requests what it did at first, what it keeps of that, or its target.
         ensures between { (first : KernelState) → Between self.old first (K.state kernel.old)
             → Between self.old first (K.state kernel.new) }

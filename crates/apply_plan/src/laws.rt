@@ -10,9 +10,9 @@ ghost use Rattle.apply_plan.specs.Worked.{swap, both_live, one_lives, write};
 /// Any list of events while a hand-over is open: its steps, failing ones too, forks and ends of processes, CPUs that go
 /// and come, and writes of other groups.
 ///
-/// What was safe stays safe after each single event. Each container requests what it did at first, what it keeps of that,
-/// or its target. At most two writes for each entry are to come, and each that succeeds is one less, as the kernel counts
-/// them.
+/// What was safe stays safe after each single event. Each container requests what it did at first, what it keeps of
+/// that, or its target. At most two writes for each entry are to come, and each that succeeds is one less, as the
+/// kernel counts them.
 pub fn runs()
     ensures safe { StaysSafe }
     ensures between { StaysBetween }
@@ -27,15 +27,15 @@ pub fn steps()
 
 /// What requested sets are worth, for groups whose parent is a child of the root that requests nothing.
 ///
-/// Targets which are online take effect as they are. What is safe as requested is safe in effect while each live container
-/// requests an online CPU.
+/// Targets which are online take effect as they are. What is safe as requested is safe in effect while each live
+/// container requests an online CPU.
 pub fn effects()
     ensures targets { TargetsTakeEffect }
     ensures safe { SafeInEffect }
 {}
 
-/// Worked rows of docs/formats.md, "Scripts": the writes of a hand-over in which two containers swap their CPUs, each one
-/// evaluated from what the containers request then.
+/// Worked rows of docs/formats.md, "Scripts": the writes of a hand-over in which two containers swap their CPUs, each
+/// one evaluated from what the containers request then.
 pub fn worked()
     ensures keeps_part { due swap (both_live (2 ∷ 3 ∷ []) (1 ∷ [])) ≡ Some (write web (2 ∷ [])) }
     ensures keeps_none { due swap (both_live (3 ∷ []) (1 ∷ [])) ≡ Some (write web (0 ∷ [])) }

@@ -29,15 +29,16 @@ fn kept_of(reserved: &IdSet, target: &IdSet, cpus: &IdSet) -> IdSet
     if within.is_empty() { *reserved } else { within }
 }
 
-/// Whether a container that requests these CPUs is seen to keep all of them on the way to its target with no set made: they are
-/// the reserved ones, or they are some, and each is in the target.
+/// Whether a container that requests these CPUs is seen to keep all of them on the way to its target with no set made:
+/// they are the reserved ones, or they are some, and each is in the target.
 fn keeps_at_sight(reserved: &IdSet, target: &IdSet, held: &IdSet) -> bool
     ensures { IsTrue result → kept reserved.now target.now held.now ≡ held.now }
 {
     held == reserved || held.is_subset(target) && !held.is_empty()
 }
 
-/// Whether a container that requests these CPUs keeps all of them: they are some, and each is in the target or reserved.
+/// Whether a container that requests these CPUs keeps all of them: they are some, and each is in the target or
+/// reserved.
 fn keeps_all(reserved: &IdSet, target: &IdSet, held: &IdSet) -> bool
     ensures { IsTrue result → kept reserved.now target.now held.now ≡ held.now }
 {
@@ -70,8 +71,8 @@ fn release_if_some(reserved: &IdSet, entry: &Entry, held: &IdSet) -> Option<Writ
 
 /// Whether the container has ended, where that is asked.
 ///
-/// Those that have ended often stand one behind another: behind one the next is asked first, and else only a container of which
-/// something may be due.
+/// Those that have ended often stand one behind another: behind one the next is asked first, and else only a container
+/// of which something may be due.
 fn has_ended<K: Kernel>(kernel: &K, entry: &Entry, asked: bool) -> bool
     ensures { result ≡ (asked && not (is_alive (K.state kernel.now).table entry.now.pid)) }
 {
@@ -100,8 +101,8 @@ pub fn release_of<K: Kernel>(kernel: &K, reserved: &IdSet, entry: &Entry) -> Opt
     release_from(reserved, entry, held)
 }
 
-/// Whether a live container does not hold its target. Whether the one before it has ended is told, and then whether this one was
-/// seen to have.
+/// Whether a live container does not hold its target. Whether the one before it has ended is told, and then whether
+/// this one was seen to have.
 fn must_move<K: Kernel>(kernel: &K, entry: &Entry, ended: &mut bool) -> bool
     requires { has_group (K.state kernel.now).tree entry.now.group ≡ true }
     ensures { result ≡ must_move (K.state kernel.now) entry.now }
@@ -143,8 +144,9 @@ fn first_of<'a>(found: Option<&'a Entry>, entry: &'a Entry) -> &'a Entry
     }
 }
 
-/// The write that is due, and the place of its entry: of the first live container that holds what it is to let go, else of the
-/// first that does not hold its target. Nothing is due of a container that holds its target, as most do, or that has ended.
+/// The write that is due, and the place of its entry: of the first live container that holds what it is to let go, else
+/// of the first that does not hold its target. Nothing is due of a container that holds its target, as most do, or that
+/// has ended.
 pub fn due<K: Kernel>(kernel: &K, reserved: &IdSet, entries: &[Entry]) -> (Option<Write>, usize)
     requires placed { ArePlaced (K.state kernel.now) entries.now }
     requires some { HaveSomeTarget entries.now }
@@ -199,8 +201,8 @@ fn have_arrived<K: Kernel>(kernel: &K, entries: &[Entry]) -> bool
     true
 }
 
-/// Whether each live container holds its target. It is looked for from a place on, and then before it: behind the place of a
-/// write that was made is mostly the next one that moves.
+/// Whether each live container holds its target. It is looked for from a place on, and then before it: behind the place
+/// of a write that was made is mostly the next one that moves.
 pub fn all_arrived<K: Kernel>(kernel: &K, entries: &[Entry], from: usize) -> bool
     requires { ArePlaced (K.state kernel.now) entries.now }
     ensures { result ≡ is_none (find (must_move (K.state kernel.now)) entries.now) }
@@ -228,7 +230,8 @@ pub fn make_due<K: Kernel>(
 ) -> Result<usize, KernelFault>
     requires placed { ArePlaced (K.state kernel.old) entries.now }
     requires some { HaveSomeTarget entries.now }
-    ensures made { IsMadeIfAny (due_write (K.state kernel.old) reserved.now entries.now) (K.state kernel.old) (done_of result)
+    ensures made { IsMadeIfAny (due_write (K.state kernel.old) reserved.now entries.now) (K.state kernel.old)
+        (done_of result)
         (K.state kernel.new) }
     ensures placed { ArePlaced (K.state kernel.new) entries.now }
 {

@@ -19,7 +19,8 @@ impl Handover {
     /// Lets one container go of what it is not to have, where it holds any of that.
     fn let_go<K: Kernel>(&self, kernel: &mut K, entry: &Entry) -> Result<(), KernelFault>
         requires { IsPlaced (K.state kernel.old) entry.now.group }
-        ensures { IsMadeIfAny (its_release (K.state kernel.old) self.now.reserved entry.now) (K.state kernel.old) result (K.state kernel.new) }
+        ensures { IsMadeIfAny (its_release (K.state kernel.old) self.now.reserved entry.now) (K.state kernel.old) result
+            (K.state kernel.new) }
     {
         make_if_any(kernel, release_of(&*kernel, &self.reserved, entry))
     }

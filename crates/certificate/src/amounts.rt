@@ -35,7 +35,8 @@ fn note_range(first: usize, last: usize, amount: u64, amounts: &mut [u64])
     requires { last < length amounts.old }
     ensures long { length amounts.new ≡ length amounts.old }
     ensures noted { (c d : ℕ) → c < length amounts.old
-        → slice_index_or amounts.new c d ≡ cond (nat_le first c && nat_le c last) amount (slice_index_or amounts.old c d) }
+        → slice_index_or amounts.new c d ≡ cond (nat_le first c
+        && nat_le c last) amount (slice_index_or amounts.old c d) }
 {
     for at in first..last + 1 {
         amounts[at] = amount;

@@ -1,6 +1,7 @@
 //! The check of a certificate.
 ghost use Rattle.std.specs.Prelude.{◌≡◌, Ok, Some, None, IfOk, IfErr, OnOk};
-ghost use Rattle.certificate.specs.declared.certificates.Certificate.TheVariants.{Plan as PlanCertificate, Short as ShortCertificate};
+ghost use Rattle.certificate.specs.declared.certificates.Certificate.TheVariants.{Plan as PlanCertificate};
+ghost use Rattle.certificate.specs.declared.certificates.Certificate.TheVariants.{Short as ShortCertificate};
 ghost use Rattle.certificate.specs.declared.checking.Verdict.{Verdict};
 ghost use Rattle.certificate.specs.Verdict.{IsProvedCertificate, IsBest, IsFaultOf, plan_verdict, scale_fault};
 
@@ -17,7 +18,8 @@ pub enum Verdict {
     /// The certificate's plan has this distance and moves so many CPUs: no plan's distance is less, and none of that
     /// distance moves fewer.
     Moves(u64, u64),
-    /// The certificate's members ask together for so many CPUs, and may have so many, which are fewer: there is no plan.
+    /// The certificate's members ask together for so many CPUs, and may have so many, which are fewer: there is no
+    /// plan.
     Short(u64, u32),
 }
 
@@ -32,8 +34,8 @@ pub fn check(certificate: &Certificate) -> Result<Verdict, CheckFault>
     // A yes: values and prices prove the plan to cost the total, or the members are short by these counts. In version 2
     // each weight is a distance, and one move at most.
     ensures proved { IfOk result (λ v. IsProvedCertificate certificate.now v) }
-    // Hence the plan is of least cost, or its rows have no plan. In version 2 a plan of least cost is of least distance,
-    // and of that distance no plan moves fewer CPUs. The two numbers of the verdict are those.
+    // Hence the plan is of least cost, or its rows have no plan. In version 2 a plan of least cost is of least
+    // distance, and of that distance no plan moves fewer CPUs. The two numbers of the verdict are those.
     ensures best { IfOk result (λ v. IsBest certificate.now v) }
     // A yes wherever that is proved.
     ensures complete { (v : Verdict) → IsProvedCertificate certificate.now v → result ≡ Ok v }
@@ -57,7 +59,8 @@ pub fn check(certificate: &Certificate) -> Result<Verdict, CheckFault>
 }
 
 /// Checks the plan, and the total that is written with it.
-#[tactic(auto, using(crate::proofs::Verdicts::scale_first, crate::proofs::Verdicts::plan_second, crate::proofs::Verdicts::gap_last, crate::proofs::Verdicts::plan_proved, crate::proofs::Verdicts::plan_best))]
+#[tactic(auto, using(crate::proofs::Verdicts::scale_first, crate::proofs::Verdicts::plan_second,
+    crate::proofs::Verdicts::gap_last, crate::proofs::Verdicts::plan_proved, crate::proofs::Verdicts::plan_best))]
 fn check_total(
     problem: &Problem,
     plan: &Plan,
@@ -65,11 +68,14 @@ fn check_total(
     total: u64,
     weights: Weights,
 ) -> Result<Verdict, CheckFault>
-    ensures proved { IfOk result (λ v. IsProvedCertificate (PlanCertificate problem.now plan.now prices.now total weights) v) }
+    ensures proved { IfOk result (λ v. IsProvedCertificate
+        (PlanCertificate problem.now plan.now prices.now total weights) v) }
     ensures best { IfOk result (λ v. IsBest (PlanCertificate problem.now plan.now prices.now total weights) v) }
-    ensures complete { (v : Verdict) → IsProvedCertificate (PlanCertificate problem.now plan.now prices.now total weights) v
+    ensures complete { (v : Verdict)
+        → IsProvedCertificate (PlanCertificate problem.now plan.now prices.now total weights) v
         → result ≡ Ok v }
-    ensures fault { IfErr result (λ fault. IsFaultOf fault (PlanCertificate problem.now plan.now prices.now total weights)) }
+    ensures fault { IfErr result (λ fault. IsFaultOf fault
+        (PlanCertificate problem.now plan.now prices.now total weights)) }
 {
     check_scale(problem, weights)?;
     let cost = check_plan(problem, plan, prices)?;
@@ -103,7 +109,8 @@ fn check_scale(problem: &Problem, weights: Weights) -> Result<(), CheckFault>
     }
 }
 
-#[tactic(auto, using(crate::proofs::Verdicts::short_scale_first, crate::proofs::Verdicts::short_second, crate::proofs::Verdicts::short_proved))]
+#[tactic(auto, using(crate::proofs::Verdicts::short_scale_first, crate::proofs::Verdicts::short_second,
+    crate::proofs::Verdicts::short_proved))]
 fn check_members(
     problem: &Problem,
     members: &Members,
@@ -111,7 +118,8 @@ fn check_members(
 ) -> Result<Verdict, CheckFault>
     ensures proved { IfOk result (λ v. IsProvedCertificate (ShortCertificate problem.now members.now weights) v) }
     ensures best { IfOk result (λ v. IsBest (ShortCertificate problem.now members.now weights) v) }
-    ensures complete { (v : Verdict) → IsProvedCertificate (ShortCertificate problem.now members.now weights) v → result ≡ Ok v }
+    ensures complete { (v : Verdict) → IsProvedCertificate (ShortCertificate problem.now members.now weights) v
+        → result ≡ Ok v }
     ensures fault { IfErr result (λ fault. IsFaultOf fault (ShortCertificate problem.now members.now weights)) }
 {
     check_scale(problem, weights)?;

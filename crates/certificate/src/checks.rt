@@ -17,15 +17,15 @@ use cpu_set::IdSet;
 
 /// Checks that a plan is of least cost, by values and prices: the plan's cost, or the first cause why not.
 ///
-/// Allocates nothing. A set takes a few steps for each of its ranges. Only the CPUs of an offer whose weight is below its
-/// row's value take a step each: a look at a table of their prices. At worst O(w + p + r * n) of w offers in all, p prices,
-/// r rows and n CPUs.
+/// Allocates nothing. A set takes a few steps for each of its ranges. Only the CPUs of an offer whose weight is below
+/// its row's value take a step each: a look at a table of their prices. At worst O(w + p + r * n) of w offers in all, p
+/// prices, r rows and n CPUs.
 ///
 /// # Errors
 /// The first cause in the order of [`CheckFault`], the last of which is none of a plan.
 pub fn check_plan(problem: &Problem, plan: &Plan, prices: &Prices) -> Result<u64, CheckFault>
-    // A yes: each row has as many CPUs as it asks for, all allowed, and none is in two rows. The plan costs the returned
-    // total, and values and prices give the same number as a bound.
+    // A yes: each row has as many CPUs as it asks for, all allowed, and none is in two rows. The plan costs the
+    // returned total, and values and prices give the same number as a bound.
     ensures proved { IfOk result (λ total. IsProved problem.now plan.now prices.now total) }
 
     // Hence the plan is optimal: **no plan costs less, whoever wrote the certificate**.

@@ -64,8 +64,8 @@ fn shared_count(held: &IdSet, cpus: &IdSet) -> u32
     shared.count()
 }
 
-/// What a plan costs that values and prices prove to cost the least: what its rows are worth, less the prices of all CPUs.
-/// Allocates nothing, and a step for each row and price.
+/// What a plan costs that values and prices prove to cost the least: what its rows are worth, less the prices of all
+/// CPUs. Allocates nothing, and a step for each row and price.
 pub fn proved_cost(rows: &[Row], prices: &Prices) -> u64
     requires { (sets : List Ids) × (total : ℕ) × IsProved rows.now sets prices.now total }
     ensures { (sets : List Ids) (total : ℕ) → IsProved rows.now sets prices.now total → result ≡ total }

@@ -1,7 +1,8 @@
 //! The test that a problem, a plan and its prices, or the members of a shortage, can be checked at all.
 ghost use Rattle.std.specs.Prelude.{◌≡◌, nat_le, nat_lt};
 ghost use Rattle.std.specs.List.{list_all};
-ghost use Rattle.certificate.specs.Limits.{offers_fit, row_fits, rows_fit, prices_fit, values_fit, is_within_limits, is_rising, is_shortage_within_limits};
+ghost use Rattle.certificate.specs.Limits.{offers_fit, row_fits, rows_fit, prices_fit, values_fit, is_within_limits};
+ghost use Rattle.certificate.specs.Limits.{is_rising, is_shortage_within_limits};
 
 use crate::{MAX_AMOUNT, MAX_DEMAND, MAX_ROWS, MAX_WEIGHT, Offers, PriceList, Prices, Row};
 use cpu_set::IdSet;
@@ -41,8 +42,8 @@ fn are_below(members: &[usize], count: usize) -> bool
     members.iter().all(|k| *k < count)
 }
 
-/// Whether rows are within their limits, as the solver wants them to be. There are at most [`MAX_ROWS`] of them, and each
-/// asks for 1 to [`MAX_DEMAND`] CPUs. No weight is above [`MAX_WEIGHT`], and no CPU is in two offers of a row.
+/// Whether rows are within their limits, as the solver wants them to be. There are at most [`MAX_ROWS`] of them, and
+/// each asks for 1 to [`MAX_DEMAND`] CPUs. No weight is above [`MAX_WEIGHT`], and no CPU is in two offers of a row.
 ///
 /// O(w) of w offers in all. Allocates nothing.
 #[tactic(auto, unfolding(crate::specs::Limits::rows_fit))]

@@ -1,4 +1,5 @@
-ghost use Rattle.std.specs.Prelude.{◌≡◌, ◌↔◌, ℕ, ◌+◌, ◌<◌, ◌++◌, [], ◌∷◌, All, IsTrue, IfOk, OnOk, OnErr, is_some, length, slice_index_or};
+ghost use Rattle.std.specs.Prelude.{◌≡◌, ◌↔◌, ℕ, ◌+◌, ◌<◌, ◌++◌, [], ◌∷◌, All, IsTrue, IfOk, OnOk, OnErr, is_some};
+ghost use Rattle.std.specs.Prelude.{length, slice_index_or};
 ghost use Rattle.std.specs.FinSet as set;
 ghost use Rattle.certificate.specs.Weight.{weight_in};
 ghost use Rattle.cpu_set.specs.Ranges.{in_ranges};
@@ -63,14 +64,15 @@ impl Offers {
         Ok(())
     }
 
-    /// Adds an offer of other ones after the others, with a weight of its own: its ranges are copied as they stand. O(r)
-    /// of its r ranges.
+    /// Adds an offer of other ones after the others, with a weight of its own: its ranges are copied as they stand.
+    /// O(r) of its r ranges.
     ///
     /// # Errors
     /// An allocation failure, which changes nothing.
     pub fn push_from(&mut self, weight: u32, other: &Offers, at: usize) -> Result<(), AllocError>
         requires { at < length other.now }
-        ensures ok { (d : Offer) → OnOk result (self.new ≡ self.old ++ (record { weight = weight; cpus = (slice_index_or other.now at d).cpus }) ∷ []) }
+        ensures ok { (d : Offer) → OnOk result (self.new ≡ self.old
+            ++ (record { weight = weight; cpus = (slice_index_or other.now at d).cpus }) ∷ []) }
         ensures err { OnErr result (self.new ≡ self.old) }
     {
         let rises = u64::from(weight) >= self.least();
@@ -82,7 +84,8 @@ impl Offers {
     /// The least weight with which the next offer weighs more than the last.
     fn least(&self) -> u64
         ensures none { length self.now ≡ 0 → result ≡ 0 }
-        ensures last { (i : ℕ) (d : Offer) → i + 1 ≡ length self.now → result ≡ (slice_index_or self.now i d).weight + 1 }
+        ensures last { (i : ℕ) (d : Offer) → i + 1 ≡ length self.now
+            → result ≡ (slice_index_or self.now i d).weight + 1 }
     {
         if self.len() == 0 {
             return 0;
@@ -133,7 +136,8 @@ impl Offers {
     /// The CPUs of the offer at a place, as ranges from a first CPU up to a last.
     pub fn ranges(&self, at: usize) -> &[(u16, u16)]
         requires { at < length self.now }
-        ensures members { (d : Offer) (cpu : ℕ) → in_ranges result.now cpu ≡ set.contains (slice_index_or self.now at d).cpus cpu }
+        ensures members { (d : Offer) (cpu : ℕ) → in_ranges result.now cpu
+            ≡ set.contains (slice_index_or self.now at d).cpus cpu }
         ensures below { All (λ r. r.1 < CPU_LIMIT) result.now }
     {
         self.sets.ranges(at)

@@ -4,11 +4,12 @@ ghost use Rattle.certificate.specs.Packed.{packed, distance_of, moves_of};
 
 use crate::{MAX_WEIGHT, MOVE_SCALE};
 
-/// What a CPU costs a row, or a plan costs, where moves are counted: of two costs the one of less distance is the lesser,
-/// and of two of one distance the one of fewer moves.
+/// What a CPU costs a row, or a plan costs, where moves are counted: of two costs the one of less distance is the
+/// lesser, and of two of one distance the one of fewer moves.
 #[derive(Clone, Copy, Debug, PartialEq, Eq)]
 pub struct Cost {
-    /// The distance to the nearest home node, as ACPI's SLIT counts distances: 10 is local. Of a plan that of all its CPUs.
+    /// The distance to the nearest home node, as ACPI's SLIT counts distances: 10 is local. Of a plan that of all its
+    /// CPUs.
     pub distance: u64,
     /// How many CPUs move, below [`MOVE_SCALE`].
     pub moves: u64,
@@ -28,7 +29,8 @@ impl Cost {
         }
     }
 
-    /// Both parts as one number, as the total of a certificate has them: the distance [`MOVE_SCALE`] times, and the moves.
+    /// Both parts as one number, as the total of a certificate has them: the distance [`MOVE_SCALE`] times, and the
+    /// moves.
     #[inline]
     pub fn pack(self) -> u64
         requires { packed self.distance self.moves < 2 ^ 64 }

@@ -110,7 +110,8 @@ impl PriceList {
     /// The CPUs of the price at a place, as ranges from a first CPU up to a last.
     pub fn ranges(&self, at: usize) -> &[(u16, u16)]
         requires { at < length self.now }
-        ensures members { (d : Price) (cpu : ℕ) → in_ranges result.now cpu ≡ set.contains (slice_index_or self.now at d).cpus cpu }
+        ensures members { (d : Price) (cpu : ℕ) → in_ranges result.now cpu
+            ≡ set.contains (slice_index_or self.now at d).cpus cpu }
         ensures below { All (λ r. r.1 < CPU_LIMIT) result.now }
     {
         self.sets.ranges(at)

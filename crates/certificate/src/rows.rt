@@ -13,8 +13,8 @@ pub struct Row {
     pub offers: Offers,
 }
 
-/// CPUs of one weight. A weight is what each of them costs the row that holds it; a plan costs the sum of the weights of the
-/// CPUs that its rows hold.
+/// CPUs of one weight. A weight is what each of them costs the row that holds it; a plan costs the sum of the weights
+/// of the CPUs that its rows hold.
 #[derive(Clone, Copy, Debug)]
 pub struct Offer {
     /// At most [`MAX_WEIGHT`](crate::MAX_WEIGHT). For pinning it is a [`Cost`](crate::Cost) as one number: the CPU's

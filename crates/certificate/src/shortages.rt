@@ -13,8 +13,8 @@ use crate::limit_checks::is_shortage_within_limits;
 use crate::{CheckFault, MAX_ROWS, Problem, Row};
 use cpu_set::IdSet;
 
-/// Checks that some rows, the members, ask together for more CPUs than the union of their offers has. It answers how many
-/// they ask for and how many there are, or the first cause why not.
+/// Checks that some rows, the members, ask together for more CPUs than the union of their offers has. It answers how
+/// many they ask for and how many there are, or the first cause why not.
 ///
 /// `members` are row numbers, each above the one before. O(m + w) of m members and w offers in all. Allocates nothing.
 ///

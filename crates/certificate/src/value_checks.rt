@@ -42,7 +42,8 @@ pub(crate) fn check_values(
 fn first_too_high(row: &Row, value: u64, amounts: &[u64]) -> Option<u16>
     requires fits { IsTrue (row_fits row.now) }
     requires long { length amounts.now ≡ CPU_LIMIT }
-    ensures { (prices : List Price) → AreAmounts prices amounts.now → result ≡ least_that (is_too_high prices row.now value) }
+    ensures { (prices : List Price) → AreAmounts prices amounts.now
+        → result ≡ least_that (is_too_high prices row.now value) }
 {
     first_in_offers(&row.offers, value, amounts)
 }
@@ -92,7 +93,8 @@ fn first_in_offer(offers: &Offers, at: usize, value: u64, amounts: &[u64]) -> Op
 fn first_cheaper(ranges: &[(u16, u16)], amount: u64, amounts: &[u64]) -> Option<u16>
     requires below { All (λ r. r.1 < CPU_LIMIT) ranges.now }
     requires long { length amounts.now ≡ CPU_LIMIT }
-    ensures { result ≡ least_that (λ cpu. in_ranges ranges.now cpu && nat_lt (slice_index_or amounts.now cpu 0) amount) }
+    ensures { result ≡ least_that (λ cpu. in_ranges ranges.now cpu
+        && nat_lt (slice_index_or amounts.now cpu 0) amount) }
 {
     let mut least = None;
     for range in ranges {
@@ -106,7 +108,8 @@ fn first_cheaper(ranges: &[(u16, u16)], amount: u64, amounts: &[u64]) -> Option<
 fn first_in_range(first: u16, last: u16, amount: u64, amounts: &[u64]) -> Option<u16>
     requires below { last < CPU_LIMIT }
     requires long { length amounts.now ≡ CPU_LIMIT }
-    ensures { result ≡ least_that (λ cpu. (nat_le first cpu && nat_le cpu last) && nat_lt (slice_index_or amounts.now cpu 0) amount) }
+    ensures { result ≡ least_that (λ cpu. (nat_le first cpu && nat_le cpu last)
+        && nat_lt (slice_index_or amounts.now cpu 0) amount) }
 {
     for cpu in first..last + 1 {
         if amounts[cpu as usize] < amount {

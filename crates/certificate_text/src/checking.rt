@@ -13,8 +13,8 @@ pub enum VerdictFault {
     /// E77: the text is no certificate's.
     BadText(BadText),
     /// The certificate is refused: `BadProblem` (E70) where weights count moves and one is more than one move, then the
-    /// first cause as [`check_plan`](certificate::check_plan) or [`check_shortage`](certificate::check_shortage) words it,
-    /// then `Gap` (E75, the duality gap) where the written total isn't the plan's cost.
+    /// first cause as [`check_plan`](certificate::check_plan) or [`check_shortage`](certificate::check_shortage) words
+    /// it, then `Gap` (E75, the duality gap) where the written total isn't the plan's cost.
     Check(CheckFault),
 }
 
@@ -25,16 +25,16 @@ impl Fault for VerdictFault {}
 /// # Errors
 /// Those of [`read_text`], then those of [`check`].
 pub fn check_text(alloc: Global, text: &[u8]) -> Result<Verdict, OrMemory<VerdictFault>>
-    // A yes: the text stands for a plan that values and prices prove to cost the written total. Or it stands for members
-    // that are short by these counts.
+    // A yes: the text stands for a plan that values and prices prove to cost the written total. Or it stands for
+    // members that are short by these counts.
     ensures proved { IfOk result (λ v. IsVerdict text.now v) }
-    // Hence no plan of the text's rows costs less, or they have none, whoever wrote the text. In version 2 none is nearer,
-    // and none as near moves fewer CPUs.
+    // Hence no plan of the text's rows costs less, or they have none, whoever wrote the text. In version 2 none is
+    // nearer, and none as near moves fewer CPUs.
     ensures least { IfOk result (λ v. SaysLeast text.now v) }
     // A yes wherever that holds, unless an allocation failed. By the code one can fail in the reading alone.
     ensures complete { (v : Verdict) → IsVerdict text.now v → IsAnswered result v }
-    // A no: the first bad line, or the certificate's first fault, whose cause holds; or an allocation failed at a line, and
-    // those before it were in order.
+    // A no: the first bad line, or the certificate's first fault, whose cause holds; or an allocation failed at a line,
+    // and those before it were in order.
     ensures fault { IfErr result (λ e. IsVerdictError text.now e) }
 {
     let certificate = match read_text(alloc, text) {

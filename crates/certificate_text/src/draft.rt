@@ -1,5 +1,6 @@
 ghost use Rattle.std.specs.Prelude.{◌≡◌, ◌+◌, ◌<◌, ◌^◌, length, slice_get, IfSome};
-ghost use Rattle.certificate_text.specs.Line.{HeaderLine, RowLine, HoldLine, PriceLine, TotalLine, ShortLine, EndLine, Spells};
+ghost use Rattle.certificate_text.specs.Line.{HeaderLine, RowLine, HoldLine, PriceLine, TotalLine, ShortLine, EndLine};
+ghost use Rattle.certificate_text.specs.Line.{Spells};
 ghost use Rattle.certificate_text.specs.DraftView.{are_same};
 ghost use Rattle.certificate_text.specs.LineRead.{line_view};
 ghost use Rattle.certificate_text.specs.Takes.{Takes};
@@ -58,7 +59,8 @@ impl<'a> Model for Draft<'a> {
 }
 
 impl<'a> Draft<'a> {
-    ghost use Rattle.certificate_text.specs.DraftView.{empty_draft, has_id, has_no_plan, is_held, is_id_of, number_of, takes_members, takes_row};
+    ghost use Rattle.certificate_text.specs.DraftView.{empty_draft, has_id, has_no_plan, is_held, is_id_of, number_of};
+    ghost use Rattle.certificate_text.specs.DraftView.{takes_members, takes_row};
     ghost use Rattle.certificate_text.specs.RowTaken.{rows_draft};
     ghost use Rattle.std.specs.Prelude.{[]};
     ghost use Rattle.certificate_text.specs.Finished.{finished};

@@ -7,8 +7,8 @@ ghost use Rattle.certificate_text.specs.Written.{ReadCanBeWritten, WrittenReadsA
 
 use crate::ID_LIMIT;
 
-/// No text stands for the rows of two problems. Whatever [`read_problem`](crate::read_problem) reads can be written as the
-/// rows of a certificate.
+/// No text stands for the rows of two problems. Whatever [`read_problem`](crate::read_problem) reads can be written as
+/// the rows of a certificate.
 pub fn problem_texts()
     ensures problem { OneProblem }
     ensures written { ReadProblemsCanBeWritten }

@@ -1,7 +1,8 @@
 //! Certificates as text, line by line: [`read_text`] reads one, [`check`] checks it, and [`check_text`] does both.
 //! Problems as text: [`read_problem`].
 //!
-//! The grammar is in [`read_text`]'s words; certificates and [`check`] are the crate `certificate`'s, and passed on here.
+//! The grammar is in [`read_text`]'s words; certificates and [`check`] are the crate `certificate`'s, and passed on
+//! here.
 #![tactic(auto)]
 
 mod bad_line;

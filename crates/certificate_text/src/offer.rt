@@ -25,12 +25,13 @@ fn read_offer(word: &[u8]) -> Option<Offer>
     Some(Offer { weight, cpus })
 }
 
-/// The offers that the words of the text spell, one each. Where an allocation fails the other words are read all the same, so
-/// that a bad one is told as such.
+/// The offers that the words of the text spell, one each. Where an allocation fails the other words are read all the
+/// same, so that a bad one is told as such.
 pub fn read_offers(alloc: Global, text: &[u8]) -> Result<Offers, OrMemory<BadLine>>
     ensures ok { IfOk result (λ offers. AllZip IsOfferWord (words text.now) offers) }
     ensures bad { OnBad result ((os : List Offer) → AllZip IsOfferWord (words text.now) os → ⊥) }
-    ensures memory { IfErr result (λ fault. fault ≡ Memory → (os : List Offer) × AllZip IsOfferWord (words text.now) os) }
+    ensures memory { IfErr result (λ fault. fault ≡ Memory → (os : List Offer)
+        × AllZip IsOfferWord (words text.now) os) }
 {
     let mut offers = Offers::new(alloc);
     let mut lacks = false;

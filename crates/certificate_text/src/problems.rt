@@ -22,8 +22,8 @@ use std::alloc::Global;
 /// O(b + r log r) of b bytes and r rows.
 ///
 /// # Errors
-/// An allocation failure, and [`BadText`] where the text is no problem's. The line at which it fails and those before it are
-/// in order, so the first bad line is told as such unless an allocation failed before it.
+/// An allocation failure, and [`BadText`] where the text is no problem's. The line at which it fails and those before
+/// it are in order, so the first bad line is told as such unless an allocation failed before it.
 pub fn read_problem(alloc: Global, text: &[u8]) -> Result<Problem, OrMemory<BadText>>
     // Rows are returned only if the text stands for them in the grammar of problems.
     ensures ok { IfOk result (λ problem. IsProblemText text.now problem) }

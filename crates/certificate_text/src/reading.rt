@@ -15,7 +15,8 @@ use faults::{Fault, OrMemory};
 use std::alloc::Global;
 
 /// E77: a text is no certificate's. The line of this number, counted from 1, is the first that can't follow the lines
-/// before it; it is the last line where no line feed ends that, and the one after the last where the text ends too early.
+/// before it; it is the last line where no line feed ends that, and the one after the last where the text ends too
+/// early.
 #[derive(Clone, Copy, Debug, PartialEq, Eq)]
 pub struct BadText {
     pub line: u64,
@@ -26,24 +27,24 @@ impl Fault for BadText {}
 /// Reads a certificate from its text, in one pass.
 ///
 /// The text's lines are `numarun-certificate 1`, or `2` where weights count moves too; `row ID DEMAND` and offers
-/// `WEIGHT:LIST`, for each row; for a plan `hold ID LIST VALUE`, for each row in the same order, `price AMOUNT LIST`, any
-/// number of them, and `total N`, or `total N moves M` in version 2, with N below 2^48 and M below 2^16, for 2^16 times N
-/// and M more; for a shortage `short ID`, one or more, each naming a row after the one before; and `end`. A line feed ends
-/// each, one space stands between two words, and numbers have no leading zeros.
+/// `WEIGHT:LIST`, for each row; for a plan `hold ID LIST VALUE`, for each row in the same order, `price AMOUNT LIST`,
+/// any number of them, and `total N`, or `total N moves M` in version 2, with N below 2^48 and M below 2^16, for 2^16
+/// times N and M more; for a shortage `short ID`, one or more, each naming a row after the one before; and `end`. A
+/// line feed ends each, one space stands between two words, and numbers have no leading zeros.
 ///
 /// O(b + r log r) of b bytes and r rows.
 ///
 /// # Errors
-/// An allocation failure, and [`BadText`] where the text is no certificate's. The line at which it fails and those before it are
-/// in order, so the first bad line is told as such unless an allocation failed before it.
+/// An allocation failure, and [`BadText`] where the text is no certificate's. The line at which it fails and those
+/// before it are in order, so the first bad line is told as such unless an allocation failed before it.
 pub fn read_text(alloc: Global, text: &[u8]) -> Result<Certificate, OrMemory<BadText>>
     // A certificate is returned only if the text stands for it in the grammar.
     ensures ok { IfOk result (λ c. IsText text.now c) }
     // If the text stands for one it is returned, unless an allocation failed.
     ensures complete { (c : Certificate) → IsText text.now c → IsRead result c }
-    // Else the number of the first line that can't follow the lines before it. An allocation fails only at a line that can
-    // follow the lines before it, and that leaves something to keep. So the first line that can't follow is told as such,
-    // unless an allocation failed before it.
+    // Else the number of the first line that can't follow the lines before it. An allocation fails only at a line that
+    // can follow the lines before it, and that leaves something to keep. So the first line that can't follow is told as
+    // such, unless an allocation failed before it.
     ensures error { IfErr result (λ e. IsTextError text.now e) }
 {
     read_text_body(alloc, text)

@@ -6,7 +6,8 @@ ghost use Rattle.byte_output.specs.Output.{Writes};
 ghost use Rattle.certificate.specs.declared.certificates.Certificate.TheVariants.{Plan, Short};
 ghost use Rattle.certificate_text.specs.CertificateText.{CanBeText, IsText, hold_lines, id_at};
 ghost use Rattle.certificate_text.specs.Line.{HeaderLine, RowLine, HoldLine, PriceLine, TotalLine, ShortLine, EndLine};
-ghost use Rattle.certificate_text.specs.Written.{offer_text, line_text, text_of, CanWrite, IsHeld, IsOfferHeld, IsRowHeld, IsPriceHeld};
+ghost use Rattle.certificate_text.specs.Written.{offer_text, line_text, text_of, CanWrite, IsHeld, IsOfferHeld};
+ghost use Rattle.certificate_text.specs.Written.{IsRowHeld, IsPriceHeld};
 
 use crate::{Certificate, laws};
 use byte_output::{put, put_all, put_number};
@@ -49,7 +50,8 @@ fn put_row<W: Write>(row: &Row, w: &mut W) -> io::Result<()>
 }
 
 fn put_rows<W: Write>(rows: &[Row], w: &mut W) -> io::Result<()>
-    ensures written { Writes (W.contents w.old) (W.contents w.new) result (flat_map (λ row. line_text (RowLine row)) rows.now) }
+    ensures written { Writes (W.contents w.old) (W.contents w.new) result
+        (flat_map (λ row. line_text (RowLine row)) rows.now) }
     ensures held { OnOk result (All IsRowHeld rows.now) }
 {
     for row in rows {
@@ -71,7 +73,8 @@ fn put_hold<W: Write>(id: &[u8], cpus: &IdSet, value: u64, w: &mut W) -> io::Res
 fn put_holds<W: Write>(rows: &[Row], sets: &[IdSet], values: &[u64], w: &mut W) -> io::Result<()>
     requires sets { length sets.now ≡ length rows.now }
     requires values { length values.now ≡ length rows.now }
-    ensures written { Writes (W.contents w.old) (W.contents w.new) result (flat_map line_text (hold_lines rows.now sets.now values.now)) }
+    ensures written { Writes (W.contents w.old) (W.contents w.new) result
+        (flat_map line_text (hold_lines rows.now sets.now values.now)) }
     ensures held { OnOk result (All InRange sets.now × All (λ v. v < 2 ^ 64) values.now) }
 {
     for (k, row) in rows.iter().enumerate() {
@@ -92,7 +95,8 @@ fn put_price<W: Write>(price: &Price, w: &mut W) -> io::Result<()>
 }
 
 fn put_prices<W: Write>(prices: &PriceList, w: &mut W) -> io::Result<()>
-    ensures written { Writes (W.contents w.old) (W.contents w.new) result (flat_map (λ price. line_text (PriceLine price)) prices.now) }
+    ensures written { Writes (W.contents w.old) (W.contents w.new) result
+        (flat_map (λ price. line_text (PriceLine price)) prices.now) }
     ensures held { OnOk result (All IsPriceHeld prices.now) }
 {
     for at in 0..prices.len() {
@@ -124,7 +128,8 @@ fn put_members<W: Write>(rows: &[Row], members: &[usize], w: &mut W) -> io::Resu
 
 /// The total and the last line.
 fn put_total<W: Write>(total: u64, weights: Weights, w: &mut W) -> io::Result<()>
-    ensures { Writes (W.contents w.old) (W.contents w.new) result (line_text (TotalLine weights total) ++ line_text EndLine) }
+    ensures { Writes (W.contents w.old) (W.contents w.new) result (line_text (TotalLine weights total)
+        ++ line_text EndLine) }
 {
     match weights {
         Weights::Plain => put_number(b"total ", total, b"\nend\n", w),
@@ -165,7 +170,8 @@ fn write_plan<W: Write>(
 ) -> io::Result<()>
     requires sets { length sets.now ≡ length rows.now }
     requires values { length prices.now.values ≡ length rows.now }
-    ensures written { Writes (W.contents w.old) (W.contents w.new) result (text_of (Plan rows.now sets.now prices.now total weights)) }
+    ensures written { Writes (W.contents w.old) (W.contents w.new) result
+        (text_of (Plan rows.now sets.now prices.now total weights)) }
     ensures held { OnOk result (IsHeld (Plan rows.now sets.now prices.now total weights)) }
 {
     put_head(rows, weights, w)?;
@@ -181,7 +187,8 @@ fn write_shortage<W: Write>(
     w: &mut W,
 ) -> io::Result<()>
     requires { All (λ k. k < length rows.now) members.now }
-    ensures written { Writes (W.contents w.old) (W.contents w.new) result (text_of (Short rows.now members.now weights)) }
+    ensures written { Writes (W.contents w.old) (W.contents w.new) result
+        (text_of (Short rows.now members.now weights)) }
     ensures held { OnOk result (IsHeld (Short rows.now members.now weights)) }
 {
     put_head(rows, weights, w)?;

@@ -61,7 +61,8 @@ pub fn end_all<F: GroupFiles>(
     kernel: &ModelKernel,
     group: Group,
 ) -> io::Result<()>
-    ensures tries { Tries F.asked files.old (Written (root.now ++ (folder kernel.now.tree group ++ kill_file)) kill_line) result files.new }
+    ensures tries { Tries F.asked files.old (Written (root.now
+        ++ (folder kernel.now.tree group ++ kill_file)) kill_line) result files.new }
     ensures root { place_of kernel.now.tree group ≡ None → Asks F.asked files.old [] files.new }
 {
     if kernel.place(group).is_none() {
@@ -97,7 +98,8 @@ pub fn make_folder<F: GroupFiles>(
     ensures both { TriesBoth F.asked files.old
         (Written (root.now ++ (folder kernel.now.tree parent ++ controls_file)) controls_line)
         (Made (root.now ++ (folder kernel.now.tree parent ++ below name.now))) result files.new }
-    ensures path { IfOk result (λ path. string_bytes path ≡ root.now ++ (folder kernel.now.tree parent ++ below name.now)) }
+    ensures path { IfOk result (λ path. string_bytes path ≡ root.now
+        ++ (folder kernel.now.tree parent ++ below name.now)) }
 {
     let controls = path_of(alloc, root, kernel, parent, CONTROLS_FILE)?;
     let path = path_below(alloc, root, kernel, parent, name)?;

@@ -13,8 +13,8 @@ pub enum RootFault {
     Unread(ErrorKind),
     /// E115: its groups can't have cpusets of their own: `cgroup.controllers` is there and does not name `cpuset`.
     NoCpuset,
-    /// E116: what says its CPUs in effect is there and names others than those that are online, or a node in effect is none of
-    /// the machine's; so is what is no list.
+    /// E116: what says its CPUs in effect is there and names others than those that are online, or a node in effect is
+    /// none of the machine's; so is what is no list.
     OtherMachine,
 }
 

@@ -9,7 +9,8 @@ use std::io;
 /// What they hold is not said, since no contract can say what a file system does. What they were asked for is: which
 /// calls were made so far, the newest first, and which of them were refused.
 pub trait GroupFiles {
-    /// Whether these files may have been opened with folders of a run before, and the calls that may have been made of them so far.
+    /// Whether these files may have been opened with folders of a run before, and the calls that may have been made of
+    /// them so far.
     ghost asked: { Self → Bool → List Asked → Type 0 };
 
     /// Makes a folder.
@@ -38,7 +39,8 @@ pub trait GroupFiles {
     /// # Errors
     /// Those of the system; nothing was written.
     fn write_file(&mut self, path: &str, text: &[u8]) -> io::Result<()>
-        ensures { Asks asked self.old (record { deed = Written path.now text.now; done = is_made result } ∷ []) self.new };
+        ensures { Asks asked self.old (record { deed = Written path.now text.now; done = is_made result }
+            ∷ []) self.new };
 
     /// Looks whether the file of this path has this line, and tells the operator where it has not. Nothing is changed.
     fn compare_line(&mut self, path: &str, line: &[u8])

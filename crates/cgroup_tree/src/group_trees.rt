@@ -23,8 +23,8 @@ pub trait GroupTrees {
     /// The folders that other programs are kept from as long as these files live.
     ghost keeps: { Self.Files → List ℕ → Type 0 };
 
-    /// The files of a tree, of which nothing was asked yet, and which hold this lock. With `adopt` there may be folders already,
-    /// which a run before this made, and links to groups elsewhere.
+    /// The files of a tree, of which nothing was asked yet, and which hold this lock. With `adopt` there may be folders
+    /// already, which a run before this made, and links to groups elsewhere.
     fn files(self, lock: Self::Lock, adopt: bool) -> Self::Files
         ensures asked { Self.Files.asked result adopt [] }
         ensures keeps { (path : List ℕ) → locks lock path → keeps result path };

@@ -9,7 +9,8 @@ use std::rt::Files;
 use std::time::{Clock, Duration, Instant};
 use std::{fs, io, thread};
 
-/// How many seconds a group's folder may be found busy, as it is until its last process is gone, before that is a refusal.
+/// How many seconds a group's folder may be found busy, as it is until its last process is gone, before that is a
+/// refusal.
 const PATIENCE: u64 = 1;
 
 /// How many milliseconds are waited before a busy folder is tried again.
@@ -23,7 +24,8 @@ const CONTROLS: &str = "/cgroup.subtree_control";
 pub struct HostFiles<'a, R> {
     /// What gives access to them.
     pub rt: &'a R,
-    /// The tree's root, locked: other programs are kept from it as long as this is open. None where the system has no lock for it.
+    /// The tree's root, locked: other programs are kept from it as long as this is open. None where the system has no
+    /// lock for it.
     pub lock: Option<File>,
     /// Whether there may be folders already, which a run before this made, and links to groups elsewhere.
     pub adopt: bool,
@@ -66,8 +68,8 @@ impl<R: Files + Alloc + Clock + Eprint> HostFiles<'_, R> {
         }
     }
 
-    /// What is answered where a write failed: in a folder that is gone it counts as done, since a group that is not there has no
-    /// process.
+    /// What is answered where a write failed: in a folder that is gone it counts as done, since a group that is not
+    /// there has no process.
     fn unwritten(&self, path: &str, error: io::Error) -> io::Result<()> {
         self.note(path, &error);
         if self.is_gone(path) {
@@ -136,7 +138,8 @@ impl<R: Files + Alloc + Clock + Eprint> HostFiles<'_, R> {
     }
 }
 
-/// Writes the whole text at once, since the kernel takes each write for a whole value; again where a signal came before it.
+/// Writes the whole text at once, since the kernel takes each write for a whole value; again where a signal came before
+/// it.
 fn write_at_once<W: Write>(file: &mut W, text: &[u8]) -> io::Result<()> {
     for _ in 0..u64::MAX {
         match file.write(text) {

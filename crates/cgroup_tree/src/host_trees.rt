@@ -29,8 +29,8 @@ impl<'a, R> HostTrees<'a, R> {
 }
 
 impl<R: Files + Eprint> HostTrees<'_, R> {
-    /// Says on standard error that the system had no memory for a look at a path: the refusal does not tell that from an allocation
-    /// failure of the program's own.
+    /// Says on standard error that the system had no memory for a look at a path: the refusal does not tell that from
+    /// an allocation failure of the program's own.
     fn note_memory(&self, path: &str, error: &io::Error) {
         if error.kind() == ErrorKind::OutOfMemory && error.raw_os_error().is_some() {
             let _ = eprintln!(self.rt; "error: {}: {error}", Shown(path));
@@ -38,7 +38,8 @@ impl<R: Files + Eprint> HostTrees<'_, R> {
     }
 }
 
-/// The folder of this path, open and locked (flock(2)): until the file is closed, or its program has ended, no other has the lock.
+/// The folder of this path, open and locked (flock(2)): until the file is closed, or its program has ended, no other
+/// has the lock.
 fn open_locked<R: Files<File = File>>(rt: &R, path: &str) -> Result<File, TryLockError> {
     match fs::open(rt, path) {
         Ok(file) => {

@@ -7,8 +7,8 @@ ghost use Rattle.cgroup_tree.specs.Roots.{names_cpuset};
 ghost use Rattle.cgroup_tree.specs.Standing.{FoldersStand, PlainNamesApart, WritesStand, text_in};
 ghost use Rattle.cgroup_tree.specs.Stands.{PastsStand};
 
-/// If files do what they were asked for and nobody else writes, each group's files have what it requests. A write keeps it
-/// so, whether it is done or refused.
+/// If files do what they were asked for and nobody else writes, each group's files have what it requests. A write keeps
+/// it so, whether it is done or refused.
 pub fn writes()
     ensures { WritesStand }
 {}
@@ -28,18 +28,23 @@ pub fn pasts()
     ensures { PastsStand }
 {}
 
-/// Worked rows of docs/formats.md, "In a cgroup tree": folders of groups, texts of files after calls, and controllers, with the
-/// definitions evaluated.
+/// Worked rows of docs/formats.md, "In a cgroup tree": folders of groups, texts of files after calls, and controllers,
+/// with the definitions evaluated.
 #[tactic(auto, unfolding(crate::specs::Paths::folder_within, crate::specs::Standing::text_in))]
 pub fn worked()
     ensures of_the_root { folder small.tree root ≡ [] }
     ensures of_a_container { folder small.tree web ≡ codes "/numarun/web" }
-    ensures written { text_in (done (Written (codes "web/cpuset.cpus") (codes "1-3\n")) ∷ []) (codes "web/cpuset.cpus") ≡ Some (codes "1-3\n") }
-    ensures other_file { text_in (done (Written (codes "web/cpuset.cpus") (codes "1-3\n")) ∷ []) (codes "web/cpuset.mems") ≡ None }
-    ensures not_written { text_in (refused (Written (codes "web/cpuset.cpus") (codes "1-3\n")) ∷ []) (codes "web/cpuset.cpus") ≡ None }
-    ensures written_last { text_in (done (Written (codes "web/cpuset.cpus") (codes "2\n")) ∷ done (Written (codes "web/cpuset.cpus") (codes "1-3\n")) ∷ [])
+    ensures written { text_in (done (Written (codes "web/cpuset.cpus") (codes "1-3\n")) ∷ []) (codes "web/cpuset.cpus")
+        ≡ Some (codes "1-3\n") }
+    ensures other_file { text_in (done (Written (codes "web/cpuset.cpus") (codes "1-3\n"))
+        ∷ []) (codes "web/cpuset.mems") ≡ None }
+    ensures not_written { text_in (refused (Written (codes "web/cpuset.cpus") (codes "1-3\n"))
+        ∷ []) (codes "web/cpuset.cpus") ≡ None }
+    ensures written_last { text_in (done (Written (codes "web/cpuset.cpus") (codes "2\n"))
+        ∷ done (Written (codes "web/cpuset.cpus") (codes "1-3\n")) ∷ [])
         (codes "web/cpuset.cpus") ≡ Some (codes "2\n") }
-    ensures made_again { text_in (done (Made (codes "web")) ∷ done (Written (codes "web/cpuset.cpus") (codes "1-3\n")) ∷ [])
+    ensures made_again { text_in (done (Made (codes "web")) ∷ done (Written (codes "web/cpuset.cpus") (codes "1-3\n"))
+        ∷ [])
         (codes "web/cpuset.cpus") ≡ None }
     ensures has_cpusets { names_cpuset (codes "cpu cpuset io\n") ≡ true }
     ensures has_none { names_cpuset (codes "cpu cpusets io\n") ≡ false }

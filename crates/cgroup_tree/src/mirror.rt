@@ -2,10 +2,12 @@ ghost use Rattle.std.specs.Prelude.{◌≡◌, ◌+◌, ◌++◌, [], None, stri
 ghost use Rattle.cpuset_tree.specs.Effective.{granted};
 ghost use Rattle.cpuset_tree.specs.Places.{place_of};
 ghost use Rattle.kernel_model.specs.declared.KernelFault.TheVariants.{Failed};
-ghost use Rattle.kernel_model.specs.Cases.{MakesGroup, RemovesGroup, WritesCpus, WritesMems, Spawns, EndsGroup, Forks, Exits, GoesOffline, ComesOnline};
+ghost use Rattle.kernel_model.specs.Cases.{MakesGroup, RemovesGroup, WritesCpus, WritesMems, Spawns, EndsGroup, Forks};
+ghost use Rattle.kernel_model.specs.Cases.{Exits, GoesOffline, ComesOnline};
 ghost use Rattle.cgroup_tree.specs.Asked.{Asks, Made, Removed, Unmade, Written};
 ghost use Rattle.cgroup_tree.specs.Mirrored.{mirrored, Mirrors, MirrorsBoth, IsNamed};
-ghost use Rattle.cgroup_tree.specs.Paths.{folder, below, list_line, cpus_file, mems_file, kill_file, controls_file, kill_line, controls_line};
+ghost use Rattle.cgroup_tree.specs.Paths.{folder, below, list_line, cpus_file, mems_file, kill_file, controls_file};
+ghost use Rattle.cgroup_tree.specs.Paths.{kill_line, controls_line};
 
 use crate::GroupFiles;
 use crate::asking::{compare_list, end_all, make_folder, remove_folder, with_memory, write_list};
@@ -76,13 +78,16 @@ impl<F: GroupFiles> Mirror<F> {
         KernelFault::Failed
     }
 
-    /// Makes a group, once the files have made its folder; that is removed again where its allocation in the model fails.
+    /// Makes a group, once the files have made its folder; that is removed again where its allocation in the model
+    /// fails.
     pub fn make_group(&mut self, parent: Group, name: &str) -> Result<Group, OrMemory<KernelFault>>
-        ensures case { MakesGroup (mirrored self.old.failed.writes self.old.inner) parent name.now result (mirrored self.new.failed.writes self.new.inner) }
+        ensures case { MakesGroup (mirrored self.old.failed.writes self.old.inner) parent name.now result
+            (mirrored self.new.failed.writes self.new.inner) }
         ensures asks { MirrorsBoth F.asked self.old.files
             (Written (string_bytes self.old.root ++ (folder self.old.inner.tree parent ++ controls_file)) controls_line)
             (Made (string_bytes self.old.root ++ (folder self.old.inner.tree parent ++ below name.now)))
-            (Unmade (string_bytes self.old.root ++ (folder self.old.inner.tree parent ++ below name.now))) result self.new.files }
+            (Unmade (string_bytes self.old.root ++ (folder self.old.inner.tree parent ++ below name.now))) result
+            self.new.files }
         ensures same { (self.new.root ≡ self.old.root) × (self.new.memory ≡ self.old.memory) }
         ensures named { IsNamed name.now result }
     {
@@ -105,7 +110,8 @@ impl<F: GroupFiles> Mirror<F> {
 
     /// Removes a group, once the files have removed its folder.
     pub fn remove_group(&mut self, group: Group) -> Result<(), KernelFault>
-        ensures case { RemovesGroup (mirrored self.old.failed.writes self.old.inner) group result (mirrored self.new.failed.writes self.new.inner) }
+        ensures case { RemovesGroup (mirrored self.old.failed.writes self.old.inner) group result
+            (mirrored self.new.failed.writes self.new.inner) }
         ensures asks { Mirrors F.asked self.old.files
             (Removed (string_bytes self.old.root ++ (folder self.old.inner.tree group ++ []))) result self.new.files }
         ensures same { (self.new.root ≡ self.old.root) × (self.new.memory ≡ self.old.memory) }
@@ -121,9 +127,11 @@ impl<F: GroupFiles> Mirror<F> {
 
     /// Writes what a group requests of CPUs, and looks whether it has them in effect.
     pub fn write_cpus(&mut self, group: Group, cpus: IdSet) -> Result<(), KernelFault>
-        ensures case { WritesCpus (mirrored self.old.failed.writes self.old.inner) group cpus result (mirrored self.new.failed.writes self.new.inner) }
+        ensures case { WritesCpus (mirrored self.old.failed.writes self.old.inner) group cpus result
+            (mirrored self.new.failed.writes self.new.inner) }
         ensures asks { Mirrors F.asked self.old.files
-            (Written (string_bytes self.old.root ++ (folder self.old.inner.tree group ++ cpus_file)) (list_line cpus)) result self.new.files }
+            (Written (string_bytes self.old.root
+            ++ (folder self.old.inner.tree group ++ cpus_file)) (list_line cpus)) result self.new.files }
         ensures same { (self.new.root ≡ self.old.root) × (self.new.memory ≡ self.old.memory) }
     {
         let (root, kernel) = (self.root.as_str(), &self.inner);
@@ -159,9 +167,12 @@ impl<F: GroupFiles> Mirror<F> {
 
     /// Writes what a group requests of nodes, of which the files get those that have memory.
     pub fn write_mems(&mut self, group: Group, mems: IdSet) -> Result<(), KernelFault>
-        ensures case { WritesMems (mirrored self.old.failed.writes self.old.inner) group mems result (mirrored self.new.failed.writes self.new.inner) }
+        ensures case { WritesMems (mirrored self.old.failed.writes self.old.inner) group mems result
+            (mirrored self.new.failed.writes self.new.inner) }
         ensures asks { Mirrors F.asked self.old.files
-            (Written (string_bytes self.old.root ++ (folder self.old.inner.tree group ++ mems_file)) (list_line (granted mems self.old.memory))) result self.new.files }
+            (Written (string_bytes self.old.root
+            ++ (folder self.old.inner.tree group ++ mems_file)) (list_line (granted mems self.old.memory))) result
+            self.new.files }
         ensures same { (self.new.root ≡ self.old.root) × (self.new.memory ≡ self.old.memory) }
     {
         let (root, kernel) = (self.root.as_str(), &self.inner);
@@ -183,17 +194,21 @@ impl<F: GroupFiles> Mirror<F> {
 
     /// A first process, of which nothing is asked.
     pub fn spawn(&mut self, group: Group) -> Result<u32, OrMemory<KernelFault>>
-        ensures case { Spawns (mirrored self.old.failed.writes self.old.inner) group result (mirrored self.new.failed.writes self.new.inner) }
-        ensures same { (self.new.root ≡ self.old.root) × (self.new.memory ≡ self.old.memory) × (self.new.files ≡ self.old.files) }
+        ensures case { Spawns (mirrored self.old.failed.writes self.old.inner) group result
+            (mirrored self.new.failed.writes self.new.inner) }
+        ensures same { (self.new.root ≡ self.old.root) × (self.new.memory ≡ self.old.memory)
+            × (self.new.files ≡ self.old.files) }
     {
         self.inner.spawn(group)
     }
 
     /// Ends a group's processes. Those of the root are left: its folder has no file for that.
     pub fn end_group(&mut self, group: Group) -> Result<(), KernelFault>
-        ensures case { EndsGroup (mirrored self.old.failed.writes self.old.inner) group result (mirrored self.new.failed.writes self.new.inner) }
+        ensures case { EndsGroup (mirrored self.old.failed.writes self.old.inner) group result
+            (mirrored self.new.failed.writes self.new.inner) }
         ensures asks { Mirrors F.asked self.old.files
-            (Written (string_bytes self.old.root ++ (folder self.old.inner.tree group ++ kill_file)) kill_line) result self.new.files }
+            (Written (string_bytes self.old.root
+            ++ (folder self.old.inner.tree group ++ kill_file)) kill_line) result self.new.files }
         ensures same { (self.new.root ≡ self.old.root) × (self.new.memory ≡ self.old.memory) }
         ensures root { place_of self.old.inner.tree group ≡ None → Asks F.asked self.old.files [] self.new.files }
     {
@@ -209,32 +224,40 @@ impl<F: GroupFiles> Mirror<F> {
 
     /// A process forks; nothing is asked.
     pub fn fork(&mut self, parent: u32) -> Result<u32, OrMemory<KernelFault>>
-        ensures case { Forks (mirrored self.old.failed.writes self.old.inner) parent result (mirrored self.new.failed.writes self.new.inner) }
-        ensures same { (self.new.root ≡ self.old.root) × (self.new.memory ≡ self.old.memory) × (self.new.files ≡ self.old.files) }
+        ensures case { Forks (mirrored self.old.failed.writes self.old.inner) parent result
+            (mirrored self.new.failed.writes self.new.inner) }
+        ensures same { (self.new.root ≡ self.old.root) × (self.new.memory ≡ self.old.memory)
+            × (self.new.files ≡ self.old.files) }
     {
         self.inner.fork(parent)
     }
 
     /// A process ends; nothing is asked.
     pub fn exit(&mut self, pid: u32) -> Result<(), KernelFault>
-        ensures case { Exits (mirrored self.old.failed.writes self.old.inner) pid result (mirrored self.new.failed.writes self.new.inner) }
-        ensures same { (self.new.root ≡ self.old.root) × (self.new.memory ≡ self.old.memory) × (self.new.files ≡ self.old.files) }
+        ensures case { Exits (mirrored self.old.failed.writes self.old.inner) pid result
+            (mirrored self.new.failed.writes self.new.inner) }
+        ensures same { (self.new.root ≡ self.old.root) × (self.new.memory ≡ self.old.memory)
+            × (self.new.files ≡ self.old.files) }
     {
         self.inner.exit(pid)
     }
 
     /// A CPU goes offline; nothing is asked.
     pub fn offline(&mut self, cpu: u32) -> Result<(), KernelFault>
-        ensures case { GoesOffline (mirrored self.old.failed.writes self.old.inner) cpu result (mirrored self.new.failed.writes self.new.inner) }
-        ensures same { (self.new.root ≡ self.old.root) × (self.new.memory ≡ self.old.memory) × (self.new.files ≡ self.old.files) }
+        ensures case { GoesOffline (mirrored self.old.failed.writes self.old.inner) cpu result
+            (mirrored self.new.failed.writes self.new.inner) }
+        ensures same { (self.new.root ≡ self.old.root) × (self.new.memory ≡ self.old.memory)
+            × (self.new.files ≡ self.old.files) }
     {
         self.inner.offline(cpu)
     }
 
     /// A CPU comes online; nothing is asked.
     pub fn online_cpu(&mut self, cpu: u32) -> Result<(), KernelFault>
-        ensures case { ComesOnline (mirrored self.old.failed.writes self.old.inner) cpu result (mirrored self.new.failed.writes self.new.inner) }
-        ensures same { (self.new.root ≡ self.old.root) × (self.new.memory ≡ self.old.memory) × (self.new.files ≡ self.old.files) }
+        ensures case { ComesOnline (mirrored self.old.failed.writes self.old.inner) cpu result
+            (mirrored self.new.failed.writes self.new.inner) }
+        ensures same { (self.new.root ≡ self.old.root) × (self.new.memory ≡ self.old.memory)
+            × (self.new.files ≡ self.old.files) }
     {
         self.inner.online_cpu(cpu)
     }

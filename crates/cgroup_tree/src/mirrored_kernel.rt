@@ -6,7 +6,8 @@ ghost use Rattle.cgroup_tree.specs.Events.{IsMirrored};
 ghost use Rattle.cgroup_tree.specs.Site.{Begins};
 ghost use Rattle.cgroup_tree.specs.Stands.{FilesStand};
 ghost use Rattle.cgroup_tree.specs.Mirrored.{mirrored, Mirrors, MirrorsBoth, IsNamed};
-ghost use Rattle.cgroup_tree.specs.Paths.{folder, below, list_line, cpus_file, mems_file, kill_file, controls_file, kill_line, controls_line};
+ghost use Rattle.cgroup_tree.specs.Paths.{folder, below, list_line, cpus_file, mems_file, kill_file, controls_file};
+ghost use Rattle.cgroup_tree.specs.Paths.{kill_line, controls_line};
 
 use crate::mirror::Mirror;
 use crate::{GroupFiles, Sited};
@@ -19,12 +20,12 @@ use std::marker::{Model, PhantomData};
 /// A modelled kernel whose writes are made in a cgroup v2 tree first.
 ///
 /// A write that the model would refuse is asked of nobody. Each other is asked for once, and where that is refused, or
-/// an allocation failed before it, the call is a write that failed: the model is as it was. A first process is made in the model
-/// alone.
+/// an allocation failed before it, the call is a write that failed: the model is as it was. A first process is made in
+/// the model alone.
 ///
 /// At each time all that was asked of the files is what the calls of this kernel stand for, in their order, from its
-/// beginning on; and where files do what they answer and nobody else writes, each group's files have what it requests. Its
-/// root, its nodes with memory, how its files were opened and how it began are those that `S` stands for.
+/// beginning on; and where files do what they answer and nobody else writes, each group's files have what it requests.
+/// Its root, its nodes with memory, how its files were opened and how it began are those that `S` stands for.
 #[derive(Drop)]
 pub struct MirroredKernel<F: GroupFiles, S: Sited> {
     mirror: Mirror<F>,
@@ -50,7 +51,9 @@ impl<F: GroupFiles, S: Sited> Model for MirroredKernel<F, S> {
       files = k.mirror.files;
     } };
 
-    ghost invariant = { λ k. IsMirroredAt F.asked S.site (string_bytes k.mirror.root) k.mirror.memory (mirrored k.mirror.failed.writes k.mirror.inner) k.mirror.files };
+    ghost invariant
+        = { λ k. IsMirroredAt F.asked S.site (string_bytes k.mirror.root) k.mirror.memory
+        (mirrored k.mirror.failed.writes k.mirror.inner) k.mirror.files };
 }
 
 impl<F: GroupFiles, S: Sited> MirroredKernel<F, S> {
@@ -100,7 +103,8 @@ impl<F: GroupFiles, S: Sited> Kernel for MirroredKernel<F, S> {
     ghost state = { λ k. mirrored k.failed k.inner };
 
     fn make_group(&mut self, parent: Group, name: &str) -> Result<Group, OrMemory<KernelFault>>
-        ensures case { MakesGroup (mirrored self.old.failed self.old.inner) parent name.now result (mirrored self.new.failed self.new.inner) }
+        ensures case { MakesGroup (mirrored self.old.failed self.old.inner) parent name.now result
+            (mirrored self.new.failed self.new.inner) }
         ensures asks { MirrorsBoth F.asked self.old.files
             (Written (self.old.root ++ (folder self.old.inner.tree parent ++ controls_file)) controls_line)
             (Made (self.old.root ++ (folder self.old.inner.tree parent ++ below name.now)))
@@ -111,7 +115,8 @@ impl<F: GroupFiles, S: Sited> Kernel for MirroredKernel<F, S> {
     }
 
     fn remove_group(&mut self, group: Group) -> Result<(), KernelFault>
-        ensures case { RemovesGroup (mirrored self.old.failed self.old.inner) group result (mirrored self.new.failed self.new.inner) }
+        ensures case { RemovesGroup (mirrored self.old.failed self.old.inner) group result
+            (mirrored self.new.failed self.new.inner) }
         ensures asks { Mirrors F.asked self.old.files
             (Removed (self.old.root ++ (folder self.old.inner.tree group ++ []))) result self.new.files }
     {
@@ -119,17 +124,21 @@ impl<F: GroupFiles, S: Sited> Kernel for MirroredKernel<F, S> {
     }
 
     fn write_cpus(&mut self, group: Group, cpus: IdSet) -> Result<(), KernelFault>
-        ensures case { WritesCpus (mirrored self.old.failed self.old.inner) group cpus result (mirrored self.new.failed self.new.inner) }
+        ensures case { WritesCpus (mirrored self.old.failed self.old.inner) group cpus result
+            (mirrored self.new.failed self.new.inner) }
         ensures asks { Mirrors F.asked self.old.files
-            (Written (self.old.root ++ (folder self.old.inner.tree group ++ cpus_file)) (list_line cpus)) result self.new.files }
+            (Written (self.old.root ++ (folder self.old.inner.tree group ++ cpus_file)) (list_line cpus)) result
+            self.new.files }
     {
         self.mirror.write_cpus(group, cpus)
     }
 
     fn write_mems(&mut self, group: Group, mems: IdSet) -> Result<(), KernelFault>
-        ensures case { WritesMems (mirrored self.old.failed self.old.inner) group mems result (mirrored self.new.failed self.new.inner) }
+        ensures case { WritesMems (mirrored self.old.failed self.old.inner) group mems result
+            (mirrored self.new.failed self.new.inner) }
         ensures asks { Mirrors F.asked self.old.files
-            (Written (self.old.root ++ (folder self.old.inner.tree group ++ mems_file)) (list_line (granted mems self.old.memory))) result self.new.files }
+            (Written (self.old.root ++ (folder self.old.inner.tree group
+            ++ mems_file)) (list_line (granted mems self.old.memory))) result self.new.files }
     {
         self.mirror.write_mems(group, mems)
     }
@@ -140,9 +149,11 @@ impl<F: GroupFiles, S: Sited> Kernel for MirroredKernel<F, S> {
 
     /// The root's processes are not ended: its folder has no file for that.
     fn end_group(&mut self, group: Group) -> Result<(), KernelFault>
-        ensures case { EndsGroup (mirrored self.old.failed self.old.inner) group result (mirrored self.new.failed self.new.inner) }
+        ensures case { EndsGroup (mirrored self.old.failed self.old.inner) group result
+            (mirrored self.new.failed self.new.inner) }
         ensures asks { Mirrors F.asked self.old.files
-            (Written (self.old.root ++ (folder self.old.inner.tree group ++ kill_file)) kill_line) result self.new.files }
+            (Written (self.old.root ++ (folder self.old.inner.tree group ++ kill_file)) kill_line) result
+            self.new.files }
     {
         self.mirror.end_group(group)
     }

@@ -1,9 +1,11 @@
 //! A tree is opened, and what its root has to be before that.
-ghost use Rattle.std.specs.Prelude.{◌≡◌, ◌≢◌, ◌++◌, ◌↔◌, [], IfOk, IsTrue, MatchOption, MatchResult, None, option_map, string_bytes, true};
+ghost use Rattle.std.specs.Prelude.{◌≡◌, ◌≢◌, ◌++◌, ◌↔◌, [], IfOk, IsTrue, MatchOption, MatchResult, None, option_map};
+ghost use Rattle.std.specs.Prelude.{string_bytes, true};
 ghost use Rattle.std.specs.FinSet as set;
 ghost use Rattle.cpu_set.specs.Ids.{Ids};
 ghost use Rattle.cpu_list.specs.FirstFault.{first_fault};
-ghost use Rattle.cgroup_tree.specs.Roots.{AnswersRoot, CantRead, Has, IsListOf, LooksAtControllers, LooksAtCpus, LooksAtFolder, LooksAtLock, LooksAtMachine, LooksAtMems, names_cpuset};
+ghost use Rattle.cgroup_tree.specs.Roots.{AnswersRoot, CantRead, Has, IsListOf, LooksAtControllers, LooksAtCpus};
+ghost use Rattle.cgroup_tree.specs.Roots.{LooksAtFolder, LooksAtLock, LooksAtMachine, LooksAtMems, names_cpuset};
 
 use crate::{Difference, GroupTrees, RootFault};
 use cpu_set::{CPU_LIMIT, IdSet};
@@ -34,9 +36,9 @@ pub struct OpenTree<F> {
     pub files: F,
 }
 
-/// The tree of this root, for a machine whose online CPUs and whose nodes are these. With `adopt` folders of a run before may
-/// be there, and each is named to the operator. Nothing was asked of its files, which keep other programs from the root as long
-/// as they live.
+/// The tree of this root, for a machine whose online CPUs and whose nodes are these. With `adopt` folders of a run
+/// before may be there, and each is named to the operator. Nothing was asked of its files, which keep other programs
+/// from the root as long as they live.
 ///
 /// # Errors
 /// In this order: [`RootFault::Unread`] where the root is no folder, [`RootFault::Taken`], [`RootFault::NoCpuset`],
@@ -50,8 +52,8 @@ pub fn open_tree<T: GroupTrees + Drop>(
     adopt: bool,
 ) -> Result<OpenTree<T::Files>, RootFault>
     // It answers the nodes that have memory, or the first look at the root that is against it (`AnswersRoot`). The five
-    // looks are whether it is a folder, whether another program has it, its controllers, its CPUs in effect and its nodes
-    // in effect.
+    // looks are whether it is a folder, whether another program has it, its controllers, its CPUs in effect and its
+    // nodes in effect.
     ensures answers { MatchResult result
         (λ tree. AnswersRoot (T.finds trees) root.now online.now nodes.now (Ok tree.memory))
         (λ why. AnswersRoot (T.finds trees) root.now online.now nodes.now (Err why)) }
@@ -75,8 +77,9 @@ pub fn open_tree<T: GroupTrees + Drop>(
     })
 }
 
-/// The nodes that have memory, of a machine whose online CPUs and whose nodes are these: those in effect at a root that is had,
-/// or all of them where that is not told. With `adopt` each folder that is there already is named to the operator.
+/// The nodes that have memory, of a machine whose online CPUs and whose nodes are these: those in effect at a root that
+/// is had, or all of them where that is not told. With `adopt` each folder that is there already is named to the
+/// operator.
 fn memory_of<T: GroupTrees>(
     alloc: Global,
     trees: &T,
@@ -186,8 +189,8 @@ fn look_at_mems<T: GroupTrees>(
     }
 }
 
-/// Tells the operator by what a file's text makes its root another machine's, where no allocation for that fails: which numbers it
-/// lacks of the least that it has to have, and which it has besides the most; or that it is no list.
+/// Tells the operator by what a file's text makes its root another machine's, where no allocation for that fails: which
+/// numbers it lacks of the least that it has to have, and which it has besides the most; or that it is no list.
 fn tell_others<T: GroupTrees>(
     alloc: Global,
     trees: &T,

@@ -40,8 +40,8 @@ pub fn answer_of<T: Answer, S: Source>(alloc: Global, source: S) -> Result<T, Re
     }
 }
 
-/// Prints the answer to the input that is called so, and beside a refused reading why it was; the status is 0, or 1 for a
-/// refusal and for an answer that can't be written.
+/// Prints the answer to the input that is called so, and beside a refused reading why it was; the status is 0, or 1 for
+/// a refusal and for an answer that can't be written.
 pub fn print_answer<T: Printed, W: Write, E: Write>(
     answer: &Result<T, Refusal>,
     name: &str,

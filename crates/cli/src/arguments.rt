@@ -18,7 +18,8 @@ const NO_TEXT: &str = "error: the words of the command line are not UTF-8\n";
 
 /// Runs the program on its arguments, of which the first is its name; the exit status.
 ///
-/// The status is 1 where an allocation for the words failed, and 2 where they are no text; beyond that see [`run_program`].
+/// The status is 1 where an allocation for the words failed, and 2 where they are no text; beyond that see
+/// [`run_program`].
 pub fn start<G: Grammar, F: Opens, T: GroupTrees + Drop, R: Read + Input, W: Write, E: Write>(
     alloc: Global,
     grammar: &G,
@@ -32,7 +33,8 @@ pub fn start<G: Grammar, F: Opens, T: GroupTrees + Drop, R: Read + Input, W: Wri
     ensures { MatchResult arguments
         (λ given. Runs W.contents E.contents console.old console.new result (G.fails grammar.now) (G.lacks grammar.now)
         (Does W.contents E.contents console.old console.new result (F.opens files.now) (F.fails files.now) F.File.gives
-        T.Files.asked (T.finds trees) (IsConfigIn F.opens F.fails F.File.gives) (R.Input.gives input) (R.Read.remaining input)) (map string_bytes (drop 1 given.items)))
+        T.Files.asked (T.finds trees) (IsConfigIn F.opens F.fails F.File.gives) (R.Input.gives input)
+        (R.Read.remaining input)) (map string_bytes (drop 1 given.items)))
         (Stops W.contents E.contents console.old console.new result) }
 {
     match arguments {

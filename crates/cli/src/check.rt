@@ -20,18 +20,19 @@ use std::alloc::Global;
 use std::io;
 use std::io::Write;
 
-/// Checks the certificate in the source that is called so, and prints what the check finds as one line. That is `plan total
-/// N`, or `plan total N moves M` if weights count moves, or `short demand N cpus M`, or why the certificate is refused. The
-/// status is 0, or 1 for a refusal and for a line that can't be written.
+/// Checks the certificate in the source that is called so, and prints what the check finds as one line. That is `plan
+/// total N`, or `plan total N moves M` if weights count moves, or `short demand N cpus M`, or why the certificate is
+/// refused. The status is 0, or 1 for a refusal and for a line that can't be written.
 pub fn do_check<S: Source, W: Write, E: Write>(
     alloc: Global,
     source: S,
     name: &str,
     console: &mut Console<W, E>,
 ) -> u8
-    // It tells the verdict of the bytes, or their refusal (`Checks`, `IsAnswerTo`). An allocation failure is told only if
-    // the reading answered it, or if `certificate_text` may (`AsksForMemory`).
-    ensures { Checks W.contents E.contents console.old console.new result (Reads S.opens S.fails S.Input.gives source) name.now }
+    // It tells the verdict of the bytes, or their refusal (`Checks`, `IsAnswerTo`). An allocation failure is told only
+    // if the reading answered it, or if `certificate_text` may (`AsksForMemory`).
+    ensures { Checks W.contents E.contents console.old console.new result (Reads S.opens S.fails S.Input.gives source)
+        name.now }
 {
     let answer: Result<Verdict, Refusal> = answer_of(alloc, source);
     print_answer(&answer, name, console)
@@ -46,7 +47,8 @@ pub fn check_named<F: Opens, I: Input, W: Write, E: Write>(
     console: &mut Console<W, E>,
 ) -> u8
     ensures { Checks W.contents E.contents console.old console.new result
-        (reads_named (Reads (F.opens files.now) (F.fails files.now) F.File.gives) (I.gives input) name.now) (shown name.now) }
+        (reads_named (Reads (F.opens files.now) (F.fails files.now) F.File.gives) (I.gives input) name.now)
+        (shown name.now) }
 {
     if name == "-" {
         do_check(alloc, Opened(input), STANDARD_INPUT, console)

@@ -1,9 +1,11 @@
 //! What numarun can be told, in the builder's terms.
 ghost use Rattle.std.specs.Prelude.{◌≡◌, ◌⊎◌, ⊤, IfOk, codes, false, map, string_bytes};
-ghost use Rattle.clap.specs.Words.{FailsBy, IsAmong, app_of, fault_of, kind_of, rule_of, subcommand_of, subcommand_rows_of};
+ghost use Rattle.clap.specs.Words.{FailsBy, IsAmong, app_of, fault_of, kind_of, rule_of, subcommand_of};
+ghost use Rattle.clap.specs.Words.{subcommand_rows_of};
 ghost use Rattle.clap.specs.declared.error.kind.ErrorKind.TheVariants.{MissingRequiredArgument, OutOfMemory};
 ghost use Rattle.cli.specs.Asked.{asked_in};
-ghost use Rattle.cli.specs.CommandLine.{IsLeaf, bare, check_command, flag, list_command, numarun, option, required, run_command, slit_command, solve_command};
+ghost use Rattle.cli.specs.CommandLine.{IsLeaf, bare, check_command, flag, list_command, numarun, option, required};
+ghost use Rattle.cli.specs.CommandLine.{run_command, slit_command, solve_command};
 ghost use Rattle.cli.specs.Mistakes.{lacks_root, refusals};
 
 use crate::words::{Grammar, Words, asked_words};
@@ -215,7 +217,8 @@ fn command_line<'a>(alloc: Global) -> Result<Command<'a>, AllocError>
 
 /// The matches of the words, by clap's rules alone.
 fn matched<'a>(alloc: Global, words: &'a [String]) -> Result<ArgMatches<'a>, Error>
-    ensures matches { IfOk result (λ m. subcommand_rows_of m ≡ subcommand_of numarun (map string_bytes words.entry.now)) }
+    ensures matches { IfOk result (λ m. subcommand_rows_of m
+        ≡ subcommand_of numarun (map string_bytes words.entry.now)) }
     ensures kinds { FailsBy (fault_of numarun (map string_bytes words.entry.now)) result }
 {
     command_line(alloc)?.try_get_matches_from(words)

@@ -22,8 +22,8 @@ use std::io;
 use std::io::Write;
 
 /// Prints the distance table in the source that is called so. It is a line `localities N`, and then for each locality a
-/// line of its distances to all of them; or why the bytes are no table. The status is 0, or 1 for a refusal and for lines
-/// that can't be written.
+/// line of its distances to all of them; or why the bytes are no table. The status is 0, or 1 for a refusal and for
+/// lines that can't be written.
 pub fn do_slit<S: Source, W: Write, E: Write>(
     alloc: Global,
     source: S,
@@ -32,7 +32,8 @@ pub fn do_slit<S: Source, W: Write, E: Write>(
 ) -> u8
     // It tells the table of the bytes, or their first fault (`Tabulates`, `IsTableOrRefusal`). An allocation failure is
     // told only if the reading answered it, or if the bytes have no fault.
-    ensures { Tabulates W.contents E.contents console.old console.new result (Reads S.opens S.fails S.Input.gives source) name.now }
+    ensures { Tabulates W.contents E.contents console.old console.new result
+        (Reads S.opens S.fails S.Input.gives source) name.now }
 {
     let answer: Result<Slit, Refusal> = answer_of(alloc, source);
     print_answer(&answer, name, console)
@@ -47,7 +48,8 @@ pub fn slit_named<F: Opens, I: Input, W: Write, E: Write>(
     console: &mut Console<W, E>,
 ) -> u8
     ensures { Tabulates W.contents E.contents console.old console.new result
-        (reads_named (Reads (F.opens files.now) (F.fails files.now) F.File.gives) (I.gives input) name.now) (shown name.now) }
+        (reads_named (Reads (F.opens files.now) (F.fails files.now) F.File.gives) (I.gives input) name.now)
+        (shown name.now) }
 {
     if name == "-" {
         do_slit(alloc, Opened(input), STANDARD_INPUT, console)

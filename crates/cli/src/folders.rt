@@ -44,9 +44,11 @@ impl<F: Opens> Bundles for Folders<'_, F> {
 
     fn config(&mut self, bundle: &str) -> Result<Option<Vec<u8>>, AllocError>
         ensures found { IfOk result (λ found. IsFound None bundle.now (option_map (λ config. config.items) found)) }
-        ensures seen { IfOk result (λ found. IsConfigIn F.opens F.fails F.File.gives bundle.now (option_map (λ config. config.items) found)) }
+        ensures seen { IfOk result (λ found. IsConfigIn F.opens F.fails F.File.gives bundle.now
+            (option_map (λ config. config.items) found)) }
         ensures same { self.new.files.now ≡ self.old.files.now }
-        ensures config { IfOk result (λ found. IsConfigOf (F.opens self.old.files.now) (F.fails self.old.files.now) F.File.gives
+        ensures config { IfOk result (λ found. IsConfigOf (F.opens self.old.files.now) (F.fails self.old.files.now)
+            F.File.gives
             bundle.now (option_map (λ config. config.items) found)) }
     {
         let path = path_in(self.alloc, bundle)?;

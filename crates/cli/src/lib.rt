@@ -3,16 +3,17 @@
 //!
 //! # Proved
 //!
-//! - If the status is not the answer's, it is 1, and what was taken of the answer is a prefix of it. Standard error's page
-//!   has then taken the line that says so, whole if it has room for it, as an empty page has.
+//! - If the status is not the answer's, it is 1, and what was taken of the answer is a prefix of it. Standard error's
+//!   page has then taken the line that says so, whole if it has room for it, as an empty page has.
 //! - What an input's opening and reading may answer is a relation of the trait that it comes by (`Opens`, `Source`,
-//!   `Input`). The contracts take that relation as it is. So a body can't tell a fault that the opening or the reading did
-//!   not answer.
-//! - `Folders` reads as the config of a bundle the file `BUNDLE/config.json` and no other (`IsConfigOf`). By that `start`
-//!   says with which bytes each `create`, `adopt` and `update` of a script calls the node. They are those that may be read
-//!   of the file of this name in the BUNDLE that the line names (`Scripts` and `ScriptsMirrored` by `IsConfigIn`). Or there is no such
-//!   file, or none that can be read.
-//! - No clause says what standard error gets of a config that is no JSON. The refusal, and what changes, are as without it.
+//!   `Input`). The contracts take that relation as it is. So a body can't tell a fault that the opening or the reading
+//!   did not answer.
+//! - `Folders` reads as the config of a bundle the file `BUNDLE/config.json` and no other (`IsConfigOf`). By that
+//!   `start` says with which bytes each `create`, `adopt` and `update` of a script calls the node. They are those that
+//!   may be read of the file of this name in the BUNDLE that the line names (`Scripts` and `ScriptsMirrored` by
+//!   `IsConfigIn`). Or there is no such file, or none that can be read.
+//! - No clause says what standard error gets of a config that is no JSON. The refusal, and what changes, are as without
+//!   it.
 //! - The laws `check_spellings` and so on are plain spellings of each command, each with what it asks for and without a
 //!   mistake.
 #![tactic(auto)]

@@ -32,8 +32,8 @@ pub struct Root<'a> {
     pub adopt: bool,
 }
 
-/// Runs a script as [`do_run`](crate::do_run) does, and makes each kernel write below this root too; or prints why one of
-/// the files or the root is refused. No number of reads is too many.
+/// Runs a script as [`do_run`](crate::do_run) does, and makes each kernel write below this root too; or prints why one
+/// of the files or the root is refused. No number of reads is too many.
 pub fn do_run_mirrored<F: Opens, T: GroupTrees + Drop, B: Bundles + Drop, R: Read, W: Write, E: Write>(
     alloc: Global,
     machine: &str,
@@ -46,13 +46,14 @@ pub fn do_run_mirrored<F: Opens, T: GroupTrees + Drop, B: Bundles + Drop, R: Rea
     console: &mut Console<W, E>,
 ) -> u8
     // It is the same as `do_run` in a cgroup tree, by 2^64 - 1 reads. Or it refuses its root, by what was found of it
-    // (`IsNotRooted`), or the node's group can't be made there (`ScriptsMirroredAt`). At the end of a script its node is mirrored
-    // (`PlaysMirrored`), as `runtime` says it. Its place is below ROOT, in files opened with `--adopt` or without, with the nodes
-    // that were found to have memory. `start`, which the program calls, says the same. It takes the one value that gives
-    // access to trees and opens its files once: the program is handed one. What the notes of the system's refusals are on
-    // standard error it does not say: they go past its page. Nor does any clause say which folders of a run before it names
-    // to the operator.
-    ensures { ScriptsMirrored W.contents E.contents console.old console.new result (F.opens files.now) (F.fails files.now) F.File.gives
+    // (`IsNotRooted`), or the node's group can't be made there (`ScriptsMirroredAt`). At the end of a script its node
+    // is mirrored (`PlaysMirrored`), as `runtime` says it. Its place is below ROOT, in files opened with `--adopt` or
+    // without, with the nodes that were found to have memory. `start`, which the program calls, says the same. It takes
+    // the one value that gives access to trees and opens its files once: the program is handed one. What the notes of
+    // the system's refusals are on standard error it does not say: they go past its page. Nor does any clause say which
+    // folders of a run before it names to the operator.
+    ensures { ScriptsMirrored W.contents E.contents console.old console.new result (F.opens files.now)
+        (F.fails files.now) F.File.gives
         T.Files.asked (T.finds trees) B.finds (B.told bundles) (R.remaining script.old) (R.remaining script.new)
         machine.now (option_map (λ name. name.now) table.entry) root.entry.path.now root.entry.adopt }
 {
@@ -75,7 +76,8 @@ fn open_below<T: GroupTrees + Drop>(
     trees: T,
 ) -> Result<OpenTree<T::Files>, Unrooted>
     ensures answers { MatchResult result
-        (λ tree. AnswersRoot (T.finds trees) root.entry.path.now machine.now.online (nodes_of machine.now) (Ok tree.memory))
+        (λ tree. AnswersRoot (T.finds trees) root.entry.path.now machine.now.online (nodes_of machine.now)
+        (Ok tree.memory))
         (λ why. IsNotRooted (T.finds trees) root.entry.path.now machine.now why) }
     ensures root { IfOk result (λ tree. string_bytes tree.root ≡ root.entry.path.now) }
     ensures adopt { IfOk result (λ tree. tree.adopt ≡ root.entry.adopt) }
@@ -88,8 +90,8 @@ fn open_below<T: GroupTrees + Drop>(
     }
 }
 
-/// Runs the script that the reader has left over the machine, in this tree, of which nothing was asked yet; or prints why the group
-/// of all containers can't be made there.
+/// Runs the script that the reader has left over the machine, in this tree, of which nothing was asked yet; or prints
+/// why the group of all containers can't be made there.
 fn run_mirrored_in<S: Sited, F: GroupFiles + Drop, B: Bundles + Drop, R: Read, W: Write, E: Write>(
     alloc: Global,
     machine: Machine,
@@ -101,7 +103,8 @@ fn run_mirrored_in<S: Sited, F: GroupFiles + Drop, B: Bundles + Drop, R: Read, W
     requires site { S.site ≡ site_of machine (string_bytes tree.root) tree.memory tree.adopt }
     requires unasked { F.asked tree.files tree.adopt [] }
     ensures { ScriptsMirroredAt W.contents E.contents console.old console.new result F.asked machine
-        (site_of machine (string_bytes tree.root) tree.memory tree.adopt) B.finds (B.told bundles) (R.remaining script.old) (R.remaining script.new) }
+        (site_of machine (string_bytes tree.root) tree.memory tree.adopt) B.finds (B.told bundles)
+        (R.remaining script.old) (R.remaining script.new) }
 {
     match boot_mirrored::<F, S>(alloc, machine, tree) {
         Ok(node) => {
@@ -112,8 +115,8 @@ fn run_mirrored_in<S: Sited, F: GroupFiles + Drop, B: Bundles + Drop, R: Read, W
     }
 }
 
-/// Runs the script that the reader has left over a node whose kernel writes are made in files too, by so many reads at most, and
-/// writes its answers.
+/// Runs the script that the reader has left over a node whose kernel writes are made in files too, by so many reads at
+/// most, and writes its answers.
 fn play_mirrored<F: GroupFiles + Drop, S: Sited, B: Bundles + Drop, R: Read, W: Write>(
     node: Node<MirroredKernel<F, S>>,
     bundles: B,
@@ -121,7 +124,8 @@ fn play_mirrored<F: GroupFiles + Drop, S: Sited, B: Bundles + Drop, R: Read, W: 
     w: &mut W,
     most_reads: u64,
 ) -> Result<(), ScriptFault>
-    ensures { PlaysMirrored F.asked S.site B.finds most_reads node (B.told bundles) (R.remaining script.old) (R.remaining script.new) (W.contents w.old) (W.contents w.new) result }
+    ensures { PlaysMirrored F.asked S.site B.finds most_reads node (B.told bundles) (R.remaining script.old)
+        (R.remaining script.new) (W.contents w.old) (W.contents w.new) result }
 {
     let mut runner = Runner::new(node, bundles);
     run_mirrored(&mut runner, script, w, most_reads)

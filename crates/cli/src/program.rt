@@ -22,9 +22,9 @@ use program_io::{Input, Refusal};
 use std::alloc::Global;
 use std::io::{Read, Write};
 
-/// Does what the words of the command line ask for, over these files and standard streams, and tells the exit status. It is
-/// 0; or 1 if an input is refused, an allocation fails or the answer can't be written. It is 2 if the words are no command
-/// line, or an allocation fails while they are parsed or the help or a mistake is put into words.
+/// Does what the words of the command line ask for, over these files and standard streams, and tells the exit status.
+/// It is 0; or 1 if an input is refused, an allocation fails or the answer can't be written. It is 2 if the words are
+/// no command line, or an allocation fails while they are parsed or the help or a mistake is put into words.
 pub fn run_program<G: Grammar, F: Opens, T: GroupTrees + Drop, R: Read + Input, W: Write, E: Write>(
     alloc: Global,
     grammar: &G,
@@ -34,11 +34,12 @@ pub fn run_program<G: Grammar, F: Opens, T: GroupTrees + Drop, R: Read + Input, 
     input: R,
     console: &mut Console<W, E>,
 ) -> u8
-    // It does what the words ask for, over any grammar, any files, any reader and any two writers. The contract says which
-    // bytes go to which stream, and the exit status of each case.
+    // It does what the words ask for, over any grammar, any files, any reader and any two writers. The contract says
+    // which bytes go to which stream, and the exit status of each case.
     ensures { Runs W.contents E.contents console.old console.new result (G.fails grammar.now) (G.lacks grammar.now)
         (Does W.contents E.contents console.old console.new result (F.opens files.now) (F.fails files.now) F.File.gives
-        T.Files.asked (T.finds trees) (IsConfigIn F.opens F.fails F.File.gives) (R.Input.gives input) (R.Read.remaining input)) (map string_bytes words.now) }
+        T.Files.asked (T.finds trees) (IsConfigIn F.opens F.fails F.File.gives) (R.Input.gives input)
+        (R.Read.remaining input)) (map string_bytes words.now) }
 {
     match parse(alloc, grammar, words) {
         Ok(asked) => dispatch(alloc, asked, files, trees, input, console),
@@ -55,8 +56,10 @@ fn dispatch<F: Opens, T: GroupTrees + Drop, R: Read + Input, W: Write, E: Write>
     input: R,
     console: &mut Console<W, E>,
 ) -> u8
-    ensures { Does W.contents E.contents console.old console.new result (F.opens files.now) (F.fails files.now) F.File.gives
-        T.Files.asked (T.finds trees) (IsConfigIn F.opens F.fails F.File.gives) (R.Input.gives input) (R.Read.remaining input) (asked words.entry) }
+    ensures { Does W.contents E.contents console.old console.new result (F.opens files.now) (F.fails files.now)
+        F.File.gives
+        T.Files.asked (T.finds trees) (IsConfigIn F.opens F.fails F.File.gives) (R.Input.gives input)
+        (R.Read.remaining input) (asked words.entry) }
 {
     match words {
         Words::Check { file } => check_named(alloc, file.unwrap_or("-"), files, input, console),
@@ -86,8 +89,10 @@ fn run_in<F: Opens, T: GroupTrees + Drop, R: Read + Input, W: Write, E: Write>(
     input: R,
     console: &mut Console<W, E>,
 ) -> u8
-    ensures { Does W.contents E.contents console.old console.new result (F.opens files.now) (F.fails files.now) F.File.gives
-        T.Files.asked (T.finds trees) (IsConfigIn F.opens F.fails F.File.gives) (R.Input.gives input) (R.Read.remaining input)
+    ensures { Does W.contents E.contents console.old console.new result (F.opens files.now) (F.fails files.now)
+        F.File.gives
+        T.Files.asked (T.finds trees) (IsConfigIn F.opens F.fails F.File.gives) (R.Input.gives input)
+        (R.Read.remaining input)
         (run machine.now (option_map word_bytes table.entry) (option_map word_bytes root.entry) adopt) }
 {
     let mut script = input;
@@ -118,7 +123,8 @@ fn print_usage<G: Grammar, W: Write, E: Write>(
     error: &Error,
     console: &mut Console<W, E>,
 ) -> u8
-    ensures { ExplainsOrLacks W.contents E.contents console.old console.new result (G.lacks grammar.now) (kind_of error.now) }
+    ensures { ExplainsOrLacks W.contents E.contents console.old console.new result (G.lacks grammar.now)
+        (kind_of error.now) }
 {
     let Ok(text) = grammar.text(alloc, error) else {
         return print_then_note(&Refusal::Memory, MISUSED, &None, console);

@@ -21,10 +21,10 @@ use slit::Slit;
 use std::alloc::{AllocError, Global};
 use std::io::{Read, Write};
 
-/// Runs the script that the reader has left over the machine in this file, and prints its answers. If a table is named, its
-/// distances are the machine's. Or it prints why one of the files is refused. Both are opened before either is read. If the
-/// script can't be read to its end, the last line says so. The status is 0, or 1 for a refusal of a file or of the script,
-/// and for an answer that can't be written.
+/// Runs the script that the reader has left over the machine in this file, and prints its answers. If a table is named,
+/// its distances are the machine's. Or it prints why one of the files is refused. Both are opened before either is
+/// read. If the script can't be read to its end, the last line says so. The status is 0, or 1 for a refusal of a file
+/// or of the script, and for an answer that can't be written.
 pub fn do_run<F: Opens, B: Bundles + Drop, R: Read, W: Write, E: Write>(
     alloc: Global,
     machine: &str,
@@ -34,14 +34,15 @@ pub fn do_run<F: Opens, B: Bundles + Drop, R: Read, W: Write, E: Write>(
     script: &mut R,
     console: &mut Console<W, E>,
 ) -> u8
-    // It refuses the machine file or the table beside it, each for its own fault (`SetsUp`). An allocation failure for the
-    // machine is told only if the reading answered it, or if no fault shows before the JSON is read (`text_fault`). One for
-    // its node is told only if the machine was accepted. Beside E25 standard error says which of its causes holds
-    // (`IsDefectOf`): the file is too long, it is no JSON, or it is JSON. If memory is short it names all of them. Or it runs
-    // the script over a node with no container, on a kernel of that machine in which nothing was done yet. What is written then is what `script` and `runtime` say of the
-    // answers. If the script can't be read, a last line says so, and standard error tells the fault that ended it
-    // (`Finishes`, `is_unread`).
-    ensures { Scripts W.contents E.contents console.old console.new result (F.opens files.now) (F.fails files.now) F.File.gives
+    // It refuses the machine file or the table beside it, each for its own fault (`SetsUp`). An allocation failure for
+    // the machine is told only if the reading answered it, or if no fault shows before the JSON is read (`text_fault`).
+    // One for its node is told only if the machine was accepted. Beside E25 standard error says which of its causes
+    // holds (`IsDefectOf`): the file is too long, it is no JSON, or it is JSON. If memory is short it names all of
+    // them. Or it runs the script over a node with no container, on a kernel of that machine in which nothing was done
+    // yet. What is written then is what `script` and `runtime` say of the answers. If the script can't be read, a last
+    // line says so, and standard error tells the fault that ended it (`Finishes`, `is_unread`).
+    ensures { Scripts W.contents E.contents console.old console.new result (F.opens files.now) (F.fails files.now)
+        F.File.gives
         B.finds (B.told bundles) (R.remaining script.old) (R.remaining script.new)
         machine.now (option_map (λ name. name.now) table.entry) }
 {
@@ -64,7 +65,8 @@ pub fn refuse<W: Write, E: Write>(
     unready: Unready,
     console: &mut Console<W, E>,
 ) -> u8
-    ensures { Refuses W.contents E.contents console.old console.new result machine.now (option_map (λ name. name.now) table.entry) unready }
+    ensures { Refuses W.contents E.contents console.old console.new result machine.now
+        (option_map (λ name. name.now) table.entry) unready }
 {
     let refusal = unready.refusal();
     print_then_note(
@@ -156,7 +158,8 @@ fn play<K: Kernel + Drop, B: Bundles + Drop, R: Read, W: Write>(
     w: &mut W,
     most_reads: u64,
 ) -> Result<(), ScriptFault>
-    ensures { Plays B.finds most_reads node (B.told bundles) (R.remaining script.old) (R.remaining script.new) (W.contents w.old) (W.contents w.new) result }
+    ensures { Plays B.finds most_reads node (B.told bundles) (R.remaining script.old) (R.remaining script.new)
+        (W.contents w.old) (W.contents w.new) result }
 {
     let mut runner = Runner::new(node, bundles);
     run_script_within(&mut runner, script, w, most_reads)

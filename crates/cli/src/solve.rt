@@ -16,19 +16,20 @@ use std::alloc::Global;
 use std::io;
 use std::io::Write;
 
-/// Solves the problem in the source that is called so, and prints the certificate, of version 1. It is of a plan of least
-/// cost, or of a shortage if there is no plan; or it prints why the problem is refused. The status is 0, or 1 for a refusal
-/// and for a certificate that can't be written.
+/// Solves the problem in the source that is called so, and prints the certificate, of version 1. It is of a plan of
+/// least cost, or of a shortage if there is no plan; or it prints why the problem is refused. The status is 0, or 1 for
+/// a refusal and for a certificate that can't be written.
 pub fn do_solve<S: Source, W: Write, E: Write>(
     alloc: Global,
     source: S,
     name: &str,
     console: &mut Console<W, E>,
 ) -> u8
-    // It tells the certificate of the rows that the bytes stand for, or their refusal (`Solves`, `IsSolutionOf`). So what
-    // is written whole is a text that stands for a certificate of these very rows. It is proved least, or it shows that
-    // there is no plan. An allocation failure is told only if the reading answered it, or if `solution` may.
-    ensures { Solves W.contents E.contents console.old console.new result (Reads S.opens S.fails S.Input.gives source) name.now }
+    // It tells the certificate of the rows that the bytes stand for, or their refusal (`Solves`, `IsSolutionOf`). So
+    // what is written whole is a text that stands for a certificate of these very rows. It is proved least, or it shows
+    // that there is no plan. An allocation failure is told only if the reading answered it, or if `solution` may.
+    ensures { Solves W.contents E.contents console.old console.new result (Reads S.opens S.fails S.Input.gives source)
+        name.now }
 {
     let answer: Result<Solution, Refusal> = answer_of(alloc, source);
     print_answer(&answer, name, console)
@@ -43,7 +44,8 @@ pub fn solve_named<F: Opens, I: Input, W: Write, E: Write>(
     console: &mut Console<W, E>,
 ) -> u8
     ensures { Solves W.contents E.contents console.old console.new result
-        (reads_named (Reads (F.opens files.now) (F.fails files.now) F.File.gives) (I.gives input) name.now) (shown name.now) }
+        (reads_named (Reads (F.opens files.now) (F.fails files.now) F.File.gives) (I.gives input) name.now)
+        (shown name.now) }
 {
     if name == "-" {
         do_solve(alloc, Opened(input), STANDARD_INPUT, console)

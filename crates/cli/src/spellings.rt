@@ -7,8 +7,8 @@ pub fn check_spellings()
     ensures { CheckSpellings }
 {}
 
-/// `list TEXT` asks for the spelling of that list, if the text is a lone hyphen, doesn't begin with one or has `--` before
-/// it.
+/// `list TEXT` asks for the spelling of that list, if the text is a lone hyphen, doesn't begin with one or has `--`
+/// before it.
 pub fn list_spellings()
     ensures { ListSpellings }
 {}
@@ -18,10 +18,10 @@ pub fn slit_spellings()
     ensures { SlitSpellings }
 {}
 
-/// `run MACHINE` asks for a run over the machine in that file, if its name doesn't begin with a hyphen or has `--` before
-/// it. With `--slit FILE`, with `--cgroup ROOT`, or with that and `--adopt`, behind the machine or before it, it asks for
-/// one with these, if no name begins with a hyphen. `--adopt` without `--cgroup` is a mistake, in whatever words
-/// (`adopt_beside`).
+/// `run MACHINE` asks for a run over the machine in that file, if its name doesn't begin with a hyphen or has `--`
+/// before it. With `--slit FILE`, with `--cgroup ROOT`, or with that and `--adopt`, behind the machine or before it, it
+/// asks for one with these, if no name begins with a hyphen. `--adopt` without `--cgroup` is a mistake, in whatever
+/// words (`adopt_beside`).
 pub fn run_spellings()
     ensures { RunSpellings }
 {}

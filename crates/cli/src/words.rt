@@ -23,7 +23,8 @@ pub trait Grammar {
     /// # Errors
     /// A mistake in the words, their request for the help, or an allocation failure.
     fn matches<'a>(&self, alloc: Global, words: &'a [String]) -> Result<ArgMatches<'a>, Error>
-        ensures matches { IfOk result (λ m. subcommand_rows_of m ≡ subcommand_of numarun (map string_bytes words.entry.now)) }
+        ensures matches { IfOk result (λ m. subcommand_rows_of m
+            ≡ subcommand_of numarun (map string_bytes words.entry.now)) }
         ensures kinds { FailsBy (refusals (map string_bytes words.entry.now)) result }
         ensures fails { IfErr result (λ error. fails self.now (map string_bytes words.entry.now) (kind_of error)) };
 
@@ -49,8 +50,8 @@ pub enum Words<'a> {
     Slit {
         file: &'a str,
     },
-    /// Run the script on standard input over the machine of a file, its distances perhaps in a table of their own; perhaps
-    /// below the root of a cgroup tree, which may have folders of a run before.
+    /// Run the script on standard input over the machine of a file, its distances perhaps in a table of their own;
+    /// perhaps below the root of a cgroup tree, which may have folders of a run before.
     Run {
         machine: &'a str,
         slit: Option<&'a str>,
@@ -66,7 +67,8 @@ pub enum Words<'a> {
 /// What the words after the program's name ask for; no words ask for a check of standard input.
 ///
 /// # Errors
-/// `Fault` has the mistake in the words, or their request for the help. `Memory` comes where an allocation of the grammar failed.
+/// `Fault` has the mistake in the words, or their request for the help. `Memory` comes where an allocation of the
+/// grammar failed.
 pub fn parse<'a, G: Grammar>(
     alloc: Global,
     grammar: &G,
@@ -75,10 +77,11 @@ pub fn parse<'a, G: Grammar>(
     // It gives what the words ask for.
     ensures ok { IfOk result (λ asks. asked asks ≡ asked_for (map string_bytes words.entry.now)) }
     ensures accepted { OnOk result (mistakes (map string_bytes words.entry.now) ≡ []) }
-    // Else it tells a mistake that they have (`HasCause`). An allocation failure is told only if the grammar answered it.
-    // The grammar of the program is `CommandLine`, which is clap's, with a rule beside it: `--adopt` without `--cgroup` is
-    // a mistake, in whatever words (`run_spellings`, by `adopt_beside`).
-    ensures err { IfErr result (HasCause (G.fails grammar.now (map string_bytes words.entry.now)) (map string_bytes words.entry.now)) }
+    // Else it tells a mistake that they have (`HasCause`). An allocation failure is told only if the grammar answered
+    // it. The grammar of the program is `CommandLine`, which is clap's, with a rule beside it: `--adopt` without
+    // `--cgroup` is a mistake, in whatever words (`run_spellings`, by `adopt_beside`).
+    ensures err { IfErr result (HasCause (G.fails grammar.now (map string_bytes words.entry.now))
+        (map string_bytes words.entry.now)) }
 {
     if words.is_empty() {
         return Ok(Words::Check { file: None });

@@ -1,6 +1,8 @@
 //! One item of a list: a number, or a range of two with a hyphen between.
-ghost use Rattle.std.specs.Prelude.{◌≡◌, ◌≤◌, ◌<◌, true, min, length, option_map, position, slice_index_or, IsTrue, IsFalse, IfSome};
-ghost use Rattle.cpu_list.specs.ListText.{is_blank, is_comma, is_hyphen, leading_blanks, trim_end, item_of, number_of, range_of};
+ghost use Rattle.std.specs.Prelude.{◌≡◌, ◌≤◌, ◌<◌, true, min, length, option_map, position, slice_index_or, IsTrue};
+ghost use Rattle.std.specs.Prelude.{IsFalse, IfSome};
+ghost use Rattle.cpu_list.specs.ListText.{is_blank, is_comma, is_hyphen, leading_blanks, trim_end, item_of, number_of};
+ghost use Rattle.cpu_list.specs.ListText.{range_of};
 ghost use Rattle.cpu_list.specs.Plain.{IsFront, IsPlain};
 ghost use Rattle.std.specs.List.{before_first};
 

@@ -2,7 +2,8 @@
 ghost use Rattle.std.specs.Prelude.{◌≡◌, false, [], ◌∷◌, codes};
 ghost use Rattle.std.specs.FinSet as set;
 ghost use Rattle.cpu_list.specs.CanonicalList.{ranges_text};
-ghost use Rattle.cpu_list.specs.CanonicalLaws.{TextIsCanonical, OneCanonicalText, CanonicalReadsAgain, TextIsPlain, TextLacks, TextIsEmpty};
+ghost use Rattle.cpu_list.specs.CanonicalLaws.{TextIsCanonical, OneCanonicalText, CanonicalReadsAgain, TextIsPlain};
+ghost use Rattle.cpu_list.specs.CanonicalLaws.{TextLacks, TextIsEmpty};
 ghost use Rattle.cpu_list.specs.FirstFault.{first_fault, NoneWhereList, FirstDecides};
 ghost use Rattle.cpu_list.specs.ListText.{IsList, IsSetOf, names, ListIsBelow};
 
@@ -27,8 +28,8 @@ pub fn canonical_texts()
     ensures reads_again { CanonicalReadsAgain }
 {}
 
-/// A printed text has digits, hyphens and commas alone, so no space, colon or line feed stands in it. It is empty exactly
-/// if the set is.
+/// A printed text has digits, hyphens and commas alone, so no space, colon or line feed stands in it. It is empty
+/// exactly if the set is.
 pub fn plain_texts()
     ensures plain { TextIsPlain }
     ensures lacks { TextLacks }
@@ -36,7 +37,8 @@ pub fn plain_texts()
 {}
 
 /// Worked rows of docs/formats.md, "Lists": the definitions, evaluated.
-#[tactic(auto, unfolding(crate::specs::ListText::item_of, crate::specs::ListText::number_of, crate::specs::ListText::range_of))]
+#[tactic(auto, unfolding(crate::specs::ListText::item_of, crate::specs::ListText::number_of,
+    crate::specs::ListText::range_of))]
 pub fn worked()
     ensures list { IsList 8 (codes "1-3,5") }
     ensures blanks_and_zeros { IsList 8 (codes " 005 ,, 3-3") }
@@ -45,6 +47,7 @@ pub fn worked()
     ensures descends { first_fault 8 (codes "5-3") ≡ Some (record { at = 0; kind = ListErrorKind.Descending }) }
     ensures too_large { first_fault 8 (codes "1,8") ≡ Some (record { at = 2; kind = ListErrorKind.TooLarge }) }
     ensures behind_blanks { first_fault 8 (codes "1, x") ≡ Some (record { at = 3; kind = ListErrorKind.BadItem }) }
-    ensures large_before_descends { first_fault 8 (codes "9-3") ≡ Some (record { at = 0; kind = ListErrorKind.TooLarge }) }
+    ensures large_before_descends { first_fault 8 (codes "9-3")
+        ≡ Some (record { at = 0; kind = ListErrorKind.TooLarge }) }
     ensures printed { ranges_text ((0, 2) ∷ (7, 7) ∷ []) ≡ codes "0-2,7" }
 {}

@@ -39,7 +39,8 @@ fn add_first(set: &mut IdSet, text: &[u8], limit: u16) -> Result<usize, ListErro
     requires { limit ≤ CPU_LIMIT }
     ensures long { IfOk result (λ long. long ≡ length (before_first is_comma text.now)) }
     ensures right { IfOk result (λ _. item_fault limit (item_of (before_first is_comma text.now)) ≡ None) }
-    ensures added { OnOk result ((n : ℕ) → finset.contains set.new n ≡ (finset.contains set.old n || piece_names n (before_first is_comma text.now))) }
+    ensures added { OnOk result ((n : ℕ) → finset.contains set.new n
+        ≡ (finset.contains set.old n || piece_names n (before_first is_comma text.now))) }
     ensures faulty { IfErr result (λ kind. item_fault limit (item_of (before_first is_comma text.now)) ≡ Some kind) }
 {
     if let Some((low, high, long)) = read_plain(text, limit) {
@@ -60,8 +61,8 @@ fn add_first(set: &mut IdSet, text: &[u8], limit: u16) -> Result<usize, ListErro
 /// The place and the cause of the first faulty item.
 pub fn read(text: &[u8], limit: u16) -> Result<IdSet, ListError>
     requires { limit ≤ CPU_LIMIT }
-    // The set of the text, exactly if the text is a list. Else the place and kind of the first faulty item. This holds for
-    // any bytes, and for numbers of any length.
+    // The set of the text, exactly if the text is a list. Else the place and kind of the first faulty item. This holds
+    // for any bytes, and for numbers of any length.
     ensures { MatchResult result
         (λ s. (first_fault limit text.now ≡ None) × IsSetOf text.now s × IsList limit text.now)
         (λ e. (first_fault limit text.now ≡ Some e) × IsFirstFault limit text.now e) }

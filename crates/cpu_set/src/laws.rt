@@ -1,10 +1,12 @@
 //! How sets, their least CPUs and their counts hang together: laws over the definitions alone. Nothing here runs.
 ghost use Rattle.std.specs.Prelude.{◌≡◌, [], ◌∷◌};
 ghost use Rattle.std.specs.FinSet as set;
-ghost use Rattle.cpu_set.specs.LeastLaws.{LeastIsLeast, LeastPasses, NoneWhereNone, LeastIsFirst, LeastOfDifference, LeastOfBoth};
+ghost use Rattle.cpu_set.specs.LeastLaws.{LeastIsLeast, LeastPasses, NoneWhereNone, LeastIsFirst, LeastOfDifference};
+ghost use Rattle.cpu_set.specs.LeastLaws.{LeastOfBoth};
 ghost use Rattle.cpu_set.specs.Members.{members};
 ghost use Rattle.cpu_set.specs.Ranges.{ranges_of};
-ghost use Rattle.cpu_set.specs.SetLaws.{EmptyWhereNone, DisjointWhereMeetIsEmpty, SubsetWhereNoneIsLeft, MembersAreCounted};
+ghost use Rattle.cpu_set.specs.SetLaws.{EmptyWhereNone, DisjointWhereMeetIsEmpty, SubsetWhereNoneIsLeft};
+ghost use Rattle.cpu_set.specs.SetLaws.{MembersAreCounted};
 
 use crate::CPU_LIMIT;
 

@@ -46,9 +46,10 @@ impl WordSet {
         ensures above { IsTrue result → NoneFrom self.old n }
         // If it returns false, nothing changed.
         ensures same { result ≡ false → self.new ≡ self.old }
-        // If the set has a member, the number then lies in another word, or not behind all of the members. Why an empty set
-        // refuses a number, nothing says.
-        ensures refused { result ≡ false → (m : ℕ) → set.contains self.old m ≡ true → m / 64 ≡ n / 64 → NoneFrom self.old n → ⊥ }
+        // If the set has a member, the number then lies in another word, or not behind all of the members. Why an empty
+        // set refuses a number, nothing says.
+        ensures refused { result ≡ false → (m : ℕ) → set.contains self.old m ≡ true → m / 64 ≡ n / 64
+            → NoneFrom self.old n → ⊥ }
     {
         let place = n % 64;
         if n as usize / 64 != self.at || self.bits >> place != 0 {

@@ -5,9 +5,12 @@ ghost use Rattle.cpuset_tree.specs.Effective.{effective_cpus, effective_mems};
 ghost use Rattle.cpuset_tree.specs.Groups.{child_of, requested_cpus};
 ghost use Rattle.cpuset_tree.specs.TreeAnswers.{make_refusal, remove_refusal, write_refusal};
 ghost use Rattle.cpuset_tree.specs.TreeChanges.{with_online};
-ghost use Rattle.cpuset_tree.specs.TreeLaws.{SameIsEqual, EntryIsOwn, RootIsThere, ParentIsThere, NoParentNoChildren, GrantsAll};
-ghost use Rattle.cpuset_tree.specs.TreeLaws.{GrantsWithin, TwoBelowRoot, SerialIsGiven, WritesLeavePlaces, SerialsGivenOnce};
-ghost use Rattle.cpuset_tree.specs.TreeLaws.{CpusWritten, MemsWritten, WritesRequest, AddedLeaves, RemovedLeaves, FoundIsChild};
+ghost use Rattle.cpuset_tree.specs.TreeLaws.{SameIsEqual, EntryIsOwn, RootIsThere, ParentIsThere, NoParentNoChildren};
+ghost use Rattle.cpuset_tree.specs.TreeLaws.{GrantsAll};
+ghost use Rattle.cpuset_tree.specs.TreeLaws.{GrantsWithin, TwoBelowRoot, SerialIsGiven, WritesLeavePlaces};
+ghost use Rattle.cpuset_tree.specs.TreeLaws.{SerialsGivenOnce};
+ghost use Rattle.cpuset_tree.specs.TreeLaws.{CpusWritten, MemsWritten, WritesRequest, AddedLeaves, RemovedLeaves};
+ghost use Rattle.cpuset_tree.specs.TreeLaws.{FoundIsChild};
 ghost use Rattle.cpuset_tree.specs.TreeLaws.{ChangesStayWellFormed, FirstIsWellFormed, WellFormedRunsUp};
 ghost use Rattle.cpuset_tree.specs.Worked.{root, all_containers, web, batch, numbered, requested};
 
@@ -50,13 +53,14 @@ pub fn the_limits()
     ensures serials { SERIAL_LIMIT ≡ 18_446_744_073_709_551_615 }
 {}
 
-/// Worked rows of cgroup v2's rules for cpusets, as docs/formats.md has them under "Scripts": the definitions, evaluated
-/// on a small tree.
+/// Worked rows of cgroup v2's rules for cpusets, as docs/formats.md has them under "Scripts": the definitions,
+/// evaluated on a small tree.
 pub fn worked()
     ensures asked_for { requested_cpus requested web ≡ set.from_list (2 ∷ 3 ∷ 6 ∷ []) }
     ensures online_part { effective_cpus requested web ≡ set.from_list (2 ∷ 3 ∷ []) }
     ensures none_online { effective_cpus requested batch ≡ set.from_list (0 ∷ 1 ∷ 2 ∷ 3 ∷ []) }
-    ensures goes_offline { effective_cpus (with_online requested (set.from_list (0 ∷ 3 ∷ []))) web ≡ set.from_list (3 ∷ []) }
+    ensures goes_offline { effective_cpus (with_online requested (set.from_list (0 ∷ 3 ∷ []))) web
+        ≡ set.from_list (3 ∷ []) }
     ensures nodes { effective_mems requested web ≡ set.from_list (0 ∷ 1 ∷ []) }
     ensures by_name { child_of requested all_containers (codes "batch") ≡ Some batch }
     ensures made_twice { make_refusal requested all_containers (codes "web") ≡ Some TreeFault.Exists }

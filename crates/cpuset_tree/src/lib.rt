@@ -4,8 +4,8 @@
 //!
 //! # Proved
 //!
-//! - Effective sets are those of the recursion up the path, after any list of calls. The tree keeps them, so that a read
-//!   lends one at any depth; a write works out anew only those that it may change.
+//! - Effective sets are those of the recursion up the path, after any list of calls. The tree keeps them, so that a
+//!   read lends one at any depth; a write works out anew only those that it may change.
 #![tactic(auto)]
 
 mod fault;

@@ -86,7 +86,8 @@ fn due_of(share: &Share, above: &IdSet, cpu: u16) -> Option<bool>
 /// The same of the group under a key, where a write of the group of this serial can change it.
 fn due_at(groups: &Slab<Cgroup>, key: usize, written: u64, cpu: u16) -> Option<bool>
     requires { IsNearAt cpu groups.now key }
-    ensures { IfSome result (λ has. (top : Ids) (n : Cgroup) → get groups.now key ≡ Some n → passed Cpus groups.now top written n ≡ having cpu has n) }
+    ensures { IfSome result (λ has. (top : Ids) (n : Cgroup) → get groups.now key ≡ Some n
+        → passed Cpus groups.now top written n ≡ having cpu has n) }
 {
     let kept = groups.get(key)?;
     if !kept.may_change(written) {
@@ -108,8 +109,8 @@ fn pass_by_cpu(groups: &mut Slab<Cgroup>, key: usize, top: &IdSet, written: u64,
     }
 }
 
-/// Brings all groups up to date, the oldest first, once this CPU has gone offline or come online; the root, which is the group of
-/// this serial, has all of `top` in effect.
+/// Brings all groups up to date, the oldest first, once this CPU has gone offline or come online; the root, which is
+/// the group of this serial, has all of `top` in effect.
 fn refresh_by_cpu(
     groups: &mut Slab<Cgroup>,
     order: &VecDeque<usize>,
@@ -129,8 +130,9 @@ fn refresh_by_cpu(
     }
 }
 
-/// Brings all groups up to date, the oldest first, once other CPUs are online than there were; the root, which is the group of
-/// this serial, has all of `top` in effect. Where one CPU went or came, most groups need no more than tests of single CPUs.
+/// Brings all groups up to date, the oldest first, once other CPUs are online than there were; the root, which is the
+/// group of this serial, has all of `top` in effect. Where one CPU went or came, most groups need no more than tests of
+/// single CPUs.
 pub fn refresh_online(
     groups: &mut Slab<Cgroup>,
     order: &VecDeque<usize>,

@@ -2,7 +2,9 @@
 ghost use Rattle.std.specs.Prelude.{◌≡◌, ◌≤◌, Some, length, drop};
 ghost use Rattle.slab.specs.Slab.{get};
 ghost use Rattle.cpuset_tree.specs.declared.groups.Cgroup.{Cgroup};
-ghost use Rattle.cpuset_tree.specs.Kept.{effective_kept, stands, passed, is_older as older, OthersGranted, ElsewhereGranted, AreParentsUpTo, ChangesAt, OnlyKeptDiffers, AllKept, IsOrder, IsInOrder};
+ghost use Rattle.cpuset_tree.specs.Kept.{effective_kept, stands, passed, is_older as older, OthersGranted};
+ghost use Rattle.cpuset_tree.specs.Kept.{ElsewhereGranted, AreParentsUpTo, ChangesAt, OnlyKeptDiffers, AllKept};
+ghost use Rattle.cpuset_tree.specs.Kept.{IsOrder, IsInOrder};
 
 use crate::groups::{Cgroup, Group, Resource, granted_of};
 use cpu_set::IdSet;

@@ -1,6 +1,7 @@
 ghost use Rattle.std.specs.Prelude.{◌≡◌, ◌<◌, IfOk, OnErr, MatchResult, Some, None, true, false, string_bytes};
 ghost use Rattle.std.specs.Option.{option_copied};
-ghost use Rattle.cpuset_tree.specs.Groups.{root_of, has_group, is_root, child_of, has_children, requested_cpus, requested_mems};
+ghost use Rattle.cpuset_tree.specs.Groups.{root_of, has_group, is_root, child_of, has_children, requested_cpus};
+ghost use Rattle.cpuset_tree.specs.Groups.{requested_mems};
 ghost use Rattle.cpuset_tree.specs.Effective.{effective_cpus, effective_mems};
 ghost use Rattle.cpuset_tree.specs.TreeChanges.{IsFirstTree, without_group, with_cpus, with_mems, with_online};
 ghost use Rattle.faults.specs.Calls.{Decides, behind};
@@ -25,9 +26,9 @@ use std::marker::Model;
 /// At the root the online CPUs are in effect, and all nodes. In another group those of its parent's that it
 /// requests are, or all of its parent's where it requests none of them.
 ///
-/// What is in effect is kept up to date by the writes, so that each read takes O(1) steps. Of g groups `find`, `make` and
-/// `remove` take O(g); `write_cpus` and `write_mems` O(1) where the group is newer than each group with children, else O(g);
-/// `set_online` O(g), and where one CPU goes or comes, for most groups by a few tests of single CPUs.
+/// What is in effect is kept up to date by the writes, so that each read takes O(1) steps. Of g groups `find`, `make`
+/// and `remove` take O(g); `write_cpus` and `write_mems` O(1) where the group is newer than each group with children,
+/// else O(g); `set_online` O(g), and where one CPU goes or comes, for most groups by a few tests of single CPUs.
 #[derive(Drop)]
 pub struct Tree {
     alloc: Global,
@@ -58,7 +59,8 @@ impl Model for Tree {
       next_serial = t.next_serial;
     } };
 
-    ghost invariant = { λ t. IsSound t.groups t.order.items t.online t.nodes t.root t.next_serial × AreParentsUpTo t.groups t.newest_parent };
+    ghost invariant = { λ t. IsSound t.groups t.order.items t.online t.nodes t.root t.next_serial
+        × AreParentsUpTo t.groups t.newest_parent };
 }
 
 impl Tree {
@@ -252,7 +254,8 @@ impl Tree {
     /// # Errors
     /// In this order: [`TreeFault::NoGroup`], [`TreeFault::IsRoot`], [`TreeFault::HasChildren`].
     pub fn remove(&mut self, group: Group) -> Result<(), TreeFault>
-        ensures { Decides (remove_refusal self.old group) (λ _ new. new ≡ without_group self.old group) self.old result self.new }
+        ensures { Decides (remove_refusal self.old group) (λ _ new. new
+            ≡ without_group self.old group) self.old result self.new }
     {
         self.removable(group)?;
         self.take(group);
@@ -264,7 +267,8 @@ impl Tree {
     /// # Errors
     /// In this order: [`TreeFault::NoGroup`], [`TreeFault::IsRoot`], [`TreeFault::HasChildren`].
     pub fn removable(&self, group: Group) -> Result<(), TreeFault>
-        ensures { MatchResult result (λ _. remove_refusal self.now group ≡ None) (λ fault. remove_refusal self.now group ≡ Some fault) }
+        ensures { MatchResult result (λ _. remove_refusal self.now group ≡ None) (λ fault. remove_refusal self.now group
+            ≡ Some fault) }
     {
         let kept = self.cgroup(group).ok_or(TreeFault::NoGroup)?;
         if kept.parent.is_none() {
@@ -292,7 +296,8 @@ impl Tree {
     /// # Errors
     /// In this order: [`TreeFault::NoGroup`], [`TreeFault::IsRoot`].
     pub fn write_cpus(&mut self, group: Group, cpus: IdSet) -> Result<(), TreeFault>
-        ensures { Decides (write_refusal self.old group) (λ _ new. new ≡ with_cpus self.old group cpus) self.old result self.new }
+        ensures { Decides (write_refusal self.old group) (λ _ new. new
+            ≡ with_cpus self.old group cpus) self.old result self.new }
     {
         self.writable(group)?;
         self.request(group, Resource::Cpus, cpus);
@@ -304,7 +309,8 @@ impl Tree {
     /// # Errors
     /// In this order: [`TreeFault::NoGroup`], [`TreeFault::IsRoot`].
     pub fn write_mems(&mut self, group: Group, mems: IdSet) -> Result<(), TreeFault>
-        ensures { Decides (write_refusal self.old group) (λ _ new. new ≡ with_mems self.old group mems) self.old result self.new }
+        ensures { Decides (write_refusal self.old group) (λ _ new. new
+            ≡ with_mems self.old group mems) self.old result self.new }
     {
         self.writable(group)?;
         self.request(group, Resource::Mems, mems);
@@ -312,7 +318,8 @@ impl Tree {
     }
 
     fn writable(&self, group: Group) -> Result<(), TreeFault>
-        ensures { MatchResult result (λ _. write_refusal self.now group ≡ None) (λ fault. write_refusal self.now group ≡ Some fault) }
+        ensures { MatchResult result (λ _. write_refusal self.now group ≡ None) (λ fault. write_refusal self.now group
+            ≡ Some fault) }
     {
         match self.cgroup(group) {
             None => Err(TreeFault::NoGroup),

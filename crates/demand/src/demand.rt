@@ -52,8 +52,8 @@ impl Demand {
         ensures fault { demand_fault machine.now section.now ≡ result_err result }
         // A quota q in a period p asks for the d CPUs of whole cores of t CPUs with (d - t) * p < q <= d * p.
         ensures demand { IfOk result (λ d. IsDemand machine.now section.now d) }
-        // A pinned demand is 1 to `CPU_LIMIT`, and that of whole cores. Its allowed CPUs are some, present, not reserved,
-        // in reach of a home, and whole cores. A shared demand has no allowed CPUs.
+        // A pinned demand is 1 to `CPU_LIMIT`, and that of whole cores. Its allowed CPUs are some, present, not
+        // reserved, in reach of a home, and whole cores. A shared demand has no allowed CPUs.
         ensures fits { IfOk result (λ d. FitsMachine machine.now d) }
     {
         let cpus = lists::cpus(section.cpus.as_ref().map(|text| text.as_str()), machine)?;

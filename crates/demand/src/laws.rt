@@ -32,7 +32,8 @@ pub fn worked()
     ensures homes { homes_of two_nodes (Some (codes "1")) ≡ set.from_list (1 ∷ []) }
     ensures all_homes { homes_of two_nodes None ≡ set.from_list (0 ∷ 1 ∷ []) }
     ensures allowed { allowed_of two_nodes (with_cpus (codes "0-2")) ≡ set.from_list (1 ∷ 2 ∷ []) }
-    ensures bad_cpus { demand_fault two_nodes (with_cpus (codes "4-2")) ≡ Some (DemandFault.BadCpus (record { at = 0; kind = ListErrorKind.Descending })) }
+    ensures bad_cpus { demand_fault two_nodes (with_cpus (codes "4-2"))
+        ≡ Some (DemandFault.BadCpus (record { at = 0; kind = ListErrorKind.Descending })) }
     ensures no_such_cpu { demand_fault two_nodes (with_cpus (codes "2,9")) ≡ Some (DemandFault.NoSuchCpu 9) }
     ensures no_such_node { demand_fault two_nodes (with_mems (codes "0,2")) ≡ Some (DemandFault.NoSuchNode 2) }
     ensures nothing_allowed { demand_fault two_nodes (with_cpus (codes "0")) ≡ Some DemandFault.NothingAllowed }

@@ -13,8 +13,9 @@ ghost use Rattle.faults.specs.FirstLaws.{NoneWhereNone, LeastDecides, AlikeDecid
 pub use or_memory::{Fault, OrMemory};
 pub use title::memory_title;
 
-/// The laws of the first fault below a bound, for faults of any type `F`. If no number below the bound has one, there is
-/// none. Else the least number that has one decides. Checks that agree below the bound have the same first fault there.
+/// The laws of the first fault below a bound, for faults of any type `F`. If no number below the bound has one, there
+/// is none. Else the least number that has one decides. Checks that agree below the bound have the same first fault
+/// there.
 pub fn least_decides<F>()
     ensures none { NoneWhereNone F }
     ensures least { LeastDecides F }

@@ -22,7 +22,8 @@ pub enum FlawKind {
     NotUtf8,
     /// It ends before its value does.
     CutShort,
-    /// What stands there, or right before it, can't stand there; or it nests too deep, or has a number too large for a float.
+    /// What stands there, or right before it, can't stand there; or it nests too deep, or has a number too large for a
+    /// float.
     NotJson,
 }
 
@@ -39,16 +40,16 @@ impl Flaw {
     }
 }
 
-/// What keeps the bytes from being JSON, or none where they are JSON. It reads them as [`parse`](crate::parse) does, once more, so
-/// that a refusal needs to carry no place.
+/// What keeps the bytes from being JSON, or none where they are JSON. It reads them as [`parse`](crate::parse) does,
+/// once more, so that a refusal needs to carry no place.
 ///
 /// # Errors
 /// An allocation failure.
 #[tactic(auto, using(crate::proofs::TextTests::utf8_tests), unfolding(crate::specs::JsonOf::json_of))]
 pub fn flaw_in(alloc: Global, bytes: &[u8]) -> Result<Option<Flaw>, AllocError>
-    // It says whether the bytes are JSON, and of others whether they are UTF-8. What line and column it names, and whether it
-    // says that the text ends too early, no clause tells: `serde_json` promises neither. Tests compare the places with those
-    // that Python's JSON finds.
+    // It says whether the bytes are JSON, and of others whether they are UTF-8. What line and column it names, and
+    // whether it says that the text ends too early, no clause tells: `serde_json` promises neither. Tests compare the
+    // places with those that Python's JSON finds.
     ensures { IfOk result (IsFlawIn bytes.now) }
 {
     match Value::from_slice(alloc, bytes) {

@@ -101,7 +101,8 @@ pub fn make_calls<K: Kernel>(
     kernel: &mut K,
     calls: &[Call],
 ) -> Result<Vec<Result<Reply, OrMemory<KernelFault>>>, AllocError>
-    // The answers, and the state that it leaves, are those of the cases taken in order. It is proved once for any kernel.
+    // The answers, and the state that it leaves, are those of the cases taken in order. It is proved once for any
+    // kernel.
     ensures ok { IfOk result (λ replies. Run (K.state kernel.old) calls.now replies.items (K.state kernel.new)) }
     ensures err { OnErr result (K.state kernel.new ≡ K.state kernel.old) }
 {

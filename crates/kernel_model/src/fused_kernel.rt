@@ -3,7 +3,8 @@ ghost use Rattle.kernel_model.specs.declared.fault.KernelFault.TheVariants.{Fail
 ghost use Rattle.faults.specs.declared.or_memory.OrMemory.TheVariants.{Fault};
 ghost use Rattle.kernel_model.specs.Fuse.{fuse_after, fused, FollowsTheCount, FailsAtTheNth};
 ghost use Rattle.kernel_model.specs.Burning.{burnt, is_due};
-ghost use Rattle.kernel_model.specs.Cases.{MakesGroup, RemovesGroup, WritesCpus, WritesMems, Spawns, EndsGroup, Forks, Exits};
+ghost use Rattle.kernel_model.specs.Cases.{MakesGroup, RemovesGroup, WritesCpus, WritesMems, Spawns, EndsGroup, Forks};
+ghost use Rattle.kernel_model.specs.Cases.{Exits};
 ghost use Rattle.kernel_model.specs.Cases.{GoesOffline, ComesOnline};
 
 use crate::{Kernel, KernelFault};
@@ -42,7 +43,8 @@ impl Fuse {
 
 /// A kernel of which one write fails, and which is the kernel within otherwise.
 ///
-/// It counts each write that it is asked for: those of the kernel within, and the one that failed, which that never saw.
+/// It counts each write that it is asked for: those of the kernel within, and the one that failed, which that never
+/// saw.
 #[derive(Drop)]
 pub struct FusedKernel<K: Kernel> {
     /// The kernel that does what is asked.
@@ -86,7 +88,8 @@ impl<K: Kernel> Kernel for FusedKernel<K> {
         ensures fuse { FollowsTheCount self.old.fuse (fused self.old.fuse (K.state self.old.inner)) self.new.fuse
             (fused self.new.fuse (K.state self.new.inner)) }
         ensures inner { FailsAtTheNth (Fault Failed) self.old.fuse (fused self.old.fuse (K.state self.old.inner))
-            (K.state self.old.inner) (MakesGroup (K.state self.old.inner) parent name.now) result (K.state self.new.inner) }
+            (K.state self.old.inner) (MakesGroup (K.state self.old.inner) parent name.now) result
+            (K.state self.new.inner) }
     {
         self.burn()?;
         self.inner.make_group(parent, name)
@@ -97,7 +100,8 @@ impl<K: Kernel> Kernel for FusedKernel<K> {
             (fused self.new.fuse (K.state self.new.inner)) }
         ensures fuse { FollowsTheCount self.old.fuse (fused self.old.fuse (K.state self.old.inner)) self.new.fuse
             (fused self.new.fuse (K.state self.new.inner)) }
-        ensures inner { FailsAtTheNth Failed self.old.fuse (fused self.old.fuse (K.state self.old.inner)) (K.state self.old.inner)
+        ensures inner { FailsAtTheNth Failed self.old.fuse (fused self.old.fuse (K.state self.old.inner))
+            (K.state self.old.inner)
             (RemovesGroup (K.state self.old.inner) group) result (K.state self.new.inner) }
     {
         self.burn()?;
@@ -109,7 +113,8 @@ impl<K: Kernel> Kernel for FusedKernel<K> {
             (fused self.new.fuse (K.state self.new.inner)) }
         ensures fuse { FollowsTheCount self.old.fuse (fused self.old.fuse (K.state self.old.inner)) self.new.fuse
             (fused self.new.fuse (K.state self.new.inner)) }
-        ensures inner { FailsAtTheNth Failed self.old.fuse (fused self.old.fuse (K.state self.old.inner)) (K.state self.old.inner)
+        ensures inner { FailsAtTheNth Failed self.old.fuse (fused self.old.fuse (K.state self.old.inner))
+            (K.state self.old.inner)
             (WritesCpus (K.state self.old.inner) group cpus) result (K.state self.new.inner) }
     {
         self.burn()?;
@@ -121,7 +126,8 @@ impl<K: Kernel> Kernel for FusedKernel<K> {
             (fused self.new.fuse (K.state self.new.inner)) }
         ensures fuse { FollowsTheCount self.old.fuse (fused self.old.fuse (K.state self.old.inner)) self.new.fuse
             (fused self.new.fuse (K.state self.new.inner)) }
-        ensures inner { FailsAtTheNth Failed self.old.fuse (fused self.old.fuse (K.state self.old.inner)) (K.state self.old.inner)
+        ensures inner { FailsAtTheNth Failed self.old.fuse (fused self.old.fuse (K.state self.old.inner))
+            (K.state self.old.inner)
             (WritesMems (K.state self.old.inner) group mems) result (K.state self.new.inner) }
     {
         self.burn()?;
@@ -129,7 +135,8 @@ impl<K: Kernel> Kernel for FusedKernel<K> {
     }
 
     fn spawn(&mut self, group: Group) -> Result<u32, OrMemory<KernelFault>>
-        ensures case { Spawns (fused self.old.fuse (K.state self.old.inner)) group result (fused self.new.fuse (K.state self.new.inner)) }
+        ensures case { Spawns (fused self.old.fuse (K.state self.old.inner)) group result
+            (fused self.new.fuse (K.state self.new.inner)) }
         ensures fuse { FollowsTheCount self.old.fuse (fused self.old.fuse (K.state self.old.inner)) self.new.fuse
             (fused self.new.fuse (K.state self.new.inner)) }
         ensures inner { FailsAtTheNth (Fault Failed) self.old.fuse (fused self.old.fuse (K.state self.old.inner))
@@ -144,7 +151,8 @@ impl<K: Kernel> Kernel for FusedKernel<K> {
             (fused self.new.fuse (K.state self.new.inner)) }
         ensures fuse { FollowsTheCount self.old.fuse (fused self.old.fuse (K.state self.old.inner)) self.new.fuse
             (fused self.new.fuse (K.state self.new.inner)) }
-        ensures inner { FailsAtTheNth Failed self.old.fuse (fused self.old.fuse (K.state self.old.inner)) (K.state self.old.inner)
+        ensures inner { FailsAtTheNth Failed self.old.fuse (fused self.old.fuse (K.state self.old.inner))
+            (K.state self.old.inner)
             (EndsGroup (K.state self.old.inner) group) result (K.state self.new.inner) }
     {
         self.burn()?;
@@ -188,7 +196,8 @@ impl<K: Kernel> Kernel for FusedKernel<K> {
     }
 
     fn fork(&mut self, parent: u32) -> Result<u32, OrMemory<KernelFault>>
-        ensures case { Forks (fused self.old.fuse (K.state self.old.inner)) parent result (fused self.new.fuse (K.state self.new.inner)) }
+        ensures case { Forks (fused self.old.fuse (K.state self.old.inner)) parent result
+            (fused self.new.fuse (K.state self.new.inner)) }
         ensures fuse { FollowsTheCount self.old.fuse (fused self.old.fuse (K.state self.old.inner)) self.new.fuse
             (fused self.new.fuse (K.state self.new.inner)) }
         ensures unburnt { self.new.fuse ≡ self.old.fuse }
@@ -198,7 +207,8 @@ impl<K: Kernel> Kernel for FusedKernel<K> {
     }
 
     fn exit(&mut self, pid: u32) -> Result<(), KernelFault>
-        ensures case { Exits (fused self.old.fuse (K.state self.old.inner)) pid result (fused self.new.fuse (K.state self.new.inner)) }
+        ensures case { Exits (fused self.old.fuse (K.state self.old.inner)) pid result
+            (fused self.new.fuse (K.state self.new.inner)) }
         ensures fuse { FollowsTheCount self.old.fuse (fused self.old.fuse (K.state self.old.inner)) self.new.fuse
             (fused self.new.fuse (K.state self.new.inner)) }
         ensures unburnt { self.new.fuse ≡ self.old.fuse }

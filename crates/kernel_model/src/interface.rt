@@ -4,7 +4,8 @@ ghost use Rattle.cpuset_tree.specs.Groups.{root_of, has_group, child_of, request
 ghost use Rattle.cpuset_tree.specs.Effective.{effective_cpus, effective_mems};
 ghost use Rattle.proctable.specs.Processes.{is_alive};
 ghost use Rattle.kernel_model.specs.KernelState.{KernelState};
-ghost use Rattle.kernel_model.specs.Cases.{MakesGroup, RemovesGroup, WritesCpus, WritesMems, Spawns, EndsGroup, Forks, Exits};
+ghost use Rattle.kernel_model.specs.Cases.{MakesGroup, RemovesGroup, WritesCpus, WritesMems, Spawns, EndsGroup, Forks};
+ghost use Rattle.kernel_model.specs.Cases.{Exits};
 ghost use Rattle.kernel_model.specs.Cases.{GoesOffline, ComesOnline, read_of};
 ghost use Rattle.kernel_model.specs.WellFormed.{IsWellFormed};
 

@@ -1,4 +1,5 @@
-//! What the calls of a modelled kernel keep, and when they are refused: laws over the definitions alone. Nothing here runs.
+//! What the calls of a modelled kernel keep, and when they are refused: laws over the definitions alone. Nothing here
+//! runs.
 ghost use Rattle.std.specs.Prelude.{◌≡◌, [], ◌∷◌};
 ghost use Rattle.std.specs.FinSet as set;
 ghost use Rattle.cpu_set.specs.Ids.{Ids};
@@ -7,7 +8,8 @@ ghost use Rattle.cpuset_tree.specs.Groups.{requested_cpus};
 ghost use Rattle.kernel_model.specs.Cases.{WritesCpus};
 ghost use Rattle.kernel_model.specs.Fuse.{FusesCountWrites};
 ghost use Rattle.kernel_model.specs.Laws.{EventsKeepGroups, WritesKeepProcesses, WritesKeepTree, WritesLeaveGroups};
-ghost use Rattle.kernel_model.specs.Laws.{CallsLeaveProcesses, WritesCount, CountsEachWrite, CallsAreFree, RefusalsHaveCauses};
+ghost use Rattle.kernel_model.specs.Laws.{CallsLeaveProcesses, WritesCount, CountsEachWrite, CallsAreFree};
+ghost use Rattle.kernel_model.specs.Laws.{RefusalsHaveCauses};
 ghost use Rattle.kernel_model.specs.Laws.{EachCaseKeeps, StepsKeep, RunsKeep, EmptyWhereNoGroup, FirstIsWellFormed};
 ghost use Rattle.kernel_model.specs.KernelState.{KernelState};
 ghost use Rattle.kernel_model.specs.Refusals.{fork_refusal, offline_refusal, remove_refusal, write_refusal};
@@ -33,8 +35,8 @@ pub fn refusals()
     ensures causes { RefusalsHaveCauses }
 {}
 
-/// What each call and each list of calls keeps. No pid and no serial is given twice, and every process is in a group that
-/// is there.
+/// What each call and each list of calls keeps. No pid and no serial is given twice, and every process is in a group
+/// that is there.
 pub fn runs()
     ensures first { FirstIsWellFormed }
     ensures empty { EmptyWhereNoGroup }

@@ -100,7 +100,8 @@ impl ModelKernel {
     /// # Errors
     /// In this order: `NoGroup`, `IsRoot`, `HasChildren`, `HasProcesses`.
     pub fn removable(&self, group: Group) -> Result<(), KernelFault>
-        ensures { MatchResult result (λ _. remove_refusal self.now group ≡ None) (λ fault. remove_refusal self.now group ≡ Some fault) }
+        ensures { MatchResult result (λ _. remove_refusal self.now group ≡ None) (λ fault. remove_refusal self.now group
+            ≡ Some fault) }
     {
         self.tree.removable(group)?;
         match self.table.count_in(group) {
@@ -126,7 +127,8 @@ impl ModelKernel {
 
 /// The number as one of a present CPU, if it is that.
 fn present_cpu(present: &IdSet, cpu: u32) -> Option<u16>
-    ensures { MatchOption result (set.contains present.now cpu ≡ false) (λ n. (n ≡ cpu) × (set.contains present.now n ≡ true) × IsCpu n) }
+    ensures { MatchOption result (set.contains present.now cpu ≡ false) (λ n. (n ≡ cpu)
+        × (set.contains present.now n ≡ true) × IsCpu n) }
 {
     prove!(present.count() <= u32::from(CPU_LIMIT));
     match u16::try_from(cpu) {

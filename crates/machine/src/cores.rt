@@ -1,5 +1,6 @@
 //! The cores, as the member `cores` lists their CPUs.
-ghost use Rattle.std.specs.Prelude.{◌≡◌, ◌≤◌, ℕ, ◌<◌, ◌&&◌, ◌||◌, ◌==◌, true, IsTrue, IfOk, IfSome, OnOk, AllPairs, is_some, length, map, slice_index_or, ◌↔◌, List, [], ◌∷◌, Some};
+ghost use Rattle.std.specs.Prelude.{◌≡◌, ◌≤◌, ℕ, ◌<◌, ◌&&◌, ◌||◌, ◌==◌, true, IsTrue, IfOk, IfSome, OnOk, AllPairs};
+ghost use Rattle.std.specs.Prelude.{is_some, length, map, slice_index_or, ◌↔◌, List, [], ◌∷◌, Some};
 ghost use Rattle.std.specs.List.{list_all};
 ghost use Rattle.std.specs.Result.{result_err};
 ghost use Rattle.std.specs.FinSet as set;
@@ -10,7 +11,8 @@ ghost use Rattle.cpu_set.specs.declared.TheConstants.{CPU_LIMIT};
 ghost use Rattle.machine.specs.declared.TheConstants.{NODE_LIMIT};
 ghost use Rattle.machine.specs.declared.field.Field.TheVariants.{Nodes, Cores as CoresField};
 ghost use Rattle.cpu_set.specs.Least.{least_of};
-ghost use Rattle.machine.specs.CoresFault.{cores_fault, lists_fault, first_core_fault, left_fault, lowest_of, size_of, is_within, is_core};
+ghost use Rattle.machine.specs.CoresFault.{cores_fault, lists_fault, first_core_fault, left_fault, lowest_of, size_of};
+ghost use Rattle.machine.specs.CoresFault.{is_within, is_core};
 ghost use Rattle.machine.specs.Index.{ArePlaces, AreSiblings};
 ghost use Rattle.machine.specs.KindFaults.{AreLists};
 ghost use Rattle.machine.specs.Listed.{is_list, listed};
@@ -71,7 +73,8 @@ fn read_listed(
     requires few { length nodes.now ≤ NODE_LIMIT }
     requires apart { AllPairs IsDisjoint (map listed (map view nodes.now)) }
     requires present { present.now ≡ union_of (map listed (map view nodes.now)) }
-    ensures fault { cores_fault (map listed (map view nodes.now)) reserved.now (Some (view value.now)) ≡ result_err result }
+    ensures fault { cores_fault (map listed (map view nodes.now)) reserved.now (Some (view value.now))
+        ≡ result_err result }
     ensures lowest { IfOk result (λ c. c.lowest ≡ lowest_of (map listed (items_of (view value.now)))) }
     ensures threads { IfOk result (λ c. c.threads ≡ size_of (map listed (items_of (view value.now)))) }
 {
@@ -129,7 +132,9 @@ fn read_each(
     requires few { length nodes.now ≤ NODE_LIMIT }
     requires apart { AllPairs IsDisjoint (map listed (map view nodes.now)) }
     requires present { present.now ≡ union_of (map listed (map view nodes.now)) }
-    ensures fault { first_of (first_core_fault (map listed (map view nodes.now)) reserved.now (map listed (map view items.now)) ∷ left_fault (map listed (map view nodes.now)) (map listed (map view items.now)) ∷ []) ≡ result_err result }
+    ensures fault { first_of (first_core_fault (map listed (map view nodes.now)) reserved.now
+        (map listed (map view items.now)) ∷ left_fault (map listed (map view nodes.now))
+        (map listed (map view items.now)) ∷ []) ≡ result_err result }
     ensures lowest { IfOk result (λ c. c.lowest ≡ lowest_of (map listed (map view items.now))) }
     ensures threads { IfOk result (λ c. c.threads ≡ size_of (map listed (map view items.now))) }
 {
@@ -162,8 +167,8 @@ fn size_of(items: &[Value]) -> u32
     }
 }
 
-/// The lowest of CPUs that may be a core, given the CPUs that are left, those that are reserved, and the node of each; none
-/// of others.
+/// The lowest of CPUs that may be a core, given the CPUs that are left, those that are reserved, and the node of each;
+/// none of others.
 fn core_of(
     core: &IdSet,
     left: &IdSet,
@@ -172,7 +177,8 @@ fn core_of(
     threads: u32,
 ) -> Option<u16>
     requires room { length places.now ≡ CPU_LIMIT }
-    ensures fits { (nodes : List Ids) → ArePlaces nodes places.now → set.is_subset left.now (union_of nodes) ≡ true → is_some result ≡ is_core nodes reserved.now threads left.now core.now }
+    ensures fits { (nodes : List Ids) → ArePlaces nodes places.now → set.is_subset left.now (union_of nodes) ≡ true
+        → is_some result ≡ is_core nodes reserved.now threads left.now core.now }
     ensures least { IfSome result (λ n. n ≡ least_of core.now) }
 {
     let Some(least) = core.first() else {

@@ -28,8 +28,8 @@ pub enum MachineFault {
     BadReserved,
     /// E34: a CPU is offline that is not present, or that is reserved.
     BadOffline,
-    /// E35: the core with this place in the list has no CPU, one that is not present or that an earlier core has, CPUs of two
-    /// nodes, another number of CPUs than core 0, or CPUs of which some are reserved and some are not.
+    /// E35: the core with this place in the list has no CPU, one that is not present or that an earlier core has, CPUs
+    /// of two nodes, another number of CPUs than core 0, or CPUs of which some are reserved and some are not.
     BadCore(usize),
     /// E36: the least present CPU that no core has.
     NoCore(u16),

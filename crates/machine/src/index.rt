@@ -34,7 +34,8 @@ pub(crate) fn places_of(items: &[Value]) -> [u16; CPU_LIMIT as usize]
 pub(crate) fn mark(places: &mut [u16; CPU_LIMIT as usize], cpus: &IdSet, number: u16)
     requires room { length places.old ≡ CPU_LIMIT }
     ensures room { length places.new ≡ CPU_LIMIT }
-    ensures each { (c : ℕ) → slice_index_or places.new c 0 ≡ cond (set.contains cpus.now c) number (slice_index_or places.old c 0) }
+    ensures each { (c : ℕ) → slice_index_or places.new c 0
+        ≡ cond (set.contains cpus.now c) number (slice_index_or places.old c 0) }
 {
     let mut next = cpus.first();
     while let Some(cpu) = next {

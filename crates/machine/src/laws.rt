@@ -5,7 +5,8 @@ ghost use Rattle.machine.specs.Cores.{core_of, cores_in, whole_in};
 ghost use Rattle.machine.specs.CoresFault.{core_fault, first_core_fault, left_fault};
 ghost use Rattle.machine.specs.CoreCounts.{CoresAreAlike, WholeIsCounted, AllAreWhole, CpusAreCores, CoresAreCpus};
 ghost use Rattle.machine.specs.CoreSums.{CoresWeighAlike, CoresAreNear};
-ghost use Rattle.machine.specs.WholeLaws.{WholeIsWithin, WholeIsAll, WholeIsOfCores, CoresAreWhole, CoresStayApart, CoresComeBack, CoresAreWithin, CoresAreLowest, CoresRise, CoresFillWithin};
+ghost use Rattle.machine.specs.WholeLaws.{WholeIsWithin, WholeIsAll, WholeIsOfCores, CoresAreWhole, CoresStayApart};
+ghost use Rattle.machine.specs.WholeLaws.{CoresComeBack, CoresAreWithin, CoresAreLowest, CoresRise, CoresFillWithin};
 ghost use Rattle.machine.specs.NodesFault.{twice_fault};
 ghost use Rattle.machine.specs.SoundIsRead.{SoundIsRead};
 ghost use Rattle.machine.specs.Weight.{weight};
@@ -20,8 +21,8 @@ pub fn sound_machines_are_read()
     ensures { SoundIsRead }
 {}
 
-/// What is whole in a set is within it, and all of it if the set is whole. It is the CPUs of the cores of which the set has
-/// all. The CPUs of cores are whole. Cores that share none have CPUs that share none.
+/// What is whole in a set is within it, and all of it if the set is whole. It is the CPUs of the cores of which the set
+/// has all. The CPUs of cores are whole. Cores that share none have CPUs that share none.
 pub fn whole_laws()
     ensures within { WholeIsWithin }
     ensures all { WholeIsAll }
@@ -30,8 +31,8 @@ pub fn whole_laws()
     ensures apart { CoresStayApart }
 {}
 
-/// The cores in a set are named by their lowest CPUs, which the set has. A larger set has no fewer cores. Cores and their
-/// CPUs stand for one another.
+/// The cores in a set are named by their lowest CPUs, which the set has. A larger set has no fewer cores. Cores and
+/// their CPUs stand for one another.
 pub fn core_laws()
     ensures within { CoresAreWithin }
     ensures lowest { CoresAreLowest }
@@ -72,6 +73,8 @@ pub fn worked()
     ensures nearest { weight two_sockets (ids (0 ∷ 1 ∷ [])) 6 ≡ 10 }
     ensures twice { twice_fault (ids (0 ∷ 3 ∷ 4 ∷ [])) (ids (3 ∷ 4 ∷ 7 ∷ [])) ≡ Some (MachineFault.CpuTwice 3) }
     ensures no_cpu { first_core_fault two_nodes (ids (0 ∷ 4 ∷ [])) (ids [] ∷ []) ≡ Some (MachineFault.BadCore 0) }
-    ensures other_count { core_fault two_nodes (ids (0 ∷ 4 ∷ [])) 2 (ids (1 ∷ 5 ∷ [])) 1 (ids (1 ∷ [])) ≡ Some (MachineFault.BadCore 1) }
-    ensures no_core { left_fault two_nodes (ids (0 ∷ 4 ∷ []) ∷ ids (1 ∷ 5 ∷ []) ∷ ids (2 ∷ 6 ∷ []) ∷ []) ≡ Some (MachineFault.NoCore 3) }
+    ensures other_count { core_fault two_nodes (ids (0 ∷ 4 ∷ [])) 2 (ids (1 ∷ 5 ∷ [])) 1 (ids (1 ∷ []))
+        ≡ Some (MachineFault.BadCore 1) }
+    ensures no_core { left_fault two_nodes (ids (0 ∷ 4 ∷ []) ∷ ids (1 ∷ 5 ∷ []) ∷ ids (2 ∷ 6 ∷ []) ∷ [])
+        ≡ Some (MachineFault.NoCore 3) }
 {}

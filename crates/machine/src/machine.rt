@@ -1,4 +1,5 @@
-ghost use Rattle.std.specs.Prelude.{◌≡◌, ◌≢◌, ℕ, ◌+◌, ◌<◌, ◌≤◌, ◌↔◌, ◌&&◌, ◌||◌, ◌==◌, true, nat_lt, length, option_map, IfOk};
+ghost use Rattle.std.specs.Prelude.{◌≡◌, ◌≢◌, ℕ, ◌+◌, ◌<◌, ◌≤◌, ◌↔◌, ◌&&◌, ◌||◌, ◌==◌, true, nat_lt, length};
+ghost use Rattle.std.specs.Prelude.{option_map, IfOk};
 ghost use Rattle.serde_json.specs.View.{view};
 ghost use Rattle.std.specs.FinSet as set;
 ghost use Rattle.machine.specs.Layout.{Layout, node_count, cpus_of, distance};
@@ -82,18 +83,18 @@ impl Machine {
     /// Reads a machine file: a JSON object with the members `nodes`, `distances`, `reserved`, `offline` and
     /// `cores`.
     ///
-    /// `nodes` has a list of CPUs as text for each node, node 0 first; an empty text is a node without
-    /// CPUs. `distances` has a row of whole numbers for each node; it is absent where a SLIT is given.
-    /// `reserved` is a list as text, and so is `offline`, which may be absent. `cores` has a list of
-    /// CPUs as text for each core (SMT siblings); where it is absent, each CPU is a core of its own. A member that is null
-    /// counts as absent, of one that is given twice the last counts, and all others are ignored.
+    /// `nodes` has a list of CPUs as text for each node, node 0 first; an empty text is a node without CPUs.
+    /// `distances` has a row of whole numbers for each node; it is absent where a SLIT is given. `reserved` is a list
+    /// as text, and so is `offline`, which may be absent. `cores` has a list of CPUs as text for each core (SMT
+    /// siblings); where it is absent, each CPU is a core of its own. A member that is null counts as absent, of one
+    /// that is given twice the last counts, and all others are ignored.
     ///
     /// # Errors
-    /// An allocation failure, or the first fault in this order. [`MachineFault::NotJson`]; of `nodes` `BadField` and `NodeCount`,
-    /// and node by node `BadField` and `CpuTwice`; `BothDistances` and `NoDistances`; of a SLIT
-    /// `WrongSize`; of `distances` `BadField` where it or a row is no array, `WrongSize`, and entry by
-    /// entry in rows `BadField` and `BadDistance`; of `reserved` `BadField` and `BadReserved`; of
-    /// `offline` `BadField` and `BadOffline`; of `cores` `BadField`, core by core `BadCore`, and `NoCore`.
+    /// An allocation failure, or the first fault in this order. [`MachineFault::NotJson`]; of `nodes` `BadField` and
+    /// `NodeCount`, and node by node `BadField` and `CpuTwice`; `BothDistances` and `NoDistances`; of a SLIT
+    /// `WrongSize`; of `distances` `BadField` where it or a row is no array, `WrongSize`, and entry by entry in rows
+    /// `BadField` and `BadDistance`; of `reserved` `BadField` and `BadReserved`; of `offline` `BadField` and
+    /// `BadOffline`; of `cores` `BadField`, core by core `BadCore`, and `NoCore`.
     ///
     /// Before the first allocation it is known whether there are too many bytes or none, and whether they
     /// are UTF-8. Once the JSON value is there, it allocates nothing where that has a fault.
@@ -103,7 +104,8 @@ impl Machine {
         json: &[u8],
         slit: Option<&Slit>,
     ) -> Result<Machine, OrMemory<MachineFault>>
-        // The machine that the text describes, with or without a SLIT beside it. Else the first fault in the written order.
+        // The machine that the text describes, with or without a SLIT beside it. Else the first fault in the written
+        // order.
         ensures machine { Gives result (machine_of (option_map (λ s. s.now) slit.entry) json.now) }
         // Every machine that it returns is sound. No CPU is in two nodes. Each core is within a node and has `threads`
         // CPUs, all of them reserved or none. A machine without `cores` has cores of one CPU, by the same definitions.
@@ -213,7 +215,8 @@ impl Machine {
         ensures is { result ≡ cpus_of self.now node }
         ensures alike { HaveOneWeight self.now result }
         // These are the present CPUs whose node it is.
-        ensures members { (c : ℕ) → set.contains result c ≡ (set.contains (present self.now) c && (node_of self.now c == node)) }
+        ensures members { (c : ℕ) → set.contains result c
+            ≡ (set.contains (present self.now) c && (node_of self.now c == node)) }
     {
         self.cpus_at(node)
     }
@@ -230,7 +233,8 @@ impl Machine {
     pub fn threads(&self) -> u32
         ensures is { result ≡ self.now.threads }
         ensures some { 1 ≤ result }
-        ensures each { (cpu : ℕ) → IsPresent self.now cpu → set.len (cpus_of_core self.now (core_of self.now cpu)) ≡ result }
+        ensures each { (cpu : ℕ) → IsPresent self.now cpu
+            → set.len (cpus_of_core self.now (core_of self.now cpu)) ≡ result }
         ensures sound { IsSound self.now }
         ensures in_range { InRange (present self.now) }
     {
@@ -246,8 +250,8 @@ impl Machine {
         self.threads == 1
     }
 
-    /// The cores of which the set has all CPUs, each by its lowest CPU. It is the set itself if each CPU is a core of its
-    /// own. O(c) of c CPUs in the set.
+    /// The cores of which the set has all CPUs, each by its lowest CPU. It is the set itself if each CPU is a core of
+    /// its own. O(c) of c CPUs in the set.
     pub fn cores_in(&self, cpus: &IdSet) -> IdSet
         ensures is { result ≡ cores_in self.now cpus.now }
         ensures sound { IsSound self.now }
@@ -303,7 +307,8 @@ impl Machine {
         self.siblings[cpu as usize]
     }
 
-    /// The CPUs of the cores with these lowest CPUs. It is the set itself if each CPU is a core of its own. O(c) of c CPUs.
+    /// The CPUs of the cores with these lowest CPUs. It is the set itself if each CPU is a core of its own. O(c) of c
+    /// CPUs.
     pub fn cpus_of_cores(&self, cores: &IdSet) -> IdSet
         ensures is { result ≡ cpus_of_cores self.now cores.now }
         ensures sound { IsSound self.now }
@@ -324,7 +329,8 @@ impl Machine {
     /// Adds the CPUs of the core with this lowest CPU, and none where no core has it.
     fn add_core(&self, core: u16, cpus: &mut IdSet)
         requires { IsCpu core }
-        ensures { (q : ℕ) → set.contains cpus.new q ≡ (set.contains cpus.old q || (nat_lt q CPU_LIMIT && (core_of self.now q == core))) }
+        ensures { (q : ℕ) → set.contains cpus.new q
+            ≡ (set.contains cpus.old q || (nat_lt q CPU_LIMIT && (core_of self.now q == core))) }
     {
         if self.core_at(core) != core {
             return;
@@ -336,8 +342,8 @@ impl Machine {
         }
     }
 
-    /// The CPUs of those cores of which the set has all CPUs. It is the set itself if each CPU is a core of its own. O(c)
-    /// of c CPUs in the set.
+    /// The CPUs of those cores of which the set has all CPUs. It is the set itself if each CPU is a core of its own.
+    /// O(c) of c CPUs in the set.
     pub fn whole_in(&self, cpus: IdSet) -> IdSet
         ensures is { result ≡ whole_in self.now cpus }
         // What it returns is whole.
@@ -457,7 +463,8 @@ impl Machine {
     pub fn in_reach(&self, homes: &IdSet) -> IdSet
         requires { AreHomes self.now homes.now }
         // These weigh less than 255.
-        ensures { (c : ℕ) → set.contains result c ≡ (set.contains (present self.now) c && nat_lt (weight self.now homes.now c) 255) }
+        ensures { (c : ℕ) → set.contains result c
+            ≡ (set.contains (present self.now) c && nat_lt (weight self.now homes.now c) 255) }
     {
         let weights = self.weights(homes);
         let mut reach = self.union();

@@ -1,5 +1,6 @@
 //! The distances between the nodes, as the member `distances` or a SLIT has them.
-ghost use Rattle.std.specs.Prelude.{◌≡◌, ◌<◌, ◌≤◌, ◌+◌, ◌++◌, ◌==◌, true, Some, None, IfOk, OnOk, length, map, is_some, option_map};
+ghost use Rattle.std.specs.Prelude.{◌≡◌, ◌<◌, ◌≤◌, ◌+◌, ◌++◌, ◌==◌, true, Some, None, IfOk, OnOk, length, map, is_some};
+ghost use Rattle.std.specs.Prelude.{option_map};
 ghost use Rattle.std.specs.Result.{result_err};
 ghost use Rattle.std.specs.List.{list_all, flat_map};
 ghost use Rattle.serde_json.specs.Find.{as_array};
@@ -8,7 +9,8 @@ ghost use Rattle.slit.specs.AreDistances.{IsEntry};
 ghost use Rattle.json_text.specs.Members.{seen};
 ghost use Rattle.machine.specs.Members.{items_of};
 ghost use Rattle.json_text.specs.Numbers.{unsigned_of};
-ghost use Rattle.machine.specs.Distances.{entry_of, row_entries, distances_in, AreEntries, IsRowAllowed, AreRowsAllowed};
+ghost use Rattle.machine.specs.Distances.{entry_of, row_entries, distances_in, AreEntries, IsRowAllowed};
+ghost use Rattle.machine.specs.Distances.{AreRowsAllowed};
 ghost use Rattle.machine.specs.DistancesFault.{entry_fault, row_fault, rows_fault, shape_fault, distances_fault};
 
 use crate::fault::MachineFault;
@@ -31,7 +33,8 @@ pub(crate) fn read_distances(
 ) -> Result<ArrayVec<u8, ENTRY_LIMIT>, MachineFault>
     requires { count ≤ NODE_LIMIT }
     ensures fault { distances_fault (option_map (λ s. s.now) slit.entry) (seen found.entry) count ≡ result_err result }
-    ensures entries { IfOk result (λ v. v.items ≡ distances_in (option_map (λ s. s.now) slit.entry) (seen found.entry)) }
+    ensures entries { IfOk result (λ v. v.items ≡ distances_in (option_map (λ s. s.now) slit.entry)
+        (seen found.entry)) }
     ensures are { IfOk result (λ v. AreEntries count v.items) }
 {
     match (found, slit) {
@@ -72,7 +75,8 @@ fn from_rows(rows: &Value, count: usize) -> Result<ArrayVec<u8, ENTRY_LIMIT>, Ma
 }
 
 /// Checks that there are so many rows, and so many entries in each.
-#[tactic(auto, using(crate::proofs::ItemLaws::item_counts, crate::proofs::ItemLaws::item_tests), unfolding(crate::specs::DistancesFault::shape_fault))]
+#[tactic(auto, using(crate::proofs::ItemLaws::item_counts, crate::proofs::ItemLaws::item_tests),
+    unfolding(crate::specs::DistancesFault::shape_fault))]
 fn check_shape(rows: &[Value], count: usize) -> Result<(), MachineFault>
     ensures fault { shape_fault count (map view rows.now) ≡ result_err result }
     ensures rows { OnOk result (length rows.now ≡ count) }

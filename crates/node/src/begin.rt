@@ -106,7 +106,8 @@ fn entries_in<K: Kernel>(
     sets: &[IdSet],
     pool: &IdSet,
 ) -> Result<Vec<Entry>, AllocError>
-    ensures { IfOk result (λ entries. entries.items ≡ entries_in (K.state kernel.now) pool.now (all_seen containers.now.entries) sets.now) }
+    ensures { IfOk result (λ entries. entries.items
+        ≡ entries_in (K.state kernel.now) pool.now (all_seen containers.now.entries) sets.now) }
 {
     let mut entries = Vec::with_capacity(alloc, containers.len())?;
     let mut sets = sets.iter();
@@ -153,7 +154,8 @@ impl<K: Kernel + Drop> Node<K> {
         requires kept { AreKept self.now.machine plan.now kept.now }
         ensures pool { IfOk result (λ p. p.0 ≡ plan_pool self.now (as_cpus self.now.machine plan.now)) }
         ensures ongoing { IfOk result (λ p. seen_ongoing p.1 ≡ opened self.now (as_cpus self.now.machine plan.now)) }
-        ensures stands { IfOk result (λ p. IsOngoing self.now.kernel (owners_of self.now.containers) (seen_ongoing p.1)) }
+        ensures stands { IfOk result (λ p. IsOngoing self.now.kernel (owners_of self.now.containers)
+            (seen_ongoing p.1)) }
     {
         self.opening_to(shown_cpus(&self.machine, plan, kept))
     }
@@ -170,7 +172,8 @@ impl<K: Kernel + Drop> Node<K> {
         requires { CouldHave self.now sets.now }
         ensures pool { IfOk result (λ p. p.0 ≡ plan_pool self.now sets.now) }
         ensures ongoing { IfOk result (λ p. seen_ongoing p.1 ≡ opened self.now sets.now) }
-        ensures stands { IfOk result (λ p. IsOngoing self.now.kernel (owners_of self.now.containers) (seen_ongoing p.1)) }
+        ensures stands { IfOk result (λ p. IsOngoing self.now.kernel (owners_of self.now.containers)
+            (seen_ongoing p.1)) }
     {
         let pool = pool_of(&self.kernel.online(), sets);
         let entries = entries_in(self.alloc, &self.kernel, &self.containers, sets, &pool)?;

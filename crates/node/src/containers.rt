@@ -40,7 +40,8 @@ pub fn prepare(
 pub fn append(containers: &mut IndexMap<String, Container>, id: String, container: Container)
     requires room { 0 < spare containers.old }
     requires absent { lookup (bytes_eq (string_bytes id)) (all_seen containers.old.entries) ≡ None }
-    ensures { all_seen containers.new.entries ≡ all_seen containers.old.entries ++ (string_bytes id, seen container) ∷ [] }
+    ensures { all_seen containers.new.entries ≡ all_seen containers.old.entries ++ (string_bytes id, seen container)
+        ∷ [] }
 {
     match containers.insert(id, container) {
         Ok(_) => {}
@@ -51,7 +52,8 @@ pub fn append(containers: &mut IndexMap<String, Container>, id: String, containe
 /// Notes that a container was started.
 pub fn mark_started(containers: &mut IndexMap<String, Container>, id: &str)
     ensures { (c : ContainerState) → lookup (bytes_eq id.now) (all_seen containers.old.entries) ≡ Some c
-        → all_seen containers.new.entries ≡ set_value (bytes_eq id.now) (all_seen containers.old.entries) (record c { started = true }) }
+        → all_seen containers.new.entries ≡ set_value (bytes_eq id.now) (all_seen containers.old.entries)
+        (record c { started = true }) }
 {
     if let Some(container) = containers.get_mut(id) {
         container.started = true;
@@ -66,7 +68,8 @@ pub fn replace(
     demand: Demand,
 )
     ensures { (c : ContainerState) → lookup (bytes_eq id.now) (all_seen containers.old.entries) ≡ Some c
-        → all_seen containers.new.entries ≡ set_value (bytes_eq id.now) (all_seen containers.old.entries) (record c { bundle = string_bytes bundle; demand = demand }) }
+        → all_seen containers.new.entries ≡ set_value (bytes_eq id.now) (all_seen containers.old.entries)
+        (record c { bundle = string_bytes bundle; demand = demand }) }
 {
     if let Some(container) = containers.get_mut(id) {
         container.bundle = bundle;

@@ -140,9 +140,9 @@ impl<K: Kernel + Drop> Node<K> {
     ///
     /// # Errors
     /// In this order: `Busy`, `BadId`, `IdInUse`, `TooManyContainers`, `Config`, `Demand`; and then of the kernel
-    /// `NoSerials`, `NoPids` or `Failed`. Before the first allocation it is known whether the config has too many bytes or
-    /// none, and whether they are UTF-8. An allocation failure or a refusal of the kernel leaves at most an empty group of this
-    /// id, which a later `create` uses.
+    /// `NoSerials`, `NoPids` or `Failed`. Before the first allocation it is known whether the config has too many bytes
+    /// or none, and whether they are UTF-8. An allocation failure or a refusal of the kernel leaves at most an empty
+    /// group of this id, which a later `create` uses.
     pub fn create(
         &mut self,
         id: &str,
@@ -161,7 +161,8 @@ impl<K: Kernel + Drop> Node<K> {
         ensures made { CreateWrites self.old id.now result self.new }
         // The kernel refuses in three cases only. A write fails, no serial for a group of this id is left, or no pid is
         // left. If no serial is left, only the count of writes changes.
-        ensures late { (fault : KernelFault) → result ≡ Err (Fault (Kernel fault)) → LateCause self.old id.now fault self.new }
+        ensures late { (fault : KernelFault) → result ≡ Err (Fault (Kernel fault))
+            → LateCause self.old id.now fault self.new }
         // It never answers that a CPU is not free.
         ensures never { (cpu : ℕ) → result ≢ Err (Fault (NotFree cpu)) }
     {
@@ -185,8 +186,8 @@ impl<K: Kernel + Drop> Node<K> {
         requires { cpus ≢ set.empty }
         // It is `create` on CPUs that the container has already, in place of the reserved ones. Both are one relation,
         // `Places`, with these CPUs as its argument. It makes a container only on CPUs that it may request, and else
-        // refuses the least that it may not. Such a CPU is not present; or it is not reserved, a live container requests
-        // it, and one of the two is pinned (`MayRequest`, `IsLeastTaken`).
+        // refuses the least that it may not. Such a CPU is not present; or it is not reserved, a live container
+        // requests it, and one of the two is pinned (`MayRequest`, `IsLeastTaken`).
         ensures adopts { Adopts self.old id.now bundle.now config.now cpus result self.new }
         // It leaves what `create` does.
         ensures leaves { CreateLeaves self.old id.now result self.new }
@@ -194,7 +195,8 @@ impl<K: Kernel + Drop> Node<K> {
         // It makes as many writing calls as `create`.
         ensures made { CreateWrites self.old id.now result self.new }
         // The kernel refuses in the same cases.
-        ensures late { (fault : KernelFault) → result ≡ Err (Fault (Kernel fault)) → LateCause self.old id.now fault self.new }
+        ensures late { (fault : KernelFault) → result ≡ Err (Fault (Kernel fault))
+            → LateCause self.old id.now fault self.new }
     {
         self.holds();
         self.place(id, bundle, config, cpus)

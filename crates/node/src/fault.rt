@@ -33,8 +33,8 @@ pub enum NodeFault {
     NoHandover,
     /// E101: no plan and no shortage was worked out yet.
     NoAnswer,
-    /// E104: a container that is adopted has the CPU, and the CPU is not present, or not reserved and requested by a live
-    /// container where that one or the adopted one is pinned: the least such CPU.
+    /// E104: a container that is adopted has the CPU, and the CPU is not present, or not reserved and requested by a
+    /// live container where that one or the adopted one is pinned: the least such CPU.
     NotFree(u16),
     /// The container's config can't be read.
     Config(ConfigFault),

@@ -27,7 +27,8 @@ pub fn is_pinned(kind: Kind) -> bool
 /// The CPUs that a container keeps from a new one, which is pinned or not.
 fn kept_by<K: Kernel>(kernel: &K, container: &Container, pinned: bool) -> IdSet
     requires { has_group (K.state kernel.now).tree container.now.group ≡ true }
-    ensures { (id : List ℕ) (cpu : ℕ) → set.contains result cpu ≡ keeps (K.state kernel.now) pinned cpu (id, seen container.now) }
+    ensures { (id : List ℕ) (cpu : ℕ) → set.contains result cpu
+        ≡ keeps (K.state kernel.now) pinned cpu (id, seen container.now) }
 {
     if !kernel.first_alive(container.pid) {
         return IdSet::empty();
@@ -40,8 +41,10 @@ fn kept_by<K: Kernel>(kernel: &K, container: &Container, pinned: bool) -> IdSet
 
 /// The CPUs that one of the containers keeps from a new one.
 fn kept_in<K: Kernel>(kernel: &K, containers: &IndexMap<String, Container>, pinned: bool) -> IdSet
-    requires { AllByRecursion (λ e. has_group (K.state kernel.now).tree e.1.group ≡ true) (all_seen containers.now.entries) }
-    ensures { (cpu : ℕ) → set.contains result cpu ≡ list_any (keeps (K.state kernel.now) pinned cpu) (all_seen containers.now.entries) }
+    requires { AllByRecursion (λ e. has_group (K.state kernel.now).tree e.1.group
+        ≡ true) (all_seen containers.now.entries) }
+    ensures { (cpu : ℕ) → set.contains result cpu
+        ≡ list_any (keeps (K.state kernel.now) pinned cpu) (all_seen containers.now.entries) }
 {
     let mut kept = IdSet::empty();
     for (_, container) in containers.iter() {
@@ -53,7 +56,8 @@ fn kept_in<K: Kernel>(kernel: &K, containers: &IndexMap<String, Container>, pinn
 impl<K: Kernel + Drop> Node<K> {
     /// The least of these CPUs that a new container may not request.
     pub(crate) fn first_taken(&self, cpus: &IdSet, pinned: bool) -> Option<u16>
-        ensures { MatchOption result (AreFreeCpus self.now pinned cpus.now) (λ cpu. IsLeastTaken self.now pinned cpus.now cpu) }
+        ensures { MatchOption result (AreFreeCpus self.now pinned cpus.now)
+            (λ cpu. IsLeastTaken self.now pinned cpus.now cpu) }
     {
         let others = cpus.minus(&self.machine.reserved());
         if others.is_empty() {

@@ -4,8 +4,10 @@ ghost use Rattle.node.specs.Asking.{RowsAreAsking, ScaledRowsAreAsking, ShortSta
 ghost use Rattle.node.specs.Calls.{is_ending};
 ghost use Rattle.node.specs.Ending.{HandoversEnd};
 ghost use Rattle.node.specs.FaultTitle.{node_title};
-ghost use Rattle.node.specs.Machine.{Ask, Step, FirstIsNode, RunsKeep, RunsStaySafe, RunsStayApart, RebalancesAreSteps, RunsRebalance};
-ghost use Rattle.node.specs.Making.{PlacesAreCalls, PlacesFailLate, PlacesStaySafe, UpdatesAreCalls, UpdatesFail, UpdatesStaySafe};
+ghost use Rattle.node.specs.Machine.{Ask, Step, FirstIsNode, RunsKeep, RunsStaySafe, RunsStayApart, RebalancesAreSteps};
+ghost use Rattle.node.specs.Machine.{RunsRebalance};
+ghost use Rattle.node.specs.Making.{PlacesAreCalls, PlacesFailLate, PlacesStaySafe, UpdatesAreCalls, UpdatesFail};
+ghost use Rattle.node.specs.Making.{UpdatesStaySafe};
 ghost use Rattle.node.specs.NodeState.{NodeState};
 ghost use Rattle.node.specs.Proved.{LastIsProved, TotalIsProved, ShortIsProved};
 ghost use Rattle.node.specs.Questions.{Answers, ListAll, PhaseIs, SetsOf};
@@ -26,16 +28,16 @@ pub fn first_kernels()
     ensures memory { FirstWantsMemory }
 {}
 
-/// What holds of a node holds of a new one, and after any list of its calls and of the kernel's events, of plain values.
-/// All their refusals are among them, and the calls that only read. What is safe is safe after each of them.
+/// What holds of a node holds of a new one, and after any list of its calls and of the kernel's events, of plain
+/// values. All their refusals are among them, and the calls that only read. What is safe is safe after each of them.
 ///
-/// A rebalance which hands over leaves what `begin` and single steps leave, each of which makes at most one write. What is
-/// safe is safe after each of these, and so wherever a write fails. After each write of `create` and of `adopt` it is by
-/// [`each_create`], and of `update` by [`each_update`]. Each other call makes at most one.
+/// A rebalance which hands over leaves what `begin` and single steps leave, each of which makes at most one write. What
+/// is safe is safe after each of these, and so wherever a write fails. After each write of `create` and of `adopt` it
+/// is by [`each_create`], and of `update` by [`each_update`]. Each other call makes at most one.
 ///
-/// A container asks for what the config says that was read for it last. The event that made it read that, a `create` or an
-/// `adopt`; or an `update` did behind that one. No event after it that was not refused read another for its id. Whether it
-/// can be started is what the config says with which it was made (`said`).
+/// A container asks for what the config says that was read for it last. The event that made it read that, a `create` or
+/// an `adopt`; or an `update` did behind that one. No event after it that was not refused read another for its id.
+/// Whether it can be started is what the config says with which it was made (`said`).
 ///
 /// If each live container then requests an online CPU, the sets in effect are safe as the requested ones are (`apart`).
 pub fn runs()
@@ -47,13 +49,14 @@ pub fn runs()
     ensures said { ContainersAreSaid }
 {}
 
-/// A hand-over that is stepped ends within two steps for each container, whatever calls and events fall between them. One
-/// of no container ends with its first step.
+/// A hand-over that is stepped ends within two steps for each container, whatever calls and events fall between them.
+/// One of no container ends with its first step.
 pub fn each_handover()
     ensures { HandoversEnd }
 {}
 
-/// A `create` or an `adopt`, whatever it returns, is single calls of the kernel. What is safe is safe after each of them.
+/// A `create` or an `adopt`, whatever it returns, is single calls of the kernel. What is safe is safe after each of
+/// them.
 ///
 /// The kernel refuses it only if a write fails, which is counted, or if no serial for a new group or no pid is left.
 pub fn each_create()
@@ -62,28 +65,28 @@ pub fn each_create()
     ensures late { PlacesFailLate }
 {}
 
-/// An `update`, whatever it returns, is single calls of the kernel, two at most. What is safe is safe after each of them.
-/// If a write fails, the container asks for what it did, and requests what it did or the reserved CPUs.
+/// An `update`, whatever it returns, is single calls of the kernel, two at most. What is safe is safe after each of
+/// them. If a write fails, the container asks for what it did, and requests what it did or the reserved CPUs.
 pub fn each_update()
     ensures single { UpdatesAreCalls }
     ensures safe { UpdatesStaySafe }
     ensures fails { UpdatesFail }
 {}
 
-/// The headline: what a rebalance leaves, after any list of calls and events. With it stand what the certificate tells of
-/// that and what is left if a write failed.
+/// The headline: what a rebalance leaves, after any list of calls and events. With it stand what the certificate tells
+/// of that and what is left if a write failed.
 ///
-/// After a plan each live container has exactly the CPUs that it asked for, of whole cores, all allowed and none shared. No
-/// plan undercuts their total distance to the home nodes, and among all plans of that total none moves fewer cores. What
-/// the kernel has in effect is that plan, and the pool is the online CPUs that it leaves.
+/// After a plan each live container has exactly the CPUs that it asked for, of whole cores, all allowed and none
+/// shared. No plan undercuts their total distance to the home nodes, and among all plans of that total none moves fewer
+/// cores. What the kernel has in effect is that plan, and the pool is the online CPUs that it leaves.
 ///
 /// A shortage names containers that together ask for more CPUs than the whole cores that they may have offer.
 pub fn each_rebalance()
     ensures { RunsRebalance }
 {}
 
-/// What a plan gives to a container, by the config that was read for it last. It holds after any list of calls and events
-/// from a node of no container on.
+/// What a plan gives to a container, by the config that was read for it last. It holds after any list of calls and
+/// events from a node of no container on.
 ///
 /// If the config asks for CPUs of its own, the container has as many in effect, of whole cores, all allowed by it and
 /// online. Else it has the pool, which is not empty.
@@ -91,16 +94,16 @@ pub fn what_configs_get()
     ensures { RunsServeConfigs }
 {}
 
-/// Whose the rows of a node's problem are: each is a live pinned container's, in their order. A row says for each core how
-/// far it is and whether it moves. A shortage of the rows is one of these containers.
+/// Whose the rows of a node's problem are: each is a live pinned container's, in their order. A row says for each core
+/// how far it is and whether it moves. A shortage of the rows is one of these containers.
 pub fn whose_rows()
     ensures rows { RowsAreAsking }
     ensures scaled { ScaledRowsAreAsking }
     ensures short { ShortStands }
 {}
 
-/// If each core has one CPU, as on a machine that tells no cores, each set is whole, the certificate names CPUs, and CPUs
-/// move.
+/// If each core has one CPU, as on a machine that tells no cores, each set is whole, the certificate names CPUs, and
+/// CPUs move.
 pub fn without_cores()
     ensures { WithoutCores }
 {}
@@ -108,8 +111,8 @@ pub fn without_cores()
 /// The text of what a node worked out last proves its verdict to whoever checks it.
 ///
 /// After a plan that is a distance, with how many cores the sets in effect moved. The total that was answered is that
-/// distance, for each CPU that a core has (`total`). After a shortage it is how many cores are asked for and how many there
-/// are, and what was answered is their CPUs (`short`).
+/// distance, for each CPU that a core has (`total`). After a shortage it is how many cores are asked for and how many
+/// there are, and what was answered is their CPUs (`short`).
 pub fn certificates_prove()
     ensures last { LastIsProved }
     ensures total { TotalIsProved }
@@ -134,6 +137,7 @@ pub fn worked()
     ensures stopped { status_by false true ≡ Status.Stopped }
     ensures question { (n : NodeState) → Step n (Ask (PhaseIs n.phase)) n }
     ensures nobody { (n : NodeState) → Answers (record n { containers = [] }) (ListAll []) }
-    ensures unknown { (n : NodeState) → Answers (record n { containers = [] }) (SetsOf (codes "a") (Err NodeFault.NoContainer)) }
+    ensures unknown { (n : NodeState)
+        → Answers (record n { containers = [] }) (SetsOf (codes "a") (Err NodeFault.NoContainer)) }
     ensures refused { node_title NodeFault.NotRunnable ≡ codes "E96 NotRunnable" }
 {}

@@ -25,7 +25,8 @@ impl<K: Kernel + Drop> Node<K> {
     /// Whom the plan or the shortage names that was worked out last; none of it is worked out again.
     pub fn named(&self) -> Named<'_>
         requires { IsSome self.now.last }
-        // Of a plan it lends the certificate's rows and the CPUs of each, of a shortage the rows and the places of its members.
+        // Of a plan it lends the certificate's rows and the CPUs of each, of a shortage the rows and the places of its
+        // members.
         ensures { Names self.now result }
     {
         let Some(certificate) = &self.last else {

@@ -92,7 +92,8 @@ impl<K: Kernel + Drop> Node<K> {
     /// A node with no container, over a kernel in which the node's group is found or made.
     ///
     /// # Errors
-    /// `Memory`, or `NoSerials` or `Failed` of the kernel, which is handed back with the machine, and may be used again.
+    /// `Memory`, or `NoSerials` or `Failed` of the kernel, which is handed back with the machine, and may be used
+    /// again.
     pub fn new(alloc: Global, kernel: K, machine: Machine) -> Result<Node<K>, NotOpened<K>>
         requires machine { IsOfMachine (K.state kernel) machine }
         requires unused { IsUnused (K.state kernel) }
@@ -103,11 +104,13 @@ impl<K: Kernel + Drop> Node<K> {
         ensures counted { MatchResult result (λ n. n.kernel.failures ≡ (K.state kernel).failures)
             (λ r. (K.state r.kernel).failures ≡ (K.state kernel).failures + error_rise r.error) }
         // It makes one writing call if there is no such group, and else none.
-        ensures made { MatchResult result (λ n. OpenWrites (K.state kernel) n.kernel) (λ r. OpenWrites (K.state kernel) (K.state r.kernel)) }
+        ensures made { MatchResult result (λ n. OpenWrites (K.state kernel) n.kernel)
+            (λ r. OpenWrites (K.state kernel) (K.state r.kernel)) }
         // A kernel that is handed back may be used again.
         ensures again { IfErr result (λ r. IsOfMachine (K.state r.kernel) machine × IsUnused (K.state r.kernel)) }
         // The kernel refuses in two cases only: a write fails, or there is no such group and no serial is left for it.
-        ensures late { IfErr result (λ r. (fault : KernelFault) → r.error ≡ Fault fault → OpenCause (K.state kernel) fault (K.state r.kernel)) }
+        ensures late { IfErr result (λ r. (fault : KernelFault) → r.error ≡ Fault fault
+            → OpenCause (K.state kernel) fault (K.state r.kernel)) }
     {
         let _ = machine.threads();
         let mut kernel = kernel;
@@ -139,10 +142,10 @@ impl<K: Kernel + Drop> Node<K> {
     /// request are safe: outside the reserved CPUs no CPU is requested for a live pinned container and for another live
     /// one, and no live one requests none.
     pub fn holds(&self)
-        // The node's group is `numarun` below the root, and requests nothing. Each container's group is a child of it, of
-        // the container's id, and no group is below that. Every live process belongs to a container. There are at most
-        // 1,024 containers. What is requested is safe, as under `apply_plan`. A hand-over that is open is of all live
-        // containers.
+        // The node's group is `numarun` below the root, and requests nothing. Each container's group is a child of it,
+        // of the container's id, and no group is below that. Every live process belongs to a container. There are at
+        // most 1,024 containers. What is requested is safe, as under `apply_plan`. A hand-over that is open is of all
+        // live containers.
         ensures { IsNode self.now }
     {
         let _ = &self.parent;

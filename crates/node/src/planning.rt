@@ -123,19 +123,19 @@ impl<K: Kernel + Drop> Node<K> {
         Ok(outcome)
     }
 
-    /// Works out a plan of the live containers of least total distance to the home nodes; among all plans of that total it
-    /// moves the fewest cores. It opens the hand-over to it, of which [`step`](Node::step) makes the writes one by one. If
-    /// there is no plan, a shortage shows why. In the kernel nothing is written.
+    /// Works out a plan of the live containers of least total distance to the home nodes; among all plans of that total
+    /// it moves the fewest cores. It opens the hand-over to it, of which [`step`](Node::step) makes the writes one by
+    /// one. If there is no plan, a shortage shows why. In the kernel nothing is written.
     ///
     /// # Errors
     /// `Busy`, or an allocation failure; then all is as before.
     pub fn begin(&mut self) -> Result<Outcome, OrMemory<NodeFault>>
-        // The plan is of the live pinned containers' rows, in the order of creation, over the cores that are online as a
-        // whole. The CPUs of its cores are at the total that is answered. None that the containers could have are nearer,
-        // and none that are as near move fewer cores (`best`). The cores are a plan of least cost of the rows by distance
-        // (`least`). The total is that cost, for each CPU that a core has (`counts`). Twins of the scaled rows are dealt by
-        // the rule (`decides`). It opens the hand-over to the plan, or answers a shortage if there is none. Either way the
-        // certificate is of these rows, scaled, and nothing is written.
+        // The plan is of the live pinned containers' rows, in the order of creation, over the cores that are online as
+        // a whole. The CPUs of its cores are at the total that is answered. None that the containers could have are
+        // nearer, and none that are as near move fewer cores (`best`). The cores are a plan of least cost of the rows
+        // by distance (`least`). The total is that cost, for each CPU that a core has (`counts`). Twins of the scaled
+        // rows are dealt by the rule (`decides`). It opens the hand-over to the plan, or answers a shortage if there is
+        // none. Either way the certificate is of these rows, scaled, and nothing is written.
         ensures { Begins self.old result self.new }
     {
         if self.phase.is_underway() {
@@ -177,33 +177,33 @@ impl<K: Kernel + Drop> Node<K> {
         Ok(outcome)
     }
 
-    /// Works out a plan of the live containers and moves them onto it. Each one that asks for CPUs of its own then has as
-    /// many, of whole cores, all allowed, online and in nobody else's set. No plan undercuts their total distance to the
-    /// home nodes, and among all plans of that total none moves fewer cores. The others share the pool. If there is no
-    /// plan, nothing is written. A shortage then names containers that together ask for more CPUs than the whole cores that
-    /// they may have offer.
+    /// Works out a plan of the live containers and moves them onto it. Each one that asks for CPUs of its own then has
+    /// as many, of whole cores, all allowed, online and in nobody else's set. No plan undercuts their total distance to
+    /// the home nodes, and among all plans of that total none moves fewer cores. The others share the pool. If there is
+    /// no plan, nothing is written. A shortage then names containers that together ask for more CPUs than the whole
+    /// cores that they may have offer.
     ///
     /// All memory is taken before the first write.
     ///
     /// # Errors
-    /// In this order: `Busy`; an allocation failure; `Failed` of the kernel: the hand-over is over, each container requests what
-    /// it did before, or what it keeps of that, or its target, and the next call starts from there.
+    /// In this order: `Busy`; an allocation failure; `Failed` of the kernel: the hand-over is over, each container
+    /// requests what it did before, or what it keeps of that, or its target, and the next call starts from there.
     pub fn rebalance(&mut self) -> Result<Outcome, OrMemory<NodeFault>>
         // What the host has then (`specs/Headline.antt`).
         ensures headline { Headline self.old result self.new }
         // What the certificate tells of that (`specs/Tells.antt`).
         ensures told { Tells self.old result self.new }
-        // If a write failed, each container requests what it did before, what it keeps of that, or what the plan gave it.
-        // Nothing else changed in the kernel but its counts, and the hand-over is over. The plan that it began was as good
-        // as that of `begin`, and the certificate tells it (`best` and `told` of `IsBrokenOff`).
+        // If a write failed, each container requests what it did before, what it keeps of that, or what the plan gave
+        // it. Nothing else changed in the kernel but its counts, and the hand-over is over. The plan that it began was
+        // as good as that of `begin`, and the certificate tells it (`best` and `told` of `IsBrokenOff`).
         ensures broken { BreaksOff self.old result self.new }
-        // It is `begin`, and what single steps until the hand-over ends would do. `Busy` and an allocation failure change
-        // nothing.
+        // It is `begin`, and what single steps until the hand-over ends would do. `Busy` and an allocation failure
+        // change nothing.
         ensures rebalances { Rebalances self.old result self.new }
         ensures counted { self.new.kernel.failures ≡ self.old.kernel.failures + rise_or_memory result }
-        // To a plan it makes exactly the writing calls that were to come of the hand-over to the sets then in effect. These
-        // are at most two for each live container. If a write fails, at most one more than two for each is made, and if
-        // there is no plan none.
+        // To a plan it makes exactly the writing calls that were to come of the hand-over to the sets then in effect.
+        // These are at most two for each live container. If a write fails, at most one more than two for each is made,
+        // and if there is no plan none.
         ensures made { RebalanceWrites self.old result self.new }
     {
         self.holds();

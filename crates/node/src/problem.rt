@@ -23,8 +23,8 @@ use machine::Machine;
 use rows::{CachedOffers, scaled_row_of};
 use std::alloc::{AllocError, Global};
 
-/// The row of a container over these CPUs, which are online, if it is live and asks for CPUs of its own; those that its group
-/// does not request are a move besides their distance.
+/// The row of a container over these CPUs, which are online, if it is live and asks for CPUs of its own; those that its
+/// group does not request are a move besides their distance.
 fn row_in<K: Kernel>(
     alloc: Global,
     kernel: &K,
@@ -38,7 +38,8 @@ fn row_in<K: Kernel>(
     requires placed { has_group (K.state kernel.now).tree container.now.group ≡ true }
     requires fits { FitsMachine machine.now container.now.demand }
     requires cache { All (IsCached machine.now) cache.old.items }
-    ensures row { IfOk result (λ row. row ≡ scaled_row_of_container (K.state kernel.now) machine.now (id.now, seen container.now)) }
+    ensures row { IfOk result (λ row. row ≡ scaled_row_of_container (K.state kernel.now) machine.now
+        (id.now, seen container.now)) }
     ensures fits { IfOk result (λ row. IfSome row (λ r. IsTrue (row_fits r))) }
     ensures cache { All (IsCached machine.now) cache.new.items }
 {
@@ -49,19 +50,21 @@ fn row_in<K: Kernel>(
     scaled_row_of(alloc, machine, online, id, &container.demand, held, cache)
 }
 
-/// The live containers that ask for CPUs of their own, as a problem: a row for each over the CPUs that are online, in the
-/// order in which they were created, with weights that count moves besides the distance.
+/// The live containers that ask for CPUs of their own, as a problem: a row for each over the CPUs that are online, in
+/// the order in which they were created, with weights that count moves besides the distance.
 pub fn rows_in<K: Kernel>(
     alloc: Global,
     kernel: &K,
     machine: &Machine,
     containers: &IndexMap<String, Container>,
 ) -> Result<Problem, AllocError>
-    requires placed { AllByRecursion (λ e. has_group (K.state kernel.now).tree e.1.group ≡ true) (all_seen containers.now.entries) }
+    requires placed { AllByRecursion (λ e. has_group (K.state kernel.now).tree e.1.group
+        ≡ true) (all_seen containers.now.entries) }
     requires asked { AllByRecursion (IsAsked machine.now) (all_seen containers.now.entries) }
     requires few { length (all_seen containers.now.entries) ≤ CONTAINER_LIMIT }
     requires distinct { Pairwise HaveOtherIds (owners_of (all_seen containers.now.entries)) }
-    ensures rows { IfOk result (λ p. p ≡ scaled_rows_in (K.state kernel.now) machine.now (all_seen containers.now.entries)) }
+    ensures rows { IfOk result (λ p. p ≡ scaled_rows_in (K.state kernel.now) machine.now
+        (all_seen containers.now.entries)) }
     ensures fit { IfOk result (λ p. IsTrue (rows_fit p)) }
     ensures can { IfOk result (All CanWriteRow) }
     ensures apart { IfOk result HaveOwnIds }

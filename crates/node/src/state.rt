@@ -63,7 +63,8 @@ fn state_text<K: Kernel>(
     id: &str,
     container: &Container,
 ) -> Result<String, AllocError>
-    ensures { IfOk result (λ text. string_bytes text ≡ compact_text (state_of (K.state kernel.now) id.now (seen container.now))) }
+    ensures { IfOk result (λ text. string_bytes text
+        ≡ compact_text (state_of (K.state kernel.now) id.now (seen container.now))) }
 {
     let bundle = container.bundle.as_str();
     let status = status(kernel, container);
@@ -74,7 +75,8 @@ fn state_text<K: Kernel>(
 }
 
 impl<K: Kernel + Drop> Node<K> {
-    /// The state of a container as compact JSON: `bundle`, `id`, `ociVersion`, `pid` unless it is stopped, and `status`.
+    /// The state of a container as compact JSON: `bundle`, `id`, `ociVersion`, `pid` unless it is stopped, and
+    /// `status`.
     ///
     /// # Errors
     /// `NoContainer`, or an allocation failure.

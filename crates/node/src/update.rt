@@ -57,7 +57,8 @@ fn write_cpus_if<K: Kernel>(
     group: Group,
     cpus: IdSet,
 ) -> Result<(), KernelFault>
-    ensures { MadeIf make (K.state kernel.old) (WritesCpus (K.state kernel.old) group cpus) result (K.state kernel.new) }
+    ensures { MadeIf make (K.state kernel.old) (WritesCpus (K.state kernel.old) group cpus) result
+        (K.state kernel.new) }
 {
     if make {
         return kernel.write_cpus(group, cpus);
@@ -72,7 +73,8 @@ fn write_mems_if<K: Kernel>(
     group: Group,
     mems: IdSet,
 ) -> Result<(), KernelFault>
-    ensures { MadeIf make (K.state kernel.old) (WritesMems (K.state kernel.old) group mems) result (K.state kernel.new) }
+    ensures { MadeIf make (K.state kernel.old) (WritesMems (K.state kernel.old) group mems) result
+        (K.state kernel.new) }
 {
     if make {
         return kernel.write_mems(group, mems);
@@ -80,8 +82,8 @@ fn write_mems_if<K: Kernel>(
     Ok(())
 }
 
-/// Writes the reserved CPUs where a shared container becomes pinned that requests others, and then its memory nodes where its
-/// homes differ.
+/// Writes the reserved CPUs where a shared container becomes pinned that requests others, and then its memory nodes
+/// where its homes differ.
 fn rewrite<K: Kernel>(
     kernel: &mut K,
     reserved: IdSet,
@@ -134,30 +136,31 @@ impl<K: Kernel + Drop> Node<K> {
         Ok(())
     }
 
-    /// Reads the config of a live container again, of this bundle: its bundle and what it asks for are the new ones from
-    /// then on. It keeps the CPUs that its group requests until the next plan. One that had no CPUs of its own and now asks
-    /// for some is written to the reserved CPUs first, if it requests others. Whether it can be started stays.
+    /// Reads the config of a live container again, of this bundle: its bundle and what it asks for are the new ones
+    /// from then on. It keeps the CPUs that its group requests until the next plan. One that had no CPUs of its own and
+    /// now asks for some is written to the reserved CPUs first, if it requests others. Whether it can be started stays.
     ///
     /// # Errors
-    /// In this order: `Busy`, `NoContainer`, `NotLive`, `Config`, `Demand`; or `Failed` of the kernel, after which it asks for
-    /// what it did, and requests what it did or the reserved CPUs.
+    /// In this order: `Busy`, `NoContainer`, `NotLive`, `Config`, `Demand`; or `Failed` of the kernel, after which it
+    /// asks for what it did, and requests what it did or the reserved CPUs.
     pub fn update(
         &mut self,
         id: &str,
         bundle: &str,
         config: &[u8],
     ) -> Result<(), OrMemory<NodeFault>>
-        // Its demand and its bundle are the new ones from then on. If a shared one becomes pinned and requests others, the
-        // reserved CPUs are written first. Its memory nodes are written if the homes differ.
+        // Its demand and its bundle are the new ones from then on. If a shared one becomes pinned and requests others,
+        // the reserved CPUs are written first. Its memory nodes are written if the homes differ.
         ensures updates { Updates self.old id.now bundle.now config.now result self.new }
         ensures counted { self.new.kernel.failures ≡ self.old.kernel.failures + rise_or_memory result }
         // It makes two writing calls at most.
         ensures few { self.new.kernel.writes ≤ self.old.kernel.writes + 2 }
-        // It makes none if the homes stay and the container becomes shared, stays pinned or shared as it was, or requests
-        // the reserved CPUs already.
+        // It makes none if the homes stay and the container becomes shared, stays pinned or shared as it was, or
+        // requests the reserved CPUs already.
         ensures none { IfOk result (λ done. WritesNoMore self.old id.now self.new) }
         // If a write fails, the container asks for what it did and requests what it did or the reserved CPUs.
-        ensures fails { (fault : KernelFault) → result ≡ Err (Fault (Kernel fault)) → IsAsBefore self.old id.now self.new }
+        ensures fails { (fault : KernelFault) → result ≡ Err (Fault (Kernel fault))
+            → IsAsBefore self.old id.now self.new }
     {
         self.holds();
         self.update_body(id, bundle, config)

@@ -1,7 +1,9 @@
 //! What changes of a table of processes leave and keep: laws over the definitions alone. Nothing here runs.
 ghost use Rattle.std.specs.Prelude.{◌≡◌};
-ghost use Rattle.proctable.specs.TableLaws.{AddedLeaves, ExitedLeaves, EndedLeaves, EndedIsEmpty, FoundHasPid, PidIsGiven};
-ghost use Rattle.proctable.specs.TableLaws.{NoneWhereNoneCounted, NoneCountedWhereNone, LiveBelong, EmptyOnceFirstEnded};
+ghost use Rattle.proctable.specs.TableLaws.{AddedLeaves, ExitedLeaves, EndedLeaves, EndedIsEmpty, FoundHasPid};
+ghost use Rattle.proctable.specs.TableLaws.{PidIsGiven};
+ghost use Rattle.proctable.specs.TableLaws.{NoneWhereNoneCounted, NoneCountedWhereNone, LiveBelong};
+ghost use Rattle.proctable.specs.TableLaws.{EmptyOnceFirstEnded};
 ghost use Rattle.proctable.specs.TableLaws.{ChangesStayWellFormed, FirstIsWellFormed};
 
 use crate::LAST_PID;

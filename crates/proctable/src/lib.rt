@@ -2,8 +2,8 @@
 //!
 //! # Proved
 //!
-//! - A process that has ended keeps its place in the table until it is packed. It is an invariant of the table that at most
-//!   half of the places are of ended processes, so what is kept follows what lives.
+//! - A process that has ended keeps its place in the table until it is packed. It is an invariant of the table that at
+//!   most half of the places are of ended processes, so what is kept follows what lives.
 #![tactic(auto)]
 
 mod fault;

@@ -27,9 +27,9 @@ pub struct Process {
 
 /// The live processes. Their pids rise and are never used again.
 ///
-/// Of p live processes `alive` and `group_of` take O(log p) steps, `spawn` and `fork` those of a search and a push, `count_in`
-/// and `end_in` O(p), and so `exit` of a first process. The `exit` of another takes O(log p) amortized: it is marked as ended,
-/// and those that have ended are taken out once they are more than the live ones.
+/// Of p live processes `alive` and `group_of` take O(log p) steps, `spawn` and `fork` those of a search and a push,
+/// `count_in` and `end_in` O(p), and so `exit` of a first process. The `exit` of another takes O(log p) amortized: it
+/// is marked as ended, and those that have ended are taken out once they are more than the live ones.
 #[derive(Drop)]
 pub struct ProcTable {
     // By rising pid, with some that have ended.

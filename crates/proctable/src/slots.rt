@@ -1,9 +1,11 @@
 //! The processes as a table keeps them: by rising pid, and those that have ended among them until they are packed.
-ghost use Rattle.std.specs.Prelude.{◌≡◌, ◌<◌, ◌≤◌, ◌+◌, ◌*◌, ℕ, length, filter, not, count_by, IfOk, IfErr, None, Some, slice_index_or, slice_set};
+ghost use Rattle.std.specs.Prelude.{◌≡◌, ◌<◌, ◌≤◌, ◌+◌, ◌*◌, ℕ, length, filter, not, count_by, IfOk, IfErr, None, Some};
+ghost use Rattle.std.specs.Prelude.{slice_index_or, slice_set};
 ghost use Rattle.cpuset_tree.specs.Groups.{same_group};
 ghost use Rattle.proctable.specs.Processes.{process_among};
 ghost use Rattle.proctable.specs.TableChanges.{ends_with};
-ghost use Rattle.proctable.specs.Kept.{live_of, alive_in, pid_at, over, nobody, PidsRise, IsRising, AreEnded, EndsAlone};
+ghost use Rattle.proctable.specs.Kept.{live_of, alive_in, pid_at, over, nobody, PidsRise, IsRising, AreEnded};
+ghost use Rattle.proctable.specs.Kept.{EndsAlone};
 
 use crate::Process;
 use cpuset_tree::Group;

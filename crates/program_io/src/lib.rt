@@ -4,9 +4,10 @@
 //!
 //! - A fault of a reader below is told as the refusal made of it (`From`).
 //! - A `Page` passes on what it was given, in order and whole.
-//! - The kind told of a failed read need not be the kind by which the reader failed, by any clause: only the reader knows
-//!   it. For an opening a clause says it (`Opens::fails`).
-//! - `read_whole` of a reader is `read_all` as a relation (`IsReadingOf`). An allocation failure is no answer to no bytes.
+//! - The kind told of a failed read need not be the kind by which the reader failed, by any clause: only the reader
+//!   knows it. For an opening a clause says it (`Opens::fails`).
+//! - `read_whole` of a reader is `read_all` as a relation (`IsReadingOf`). An allocation failure is no answer to no
+//!   bytes.
 #![tactic(auto)]
 
 mod fault;

@@ -1,6 +1,7 @@
 //! Lines of output, and numbers in them.
 ghost use Rattle.std.specs.Prelude.{◌≡◌, ◌<◌, ◌++◌, [], ◌∷◌, codes, decimal, get_or};
-ghost use Rattle.program_io.specs.ErrorLine.{error_at, error_line, hex_digit, is_behind_lead, is_control, is_lead, shown_byte, shown_name};
+ghost use Rattle.program_io.specs.ErrorLine.{error_at, error_line, hex_digit, is_behind_lead, is_control, is_lead};
+ghost use Rattle.program_io.specs.ErrorLine.{shown_byte, shown_name};
 ghost use Rattle.byte_output.specs.Output.{Writes};
 
 use byte_output::{put, put_all, put_number};
@@ -17,7 +18,8 @@ pub fn put_number_line<W: Write>(label: &[u8], number: u64, w: &mut W) -> io::Re
     put_number(label, number, b"\n", w)
 }
 
-/// Writes the line of an error: the name of what it is of, with its control characters by their numbers, and what is wrong.
+/// Writes the line of an error: the name of what it is of, with its control characters by their numbers, and what is
+/// wrong.
 ///
 /// # Errors
 /// That of the first write that fails or takes no byte; a prefix of the line then went out.

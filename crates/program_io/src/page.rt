@@ -45,7 +45,8 @@ impl<W: Write> Page<W> {
     /// Takes as many of the bytes as there is room for; how many they were.
     fn buffer(&mut self, bytes: &[u8]) -> usize
         ensures count { result ≡ min (ROOM - length self.old.waiting.items) (length bytes.now) }
-        ensures bytes { Appends (contents_of W.contents self.old) (contents_of W.contents self.new) (take result bytes.now) }
+        ensures bytes { Appends (contents_of W.contents self.old) (contents_of W.contents self.new)
+            (take result bytes.now) }
     {
         let kept = self.waiting.remaining_capacity().min(bytes.len());
         let _all_fits = self.waiting.write(bytes);

@@ -29,8 +29,8 @@ pub fn read_all<R: Read>(alloc: Global, reader: &mut R) -> Result<Vec<u8>, OrMem
     ensures size { IfOk result (λ bytes. vec_len bytes ≤ MOST_BYTES) }
     // It gives the whole only if fewer reads than are made at most can have brought it.
     ensures reads { IfOk result (λ bytes. IsReadBy bytes.items) }
-    // Else it fails within its bounds. 'Too many bytes' comes only if there are. 'Too many reads' comes only if the input
-    // had at least 1,000,000 bytes, and no more than 1,000,000 reads can bring.
+    // Else it fails within its bounds. 'Too many bytes' comes only if there are. 'Too many reads' comes only if the
+    // input had at least 1,000,000 bytes, and no more than 1,000,000 reads can bring.
     ensures err { IfErr result (StopsWith (R.remaining reader.old) (R.remaining reader.new)) }
 {
     let mut bytes = Vec::new(alloc);

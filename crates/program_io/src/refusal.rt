@@ -1,7 +1,8 @@
 ghost use Rattle.std.specs.Prelude.{◌≡◌};
 ghost use Rattle.program_io.specs.FaultRefusal.{machine_refusal, read_refusal, slit_refusal, verdict_refusal};
 ghost use Rattle.program_io.specs.declared.refusal.Refusal.TheVariants.{List};
-ghost use Rattle.program_io.specs.RefusalLine.{arguments_of, arguments_text, check_arguments_of, machine_arguments_of, slit_arguments_of, refusal_line, text_of, title_of};
+ghost use Rattle.program_io.specs.RefusalLine.{arguments_of, arguments_text, check_arguments_of, machine_arguments_of};
+ghost use Rattle.program_io.specs.RefusalLine.{slit_arguments_of, refusal_line, text_of, title_of};
 ghost use Rattle.byte_output.specs.Output.{Writes};
 
 use crate::fault::ReadFault;

@@ -33,10 +33,11 @@ pub struct CachedParts {
     pub offers: Offers,
 }
 
-/// The entry of these CPUs for these homes. Most others lack the least of the homes, or the first or the last of the CPUs, so few
-/// are compared whole.
+/// The entry of these CPUs for these homes. Most others lack the least of the homes, or the first or the last of the
+/// CPUs, so few are compared whole.
 fn find<'a>(cache: &'a [CachedOffers], homes: &IdSet, cpus: &IdSet) -> Option<&'a CachedOffers>
-    ensures { (m : Layout) → All (IsCached m) cache.now → IfSome result (λ cached. IsCachedFor m homes.now cpus.now cached.now) }
+    ensures { (m : Layout) → All (IsCached m) cache.now
+        → IfSome result (λ cached. IsCachedFor m homes.now cpus.now cached.now) }
 {
     let home = homes.first();
     let first = cpus.first();
@@ -60,8 +61,8 @@ fn has(ids: &IdSet, id: Option<u16>) -> bool {
     }
 }
 
-/// The offers of the cores in these CPUs for these homes in parts, for a container that holds some CPUs. They are worked out
-/// once for containers that hold the same, as all do that no plan has met.
+/// The offers of the cores in these CPUs for these homes in parts, for a container that holds some CPUs. They are
+/// worked out once for containers that hold the same, as all do that no plan has met.
 pub(crate) fn parts_among(
     alloc: Global,
     machine: &Machine,
@@ -73,7 +74,8 @@ pub(crate) fn parts_among(
     requires reach { AreInReach machine.now homes.now cpus.now }
     requires homes { AreHomes machine.now homes.now }
     requires cache { All (IsCached machine.now) cache.old.items }
-    ensures parts { IfOk result (λ parts. parts ≡ flat_map (parted (cores_in machine.now held.now)) (offers_of machine.now homes.now (cores_in machine.now cpus.now))) }
+    ensures parts { IfOk result (λ parts. parts ≡ flat_map (parted (cores_in machine.now held.now))
+        (offers_of machine.now homes.now (cores_in machine.now cpus.now))) }
     ensures cache { All (IsCached machine.now) cache.new.items }
 {
     if let Some(cached) = find(cache.as_slice(), homes, cpus) {

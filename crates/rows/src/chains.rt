@@ -60,7 +60,8 @@ impl Chains {
     pub fn farthest(&self) -> u8
         requires { length self.now.weights ≡ NODE_LIMIT }
         ensures below { result < 255 }
-        ensures most { (k : ℕ) → slice_index_or self.now.weights k 255 < 255 → slice_index_or self.now.weights k 255 ≤ result }
+        ensures most { (k : ℕ) → slice_index_or self.now.weights k 255 < 255
+            → slice_index_or self.now.weights k 255 ≤ result }
     {
         let mut farthest = 0;
         for node in 0..NODE_LIMIT {
@@ -84,7 +85,9 @@ impl Chains {
         requires few { node_count machine.now ≤ NODE_LIMIT }
         requires chains { AreChains self.now.weights self.now.last self.now.next NODE_LIMIT }
         requires beyond { (i : ℕ) → node_count machine.now ≤ i → slice_index_or self.now.weights i 255 ≡ 255 }
-        ensures { (c : ℕ) → set.contains result c ≡ (set.contains (present machine.now) c && (slice_index_or self.now.weights (node_of machine.now c) 255 == weight)) }
+        ensures { (c : ℕ) → set.contains result c
+            ≡ (set.contains (present machine.now) c
+            && (slice_index_or self.now.weights (node_of machine.now c) 255 == weight)) }
     {
         let mut cpus = IdSet::empty();
         let mut from = self.last[weight as usize];

@@ -1,5 +1,6 @@
 //! Offers in two parts: the CPUs that are held, and those that are not.
-ghost use Rattle.std.specs.Prelude.{◌≡◌, ℕ, ◌<◌, ◌≤◌, ◌++◌, [], ◌∷◌, filter, true, false, length, slice_index_or, IfOk, IsTrue, OnOk};
+ghost use Rattle.std.specs.Prelude.{◌≡◌, ℕ, ◌<◌, ◌≤◌, ◌++◌, [], ◌∷◌, filter, true, false, length, slice_index_or, IfOk};
+ghost use Rattle.std.specs.Prelude.{IsTrue, OnOk};
 ghost use Rattle.std.specs.List.{flat_map, list_all};
 ghost use Rattle.std.specs.FinSet as set;
 ghost use Rattle.cpu_set.specs.Ranges.{in_ranges};
@@ -11,8 +12,9 @@ use certificate::{Cost, Offer, Offers};
 use cpu_set::{CPU_LIMIT, IdSet};
 use std::alloc::{AllocError, Global};
 
-/// The offers by distance with the CPUs that are held apart from the others: each of these is a move. O(r + o w) of o offers of
-/// r ranges, where a set has w words, and a step for each number that there may be for an offer with a CPU that is held.
+/// The offers by distance with the CPUs that are held apart from the others: each of these is a move. O(r + o w) of o
+/// offers of r ranges, where a set has w words, and a step for each number that there may be for an offer with a CPU
+/// that is held.
 pub(crate) fn parts_of(alloc: Global, offers: &Offers, held: &IdSet) -> Result<Offers, AllocError>
     requires distances { IsTrue (are_distances offers.now) }
     requires some { IsTrue (list_all has_some offers.now) }
@@ -70,7 +72,8 @@ fn push_parts(
 
 /// Whether no CPU of the ranges is held, where all that are held are in the span.
 ///
-/// O(r + w) of r ranges, where a set has w words: ranges rise, so the next CPU that is held is kept from one to the next.
+/// O(r + w) of r ranges, where a set has w words: ranges rise, so the next CPU that is held is kept from one to the
+/// next.
 fn have_none(ranges: &[(u16, u16)], held: &IdSet, span: Span) -> bool
     requires { (n : ℕ) → set.contains held.now n ≡ true → (span.first ≤ n) × (n ≤ span.last) }
     ensures { IsTrue result → (n : ℕ) → in_ranges ranges.now n ≡ true → set.contains held.now n ≡ false }

@@ -38,7 +38,8 @@ pub fn adopt<K: Kernel + Drop, B: Bundles, W: Write>(
     list: &str,
     w: &mut W,
 ) -> io::Result<()>
-    ensures answers { Replies (AnswersAdopt (IsSeen B.finds (B.told bundles.old)) node.old id.now bundle.now list.now) (W.contents w.old) (W.contents w.new) result node.new }
+    ensures answers { Replies (AnswersAdopt (IsSeen B.finds (B.told bundles.old)) node.old id.now bundle.now list.now)
+        (W.contents w.old) (W.contents w.new) result node.new }
     ensures same { B.told bundles.new ≡ B.told bundles.old }
 {
     match bundles.config(bundle) {
@@ -58,7 +59,8 @@ fn adopt_from<K: Kernel + Drop, B: Bundles, W: Write>(
     list: &str,
     w: &mut W,
 ) -> io::Result<()>
-    ensures { Replies (AnswersTaken node.old id.now bundle.now list.now (Some config.now)) (W.contents w.old) (W.contents w.new) result node.new }
+    ensures { Replies (AnswersTaken node.old id.now bundle.now list.now (Some config.now)) (W.contents w.old)
+        (W.contents w.new) result node.new }
 {
     let cpus = match named(list) {
         Ok(cpus) => cpus,

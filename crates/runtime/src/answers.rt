@@ -2,7 +2,8 @@
 ghost use Rattle.std.specs.Prelude.{◌++◌, codes};
 ghost use Rattle.byte_output.specs.Output.{Writes};
 ghost use Rattle.node.specs.Listed.{listed};
-ghost use Rattle.runtime.specs.AnswerTexts.{both_text, done_line, listing_text, phase_line, pid_line, set_text, sets_line};
+ghost use Rattle.runtime.specs.AnswerTexts.{both_text, done_line, listing_text, phase_line, pid_line, set_text};
+ghost use Rattle.runtime.specs.AnswerTexts.{sets_line};
 ghost use Rattle.runtime.specs.Answered.{state_line};
 
 use byte_output::{put, put_all, put_number};
@@ -75,7 +76,8 @@ pub fn put_sets<W: Write>(sets: &Sets, w: &mut W) -> io::Result<()>
 
 /// Writes a container's id and its status.
 fn put_entry<'a, W: Write>(id: &'a str, status: &'a str, w: &mut W) -> io::Result<()>
-    ensures { Writes (W.contents w.old) (W.contents w.new) result (id.now ++ (codes " " ++ (status.now ++ codes "\n"))) }
+    ensures { Writes (W.contents w.old) (W.contents w.new) result (id.now
+        ++ (codes " " ++ (status.now ++ codes "\n"))) }
 {
     put_all(
         &[

@@ -52,8 +52,8 @@ pub fn boot(alloc: Global, machine: Machine) -> Result<Node<ModelKernel>, AllocE
     }
 }
 
-/// A node with no container, over a modelled kernel that has the machine's CPUs and nodes. Its writes are made in this tree
-/// too, of which nothing was asked yet.
+/// A node with no container, over a modelled kernel that has the machine's CPUs and nodes. Its writes are made in this
+/// tree too, of which nothing was asked yet.
 ///
 /// # Errors
 /// An allocation failure, or `Failed` where the folder of the node's group can't be made.
@@ -66,12 +66,13 @@ pub fn boot_mirrored<F: GroupFiles + Drop, S: Sited>(
     requires unasked { F.asked tree.files tree.adopt [] }
     // The same as `boot`, over a `MirroredKernel`.
     ensures boots { IfOk result (Boots machine) }
-    // Its place is the one that it is told (`IsMirroredNode`, `site_of`). That is the root, the nodes that have memory, how
-    // the files are opened, and this machine's first kernel.
+    // Its place is the one that it is told (`IsMirroredNode`, `site_of`). That is the root, the nodes that have memory,
+    // how the files are opened, and this machine's first kernel.
     ensures mirrored { IfOk result (λ node. IsMirroredNode F.asked S.site node) }
-    // Else an allocation failed, or the kernel refused the node's group. Then all that was asked of the files is what that
-    // one call stands for (`IsNotBooted`). An allocation failure for a path is such a refusal, and nothing was asked then.
-    // So a body that always answers it meets the contract too; tests show that it makes a node (`tests/cgroup.sh`).
+    // Else an allocation failed, or the kernel refused the node's group. Then all that was asked of the files is what
+    // that one call stands for (`IsNotBooted`). An allocation failure for a path is such a refusal, and nothing was
+    // asked then. So a body that always answers it meets the contract too; tests show that it makes a node
+    // (`tests/cgroup.sh`).
     ensures err { IfErr result (λ error. (error ≡ Memory) ⊎ IsNotBooted F.asked S.site machine error) }
 {
     let inner = kernel_of(alloc, &machine)?;

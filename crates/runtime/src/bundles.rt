@@ -17,7 +17,8 @@ pub trait Bundles {
     /// # Errors
     /// An allocation failure.
     fn config(&mut self, bundle: &str) -> Result<Option<Vec<u8>>, AllocError>
-        ensures found { IfOk result (λ found. IsFound (told self.old) bundle.now (option_map (λ config. config.items) found)) }
+        ensures found { IfOk result (λ found. IsFound (told self.old) bundle.now
+            (option_map (λ config. config.items) found)) }
         ensures seen { IfOk result (λ found. finds bundle.now (option_map (λ config. config.items) found)) }
         ensures same { told self.new ≡ told self.old };
 

@@ -21,7 +21,8 @@ pub fn create<K: Kernel + Drop, B: Bundles, W: Write>(
     bundle: &str,
     w: &mut W,
 ) -> io::Result<()>
-    ensures answers { Replies (AnswersCreate (IsSeen B.finds (B.told bundles.old)) node.old id.now bundle.now) (W.contents w.old) (W.contents w.new) result node.new }
+    ensures answers { Replies (AnswersCreate (IsSeen B.finds (B.told bundles.old)) node.old id.now bundle.now)
+        (W.contents w.old) (W.contents w.new) result node.new }
     ensures same { B.told bundles.new ≡ B.told bundles.old }
 {
     match bundles.config(bundle) {
@@ -40,7 +41,8 @@ fn create_from<K: Kernel + Drop, B: Bundles, W: Write>(
     config: &[u8],
     w: &mut W,
 ) -> io::Result<()>
-    ensures { Replies (AnswersFound node.old id.now bundle.now (Some config.now)) (W.contents w.old) (W.contents w.new) result node.new }
+    ensures { Replies (AnswersFound node.old id.now bundle.now (Some config.now)) (W.contents w.old) (W.contents w.new)
+        result node.new }
 {
     match node.create(id, bundle, config) {
         Ok(pid) => put_pid(pid, w),

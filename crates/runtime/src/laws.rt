@@ -4,31 +4,32 @@ ghost use Rattle.runtime.specs.Boots.{BootsNodes};
 ghost use Rattle.runtime.specs.CertificatesTold.{CertificatesAreTold};
 ghost use Rattle.runtime.specs.ConfigsServed.{ScriptsServeConfigs};
 ghost use Rattle.runtime.specs.LooksTold.{LooksAreTold};
-ghost use Rattle.runtime.specs.ScriptLaws.{BegunAreTold, BegunShortAreTold, CommandsAreCalls, LinesAreCalls, PlansAreTold, RebalancesAreTold, ScriptsRebalance, ShortagesAreTold};
+ghost use Rattle.runtime.specs.ScriptLaws.{BegunAreTold, BegunShortAreTold, CommandsAreCalls, LinesAreCalls};
+ghost use Rattle.runtime.specs.ScriptLaws.{PlansAreTold, RebalancesAreTold, ScriptsRebalance, ShortagesAreTold};
 
 use crate::{Bundles, FIRST_PID};
 
 /// The text which answers a command is that of the call or event that it asks for. For a `create`, an `adopt` or an
 /// `update` that is the call with the config that is found of its bundle. It holds of calls that only read too. The
-/// exception is one of these that is refused with no call. Its bundle is not found, an allocation for its config failed, or
-/// the list of an `adopt` names no CPUs.
+/// exception is one of these that is refused with no call. Its bundle is not found, an allocation for its config
+/// failed, or the list of an `adopt` names no CPUs.
 ///
-/// So the answered lines of a script are a list of calls and events of the node, at most one a line. What they print is the
-/// texts of these, with the refusals of the lines that make none.
+/// So the answered lines of a script are a list of calls and events of the node, at most one a line. What they print is
+/// the texts of these, with the refusals of the lines that make none.
 pub fn lines_are_calls()
     ensures commands { CommandsAreCalls }
     ensures lines { LinesAreCalls }
 {}
 
-/// The headline, with `told` and `broken`, for the text that answers a `rebalance`, whatever lines were answered before it.
-/// So it holds for each line of a whole script that asks for one.
+/// The headline, with `told` and `broken`, for the text that answers a `rebalance`, whatever lines were answered before
+/// it. So it holds for each line of a whole script that asks for one.
 ///
-/// A text that begins as a plan's does is a plan's, and one that begins as a shortage's does is a shortage's. So after a
-/// line that answers `plan total N` no sets of that total which the containers could have move fewer CPUs.
+/// A text that begins as a plan's does is a plan's, and one that begins as a shortage's does is a shortage's. So after
+/// a line that answers `plan total N` no sets of that total which the containers could have move fewer CPUs.
 ///
-/// An answer to `begin` that begins so is the text of a plan too, the best that the containers could have. Its hand-over is
-/// open, and nothing is written yet. One that begins as a shortage's does is the text of a shortage of live containers that
-/// ask for CPUs of their own.
+/// An answer to `begin` that begins so is the text of a plan too, the best that the containers could have. Its
+/// hand-over is open, and nothing is written yet. One that begins as a shortage's does is the text of a shortage of
+/// live containers that ask for CPUs of their own.
 pub fn rebalances_are_told()
     ensures told { RebalancesAreTold }
     ensures plans { PlansAreTold }
@@ -41,18 +42,19 @@ pub fn rebalances_are_told()
     node::laws::whose_rows();
 }
 
-/// What is answered by what looks at bundles may find is answered as the laws here have it, by what is told of the bundles.
+/// What is answered by what looks at bundles may find is answered as the laws here have it, by what is told of the
+/// bundles.
 pub fn looks_are_told<B: Bundles>()
     ensures { LooksAreTold B.finds }
 {}
 
-/// The headline and the configs in one statement, by a script's lines and the bundles' bytes. It speaks of each line that
-/// asks for a `rebalance`, from a node of no container on.
+/// The headline and the configs in one statement, by a script's lines and the bundles' bytes. It speaks of each line
+/// that asks for a `rebalance`, from a node of no container on.
 ///
-/// After a plan each live container has in effect as many CPUs as its config asks for, or the pool. Those that it asks for
-/// are online, and the config allows them. An earlier line asked for the container with its bundle, or for its config to be
-/// read again. The config is what is found of that bundle, and of the calls that the lines made none read one for the
-/// container later (`last`).
+/// After a plan each live container has in effect as many CPUs as its config asks for, or the pool. Those that it asks
+/// for are online, and the config allows them. An earlier line asked for the container with its bundle, or for its
+/// config to be read again. The config is what is found of that bundle, and of the calls that the lines made none read
+/// one for the container later (`last`).
 pub fn scripts_serve_configs()
     ensures { ScriptsServeConfigs }
 {
@@ -60,8 +62,8 @@ pub fn scripts_serve_configs()
     node::laws::what_configs_get();
 }
 
-/// The text that answers `certificate` proves the verdict on what was told last. Of a plan that is its total, and how many
-/// cores it moves. Of a shortage it is its numbers.
+/// The text that answers `certificate` proves the verdict on what was told last. Of a plan that is its total, and how
+/// many cores it moves. Of a shortage it is its numbers.
 ///
 /// Both are by cores: the numbers that were answered, divided by how many CPUs a core has. If a `rebalance` failed at a
 /// write since then, nothing was told.

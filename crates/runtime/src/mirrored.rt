@@ -10,8 +10,8 @@ use node::Node;
 use script::{ScriptFault, run_script_within};
 use std::io::{Read, Write};
 
-/// What holds of each node over a mirrored kernel, after any of its calls, whatever they returned. All that was asked of
-/// the files is what its kernel's calls stand for, in their order. If files do what they answer, they have what is
+/// What holds of each node over a mirrored kernel, after any of its calls, whatever they returned. All that was asked
+/// of the files is what its kernel's calls stand for, in their order. If files do what they answer, they have what is
 /// requested, which is safe. Nothing runs.
 pub fn is_mirrored<F: GroupFiles + Drop, S: Sited>(node: &Node<MirroredKernel<F, S>>)
     ensures { IsMirroredNode F.asked S.site node.now }
@@ -32,12 +32,13 @@ pub fn run_mirrored<F: GroupFiles + Drop, S: Sited, B: Bundles + Drop, R: Read, 
     w: &mut W,
     most_reads: u64,
 ) -> Result<(), ScriptFault>
-    ensures ends { EndsBy most_reads (AnsweredBy B.finds) (R.remaining script.old) (R.remaining script.new) (W.contents w.old) (W.contents w.new)
+    ensures ends { EndsBy most_reads (AnsweredBy B.finds) (R.remaining script.old) (R.remaining script.new)
+        (W.contents w.old) (W.contents w.new)
         runner.old result runner.new }
-    // It holds after any script, whatever its commands were and whichever writes failed. All that was asked of the files
-    // since the start is what the calls of the node's kernel stand for, in their order and place. If files do what they
-    // answer, each group's have what it requests, and that is safe. The law ties the kernel's calls to the first kernel of
-    // the machine and to the last state. It ties no call to a line of the script.
+    // It holds after any script, whatever its commands were and whichever writes failed. All that was asked of the
+    // files since the start is what the calls of the node's kernel stand for, in their order and place. If files do
+    // what they answer, each group's have what it requests, and that is safe. The law ties the kernel's calls to the
+    // first kernel of the machine and to the last state. It ties no call to a line of the script.
     ensures mirrored { IsMirroredNode F.asked S.site runner.new.node }
 {
     let end = run_script_within(runner, script, w, most_reads);

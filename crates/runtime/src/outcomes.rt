@@ -2,7 +2,8 @@
 ghost use Rattle.std.specs.Prelude.{◌≡◌, ◌<◌, ◌++◌, All, IsSome, codes, length, zip};
 ghost use Rattle.std.specs.List.{flat_map};
 ghost use Rattle.byte_output.specs.Output.{Writes};
-ghost use Rattle.runtime.specs.OutcomeTexts.{AreInPlace, end_lines, first_line, hold_line, member_line, named_lines, need_line, outcome_text, pool_lines, progress_line, total_line};
+ghost use Rattle.runtime.specs.OutcomeTexts.{AreInPlace, end_lines, first_line, hold_line, member_line, named_lines};
+ghost use Rattle.runtime.specs.OutcomeTexts.{need_line, outcome_text, pool_lines, progress_line, total_line};
 
 use crate::answers::{put_labelled, put_set};
 use byte_output::{put, put_all, put_number};

@@ -2,7 +2,8 @@
 ghost use Rattle.std.specs.Prelude.{◌≡◌};
 ghost use Rattle.byte_output.specs.Output.{Writes};
 ghost use Rattle.runtime.specs.AnswerTexts.{of_either, of_kernel, of_kernel_fault};
-ghost use Rattle.runtime.specs.RefusalLine.{arguments_of, config_arguments, demand_arguments, list_argument, node_arguments, refusal_line, title_of};
+ghost use Rattle.runtime.specs.RefusalLine.{arguments_of, config_arguments, demand_arguments, list_argument};
+ghost use Rattle.runtime.specs.RefusalLine.{node_arguments, refusal_line, title_of};
 
 use byte_output::{put, put_all, put_argument, put_word};
 use config_json::ConfigFault;
@@ -19,7 +20,8 @@ use std::io::Write;
 pub enum Refusal {
     /// E1: an allocation failed.
     Memory,
-    /// E40 to E67, E90 to E101 and E104: the node or the kernel refuses the call, or a write of the kernel failed in it.
+    /// E40 to E67, E90 to E101 and E104: the node or the kernel refuses the call, or a write of the kernel failed in
+    /// it.
     Node(NodeFault),
     /// E102: the CPUs that a container has already are no list.
     BadSet(ListError),

@@ -7,7 +7,8 @@ use config_json::ConfigFault;
 use faults::OrMemory;
 use node::NodeFault;
 
-/// The refusal for an error of a call that was given the config of this bundle; of one that is no JSON the operator is told more.
+/// The refusal for an error of a call that was given the config of this bundle; of one that is no JSON the operator is
+/// told more.
 pub fn refused_config<B: Bundles>(
     error: OrMemory<NodeFault>,
     bundles: &B,

@@ -66,7 +66,8 @@ fn dispatch<K: Kernel + Drop, B: Bundles, W: Write>(
     command: Command<'_>,
     w: &mut W,
 ) -> io::Result<()>
-    ensures answers { Replies (AnswersBy (IsSeen B.finds (B.told bundles.old)) node.old (asked command.entry)) (W.contents w.old) (W.contents w.new) result node.new }
+    ensures answers { Replies (AnswersBy (IsSeen B.finds (B.told bundles.old)) node.old (asked command.entry))
+        (W.contents w.old) (W.contents w.new) result node.new }
     ensures same { B.told bundles.new ≡ B.told bundles.old }
 {
     match command {

@@ -1,5 +1,5 @@
-//! Calls that no program makes: the last serial, the walk over a set, shortages of rows in any order, one process table, and
-//! a list of calls over a kernel of which no write is made to fail.
+//! Calls that no program makes: the last serial, the walk over a set, shortages of rows in any order, one process
+//! table, and a list of calls over a kernel of which no write is made to fail.
 use certificate::{CheckFault, Offer, Offers, Problem, Row, check_shortage};
 use cpu_list::read;
 use cpu_set::{CPU_LIMIT, IdSet};

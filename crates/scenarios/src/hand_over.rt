@@ -128,7 +128,8 @@ fn prepare<K: Kernel>(kernel: &mut K, event: u32) {
     }
 }
 
-/// Steps until Done with this event before the step of this number; how many answered, or none where a promise is broken.
+/// Steps until Done with this event before the step of this number; how many answered, or none where a promise is
+/// broken.
 fn run<K: Kernel>(
     kernel: &mut K,
     handover: &mut Handover,

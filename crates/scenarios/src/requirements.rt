@@ -3,15 +3,17 @@ ghost use Rattle.std.specs.Prelude.{◌≡◌, ◌↔◌, false, not, IsTrue};
 ghost use Rattle.std.specs.List.{AllByRecursion};
 ghost use Rattle.cpuset_tree.specs.Groups.{same_group};
 ghost use Rattle.apply_plan.specs.Holders.{Pairwise};
-ghost use Rattle.apply_plan.specs.Targets.{HaveOtherGroups, AreTargetsApart, HaveSomeTarget, IsHandover, IsPlaced, ArePlaced};
+ghost use Rattle.apply_plan.specs.Targets.{HaveOtherGroups, AreTargetsApart, HaveSomeTarget, IsHandover, IsPlaced};
+ghost use Rattle.apply_plan.specs.Targets.{ArePlaced};
 ghost use Rattle.scenarios.specs.Free.{IsFree};
 
 use apply_plan::Entry;
 use cpu_set::IdSet;
 use kernel_model::{Group, Kernel};
 
-/// Whether a hand-over of these entries may begin, as [`apply_plan::Handover::new`] requires. Each group is there once. Outside
-/// the reserved CPUs the target of a pinned container meets no other. No target is empty, nor are the reserved CPUs.
+/// Whether a hand-over of these entries may begin, as [`apply_plan::Handover::new`] requires. Each group is there once.
+/// Outside the reserved CPUs the target of a pinned container meets no other. No target is empty, nor are the reserved
+/// CPUs.
 ///
 /// Looks at each target once, and compares the groups of each two of the entries. Allocates nothing.
 pub fn may_begin(entries: &[Entry], reserved: &IdSet) -> bool

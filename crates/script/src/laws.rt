@@ -26,8 +26,10 @@ pub fn worked()
     ensures no_words { request_of (words_of (codes "  ")) ≡ nothing }
     ensures no_command { request_of (words_of (codes "Rebalance")) ≡ bad }
     ensures bare { request_of (words_of (codes " rebalance ")) ≡ asks command.rebalance }
-    ensures two_texts { request_of (words_of (codes "create web images/web")) ≡ asks (command.create (codes "web") (codes "images/web")) }
-    ensures three_texts { request_of (words_of (codes "adopt web b 2-3,6")) ≡ asks (command.adopt (codes "web") (codes "b") (codes "2-3,6")) }
+    ensures two_texts { request_of (words_of (codes "create web images/web"))
+        ≡ asks (command.create (codes "web") (codes "images/web")) }
+    ensures three_texts { request_of (words_of (codes "adopt web b 2-3,6"))
+        ≡ asks (command.adopt (codes "web") (codes "b") (codes "2-3,6")) }
     ensures too_few { request_of (words_of (codes "create web")) ≡ bad }
     ensures too_many { request_of (words_of (codes "list web")) ≡ bad }
     ensures leading_zeros { request_of (words_of (codes "exit 007")) ≡ asks (command.exit 7) }

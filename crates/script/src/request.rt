@@ -3,7 +3,8 @@ ghost use Rattle.std.specs.Prelude.{◌≡◌, option_map};
 ghost use Rattle.std.specs.Option.{option_zip};
 ghost use Rattle.script.specs.Commands.{asked};
 ghost use Rattle.script.specs.Lines.{words_of};
-ghost use Rattle.script.specs.Requests.{bare_command, command_by, long_command, longest_command, request_of, short_command, text_of, wanted};
+ghost use Rattle.script.specs.Requests.{bare_command, command_by, long_command, longest_command, request_of};
+ghost use Rattle.script.specs.Requests.{short_command, text_of, wanted};
 
 use crate::command::{Command, Request};
 use crate::number::read_number;
@@ -103,7 +104,8 @@ fn longest_command<'a>(
     second: &'a [u8],
     third: &'a [u8],
 ) -> Option<Command<'a>>
-    ensures { option_map asked result ≡ longest_command name.now (option_zip (text_of first.now) (option_zip (text_of second.now) (text_of third.now))) }
+    ensures { option_map asked result ≡ longest_command name.now
+        (option_zip (text_of first.now) (option_zip (text_of second.now) (text_of third.now))) }
 {
     let id = text(first)?;
     let bundle = text(second)?;

@@ -30,15 +30,16 @@ pub fn run_script<T: Target, R: Read, W: Write>(
     reader: &mut R,
     writer: &mut W,
 ) -> Result<(), ScriptFault>
-    ensures { EndsBy MOST_READS T.answers (R.remaining reader.old) (R.remaining reader.new) (W.contents writer.old) (W.contents writer.new)
+    ensures { EndsBy MOST_READS T.answers (R.remaining reader.old) (R.remaining reader.new) (W.contents writer.old)
+        (W.contents writer.new)
         target.old result target.new }
 {
     run_script_within(target, reader, writer, u64::from(MOST_READS))
 }
 
 /// Runs a script over the target: the reader's lines are carried out one after another, and answered to the writer.
-/// Bytes are read as they come, by so many reads at most, and the writer is flushed behind each answer. It allocates nothing of
-/// its own.
+/// Bytes are read as they come, by so many reads at most, and the writer is flushed behind each answer. It allocates
+/// nothing of its own.
 ///
 /// A line feed ends a line. What follows the last one is a line too, where the input ends there.
 ///
@@ -52,7 +53,8 @@ pub fn run_script_within<T: Target, R: Read, W: Write>(
     writer: &mut W,
     most_reads: u64,
 ) -> Result<(), ScriptFault>
-    ensures { EndsBy most_reads T.answers (R.remaining reader.old) (R.remaining reader.new) (W.contents writer.old) (W.contents writer.new)
+    ensures { EndsBy most_reads T.answers (R.remaining reader.old) (R.remaining reader.new) (W.contents writer.old)
+        (W.contents writer.new)
         target.old result target.new }
 {
     let mut line = LineBuffer::new();
@@ -83,7 +85,8 @@ fn feed<T: Target, W: Write>(
     bytes: &[u8],
     w: &mut W,
 ) -> io::Result<()>
-    ensures { FeedsBy T.answers (W.contents w.old) (W.contents w.new) bytes.now target.old line.old result target.new line.new }
+    ensures { FeedsBy T.answers (W.contents w.old) (W.contents w.new) bytes.now target.old line.old result target.new
+        line.new }
 {
     let mut rest = bytes;
     while let Some(end) = memchr(b'\n', rest) {
@@ -98,7 +101,8 @@ fn feed<T: Target, W: Write>(
 
 /// Carries a line out and answers it.
 fn answer_line<T: Target, W: Write>(target: &mut T, line: &LineBuffer, w: &mut W) -> io::Result<()>
-    ensures { Replies (AnswersLine T.answers target.old line.now) (W.contents w.old) (W.contents w.new) result target.new }
+    ensures { Replies (AnswersLine T.answers target.old line.now) (W.contents w.old) (W.contents w.new) result
+        target.new }
 {
     match line.line() {
         None => put_and_flush(b"refused E112 LineTooLong\n", w),
@@ -111,7 +115,8 @@ fn answer_request<T: Target, W: Write>(
     request: Request<'_>,
     w: &mut W,
 ) -> io::Result<()>
-    ensures { Replies (AnswersRequest T.answers target.old (wanted request.entry)) (W.contents w.old) (W.contents w.new) result target.new }
+    ensures { Replies (AnswersRequest T.answers target.old (wanted request.entry)) (W.contents w.old) (W.contents w.new)
+        result target.new }
 {
     match request {
         Request::Nothing => Ok(()),

@@ -16,5 +16,6 @@ pub trait Target {
     /// # Errors
     /// That of the first write that fails or takes no byte; the command was then carried out all the same.
     fn answer<W: Write>(&mut self, command: Command<'_>, w: &mut W) -> io::Result<()>
-        ensures { Replies (answers self.old (asked command.entry)) (W.contents w.old) (W.contents w.new) result self.new };
+        ensures { Replies (answers self.old (asked command.entry)) (W.contents w.old) (W.contents w.new) result
+            self.new };
 }

@@ -35,8 +35,8 @@ impl Slit {
     /// The table that the bytes are.
     ///
     /// # Errors
-    /// An allocation failure, or the first fault in the order of [`SlitFault`]: of the header, and then entry by entry in rows.
-    /// It allocates only where there is no fault.
+    /// An allocation failure, or the first fault in the order of [`SlitFault`]: of the header, and then entry by entry
+    /// in rows. It allocates only where there is no fault.
     pub fn read(alloc: Global, bytes: &[u8]) -> Result<Slit, OrMemory<SlitFault>>
         // The first fault of the bytes, with row and column.
         ensures fault { Reports result (slit_fault bytes.now) }

@@ -1,5 +1,5 @@
-//! Problems solved: [`decide`] makes the certificate of what the rows of a problem come to, and [`solve_text`] reads a problem from
-//! its text and does so.
+//! Problems solved: [`decide`] makes the certificate of what the rows of a problem come to, and [`solve_text`] reads a
+//! problem from its text and does so.
 //!
 //! # Proved
 //!

@@ -18,16 +18,17 @@ use std::alloc::{AllocError, Global};
 /// shortage if there is no plan.
 ///
 /// # Errors
-/// Those of [`read_problem`], then `BadProblem` (E70) where the rows are past the limits of a check, then an allocation failure.
+/// Those of [`read_problem`], then `BadProblem` (E70) where the rows are past the limits of a check, then an allocation
+/// failure.
 pub fn solve_text(alloc: Global, text: &[u8]) -> Result<Solution, OrMemory<VerdictFault>>
-    // What it returns is a certificate of version 1 of the very rows that the text stands for. **No plan of the rows costs
-    // less than its plan, or they have no plan.** The check accepts it. The text that is written of it stands for it in the
-    // grammar of certificates. Twins go to the rows in order.
+    // What it returns is a certificate of version 1 of the very rows that the text stands for. **No plan of the rows
+    // costs less than its plan, or they have no plan.** The check accepts it. The text that is written of it stands for
+    // it in the grammar of certificates. Twins go to the rows in order.
     ensures solved { IfOk result (Solves text.now) }
     // It returns one wherever the text stands for rows within the limits, unless an allocation fails.
     ensures complete { HasRows text.now true → IfErr result (λ e. e ≡ Memory) }
-    // A refusal names the first bad line, or that the rows are past the limits. An allocation fails only at a row's line
-    // that can follow those before it, or with rows within the limits.
+    // A refusal names the first bad line, or that the rows are past the limits. An allocation fails only at a row's
+    // line that can follow those before it, or with rows within the limits.
     ensures fault { IfErr result (λ e. IsUnsolved text.now e) }
 {
     certificate_text::laws::problem_texts();

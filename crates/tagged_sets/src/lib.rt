@@ -7,8 +7,8 @@
 //!
 //! - `TaggedSets` is a list of sets with tags, to which sets are added, also those of another list (`push_from`). If an
 //!   allocation fails nothing changes.
-//! - It gives the tag, the set and the ranges of each, all CPUs in one of them (`all`), and a copy. `is_same` says exactly
-//!   whether two such lists are the same.
+//! - It gives the tag, the set and the ranges of each, all CPUs in one of them (`all`), and a copy. `is_same` says
+//!   exactly whether two such lists are the same.
 //! - How sets are kept no contract mentions.
 #![tactic(auto)]
 

@@ -1,4 +1,5 @@
-ghost use Rattle.std.specs.Prelude.{◌≡◌, ◌↔◌, ℕ, ◌<◌, ◌≤◌, ◌++◌, [], ◌∷◌, All, IsTrue, IfOk, OnOk, OnErr, length, slice_index_or, slice_range};
+ghost use Rattle.std.specs.Prelude.{◌≡◌, ◌↔◌, ℕ, ◌<◌, ◌≤◌, ◌++◌, [], ◌∷◌, All, IsTrue, IfOk, OnOk, OnErr, length};
+ghost use Rattle.std.specs.Prelude.{slice_index_or, slice_range};
 ghost use Rattle.std.specs.FinSet as set;
 ghost use Rattle.cpu_set.specs.Ids.{Ids};
 ghost use Rattle.cpu_set.specs.Members.{InRange};
@@ -75,7 +76,8 @@ impl<T: Copy> TaggedSets<T> {
     /// An allocation failure, which changes nothing.
     pub fn push_from(&mut self, tag: T, other: &TaggedSets<T>, at: usize) -> Result<(), AllocError>
         requires { at < length other.now }
-        ensures ok { (d : T × Ids) → OnOk result (self.new ≡ self.old ++ (tag, (slice_index_or other.now at d).1) ∷ []) }
+        ensures ok { (d : T × Ids) → OnOk result (self.new ≡ self.old ++ (tag, (slice_index_or other.now at d).1)
+            ∷ []) }
         ensures err { OnErr result (self.new ≡ self.old) }
     {
         let more = other.ranges(at);
@@ -120,7 +122,8 @@ impl<T: Copy> TaggedSets<T> {
     pub fn ranges(&self, at: usize) -> &[(u16, u16)]
         requires { at < length self.now }
         ensures ranges { (d : T × Ids) → result.now ≡ ranges_of_set (slice_index_or self.now at d).1 }
-        ensures members { (d : T × Ids) (q : ℕ) → in_ranges result.now q ≡ set.contains (slice_index_or self.now at d).1 q }
+        ensures members { (d : T × Ids) (q : ℕ) → in_ranges result.now q
+            ≡ set.contains (slice_index_or self.now at d).1 q }
         ensures in_range { (d : T × Ids) → InRange (slice_index_or self.now at d).1 }
         ensures below { All (λ r. r.1 < CPU_LIMIT) result.now }
     {

@@ -8,7 +8,8 @@ use certificate::{Problem, rows_fit};
 use std::alloc::{AllocError, Global};
 use twins::{Classes, group, kinds_of};
 
-/// `twins`: prints, for each problem of certificates, which of its rows have the same offers, and the classes of its CPUs.
+/// `twins`: prints, for each problem of certificates, which of its rows have the same offers, and the classes of its
+/// CPUs.
 pub fn each<R: AllocGlobal + Print>(rt: &R, texts: &[u8]) -> Result<()> {
     let problems = problems_of(rt.alloc(), texts)?;
     for problem in &problems {

@@ -9,8 +9,8 @@ use faults::OrMemory;
 use kernel_model::{Call, FusedKernel, Group, Kernel, LAST_PID, ModelKernel, Reply, make_calls};
 use std::alloc::{AllocError, Global};
 
-/// `kernel FAIL`: a line `PRESENT RESERVED ONLINE NODES PID` of sets and the first pid, and calls over that kernel, of which
-/// the write of this number fails.
+/// `kernel FAIL`: a line `PRESENT RESERVED ONLINE NODES PID` of sets and the first pid, and calls over that kernel, of
+/// which the write of this number fails.
 pub fn over_new<R: AllocGlobal + Print>(rt: &R, words: &[String], text: &[u8]) -> Result<()> {
     let [fail] = words else {
         bail!("tools kernel FAIL");
@@ -42,8 +42,8 @@ pub fn new_kernel(alloc: Global, line: &str) -> Result<ModelKernel>
     Ok(kernel)
 }
 
-/// Makes each call, and prints what it answers. A group is named by its serial. As many calls as possible are made as one
-/// list: those up to the first that names a group which one of them answers.
+/// Makes each call, and prints what it answers. A group is named by its serial. As many calls as possible are made as
+/// one list: those up to the first that names a group which one of them answers.
 pub fn each<R: AllocGlobal + Print, K: Kernel>(rt: &R, kernel: &mut K, calls: &str) -> Result<()> {
     let mut seen = Vec::new(rt.alloc());
     seen.push(kernel.root())?;

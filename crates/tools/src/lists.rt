@@ -4,7 +4,8 @@ use anyhow::{Result, bail};
 use cpu_set::{CPU_LIMIT, IdSet};
 use std::alloc::Global;
 
-/// Prints what a list of numbers below the limit names, in its one spelling and as a set with its size, or its first fault.
+/// Prints what a list of numbers below the limit names, in its one spelling and as a set with its size, or its first
+/// fault.
 pub fn named<R: AllocGlobal + Print>(rt: &R, words: &[String], text: &[u8]) -> Result<()> {
     let [limit] = words else {
         bail!("tools list LIMIT")

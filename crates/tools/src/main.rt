@@ -8,11 +8,12 @@
 //! - `tools twins`: which rows of certificates have the same offers, and the classes of their CPUs; `tools solve`: what
 //!   comes of them.
 //! - `tools kernel FAIL`: what a modelled kernel answers to calls.
-//! - `tools mirror FAIL MEMORY`: the same, and what is asked of files that fail, where a kernel's writes are made in them first.
+//! - `tools mirror FAIL MEMORY`: the same, and what is asked of files that fail, where a kernel's writes are made in
+//!   them first.
 //! - `tools run FAIL MOST READ WIDTH WRITES WRITE MACHINE BUNDLE..`: a script over a kernel and streams that fail.
 //!
-//! Else it is the name of a benchmark, and the second word how often its work is done: what is printed is a sum over all
-//! answers, so that none of the work is idle.
+//! Else it is the name of a benchmark, and the second word how often its work is done: what is printed is a sum over
+//! all answers, so that none of the work is idle.
 #![tactic(auto)]
 
 mod alike;

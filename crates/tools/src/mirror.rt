@@ -60,8 +60,9 @@ impl<R: Print> GroupFiles for FusedFiles<'_, R> {
     }
 }
 
-/// `mirror FAIL MEMORY`: the calls of `kernel`, over a kernel whose writes are asked of files first, where these nodes have memory.
-/// The call of the files with this number is refused. What is asked of them stands before what a call answers.
+/// `mirror FAIL MEMORY`: the calls of `kernel`, over a kernel whose writes are asked of files first, where these nodes
+/// have memory. The call of the files with this number is refused. What is asked of them stands before what a call
+/// answers.
 pub fn over_files<R: AllocGlobal + Print>(rt: &R, words: &[String], text: &[u8]) -> Result<()> {
     let [fail, memory] = words else {
         bail!("tools mirror FAIL MEMORY");
@@ -89,7 +90,8 @@ fn over<S: Sited, R: AllocGlobal + Print>(
     lines: String,
 ) -> Result<()>
     requires begins { Begins (beginning_of inner) inner }
-    requires site { S.site ≡ record { root = string_bytes root; memory = memory; adopt = false; first = beginning_of inner } }
+    requires site { S.site ≡ record { root = string_bytes root; memory = memory; adopt = false; first
+        = beginning_of inner } }
 {
     let mut kernel = MirroredKernel::<FusedFiles<R>, S>::new(
         rt.alloc(),

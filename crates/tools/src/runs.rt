@@ -14,7 +14,8 @@ use std::io::ErrorKind;
 use std::rt::Files;
 
 /// How a script is read and its answers are written: words `MOST READ WIDTH WRITES WRITE`, where READ is the reader's
-/// fault at the end, or `end`, and WRITES how many writes are taken before the fault WRITE, or `stuck` where each flush has it.
+/// fault at the end, or `end`, and WRITES how many writes are taken before the fault WRITE, or `stuck` where each flush
+/// has it.
 #[derive(Drop)]
 struct Streams {
     most: usize,
@@ -47,8 +48,9 @@ fn streams_of(words: &[String]) -> Result<Streams> {
     })
 }
 
-/// `run FAIL MOST READ WIDTH WRITES WRITE MACHINE BUNDLE..`: runs a script over a kernel of which the write of this number fails,
-/// and prints what came of it and the answers; and what the kernel answers to the calls behind a line `kernel`.
+/// `run FAIL MOST READ WIDTH WRITES WRITE MACHINE BUNDLE..`: runs a script over a kernel of which the write of this
+/// number fails, and prints what came of it and the answers; and what the kernel answers to the calls behind a line
+/// `kernel`.
 pub fn over_files<R: AllocGlobal + Files + Print>(
     rt: &R,
     words: &[String],

@@ -9,8 +9,8 @@ use std::alloc::Global;
 use std::io;
 use std::io::{ErrorKind, Write};
 
-/// `write WHAT WIDTH FAULT`: for each number of writes before a writer's fault, from none to as many as are enough, prints
-/// what is answered, and what the writer has.
+/// `write WHAT WIDTH FAULT`: for each number of writes before a writer's fault, from none to as many as are enough,
+/// prints what is answered, and what the writer has.
 pub fn each_fault<R: AllocGlobal + Print>(rt: &R, words: &[String], text: &[u8]) -> Result<()> {
     let [what, width, fault] = words else {
         bail!("tools write WHAT WIDTH FAULT");

@@ -1,5 +1,6 @@
 //! A row's classes by weight, made as far as searches come to them.
-ghost use Rattle.std.specs.Prelude.{◌≡◌, ◌↔◌, ℕ, ◌+◌, ◌<◌, ◌≤◌, ◌⊎◌, ◌||◌, ◌==◌, false, IsTrue, Option, None, List, length, MatchOption, IfOk, OnOk};
+ghost use Rattle.std.specs.Prelude.{◌≡◌, ◌↔◌, ℕ, ◌+◌, ◌<◌, ◌≤◌, ◌⊎◌, ◌||◌, ◌==◌, false, IsTrue, Option, None, List};
+ghost use Rattle.std.specs.Prelude.{length, MatchOption, IfOk, OnOk};
 ghost use Rattle.std.specs.FinSet as set;
 ghost use Rattle.cpu_set.specs.Members.{IsCpu};
 ghost use Rattle.transport.specs.Blocks.{InBlocks, AreBlocks, AreWeightsAdded};
@@ -25,7 +26,8 @@ const OFTEN: usize = 8;
 /// A scan that comes to the last arc counts for so many of those that end at an earlier one.
 const LAST_SEEN: usize = 4;
 
-/// They are where one of so many or more lies in one block with the arc before. A block of one class takes longer than its arc.
+/// They are where one of so many or more lies in one block with the arc before. A block of one class takes longer than
+/// its arc.
 const FEW_JOINED: usize = 4;
 
 /// They are in the first scan that comes to the last of so many arcs or more, where all lie so but for one of so many.
@@ -47,8 +49,8 @@ pub(crate) struct Block {
     pub(crate) firsts: WordSet,
 }
 
-/// A row's offers in rising weight, the classes of those that are opened, and how far these are full. The first ones are in
-/// blocks too, as far as a scan has come where blocks spare looks.
+/// A row's offers in rising weight, the classes of those that are opened, and how far these are full. The first ones
+/// are in blocks too, as far as a scan has come where blocks spare looks.
 #[derive(Debug, Drop)]
 pub(crate) struct SortedArcs {
     pub(crate) order: OfferOrder,
@@ -91,8 +93,12 @@ impl SortedArcs {
         limit: Option<u64>,
     ) -> Result<Option<Arc>, AllocError>
         requires { (ws : ℕ → Option ℕ) × IsSortedArcs ws offers.now firsts.now residual.now self.old }
-        ensures sorted_arcs { OnOk result ((ws : ℕ → Option ℕ) → IsSortedArcs ws offers.now firsts.now residual.now self.old → IsSortedArcs ws offers.now firsts.now residual.now self.new) }
-        ensures found { IfOk result (λ found. (ws : ℕ → Option ℕ) → IsSortedArcs ws offers.now firsts.now residual.now self.old → IsFoundFreeEnd ws residual.now limit self.new found) }
+        ensures sorted_arcs { OnOk result ((ws : ℕ → Option ℕ)
+            → IsSortedArcs ws offers.now firsts.now residual.now self.old
+            → IsSortedArcs ws offers.now firsts.now residual.now self.new) }
+        ensures found { IfOk result (λ found. (ws : ℕ → Option ℕ)
+            → IsSortedArcs ws offers.now firsts.now residual.now self.old
+            → IsFoundFreeEnd ws residual.now limit self.new found) }
         ensures further { OnOk result (IsFurther self.old self.new) }
     {
         loop {
@@ -115,8 +121,11 @@ impl SortedArcs {
     /// Opens the next offer: its classes are arcs from now on.
     fn open(&mut self, offers: &Offers, firsts: &Representatives) -> Result<(), AllocError>
         requires more { self.old.opened < length offers.now }
-        requires sorted_arcs { (ws : ℕ → Option ℕ) × (residual : List ℕ) × IsSortedArcs ws offers.now firsts.now residual self.old }
-        ensures sorted_arcs { OnOk result ((ws : ℕ → Option ℕ) (residual : List ℕ) → IsSortedArcs ws offers.now firsts.now residual self.old → IsSortedArcs ws offers.now firsts.now residual self.new) }
+        requires sorted_arcs { (ws : ℕ → Option ℕ) × (residual : List ℕ)
+            × IsSortedArcs ws offers.now firsts.now residual self.old }
+        ensures sorted_arcs { OnOk result ((ws : ℕ → Option ℕ) (residual : List ℕ)
+            → IsSortedArcs ws offers.now firsts.now residual self.old
+            → IsSortedArcs ws offers.now firsts.now residual self.new) }
         ensures opened { OnOk result (self.new.opened ≡ self.old.opened + 1) }
         ensures further { OnOk result (IsFurther self.old self.new) }
     {
@@ -130,9 +139,9 @@ impl SortedArcs {
         Ok(())
     }
 
-    /// Adds the arcs before the cursor to the blocks, but for those that are there already, where scans are spared looks by
-    /// it: at once where nearly all of the row's arcs lie in one block with the arc before, else where these are scanned again,
-    /// and never where few do.
+    /// Adds the arcs before the cursor to the blocks, but for those that are there already, where scans are spared
+    /// looks by it: at once where nearly all of the row's arcs lie in one block with the arc before, else where these
+    /// are scanned again, and never where few do.
     ///
     /// Only a scan reads blocks: a row from which no more than the free end is sought has none.
     pub(crate) fn block_arcs(
@@ -140,8 +149,11 @@ impl SortedArcs {
         firsts: &Representatives,
         limit: Option<u64>,
     ) -> Result<(), AllocError>
-        requires sorted_arcs { (ws : ℕ → Option ℕ) × (offers : List Offer) × (residual : List ℕ) × IsSortedArcs ws offers firsts.now residual self.old }
-        ensures sorted_arcs { OnOk result ((ws : ℕ → Option ℕ) (offers : List Offer) (residual : List ℕ) → IsSortedArcs ws offers firsts.now residual self.old → IsSortedArcs ws offers firsts.now residual self.new) }
+        requires sorted_arcs { (ws : ℕ → Option ℕ) × (offers : List Offer) × (residual : List ℕ)
+            × IsSortedArcs ws offers firsts.now residual self.old }
+        ensures sorted_arcs { OnOk result ((ws : ℕ → Option ℕ) (offers : List Offer) (residual : List ℕ)
+            → IsSortedArcs ws offers firsts.now residual self.old
+            → IsSortedArcs ws offers firsts.now residual self.new) }
         ensures arcs { OnOk result (self.new.arcs ≡ self.old.arcs) }
         ensures cursor { OnOk result (self.new.cursor ≡ self.old.cursor) }
     {
@@ -194,7 +206,8 @@ fn push_arcs(
     firsts: &Representatives,
     weight: u32,
 ) -> Result<(), AllocError>
-    ensures { OnOk result ((ws : ℕ → Option ℕ) (offers : List Offer) (weighted : List WeightedOffer) (opened : ℕ) → CanOpen ws offers firsts.now weighted opened offer.now weight arcs.old.items
+    ensures { OnOk result ((ws : ℕ → Option ℕ) (offers : List Offer) (weighted : List WeightedOffer) (opened : ℕ)
+        → CanOpen ws offers firsts.now weighted opened offer.now weight arcs.old.items
         → IsOpening ws offers firsts.now weighted opened arcs.old.items arcs.new.items None) }
 {
     let there = firsts.among(&offer.cpus);
@@ -207,8 +220,8 @@ fn push_arcs(
     Ok(())
 }
 
-/// How many of an offer's arcs, the last ones from this place on, lie in one block with the one before, at least: all but one for
-/// each word of 64 that their first CPUs span.
+/// How many of an offer's arcs, the last ones from this place on, lie in one block with the one before, at least: all
+/// but one for each word of 64 that their first CPUs span.
 fn joined_from(arcs: &[Arc], firsts: &Representatives, from: usize) -> usize {
     if arcs.len() <= from.saturating_add(1) {
         return 0;
@@ -250,7 +263,8 @@ fn add_arcs(
 /// Adds a CPU at a weight: to the last block, where it lies behind the CPUs there, else as a block of its own.
 fn add_to_blocks(blocks: &mut Vec<Block>, weight: u32, cpu: u16) -> Result<(), AllocError>
     requires { IsCpu cpu }
-    ensures sound { OnOk result ((c w : ℕ) → InBlocks blocks.new.items c w → InBlocks blocks.old.items c w ⊎ ((c ≡ cpu) × (w ≡ weight))) }
+    ensures sound { OnOk result ((c w : ℕ) → InBlocks blocks.new.items c w → InBlocks blocks.old.items c w
+        ⊎ ((c ≡ cpu) × (w ≡ weight))) }
     ensures kept { OnOk result ((c w : ℕ) → InBlocks blocks.old.items c w → InBlocks blocks.new.items c w) }
     ensures added { OnOk result (InBlocks blocks.new.items cpu weight) }
     ensures weights { OnOk result (AreWeightsAdded blocks.old.items blocks.new.items weight) }
@@ -263,10 +277,12 @@ fn add_to_blocks(blocks: &mut Vec<Block>, weight: u32, cpu: u16) -> Result<(), A
     Ok(())
 }
 
-/// Adds a CPU to the last block, if that is of this weight and the CPU lies behind those there; says whether it was added.
+/// Adds a CPU to the last block, if that is of this weight and the CPU lies behind those there; says whether it was
+/// added.
 fn extend_last(blocks: &mut [Block], weight: u32, cpu: u16) -> bool
     requires { IsCpu cpu }
-    ensures sound { IsTrue result → (c w : ℕ) → InBlocks blocks.new c w → InBlocks blocks.old c w ⊎ ((c ≡ cpu) × (w ≡ weight)) }
+    ensures sound { IsTrue result → (c w : ℕ) → InBlocks blocks.new c w → InBlocks blocks.old c w
+        ⊎ ((c ≡ cpu) × (w ≡ weight)) }
     ensures kept { IsTrue result → (c w : ℕ) → InBlocks blocks.old c w → InBlocks blocks.new c w }
     ensures added { IsTrue result → InBlocks blocks.new cpu weight }
     ensures weights { IsTrue result → AreWeightsAdded blocks.old blocks.new weight }
@@ -282,7 +298,8 @@ fn extend_last(blocks: &mut [Block], weight: u32, cpu: u16) -> bool
 /// Adds a CPU to a block, if that is of this weight and the CPU lies behind those there; says whether it was added.
 fn extend(block: &mut Block, weight: u32, cpu: u16) -> bool
     requires { IsCpu cpu }
-    ensures firsts { IsTrue result → (q : ℕ) → set.contains block.new.firsts q ≡ (set.contains block.old.firsts q || (q == cpu)) }
+    ensures firsts { IsTrue result → (q : ℕ) → set.contains block.new.firsts q
+        ≡ (set.contains block.old.firsts q || (q == cpu)) }
     ensures weight { IsTrue result → (block.old.weight ≡ weight) × (block.new.weight ≡ weight) }
     ensures same { result ≡ false → block.new ≡ block.old }
 {
@@ -310,7 +327,8 @@ fn skip_full(arcs: &[Arc], from: usize, residual: &[u32], limit: Option<u64>) ->
     ensures within { result ≤ length arcs.now }
     ensures forward { from ≤ result }
     ensures full { (i : ℕ) → i < result → number residual.now (arc_at arcs.now i).class ≡ 0 }
-    ensures stop { result < length arcs.now → IsPast limit (arc_at arcs.now result).weight ⊎ (0 < number residual.now (arc_at arcs.now result).class) }
+    ensures stop { result < length arcs.now → IsPast limit (arc_at arcs.now result).weight
+        ⊎ (0 < number residual.now (arc_at arcs.now result).class) }
 {
     for at in from..arcs.len() {
         let arc = arcs[at];

@@ -78,7 +78,8 @@ pub fn assign_all(alloc: Global, instance: &Instance, sizes: &[u32]) -> Result<O
 /// Sorted arcs for each row that is the first of its kind, which the others share; theirs are without offers.
 fn sorted_arcs_of(alloc: Global, instance: &Instance) -> Result<Vec<SortedArcs>, AllocError>
     requires kinds { length instance.now.kinds.now ≡ length instance.now.rows.now }
-    ensures { IfOk result (λ arcs_by_kind. AreNewSortedArcs instance.now.rows.now instance.now.kinds.now arcs_by_kind.items (length instance.now.rows.now)) }
+    ensures { IfOk result (λ arcs_by_kind. AreNewSortedArcs instance.now.rows.now instance.now.kinds.now
+        arcs_by_kind.items (length instance.now.rows.now)) }
 {
     let mut arcs_by_kind = Vec::with_capacity(alloc, instance.rows.len())?;
     for k in 0..instance.rows.len() {
@@ -92,7 +93,8 @@ fn sorted_arcs_of(alloc: Global, instance: &Instance) -> Result<Vec<SortedArcs>,
 fn arcs_of_kind(alloc: Global, instance: &Instance, k: usize) -> Result<SortedArcs, AllocError>
     requires there { k < length instance.now.rows.now }
     requires kinds { length instance.now.kinds.now ≡ length instance.now.rows.now }
-    ensures { IfOk result (λ sorted_arcs. kind_at instance.now.kinds.now k ≡ k → IsNewSortedArcs (offers_of instance.now.rows.now k) sorted_arcs) }
+    ensures { IfOk result (λ sorted_arcs. kind_at instance.now.kinds.now k ≡ k
+        → IsNewSortedArcs (offers_of instance.now.rows.now k) sorted_arcs) }
 {
     if instance.kinds[k] != k {
         return SortedArcs::new(alloc, &Offers::new(alloc));
@@ -113,7 +115,8 @@ fn assign_row(
 ) -> Result<bool, AllocError>
     requires can { CanAssign instance.now row assignment.old arcs_by_kind.old turns.old }
     requires tidy { IsTreeOf assignment.old tree.old }
-    ensures { IfOk result (IsRowAssigned instance.now row assignment.old assignment.new arcs_by_kind.new tree.new turns.old turns.new) }
+    ensures { IfOk result (IsRowAssigned instance.now row assignment.old assignment.new arcs_by_kind.new tree.new
+        turns.old turns.new) }
 {
     'searches: while assignment.deficit[row] > 0 {
         if !augment_once(instance, assignment, arcs_by_kind, tree, row, turns)? {
@@ -135,7 +138,8 @@ fn augment_once(
     requires can { CanAssign instance.now row assignment.old arcs_by_kind.old turns.old }
     requires lacks { 0 < number assignment.old.deficit.items row }
     requires tidy { IsTreeOf assignment.old tree.old }
-    ensures { IfOk result (IsSearched instance.now row assignment.old assignment.new arcs_by_kind.new tree.new turns.old turns.new) }
+    ensures { IfOk result (IsSearched instance.now row assignment.old assignment.new arcs_by_kind.new tree.new turns.old
+        turns.new) }
 {
     let wanted = assignment.deficit[row];
     tree.start(row, wanted)?;
@@ -183,7 +187,8 @@ pub(crate) fn augment(
     requires deficit { amount ≤ number assignment.old.deficit.items (row_at tree.now.reached_rows 0) }
     requires fresh { IsTrue is_new → IsNoHolder (row_at tree.now.reached_rows 0) assignment.old.holdings.items }
     requires deficit_long { length assignment.old.deficit.items ≡ length assignment.old.values.items }
-    requires sizes { (g : ℕ) → class_total (cell assignment.old.holdings.items) (length assignment.old.values.items) g + number assignment.old.residual.items g < 2 ^ 32 }
+    requires sizes { (g : ℕ) → class_total (cell assignment.old.holdings.items) (length assignment.old.values.items) g
+        + number assignment.old.residual.items g < 2 ^ 32 }
     ensures { OnOk result (IsAugmented assignment.old assignment.new tree.now free_end amount) }
 {
     let mut class = free_end.class;
@@ -222,9 +227,13 @@ fn give_to(
     requires class { class < length assignment.old.holdings.items }
     requires bottleneck { cell assignment.old.holdings.items row class + amount < 2 ^ 32 }
     requires none { IsTrue is_new → HasNoShare row (shares_of assignment.old.holdings.items class) }
-    ensures given { OnOk result (IsGiven (cell assignment.old.holdings.items) (cell assignment.new.holdings.items) row class amount) }
-    ensures holdings { OnOk result ((rows classes : ℕ) → row < rows → AreHoldings rows classes assignment.old.holdings.items → AreHoldings rows classes assignment.new.holdings.items) }
-    ensures none { OnOk result ((k : ℕ) → (k ≡ row → ⊥) → IsNoHolder k assignment.old.holdings.items → IsNoHolder k assignment.new.holdings.items) }
+    ensures given { OnOk result (IsGiven (cell assignment.old.holdings.items) (cell assignment.new.holdings.items) row
+        class amount) }
+    ensures holdings { OnOk result ((rows classes : ℕ) → row < rows
+        → AreHoldings rows classes assignment.old.holdings.items
+        → AreHoldings rows classes assignment.new.holdings.items) }
+    ensures none { OnOk result ((k : ℕ) → (k ≡ row → ⊥) → IsNoHolder k assignment.old.holdings.items
+        → IsNoHolder k assignment.new.holdings.items) }
     ensures rest { OnOk result (IsSameButHoldings assignment.old assignment.new) }
 {
     give(&mut assignment.holdings[class].shares, row, amount, is_new)?;
@@ -235,8 +244,10 @@ fn give_to(
 fn take_from(assignment: &mut Assignment, class: usize, row: usize, amount: u32)
     requires class { class < length assignment.old.holdings.items }
     requires held { amount ≤ cell assignment.old.holdings.items row class }
-    ensures given_up { IsGivenUp (cell assignment.old.holdings.items) (cell assignment.new.holdings.items) row class amount }
-    ensures holdings { (rows classes : ℕ) → row < rows → AreHoldings rows classes assignment.old.holdings.items → AreHoldings rows classes assignment.new.holdings.items }
+    ensures given_up { IsGivenUp (cell assignment.old.holdings.items) (cell assignment.new.holdings.items) row class
+        amount }
+    ensures holdings { (rows classes : ℕ) → row < rows → AreHoldings rows classes assignment.old.holdings.items
+        → AreHoldings rows classes assignment.new.holdings.items }
     ensures none { (k : ℕ) → IsNoHolder k assignment.old.holdings.items → IsNoHolder k assignment.new.holdings.items }
     ensures rest { IsSameButHoldings assignment.old assignment.new }
 {

@@ -14,8 +14,10 @@ pub(crate) fn slack(assignment: &Assignment, class: usize, label: Label) -> u64
     requires class { class < length assignment.now.prices.items }
     requires row { label.row < length assignment.now.values.items }
     requires fits { number assignment.now.prices.items class ≤ top }
-    requires below { number assignment.now.values.items label.row ≤ label.weight + number assignment.now.prices.items class }
-    ensures { result + number assignment.now.values.items label.row ≡ label.weight + number assignment.now.prices.items class }
+    requires below { number assignment.now.values.items label.row ≤ label.weight
+        + number assignment.now.prices.items class }
+    ensures { result + number assignment.now.values.items label.row ≡ label.weight
+        + number assignment.now.prices.items class }
 {
     label.weight as u64 + assignment.prices[class] - assignment.values[label.row]
 }
@@ -29,7 +31,8 @@ pub(crate) fn least_slack(
     nearest: &mut Vec<usize>,
 ) -> Result<Option<u64>, AllocError>
     requires { AreRunning assignment.now labels.now tree_classes.now root }
-    ensures { IfOk result (IsLeastUpTo assignment.now.values.items assignment.now.prices.items labels.now tree_classes.now labels.now.labelled.items nearest.new.items) }
+    ensures { IfOk result (IsLeastUpTo assignment.now.values.items assignment.now.prices.items labels.now
+        tree_classes.now labels.now.labelled.items nearest.new.items) }
 {
     nearest.clear();
     let root_value = assignment.values[root];
@@ -69,7 +72,8 @@ fn lesser(
 /// Raises the numbers at these places, which differ.
 pub(crate) fn raise(numbers: &mut [u64], order: &[usize], by: u64)
     requires within { (i : ℕ) → i < length order.now → number order.now i < length numbers.old }
-    requires once { (i j : ℕ) → i < length order.now → j < length order.now → number order.now i ≡ number order.now j → i ≡ j }
+    requires once { (i j : ℕ) → i < length order.now → j < length order.now → number order.now i ≡ number order.now j
+        → i ≡ j }
     requires fits { (i : ℕ) → i < length order.now → number numbers.old (number order.now i) + by < 2 ^ 64 }
     ensures { IsRaised numbers.old numbers.new order.now by }
 {

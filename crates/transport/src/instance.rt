@@ -63,7 +63,8 @@ impl Representatives {
     pub(crate) fn among(&self, cpus: &IdSet) -> IdSet
         ensures first { (cpu : ℕ) → set.contains result cpu ≡ true → IsIn self.now cpu }
         ensures some { (cpu : ℕ) → set.contains result cpu ≡ true → set.contains cpus.now cpu ≡ true }
-        ensures all { (g : ℕ) → g < length self.now → set.contains cpus.now (number self.now g) ≡ true → set.contains result (number self.now g) ≡ true }
+        ensures all { (g : ℕ) → g < length self.now → set.contains cpus.now (number self.now g) ≡ true
+            → set.contains result (number self.now g) ≡ true }
     {
         self.set.meet(cpus)
     }

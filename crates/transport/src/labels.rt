@@ -29,8 +29,8 @@ pub(crate) struct FreeEnd {
 #[derive(Debug, Drop)]
 pub(crate) struct Labels {
     pub(crate) of_class: Vec<Option<Label>>,
-    /// For each labelled class the root's value by which it is at slack 0, for others `NEVER`. It stays as values and prices
-    /// rise.
+    /// For each labelled class the root's value by which it is at slack 0, for others `NEVER`. It stays as values and
+    /// prices rise.
     pub(crate) due: Vec<u64>,
     /// The classes that have a label, except for some of those that are taken up.
     pub(crate) labelled: Vec<usize>,
@@ -60,7 +60,8 @@ impl Labels {
     /// Labels a class that is at slack 0 by some value of the root, unless it has a label by which it is as near.
     pub(crate) fn improve(&mut self, class: usize, label: Label, due: u64) -> Result<(), AllocError>
         requires { (values : List ℕ) × (above : ℕ) × CanImprove values above self.old class label due }
-        ensures { OnOk result ((values : List ℕ) (above : ℕ) → CanImprove values above self.old class label due → IsLabelledNow values above self.old self.new class label) }
+        ensures { OnOk result ((values : List ℕ) (above : ℕ) → CanImprove values above self.old class label due
+            → IsLabelledNow values above self.old self.new class label) }
     {
         if self.due[class] <= due {
             return Ok(());

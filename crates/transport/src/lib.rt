@@ -1,14 +1,15 @@
 //! The solver: for the rows of a problem an optimal plan, of the least cost, with the values and prices that show
 //! it, or a shortage, a certificate of infeasibility, where there is none.
 //!
-//! This is Kuhn's Hungarian method for a transportation problem ("The Hungarian method for the assignment problem", 1955),
-//! with the dual variables as in the primal-dual form of Ford and Fulkerson (1957): a row's value and a class's price.
-//! CPUs alike to all rows are twins, one equivalence class: only their number counts until a plan is dealt. Rows with the same
-//! offers share one list of the classes by weight. The rows are assigned one after another. A search for a row grows a tree
-//! of the rows that it reaches and of the classes that they hold; it raises the values of these rows and the prices of
-//! these classes by the least slack, until a class with a free CPU is at slack 0, and CPUs then move along the path there.
-//! Between searches no weight with its price is below its row's value, and each row holds classes at its value alone.
-//! Where a search ends with no such class, the rows that it has reached ask together for more CPUs than they may have.
+//! This is Kuhn's Hungarian method for a transportation problem ("The Hungarian method for the assignment problem",
+//! 1955), with the dual variables as in the primal-dual form of Ford and Fulkerson (1957): a row's value and a class's
+//! price. CPUs alike to all rows are twins, one equivalence class: only their number counts until a plan is dealt. Rows
+//! with the same offers share one list of the classes by weight. The rows are assigned one after another. A search for
+//! a row grows a tree of the rows that it reaches and of the classes that they hold; it raises the values of these rows
+//! and the prices of these classes by the least slack, until a class with a free CPU is at slack 0, and CPUs then move
+//! along the path there. Between searches no weight with its price is below its row's value, and each row holds classes
+//! at its value alone. Where a search ends with no such class, the rows that it has reached ask together for more CPUs
+//! than they may have.
 //!
 //! Rows a and b ask for one CPU each; the classes x and y have one CPU each.
 //!
@@ -22,10 +23,11 @@
 //!                  The total is 20 + 10 = 30, as the values less the price say: 20 + 20 - 10.
 //! ```
 //!
-//! A search looks at no more than each row's weights for each class, and there is at most one for each CPU that is asked
-//! for: O(demands * rows * classes) steps at worst. Memory is allocated for each CPU, row and class, each row that holds CPUs
-//! of a class, each offer of rows whose offers do not rise, and each class of the offers that a search has come to; and for each
-//! block of such classes, which has one of them at least, where searches look at a row's classes again and again.
+//! A search looks at no more than each row's weights for each class, and there is at most one for each CPU that is
+//! asked for: O(demands * rows * classes) steps at worst. Memory is allocated for each CPU, row and class, each row
+//! that holds CPUs of a class, each offer of rows whose offers do not rise, and each class of the offers that a search
+//! has come to; and for each block of such classes, which has one of them at least, where searches look at a row's
+//! classes again and again.
 //!
 //! # Proved
 //!

@@ -1,17 +1,21 @@
 //! The search for an augmenting path: rows are scanned, duals are updated, until a class with a free CPU is at slack 0.
-ghost use Rattle.std.specs.Prelude.{◌≡◌, ℕ, ◌+◌, ◌-◌, ◌/◌, ◌<◌, ◌≤◌, ◌^◌, ◌⊎◌, Option, None, [], ◌∷◌, length, OnOk, IfOk, IsTrue, true, IfSome, IfNone, MatchOption};
+ghost use Rattle.std.specs.Prelude.{◌≡◌, ℕ, ◌+◌, ◌-◌, ◌/◌, ◌<◌, ◌≤◌, ◌^◌, ◌⊎◌, Option, None, [], ◌∷◌, length, OnOk};
+ghost use Rattle.std.specs.Prelude.{IfOk, IsTrue, true, IfSome, IfNone, MatchOption};
 ghost use Rattle.transport.specs.Numbers.{number, IsRaised, IsEachOnce};
 ghost use Rattle.transport.specs.States.{IsRunning, HasTaken, IsSameRoot, HasScanned, IsStruck, AreStruckOrSame};
 ghost use Rattle.transport.specs.Weights.{weights, AreSortedArcs};
 ghost use Rattle.transport.specs.Answers.{IsAnswer, IsSameRest, IsNoFreeEndAt0, IsFreeEndAt0};
 ghost use Rattle.transport.specs.ReachedRows.{is_reached, row_at};
 ghost use Rattle.transport.specs.SortedArcs.{IsSortedArcs, IsFoundFreeEnd, IsScanned};
-ghost use Rattle.transport.specs.Blocks.{AreNoted, AreTakenFirsts, ArePassed, IsPassedToo, CanLabelBlock, HasLabelledBlock, IsFirstIn};
+ghost use Rattle.transport.specs.Blocks.{AreNoted, AreTakenFirsts, ArePassed, IsPassedToo, CanLabelBlock};
+ghost use Rattle.transport.specs.Blocks.{HasLabelledBlock, IsFirstIn};
 ghost use Rattle.transport.specs.Sought.{IsFurther, IsNoFurther, IsSought, AreSought};
 ghost use Rattle.std.specs.FinSet as set;
 ghost use Rattle.cpu_set.specs.Members.{IsCpu};
 ghost use Rattle.twins.specs.Kinds.{offers_of};
-ghost use Rattle.transport.specs.Scans.{IsScan, IsLimit, IsBoundOf, AreRising, CanLabelArc, CanLabelArcs, IsArcLabelled, HasLabelled, HasLabelledFrom, IsBetter, IsSeen, CanLimit, IsFreeEndLabelled};
+ghost use Rattle.transport.specs.Scans.{IsScan, IsLimit, IsBoundOf, AreRising, CanLabelArc, CanLabelArcs};
+ghost use Rattle.transport.specs.Scans.{IsArcLabelled, HasLabelled, HasLabelledFrom, IsBetter, IsSeen, CanLimit};
+ghost use Rattle.transport.specs.Scans.{IsFreeEndLabelled};
 
 use crate::arcs::{Arc, Block, SortedArcs};
 use crate::duals::{least_slack, raise, slack};
@@ -83,12 +87,15 @@ pub(crate) fn find_augmenting_path(
     }
 }
 
-/// Strikes the classes that are taken up out of the list of labelled ones, where those taken up since the last time are an
-/// eighth of it or more; says how many were taken up when this was done last.
+/// Strikes the classes that are taken up out of the list of labelled ones, where those taken up since the last time are
+/// an eighth of it or more; says how many were taken up when this was done last.
 fn strike_when_many(tree: &mut SearchTree, struck: usize) -> usize
     ensures struck { AreStruckOrSame tree.old tree.new }
-    ensures many { length tree.old.labels.labelled.items / 8 ≤ length tree.old.tree_classes.order.items - struck → IsStruck tree.old.tree_classes.taken.items tree.old.labels tree.new.labels × (result ≡ length tree.old.tree_classes.order.items) }
-    ensures few { length tree.old.tree_classes.order.items - struck < length tree.old.labels.labelled.items / 8 → (tree.new ≡ tree.old) × (result ≡ struck) }
+    ensures many { length tree.old.labels.labelled.items / 8 ≤ length tree.old.tree_classes.order.items - struck
+        → IsStruck tree.old.tree_classes.taken.items tree.old.labels tree.new.labels
+        × (result ≡ length tree.old.tree_classes.order.items) }
+    ensures few { length tree.old.tree_classes.order.items - struck < length tree.old.labels.labelled.items / 8
+        → (tree.new ≡ tree.old) × (result ≡ struck) }
 {
     let taken = tree.tree_classes.order.len();
     if taken.saturating_sub(struck) < tree.labels.labelled.len() / 8 {
@@ -105,8 +112,10 @@ fn note_taken(
     tree_classes: &TreeClasses,
     from: usize,
 ) -> usize
-    ensures only { (cpu : ℕ) → set.contains taken_firsts.new cpu ≡ true → (set.contains taken_firsts.old cpu ≡ true) ⊎ IsFirstIn firsts.now tree_classes.now.order.items cpu }
-    ensures all { AreNoted firsts.now taken_firsts.old tree_classes.now.order.items from → AreNoted firsts.now taken_firsts.new tree_classes.now.order.items result }
+    ensures only { (cpu : ℕ) → set.contains taken_firsts.new cpu ≡ true → (set.contains taken_firsts.old cpu ≡ true)
+        ⊎ IsFirstIn firsts.now tree_classes.now.order.items cpu }
+    ensures all { AreNoted firsts.now taken_firsts.old tree_classes.now.order.items from
+        → AreNoted firsts.now taken_firsts.new tree_classes.now.order.items result }
     ensures listed { result ≡ length tree_classes.now.order.items }
 {
     let listed = tree_classes.order.len();
@@ -120,14 +129,18 @@ fn note_taken(
 
 /// Raises the values of the reached rows and the prices of the classes taken up.
 pub(crate) fn update_duals(assignment: &mut Assignment, tree: &SearchTree, by: u64)
-    requires rows { (i : ℕ) → i < length tree.now.reached_rows.order.items → number tree.now.reached_rows.order.items i < length assignment.old.values.items }
+    requires rows { (i : ℕ) → i < length tree.now.reached_rows.order.items
+        → number tree.now.reached_rows.order.items i < length assignment.old.values.items }
     requires rows_once { IsEachOnce tree.now.reached_rows.order.items }
-    requires classes { (i : ℕ) → i < length tree.now.tree_classes.order.items → number tree.now.tree_classes.order.items i < length assignment.old.prices.items }
+    requires classes { (i : ℕ) → i < length tree.now.tree_classes.order.items
+        → number tree.now.tree_classes.order.items i < length assignment.old.prices.items }
     requires classes_once { IsEachOnce tree.now.tree_classes.order.items }
     requires values_fit { (k : ℕ) → number assignment.old.values.items k + by < 2 ^ 64 }
     requires prices_fit { (g : ℕ) → number assignment.old.prices.items g + by < 2 ^ 64 }
-    ensures values { IsRaised assignment.old.values.items assignment.new.values.items tree.now.reached_rows.order.items by }
-    ensures prices { IsRaised assignment.old.prices.items assignment.new.prices.items tree.now.tree_classes.order.items by }
+    ensures values { IsRaised assignment.old.values.items assignment.new.values.items tree.now.reached_rows.order.items
+        by }
+    ensures prices { IsRaised assignment.old.prices.items assignment.new.prices.items tree.now.tree_classes.order.items
+        by }
     ensures residual { assignment.new.residual ≡ assignment.old.residual }
     ensures deficit { assignment.new.deficit ≡ assignment.old.deficit }
     ensures holdings { assignment.new.holdings ≡ assignment.old.holdings }
@@ -139,7 +152,8 @@ pub(crate) fn update_duals(assignment: &mut Assignment, tree: &SearchTree, by: u
 /// Takes up the listed classes that are at slack 0.
 pub(crate) fn take_nearest(assignment: &Assignment, tree: &mut SearchTree) -> Result<(), AllocError>
     requires running { (ws : ℕ → ℕ → Option ℕ) × IsRunning ws assignment.now tree.old }
-    requires within { (i : ℕ) → i < length tree.old.nearest.items → number tree.old.nearest.items i < length assignment.now.prices.items }
+    requires within { (i : ℕ) → i < length tree.old.nearest.items
+        → number tree.old.nearest.items i < length assignment.now.prices.items }
     ensures { OnOk result (HasTaken assignment.now tree.old tree.new tree.old.nearest.items) }
 {
     for at in 0..tree.nearest.len() {
@@ -187,10 +201,12 @@ pub(crate) fn scan_rows(
     requires from { from ≤ length tree.old.reached_rows.order.items }
     requires scanned { HasScanned (weights instance.now) assignment.now tree.old from }
     requires taken { AreTakenFirsts instance.now.firsts taken_firsts.now tree.old.tree_classes }
-    requires sought { AreSought instance.now assignment.now tree.old arcs_by_kind.old from (length tree.old.reached_rows.order.items) }
+    requires sought { AreSought instance.now assignment.now tree.old arcs_by_kind.old from
+        (length tree.old.reached_rows.order.items) }
     ensures arcs_by_kind { OnOk result (AreSortedArcs instance.now assignment.now.residual.items arcs_by_kind.new) }
     ensures better { OnOk result (IsBetter (weights instance.now) assignment.now tree.old tree.new) }
-    ensures scanned { OnOk result (HasScanned (weights instance.now) assignment.now tree.new (length tree.new.reached_rows.order.items)) }
+    ensures scanned { OnOk result (HasScanned (weights instance.now) assignment.now tree.new
+        (length tree.new.reached_rows.order.items)) }
 {
     for at in from..tree.reached_rows.order.len() {
         let row = tree.reached_rows.order[at];
@@ -215,11 +231,15 @@ fn scan_by_arcs(
     requires running { IsRunning (weights instance.now) assignment.now tree.old }
     requires row { row < length instance.now.rows.now }
     requires there { is_reached tree.old.reached_rows row ≡ true }
-    requires sorted_arcs { IsSortedArcs (weights instance.now row) (offers_of instance.now.rows.now row) instance.now.firsts assignment.now.residual.items sorted_arcs.old }
-    requires sought { IsSought (weights instance.now row) assignment.now.values.items row tree.old.labels.free_end sorted_arcs.old }
-    ensures sorted_arcs { OnOk result (IsSortedArcs (weights instance.now row) (offers_of instance.now.rows.now row) instance.now.firsts assignment.now.residual.items sorted_arcs.new) }
+    requires sorted_arcs { IsSortedArcs (weights instance.now row) (offers_of instance.now.rows.now row)
+        instance.now.firsts assignment.now.residual.items sorted_arcs.old }
+    requires sought { IsSought (weights instance.now row) assignment.now.values.items row tree.old.labels.free_end
+        sorted_arcs.old }
+    ensures sorted_arcs { OnOk result (IsSortedArcs (weights instance.now row) (offers_of instance.now.rows.now row)
+        instance.now.firsts assignment.now.residual.items sorted_arcs.new) }
     ensures better { OnOk result (IsBetter (weights instance.now) assignment.now tree.old tree.new) }
-    ensures seen { IfOk result (λ seen. IsTrue seen → IsSeen (weights instance.now) assignment.now row tree.old tree.new) }
+    ensures seen { IfOk result (λ seen. IsTrue seen
+        → IsSeen (weights instance.now) assignment.now row tree.old tree.new) }
     ensures further { OnOk result (IsFurther sorted_arcs.old sorted_arcs.new) }
     ensures free_end { OnOk result (tree.new.labels.free_end ≡ tree.old.labels.free_end) }
 {
@@ -261,10 +281,12 @@ fn scan_by_blocks(
     requires from { from ≤ length tree.old.reached_rows.order.items }
     requires scanned { HasScanned (weights instance.now) assignment.now tree.old from }
     requires taken { AreTakenFirsts instance.now.firsts taken_firsts.now tree.old.tree_classes }
-    requires sought { AreSought instance.now assignment.now tree.old arcs_by_kind.old from (length tree.old.reached_rows.order.items) }
+    requires sought { AreSought instance.now assignment.now tree.old arcs_by_kind.old from
+        (length tree.old.reached_rows.order.items) }
     ensures arcs_by_kind { OnOk result (AreSortedArcs instance.now assignment.now.residual.items arcs_by_kind.new) }
     ensures better { OnOk result (IsBetter (weights instance.now) assignment.now tree.old tree.new) }
-    ensures scanned { OnOk result (HasScanned (weights instance.now) assignment.now tree.new (length tree.new.reached_rows.order.items)) }
+    ensures scanned { OnOk result (HasScanned (weights instance.now) assignment.now tree.new
+        (length tree.new.reached_rows.order.items)) }
 {
     let mut passed = *taken_firsts;
     for at in from..tree.reached_rows.order.len() {
@@ -294,11 +316,15 @@ pub(crate) fn scan_row(
     requires running { IsRunning (weights instance.now) assignment.now tree.old }
     requires row { row < length instance.now.rows.now }
     requires there { is_reached tree.old.reached_rows row ≡ true }
-    requires sorted_arcs { IsSortedArcs (weights instance.now row) (offers_of instance.now.rows.now row) instance.now.firsts assignment.now.residual.items sorted_arcs.old }
+    requires sorted_arcs { IsSortedArcs (weights instance.now row) (offers_of instance.now.rows.now row)
+        instance.now.firsts assignment.now.residual.items sorted_arcs.old }
     requires passed { ArePassed (weights instance.now) assignment.now tree.old instance.now.firsts passed.old }
-    requires sought { IsSought (weights instance.now row) assignment.now.values.items row tree.old.labels.free_end sorted_arcs.old }
-    ensures sorted_arcs { OnOk result (IsSortedArcs (weights instance.now row) (offers_of instance.now.rows.now row) instance.now.firsts assignment.now.residual.items sorted_arcs.new) }
-    ensures passed { OnOk result (ArePassed (weights instance.now) assignment.now tree.new instance.now.firsts passed.new) }
+    requires sought { IsSought (weights instance.now row) assignment.now.values.items row tree.old.labels.free_end
+        sorted_arcs.old }
+    ensures sorted_arcs { OnOk result (IsSortedArcs (weights instance.now row) (offers_of instance.now.rows.now row)
+        instance.now.firsts assignment.now.residual.items sorted_arcs.new) }
+    ensures passed { OnOk result (ArePassed (weights instance.now) assignment.now tree.new instance.now.firsts
+        passed.new) }
     ensures seen { OnOk result (IsSeen (weights instance.now) assignment.now row tree.old tree.new) }
     ensures further { OnOk result (IsFurther sorted_arcs.old sorted_arcs.new) }
     ensures free_end { OnOk result (tree.new.labels.free_end ≡ tree.old.labels.free_end) }
@@ -321,12 +347,15 @@ pub(crate) fn label_arcs(
 ) -> Result<(), AllocError>
     requires running { IsRunning (weights instance.now) assignment.now tree.old }
     requires there { is_reached tree.old.reached_rows row ≡ true }
-    requires sorted_arcs { IsSortedArcs (weights instance.now row) (offers_of instance.now.rows.now row) instance.now.firsts assignment.now.residual.items sorted_arcs.now }
+    requires sorted_arcs { IsSortedArcs (weights instance.now row) (offers_of instance.now.rows.now row)
+        instance.now.firsts assignment.now.residual.items sorted_arcs.now }
     requires limit { IsLimit assignment.now.values.items row tree.old.labels.free_end limit }
     requires scanned { IsScanned (weights instance.now row) sorted_arcs.now limit }
     requires passed { ArePassed (weights instance.now) assignment.now tree.old instance.now.firsts passed.old }
-    ensures passed { OnOk result (ArePassed (weights instance.now) assignment.now tree.new instance.now.firsts passed.new) }
-    ensures labelled { OnOk result (HasLabelled (weights instance.now) assignment.now row tree.old tree.new sorted_arcs.now.arcs.items sorted_arcs.now.cursor) }
+    ensures passed { OnOk result (ArePassed (weights instance.now) assignment.now tree.new instance.now.firsts
+        passed.new) }
+    ensures labelled { OnOk result (HasLabelled (weights instance.now) assignment.now row tree.old tree.new
+        sorted_arcs.now.arcs.items sorted_arcs.now.cursor) }
 {
     let scan = scan_of(assignment, &tree.reached_rows, row, limit);
     label_blocks(instance, assignment, sorted_arcs, passed, tree, scan, limit)?;
@@ -340,8 +369,8 @@ pub(crate) fn label_arcs(
     )
 }
 
-/// Labels the classes of a row's arcs that are in blocks, block by block, and ends at the first block past the bound: those
-/// behind it weigh no less.
+/// Labels the classes of a row's arcs that are in blocks, block by block, and ends at the first block past the bound:
+/// those behind it weigh no less.
 fn label_blocks(
     instance: &Instance,
     assignment: &Assignment,
@@ -355,12 +384,15 @@ fn label_blocks(
     requires bound { IsBoundOf limit scan.bound }
     requires running { IsRunning (weights instance.now) assignment.now tree.old }
     requires there { is_reached tree.old.reached_rows scan.row ≡ true }
-    requires sorted_arcs { IsSortedArcs (weights instance.now scan.row) (offers_of instance.now.rows.now scan.row) instance.now.firsts assignment.now.residual.items sorted_arcs.now }
+    requires sorted_arcs { IsSortedArcs (weights instance.now scan.row) (offers_of instance.now.rows.now scan.row)
+        instance.now.firsts assignment.now.residual.items sorted_arcs.now }
     requires limit { IsLimit assignment.now.values.items scan.row tree.old.labels.free_end limit }
     requires scanned { IsScanned (weights instance.now scan.row) sorted_arcs.now limit }
     requires passed { ArePassed (weights instance.now) assignment.now tree.old instance.now.firsts passed.old }
-    ensures passed { OnOk result (ArePassed (weights instance.now) assignment.now tree.new instance.now.firsts passed.new) }
-    ensures labelled { OnOk result (HasLabelled (weights instance.now) assignment.now scan.row tree.old tree.new sorted_arcs.now.arcs.items sorted_arcs.now.blocked) }
+    ensures passed { OnOk result (ArePassed (weights instance.now) assignment.now tree.new instance.now.firsts
+        passed.new) }
+    ensures labelled { OnOk result (HasLabelled (weights instance.now) assignment.now scan.row tree.old tree.new
+        sorted_arcs.now.arcs.items sorted_arcs.now.blocked) }
 {
     for at in 0..sorted_arcs.blocks.len() {
         let block = &sorted_arcs.blocks[at];
@@ -372,8 +404,8 @@ fn label_blocks(
     Ok(())
 }
 
-/// Labels the classes of a row's arcs from one place up to another, but for those that are taken up, and ends at the first arc
-/// past the bound.
+/// Labels the classes of a row's arcs from one place up to another, but for those that are taken up, and ends at the
+/// first arc past the bound.
 fn label_others(
     assignment: &Assignment,
     arcs: &[Arc],
@@ -386,9 +418,11 @@ fn label_others(
     requires upto { upto ≤ length arcs.now }
     requires rising { AreRising arcs.now }
     requires scan { IsScan assignment.now tree.old.reached_rows scan }
-    requires bound { (limit : Option ℕ) × IsLimit assignment.now.values.items scan.row tree.old.labels.free_end limit × IsBoundOf limit scan.bound }
+    requires bound { (limit : Option ℕ) × IsLimit assignment.now.values.items scan.row tree.old.labels.free_end limit
+        × IsBoundOf limit scan.bound }
     requires can { (ws : ℕ → ℕ → Option ℕ) × CanLabelArcs ws assignment.now tree.old scan.row arcs.now upto }
-    ensures { OnOk result ((ws : ℕ → ℕ → Option ℕ) → CanLabelArcs ws assignment.now tree.old scan.row arcs.now upto → HasLabelledFrom ws assignment.now scan.row tree.old tree.new arcs.now from upto) }
+    ensures { OnOk result ((ws : ℕ → ℕ → Option ℕ) → CanLabelArcs ws assignment.now tree.old scan.row arcs.now upto
+        → HasLabelledFrom ws assignment.now scan.row tree.old tree.new arcs.now from upto) }
 {
     for at in from..upto {
         let arc = arcs[at];
@@ -434,13 +468,17 @@ fn label_block(
     scan: Scan,
 ) -> Result<(), AllocError>
     requires scan { IsScan assignment.now tree.old.reached_rows scan }
-    requires bound { (limit : Option ℕ) × IsLimit assignment.now.values.items scan.row tree.old.labels.free_end limit × IsBoundOf limit scan.bound }
+    requires bound { (limit : Option ℕ) × IsLimit assignment.now.values.items scan.row tree.old.labels.free_end limit
+        × IsBoundOf limit scan.bound }
     requires running { IsRunning (weights instance.now) assignment.now tree.old }
     requires there { is_reached tree.old.reached_rows scan.row ≡ true }
-    requires block { CanLabelBlock (weights instance.now scan.row) assignment.now.residual.items instance.now.firsts block.now }
+    requires block { CanLabelBlock (weights instance.now scan.row) assignment.now.residual.items instance.now.firsts
+        block.now }
     requires passed { ArePassed (weights instance.now) assignment.now tree.old instance.now.firsts passed.old }
-    ensures passed { OnOk result (ArePassed (weights instance.now) assignment.now tree.new instance.now.firsts passed.new) }
-    ensures labelled { OnOk result (HasLabelledBlock (weights instance.now) assignment.now scan.row tree.old tree.new instance.now.firsts block.now set.empty) }
+    ensures passed { OnOk result (ArePassed (weights instance.now) assignment.now tree.new instance.now.firsts
+        passed.new) }
+    ensures labelled { OnOk result (HasLabelledBlock (weights instance.now) assignment.now scan.row tree.old tree.new
+        instance.now.firsts block.now set.empty) }
 {
     let mut left = block.firsts.minus(passed);
     while let Some(cpu) = left.take_first() {
@@ -455,8 +493,8 @@ fn label_block(
     Ok(())
 }
 
-/// Adds the first CPU of a class to those that are passed over, if the class is at slack 0 from the row; `reach` is its weight
-/// with its price.
+/// Adds the first CPU of a class to those that are passed over, if the class is at slack 0 from the row; `reach` is its
+/// weight with its price.
 fn pass_if_at_0(passed: &mut IdSet, cpu: u16, reach: u64, scan: Scan)
     requires cpu { IsCpu cpu }
     ensures { IsPassedToo passed.old passed.new cpu scan.row_value reach }
@@ -476,9 +514,11 @@ fn label_arc(
     scan: Scan,
 ) -> Result<u64, AllocError>
     requires scan { IsScan assignment.now tree.old.reached_rows scan }
-    requires bound { (limit : Option ℕ) × IsLimit assignment.now.values.items scan.row tree.old.labels.free_end limit × IsBoundOf limit scan.bound }
+    requires bound { (limit : Option ℕ) × IsLimit assignment.now.values.items scan.row tree.old.labels.free_end limit
+        × IsBoundOf limit scan.bound }
     requires can { (ws : ℕ → ℕ → Option ℕ) × CanLabelArc ws assignment.now tree.old scan.row arc }
-    ensures labelled { OnOk result ((ws : ℕ → ℕ → Option ℕ) → CanLabelArc ws assignment.now tree.old scan.row arc → IsArcLabelled ws assignment.now scan.row tree.old tree.new arc) }
+    ensures labelled { OnOk result ((ws : ℕ → ℕ → Option ℕ) → CanLabelArc ws assignment.now tree.old scan.row arc
+        → IsArcLabelled ws assignment.now scan.row tree.old tree.new arc) }
     ensures reach { IfOk result (λ reach. reach ≡ arc.weight + number assignment.now.prices.items arc.class) }
 {
     let reach = arc.weight as u64 + assignment.prices[arc.class];
@@ -511,7 +551,9 @@ pub(crate) fn find_free_class(
     ensures arcs_by_kind { OnOk result (AreSortedArcs instance.now assignment.now.residual.items arcs_by_kind.new) }
     ensures better { OnOk result (IsBetter (weights instance.now) assignment.now tree.old tree.new) }
     ensures free_end { IfOk result (λ found. IfSome found (IsFreeEndAt0 assignment.now tree.new)) }
-    ensures sought { IfOk result (λ found. IfNone found (AreSought instance.now assignment.now tree.new arcs_by_kind.new from (length tree.new.reached_rows.order.items))) }
+    ensures sought { IfOk result (λ found. IfNone found
+        (AreSought instance.now assignment.now tree.new arcs_by_kind.new from
+        (length tree.new.reached_rows.order.items))) }
 {
     for at in from..tree.reached_rows.order.len() {
         let row = tree.reached_rows.order[at];
@@ -535,12 +577,16 @@ pub(crate) fn find_free_class_of(
     requires running { IsRunning (weights instance.now) assignment.now tree.old }
     requires row { row < length instance.now.rows.now }
     requires there { is_reached tree.old.reached_rows row ≡ true }
-    requires sorted_arcs { IsSortedArcs (weights instance.now row) (offers_of instance.now.rows.now row) instance.now.firsts assignment.now.residual.items sorted_arcs.old }
-    ensures sorted_arcs { OnOk result (IsSortedArcs (weights instance.now row) (offers_of instance.now.rows.now row) instance.now.firsts assignment.now.residual.items sorted_arcs.new) }
+    requires sorted_arcs { IsSortedArcs (weights instance.now row) (offers_of instance.now.rows.now row)
+        instance.now.firsts assignment.now.residual.items sorted_arcs.old }
+    ensures sorted_arcs { OnOk result (IsSortedArcs (weights instance.now row) (offers_of instance.now.rows.now row)
+        instance.now.firsts assignment.now.residual.items sorted_arcs.new) }
     ensures better { OnOk result (IsBetter (weights instance.now) assignment.now tree.old tree.new) }
-    ensures sought { OnOk result (IsSought (weights instance.now row) assignment.now.values.items row tree.new.labels.free_end sorted_arcs.new) }
+    ensures sought { OnOk result (IsSought (weights instance.now row) assignment.now.values.items row
+        tree.new.labels.free_end sorted_arcs.new) }
     ensures further { OnOk result (IsFurther sorted_arcs.old sorted_arcs.new) }
-    ensures nearer { OnOk result (IsNoFurther assignment.now.values.items tree.old.labels.free_end tree.new.labels.free_end) }
+    ensures nearer { OnOk result (IsNoFurther assignment.now.values.items tree.old.labels.free_end
+        tree.new.labels.free_end) }
 {
     let limit = limit_of(&assignment.values, tree.labels.free_end, row);
     let found = nearest_free_class(instance, assignment, sorted_arcs, row, limit)?;
@@ -557,9 +603,12 @@ fn nearest_free_class(
     limit: Option<u64>,
 ) -> Result<Option<Arc>, AllocError>
     requires row { row < length instance.now.rows.now }
-    requires sorted_arcs { IsSortedArcs (weights instance.now row) (offers_of instance.now.rows.now row) instance.now.firsts assignment.now.residual.items sorted_arcs.old }
-    ensures sorted_arcs { OnOk result (IsSortedArcs (weights instance.now row) (offers_of instance.now.rows.now row) instance.now.firsts assignment.now.residual.items sorted_arcs.new) }
-    ensures found { IfOk result (λ found. IsFoundFreeEnd (weights instance.now row) assignment.now.residual.items limit sorted_arcs.new found) }
+    requires sorted_arcs { IsSortedArcs (weights instance.now row) (offers_of instance.now.rows.now row)
+        instance.now.firsts assignment.now.residual.items sorted_arcs.old }
+    ensures sorted_arcs { OnOk result (IsSortedArcs (weights instance.now row) (offers_of instance.now.rows.now row)
+        instance.now.firsts assignment.now.residual.items sorted_arcs.new) }
+    ensures found { IfOk result (λ found. IsFoundFreeEnd (weights instance.now row) assignment.now.residual.items limit
+        sorted_arcs.new found) }
     ensures further { OnOk result (IsFurther sorted_arcs.old sorted_arcs.new) }
 {
     let asked = &instance.rows[row];

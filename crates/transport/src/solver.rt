@@ -26,8 +26,8 @@ use twins::{Classes, deal, group, kinds_of, prices_of};
 pub fn solve(alloc: Global, problem: &Problem) -> Result<Answer, AllocError>
     requires { IsTrue (rows_fit problem.now) }
 
-    // A plan with its cost, which its dual variables (values and prices) prove to be least; or a shortage. `check_plan` and
-    // `check_shortage` accept both.
+    // A plan with its cost, which its dual variables (values and prices) prove to be least; or a shortage. `check_plan`
+    // and `check_shortage` accept both.
     ensures right { IfOk result (IsRight problem.now) }
 
     // **There is a plan in the answer wherever there is one at all**, and none costs less. There is a shortage only if
@@ -41,8 +41,8 @@ pub fn solve(alloc: Global, problem: &Problem) -> Result<Answer, AllocError>
     ensures priced { IfOk result (ArePricesOfClasses problem.now) }
 
     // A turn is a row or class that a search takes up. There are at most (rows + classes) × CPUs asked for. For a plan
-    // there are at least 2 × rows. For a shortage there are at least 2 × rows before its last member. One more comes for
-    // each member, and one for each class that a member has a weight for.
+    // there are at least 2 × rows. For a shortage there are at least 2 × rows before its last member. One more comes
+    // for each member, and one for each class that a member has a weight for.
     ensures turns { IfOk result (AreTurns problem.now) }
 {
     solve_body(alloc, problem)
@@ -132,7 +132,8 @@ fn short(
     turns: u64,
 ) -> Result<Answer, AllocError>
     requires grouping { IsGrouping problem.now classes.now }
-    requires stuck { IsStuck problem.now (map first_of classes.now) (map (λ s. set.len s) classes.now) reached.now taken.now turns }
+    requires stuck { IsStuck problem.now (map first_of classes.now) (map (λ s. set.len s) classes.now) reached.now
+        taken.now turns }
     ensures { IfOk result (IsSolved problem.now) }
 {
     twins::laws::closed_rows_are_short();

@@ -50,7 +50,8 @@ impl SearchTree {
     /// Only what the last search reached, labelled or took up is cleared.
     pub(crate) fn start(&mut self, root: usize, bottleneck: u32) -> Result<(), AllocError>
         requires { (rows classes : ℕ) × IsTidy rows classes self.old × (root < rows) }
-        ensures { OnOk result ((rows classes : ℕ) → IsTidy rows classes self.old → root < rows → IsFresh rows classes root bottleneck self.new) }
+        ensures { OnOk result ((rows classes : ℕ) → IsTidy rows classes self.old → root < rows
+            → IsFresh rows classes root bottleneck self.new) }
     {
         self.reached_rows.clear();
         self.labels.clear(&self.tree_classes.order);

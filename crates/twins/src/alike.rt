@@ -44,8 +44,8 @@ pub(crate) fn are_alike(
     }
 }
 
-/// Whether some CPUs, none of them below a range or above a last one, lie in it and in others of its weight, as far as the last
-/// one and a few ranges tell.
+/// Whether some CPUs, none of them below a range or above a last one, lie in it and in others of its weight, as far as
+/// the last one and a few ranges tell.
 fn lie_in_few(spans: &Spans, cpus: &IdSet, span: Span, last: u16) -> Option<bool>
     requires { AreBounds cpus.now span.first last }
     ensures { (offers : List Offer) → AreSpans offers spans.now → IsSpan offers span → IfSome result (λ lie. IsTrue lie
@@ -127,7 +127,8 @@ pub(crate) fn place_of_alike(
 pub(crate) fn alike(spans: &Spans, place: Option<usize>, among: &IdSet) -> IdSet
     requires { IfSome place (λ at. at < length spans.now.sets.items) }
     ensures { (offers : List Offer) (cpu q : ℕ) → AreSpans offers spans.now → IsPlaceOf offers spans.now cpu place
-        → set.contains result q ≡ (set.contains among.now q && is_same_weight (weight_in offers cpu) (weight_in offers q)) }
+        → set.contains result q ≡ (set.contains among.now q
+        && is_same_weight (weight_in offers cpu) (weight_in offers q)) }
 {
     match place {
         Some(place) => among.meet(&spans.sets[place]),
@@ -148,7 +149,8 @@ fn weight_of(offers: &Offers, spans: &Spans, cpu: u16) -> Option<u32>
 }
 
 /// The weight of a CPU, by a look at each offer. Where none has it, none is looked at.
-// Each CPU of an offer is noted with its range, so no valid problem comes to the loop: it stands for what is not proved of hints.
+// Each CPU of an offer is noted with its range, so no valid problem comes to the loop: it stands for what is not proved
+// of hints.
 fn weight_among(offers: &Offers, spans: &Spans, cpu: u16) -> Option<u32>
     requires fit { IsTrue (offers_fit offers.now) }
     requires spans { AreSpans offers.now spans.now }

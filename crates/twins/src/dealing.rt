@@ -16,8 +16,8 @@ use std::alloc::{AllocError, Global};
 /// A set for each row: of each class as many CPUs as the row holds, the lowest to the first row that
 /// holds some.
 ///
-/// Two or more shares of a class are sorted once: O(h log h) steps for h of them. Besides there is one for each row, class,
-/// share and CPU dealt.
+/// Two or more shares of a class are sorted once: O(h log h) steps for h of them. Besides there is one for each row,
+/// class, share and CPU dealt.
 ///
 /// # Errors
 /// An allocation failure.
@@ -33,8 +33,8 @@ pub fn deal(
     requires rows { All (All (λ share. share.row < rows)) holdings.now }
     requires room { (g : ℕ) → held_of holdings.now g ≤ set.len (class_at classes.now g) }
     ensures long { IfOk result (λ sets. length sets.items ≡ rows) }
-    // Each row has as many CPUs of each class as it is to hold, and no CPU is in two rows. Of two CPUs of a class the lower
-    // one goes to the earlier row.
+    // Each row has as many CPUs of each class as it is to hold, and no CPU is in two rows. Of two CPUs of a class the
+    // lower one goes to the earlier row.
     ensures dealt { IfOk result (λ sets. IsDeal classes.now holdings.now sets.items) }
 {
     deal_body(alloc, rows, classes.sets.as_slice(), holdings)

@@ -37,7 +37,8 @@ pub(crate) fn edges_of(rows: &[Row], kinds: &[usize], offered: &IdSet) -> IdSet
 /// Adds the CPUs that some offer tells from the CPU below.
 fn add_edges(edges: &mut IdSet, offers: &Offers)
     ensures kept { (cpu : ℕ) → set.contains edges.old cpu ≡ true → set.contains edges.new cpu ≡ true }
-    ensures told { (cpu : ℕ) → IsCpu (cpu + 1) → set.contains edges.new (cpu + 1) ≡ false → weight_in offers.now cpu ≡ weight_in offers.now (cpu + 1) }
+    ensures told { (cpu : ℕ) → IsCpu (cpu + 1) → set.contains edges.new (cpu + 1) ≡ false
+        → weight_in offers.now cpu ≡ weight_in offers.now (cpu + 1) }
 {
     for at in 0..offers.len() {
         let cpus = offers.ranges(at);
@@ -49,7 +50,8 @@ fn add_edges(edges: &mut IdSet, offers: &Offers)
 fn add_ends(edges: &mut IdSet, ranges: &[(u16, u16)])
     requires { All (λ r. r.1 < CPU_LIMIT) ranges.now }
     ensures kept { (cpu : ℕ) → set.contains edges.old cpu ≡ true → set.contains edges.new cpu ≡ true }
-    ensures told { (cpu : ℕ) → IsCpu (cpu + 1) → set.contains edges.new (cpu + 1) ≡ false → in_ranges ranges.now cpu ≡ in_ranges ranges.now (cpu + 1) }
+    ensures told { (cpu : ℕ) → IsCpu (cpu + 1) → set.contains edges.new (cpu + 1) ≡ false
+        → in_ranges ranges.now cpu ≡ in_ranges ranges.now (cpu + 1) }
 {
     for range in ranges {
         let (first, last) = *range;
@@ -61,7 +63,8 @@ fn add_ends(edges: &mut IdSet, ranges: &[(u16, u16)])
 fn add_ends_of(edges: &mut IdSet, first: u16, last: u16)
     requires { last < CPU_LIMIT }
     ensures kept { (cpu : ℕ) → set.contains edges.old cpu ≡ true → set.contains edges.new cpu ≡ true }
-    ensures told { (cpu : ℕ) → IsCpu (cpu + 1) → set.contains edges.new (cpu + 1) ≡ false → (nat_le first cpu && nat_le cpu last) ≡ (nat_le first (cpu + 1) && nat_le (cpu + 1) last) }
+    ensures told { (cpu : ℕ) → IsCpu (cpu + 1) → set.contains edges.new (cpu + 1) ≡ false
+        → (nat_le first cpu && nat_le cpu last) ≡ (nat_le first (cpu + 1) && nat_le (cpu + 1) last) }
 {
     add(edges, first);
     add(edges, last + 1);

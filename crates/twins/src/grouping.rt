@@ -1,5 +1,6 @@
 //! Classes of twins, by splitting sets of CPUs row by row.
-ghost use Rattle.std.specs.Prelude.{◌≡◌, ℕ, ◌<◌, ◌≤◌, ◌+◌, ◌++◌, [], true, IsTrue, IfOk, OnOk, IfSome, MatchOption, All, length, slice_index_or};
+ghost use Rattle.std.specs.Prelude.{◌≡◌, ℕ, ◌<◌, ◌≤◌, ◌+◌, ◌++◌, [], true, IsTrue, IfOk, OnOk, IfSome, MatchOption};
+ghost use Rattle.std.specs.Prelude.{All, length, slice_index_or};
 ghost use Rattle.std.specs.List.{list_all};
 ghost use Rattle.std.specs.FinSet as set;
 ghost use Rattle.cpu_set.specs.Ids.{NoneFrom, IsFirstFrom};
@@ -28,10 +29,11 @@ use std::alloc::{AllocError, Global};
 
 /// The CPUs with a weight in some row, in classes of twins. A CPU with none is in no class.
 ///
-/// Each row splits the sets that are left of the rows before it; a set that is one run of twins needs no more
-/// looks. A row of the kind of an earlier one splits none. At worst O(r * (g + o)) operations on sets, O(r * g * o) looks
-/// at offers and O(r * p) at ranges, of r rows with at most o offers and p ranges each and g classes: a set is looked up in a
-/// few ranges alone, and each offer's set is made at most once for a row. The set of each row's CPUs is kept until the end.
+/// Each row splits the sets that are left of the rows before it; a set that is one run of twins needs no more looks. A
+/// row of the kind of an earlier one splits none. At worst O(r * (g + o)) operations on sets, O(r * g * o) looks at
+/// offers and O(r * p) at ranges, of r rows with at most o offers and p ranges each and g classes: a set is looked up
+/// in a few ranges alone, and each offer's set is made at most once for a row. The set of each row's CPUs is kept until
+/// the end.
 ///
 /// # Errors
 /// An allocation failure.
@@ -104,8 +106,9 @@ fn unsplit(alloc: Global, all: &IdSet) -> Result<Parts, AllocError>
     Ok(parts)
 }
 
-/// The CPUs with a weight in some row, and those for which rows of one kind alone have one. A row of the kind of an earlier
-/// one adds none. The CPUs of each other row are put into the list of sets, in order, since they are asked for again.
+/// The CPUs with a weight in some row, and those for which rows of one kind alone have one. A row of the kind of an
+/// earlier one adds none. The CPUs of each other row are put into the list of sets, in order, since they are asked for
+/// again.
 fn offered_cpus(
     rows: &[Row],
     kinds: &[usize],
@@ -151,7 +154,8 @@ fn split_all(
     requires parts { All (IsPart rows.now k) parts.old.waiting }
     requires done { parts.old.done ≡ [] }
     requires alone { All (IsPart rows.now (length rows.now)) alone.old.items }
-    ensures pieces { OnOk result (ArePieces rows.now (k + 1) parts.old.waiting alone.old.items parts.new.waiting alone.new.items) }
+    ensures pieces { OnOk result (ArePieces rows.now (k
+        + 1) parts.old.waiting alone.old.items parts.new.waiting alone.new.items) }
     ensures done { OnOk result (parts.new.done ≡ []) }
     ensures settling { OnOk result (IsSettling rows.now (k + 1) settling.new) }
 {
@@ -178,7 +182,8 @@ fn split_all(
     Ok(())
 }
 
-/// One part, split by the weights that its CPUs have in row `k`. One that is settled or is seen to have one weight stays whole.
+/// One part, split by the weights that its CPUs have in row `k`. One that is settled or is seen to have one weight
+/// stays whole.
 fn split(
     rows: &[Row],
     k: usize,
@@ -201,7 +206,9 @@ fn split(
     requires parts { All (IsPart rows.now (k + 1)) parts.old.done }
     requires alone { All (IsPart rows.now (length rows.now)) alone.old.items }
     ensures waiting { OnOk result (parts.new.waiting ≡ parts.old.waiting) }
-    ensures split { OnOk result (IsSplit rows.now (k + 1) (slice_index_or parts.old.waiting at set.empty) parts.old.done alone.old.items parts.new.done alone.new.items) }
+    ensures split { OnOk result (IsSplit rows.now (k
+        + 1) (slice_index_or parts.old.waiting at set.empty) parts.old.done alone.old.items parts.new.done
+        alone.new.items) }
     ensures spans { OnOk result (AreSpans offers.now spans.new) }
     ensures settling { OnOk result (IsSettling rows.now k settling.new) }
 {
@@ -219,7 +226,8 @@ fn split(
 }
 
 /// One part, split by the weights that its CPUs have in row `k`.
-// Not inlined: inlined, it makes a stack slot for the copy that is split, which is cleared for each part that stays whole too.
+// Not inlined: inlined, it makes a stack slot for the copy that is split, which is cleared for each part that stays
+// whole too.
 #[inline(never)]
 fn split_apart(
     rows: &[Row],
@@ -243,7 +251,9 @@ fn split_apart(
     requires parts { All (IsPart rows.now (k + 1)) parts.old.done }
     requires alone { All (IsPart rows.now (length rows.now)) alone.old.items }
     ensures waiting { OnOk result (parts.new.waiting ≡ parts.old.waiting) }
-    ensures split { OnOk result (IsSplit rows.now (k + 1) (slice_index_or parts.old.waiting at set.empty) parts.old.done alone.old.items parts.new.done alone.new.items) }
+    ensures split { OnOk result (IsSplit rows.now (k
+        + 1) (slice_index_or parts.old.waiting at set.empty) parts.old.done alone.old.items parts.new.done
+        alone.new.items) }
     ensures spans { OnOk result (AreSpans offers.now spans.new) }
     ensures settling { OnOk result (IsSettling rows.now k settling.new) }
 {
@@ -284,7 +294,8 @@ fn put(
 ) -> Result<(), AllocError>
     requires { AreBounds piece.now first upto }
     ensures waiting { OnOk result (parts.new.waiting ≡ parts.old.waiting) }
-    ensures put { OnOk result (IsPutTo edges.now piece.now parts.old.done alone.old.items parts.new.done alone.new.items) }
+    ensures put { OnOk result (IsPutTo edges.now piece.now parts.old.done alone.old.items parts.new.done
+        alone.new.items) }
 {
     let last = last_up_to(piece, upto);
     if are_in_one_run(first, last, edges) {

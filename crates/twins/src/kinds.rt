@@ -13,8 +13,8 @@ use std::alloc::{AllocError, Global};
 /// # Errors
 /// An allocation failure.
 pub fn kinds_of(alloc: Global, rows: &[Row]) -> Result<Vec<usize>, AllocError>
-    // Each row gets a representative: a row that is no later, has the same offers, and represents itself. Two rows with the
-    // same offers may get two.
+    // Each row gets a representative: a row that is no later, has the same offers, and represents itself. Two rows with
+    // the same offers may get two.
     ensures { IfOk result (λ kinds. AreKinds rows.now (length rows.now) kinds.items) }
 {
     let mut kinds = Vec::with_capacity(alloc, rows.len())?;
@@ -28,8 +28,8 @@ pub fn kinds_of(alloc: Global, rows: &[Row]) -> Result<Vec<usize>, AllocError>
     Ok(kinds)
 }
 
-/// The last CPU of the first range of the row's first offer, and 0 where there is none. Rows of other offers mostly differ
-/// in it.
+/// The last CPU of the first range of the row's first offer, and 0 where there is none. Rows of other offers mostly
+/// differ in it.
 fn first_offered(row: &Row) -> u16
     ensures { result < CPU_LIMIT }
 {

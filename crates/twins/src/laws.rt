@@ -14,8 +14,8 @@ pub fn deals_of_twins_are_dealt()
     ensures { DealOfTwinsIsDealt }
 {}
 
-/// Take values and prices of classes, within the limits, which fit what the rows hold. They prove the plan that is dealt,
-/// in the check's own words, and no price is of an empty set.
+/// Take values and prices of classes, within the limits, which fit what the rows hold. They prove the plan that is
+/// dealt, in the check's own words, and no price is of an empty set.
 pub fn classes_prove_plans()
     ensures { ClassesProvePlans }
 {}

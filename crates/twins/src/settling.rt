@@ -41,8 +41,8 @@ impl Settling {
         }
     }
 
-    /// Whether some CPUs, of which none is below a first one, are known for a class by that one. Where the row has a weight
-    /// for it they are not, since other tests take less.
+    /// Whether some CPUs, of which none is below a first one, are known for a class by that one. Where the row has a
+    /// weight for it they are not, since other tests take less.
     pub(crate) fn has(&self, spans: &Spans, cpus: &IdSet, first: u16) -> bool
         ensures settled { IsTrue result → set.contains self.now.settled first ≡ true }
         ensures member { IsTrue result → set.contains cpus.now first ≡ true }
@@ -50,7 +50,8 @@ impl Settling {
         spans.span_at(first).is_none() && self.settled.contains(first) && cpus.contains(first)
     }
 
-    /// Notes a CPU of a piece that the row at hand has split off, if no row of another kind has a weight for one of them.
+    /// Notes a CPU of a piece that the row at hand has split off, if no row of another kind has a weight for one of
+    /// them.
     pub(crate) fn note(&mut self, spans: &Spans, cpu: u16, piece: &IdSet)
         requires { IsCpu cpu }
         ensures { IsNoted spans.now cpu piece.now self.old self.new }

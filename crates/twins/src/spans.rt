@@ -63,7 +63,8 @@ impl Spans {
     /// The range that has the CPU, as far as one is known.
     pub(crate) fn span_at(&self, cpu: u16) -> Option<Span>
         ensures has { IfSome result (λ span. (span.first ≤ cpu) × (cpu ≤ span.last)) }
-        ensures weighs { (offers : List Offer) → All (IsSpan offers) self.now.items.items → IfSome result (IsSpan offers) }
+        ensures weighs { (offers : List Offer) → All (IsSpan offers) self.now.items.items
+            → IfSome result (IsSpan offers) }
     {
         let hint = *self.hints.get(cpu as usize)?;
         let span = *self.items.get(hint as usize)?;
@@ -84,7 +85,8 @@ impl Spans {
 
     /// The CPUs that are in one of the offers.
     pub(crate) fn cpus(&self) -> &IdSet
-        ensures { (offers : List Offer) (cpu : ℕ) → AreSpans offers self.now → set.contains result.now cpu ≡ is_some (weight_in offers cpu) }
+        ensures { (offers : List Offer) (cpu : ℕ) → AreSpans offers self.now
+            → set.contains result.now cpu ≡ is_some (weight_in offers cpu) }
     {
         &self.cpus
     }
