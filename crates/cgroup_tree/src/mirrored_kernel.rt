@@ -51,8 +51,7 @@ impl<F: GroupFiles, S: Sited> Model for MirroredKernel<F, S> {
       files = k.mirror.files;
     } };
 
-    ghost invariant
-        = { λ k. IsMirroredAt F.asked S.site (string_bytes k.mirror.root) k.mirror.memory
+    ghost invariant = { λ k. IsMirroredAt F.asked S.site (string_bytes k.mirror.root) k.mirror.memory
         (mirrored k.mirror.failed.writes k.mirror.inner) k.mirror.files };
 }
 

@@ -34,7 +34,14 @@ pub struct Root<'a> {
 
 /// Runs a script as [`do_run`](crate::do_run) does, and makes each kernel write below this root too; or prints why one
 /// of the files or the root is refused. No number of reads is too many.
-pub fn do_run_mirrored<F: Opens, T: GroupTrees + Drop, B: Bundles + Drop, R: Read, W: Write, E: Write>(
+pub fn do_run_mirrored<
+    F: Opens,
+    T: GroupTrees + Drop,
+    B: Bundles + Drop,
+    R: Read,
+    W: Write,
+    E: Write,
+>(
     alloc: Global,
     machine: &str,
     table: Option<&str>,

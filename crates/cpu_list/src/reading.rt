@@ -5,8 +5,8 @@ ghost use Rattle.std.specs.List.{before_first};
 ghost use Rattle.cpu_list.specs.ListText.{is_comma, item_of, piece_names, IsList, IsSetOf};
 ghost use Rattle.cpu_list.specs.FirstFault.{item_fault, first_fault, IsFirstFault};
 
-use crate::item::{first_piece, item_of, leading_blanks, read_plain, read_range};
 use crate::fault::{ListError, ListErrorKind};
+use crate::item::{first_piece, item_of, leading_blanks, read_plain, read_range};
 use cpu_set::{CPU_LIMIT, IdSet};
 
 /// Adds what one piece of a list names.

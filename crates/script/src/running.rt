@@ -6,9 +6,9 @@ ghost use Rattle.script.specs.Requests.{wanted};
 ghost use Rattle.script.specs.Underway.{FeedsBy};
 
 use crate::command::Request;
+use crate::fault::ScriptFault;
 use crate::line_buffer::LineBuffer;
 use crate::request::read_request;
-use crate::fault::ScriptFault;
 use crate::target::Target;
 use byte_output::put;
 use memchr::memchr;

@@ -90,8 +90,13 @@ fn over<S: Sited, R: AllocGlobal + Print>(
     lines: String,
 ) -> Result<()>
     requires begins { Begins (beginning_of inner) inner }
-    requires site { S.site ≡ record { root = string_bytes root; memory = memory; adopt = false; first
-        = beginning_of inner } }
+    requires site { S.site ≡ record {
+      root = string_bytes root;
+      memory = memory;
+      adopt = false;
+      first
+          = beginning_of inner;
+    } }
 {
     let mut kernel = MirroredKernel::<FusedFiles<R>, S>::new(
         rt.alloc(),

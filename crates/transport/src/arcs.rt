@@ -134,7 +134,9 @@ impl SortedArcs {
         let offer = offers.offer(weighted_offer.offer);
         let before = self.arcs.len();
         push_arcs(&mut self.arcs, &offer, firsts, weighted_offer.weight)?;
-        self.joined = self.joined.saturating_add(joined_from(&self.arcs, firsts, before));
+        self.joined = self
+            .joined
+            .saturating_add(joined_from(&self.arcs, firsts, before));
         self.opened += 1;
         Ok(())
     }
