@@ -1,3 +1,5 @@
+//! Calls of a kernel as values. Laws over runs speak of them, and the crates `tools` and `scenarios` alone put lists of
+//! them together: `numarun` makes each call directly.
 ghost use Rattle.std.specs.Prelude.{◌≡◌, IfOk, OnErr};
 ghost use Rattle.faults.specs.Calls.{behind};
 ghost use Rattle.kernel_model.specs.Runs.{Step, Run, reply_at_once};

@@ -1,3 +1,5 @@
+//! A kernel of which one write fails: a test double (fault injection) of the crates `tools` and `scenarios`, which
+//! `numarun` never makes.
 ghost use Rattle.std.specs.Prelude.{◌≡◌, true, false, IfErr, OnOk};
 ghost use Rattle.kernel_model.specs.declared.fault.KernelFault.TheVariants.{Failed};
 ghost use Rattle.faults.specs.declared.or_memory.OrMemory.TheVariants.{Fault};

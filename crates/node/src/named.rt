@@ -1,3 +1,4 @@
+//! Whom a plan or a shortage names.
 ghost use Rattle.std.specs.Prelude.{IsSome};
 ghost use Rattle.node.specs.Named.{Names};
 
@@ -8,6 +9,7 @@ use cpu_set::IdSet;
 use kernel_model::Kernel;
 
 /// The containers that a plan or a shortage names, by reference to what the node keeps of it.
+#[derive(Clone, Copy, Debug)]
 pub enum Named<'a> {
     /// Those of a plan, in the order in which they were created, and the CPUs of each.
     Holders {

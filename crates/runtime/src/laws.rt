@@ -1,13 +1,25 @@
 //! What a script's answers say of the node: laws over the definitions alone. Nothing here runs.
-ghost use Rattle.std.specs.Prelude.{◌≡◌};
+ghost use Rattle.std.specs.Prelude.{◌≡◌, ℕ, List, [], ◌∷◌, codes};
+ghost use Rattle.machine.specs.Layout.{Layout};
+ghost use Rattle.certificate.specs.declared.certificates.Certificate.TheVariants.{Short};
+ghost use Rattle.node.specs.Machine.{Ask, Start, Fork};
+ghost use Rattle.node.specs.NodeState.{NodeState};
+ghost use Rattle.node.specs.Questions.{ListAll, PhaseIs, SetsOf};
 ghost use Rattle.runtime.specs.Boots.{BootsNodes};
 ghost use Rattle.runtime.specs.CertificatesTold.{CertificatesAreTold};
 ghost use Rattle.runtime.specs.ConfigsServed.{ScriptsServeConfigs};
 ghost use Rattle.runtime.specs.LooksTold.{LooksAreTold};
+ghost use Rattle.runtime.specs.OutcomeTexts.{container_lines, first_line};
+ghost use Rattle.runtime.specs.RefusalLine.{refusal_line};
 ghost use Rattle.runtime.specs.ScriptLaws.{BegunAreTold, BegunShortAreTold, CommandsAreCalls, LinesAreCalls};
 ghost use Rattle.runtime.specs.ScriptLaws.{PlansAreTold, RebalancesAreTold, ScriptsRebalance, ShortagesAreTold};
+ghost use Rattle.runtime.specs.ScriptLaws.{event_text};
 
-use crate::{Bundles, FIRST_PID};
+use crate::{Bundles, FIRST_PID, Refusal};
+use certificate::Weights;
+use config_json::{ConfigFault, Field};
+use cpu_list::ListErrorKind;
+use node::{NodeFault, Outcome, Phase, Status};
 
 /// The text which answers a command is that of the call or event that it asks for. For a `create`, an `adopt` or an
 /// `update` that is the call with the config that is found of its bundle. It holds of calls that only read too. The
@@ -87,4 +99,26 @@ pub fn booted_nodes()
 /// The first process of a modelled kernel gets the pid 2.
 pub fn the_limits()
     ensures first_pid { FIRST_PID ≡ 2 }
+{}
+
+/// Worked rows of docs/formats.md, "Scripts" and "Refusals": the definitions, evaluated.
+pub fn worked()
+    ensures done { (n : NodeState) (id : List ℕ) → event_text n (Start id (Ok tt)) ≡ codes "ok\n" }
+    ensures pid { (n : NodeState) → event_text n (Fork 2 (Ok 3)) ≡ codes "pid 3\n" }
+    ensures phase { (n : NodeState) → event_text n (Ask (PhaseIs Phase.Underway)) ≡ codes "underway\n" }
+    ensures listed { (n : NodeState)
+        → event_text n (Ask (ListAll ((codes "a", Status.Running) ∷ (codes "b", Status.Stopped) ∷ [])))
+        ≡ codes "a running\nb stopped\nend\n" }
+    ensures unknown { (n : NodeState) → event_text n (Ask (SetsOf (codes "c") (Err NodeFault.NoContainer)))
+        ≡ codes "refused E94 NoContainer\n" }
+    ensures not_free { refusal_line (Refusal.Node (NodeFault.NotFree 5)) ≡ codes "refused E104 NotFree 5\n" }
+    ensures bad_set { refusal_line (Refusal.BadSet (record { at = 0; kind = ListErrorKind.Descending }))
+        ≡ codes "refused E102 BadSet E12 0\n" }
+    ensures bad_field { refusal_line (Refusal.Node (NodeFault.Config (ConfigFault.BadField Field.Quota)))
+        ≡ codes "refused E60 BadField linux.resources.cpu.quota\n" }
+    ensures total { first_line (Outcome.Plan 0) ≡ codes "plan total 0\n" }
+    ensures members { (m : Layout)
+        → container_lines m (Short (record { id = codes "a"; demand = 2; offers = [] }
+        ∷ record { id = codes "b"; demand = 1; offers = [] } ∷ []) (0 ∷ 1 ∷ []) Weights.WithMoves)
+        ≡ codes "member a\nmember b\n" }
 {}
