@@ -59,8 +59,7 @@ pub fn check(certificate: &Certificate) -> Result<Verdict, CheckFault>
 }
 
 /// Checks the plan, and the total that is written with it.
-#[tactic(auto, using(crate::proofs::Verdicts::scale_first, crate::proofs::Verdicts::plan_second,
-    crate::proofs::Verdicts::gap_last, crate::proofs::Verdicts::plan_proved, crate::proofs::Verdicts::plan_best))]
+#[tactic(auto, using(crate::proofs::Verdicts::scale_first, crate::proofs::Verdicts::plan_second, crate::proofs::Verdicts::gap_last, crate::proofs::Verdicts::plan_proved, crate::proofs::Verdicts::plan_best))]
 fn check_total(
     problem: &Problem,
     plan: &Plan,
@@ -109,8 +108,7 @@ fn check_scale(problem: &Problem, weights: Weights) -> Result<(), CheckFault>
     }
 }
 
-#[tactic(auto, using(crate::proofs::Verdicts::short_scale_first, crate::proofs::Verdicts::short_second,
-    crate::proofs::Verdicts::short_proved))]
+#[tactic(auto, using(crate::proofs::Verdicts::short_scale_first, crate::proofs::Verdicts::short_second, crate::proofs::Verdicts::short_proved))]
 fn check_members(
     problem: &Problem,
     members: &Members,

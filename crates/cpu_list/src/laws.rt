@@ -37,8 +37,7 @@ pub fn plain_texts()
 {}
 
 /// Worked rows of docs/formats.md, "Lists": the definitions, evaluated.
-#[tactic(auto, unfolding(crate::specs::ListText::item_of, crate::specs::ListText::number_of,
-    crate::specs::ListText::range_of))]
+#[tactic(auto, unfolding(crate::specs::ListText::item_of, crate::specs::ListText::number_of, crate::specs::ListText::range_of))]
 pub fn worked()
     ensures list { IsList 8 (codes "1-3,5") }
     ensures blanks_and_zeros { IsList 8 (codes " 005 ,, 3-3") }

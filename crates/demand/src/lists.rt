@@ -45,8 +45,7 @@ pub fn cpus(list: Option<&str>, machine: &Machine) -> Result<IdSet, DemandFault>
 }
 
 /// The nodes that a container's list names.
-#[tactic(auto, using(crate::proofs::LeastOthers::least_others, crate::proofs::LeastOthers::all_known),
-    unfolding(crate::specs::DemandFaultOf::mems_fault))]
+#[tactic(auto, using(crate::proofs::LeastOthers::least_others, crate::proofs::LeastOthers::all_known), unfolding(crate::specs::DemandFaultOf::mems_fault))]
 pub fn nodes(list: Option<&str>, machine: &Machine) -> Result<IdSet, DemandFault>
     ensures fault { mems_fault machine.now (text_of list.entry) ≡ result_err result }
     ensures set { IfOk result (λ s. s ≡ named (text_of list.entry)) }

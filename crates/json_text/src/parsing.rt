@@ -13,8 +13,7 @@ use std::str;
 /// # Errors
 /// An allocation failure; or `not_json` where the bytes are no JSON value: they are not UTF-8, or not JSON, or nest
 /// deeper than `serde_json` reads. No bytes, and bytes that are not UTF-8, are told before the first allocation.
-#[tactic(auto, using(crate::proofs::TextTests::utf8_tests, crate::proofs::TextTests::no_bytes),
-    unfolding(crate::specs::JsonOf::json_of))]
+#[tactic(auto, using(crate::proofs::TextTests::utf8_tests, crate::proofs::TextTests::no_bytes), unfolding(crate::specs::JsonOf::json_of))]
 pub fn parse<F: Drop>(alloc: Global, bytes: &[u8], not_json: F) -> Result<Value, OrMemory<F>>
     // The value is the one that `serde_json` reads in the bytes.
     ensures value { IfOk result (λ v. json_of bytes.now ≡ Some (view v)) }

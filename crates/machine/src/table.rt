@@ -75,8 +75,7 @@ fn from_rows(rows: &Value, count: usize) -> Result<ArrayVec<u8, ENTRY_LIMIT>, Ma
 }
 
 /// Checks that there are so many rows, and so many entries in each.
-#[tactic(auto, using(crate::proofs::ItemLaws::item_counts, crate::proofs::ItemLaws::item_tests),
-    unfolding(crate::specs::DistancesFault::shape_fault))]
+#[tactic(auto, using(crate::proofs::ItemLaws::item_counts, crate::proofs::ItemLaws::item_tests), unfolding(crate::specs::DistancesFault::shape_fault))]
 fn check_shape(rows: &[Value], count: usize) -> Result<(), MachineFault>
     ensures fault { shape_fault count (map view rows.now) ≡ result_err result }
     ensures rows { OnOk result (length rows.now ≡ count) }

@@ -12,8 +12,7 @@ use crate::{MAX_LOCALITIES, SlitFault};
 pub(crate) const ENTRIES_AT: usize = 44;
 
 /// The number of localities of a table whose header is in order, or the first fault of the header.
-#[tactic(auto, unfolding(crate::specs::HeaderFault::header_fault, crate::specs::Header::count_of,
-    crate::specs::Header::size_of))]
+#[tactic(auto, unfolding(crate::specs::HeaderFault::header_fault, crate::specs::Header::count_of, crate::specs::Header::size_of))]
 pub(crate) fn check_header(bytes: &[u8]) -> Result<usize, SlitFault>
     ensures fault { header_fault bytes.now ≡ result_err result }
     ensures ok { IfOk result (HasHeader bytes.now) }
