@@ -2,7 +2,8 @@
 use Rattle.std.proofs.Common.{◌≡◌, ℕ, ◌+◌, cond, Bool, true, false, not, ◌&&◌, nat_eq, List, [], ◌∷◌, ◌++◌, refl, sym, ap, ◌∙◌, arith}
 use Rattle.std.specs.Prelude.{◌==◌, ◌||◌, position, unwrap_or}
 use Rattle.std.specs.List.{list_any, list_all}
-use Rattle.std.proofs.lemmas.Bool.{true≢false}
+use Rattle.std.proofs.lemmas.Bool.{true≢false, and_parts, and_from}
+use Rattle.faults.specs.Tests.{same_tests}
 use Rattle.std.proofs.lemmas.Bool.Decides.{nat_tests}
 use Rattle.std.specs.Ordering.{nat_cmp}
 use Rattle.std.specs.Cmp.{nat_cmp_total}
@@ -14,7 +15,7 @@ use Rattle.machine.specs.Cores.{core_of, cpus_of_core, cores_in, whole_in}
 use Rattle.machine.specs.Nodes.{node_of}
 use Rattle.machine.specs.Present.{union_of}
 use Rattle.machine.specs.Worked.{two_sockets}
-use Rattle.machine.specs.WholeLaws.{both_true, and_true, one_way, contains-cpus_of_core, contains-cores_in, contains-whole_in}
+use Rattle.machine.specs.WholeLaws.{contains-cpus_of_core, contains-cores_in, contains-whole_in}
 
 -- a list has the number
 abbrev pub has : List ℕ → ℕ → Bool
@@ -33,16 +34,16 @@ behind false b is = is
 -- a test that all numbers of a list pass, and one of them
 all_has : (p : ℕ → Bool) (ks : List ℕ) → list_all p ks ≡ true → (q : ℕ) → has ks q ≡ true → p q ≡ true
 all_has p [] all q is = absurd (true≢false (sym is))
-all_has p (k ∷ ks) all q is = by (nat_eq k q) refl is (all_has p ks (both_true _ _ all).1 q)
+all_has p (k ∷ ks) all q is = by (nat_eq k q) refl is (all_has p ks (and_parts _ _ all).1 q)
   where
     by : (b : Bool) → nat_eq k q ≡ b → (b || has ks q) ≡ true → (has ks q ≡ true → p q ≡ true) → p q ≡ true
-    by true same there others = ap p (sym (same_number k q same)) ∙ (both_true _ _ all).0
+    by true same there others = ap p (sym (same_number k q same)) ∙ (and_parts _ _ all).0
     by false other there others = others there
 
 each_has : (p : ℕ → Bool) (ks : List ℕ) → ((q : ℕ) → has ks q ≡ true → p q ≡ true) → list_all p ks ≡ true
 each_has p [] each = refl
 each_has p (k ∷ ks) each =
-    and_true _ _ (each k (itself k (has ks k))) (each_has p ks (λ q there. each q (behind (nat_eq k q) _ there)))
+    and_from _ _ (each k (itself k (has ks k))) (each_has p ks (λ q there. each q (behind (nat_eq k q) _ there)))
 
 implies : (a b : Bool) → (not a || b) ≡ true → a ≡ true → b ≡ true
 implies true b says is = says
@@ -56,10 +57,10 @@ implied false b f = refl
 pub is_subset-by :
     (s t : Ids) (ks : List ℕ) (p : ℕ → Bool) → ((q : ℕ) → set.contains s q ≡ (has ks q && p q))
     → set.is_subset s t ≡ list_all (λ y. not (p y) || set.contains t y) ks
-is_subset-by s t ks p is = one_way _ _
-    (λ within. each_has _ ks (λ q there. implied _ _ (λ passes. is_subset-contains s t within q (is q ∙ and_true _ _ there passes))))
+is_subset-by s t ks p is = same_tests _ _
+    (λ within. each_has _ ks (λ q there. implied _ _ (λ passes. is_subset-contains s t within q (is q ∙ and_from _ _ there passes))))
     (λ all. contains-is_subset s t (λ q member.
-    let both = both_true _ _ (sym (is q) ∙ member) in
+    let both = and_parts _ _ (sym (is q) ∙ member) in
     implies _ _ (all_has _ ks all q both.0) both.1))
 
 -- the CPUs of two nodes
