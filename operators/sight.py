@@ -80,7 +80,7 @@ class Sight:
             try:
                 config = parse(file)
             except Absent:
-                if one is None or self.lives(one):
+                if one is None or self.tree.root:
                     raise
                 return one.seen
             path = self.tree.group(name, told.folder, config, told.group)
@@ -91,12 +91,13 @@ class Sight:
         """One of which no config can be read now, and which this agent holds or the one before held: as it is, while it has a process."""
         if one:
             return one.seen if self.lives(one) else None
-        path = self.tree.before.get(name)
+        path, pinned = self.tree.before.get(name, (None, None))
         inode, *_, system = self.agent.taken.groups.get(path, [None, True]) if path else [None, True]
         if system or not self.runs(path, inode):
             return None
-        cpus = self.tree.listed(path)
-        demand = bare(set() if cpus & self.agent.reserved else cpus, self.nodes_of(path))
+        cpus, reserved = self.tree.listed(path), self.agent.reserved
+        pinned = not cpus & (reserved | self.machine.reserved) if pinned is None else pinned
+        demand = bare(cpus - reserved if pinned else set(), self.nodes_of(path))
         return Seen(None, inode, None, None, 0, told._replace(bundle=""), demand.config, path)
 
     def nodes_of(self, path):
