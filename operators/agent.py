@@ -208,7 +208,7 @@ class Agent:
     def start_anew(self):
         """Takes up all that is there in a new run, since other CPUs are reserved by now."""
         self.numarun.close()
-        self.tree.before = {name: one.seen.path for name, one in self.held.items()}
+        self.tree.before = {name: (one.seen.path, one.pinned) for name, one in self.held.items()}
         self.held, self.newcomers.refused, self.off, self.plans.pool, self.plans.tried, self.due = {}, {}, {}, None, None, True
         self.start()
 

@@ -94,7 +94,8 @@ class Tree:
         self.folder = os.path.join(work, "tree")
         self.links = os.path.join(self.folder, "numarun")
         os.makedirs(self.links, exist_ok=True)
-        self.before = {name: self.linked(name) for name in os.listdir(self.links)}  # the groups of an agent before
+        # The groups of an agent before by their ids, and whether they had CPUs of their own, where that is known.
+        self.before = {name: (self.linked(name), None) for name in os.listdir(self.links)}
         for name in self.before:
             self.unlink(name)
         self.set_link(os.path.join(self.folder, "cgroup.controllers"), os.path.join(self.root, "cgroup.controllers"))

@@ -38,7 +38,7 @@ class Mending:
 
     def undo_writes_before(self, paths):
         """The same of groups that came while no agent looked: the one before may have been killed behind such a write."""
-        names = {path: name for name, path in self.tree.before.items()}
+        names = {path: name for name, (path, _) in self.tree.before.items()}
         for path, system in self.agent.taken.anew.items():
             cpus = self.tree.listed(path)
             if system and path in self.agent.slices.on_the_way:

@@ -6,6 +6,7 @@ import os
 
 from common import Refused
 from demands import asked, bare, homes_of, limited, other_limit
+from events import Told
 from groups import Absent, parse
 
 # What is there of a container: the stamp of its config, its group's inode, what its group has of limits and nodes that its config has
@@ -26,12 +27,22 @@ class Sight:
             if name not in told and one.seen.told.folder is not None and self.lives(one):
                 there[name] = one.seen
                 self.say_stays(name, "it is told of no more")
+        there.update(self.left_by_one_before(told, {seen.path for seen in there.values()}))
         for name, one in self.rest(there).items():
             found[name] = name not in there and self.see(name, one)
             there.update({name: found[name]} if found[name] else {})
         for name in [of[1] for of in self.agent.open if of[0] in ("container", "stays") and of[1] not in found and of[1] not in there]:
             self.agent.forget(name)
         return there
+
+    def left_by_one_before(self, told, paths):
+        """Those whom the agent before held, and of whom nobody tells now."""
+        names = [name for name in self.tree.before if name not in told and name not in self.agent.held]
+        found = {name: self.as_before(None, name, Told("", "", None, 0)) for name in names}
+        found = {name: seen for name, seen in found.items() if seen and seen.path not in paths}
+        for name in found:
+            self.say_stays(name, "it is told of no more")
+        return found
 
     def rest(self, there):
         """The groups of the system itself that are to be on the pool."""
@@ -80,7 +91,7 @@ class Sight:
             try:
                 config = parse(file)
             except Absent:
-                if one is None or self.lives(one):
+                if one is None or self.tree.root:
                     raise
                 return one.seen
             path = self.tree.group(name, told.folder, config, told.group)
@@ -91,12 +102,13 @@ class Sight:
         """One of which no config can be read now, and which this agent holds or the one before held: as it is, while it has a process."""
         if one:
             return one.seen if self.lives(one) else None
-        path = self.tree.before.get(name)
+        path, pinned = self.tree.before.get(name, (None, None))
         inode, *_, system = self.agent.taken.groups.get(path, [None, True]) if path else [None, True]
         if system or not self.runs(path, inode):
             return None
-        cpus = self.tree.listed(path)
-        demand = bare(set() if cpus & self.agent.reserved else cpus, self.nodes_of(path))
+        cpus, reserved = self.tree.listed(path), self.agent.reserved
+        pinned = not cpus & (reserved | self.machine.reserved) if pinned is None else pinned
+        demand = bare(cpus - reserved if pinned else set(), self.nodes_of(path))
         return Seen(None, inode, None, None, 0, told._replace(bundle=""), demand.config, path)
 
     def nodes_of(self, path):
@@ -136,7 +148,7 @@ class Sight:
         """Whether it is the container that numarun was told of: its group is the same, and was not made anew since."""
         if (seen.stamp, seen.inode) == (one.seen.stamp, one.seen.inode):
             return True
-        same = (seen.path, seen.inode, seen.told.turn) == (one.seen.path, one.seen.inode, one.seen.told.turn)
+        same = (seen.path, seen.inode) == (one.seen.path, one.seen.inode) and (seen.told.turn == one.seen.told.turn or not one.seen.stamp)
         return same and (not self.tree.root or bool(self.tree.listed(seen.path)) or not one.cpus)
 
     def say_stays(self, name, why):

@@ -17,8 +17,9 @@ pass_over() {
     exit 0
 }
 
-inside=crun
-case " ${parts[*]} " in *" podman "*) inside+=" podman conmon" ;; esac
+inside=crun desk=
+case " ${parts[*]} " in *" podman "* | *" walk "*) inside+=" podman conmon" ;; esac
+case " ${parts[*]} " in *" walk "*) desk=--desk ;; esac
 needed="qemu-system-x86 cpio gcc libc6-dev $inside"
 has_all() {
     local one
@@ -46,7 +47,7 @@ root=$work/root
 gcc -O2 -shared -fPIC -o "$work/stop.so" "$top/tests/linux/stop.c"
 gcc -O2 -static -o "$work/sleeper" "$top/tests/linux/sleeper.c"
 # shellcheck disable=SC2046,SC2086 # they are words
-python3 -B "$top/tests/linux/image.py" "$root" "$program" "$work/stop.so" "$work/sleeper" $(command -v $inside)
+python3 -B "$top/tests/linux/image.py" "$root" $desk "$program" "$work/stop.so" "$work/sleeper" $(command -v $inside)
 for part in "${parts[@]}"; do
     if [ "${part%%/*}" = calls ]; then
         . "$top/benches/build-tools.sh"

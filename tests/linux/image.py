@@ -1,5 +1,7 @@
-"""Makes the first file system of the emulated machine: `image.py FOLDER FILE..`. It has Python with the modules that are used, the
-scripts of operators/, the folder linux/ of the tests, and FILES with the libraries that they are linked with, in /app."""
+"""Makes the first file system of the emulated machine: `image.py FOLDER [--desk] PROGRAM FILE..`. It has Python with the modules that are
+used, the scripts of operators/, the folder linux/ of the tests, and these files with the libraries that they are linked with, in /app.
+With --desk it has what a user has at hand besides: a shell, the commands of Debian's packages, and the pages and examples, with the
+program where it is built."""
 
 import compileall
 import os
@@ -14,6 +16,8 @@ TOP = os.path.dirname(os.path.dirname(HERE))
 MODULES = """_strptime argparse bisect collections contextlib copy ctypes datetime encodings.ascii encodings.latin_1 encodings.utf_8 errno fcntl gettext
 itertools json linecache locale math os pathlib random re select selectors shlex shutil signal socket subprocess sys tempfile textwrap
 threading time tokenize traceback""".split()
+AT_A_DESK = "html pyexpat site typing xml.etree.ElementTree".split()
+PACKAGES = "bash dash coreutils sed grep mawk findutils gzip tar dpkg diffutils hwloc-nox hwloc".split()
 
 
 def put(root, path, place=None):
@@ -31,9 +35,9 @@ def put_linked(root, path, place=None):
         put(root, library)
 
 
-def files_of_python():
+def files_of_python(more):
     """The program, and the files of the modules that are loaded by all these."""
-    script = f"import {', '.join(MODULES)}\nprint(os.path.realpath(sys.executable))\n" + \
+    script = f"import {', '.join([*MODULES, *more])}\nprint(os.path.realpath(sys.executable))\n" + \
         "for one in list(sys.modules.values()):\n    if getattr(one, '__file__', None): print(one.__file__)\n"
     return subprocess.run([sys.executable, "-S", "-E", "-B", "-c", script], stdout=subprocess.PIPE, text=True, check=True).stdout.split("\n")[:-1]
 
@@ -43,14 +47,33 @@ def is_binary(path):
         return file.read(4) == b"\x7fELF"
 
 
+def put_desk(root, program):
+    """The commands of some packages, and what else of the checkout a user reads and types."""
+    listed = subprocess.run(["dpkg", "-L", *PACKAGES], stdout=subprocess.PIPE, stderr=subprocess.DEVNULL, text=True).stdout.split()
+    commands = {os.path.basename(path): path for path in [*listed, "/sbin/ldconfig", "/usr/bin/lstopo"] if re.search(r"/s?bin/[^/]+$", path) and os.path.isfile(path)}
+    for name, path in commands.items():
+        put_linked(root, os.path.realpath(path), f"/usr/bin/{name}")
+    os.symlink("mawk", f"{root}/usr/bin/awk")
+    for name in ("sh", "bash"):
+        os.symlink(f"/usr/bin/{name}", f"{root}/bin/{name}")
+    for name in ("docs", "examples", "operators"):
+        shutil.copytree(os.path.join(TOP, name), f"{root}/numarun/{name}", ignore=shutil.ignore_patterns("__pycache__"))
+    put(root, os.path.join(TOP, "README.md"), "/numarun/README.md")
+    put(root, program, "/numarun/crates/numarun/out/numarun")
+
+
 def main(root, *files):
+    desk = "--desk" in files
+    program, *_ = files = [path for path in files if path != "--desk"]
     for place in ("proc", "sys", "dev", "tmp", "run", "root", "app", "bin"):
         os.makedirs(os.path.join(root, place))
-    python, *modules = files_of_python()
+    python, *modules = files_of_python(AT_A_DESK if desk else [])
     put_linked(root, python)
     os.symlink(python, f"{root}/bin/python3")
     for path in modules:
         put_linked(root, path) if path.endswith(".so") else put(root, path)
+    if desk:
+        put_desk(root, program)
     for folder in ("operators", "tests/linux"):
         for place, _, names in os.walk(os.path.join(TOP, folder)):
             for name in names:

@@ -219,7 +219,7 @@ def unseen():
 
 
 def unseen_at_the_start():
-    """The same where no agent ran meanwhile: nobody gets what one has who can't be seen, and there is no plan until he can, or has ended."""
+    """The same where no agent ran meanwhile: nobody gets what one has who can't be seen, and the others go on."""
     site = Site()
     site.come("a", 2)
     site.put("numarun/a", "cgroup.events", "populated 1")
@@ -227,8 +227,34 @@ def unseen_at_the_start():
     os.rename(site.at("g/a"), site.at("away"))
     site.come("b", "1-2")
     agent = Open(site)
+    lines = agent.until("done")
+    check("a is not seen", of(lines, "stays", "waits", "unseen"), ["stays a: it is told of no more; there is a process in its group",
+                                                                   "waits b: short demand 4 allowed 1-2: it runs on the pool until there is room"])
+    check("it keeps its own", site.has("a", "b"), ["1-2", "0,3-7"])
+    site.come("c", 1)
+    agent.until("create c")
+    agent.until("done")
+    check("who comes gets others", (site.has("a", "c"), agent.end()[0]), (["1-2", "3"], 1))
+    agent = Open(site)
+    agent.until("done")
+    os.rename(site.at("away"), site.at("g/a"))
+    agent.until("update b")
+    agent.until("done")
+    check("b has what it names, and a others", (site.has("b"), count(site, "a"), site.has("c"), agent.end()), (["1-2"], 2, ["3"], (0, [])))
+
+
+def unseen_without_an_id():
+    """The same where it is not known any more who that was: there is no plan until it can be seen, or has ended."""
+    site = Site()
+    site.come("a", 2)
+    site.put("numarun/a", "cgroup.events", "populated 1")
+    site.run()
+    os.rename(site.at("g/a"), site.at("away"))
+    os.remove(site.at("work/tree/numarun/a"))
+    site.come("b", "1-2")
+    agent = Open(site)
     line = agent.until("unseen")[-1]
-    check("a is not seen", (line.split(":")[0], site.has("a", "b")), (f"unseen {site.at('root/numarun/a')}", ["1-2", "0"]))
+    check("a group of nobody", (line.split(":")[0], site.has("a", "b")), (f"unseen {site.at('root/numarun/a')}", ["1-2", "0"]))
     os.rename(site.at("away"), site.at("g/a"))
     lines = agent.until("done")
     check("it is seen", (of(lines, "adopt"), agent.end()), ([f"adopt a {site.at('g/a')} 1-2"], (0, [])))
@@ -463,7 +489,7 @@ def bounded_certificates():
     check("and 256 MiB", (kept, len(os.listdir(site.at("kept")))), ([], 3))
 
 
-PARTS = (gone_cpus, detour, among_several, limits, kept_place, other_configs, updated_groups, unseen, unseen_at_the_start, away_for_a_moment, late_write, no_work, drift, machines, no_reserved,
+PARTS = (gone_cpus, detour, among_several, limits, kept_place, other_configs, updated_groups, unseen, unseen_at_the_start, unseen_without_an_id, away_for_a_moment, late_write, no_work, drift, machines, no_reserved,
          one_group, least_room, not_yet, bounded_certificates)
 for part in PARTS:
     if not sys.argv[1:] or part.__name__ in sys.argv[1:]:

@@ -9,7 +9,7 @@ import sys
 import time
 
 from sites import IN_FOLDERS, QUOTA, Open, Site
-from trial import OPERATORS, TOP, check, end, told
+from trial import OPERATORS, check, end, told
 
 sys.path.insert(0, OPERATORS)
 from common import read_list
@@ -175,6 +175,53 @@ def unreadable():
         check(f"{why}: once it can be read", (found, site.has("c"), agent.end()[0]), ([2, 1, 1], ["1"], 0))
 
 
+def told_again_by_lines():
+    """What was told by standard input is as it was until it is told again, or has no process any more."""
+    site = Site()
+    for name, count in (("a", 2), ("b", 1), ("c", 1)):
+        site.come(name, count)
+        site.put(f"numarun/{name}", "cgroup.events", "populated 1")
+    tell = {name: f"created {name} {site.at('g', name)}\n" for name in "abc"}
+    check("at first", (site.run("--listen", text="".join(tell.values()))[0], site.has("a", "b", "c")), (0, ["1-2", "3", "4"]))
+    site.put("numarun/c", "cgroup.events", "populated 0")
+    agent = Open(site, "--listen", stdin=subprocess.PIPE)
+    site.come("d", "3-7")
+    lines = agent.until("done")
+    check("nobody was told of", sorted(line.split(":")[0] for line in of(lines, "stays", "ended", "unseen")), ["stays a", "stays b"])
+    site.log()
+    agent.process.stdin.write(f"{tell['a']}{tell['b']}created d {site.at('g/d')}\n")
+    agent.process.stdin.flush()
+    lines = agent.until("waits d") + agent.until("done")
+    check("told again", (of(lines, "ended", "adopt"), site.has("a", "b"), [line for line in site.log() if line[0] in "ab"]), ([], ["1-2", "3"], []))
+    agent.process.stdin.close()
+    check("d waits", agent.process.wait(), 1)
+
+
+def unreadable_while_others_are_reserved():
+    """The same where all reserved CPUs go and come back, so that the agent takes up all anew: who has CPUs of its own keeps them."""
+    site = Site({"nodes": ["0-7"], "distances": [[10]], "reserved": "7"})
+    for name, count in (("first", 1), ("a", 2), ("s", 0)):
+        site.come(name, count)
+        site.put(f"numarun/{name}", "cgroup.events", "populated 1")
+        site.run()
+    agent = Open(site)
+    agent.until("done")
+    for name in ("a", "s"):
+        broken(site, name, "{")
+        agent.until(f"stays {name}")
+    check("before", site.has("first", "a", "s"), ["0", "1-2", "3-7"])
+    site.online("0-6")
+    agent.until("done")
+    check("another one is reserved", site.has("a", "s"), ["1-2", site.has("s")[0]])
+    site.online("0-7")
+    agent.until("done")
+    check("it is back", (site.has("a"), "7" in site.has("s")[0]), (["1-2"], True))
+    site.put("numarun/a", "cgroup.events", "populated 0")
+    agent.until("ended a")
+    agent.until("done")
+    check("one ends", ({1, 2} <= read_list(site.has("s")[0], "s"), agent.end()[0]), (True, 1))
+
+
 def unreadable_on_the_pool():
     """The same of one that has none of its own: it is on the pool of each plan. Its nodes of memory are left as they are."""
     site = Site({"nodes": ["0-3", "4-7"], "distances": [[10, 21], [21, 10]], "reserved": "0"})
@@ -232,8 +279,8 @@ def refused_at_first():
                   (1, [f"refused {fault}: new {site.at('g/new')}: it runs on the pool"], True, set(range(8)) - read_list(site.has("a")[0], "a")))
 
 
-PARTS = (in_a_look, in_a_look_with_more, killed_and_told, killed_behind_a_late_write, killed_in_the_next_look, late_in_a_slice, unreadable,
-         unreadable_on_the_pool, refused_for_good, refused_at_first)
+PARTS = (in_a_look, in_a_look_with_more, killed_and_told, killed_behind_a_late_write, killed_in_the_next_look, late_in_a_slice, told_again_by_lines, unreadable,
+         unreadable_while_others_are_reserved, unreadable_on_the_pool, refused_for_good, refused_at_first)
 for part in PARTS:
     if not sys.argv[1:] or part.__name__ in sys.argv[1:]:
         part()

@@ -1,6 +1,6 @@
 """Kills the program, the agent, or both at moments by chance, and starts the agent again, while containers come, go and come back
-under their ids, configs and limits change, configs come in two parts, the watched folder goes away for a while, others write into
-groups, and CPUs flap. `troubles.py [SEED [MOMENTS]]`. It looks at the tree all the while: who requests CPUs without a reserved one has
+under their ids, configs and limits change, configs come in two parts, or are broken or refused for a while, the watched folder goes
+away for a while, others write into groups, and CPUs flap. `troubles.py [SEED [MOMENTS]]`. It looks at the tree all the while: who requests CPUs without a reserved one has
 them as its own, and in no look they are with another group that has a process. Who had its own and then requests reserved ones
 alone is squeezed; that is counted by its cause, and only a move may be one: a plan that takes it to other CPUs."""
 
@@ -25,6 +25,7 @@ SEED, MOMENTS = (int(word) for word in (sys.argv[1:] + ["1", "24"][len(sys.argv)
 RESERVED = {0}
 MACHINE = {"nodes": ["0-7", "8-15"], "distances": [[10, 21], [21, 10]], "reserved": "0"}
 PINNED, SHARED = [f"p{k}" for k in range(5)], ["s0", "s1"]
+BROKEN = ["{", "[]", '{"ociVersion": "1.0.2"}', '{"ociVersion": "1.0.2", "root": {"path": "r"}, "linux": {"resources": {"cpu": {"cpus": "90"}}}}']
 NEAR = 1.0  # seconds in which a line of the agent is of the same matter as a look
 
 
@@ -37,7 +38,7 @@ class World:
         self.looks = self.torn = 0
         self.unsafe = []
         self.own, self.squeezed = {}, []  # which CPUs each one had last as its own; and when one had not, by its name
-        self.did = dict.fromkeys(("come", "go", "configure", "limit", "flap", "hide", "drift"), 0)
+        self.did = dict.fromkeys(("come", "go", "configure", "break_config", "limit", "flap", "hide", "drift"), 0)
         for name in ("g", "root/numarun"):
             os.makedirs(self.at(name))
         self.write("machine.json", json.dumps(MACHINE))
@@ -94,6 +95,14 @@ class World:
         if "max" in open(self.group(name, "cpu.max")).read():
             self.there[name][1] = count
 
+    def break_config(self, name):
+        """A config that is none, or can't be had; until there is another one."""
+        self.write(self.at("g", name, "config.json"), self.chance.choice(BROKEN))
+
+    def repair(self, name):
+        """The config as it ought to be; what its group has by now counts before it."""
+        self.write(self.at("g", name, "config.json"), self.config(*self.there[name][1:]))
+
     def limit(self, name):
         """Another limit of the group alone."""
         self.there[name][1] = 3 - self.there[name][1]
@@ -108,14 +117,14 @@ class World:
         """One thing of all that happens."""
         name = self.chance.choice(PINNED + SHARED)
         runs = [one for one in PINNED if one in self.there]
-        what = self.chance.choice(["come"] * 3 + ["go", "configure", "limit", "flap", "hide", "drift"])
+        what = self.chance.choice(["come"] * 3 + ["go", "configure", "break_config", "limit", "flap", "hide", "drift"])
         with self.lock:
             if what == "come" and name in self.there:
                 self.go(name)
                 self.did["go"] += 1
             if what in ("come", "go") and (what == "come") != (name in self.there):
                 getattr(self, what)(name)
-            elif what in ("configure", "limit", "drift") and runs:
+            elif what in ("configure", "break_config", "limit", "drift") and runs:
                 getattr(self, what)(self.chance.choice(runs))
             self.did[what] += 1
         if what == "flap":
@@ -231,6 +240,7 @@ def main(folder):
         thread.join()
     for name in PINNED:
         if name in world.there:
+            world.repair(name)
             world.drift(name) if world.chance.random() < 0.3 else None
     ran = agent(folder, "--rounds", "6")
     check("the last run", ran.wait() in (0, 1), True)

@@ -1,0 +1,246 @@
+"""What a user reads in README.md and operators/README.md, typed as it stands: the transcripts, pictures, explanations and dry runs; numarun
+over the kernel's own tree; the installation, the machine file, the agent as its unit starts it, containers by crun and podman, the
+hook, the pool's script, what is given back, and the package. Each command of the two pages is typed here, or named as one that isn't."""
+
+import json
+import os
+import re
+import shutil
+import subprocess
+import sys
+import time
+
+sys.path[:0] = [os.path.join(os.path.dirname(os.path.abspath(__file__)), "..")]
+import of_podman
+import tree
+from of_crun import bundle, crun, process
+from tree import ROOT, read, say
+
+TOP, OUT, OUT_OF_AGENT = tree.REPOSITORY, "/tmp/typed", "/tmp/agent"
+PAGES = {name: read(f"{TOP}/{name}") for name in ("README.md", "operators/README.md")}
+HERE = {"PATH": "/usr/local/bin:/usr/bin:/bin:/app", "HOME": "/root", "TERM": "dumb"}
+# What is not typed: it wants the toolchain, or a service manager.
+ELSEWHERE = ("bash examples/quick-look.sh", "bash tests/all.sh", "systemctl enable")
+done = set()
+
+
+def typed(line, status=0, folder=TOP):
+    """What is said to a line of a shell."""
+    done.add(line)
+    with open(OUT, "w") as out:
+        ran = subprocess.run(["bash", "-c", line], stdin=subprocess.DEVNULL, stdout=out, stderr=subprocess.STDOUT, cwd=folder, env=HERE)
+    assert ran.returncode == status, (line, ran.returncode, read(OUT)[-2000:])
+    return read(OUT)
+
+
+def lines_of(page):
+    """The commands in the blocks of a page, without their comments, and what is shown behind those of a transcript."""
+    for kind, block in re.findall(r"^```(\w*)\n(.*?)^```", PAGES[page], re.M | re.S):
+        if kind == "sh" and not block.startswith("#!"):
+            yield from ((re.sub(r"\s+#.*", "", line), None) for line in block.splitlines())
+        elif kind == "" and block.startswith("$ "):
+            line, shown = block.split("\n", 1)
+            yield line[2:], shown.strip()
+
+
+def command(beginning):
+    """The line of the pages that begins so, as it stands there."""
+    found = [line for page in PAGES for line, _ in lines_of(page) if line.startswith(beginning)]
+    assert len(found) == 1, (beginning, found)
+    return found[0]
+
+
+def transcripts():
+    """What is shown behind a command is what it says, but for the time."""
+    for line, shown in [one for page in PAGES for one in lines_of(page) if one[1]]:
+        found, stamp = typed(line), r"\d{4}-\d\d-\d\dT[\d:.]+ "
+        assert re.sub(stamp, "", found) == re.sub(stamp, "", shown), (line, found)
+    for block in re.findall(r"^```\n(> .*?)^```", PAGES["README.md"], re.M | re.S):
+        asked = "".join(line[2:] + "\n" for line in block.splitlines() if line.startswith("> "))
+        answers = "".join(line + "\n" for line in block.splitlines() if not line.startswith("> "))
+        with open("/tmp/script", "w") as file:
+            file.write(asked)
+        found = typed("crates/numarun/out/numarun run examples/machines/two-socket.json < /tmp/script")
+        assert found == answers.strip(), (asked, found)
+
+
+def pictures():
+    typed(command("crates/numarun/out/numarun run"))
+    typed(command("operators/draw-plan.py --before examples"))
+    assert read(f"{TOP}/plan.svg") == read(f"{TOP}/docs/two-socket.svg")
+    assert "database" in typed(command("operators/draw-plan.py --before --text"))
+
+
+def program():
+    """The table of the program's commands."""
+    numarun = "crates/numarun/out/numarun"
+    assert typed(f"{numarun} check examples/two-containers.certificate").startswith("plan total ")
+    assert typed(f"{numarun} solve examples/caches.problem").startswith("numarun-certificate ")
+    assert typed(f"{numarun} list 3,1-2") == "1-3"
+    rows = [" ".join(map(str, row)) for row in json.load(open(tree.MACHINE))["distances"]]
+    assert typed(f"{numarun} slit /sys/firmware/acpi/tables/SLIT").splitlines()[1:] == rows, read(OUT)
+
+
+def on_a_real_kernel():
+    """The machine file of this machine, and a run over its tree, with a process in one of its containers."""
+    typed(command("bash operators/describe-host.sh"))
+    machine = json.load(open(f"{TOP}/host.json"))
+    assert machine["nodes"] == ["0-1", "2-3", "4-5", "6-7"] and machine["distances"][1] == [20, 10, 30, 20] and machine["cores"], machine
+    containers = tree.Containers("/tmp/b")
+    with open("/tmp/notes", "w") as notes:
+        run = subprocess.Popen(["crates/numarun/out/numarun", "run", "host.json", "--cgroup", ROOT], cwd=TOP, stdin=subprocess.PIPE,
+                               stdout=subprocess.PIPE, stderr=notes, text=True)
+
+    def ask(line, last):
+        run.stdin.write(line + "\n")
+        run.stdin.flush()
+        found = [run.stdout.readline().rstrip()]
+        while not found[-1].startswith(last):
+            found.append(run.stdout.readline().rstrip())
+            assert found[-1], (line, found)
+        return found
+
+    ask(f"create packets {containers.bundle('packets', allowed='4-5')}", "pid")
+    pid = tree.spawn(ROOT)
+    typed(f"echo {pid} > /sys/fs/cgroup/numarun/packets/cgroup.procs")
+    assert typed(f"grep Cpus_allowed_list /proc/{pid}/status").split() == ["Cpus_allowed_list:", "0"]
+    assert "hold packets 4-5" in ask("rebalance", "end")
+    assert typed(f"grep Cpus_allowed_list /proc/{pid}/status").split() == ["Cpus_allowed_list:", "4-5"]
+    run.stdin.close()
+    assert run.wait() == 0, read("/tmp/notes")
+    tree.clear()
+
+
+def installed():
+    """install.sh, and a machine file by the page's commands; hwloc makes the same one."""
+    typed("operators/install.sh /usr/local")
+    typed(command("mkdir -p /etc/numarun"))
+    typed(command("numarun-describe-host --cores"))
+    assert read("/etc/numarun/machine.json") == read(f"{TOP}/host.json")
+    line = command("lstopo --disallowed")
+    if os.path.exists("/usr/bin/lstopo"):
+        for more, names in (("", []), ("--cores ", ["cores"])):
+            typed(line.replace("--reserved", f"{more}--reserved"))
+            found, told = (json.load(open(path)) for path in (f"{TOP}/machine.json", f"{TOP}/host.json"))
+            assert all(found[name] == told[name] for name in ("nodes", "distances", "reserved", *names)), found
+    done.add(line)
+
+
+def begun(line):
+    """An agent by a line of a shell, which runs on."""
+    return subprocess.Popen(["bash", "-c", f"exec {line}"], cwd=TOP, env=HERE, stdin=subprocess.DEVNULL, stdout=open(OUT_OF_AGENT, "a"), stderr=subprocess.STDOUT)
+
+
+def until(agent, holds, what):
+    end = time.monotonic() + 600
+    while not holds():
+        assert agent.poll() is None and time.monotonic() < end, (what, read(OUT_OF_AGENT)[-3000:])
+        time.sleep(0.1)
+
+
+def ended(agent):
+    agent.terminate()
+    agent.wait()
+
+
+def has_own(pid, many):
+    cpus = tree.allowed(pid)
+    return cpus is not None and len(cpus) == many and 0 not in cpus
+
+
+def by_readme():
+    """README's three lines, with a container of crun's."""
+    pid, _ = process_of_crun("first", {"quota": 200000, "period": 100000, "mems": "1"})
+    line = command("operators/agent.py host.json")
+    done.add(line)
+    agent = begun(line)
+    until(agent, lambda: has_own(pid, 2), "README's agent")
+    assert tree.allowed(pid) == {2, 3}
+    assert typed(command("operators/dry-run.py host.json")).startswith("new would have 4"), read(OUT)
+    ended(agent)
+    crun("delete", "--force", "first")
+
+
+def process_of_crun(name, section):
+    crun("run", "--no-pivot", "--detach", "--bundle", bundle(name, section), name)
+    return process(name)
+
+
+def by_the_unit():
+    """The agent as the unit starts it, beside containers of crun, of podman, and of podman with the hook; what it leaves to read."""
+    unit = read("/usr/local/lib/systemd/system/numarun-agent.service")
+    line = re.search(r"^ExecStart=(.*)", unit, re.M)[1]
+    options = "--watch /run/numarun-containers --textfile /tmp/numarun.prom --certificates /var/log/numarun --pool /tmp/pool"
+    pool = re.search(r"^```sh\n(#!/bin/sh.*?)^```", PAGES["operators/README.md"], re.M | re.S)[1]
+    hook = re.search(r"^```json\n(.*?)^```", PAGES["operators/README.md"], re.M | re.S)[1]
+    for path, text in (("/tmp/pool", pool), ("/usr/share/containers/oci/hooks.d/numarun.json", hook)):
+        os.makedirs(os.path.dirname(path), exist_ok=True)
+        with open(path, "w") as file:
+            file.write(text)
+        os.chmod(path, 0o755)
+    os.makedirs("/var/log")
+    agent = begun(line.replace("$OPTIONS", options))
+    db, _ = process_of_crun("db", {"quota": 200000, "period": 100000, "mems": "1"})
+    until(agent, lambda: has_own(db, 2), "crun's container")
+    eager, _ = of_podman.begin("eager", "--cpus", "2")
+    assert has_own(eager, 2) and not tree.allowed(eager) & tree.allowed(db), (tree.allowed(eager), read(OUT_OF_AGENT)[-3000:])
+    assert len(os.listdir("/run/numarun-containers")) == 1  # its hook has told of it, and has had an answer
+    web, _ = of_podman.begin("web")
+    until(agent, lambda: not tree.allowed(web) & (tree.allowed(db) | tree.allowed(eager)), "one on the pool")
+    until(agent, lambda: read("/proc/irq/default_smp_affinity").endswith(mask(tree.allowed(web))), "the pool's script")
+    assert read("/sys/devices/virtual/workqueue/cpumask").endswith(mask(tree.allowed(web)))
+    assert "numarun_containers_pinned 2" in read("/tmp/numarun.prom")
+    kept = sorted(os.listdir("/var/log/numarun"))[-1]
+    assert typed(f"numarun check /var/log/numarun/{kept}").startswith("plan total 40"), read(OUT)
+    assert "db: 2 CPUs" in typed(f"numarun-explain /etc/numarun/machine.json < /var/log/numarun/{kept}"), read(OUT)
+    assert typed("numarun-dry-run /etc/numarun/machine.json --cpus 2 --running /run/crun").startswith("new would have"), read(OUT)
+    assert "makes room by itself" in typed("numarun-dry-run /etc/numarun/machine.json --cpus 6 --running /run/crun", status=1), read(OUT)
+    assert "another agent or program has it" in typed(line.replace("$OPTIONS", ""), status=1)
+    ended(agent)
+    typed("operators/agent.py --release --cgroup /sys/fs/cgroup")
+    assert all(tree.allowed(pid) == tree.CPUS for pid in (db, eager, web)), read(OUT)
+    crun("delete", "--force", "db")
+    of_podman.podman("rm", "-f", "-t", "0", "eager", "web")
+    assert not os.listdir("/run/numarun-containers")
+
+
+def mask(cpus):
+    return f"{sum(1 << cpu for cpu in cpus):02x}"
+
+
+def taken_away():
+    typed("operators/install.sh --uninstall /usr/local")
+    assert not [name for _, _, names in os.walk("/usr/local") for name in names], list(os.walk("/usr/local"))
+
+
+def package():
+    """A package, in a database of packages that knows what it depends on."""
+    typed("operators/install.sh --deb .")
+    for name in ("info", "updates", "triggers"):
+        os.makedirs(f"/var/lib/dpkg/{name}")
+    with open("/var/lib/dpkg/status", "w") as file:
+        for name, version in (("python3", "3.11"), ("libc6", "2.36")):
+            file.write(f"Package: {name}\nStatus: install ok installed\nMaintainer: nobody\nArchitecture: amd64\nVersion: {version}\nDescription: there\n\n")
+    typed("dpkg -i numarun_*.deb")
+    assert "agent" in typed("numarun-agent --help")
+    typed("numarun-describe-host --cores > /etc/numarun/machine.json")
+    typed("dpkg -r numarun")
+    assert not shutil.which("numarun-agent", path=HERE["PATH"])
+
+
+def all_typed():
+    """No command of the two pages is left."""
+    for page in PAGES:
+        for line, _ in lines_of(page):
+            assert line in done or line.startswith(ELSEWHERE), (page, line)
+
+
+os.symlink("/proc/self/fd", "/dev/fd")  # as udev makes it
+of_podman.prepare()
+tree.clear()
+for step in (transcripts, pictures, program, on_a_real_kernel, installed, by_readme, by_the_unit, taken_away, package, all_typed):
+    began = time.monotonic()
+    step()
+    say(f"walk: {step.__name__} in {time.monotonic() - began:.0f} s")
+assert "Traceback" not in read(OUT_OF_AGENT), read(OUT_OF_AGENT)[-2000:]
+say(f"walk: {len(done)} lines typed as the pages have them")
