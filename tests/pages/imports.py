@@ -40,7 +40,7 @@ def main():
         if path.suffix not in (".antt", ".rt") or "out" in path.relative_to(TOP).parts:
             continue
         lines = path.read_text(encoding="utf-8").splitlines()
-        text = "\n".join(re.sub(r"(--|//).*", "", line) for line in lines if not USE.match(line))
+        text = "\n".join(line for line in lines if not USE.match(line) and not line.lstrip().startswith(("--", "//")))
         new = [kept(line, text) for line in lines]
         if lines == new:
             continue

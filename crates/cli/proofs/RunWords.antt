@@ -1,5 +1,5 @@
 -- The words behind `run`, one after another.
-use Rattle.std.proofs.Common.{◌≡◌, refl, sym, ap, ◌∙◌, [], ◌∷◌, ◌++◌, List, ℕ, Some, None, codes, false, rules, append_assoc}
+use Rattle.std.proofs.Common.{◌≡◌, refl, sym, ap, ◌∙◌, [], ◌∷◌, ◌++◌, List, ℕ, Some, None, codes, true, false, rules, append_assoc}
 use Rattle.std.proofs.lemmas.List.{append-nil}
 use Rattle.std.specs.Prelude.{is_some, fold}
 use Rattle.clap.proofs.OnLiterals.{clap_on_literals}
@@ -7,6 +7,7 @@ use Rattle.clap.specs.Walk.{Held, Names, Rule, Step, Text, Waiting, Walk, idle, 
 use Rattle.clap.specs.Simple.{Shape, built, built_leaf, entered, inherited, marked_built, names_of, subcommand_of, with_leaf_noted}
 use Rattle.clap.specs.Faults.{fault_of, check_fault, defaults_fault, entered_fault, level_fault, settle_fault, step_fault, turn_fault, walk_fault, word_fault}
 use Rattle.clap.specs.Kinds.{Kinds, or_else}
+use Rattle.clap.specs.declared.error.kind.ErrorKind.TheVariants.{MissingRequiredArgument}
 use Rattle.cli.specs.Asked.{Asked, asked_by, asked_for, asked_in, run}
 use Rattle.cli.specs.CommandLine.{numarun, run_command}
 use Rattle.cli.specs.Mistakes.{lacking, mistakes}
