@@ -37,6 +37,7 @@ pub fn set_laws()
 pub fn worked()
     ensures members { members (set.from_list (5 ∷ 1 ∷ 2 ∷ 1 ∷ [])) ≡ 1 ∷ 2 ∷ 5 ∷ [] }
     ensures ranges { ranges_of (0 ∷ 1 ∷ 2 ∷ 7 ∷ []) ≡ (0, 2) ∷ (7, 7) ∷ [] }
+    ensures no_range { ranges_of [] ≡ [] }
 {}
 
 /// Numbers are below 4,096.
