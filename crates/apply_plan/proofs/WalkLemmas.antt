@@ -20,6 +20,7 @@ use Rattle.apply_plan.specs.ListLemmas.{all_behind, all_map2, find_among}
 use Rattle.apply_plan.specs.KernelFacts.{with_request, is_write, stands, placed_alike}
 use Rattle.apply_plan.specs.WriteLemmas.{IsWrite, Left, all_left, by_test}
 use Rattle.apply_plan.specs.StepLemmas.{is_same_itself}
+use Rattle.std.proofs.Math.Bool.{and-false}
 
 module _ {X : Type 0} (P : X → Type 0) where
   pub all_front : (n : ℕ) (xs : List X) → AllByRecursion P xs → AllByRecursion P (take n xs)
@@ -52,10 +53,6 @@ has_written_then h old mid w made is =
     subst (λ d. HasWritten h old (written mid d)) is (suc made.0, writes_then h made.0 old mid made.1 (ap is_some is))
 
 -- a test of what an entry holds and whether it lives, after a write of another entry
-and_none : (b : Bool) → (b && false) ≡ false
-and_none true = refl
-and_none false = refl
-
 abbrev releases : Ids → TableState → Ids → Entry → Bool
 releases reserved t s a = is_alive t a.pid && not (is_same (kept reserved a.target s) s)
 
@@ -67,15 +64,15 @@ keeps_what_it_kept : (reserved : Ids) → is_empty reserved ≡ false → (t : T
 keeps_what_it_kept reserved some t s a =
     ap (λ b. is_alive t a.pid && not b)
     (ap (λ x. is_same x (kept reserved a.target s)) (kept_again reserved a.target some s) ∙ is_same_itself (kept reserved a.target s))
-    ∙ and_none (is_alive t a.pid)
+    ∙ and-false (is_alive t a.pid)
 
 -- nor need one that holds its target, and it need not move
 keeps_target : (reserved : Ids) (t : TableState) (a : Entry) → is_empty a.target ≡ false → releases reserved t a.target a ≡ false
 keeps_target reserved t a some =
-    ap (λ b. is_alive t a.pid && not b) (ap (λ x. is_same x a.target) (kept_target reserved a.target some) ∙ is_same_itself a.target) ∙ and_none (is_alive t a.pid)
+    ap (λ b. is_alive t a.pid && not b) (ap (λ x. is_same x a.target) (kept_target reserved a.target some) ∙ is_same_itself a.target) ∙ and-false (is_alive t a.pid)
 
 stays_at_target : (t : TableState) (a : Entry) → moves t a.target a ≡ false
-stays_at_target t a = ap (λ b. is_alive t a.pid && not b) (is_same_itself a.target) ∙ and_none (is_alive t a.pid)
+stays_at_target t a = ap (λ b. is_alive t a.pid && not b) (is_same_itself a.target) ∙ and-false (is_alive t a.pid)
 
 module _ (old new : KernelState) (e : Entry) (cpus : Ids) (w : IsWrite old new e.group cpus) (reserved : Ids) where
   release_left : must_release new reserved e ≡ false → (a : Entry) → Left old new e cpus a → must_release old reserved a ≡ false → must_release new reserved a ≡ false

@@ -16,8 +16,8 @@ use Rattle.apply_plan.specs.declared.entry.Entry.{Entry}
 use Rattle.apply_plan.specs.Holders.{Holder, AreApart, HasSome}
 use Rattle.apply_plan.specs.DueWrite.{HasTarget}
 use Rattle.apply_plan.specs.Effects.{HasFreeParent, CanTakeEffect, HasOnline, TargetsTakeEffect, SafeInEffect}
-use Rattle.apply_plan.specs.KeptLemmas.{is_empty-empty}
 use Rattle.apply_plan.specs.ListLemmas.{all_map, all_map2, pairs_map}
+use Rattle.cpu_set.specs.SetLaws.{is_empty-empty}
 
 -- a group with a free parent has what it is granted of all that is online
 granted_here : (k : KernelState) (g : Group) → IsWellFormed k → HasFreeParent k g → effective_cpus k.tree g ≡ granted (requested_cpus k.tree g) k.tree.online

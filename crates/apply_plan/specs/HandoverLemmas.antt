@@ -6,9 +6,7 @@ use Rattle.std.specs.List.{AllByRecursion, sum_by}
 use Rattle.std.specs.Prelude.{◌⊎◌, cond, find, Option, Some, None, is_some, Result, Ok, Err}
 use Rattle.cpu_set.specs.Ids.{Ids, is_same, is_empty}
 use Rattle.cpuset_tree.specs.Groups.{same_group}
-use Rattle.cpuset_tree.specs.TreeState.{TreeState}
-use Rattle.cpuset_tree.specs.TreeLaws.{StandAlike}
-use Rattle.cpuset_tree.specs.TreeLemmas.{writes_request, stands_itself}
+use Rattle.cpuset_tree.specs.TreeLemmas.{writes_request}
 use Rattle.proctable.specs.Processes.{is_alive}
 use Rattle.kernel_model.specs.declared.fault.KernelFault.{KernelFault}
 use Rattle.kernel_model.specs.KernelState.{KernelState}
@@ -27,6 +25,7 @@ use Rattle.apply_plan.specs.KernelFacts.{with_request, is_write, stands}
 use Rattle.apply_plan.specs.WriteLemmas.{holds_target}
 use Rattle.apply_plan.specs.StepLemmas.{waits_at_most, released_safe, released_lowers, moved_safe, moved_lowers, stays_between, keeps_between}
 use Rattle.apply_plan.specs.DueLemmas.{Due, Releases, Moves, Rests, due_is}
+use Rattle.kernel_model.specs.KernelLemmas.{itself_alike}
 
 module _ (h : Targets) (valid : IsHandover h) (old : KernelState) (placed : ArePlaced old h.entries) where
   -- the group of an entry that was found is in the tree
@@ -68,19 +67,6 @@ module _ (h : Targets) (valid : IsHandover h) (old : KernelState) (placed : AreP
   rests_at_targets d (Moves e none found) is = absurd (none-some (move_of e) (sym is))
   rests_at_targets d (Rests r m) is = all_map (λ a. must_move old a ≡ false) (HasTarget old) (λ a f live. holds_target old a f live) h.entries (find_none (must_move old) h.entries m)
 
--- a tree stands like itself
-alike_itself : (s : TreeState) → StandAlike s s
-alike_itself s = record {
-  before = stands_itself s;
-  after = stands_itself s;
-  there = λ p. refl;
-  rootness = λ p. refl;
-  child = λ p n. refl;
-  children = λ p. refl;
-  root = refl;
-  next_serial = refl;
-}
-
 pub keeps_itself : (h : Targets) (k : KernelState) → KeepsRest h k k
 keeps_itself h k = record {
   table = refl;
@@ -88,7 +74,7 @@ keeps_itself h k = record {
   reserved = refl;
   online = refl;
   nodes = refl;
-  alike = alike_itself k.tree;
+  alike = itself_alike k.tree;
   mems = λ g. refl;
   others = λ g o. refl;
 }
@@ -193,7 +179,7 @@ module _ (h : Targets) (valid : IsHandover h) (old new : KernelState) (placed : 
     reserved = refl;
     online = refl;
     nodes = refl;
-    alike = alike_itself old.tree;
+    alike = itself_alike old.tree;
     mems = λ g. refl;
     others = λ g o. refl;
   })

@@ -1,17 +1,10 @@
 -- What is kept of a set on the way to a target.
-use Rattle.std.proofs.Common.{◌≡◌, ℕ, Bool, true, false, not, ◌&&◌, ◌||◌, refl, sym, ap, ◌∙◌, eq-eqb}
-use Rattle.std.proofs.lemmas.Bool.{ne_eqb, cond-true, cond-false, false≢true}
-use Rattle.std.specs.Ordering.{nat_cmp}
+use Rattle.std.proofs.Common.{◌≡◌, ℕ, Bool, true, false, not, ◌&&◌, ◌||◌, refl, sym, ap, ◌∙◌}
+use Rattle.std.proofs.lemmas.Bool.{cond-true, cond-false, false≢true}
 use Rattle.std.specs.FinSet as set
 use Rattle.cpu_set.specs.Ids.{Ids, is_empty}
 use Rattle.cpu_set.specs.Pointwise.{same_members, contains-union, contains-intersection, contains-difference, is_subset-contains}
 use Rattle.apply_plan.specs.Kept.{within, kept}
-
-pub is_empty-empty : (s : Ids) → s ≡ set.empty → is_empty s ≡ true
-is_empty-empty s e = ap is_empty e ∙ eq-eqb _ _ (set.len-empty nat_cmp)
-
-pub is_empty-some : (s : Ids) → (s ≡ set.empty → ⊥) → is_empty s ≡ false
-is_empty-some s ne = ne_eqb _ _ (λ e. ne (set.empty_of_len s e))
 
 module _ (reserved target cpus : Ids) where
   pub kept_nothing : is_empty (within reserved target cpus) ≡ true → kept reserved target cpus ≡ reserved

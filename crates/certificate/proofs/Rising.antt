@@ -1,8 +1,7 @@
 -- Numbers that rise.
-use Rattle.std.proofs.Common.{◌≡◌, ℕ, zero, suc, ◌+◌, ◌<◌, ◌≤◌, Bool, true, false, List, [], ◌∷◌, length, get_or, refl, sym, subst, arith, All, nat_lt}
+use Rattle.std.proofs.Common.{◌≡◌, ℕ, suc, ◌+◌, ◌<◌, Bool, true, false, List, [], ◌∷◌, refl, sym, arith, nat_lt}
 use Rattle.std.specs.List.{AllPairs, IsAllAdjacentAnswer}
 use Rattle.std.specs.List.Sorted.{IsStrictlyIncreasing}
-use Rattle.std.proofs.Math.Numerals.{add-one}
 use Rattle.std.proofs.lemmas.Bool.{ltb-true, lt-ltb, false_from_ne_true, both_ways, and_from}
 use Rattle.std.proofs.lemmas.List.Kept.{AllPairs-from_increasing, AllPairs-cons}
 use Rattle.std.proofs.lemmas.List.Sums.{AllPass-from_list_all, list_all-from_AllPass}
@@ -32,17 +31,3 @@ pub is_rising-answer : (ks : List ℕ) (r : Bool) → IsAllAdjacentAnswer (λ x 
 is_rising-answer ks true all = sym (is_rising-true ks (λ k lt. ltb-true _ _ (sym (all k 0 lt))))
 is_rising-answer ks false one =
     sym (false_from_ne_true _ (λ e. both_ways _ (sym (one.2 0)) (lt-ltb _ _ (is_rising-says ks e one.0 one.1))))
-
-at_least : (ks : List ℕ) → IsStrictlyIncreasing ks → (i : ℕ) → i < length ks → i ≤ get_or ks i 0
-at_least ks rising zero lt = omega arith
-at_least ks rising (suc i) lt =
-    let next : get_or ks i 0 < get_or ks (suc i) 0 = subst (λ j. get_or ks i 0 < get_or ks j 0) (add-one i) (rising i (omega arith)) in
-    omega (arith, at_least ks rising i (omega arith))
-
--- there are no more of them than numbers below their limit
-pub few_numbers : (ks : List ℕ) (n : ℕ) → IsStrictlyIncreasing ks → All (λ k. k < n) ks → length ks ≤ n
-few_numbers ks n rising below = by_length (length ks) (omega arith)
-  where
-    by_length : (m : ℕ) → m ≤ length ks → m ≤ n
-    by_length zero le = omega arith
-    by_length (suc m) le = omega (arith, at_least ks rising m (omega arith), below m 0 (omega arith))

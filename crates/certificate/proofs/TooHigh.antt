@@ -12,7 +12,7 @@ use Rattle.certificate.specs.declared.price_lists.Price.{Price}
 use Rattle.certificate.specs.declared.rows.Offer.{Offer}
 use Rattle.cpu_set.specs.Ids.{Ids}
 use Rattle.cpu_set.specs.Least.{least_that}
-use Rattle.cpu_set.specs.LeastLaws.{least-none, least-none_says, least-some, least-some_says}
+use Rattle.cpu_set.specs.LeastLaws.{least-none, least-none_says, least-some, least-some_says, is_cpu_below}
 use Rattle.cpu_set.specs.Members.{IsCpu}
 use Rattle.std.proofs.Common.{Bool, List, None, Some, [], ap, arith, cond, false, inl, inr, nat_le, nat_lt, refl, sym, true, ℕ, ◌&&◌, ◌+◌, ◌-◌, ◌<◌, ◌||◌, ◌∙◌, ◌∷◌, ◌≡◌, ◌≤◌}
 use Rattle.std.proofs.lemmas.Bool.{cases_lt, cond-false, cond-true, le-leb, false_from_ne_true, both_ways, or_left, or_right, or_from}
@@ -85,9 +85,6 @@ less_than_the_rest w p value b lt = grind (arith, nat_tests)
 pub least_same : (f g : ℕ → Bool) → ((q : ℕ) → f q ≡ g q) → least_that f ≡ least_that g
 least_same f g e = λ i. least_that (λ q. e q i)
 
-lower : (k n : ℕ) → k < n → IsCpu n → IsCpu k
-lower k n lt is_cpu = omega arith
-
 least_at : (f g : ℕ → Bool) (m n : Option ℕ) → least_that f ≡ m → least_that g ≡ n → least_that (λ q. f q || g q) ≡ lesser m n
 least_at f g None None e h = least-none _ (λ q is_cpu. or_from _ _ (least-none_says f e q is_cpu) (least-none_says g h q is_cpu))
 least_at f g None (Some n) e h =
@@ -95,14 +92,14 @@ least_at f g None (Some n) e h =
     least-some _ n (record {
       is_cpu = is.is_cpu;
       passes = or_right _ _ is.passes;
-      least = λ k lt. or_from _ _ (least-none_says f e k (lower k n lt is.is_cpu)) (is.least k lt);
+      least = λ k lt. or_from _ _ (least-none_says f e k (is_cpu_below k n lt is.is_cpu)) (is.least k lt);
     })
 least_at f g (Some m) None e h =
     let is = least-some_says f m e in
     least-some _ m (record {
       is_cpu = is.is_cpu;
       passes = or_left _ _ is.passes;
-      least = λ k lt. or_from _ _ (is.least k lt) (least-none_says g h k (lower k m lt is.is_cpu));
+      least = λ k lt. or_from _ _ (is.least k lt) (least-none_says g h k (is_cpu_below k m lt is.is_cpu));
     })
 least_at f g (Some m) (Some n) e h =
     let one = least-some_says f m e in
@@ -142,7 +139,7 @@ least_among f g same = at (least_that f) refl
         e ∙ sym (least-some g n (record {
           is_cpu = is.is_cpu;
           passes = sym (same n is.is_cpu) ∙ is.passes;
-          least = λ k lt. sym (same k (lower k n lt is.is_cpu)) ∙ is.least k lt;
+          least = λ k lt. sym (same k (is_cpu_below k n lt is.is_cpu)) ∙ is.least k lt;
         }))
 
 -- a test of one of two, and another test

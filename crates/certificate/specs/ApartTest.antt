@@ -6,12 +6,12 @@ use Rattle.std.specs.Ordering.{nat_cmp}
 use Rattle.std.proofs.lemmas.Bool.{eqb-true, false_from_ne_true, true_from_ne_false, both_ways, and_from, or_left, or_right}
 use Rattle.std.proofs.lemmas.List.{take_more}
 use Rattle.std.proofs.lemmas.List.Folds.{list_all-append, list_any_more}
-use Rattle.faults.specs.Tests.{and_no}
 use Rattle.cpu_set.specs.Ids.{Ids, IsDisjoint}
 use Rattle.cpu_set.specs.Pointwise.{contains-union}
 use Rattle.cpu_set.specs.SetLaws.{meet_empty-IsDisjoint, IsDisjoint-meet_empty}
 use Rattle.certificate.specs.Limits.{is_disjoint, are_apart}
 use Rattle.certificate.specs.Tests.{and_left, and_right}
+use Rattle.std.proofs.Math.Bool.{and-false}
 
 pub is_disjoint-true : (s t : Ids) → IsDisjoint s t → is_disjoint s t ≡ true
 is_disjoint-true s t apart = rw (IsDisjoint-meet_empty s t apart, set.len-empty nat_cmp) refl
@@ -86,7 +86,7 @@ module _ {A : Type 0} (set_of : A → Ids) where
       let never : is_clear (take k xs) (set_of x) ≡ false =
       false_from_ne_true _ (λ clear. meets (λ c p q. clear_says (take k xs) (set_of x) clear c (sym (same c) ∙ p) q)) in
       let front : are_apart set_of (take (k + 1) xs) ≡ false =
-      rw (take_more xs k x lt, ← is, are_apart_push (take k xs) x, never) (and_no _) in
+      rw (take_more xs k x lt, ← is, are_apart_push (take k xs) x, never) (and-false _) in
       ap (are_apart set_of) (sym (take-append-drop (k + 1) xs)) ∙ are_apart_front (take (k + 1) xs) (drop (k + 1) xs) front
 
   -- the numbers seen, with those of one more

@@ -33,6 +33,7 @@ pub mod Laws
 pub mod Tests
 pub mod Sums
 pub mod Cpus
+pub mod RisingNumbers
 pub mod Apart
 pub mod ApartTest
 pub mod Offers

@@ -12,11 +12,11 @@ use Rattle.std.proofs.lemmas.Str.Ascii.{IsAscii-from_all}
 use Rattle.std.proofs.lemmas.List.Folds.{list_any-append, list_all_at}
 use Rattle.std.proofs.lemmas.Slice.Eq.{bytes_eq-Decides}
 use Rattle.std.proofs.lemmas.Map.Text.{is_eq-slice_cmp}
-use Rattle.faults.specs.Tests.{or_no}
 use Rattle.certificate_text.specs.IdWord.{is_id_letter, IsId}
 use Rattle.certificate.specs.RowView.{RowView}
 use Rattle.certificate_text.specs.DraftRead.{keeps_id}
 use Rattle.certificate_text.specs.DraftView.{has_id}
+use Rattle.std.proofs.Math.Bool.{or-false}
 
 letter_is_ascii : (b : ℕ) → is_id_letter b ≡ true → b < 128
 letter_is_ascii b h = grind arith
@@ -44,7 +44,7 @@ cond-true false false = refl
 
 pub has_id_more : (id : List ℕ) (rows : List RowView) (row : RowView) → has_id id (rows ++ row ∷ []) ≡ (has_id id rows || bytes_eq id row.id)
 has_id_more id rows row =
-    list_any-append (λ r. bytes_eq id r.id) rows (row ∷ []) ∙ ap (λ b. list_any (λ r. bytes_eq id r.id) rows || b) (or_no (bytes_eq id row.id))
+    list_any-append (λ r. bytes_eq id r.id) rows (row ∷ []) ∙ ap (λ b. list_any (λ r. bytes_eq id r.id) rows || b) (or-false (bytes_eq id row.id))
 
 -- a key more in the set, and its row more in the list
 pub ids_more : (rows : List RowView) (row : RowView) (key : Bor (List ℕ)) (s n : BTreeSet (Bor (List ℕ)))

@@ -1,8 +1,8 @@
 -- Rows of different ids.
-use Rattle.std.proofs.Common.{◌≡◌, ◌≢◌, ℕ, zero, suc, ◌<◌, Bool, true, false, ◌||◌, ◌++◌, List, [], ◌∷◌, length, get_or, refl, sym, ◌∙◌, arith, length-append}
+use Rattle.std.proofs.Common.{◌≡◌, ◌≢◌, ℕ, zero, suc, ◌<◌, false, ◌++◌, List, [], ◌∷◌, length, get_or, refl, sym, ◌∙◌, arith, length-append}
 use Rattle.std.specs.List.{AllPairs}
 use Rattle.std.specs.Str.{bytes_eq}
-use Rattle.std.proofs.lemmas.Bool.{false≢true, false_from_ne_true, or_from}
+use Rattle.std.proofs.lemmas.Bool.{false≢true, false_from_ne_true, or_from, or_parts}
 use Rattle.std.proofs.lemmas.Slice.Eq.{bytes_eq-Decides}
 use Rattle.std.proofs.lemmas.List.Quantifiers.{all_pairs_push}
 use Rattle.std.proofs.lemmas.List.{get_or_append_left}
@@ -17,21 +17,13 @@ IsNew id rows = (k : ℕ) (d : RowView) → k < length rows → (get_or rows k d
 abbrev pub Differ : RowView → RowView → Type 0
 Differ r s = r.id ≢ s.id
 
-or_false_left : (a b : Bool) → (a || b) ≡ false → a ≡ false
-or_false_left false b h = refl
-or_false_left true b h = absurd (false≢true (sym h))
-
-or_false_right : (a b : Bool) → (a || b) ≡ false → b ≡ false
-or_false_right false b h = h
-or_false_right true b h = absurd (false≢true (sym h))
-
 pub new_from_has_id : (id : List ℕ) (rows : List RowView) → has_id id rows ≡ false → IsNew id rows
 new_from_has_id id [] h k d lt e = absurd (omega arith)
 new_from_has_id id (r ∷ rows) h zero d lt e =
-    let no_row = or_false_left (bytes_eq id r.id) (has_id id rows) h in
+    let no_row = (or_parts (bytes_eq id r.id) (has_id id rows) h).0 in
     let dec = bytes_eq-Decides id r.id in
     false≢true (sym no_row ∙ dec.1 (sym e))
-new_from_has_id id (r ∷ rows) h (suc k) d lt e = new_from_has_id id rows (or_false_right (bytes_eq id r.id) (has_id id rows) h) k d (omega arith) e
+new_from_has_id id (r ∷ rows) h (suc k) d lt e = new_from_has_id id rows (or_parts (bytes_eq id r.id) (has_id id rows) h).1 k d (omega arith) e
 
 pub has_id_from_new : (id : List ℕ) (rows : List RowView) → IsNew id rows → has_id id rows ≡ false
 has_id_from_new id [] h = refl

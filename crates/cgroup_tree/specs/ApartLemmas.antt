@@ -18,7 +18,7 @@ use Rattle.cgroup_tree.specs.FolderLemmas.{older, folder_below, folder_none}
 use Rattle.cgroup_tree.specs.Standing.{AreApart, HavePlainNames, PlainNamesApart}
 
 -- a path is its folder and its name in one way
-rest : List ℕ → List ℕ
+unfoldable pub rest : List ℕ → List ℕ
 rest [] = []
 rest (x ∷ xs) = xs
 

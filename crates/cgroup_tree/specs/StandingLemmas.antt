@@ -17,6 +17,7 @@ use Rattle.cpuset_tree.specs.TreeLemmas.{entry_of-with_cpus, entry_of-with_mems,
 use Rattle.cgroup_tree.specs.Asked.{Deed, Written, Asked, done, refused}
 use Rattle.cgroup_tree.specs.Paths.{folder, folder_at, folder_within, below, cpus_file, mems_file, kill_file, kill_line, list_line}
 use Rattle.cgroup_tree.specs.Standing.{text_in, IsLineOf, IsMemsLineOf, StandsFor, AreApart, WritesStand}
+use Rattle.cgroup_tree.specs.ApartLemmas.{there_in, rest}
 
 -- the file that was written, and another
 written_here : (calls : List Asked) (path line : List ℕ) → text_in (done (Written path line) ∷ calls) path ≡ Some line
@@ -33,10 +34,6 @@ unfolding text_in
 refused_nowhere calls deed file = refl
 
 -- files of one name in folders that differ, and of the two names
-rest : List ℕ → List ℕ
-rest [] = []
-rest (x ∷ xs) = xs
-
 pub ends_alike : (xs ys a b : List ℕ) → length a ≡ length b → xs ++ a ≡ ys ++ b → a ≡ b
 unfolding rest
 ends_alike [] [] a b long e = e
@@ -108,10 +105,6 @@ place_written_mems g mems (Some e) new is = ap place_in is ∙ place_requesting_
 
 pub places_written_mems : (s : TreeState) (g : Group) (mems : Ids) (p : Group) → place_of (with_mems s g mems) p ≡ place_of s p
 places_written_mems s g mems p = place_written_mems g mems (entry_of s p) (entry_of (with_mems s g mems) p) (entry_of-with_mems s g mems p)
-
-there_in : (o : Option GroupEntry) → is_some (place_in o) ≡ true → is_some o ≡ true
-there_in None placed = placed
-there_in (Some e) placed = refl
 
 -- a write of the CPUs of a group
 module _ (root : List ℕ) (memory : Ids) (s : TreeState) (g : Group) (cpus : Ids) (calls : List Asked) (apart : AreApart s)

@@ -1,5 +1,5 @@
 -- The input of a name, which may be standard input.
-use Rattle.std.proofs.Common.{◌≡◌, ◌∙◌, Bool, true, false, Option, None, Some, Bor, codes, inl, inr, option_map, refl, subst, sym, unwrap_or}
+use Rattle.std.proofs.Common.{◌≡◌, Option, None, Some, Bor, codes, inl, inr, option_map, refl, subst, unwrap_or}
 use Rattle.clap.specs.Words.{Text}
 use Rattle.program_io.specs.Readings.{Reading, Reads}
 use Rattle.cli.specs.Asked.{word_bytes}
@@ -9,10 +9,6 @@ use Rattle.cli.specs.Named.{name_of}
 pub Reads-opened : {I : Type 0} (gives : I → Reading → Type 0) (open_input : I) (reading : Reading) → Reads {S = I} (λ source input. input ≡ source) (λ source kind. ⊥) gives open_input reading → gives open_input reading
 Reads-opened gives open_input reading (inl (input, is, given)) = subst (λ i. gives i reading) is given
 Reads-opened gives open_input reading (inr (fault, (kind, cannot, told), e)) = absurd cannot
-
--- no name is the hyphen and is not
-pub not_both : (b : Bool) → b ≡ true → b ≡ false → ⊥
-not_both b is other = let e : true ≡ false = sym is ∙ other in let f : ⊥ = cc in f
 
 -- the name that a check is given, or the hyphen
 pub name_of-or_hyphen : (file : Option (Bor Text)) (hyphen : Bor Text) → hyphen.now ≡ codes "-" → (unwrap_or file hyphen).now ≡ name_of (option_map word_bytes file)

@@ -1,5 +1,5 @@
 -- A text that is read piece by piece, and what an empty item says.
-use Rattle.std.proofs.Common.{◌≡◌, ℕ, ◌+◌, ◌-◌, ◌<◌, ◌≤◌, Bool, true, false, cond, not, ◌||◌, leb, List, [], ◌∷◌, length, drop, refl, sym, ap, ◌∙◌, arith, length-drop, drop-drop, ⊎_elim}
+use Rattle.std.proofs.Common.{◌≡◌, ℕ, ◌+◌, ◌-◌, ◌<◌, ◌≤◌, Bool, cond, not, ◌||◌, leb, List, [], ◌∷◌, length, drop, sym, ap, ◌∙◌, arith, length-drop, drop-drop, ⊎_elim}
 use Rattle.std.specs.List.{position_or_len, before_first}
 use Rattle.std.proofs.lemmas.Bool.{cases_lt, le-leb, lt-leb, cond-true, cond-false}
 use Rattle.std.proofs.lemmas.List.{take_all}
@@ -8,6 +8,7 @@ use Rattle.std.proofs.lemmas.List.Splits.{slice_split_first, slice_split_none}
 use Rattle.std.proofs.lemmas.List.Sums.{fails_before_first, prefix_len-le-length}
 use Rattle.cpu_list.specs.ListText.{is_comma, pieces, item_of, range_of, range_names, piece_names}
 use Rattle.cpu_list.specs.ItemFaults.{range_of-nil}
+use Rattle.std.proofs.Math.Bool.{or-false}
 
 -- the pieces of a text from a place on; none past its end
 abbrev pub pieces_from : List ℕ → ℕ → List (List ℕ)
@@ -51,10 +52,6 @@ pieces_more text at low =
 pub pieces_all : (text : List ℕ) (at : ℕ) → length text < at → pieces_from text at ≡ []
 pieces_all text at past = cond-false _ _ _ (lt-leb _ _ past)
 
-pub or_false : (b : Bool) → b ≡ (b || false)
-or_false true = refl
-or_false false = refl
-
 -- an empty item names no number
 pub nothing_named : (piece : List ℕ) (n : ℕ) (was : Bool) → item_of piece ≡ [] → was ≡ (was || piece_names n piece)
-nothing_named piece n was e = or_false was ∙ ap (λ r. was || range_names r n) (sym (ap range_of e ∙ range_of-nil))
+nothing_named piece n was e = sym (or-false was) ∙ ap (λ r. was || range_names r n) (sym (ap range_of e ∙ range_of-nil))

@@ -10,7 +10,8 @@ use Rattle.cpu_list.specs.ListText.{is_comma, leading_blanks, item_of, names, pi
 use Rattle.cpu_list.specs.FirstFault.{item_fault, faults_from, first_fault}
 use Rattle.faults.specs.First.{first_of}
 use Rattle.cpu_list.specs.FirstFaults.{none_where_list}
-use Rattle.cpu_list.proofs.Pieces.{pieces_from, pieces_none, pieces_more, pieces_all, first_fits, or_false}
+use Rattle.cpu_list.proofs.Pieces.{pieces_from, pieces_none, pieces_more, pieces_all, first_fits}
+use Rattle.std.proofs.Math.Bool.{or-false}
 
 -- the pieces before this place are right, and the set has what they name
 pub record IsRead (text : List ℕ) (limit at : ℕ) (s : Ids) : Type 0 where
@@ -63,6 +64,6 @@ pub IsRead-all : (text : List ℕ) (limit at : ℕ) (s : Ids) → IsRead text li
 IsRead-all text limit at s h past =
     let none = sym h.no_fault ∙ ap (λ ps. first_of (faults_from limit at ps)) (pieces_all text at past) in (
       none,
-      λ n. or_false (set.contains s n) ∙ sym (ap (λ ps. set.contains s n || list_any (piece_names n) ps) (pieces_all text at past)) ∙ h.named n,
+      λ n. sym (or-false (set.contains s n)) ∙ sym (ap (λ ps. set.contains s n || list_any (piece_names n) ps) (pieces_all text at past)) ∙ h.named n,
       (none_where_list limit text).0 none,
     )

@@ -142,8 +142,9 @@ says test (Some n) is = least-some_says test n is
 pub least-passes : LeastPasses
 least-passes test = says test _ refl
 
-below : (k n : ℕ) → k < n → IsCpu n → IsCpu k
-below k n lt is_cpu = omega arith
+-- what is below a CPU number is one
+pub is_cpu_below : (k n : ℕ) → k < n → IsCpu n → IsCpu k
+is_cpu_below k n lt is_cpu = omega arith
 
 pub least-first : LeastIsFirst
 least-first s test None same first = least-none test (λ k is_cpu. sym (same k is_cpu) ∙ first.0 k (omega arith))
@@ -151,7 +152,7 @@ least-first s test (Some n) same first =
     least-some test n (record {
       is_cpu = first.1;
       passes = sym (same n first.1) ∙ first.0.member;
-      least = λ k lt. sym (same k (below k n lt first.1)) ∙ first.0.least k (omega arith) lt;
+      least = λ k lt. sym (same k (is_cpu_below k n lt first.1)) ∙ first.0.least k (omega arith) lt;
     })
 
 pub least-difference : LeastOfDifference

@@ -1,6 +1,6 @@
 -- Sets that are written out as lists of numbers, as worked rows have them: what is asked of one is computed from its list.
 use Rattle.std.proofs.Common.{◌≡◌, ℕ, ◌+◌, Bool, true, false, cond, ◌&&◌, ◌||◌, nat_eq, List, [], ◌∷◌, ◌++◌, filter, inl, inr, refl, sym, ap, ◌∙◌, arith}
-use Rattle.std.proofs.lemmas.Bool.{and_parts, and_from, or_cases, false_from_ne_true}
+use Rattle.std.proofs.lemmas.Bool.{and_parts, and_from, or_cases, false_from_ne_true, eqb-true}
 use Rattle.std.proofs.lemmas.Bool.Decides.{nat_tests}
 use Rattle.std.proofs.lemmas.List.Folds.{list_any-append}
 use Rattle.std.specs.List.{list_any, list_all}
@@ -37,9 +37,6 @@ len-listed (k ∷ ks) =
 pub members-listed : (ks : List ℕ) → members (listed ks) ≡ filter (is_in ks) cpus
 members-listed ks = ap (λ test. filter test cpus) (contains-listed ks)
 
-are_equal : (k q : ℕ) → nat_eq k q ≡ true → k ≡ q
-are_equal k q e = grind (arith, nat_tests)
-
 joined : (is rest passes : Bool) → (is ≡ true → passes ≡ true) → (is || (rest && passes)) ≡ ((is || rest) && passes)
 joined true rest passes f = sym (f refl)
 joined false rest passes f = refl
@@ -55,8 +52,8 @@ is_in-filter p [] q = refl
 is_in-filter p (k ∷ ks) q = by_test (p k) refl (is_in-filter p ks q)
   where
     by_test : (b : Bool) → p k ≡ b → is_in (filter p ks) q ≡ (is_in ks q && p q) → is_in (cond b (k ∷ filter p ks) (filter p ks)) q ≡ ((nat_eq k q || is_in ks q) && p q)
-    by_test true e later = ap (λ b. nat_eq k q || b) later ∙ joined (nat_eq k q) (is_in ks q) (p q) (λ is. ap p (sym (are_equal k q is)) ∙ e)
-    by_test false e later = later ∙ left_out (nat_eq k q) (is_in ks q) (p q) (λ is. ap p (sym (are_equal k q is)) ∙ e)
+    by_test true e later = ap (λ b. nat_eq k q || b) later ∙ joined (nat_eq k q) (is_in ks q) (p q) (λ is. ap p (sym (eqb-true k q is)) ∙ e)
+    by_test false e later = later ∙ left_out (nat_eq k q) (is_in ks q) (p q) (λ is. ap p (sym (eqb-true k q is)) ∙ e)
 
 pub intersection-listed : (ks js : List ℕ) → set.intersection (listed ks) (listed js) ≡ listed (filter (is_in js) ks)
 intersection-listed ks js =
@@ -92,7 +89,7 @@ one_passes p [] all q there = cc
 one_passes p (k ∷ ks) all q there =
     let both = and_parts (p k) (list_all p ks) all in
     elim (or_cases (nat_eq k q) (is_in ks q) there) [
-      | inl is ↦ ap p (sym (are_equal k q is)) ∙ both.0
+      | inl is ↦ ap p (sym (eqb-true k q is)) ∙ both.0
       | inr later ↦ one_passes p ks both.1 q later
     ]
 

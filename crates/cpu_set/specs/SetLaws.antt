@@ -1,7 +1,7 @@
 -- Laws on sets of numbers, for the crates that stand on this one.
-use Rattle.std.proofs.Common.{◌≡◌, ℕ, zero, suc, ◌+◌, ◌<◌, Bool, true, false, not, cond, ◌&&◌, nat_lt, List, [], ◌∷◌, ◌++◌, length, filter, length-append, refl, sym, ap, subst, ◌∙◌, arith}
+use Rattle.std.proofs.Common.{◌≡◌, ℕ, zero, suc, ◌+◌, ◌<◌, Bool, true, false, cond, ◌&&◌, nat_lt, List, [], ◌∷◌, ◌++◌, length, filter, length-append, sym, ap, subst, ◌∙◌, arith, eq-eqb}
 use Rattle.std.specs.List.{range_with_len}
-use Rattle.std.proofs.lemmas.Bool.{true≢false, false≢true}
+use Rattle.std.proofs.lemmas.Bool.{true≢false, false≢true, ne_eqb}
 use Rattle.std.proofs.lemmas.Bool.Decides.{nat_tests}
 use Rattle.std.specs.Bool.{Decides}
 use Rattle.std.specs.Cmp.{nat_cmp_total}
@@ -12,10 +12,11 @@ use Rattle.std.specs.Prelude.{◌↔◌}
 use Rattle.cpu_set.specs.declared.TheConstants.{CPU_LIMIT}
 use Rattle.std.specs.FinSet as set
 use Rattle.std.specs.Ordering.{nat_cmp}
-use Rattle.cpu_set.specs.Ids.{Ids, IsDisjoint, NoneFrom}
+use Rattle.cpu_set.specs.Ids.{Ids, IsDisjoint, NoneFrom, is_empty}
 use Rattle.cpu_set.specs.Members.{InRange, cpus, members}
 use Rattle.cpu_set.specs.Those.{those, contains-those}
 use Rattle.cpu_set.specs.Pointwise.{same_members, contains-empty, contains-intersection, contains-difference, is_subset-contains, contains-is_subset}
+use Rattle.faults.specs.Tests.{never_both, without, none_left}
 
 -- a set is empty exactly if it has no member
 abbrev pub EmptyWhereNone : Type 0
@@ -37,13 +38,15 @@ MembersAreCounted = (s : Ids) → InRange s → length (members s) ≡ set.len s
 pub empty_of_none : (s : Ids) → NoneFrom s 0 → s ≡ set.empty
 empty_of_none s none = same_members s _ (λ q. none q (omega arith) ∙ sym (contains-empty q))
 
+-- the test whether a set is empty
+pub is_empty-empty : (s : Ids) → s ≡ set.empty → is_empty s ≡ true
+is_empty-empty s none = ap is_empty none ∙ eq-eqb _ _ (set.len-empty nat_cmp)
+
+pub is_empty-some : (s : Ids) → (s ≡ set.empty → ⊥) → is_empty s ≡ false
+is_empty-some s some = ne_eqb _ _ (λ e. some (set.empty_of_len s e))
+
 pub none_of_empty : (s : Ids) → s ≡ set.empty → (q : ℕ) → set.contains s q ≡ false
 none_of_empty s e q = ap (λ t. set.contains t q) e ∙ contains-empty q
-
-and_false : (a b : Bool) → (a ≡ true → b ≡ true → ⊥) → (a && b) ≡ false
-and_false true true f = absurd (f refl refl)
-and_false true false f = refl
-and_false false b f = refl
 
 not_both : (a b : Bool) → (a && b) ≡ false → a ≡ true → b ≡ true → ⊥
 not_both true b e p q = true≢false (sym q ∙ e)
@@ -55,16 +58,7 @@ meet_empty-IsDisjoint s t e n = not_both _ _ (sym (contains-intersection s t n) 
 
 pub IsDisjoint-meet_empty : (s t : Ids) → IsDisjoint s t → set.intersection s t ≡ set.empty
 IsDisjoint-meet_empty s t apart =
-    same_members _ _ (λ q. contains-intersection s t q ∙ and_false _ _ (apart q) ∙ sym (contains-empty q))
-
-without : (a b : Bool) → (a && not b) ≡ false → a ≡ true → b ≡ true
-without true true e p = refl
-without true false e p = absurd (true≢false e)
-without false b e p = absurd (false≢true p)
-
-none_left : (a b : Bool) → (a ≡ true → b ≡ true) → (a && not b) ≡ false
-none_left true b f = ap not (f refl)
-none_left false b f = refl
+    same_members _ _ (λ q. contains-intersection s t q ∙ never_both _ _ (apart q) ∙ sym (contains-empty q))
 
 -- a set is within another where nothing of it is left without the other
 pub is_subset-Decides : (s t : Ids) → Decides (set.is_subset s t) (set.difference s t ≡ set.empty)

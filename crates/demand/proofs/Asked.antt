@@ -1,7 +1,7 @@
 -- The last check, and what it leaves: a pinned container, or a shared one.
-use Rattle.std.proofs.Common.{◌≡◌, ℕ, zero, suc, ◌-◌, ◌*◌, ◌<◌, ◌≤◌, Bool, true, false, ◌||◌, Option, Some, None, refl, sym, ap, ◌∙◌, arith}
+use Rattle.std.proofs.Common.{◌≡◌, ℕ, zero, suc, ◌-◌, ◌*◌, ◌<◌, ◌≤◌, true, false, Option, Some, None, refl, sym, ap, ◌∙◌, arith}
 use Rattle.std.specs.Prelude.{is_some, unwrap_or}
-use Rattle.std.proofs.lemmas.Bool.{false≢true, both_ways}
+use Rattle.std.proofs.lemmas.Bool.{false≢true, both_ways, or_parts}
 use Rattle.std.specs.FinSet as set
 use Rattle.cpu_set.specs.Ids.{Ids}
 use Rattle.cpu_set.specs.Members.{InRange}
@@ -21,8 +21,9 @@ use Rattle.demand.specs.Allowed.{allowed_by, allowed_of}
 use Rattle.demand.specs.DemandFaultOf.{is_pinned, allowed_fault}
 use Rattle.demand.specs.IsDemand.{IsKind, IsDemand}
 use Rattle.demand.specs.FitsMachine.{FitsKind, AsksForCores, FitsMachine}
-use Rattle.demand.proofs.HomeNodes.{is_empty-none, is_empty-some}
 use Rattle.demand.proofs.FreeCpus.{IsGiven, allowed_is_given, allowed_is_whole, allowed_in_cores}
+use Rattle.machine.specs.CoreCounts.{none_has}
+use Rattle.cpu_set.specs.SetLaws.{is_empty-empty, is_empty-some}
 
 -- a shared container has no fault left
 pub shared_has_no_fault : (m : Layout) (s : Section) → is_pinned s ≡ false → allowed_fault m s ≡ None
@@ -32,7 +33,7 @@ shared_has_no_fault m s shared = rw shared refl
 -- a pinned one has where nothing is allowed
 pub nothing_is_a_fault : (m : Layout) (s : Section) → is_pinned s ≡ true → allowed_of m s ≡ set.empty → allowed_fault m s ≡ Some NothingAllowed
 unfolding allowed_fault
-nothing_is_a_fault m s pinned none = rw (pinned, is_empty-none (allowed_of m s) none) refl
+nothing_is_a_fault m s pinned none = rw (pinned, is_empty-empty (allowed_of m s) none) refl
 
 -- and has not where something is
 pub something_is_none : (m : Layout) (s : Section) → is_pinned s ≡ true → (allowed_of m s ≡ set.empty → ⊥) → allowed_fault m s ≡ None
@@ -43,10 +44,6 @@ shared_kind : (threads : ℕ) (limit : Option ℕ) (period : ℕ) (allowed : Ids
 shared_kind threads None period allowed s none shared = shared
 shared_kind threads (Some limit) period allowed s none shared = absurd (false≢true (sym none))
 
-neither : (a b : Bool) → (a || b) ≡ false → a ≡ false
-neither true b is = is
-neither false b is = refl
-
 -- a shared container's demand
 pub shared_demand :
     (m : Layout) (s : Section) (allowed homes : Ids) → is_pinned s ≡ false → allowed ≡ set.empty → homes ≡ homes_of m s.mems
@@ -54,7 +51,7 @@ pub shared_demand :
 shared_demand m s allowed homes shared none are_homes = record {
   homes = are_homes;
   allowed = rw shared none;
-  kind = shared_kind m.threads (limit_of s.quota) (period_of s.period) (allowed_of m s) s (neither _ _ shared) shared;
+  kind = shared_kind m.threads (limit_of s.quota) (period_of s.period) (allowed_of m s) s (or_parts _ _ shared).0 shared;
 }
 
 pinned_kind :
@@ -121,9 +118,6 @@ pinned_fits m limit period cpus allowed homes count asked are in_range is are_al
       in_reach = λ c has. (each c has).in_reach;
       whole = rw are_allowed (allowed_is_whole m cpus homes);
     }
-
-none_has : (s : Ids) (c : ℕ) → s ≡ set.empty → set.contains s c ≡ true → ⊥
-none_has s c none has = both_ways _ (contains-empty c) (ap (λ t. set.contains t c) (sym none) ∙ has)
 
 -- and so does a shared one's
 pub shared_fits :

@@ -14,7 +14,7 @@ use Rattle.machine.specs.CoreCounts.{len-whole_in}
 use Rattle.machine.specs.Cores.{cores_in, whole_in, IsWhole, AreCores}
 use Rattle.machine.specs.WholeLaws.{whole_in-within, whole_in-IsWhole}
 use Rattle.demand.specs.Allowed.{is_free, is_allowed, allowed_by}
-use Rattle.demand.proofs.HomeNodes.{is_empty-none, is_empty-some}
+use Rattle.cpu_set.specs.SetLaws.{is_empty-empty, is_empty-some}
 
 among_all : (p r h n : Bool) → h ≡ true → (p && not r) ≡ (p && (h || n) && not r)
 among_all true r true n is = refl
@@ -34,7 +34,7 @@ pub free_of_all :
     (m : Layout) (cpus : Ids) → cpus ≡ set.empty → (c : ℕ) → set.contains (set.difference (present m) m.reserved) c ≡ is_free m cpus c
 free_of_all m cpus none c =
     contains-difference (present m) m.reserved c
-    ∙ among_all (set.contains (present m) c) (set.contains m.reserved c) (is_empty cpus) (set.contains cpus c) (is_empty-none cpus none)
+    ∙ among_all (set.contains (present m) c) (set.contains m.reserved c) (is_empty cpus) (set.contains cpus c) (is_empty-empty cpus none)
 
 -- where one is
 pub free_of_named :

@@ -1,21 +1,14 @@
 -- Home nodes are nodes of the machine, and there is one.
-use Rattle.std.proofs.Common.{◌≡◌, ◌≢◌, ℕ, ◌≤◌, true, false, nat_lt, sym, ap, ◌∙◌, arith, eq-eqb}
-use Rattle.std.proofs.lemmas.Bool.{false≢true, ne_eqb, ltb-true}
+use Rattle.std.proofs.Common.{◌≡◌, ◌≢◌, ℕ, ◌≤◌, true, nat_lt, sym, ap, ◌∙◌, arith}
+use Rattle.std.proofs.lemmas.Bool.{false≢true, ltb-true}
 use Rattle.std.proofs.lemmas.Bool.Decides.{nat_tests}
-use Rattle.std.specs.Ordering.{nat_cmp}
 use Rattle.std.specs.FinSet as set
-use Rattle.cpu_set.specs.Ids.{Ids, is_empty}
+use Rattle.cpu_set.specs.Ids.{Ids}
 use Rattle.cpu_set.specs.Pointwise.{contains-empty}
 use Rattle.machine.specs.Layout.{Layout, node_count}
 use Rattle.machine.specs.Weight.{AreHomes}
 use Rattle.machine.specs.IsSound.{IsSound}
-
--- the test of a set without a member says so
-pub is_empty-none : (s : Ids) → s ≡ set.empty → is_empty s ≡ true
-is_empty-none s e = ap is_empty e ∙ eq-eqb _ _ (set.len-empty nat_cmp)
-
-pub is_empty-some : (s : Ids) → (s ≡ set.empty → ⊥) → is_empty s ≡ false
-is_empty-some s ne = ne_eqb _ _ (λ e. ne (set.empty_of_len s e))
+use Rattle.cpu_set.specs.SetLaws.{is_empty-empty, is_empty-some}
 
 first_node : (count : ℕ) → 1 ≤ count → nat_lt 0 count ≡ true
 first_node count some = grind (arith, nat_tests)
@@ -39,4 +32,4 @@ pub all_homes : (m : Layout) (nodes : Ids) → IsSound m → ((n : ℕ) → set.
 all_homes m nodes sound each =
     named_homes m nodes nodes (nodes_some nodes (node_count m) each sound.some) each (λ n has. has)
 
-pub ruleset home_nodes = (is_empty-none, is_empty-some, named_homes, all_homes)
+pub ruleset home_nodes = (is_empty-empty, is_empty-some, named_homes, all_homes)

@@ -1,34 +1,33 @@
 -- What tests that are put together say, and checks that are: what several crates need besides the kit's own lemmas.
-use Rattle.std.proofs.Common.{◌≡◌, ℕ, zero, suc, ◌<◌, Bool, true, false, not, ◌&&◌, ◌||◌, Option, Some, None, option_map, inl, inr, refl, sym, ap, ◌∙◌, arith}
+use Rattle.std.proofs.Common.{◌≡◌, ℕ, zero, suc, ◌<◌, Bool, true, false, not, ◌&&◌, ◌||◌, Option, Some, None, option_map, inl, inr, refl, sym, ap, ◌∙◌, arith, nat_lt}
 use Rattle.std.proofs.lemmas.Bool.{true≢false, false≢true, false_from_ne_true, cases_lt}
 use Rattle.std.specs.Option.{option_or}
 use Rattle.faults.specs.First.{when, first_below}
-
-pub and_no : (a : Bool) → (a && false) ≡ false
-and_no true = refl
-and_no false = refl
-
-pub and_yes : (a : Bool) → (a && true) ≡ a
-and_yes true = refl
-and_yes false = refl
-
-pub or_no : (a : Bool) → (a || false) ≡ a
-or_no true = refl
-or_no false = refl
-
-pub or_assoc : (a b c : Bool) → ((a || b) || c) ≡ (a || (b || c))
-or_assoc true b c = refl
-or_assoc false b c = refl
+use Rattle.std.proofs.lemmas.Bool.Decides.{nat_tests}
 
 pub never_both : (a b : Bool) → (a ≡ true → b ≡ true → ⊥) → (a && b) ≡ false
 never_both true b never = false_from_ne_true b (never refl)
 never_both false b never = refl
 
--- one test without another
+-- one test without others
 pub without : (a b : Bool) → (a && not b) ≡ false → a ≡ true → b ≡ true
 without true true e is = refl
 without true false e is = absurd (true≢false e)
 without false b e is = absurd (false≢true is)
+
+pub without_parts : (a b : Bool) → (a && not b) ≡ true → (a ≡ true) × (b ≡ false)
+without_parts true true e = absurd (false≢true e)
+without_parts true false e = (refl, refl)
+without_parts false b e = absurd (false≢true e)
+
+pub without_two : (a b c : Bool) → ((a && not b) && not c) ≡ (a && not (b || c))
+without_two true true c = refl
+without_two true false c = refl
+without_two false b c = refl
+
+pub without_none : (a : Bool) → a ≡ (a && not false)
+without_none true = refl
+without_none false = refl
 
 pub none_left : (a b : Bool) → (a ≡ true → b ≡ true) → (a && not b) ≡ false
 none_left true b f = ap not (f refl)
@@ -36,6 +35,10 @@ none_left false b f = refl
 
 pub left_over : (a b : Bool) → a ≡ true → b ≡ false → (a && not b) ≡ true
 left_over a b e f = rw (e, f) refl
+
+-- a test of a number
+pub none_above : (n : ℕ) → nat_lt 0 n ≡ false → n ≡ 0
+none_above n none = grind (arith, nat_tests)
 
 -- two tests that hold of one another are one
 pub same_tests : (a b : Bool) → (a ≡ true → b ≡ true) → (b ≡ true → a ≡ true) → a ≡ b

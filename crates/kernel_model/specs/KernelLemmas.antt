@@ -416,7 +416,7 @@ each_case_keeps old new w = record {
 }
 
 -- what a write leaves of the groups
-itself_alike : (s : TreeState) → StandAlike s s
+pub itself_alike : (s : TreeState) → StandAlike s s
 itself_alike s = record {
   before = λ p e at. tree.stands_itself s p e at;
   after = λ p e at. tree.stands_itself s p e at;

@@ -19,6 +19,7 @@ use Rattle.kernel_model.specs.Faults.{of_tree, of_proc}
 use Rattle.kernel_model.specs.KernelState.{KernelState}
 use Rattle.kernel_model.specs.Refusals.{make_refusal, remove_refusal, write_refusal, spawn_refusal, fork_refusal}
 use Rattle.kernel_model.specs.Laws.{MakeCause, RemoveCause, WriteCause, SpawnCause, EndCause, ForkCause, ExitCause, OfflineCause, OnlineCause, RefusalsHaveCauses, CallsAreFree}
+use Rattle.faults.specs.Tests.{none_above}
 
 -- a chain of refusals gives none where no test of it holds
 module _ {F : Type 0} where
@@ -135,9 +136,6 @@ left_some next h = grind (arith, nat_tests)
 none_left : (next : ℕ) → nat_lt LAST_PID next ≡ true → LAST_PID < next
 none_left next h = grind (arith, nat_tests)
 
-no_more : (count : ℕ) → nat_lt 0 count ≡ false → count ≡ 0
-no_more count h = grind (arith, nat_tests)
-
 pub nobody : (count : ℕ) → count ≡ 0 → nat_lt 0 count ≡ false
 nobody count h = grind (arith, nat_tests)
 
@@ -163,7 +161,7 @@ calls_are_free k = record {
         let child = none_if (is_root k.tree g) IsRoot (if has_children k.tree g then Some HasChildren else if nat_lt 0 (count_in k.table g) then Some HasProcesses else None) there.1 in
         let childless = none_if (has_children k.tree g) HasChildren (if nat_lt 0 (count_in k.table g) then Some HasProcesses else None) child.1 in
         let empty = none_if (nat_lt 0 (count_in k.table g)) HasProcesses None childless.1 in
-        (there.0, child.0, childless.0, no_more (count_in k.table g) empty.0)),
+        (there.0, child.0, childless.0, none_above (count_in k.table g) empty.0)),
     (λ h. remove_is k g
         ∙ free_unless (has_group k.tree g) NoGroup (if is_root k.tree g then Some IsRoot else if has_children k.tree g then Some HasChildren else if nat_lt 0 (count_in k.table g) then Some HasProcesses else None) h.0
         (free_if (is_root k.tree g) IsRoot (if has_children k.tree g then Some HasChildren else if nat_lt 0 (count_in k.table g) then Some HasProcesses else None) h.1

@@ -1,6 +1,6 @@
 -- Reading the cores one by one.
-use Rattle.std.proofs.Common.{◌≡◌, ℕ, ◌+◌, ◌<◌, inl, inr, Bool, true, false, cond, not, ◌&&◌, List, [], ◌∷◌, ◌++◌, length, get_or, map, take, Option, Some, None, refl, sym, ap, ◌∙◌, arith}
-use Rattle.std.specs.Prelude.{◌||◌, option_map, is_some}
+use Rattle.std.proofs.Common.{◌≡◌, ℕ, ◌+◌, ◌<◌, inl, inr, true, false, cond, not, ◌&&◌, List, [], ◌∷◌, ◌++◌, length, get_or, map, take, Option, Some, None, refl, sym, ap, ◌∙◌, arith}
+use Rattle.std.specs.Prelude.{option_map, is_some}
 use Rattle.std.proofs.lemmas.Bool.{cases_lt}
 use Rattle.std.proofs.lemmas.List.{take_more, take_all, ext_get_or, get_or-map, length-map}
 use Rattle.std.proofs.lemmas.List.Sums.{fold_push}
@@ -22,6 +22,7 @@ use Rattle.machine.specs.Listed.{listed}
 use Rattle.machine.specs.Present.{union_of}
 use Rattle.machine.proofs.CoreLaws.{lowest_of-at, lowest_of-long, lowest_in-none}
 use Rattle.machine.proofs.SubsetLaws.{is_subset-difference}
+use Rattle.faults.specs.Tests.{without_two, without_none}
 
 -- the fault of core i, after the cores before it
 abbrev pub fault_at : List Ids → Ids → List Ids → ℕ → Option MachineFault
@@ -35,14 +36,10 @@ pub record AreCoresRead (nodes : List Ids) (reserved : Ids) (cores : List Ids) (
   pub room : length lowest ≡ CPU_LIMIT
   pub each : (c : ℕ) → c < CPU_LIMIT → get_or lowest c 0 ≡ lowest_in (take i cores) c
 
-not_none : (a : Bool) → a ≡ (a && not false)
-not_none true = refl
-not_none false = refl
-
 left_by-none : (nodes : List Ids) → union_of nodes ≡ left_by nodes []
 left_by-none nodes =
     same_members _ _ (λ q.
-    not_none (set.contains (union_of nodes) q)
+    without_none (set.contains (union_of nodes) q)
     ∙ ap (λ b. set.contains (union_of nodes) q && not b) (sym (contains-empty q))
     ∙ sym (contains-difference (union_of nodes) set.empty q))
 
@@ -56,17 +53,12 @@ AreCoresRead-none nodes reserved cores left lowest all room own = record {
   each = λ c lt. own c lt ∙ sym (lowest_in-none c);
 }
 
-left_twice : (a b c : Bool) → ((a && not b) && not c) ≡ (a && not (b || c))
-left_twice true true c = refl
-left_twice true false c = refl
-left_twice false b c = refl
-
 difference-union : (a b c : Ids) → set.difference (set.difference a b) c ≡ set.difference a (set.union b c)
 difference-union a b c =
     same_members _ _ (λ q.
     contains-difference (set.difference a b) c q
     ∙ ap (λ x. x && not (set.contains c q)) (contains-difference a b q)
-    ∙ left_twice (set.contains a q) (set.contains b q) (set.contains c q)
+    ∙ without_two (set.contains a q) (set.contains b q) (set.contains c q)
     ∙ ap (λ x. set.contains a q && not x) (sym (contains-union b c q))
     ∙ sym (contains-difference a (set.union b c) q))
 

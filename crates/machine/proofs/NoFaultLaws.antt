@@ -18,7 +18,7 @@ use Rattle.cpu_set.specs.Least.{least_that}
 use Rattle.cpu_set.specs.LeastLaws.{least-none, least-none_says, least-some_says}
 use Rattle.cpu_set.specs.Members.{InRange}
 use Rattle.cpu_set.specs.Pointwise.{contains-difference, contains-intersection, contains-is_subset}
-use Rattle.cpu_set.specs.SetLaws.{empty_of_none}
+use Rattle.cpu_set.specs.SetLaws.{empty_of_none, is_empty-some}
 use Rattle.cpu_set.specs.Those.{contains-those}
 use Rattle.cpu_set.specs.declared.TheConstants.{CPU_LIMIT}
 use Rattle.cpu_list.specs.ListText.{names}
@@ -49,7 +49,7 @@ use Rattle.machine.proofs.CoreLaws.{AreShared, in_core, core_is}
 use Rattle.machine.specs.NodeLaws.{IsPresent-IsOfNode, of_one_node, union_of-has, found_in}
 use Rattle.machine.proofs.PlaceLaws.{is_core-all}
 use Rattle.machine.proofs.RowSteps.{entry_at}
-use Rattle.machine.proofs.SubsetLaws.{is_empty-some, is_subset-trans, is_subset-left}
+use Rattle.machine.proofs.SubsetLaws.{is_subset-trans, is_subset-left}
 
 list_fault-none : (field : Field) (d : Data) → is_list d ≡ true → list_fault field d ≡ None
 list_fault-none field d is = rw is refl

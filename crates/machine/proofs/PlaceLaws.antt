@@ -11,9 +11,8 @@ use Rattle.cpu_set.specs.Ids.{Ids, is_empty, NoneFrom, IsFirstFrom}
 use Rattle.cpu_set.specs.LeastLaws.{least-first}
 use Rattle.cpu_set.specs.Members.{IsCpu}
 use Rattle.cpu_set.specs.Pointwise.{contains-empty, is_subset-contains, contains-is_subset}
-use Rattle.cpu_set.specs.SetLaws.{empty_of_none}
+use Rattle.cpu_set.specs.SetLaws.{empty_of_none, is_empty-some}
 use Rattle.machine.proofs.CoreLaws.{left_and, one_of_two}
-use Rattle.machine.proofs.SubsetLaws.{is_empty-some}
 use Rattle.cpu_set.specs.Least.{least_of}
 use Rattle.machine.specs.CoresFault.{is_within, is_core}
 use Rattle.machine.specs.Index.{ArePlaces}

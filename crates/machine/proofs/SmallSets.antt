@@ -2,7 +2,7 @@
 use Rattle.std.proofs.Common.{◌≡◌, ℕ, ◌+◌, cond, Bool, true, false, not, ◌&&◌, nat_eq, List, [], ◌∷◌, ◌++◌, refl, sym, ap, ◌∙◌, arith}
 use Rattle.std.specs.Prelude.{◌==◌, ◌||◌, position, unwrap_or}
 use Rattle.std.specs.List.{list_any, list_all}
-use Rattle.std.proofs.lemmas.Bool.{true≢false, and_parts, and_from}
+use Rattle.std.proofs.lemmas.Bool.{true≢false, and_parts, and_from, or_right, eqb-true}
 use Rattle.faults.specs.Tests.{same_tests}
 use Rattle.std.proofs.lemmas.Bool.Decides.{nat_tests}
 use Rattle.std.specs.Ordering.{nat_cmp}
@@ -21,15 +21,8 @@ use Rattle.machine.specs.WholeLaws.{contains-cpus_of_core, contains-cores_in, co
 abbrev pub has : List ℕ → ℕ → Bool
 has ks q = list_any (λ y. nat_eq y q) ks
 
-same_number : (k q : ℕ) → nat_eq k q ≡ true → k ≡ q
-same_number k q is = grind (arith, nat_tests)
-
 itself : (k : ℕ) (b : Bool) → (nat_eq k k || b) ≡ true
 itself k b = grind (arith, nat_tests)
-
-behind : (a b : Bool) → b ≡ true → (a || b) ≡ true
-behind true b is = refl
-behind false b is = is
 
 -- a test that all numbers of a list pass, and one of them
 all_has : (p : ℕ → Bool) (ks : List ℕ) → list_all p ks ≡ true → (q : ℕ) → has ks q ≡ true → p q ≡ true
@@ -37,13 +30,13 @@ all_has p [] all q is = absurd (true≢false (sym is))
 all_has p (k ∷ ks) all q is = by (nat_eq k q) refl is (all_has p ks (and_parts _ _ all).1 q)
   where
     by : (b : Bool) → nat_eq k q ≡ b → (b || has ks q) ≡ true → (has ks q ≡ true → p q ≡ true) → p q ≡ true
-    by true same there others = ap p (sym (same_number k q same)) ∙ (and_parts _ _ all).0
+    by true same there others = ap p (sym (eqb-true k q same)) ∙ (and_parts _ _ all).0
     by false other there others = others there
 
 each_has : (p : ℕ → Bool) (ks : List ℕ) → ((q : ℕ) → has ks q ≡ true → p q ≡ true) → list_all p ks ≡ true
 each_has p [] each = refl
 each_has p (k ∷ ks) each =
-    and_from _ _ (each k (itself k (has ks k))) (each_has p ks (λ q there. each q (behind (nat_eq k q) _ there)))
+    and_from _ _ (each k (itself k (has ks k))) (each_has p ks (λ q there. each q (or_right (nat_eq k q) _ there)))
 
 implies : (a b : Bool) → (not a || b) ≡ true → a ≡ true → b ≡ true
 implies true b says is = says

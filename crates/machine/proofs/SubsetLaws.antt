@@ -1,11 +1,11 @@
 -- Which sets are within which.
-use Rattle.std.proofs.Common.{◌≡◌, Bool, true, false, ◌↔◌, ◌≢◌, not, refl, sym, ap, ◌∙◌, eq-eqb}
-use Rattle.std.proofs.lemmas.Bool.{true≢false, false≢true, false_from_ne_true, ne_eqb, and_parts}
-use Rattle.std.specs.Ordering.{nat_cmp}
+use Rattle.std.proofs.Common.{◌≡◌, Bool, true, false, ◌↔◌, ◌≢◌, not, refl, sym, ap, ◌∙◌}
+use Rattle.std.proofs.lemmas.Bool.{true≢false, false≢true, false_from_ne_true, and_parts}
 use Rattle.std.specs.FinSet as set
 use Rattle.faults.specs.Tests.{left_over}
 use Rattle.cpu_set.specs.Ids.{Ids, is_empty}
 use Rattle.cpu_set.specs.Pointwise.{contains-difference, is_subset-contains, contains-is_subset}
+use Rattle.cpu_set.specs.SetLaws.{is_empty-some, is_empty-empty}
 
 -- what is within a set is within each set round that
 pub is_subset-trans : (r s t : Ids) → set.is_subset r s ≡ true → set.is_subset s t ≡ true → set.is_subset r t ≡ true
@@ -27,11 +27,7 @@ is_subset-left r s t within taken =
     let outside = and_parts _ _ (sym (contains-difference s r q) ∙ is_subset-contains t (set.difference s r) taken q in_t) in
     true≢false (sym outside.1 ∙ ap not in_r))))
 
--- a set with a member is not empty
-pub is_empty-some : (s : Ids) → s ≢ set.empty → is_empty s ≡ false
-is_empty-some s some = ne_eqb _ _ (λ e. some (set.empty_of_len s e))
-
 -- a test that says whether a set is empty is the one of the definitions
 pub is_empty-as : (s : Ids) (e : Bool) → ((e ≡ true) ↔ (s ≡ set.empty)) → is_empty s ≡ e
-is_empty-as s true says = ap is_empty (says.0 refl) ∙ eq-eqb _ _ (set.len-empty nat_cmp)
+is_empty-as s true says = is_empty-empty s (says.0 refl)
 is_empty-as s false says = is_empty-some s (λ none. false≢true (says.1 none))

@@ -7,7 +7,7 @@ use Rattle.std.proofs.lemmas.Bool.Decides.{nat_tests}
 use Rattle.std.proofs.Math.Nat.{suc-mul}
 use Rattle.std.proofs.Math.Numerals.{add-one}
 use Rattle.std.specs.FinSet as set
-use Rattle.faults.specs.Tests.{and_no, and_yes, same_tests}
+use Rattle.faults.specs.Tests.{same_tests}
 use Rattle.cpu_set.specs.Ids.{Ids, IsDisjoint}
 use Rattle.cpu_set.specs.Members.{InRange}
 use Rattle.cpu_set.specs.Pointwise.{same_members, contains-empty, contains-remove, is_subset-contains, contains-is_subset}
@@ -18,6 +18,7 @@ use Rattle.machine.specs.Cores.{core_of, cpus_of_core, cores_in, cpus_of_cores, 
 use Rattle.machine.specs.Layout.{Layout}
 use Rattle.machine.specs.Present.{present, IsPresent}
 use Rattle.machine.specs.WholeLaws.{AreLowest, contains-cpus_of_core, contains-cores_in, contains-cpus_of_cores, in_own_core, present_sibling, whole_in-whole, cpus_of_cores-cores_in, cores_in-lowest}
+use Rattle.std.proofs.Math.Bool.{and-false, and-true}
 
 -- each core has as many CPUs as there are to a core, so cores have that many times as many
 abbrev pub CoresAreAlike : Type 0
@@ -136,7 +137,7 @@ no_cores m none zero_ =
     contains-cpus_of_cores m none c
     ∙ ap (λ s. nat_lt c CPU_LIMIT && set.contains s (core_of m c)) empty
     ∙ ap (λ b. nat_lt c CPU_LIMIT && b) (contains-empty (core_of m c))
-    ∙ and_no (nat_lt c CPU_LIMIT)
+    ∙ and-false (nat_lt c CPU_LIMIT)
     ∙ sym (contains-empty c) ∙ ap (λ s. set.contains s c) (sym empty)) in
     ap set.len same ∙ zero_ ∙ nothing (set.len none) m.threads zero_
 
@@ -146,7 +147,7 @@ counted_more :
     → set.len (cpus_of_cores m old) ≡ set.len old * m.threads → set.len (cpus_of_cores m new) ≡ set.len new * m.threads
 counted_more m old new n true are in_range lowest apart each more before =
     let there = lowest refl in
-    one_more m old new n are in_range there.0 there.1 apart (λ c. each c ∙ ap (λ b. b || set.contains old c) (and_yes (c == n)))
+    one_more m old new n are in_range there.0 there.1 apart (λ c. each c ∙ ap (λ b. b || set.contains old c) (and-true (c == n)))
     ∙ ap (λ k. k + m.threads) before
     ∙ plus_one (set.len old) (set.len new) m.threads more
 counted_more m old new n false are in_range lowest apart each more before =
@@ -189,7 +190,7 @@ len-whole_in m s are in_range within =
 
 -- ---- one CPU to a core
 
-none_has : (s : Ids) (c : ℕ) → s ≡ set.empty → set.contains s c ≡ true → ⊥
+pub none_has : (s : Ids) (c : ℕ) → s ≡ set.empty → set.contains s c ≡ true → ⊥
 none_has s c none has = true≢false (sym has ∙ ap (λ t. set.contains t c) none ∙ contains-empty c)
 
 less_one : (s : Ids) (a : ℕ) → set.len s ≡ 1 → set.contains s a ≡ true → set.len (set.remove s a) ≡ 0

@@ -8,7 +8,6 @@ use Rattle.std.proofs.lemmas.List.Sums.{sum_by-cons}
 use Rattle.std.specs.Cmp.{nat_cmp_total}
 use Rattle.std.specs.Ordering.{nat_cmp}
 use Rattle.std.specs.FinSet as set
-use Rattle.faults.specs.Tests.{or_no, and_yes}
 use Rattle.cpu_set.specs.Ids.{Ids}
 use Rattle.cpu_set.specs.Members.{InRange, members, cpus}
 use Rattle.cpu_set.specs.Pointwise.{same_members, contains-empty, contains-insert}
@@ -23,6 +22,7 @@ use Rattle.machine.specs.NodeLaws.{IsPresent-IsOfNode, node_found, weight_by_nod
 use Rattle.machine.specs.Present.{present, IsPresent}
 use Rattle.machine.specs.Weight.{weight}
 use Rattle.machine.specs.WholeLaws.{AreLowest, contains-cpus_of_core, contains-cpus_of_cores}
+use Rattle.std.proofs.Math.Bool.{and-true, or-false}
 
 -- what is the same of all CPUs of a core sums up over the CPUs of cores to as many times that over the cores as a core has CPUs
 abbrev pub CoresWeighAlike : Type 0
@@ -90,7 +90,7 @@ one n = set.insert set.empty n
 
 contains-one : (n c : ℕ) → set.contains (one n) c ≡ (c == n)
 unfolding one
-contains-one n c = contains-insert set.empty n c ∙ ap (λ b. (c == n) || b) (contains-empty c) ∙ or_no (c == n)
+contains-one n c = contains-insert set.empty n c ∙ ap (λ b. (c == n) || b) (contains-empty c) ∙ or-false (c == n)
 
 len-one : (n : ℕ) → set.len (one n) ≡ 1
 unfolding one
@@ -141,7 +141,7 @@ module _ (m : Layout) (cores : Ids) (f : ℕ → ℕ) (are : AreCores m) (in_ran
   sums_more : (old new : Ids) (n : ℕ) (v : Bool) → (v ≡ true → IsPresent m n × (core_of m n ≡ n)) → set.contains old n ≡ false
       → ((c : ℕ) → set.contains new c ≡ (((c == n) && v) || set.contains old c)) → Sums old → Sums new
   sums_more old new n true low apart is before =
-      sums_with old new n (low refl).0 (low refl).1 apart (λ c. is c ∙ ap (λ b. b || set.contains old c) (and_yes (c == n))) before
+      sums_with old new n (low refl).0 (low refl).1 apart (λ c. is c ∙ ap (λ b. b || set.contains old c) (and-true (c == n))) before
   sums_more old new n false low apart is before =
       let same : new ≡ old = same_members new old (λ c. is c ∙ and_none (c == n) (set.contains old c)) in
       rw same before

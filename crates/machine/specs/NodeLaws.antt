@@ -11,7 +11,6 @@ use Rattle.std.proofs.lemmas.List.Folds.{list_any_at, Any-from_list_any}
 use Rattle.std.proofs.lemmas.List.Quantifiers.{position-Some}
 use Rattle.std.proofs.lemmas.List.Sums.{fails_before_first}
 use Rattle.std.specs.FinSet as set
-use Rattle.faults.specs.Tests.{or_no, or_assoc, and_yes}
 use Rattle.cpu_set.specs.Ids.{Ids, IsDisjoint}
 use Rattle.cpu_set.specs.Pointwise.{same_members, contains-empty, contains-union}
 use Rattle.cpu_set.specs.Members.{members}
@@ -21,11 +20,12 @@ use Rattle.machine.specs.IsSound.{IsSound}
 use Rattle.machine.specs.Nodes.{nodes_of, node_of, IsOfNode}
 use Rattle.machine.specs.Present.{union_of, present, IsPresent}
 use Rattle.machine.specs.Weight.{weight, HaveOneWeight}
+use Rattle.std.proofs.Math.Bool.{and-true, or-false, or_assoc}
 
 contains-fold_union :
     (a : Ids) (xs : List Ids) (c : ℕ)
     → set.contains (fold set.union a xs) c ≡ (set.contains a c || list_any (λ s. set.contains s c) xs)
-contains-fold_union a [] c = sym (or_no _)
+contains-fold_union a [] c = sym (or-false _)
 contains-fold_union a (x ∷ xs) c =
     contains-fold_union (set.union a x) xs c
     ∙ ap (λ b. b || list_any (λ s. set.contains s c) xs) (contains-union a x c)
@@ -69,7 +69,7 @@ IsOfNode-at m c i at =
 
 -- a number is a node's where it is below the count of the nodes
 pub contains-nodes_of : (m : Layout) (n : ℕ) → set.contains (nodes_of m) n ≡ nat_lt n (node_count m)
-contains-nodes_of m n = contains-those (λ _. true) (node_count m) n ∙ and_yes _
+contains-nodes_of m n = contains-those (λ _. true) (node_count m) n ∙ and-true _
 
 up_to_last : (n count last : ℕ) (b : Bool) → 1 ≤ count → last ≡ count - 1 → b ≡ false → (b || (nat_le 0 n && nat_le n last)) ≡ nat_lt n count
 up_to_last n count last b some is none = grind (arith, nat_tests)

@@ -62,7 +62,7 @@ not_kept k es e = by (lookup (is_id (string_bytes k)) es) refl where
 abbrev Entries : Type 0
 Entries = List (List ℕ × ContainerState)
 
-same_id : (a b : List ℕ) → bytes_eq a b ≡ true → a ≡ b
+pub same_id : (a b : List ℕ) → bytes_eq a b ≡ true → a ≡ b
 same_id a b = (bytes_eq-Decides a b).0
 
 module _ (id : List ℕ) where

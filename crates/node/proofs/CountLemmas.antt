@@ -84,7 +84,7 @@ launch_done old parent name cpus mems made new l =
     let second : new.failures ≡ l.0.failures + 0 = start_counts l.0 made.0 cpus mems (Ok made.1) new l.2 in
     omega (arith, first, second)
 
-kept_count : (old new : NodeState) → new ≡ old → new.kernel.failures ≡ old.kernel.failures + 0
+pub kept_count : (old new : NodeState) → new ≡ old → new.kernel.failures ≡ old.kernel.failures + 0
 kept_count old new same = let e : new.kernel.failures ≡ old.kernel.failures = ap (λ (n : NodeState). n.kernel.failures) same in omega (arith, e)
 
 -- `create` and `adopt`

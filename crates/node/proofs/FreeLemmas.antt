@@ -1,6 +1,6 @@
 -- The CPUs that a new container may request.
 use Rattle.std.proofs.Common.{◌≡◌, ◌≢◌, ℕ, Bool, true, false, not, ◌&&◌, ◌||◌, List, [], ◌∷◌, refl, sym, ap, ◌∙◌, subst, arith}
-use Rattle.std.proofs.lemmas.Bool.{false≢true, ne_eqb}
+use Rattle.std.proofs.lemmas.Bool.{false≢true, ne_eqb, or_right}
 use Rattle.std.specs.Prelude.{Option, Some, None, MatchOption, Result, Err}
 use Rattle.std.specs.List.{AllByRecursion, list_any}
 use Rattle.std.specs.FinSet as set
@@ -22,6 +22,8 @@ use Rattle.node.specs.Refusals.{IsTakenFrom}
 use Rattle.node.specs.Calls.{Places, Creates}
 use Rattle.node.specs.MayRequest.{keeps, is_free_cpu, AreFreeCpus, MayRequest, IsLeastTaken}
 use Rattle.node.proofs.LaunchLemmas.{IsClear, MayHold}
+use Rattle.std.proofs.Math.Bool.{and-false, or_assoc, or-false}
+use Rattle.faults.specs.Tests.{without, without_parts}
 
 all_true : (a b c : Bool) → a ≡ true → b ≡ true → c ≡ true → (a && (b && c)) ≡ true
 all_true true true true p q r = refl
@@ -33,20 +35,12 @@ first_of_two : (a b : Bool) → a ≡ true → (a || b) ≡ true
 first_of_two true b e = refl
 first_of_two false b e = absurd (false≢true e)
 
-second_of_two : (a b : Bool) → b ≡ true → (a || b) ≡ true
-second_of_two true b e = refl
-second_of_two false b e = e
-
 -- a CPU that may be requested and is kept is reserved
 kept_is_reserved : (present reserved kept : Bool) → (present && (reserved || not kept)) ≡ true → kept ≡ true → reserved ≡ true
 kept_is_reserved true true kept free is = refl
 kept_is_reserved true false true free is = free
 kept_is_reserved true false false free is = is
 kept_is_reserved false reserved kept free is = absurd (false≢true free)
-
-none_and : (a : Bool) → (a && false) ≡ false
-none_and true = refl
-none_and false = refl
 
 -- what one container keeps
 module _ (k : KernelState) (pinned : Bool) (cpu : ℕ) (e : List ℕ × ContainerState) where
@@ -57,20 +51,12 @@ module _ (k : KernelState) (pinned : Bool) (cpu : ℕ) (e : List ℕ × Containe
   keeps_shared shared also =
       ap (λ b. is_live k e.1 && ((b || pinned) && set.contains (requested_by k e) cpu)) shared
       ∙ ap (λ b. is_live k e.1 && (b && set.contains (requested_by k e) cpu)) also
-      ∙ none_and (is_live k e.1)
+      ∙ and-false (is_live k e.1)
 
 -- what is kept so far, and what those that are left keep, is what all keep
 pub record KeptSoFar (k : KernelState) (pinned : Bool) (all left : List (List ℕ × ContainerState)) (kept : Ids) : Type 0 where
   pub whole : (cpu : ℕ) → (set.contains kept cpu || list_any (keeps k pinned cpu) left) ≡ list_any (keeps k pinned cpu) all
   pub placed : AllByRecursion (λ e. has_group k.tree e.1.group ≡ true) left
-
-or_then : (a b c : Bool) → ((a || b) || c) ≡ (a || (b || c))
-or_then true b c = refl
-or_then false b c = refl
-
-or_none : (a : Bool) → (a || false) ≡ a
-or_none true = refl
-or_none false = refl
 
 module _ (k : KernelState) (pinned : Bool) (all : List (List ℕ × ContainerState)) where
   pub kept_first : (kept : Ids) → kept ≡ set.empty → AllByRecursion (λ e. has_group k.tree e.1.group ≡ true) all → KeptSoFar k pinned all all kept
@@ -86,7 +72,7 @@ module _ (k : KernelState) (pinned : Bool) (all : List (List ℕ × ContainerSta
         ap (λ s. set.contains s cpu || list_any (keeps k pinned cpu) left) is
         ∙ ap (λ b. b || list_any (keeps k pinned cpu) left) (contains-union kept own cpu)
         ∙ ap (λ b. (set.contains kept cpu || b) || list_any (keeps k pinned cpu) left) (its cpu)
-        ∙ or_then (set.contains kept cpu) (keeps k pinned cpu e) (list_any (keeps k pinned cpu) left)
+        ∙ or_assoc (set.contains kept cpu) (keeps k pinned cpu e) (list_any (keeps k pinned cpu) left)
         ∙ so_far.whole cpu;
     placed = so_far.placed.1;
   }
@@ -94,7 +80,7 @@ module _ (k : KernelState) (pinned : Bool) (all : List (List ℕ × ContainerSta
   pub kept_last : (left : List (List ℕ × ContainerState)) (kept : Ids) → KeptSoFar k pinned all left kept → left ≡ [] → (cpu : ℕ)
       → set.contains kept cpu ≡ list_any (keeps k pinned cpu) all
   kept_last left kept so_far none cpu =
-      sym (or_none (set.contains kept cpu)) ∙ ap (λ (xs : List (List ℕ × ContainerState)). set.contains kept cpu || list_any (keeps k pinned cpu) xs) (sym none) ∙ so_far.whole cpu
+      sym (or-false (set.contains kept cpu)) ∙ ap (λ (xs : List (List ℕ × ContainerState)). set.contains kept cpu || list_any (keeps k pinned cpu) xs) (sym none) ∙ so_far.whole cpu
 
 module _ (n : NodeState) (h : IsNode n) (pinned : Bool) (cpus : Ids) (may : MayRequest n pinned cpus) where
   kept_reserved : (cpu : ℕ) → set.contains cpus cpu ≡ true → list_any (keeps n.kernel pinned cpu) n.containers ≡ true → set.contains n.kernel.reserved cpu ≡ true
@@ -109,7 +95,7 @@ module _ (n : NodeState) (h : IsNode n) (pinned : Bool) (cpus : Ids) (may : MayR
   clear_in (x ∷ xs) within = (
     λ live one cpu has there. kept_reserved cpu there
         (within cpu (first_of_two (keeps n.kernel pinned cpu x) (list_any (keeps n.kernel pinned cpu) xs) (all_true _ _ _ live one has))),
-    clear_in xs (λ cpu kept. within cpu (second_of_two (keeps n.kernel pinned cpu x) (list_any (keeps n.kernel pinned cpu) xs) kept)),
+    clear_in xs (λ cpu kept. within cpu (or_right (keeps n.kernel pinned cpu x) (list_any (keeps n.kernel pinned cpu) xs) kept)),
   )
 
   -- what a new container may request may be held beside the others
@@ -125,16 +111,6 @@ by_tests false reserved present kept within = refl
 by_tests true true true kept within = refl
 by_tests true true false kept within = absurd (false≢true (within refl))
 by_tests true false present kept within = refl
-
-not_left : (asked free : Bool) → (asked && not free) ≡ false → asked ≡ true → free ≡ true
-not_left true true e is = refl
-not_left true false e is = sym e
-not_left false free e is = absurd (false≢true is)
-
-is_left : (asked free : Bool) → (asked && not free) ≡ true → (asked ≡ true) × (free ≡ false)
-is_left true false e = (refl, refl)
-is_left true true e = absurd (false≢true e)
-is_left false free e = absurd (false≢true e)
 
 both_true : (a b : Bool) → a ≡ true → b ≡ true → (a && b) ≡ true
 both_true true b p q = q
@@ -171,7 +147,7 @@ module _ (n : NodeState) (pinned : Bool) (cpus kept : Ids) (within : set.is_subs
   all_reserved none cpu there =
       let out : (set.contains cpus cpu && not (set.contains n.machine.reserved cpu)) ≡ false =
       sym (contains-difference cpus n.machine.reserved cpu) ∙ ap (λ s. set.contains s cpu) none ∙ contains-empty cpu in
-      let reserved : set.contains n.machine.reserved cpu ≡ true = not_left _ _ out there in
+      let reserved : set.contains n.machine.reserved cpu ≡ true = without _ _ out there in
       reserved_free n pinned within cpu reserved
 
   module _ (kept_is : (cpu : ℕ) → set.contains kept cpu ≡ list_any (keeps n.kernel pinned cpu) n.containers) where
@@ -185,15 +161,15 @@ module _ (n : NodeState) (pinned : Bool) (cpus kept : Ids) (within : set.is_subs
         (list_any (keeps n.kernel pinned cpu) n.containers) (reserved_present cpu)
 
     pub none_taken : NoneFrom (set.difference others free) 0 → AreFreeCpus n pinned cpus
-    none_taken none cpu there = not_left _ _ (sym (taken cpu) ∙ none cpu (omega arith)) there
+    none_taken none cpu there = without _ _ (sym (taken cpu) ∙ none cpu (omega arith)) there
 
     pub least_taken : (cpu : ℕ) → IsFirstFrom (set.difference others free) 0 cpu → IsLeastTaken n pinned cpus cpu
     least_taken cpu first =
-        let its = is_left _ _ (sym (taken cpu) ∙ first.member) in
+        let its = without_parts _ _ (sym (taken cpu) ∙ first.member) in
         record {
           there = its.0;
           taken = its.1;
-          least = λ lower below there. not_left _ _ (sym (taken lower) ∙ first.least lower (omega arith) below) there;
+          least = λ lower below there. without _ _ (sym (taken lower) ∙ first.least lower (omega arith) below) there;
         }
 
 -- the same as the code has it, of the node as it is within

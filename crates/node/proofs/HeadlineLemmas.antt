@@ -41,7 +41,7 @@ use Rattle.node.specs.Best.{is_asking, CouldHave, IsBest}
 use Rattle.node.specs.Entries.{Target, entry_of, plan_pool, plan_targets, plan_entries, opened}
 use Rattle.node.specs.Rebalance.{Begun, Lacks, Begins, Moves, Finishes, Rebalances}
 use Rattle.node.specs.Leaves.{fault_rise, rise_or_memory}
-use Rattle.node.specs.Headline.{effective, HasItsCpus, IsServed, AreAlone, effective_sets, is_in_any, IsRebalanced, Headline}
+use Rattle.node.specs.Headline.{effective, HasItsCpus, IsServed, AreAlone, effective_sets, IsRebalanced, Headline}
 use Rattle.node.specs.Tells.{IsTold, TellsPlan, Tells}
 use Rattle.node.specs.BreaksOff.{IsBrokenOff, BreaksOff}
 use Rattle.node.specs.RebalanceLeaves.{RebalanceLeaves}
@@ -53,6 +53,7 @@ use Rattle.node.proofs.EntryCount.{entries_live}
 use Rattle.node.proofs.BestLemmas.{best_costs, best_least}
 use Rattle.node.proofs.FinishLemmas.{Settles, Breaks, settles, breaks}
 use Rattle.node.proofs.PlanLemmas.{IsDealt, over_targets, pool_has_rest, plan_serves, plan_parts, plan_effects, opened_ongoing, effects_later}
+use Rattle.certificate.specs.PlanFault.{is_held}
 
 abbrev Container : Type 0
 Container = List ℕ × ContainerState
@@ -220,11 +221,11 @@ module _ (old : NodeState) (h : IsNode old) (effects : TargetsTakeEffect) (sets 
   same_sets = ap (λ (es : List Container). effective_sets new.kernel es) s.containers ∙ sets_in_effect in_effect
 
   -- and the pool is what the plan leaves
-  pool_rest : (cpu : ℕ) → set.contains new.pool cpu ≡ (set.contains new.kernel.tree.online cpu && not (is_in_any (effective_sets new.kernel new.containers) cpu))
+  pool_rest : (cpu : ℕ) → set.contains new.pool cpu ≡ (set.contains new.kernel.tree.online cpu && not (is_held (effective_sets new.kernel new.containers) cpu))
   pool_rest cpu =
       ap (λ pool. set.contains pool cpu) s.pool ∙ pool_has_rest old.kernel.tree.online sets cpu
-      ∙ ap (λ online. set.contains online cpu && not (is_in_any sets cpu)) (sym s.online)
-      ∙ ap (λ ss. set.contains new.kernel.tree.online cpu && not (is_in_any ss cpu)) (sym same_sets)
+      ∙ ap (λ online. set.contains online cpu && not (is_held sets cpu)) (sym s.online)
+      ∙ ap (λ ss. set.contains new.kernel.tree.online cpu && not (is_held ss cpu)) (sym same_sets)
 
   -- which is the best that they could have
   pub settled : (total : ℕ) → IsBest old total sets → IsRebalanced old total new

@@ -1,20 +1,16 @@
 -- What is asked for and told of cores fits the numbers of CPUs.
-use Rattle.std.proofs.Common.{◌≡◌, ℕ, zero, suc, ◌*◌, ◌^◌, ◌<◌, ◌≤◌, Bool, true, false, cond, List, [], ◌∷◌, length, filter, get_or, inl, inr, Some, refl, subst, arith}
+use Rattle.std.proofs.Common.{◌≡◌, ℕ, zero, suc, ◌*◌, ◌^◌, ◌<◌, ◌≤◌, Bool, true, false, List, [], ◌∷◌, length, inl, inr, Some, refl, subst, arith}
 use Rattle.std.proofs.lemmas.Bool.{cases_lt, and_parts, leb-true}
 use Rattle.std.proofs.lemmas.List.Sums.{sum_by-cons}
-use Rattle.std.proofs.Math.Numerals.{add-one}
 use Rattle.std.proofs.lemmas.Nat.{mul-le}
 use Rattle.std.proofs.lemmas.Option.{none-some, same_Some}
-use Rattle.std.specs.Prelude.{All, slice_get}
+use Rattle.std.specs.Prelude.{slice_get}
 use Rattle.std.specs.List.{AllByRecursion, list_all}
-use Rattle.std.specs.List.Sorted.{IsStrictlyIncreasing}
 use Rattle.std.specs.FinSet as set
-use Rattle.cpu_set.specs.Ids.{Ids}
-use Rattle.cpu_set.specs.Members.{InRange, cpus}
-use Rattle.cpu_set.specs.SetLaws.{length-members, empty_of_none}
+use Rattle.cpu_set.specs.SetLaws.{empty_of_none}
 use Rattle.cpu_set.specs.Pointwise.{is_subset-contains}
 use Rattle.cpu_set.specs.declared.TheConstants.{CPU_LIMIT}
-use Rattle.certificate.specs.Cpus.{length-cpus}
+use Rattle.certificate.specs.Cpus.{len_small}
 use Rattle.certificate.specs.IsShortage.{asked, chosen, IsShortage}
 use Rattle.certificate.specs.Limits.{row_fits, rows_fit}
 use Rattle.certificate.specs.RowView.{RowView}
@@ -26,17 +22,7 @@ use Rattle.machine.specs.Present.{IsPresent}
 use Rattle.node.specs.IsNode.{IsMachine}
 use Rattle.node.proofs.AskingLemmas.{all_given, fewer_given}
 use Rattle.node.proofs.ListLemmas.{all_of}
-
--- a set has at most as many members as there may be
-filter_shorter : (p : ℕ → Bool) (xs : List ℕ) → length (filter p xs) ≤ length xs
-filter_shorter p [] = omega arith
-filter_shorter p (x ∷ xs) = by (p x) (filter_shorter p xs) where
-  by : (b : Bool) → length (filter p xs) ≤ length xs → length (cond b (x ∷ filter p xs) (filter p xs)) ≤ length (x ∷ xs)
-  by true rest = omega (arith, rest)
-  by false rest = omega (arith, rest)
-
-len_small : (s : Ids) → InRange s → set.len s ≤ CPU_LIMIT
-len_small s in_range = omega (arith, length-members s in_range, filter_shorter (set.contains s) cpus, length-cpus)
+use Rattle.certificate.specs.RisingNumbers.{few_numbers}
 
 -- a core has no more CPUs than a machine
 module _ (m : Layout) (h : IsMachine m) where
@@ -61,20 +47,6 @@ module _ (m : Layout) (h : IsMachine m) where
         by : (b : Bool) → set.contains m.reserved c ≡ b → b ≡ false
         by true has = absurd (let few = by_one c (reserved_there c has) in omega (arith, few, more))
         by false has = refl
-
--- numbers that rise below a limit are no more than it
-at_least : (ks : List ℕ) → IsStrictlyIncreasing ks → (i : ℕ) → i < length ks → i ≤ get_or ks i 0
-at_least ks rising zero lt = omega arith
-at_least ks rising (suc i) lt =
-    let next : get_or ks i 0 < get_or ks (suc i) 0 = subst (λ j. get_or ks i 0 < get_or ks j 0) (add-one i) (rising i (omega arith)) in
-    omega (arith, at_least ks rising i (omega arith))
-
-few_numbers : (ks : List ℕ) (n : ℕ) → IsStrictlyIncreasing ks → All (λ k. k < n) ks → length ks ≤ n
-few_numbers ks n rising below = by_length (length ks) (omega arith)
-  where
-    by_length : (m : ℕ) → m ≤ length ks → m ≤ n
-    by_length zero le = omega arith
-    by_length (suc m) le = omega (arith, at_least ks rising m (omega arith), below m 0 (omega arith))
 
 -- the members of a shortage ask for no more than that many times the most that a row may
 abbrev IsSmall : RowView → Type 0

@@ -6,7 +6,7 @@ use Rattle.std.specs.List.{AllByRecursion, AllZip}
 use Rattle.std.specs.FinSet as set
 use Rattle.cpu_set.specs.Ids.{Ids, IsDisjoint, is_empty}
 use Rattle.cpu_set.specs.Pointwise.{contains-difference, is_subset-contains, contains-is_subset}
-use Rattle.cpu_set.specs.SetLaws.{empty_of_none, none_of_empty}
+use Rattle.cpu_set.specs.SetLaws.{empty_of_none, none_of_empty, is_empty-empty, is_empty-some}
 use Rattle.cpuset_tree.specs.declared.Group.{Group}
 use Rattle.cpuset_tree.specs.Groups.{same_group, is_root_entry}
 use Rattle.kernel_model.specs.KernelState.{KernelState}
@@ -17,7 +17,6 @@ use Rattle.demand.specs.declared.Kind.TheVariants.{Pinned, Shared}
 use Rattle.demand.specs.FitsMachine.{FitsKind}
 use Rattle.apply_plan.specs.declared.Entry.{Entry}
 use Rattle.apply_plan.specs.Holders.{Pairwise}
-use Rattle.apply_plan.specs.KeptLemmas.{is_empty-empty, is_empty-some}
 use Rattle.apply_plan.specs.Targets.{IsPlaced as IsPlacedIn, ArePlaced, HaveOtherGroups, AreTargetsApart, IsHandover}
 use Rattle.apply_plan.specs.DueWrite.{held}
 use Rattle.apply_plan.specs.Effects.{CanTakeEffect}
@@ -26,12 +25,14 @@ use Rattle.node.specs.Owners.{Owner, is_pinned, owner_of, owners_of}
 use Rattle.node.specs.Status.{is_live}
 use Rattle.node.specs.Best.{AreOwn, CouldHave, is_asking, wanted_by}
 use Rattle.node.specs.Entries.{pool_of, Target, targets_in, entry_of, entries_in, plan_pool, plan_targets, plan_entries, opened}
-use Rattle.node.specs.Headline.{HasItsCpus, is_in_any}
+use Rattle.node.specs.Headline.{HasItsCpus}
 use Rattle.node.specs.IsNode.{IsAsked, IsNode, HaveOtherIds, IsPlaced}
 use Rattle.node.specs.Ongoing.{AreOf, IsSince, IsOngoing}
 use Rattle.node.proofs.DistanceLemmas.{pairs_by_recursion}
 use Rattle.node.proofs.ListLemmas.{all_map, all_of, pairs_map, all_of_map, of_all_map, pairs_of_map, of_pairs_map}
 use Rattle.node.proofs.LaunchLemmas.{names_apart, is_there}
+use Rattle.faults.specs.Tests.{without_parts, without_two, without_none}
+use Rattle.certificate.specs.PlanFault.{is_held}
 
 abbrev Container : Type 0
 Container = List ℕ × ContainerState
@@ -97,13 +98,8 @@ swapped C P [] h = tt
 swapped C P (x ∷ xs) h = (λ c in_c. (h c in_c).0, swapped C P xs (λ c in_c. (h c in_c).1))
 
 -- the pool: the online CPUs without those of all sets
-left_without : (a b : Bool) → (a && not b) ≡ true → (a ≡ true) × (b ≡ false)
-left_without true true e = absurd (false≢true e)
-left_without true false e = (refl, refl)
-left_without false b e = absurd (false≢true e)
-
 of_difference : (s t : Ids) (c : ℕ) → set.contains (set.difference s t) c ≡ true → (set.contains s c ≡ true) × (set.contains t c ≡ false)
-of_difference s t c e = left_without _ _ (sym (contains-difference s t c) ∙ e)
+of_difference s t c e = without_parts _ _ (sym (contains-difference s t c) ∙ e)
 
 pub pool_online : (online : Ids) (sets : List Ids) (c : ℕ) → set.contains (pool_of online sets) c ≡ true → set.contains online c ≡ true
 pool_online online [] c e = e
@@ -120,20 +116,11 @@ pool_has online (s ∷ sets) c e all =
     pool_has (set.difference online s) sets c (contains-difference online s c ∙ ap (λ b. b && not (set.contains s c)) e ∙ ap not all.0) all.1
 
 -- a CPU is in the pool where it is online and in none of the sets
-neither : (a b c : Bool) → ((a && not b) && not c) ≡ (a && not (b || c))
-neither true true c = refl
-neither true false c = refl
-neither false b c = refl
-
-nor_none : (a : Bool) → a ≡ (a && not false)
-nor_none true = refl
-nor_none false = refl
-
-pub pool_has_rest : (online : Ids) (sets : List Ids) (c : ℕ) → set.contains (pool_of online sets) c ≡ (set.contains online c && not (is_in_any sets c))
-pool_has_rest online [] c = nor_none (set.contains online c)
+pub pool_has_rest : (online : Ids) (sets : List Ids) (c : ℕ) → set.contains (pool_of online sets) c ≡ (set.contains online c && not (is_held sets c))
+pool_has_rest online [] c = without_none (set.contains online c)
 pool_has_rest online (s ∷ sets) c =
-    pool_has_rest (set.difference online s) sets c ∙ ap (λ b. b && not (is_in_any sets c)) (contains-difference online s c)
-    ∙ neither (set.contains online c) (set.contains s c) (is_in_any sets c)
+    pool_has_rest (set.difference online s) sets c ∙ ap (λ b. b && not (is_held sets c)) (contains-difference online s c)
+    ∙ without_two (set.contains online c) (set.contains s c) (is_held sets c)
 
 -- no set meets the pool
 pool_disjoint : (online : Ids) (sets : List Ids) → AllByRecursion (IsDisjoint (pool_of online sets)) sets

@@ -35,6 +35,7 @@ use Rattle.node.proofs.MakingLemmas.{calls_then}
 use Rattle.node.proofs.ContainerLemmas.{found_owner}
 use Rattle.node.proofs.UpdateLemmas.{cpus_made, either, set_found, done_states_safe, refused_states_safe}
 use Rattle.node.proofs.NodeLemmas.{updated_node, not_updated_node}
+use Rattle.node.proofs.CountLemmas.{kept_count}
 
 module _ (make : Bool) (old : KernelState) (g : Group) (r : Result (Unit {0}) KernelFault) (new : KernelState) where
   none_fails : (r ≡ Ok tt) × (new ≡ old) → new.failures ≡ old.failures + rise r
@@ -179,9 +180,6 @@ rewrites_fail parent id reserved c xs found old h asked new fault (inr (done, mi
     mems_fails parent id reserved c mid still asked.homes (moves_home c.demand asked) fault new second
 
 -- `update`
-kept_count : (old new : NodeState) → new ≡ old → new.kernel.failures ≡ old.kernel.failures + 0
-kept_count old new same = let e : new.kernel.failures ≡ old.kernel.failures = ap (λ (n : NodeState). n.kernel.failures) same in omega (arith, e)
-
 kept_few : (old new : NodeState) → new ≡ old → new.kernel.writes ≤ old.kernel.writes + 2
 kept_few old new same = let e : new.kernel.writes ≡ old.kernel.writes = ap (λ (n : NodeState). n.kernel.writes) same in omega (arith, e)
 

@@ -1,6 +1,5 @@
 -- What each container asks for is what the config says that was read for it last.
-use Rattle.std.proofs.Common.{◌≡◌, ◌⊎◌, inl, inr, ℕ, Bool, true, false, cond, zero, suc, List, [], ◌∷◌, ◌++◌, Some, None, refl, sym, ap, ◌∙◌, subst, append_assoc, arith}
-use Rattle.std.proofs.lemmas.Bool.{false≢true}
+use Rattle.std.proofs.Common.{◌≡◌, ◌⊎◌, inl, inr, ℕ, false, cond, zero, suc, List, [], ◌∷◌, ◌++◌, Some, None, refl, sym, ap, ◌∙◌, subst, append_assoc, arith}
 use Rattle.std.proofs.lemmas.List.{append-nil}
 use Rattle.std.proofs.lemmas.List.Elements.{Contains-append_left, Contains-append_right}
 use Rattle.std.proofs.lemmas.Option.{none-some}
@@ -30,6 +29,7 @@ use Rattle.node.specs.Machine.Event.{Create, Adopt, Update, Start, Kill, Delete,
 use Rattle.node.specs.Said.{IsMadeOf, reads_for, IsAskedIn, IsSaid, ContainersAreSaid}
 use Rattle.node.proofs.ContainerLemmas.{split, all_started, each_left}
 use Rattle.node.proofs.ListLemmas.{all_push, all_map, pairs_push}
+use Rattle.node.proofs.LaunchLemmas.{swapped_ids}
 
 abbrev Entries : Type 0
 Entries = List (List ℕ × ContainerState)
@@ -102,12 +102,6 @@ OtherIds x y = bytes_eq x.0 y.0 ≡ false
 abbrev Apart : Entries → Type 0
 Apart xs = Pairwise OtherIds xs
 
-flip : (a b : List ℕ) → bytes_eq a b ≡ false → bytes_eq b a ≡ false
-flip a b other = by (bytes_eq b a) refl where
-  by : (t : Bool) → bytes_eq b a ≡ t → bytes_eq b a ≡ false
-  by false is = is
-  by true is = absurd (false≢true (sym other ∙ (bytes_eq-Decides a b).1 (sym ((bytes_eq-Decides b a).0 is))))
-
 module _ (id : List ℕ) where
   abbrev IsOther : List ℕ × ContainerState → Type 0
   IsOther x = bytes_eq id x.0 ≡ false
@@ -121,7 +115,7 @@ module _ (id : List ℕ) where
 
   apart_new : (xs : Entries) (c : ContainerState) → AllByRecursion IsOther xs → Apart xs → Apart (xs ++ (id, c) ∷ [])
   apart_new xs c others apart =
-      pairs_push OtherIds xs (id, c) apart (all_map IsOther (λ x. OtherIds x (id, c)) (λ x other. flip id x.0 other) xs others)
+      pairs_push OtherIds xs (id, c) apart (all_map IsOther (λ x. OtherIds x (id, c)) (λ x other. swapped_ids id x.0 other) xs others)
 
   -- ids stay where a container is replaced
   all_set : (P : List ℕ → Type 0) (xs : Entries) (d : ContainerState) → AllByRecursion (λ x. P x.0) xs → AllByRecursion (λ x. P x.0) (set_value (bytes_eq id) xs d)

@@ -2,7 +2,6 @@
 use Rattle.std.proofs.Common.{◌≡◌, ◌⊎◌, inl, inr, ℕ, ◌<◌, Bool, true, false, not, ◌&&◌, ◌||◌, cond, List, [], ◌∷◌, Some, refl, sym, ap, ◌∙◌, subst, arith}
 use Rattle.std.proofs.lemmas.Bool.{ne_eqb}
 use Rattle.std.proofs.lemmas.Option.{none-some}
-use Rattle.std.proofs.lemmas.Slice.Eq.{bytes_eq-Decides}
 use Rattle.std.specs.Prelude.{map, Result, Ok, Err}
 use Rattle.std.specs.List.{AllByRecursion, AllZip}
 use Rattle.std.specs.Map.{lookup, set_value}
@@ -31,7 +30,7 @@ use Rattle.node.specs.IsNode.{HaveOtherIds, IsPlaced, IsFirst, IsOwned, Holds}
 use Rattle.node.specs.Updates.{MadeIf, becomes_pinned, gives_way, moves_home, Rewrites, made_states, rewrite_states}
 use Rattle.node.proofs.ListLemmas.{all_append}
 use Rattle.node.proofs.HoldsLemmas.{AreSafeOwners, of_safe, to_safe}
-use Rattle.node.proofs.ContainerLemmas.{split, found_owner}
+use Rattle.node.proofs.ContainerLemmas.{split, found_owner, same_id}
 use Rattle.node.proofs.LaunchLemmas.{machine_then, child_differs, names_apart}
 
 -- facts on two lists, place by place, carried from the one to the other
@@ -237,9 +236,6 @@ module _ (parent : Group) (old new : KernelState) (g : Group) (w : Rewritten old
 abbrev Entries : Type 0
 Entries = List (List ℕ × ContainerState)
 
-same_bytes : (a b : List ℕ) → bytes_eq a b ≡ true → a ≡ b
-same_bytes a b = (bytes_eq-Decides a b).0
-
 -- of one container the record is another, and nothing else differs
 module _ (parent : Group) (old new : KernelState) (id : List ℕ) (c : ContainerState) (w : Rewritten old new c.group) (child : IsChild old.tree parent id c.group) where
   other_eased : (o : Owner) → bytes_eq id o.id ≡ false → IsPlaced old.tree parent o → Eased old new o o
@@ -264,7 +260,7 @@ module _ (parent : Group) (old new : KernelState) (id : List ℕ) (c : Container
         let here : Eased old new (owner_of x) (owner_of (x.0, d)) =
         subst (λ (y : ContainerState). Eased old new (owner_of (x.0, y)) (owner_of (x.0, d))) (sym is) (own x.0) in
         let others : AllByRecursion (λ o. bytes_eq id o.id ≡ false) (owners_of xs) =
-        subst (λ y. AllByRecursion (λ o. bytes_eq y o.id ≡ false) (owners_of xs)) (sym (same_bytes id x.0 t)) distinct.0 in
+        subst (λ y. AllByRecursion (λ o. bytes_eq y o.id ≡ false) (owners_of xs)) (sym (same_id id x.0 t)) distinct.0 in
         subst (λ b. AllZip (Eased old new) (owners_of (x ∷ xs)) (owners_of (cond b ((x.0, d) ∷ xs) (x ∷ set_value (bytes_eq id) xs d)))) (sym t)
         (here, others_eased (owners_of xs) others placed.1))
         (λ t.

@@ -24,6 +24,7 @@ use Rattle.node.specs.Owners.{is_pinned}
 use Rattle.node.specs.Status.{is_live}
 use Rattle.rows.specs.RowOf.{available}
 use Rattle.node.specs.Best.{AreOwn, asking, wanted_by, CouldHave, is_asking, IsBest}
+use Rattle.certificate.specs.PlanFault.{is_held}
 
 -- the CPUs that a container has in effect
 abbrev pub effective : KernelState → List ℕ × ContainerState → Ids
@@ -49,10 +50,6 @@ abbrev pub effective_sets : KernelState → List (List ℕ × ContainerState) �
 effective_sets k [] = []
 effective_sets k (e ∷ later) = cond (is_asking k e) (effective k e ∷ effective_sets k later) (effective_sets k later)
 
--- one of these sets has the CPU
-abbrev pub is_in_any : List Ids → ℕ → Bool
-is_in_any sets cpu = list_any (λ cpus. set.contains cpus cpu) sets
-
 -- after a plan of this total. Each live container has exactly the CPUs that it asked for, all allowed and none shared. A
 -- pinned one has of each core all or none. What they have is the best that they could have, at this distance to the home
 -- nodes. The pool is the online CPUs that are in none of these sets. The same containers live as before.
@@ -60,7 +57,7 @@ pub record IsRebalanced (old : NodeState) (total : ℕ) (new : NodeState) : Type
   pub served : AllByRecursion (IsServed new.kernel new.machine new.pool) new.containers
   pub alone : Pairwise (AreAlone new.kernel) new.containers
   pub best : IsBest old total (effective_sets new.kernel new.containers)
-  pub pool : (cpu : ℕ) → set.contains new.pool cpu ≡ (set.contains new.kernel.tree.online cpu && not (is_in_any (effective_sets new.kernel new.containers) cpu))
+  pub pool : (cpu : ℕ) → set.contains new.pool cpu ≡ (set.contains new.kernel.tree.online cpu && not (is_held (effective_sets new.kernel new.containers) cpu))
   pub same : new.containers ≡ old.containers
   pub lives : new.kernel.table ≡ old.kernel.table
 

@@ -12,6 +12,7 @@ use Rattle.machine.specs.Layout.{Layout}
 use Rattle.machine.specs.Nodes.{node_of}
 use Rattle.machine.specs.Present.{present}
 use Rattle.rows.specs.Chains.{IsLastBelow, AreChains}
+use Rattle.faults.specs.Tests.{none_above}
 
 replicate_zero : (n i : ℕ) → get_or (replicate {A = ℕ} n 0) i 0 ≡ 0
 replicate_zero n i = elim (cases_lt i n) [
@@ -100,16 +101,13 @@ AreChains-more weights last next more_last more_next n v before chains few is ne
       ];
     }
 
-none_left : (p : ℕ) → nat_lt 0 p ≡ false → p ≡ 0
-none_left p none = grind (arith, nat_tests)
-
 -- where a chain is empty, no node has its weight
 pub no_node :
     (weights last next : List ℕ) (w k : ℕ) → AreChains weights last next NODE_LIMIT → ((i : ℕ) → NODE_LIMIT ≤ i → get_or weights i 255 ≡ 255)
     → w < 255 → nat_lt 0 (get_or last w 0) ≡ false → get_or weights k 255 ≡ w → ⊥
 no_node weights last next w k chains beyond lt none is = elim (cases_lt k NODE_LIMIT) [
   | inl below ↦
-      let first : get_or last w 0 ≡ 0 = none_left (get_or last w 0) none in
+      let first : get_or last w 0 ≡ 0 = none_above (get_or last w 0) none in
       (chains.last_at w lt).none_after k (omega arith) below is
   | inr past ↦ let far : get_or weights k 255 ≡ 255 = beyond k (omega arith) in absurd (omega (arith, far, is, lt))
 ]

@@ -19,9 +19,9 @@ use Rattle.cpuset_tree.specs.TreeLemmas.{root_is_there}
 use Rattle.apply_plan.specs.declared.Entry.{Entry}
 use Rattle.apply_plan.specs.Holders.{Pairwise}
 use Rattle.apply_plan.specs.Targets.{AreTargetsApart}
-use Rattle.apply_plan.specs.KeptLemmas.{is_empty-empty}
 use Rattle.scenarios.specs.Free.{IsFree, with_pinned, AreFree}
 use Rattle.apply_plan.specs.ListLemmas.{all_map, all_map2, all_of}
+use Rattle.cpu_set.specs.SetLaws.{is_empty-empty}
 
 -- what is in two sets is in a set exactly where their meeting is within that
 pub meets_within : (s t within : Ids) → (set.is_subset (set.intersection s t) within ≡ true)

@@ -4,7 +4,7 @@ use Rattle.std.specs.FinSet as set
 use Rattle.std.specs.Cmp.{nat_cmp_total}
 use Rattle.std.specs.Prelude.{slice_set as set_at}
 use Rattle.std.proofs.lemmas.List.{length_push, get_or_push, get_or_append_left, get_or_read, length-set, get_or-set_same, get_or-set_other}
-use Rattle.std.proofs.lemmas.Bool.{cases_eq, cases_lt, cases_Bool, or_cases, or_left, or_right, eqb-true}
+use Rattle.std.proofs.lemmas.Bool.{cases_eq, cases_lt, cases_Bool, or_cases, or_left, or_right, eqb-true, both_ways}
 use Rattle.std.proofs.lemmas.Bool.Decides.{nat_tests}
 use Rattle.cpu_set.specs.Ids.{Ids}
 use Rattle.cpu_set.specs.Pointwise.{contains-empty, contains-insert, contains-remove}
@@ -22,8 +22,8 @@ use Rattle.transport.specs.declared.arcs.SortedArcs.{SortedArcs}
 use Rattle.transport.specs.declared.assignment.Assignment.{Assignment}
 use Rattle.transport.specs.declared.tree.SearchTree.{SearchTree}
 use Rattle.transport.specs.declared.tree.TreeClasses.{TreeClasses}
-use Rattle.transport.proofs.Numbers.{not_both}
 use Rattle.transport.proofs.Labelling.{better_same, better_more, covered_past, past_rise}
+use Rattle.faults.specs.Tests.{left_over}
 
 pub no_blocks : (firsts : List ℕ) (arcs : List Arc) → AreBlocks firsts arcs 0 []
 no_blocks firsts arcs = record {
@@ -260,7 +260,7 @@ pub left_within : (before left : Ids) (cpu c : ℕ) → left ≡ set.remove befo
 left_within before left cpu c less on = was (c == cpu) _ (sym (contains-remove before cpu c) ∙ subst (λ s. set.contains s c ≡ true) less on)
   where
     was : (a b : Bool) → (not a && b) ≡ true → b ≡ true
-    was true b on = absurd (not_both _ on refl)
+    was true b on = absurd (both_ways _ refl on)
     was false b on = on
 
 pub left_fewer : (before left : Ids) (cpu : ℕ) → left ≡ set.remove before cpu → set.contains before cpu ≡ true → set.len left < set.len before
@@ -270,7 +270,7 @@ left_fewer before left cpu less on = omega (arith, fewer, some)
     fewer = ap set.len less ∙ set.len-remove nat_cmp_total before cpu ∙ ap (λ b. cond b (set.len before - 1) (set.len before)) on
 
     some : set.len before ≡ 0 → ⊥
-    some none = not_both _ on (ap (λ s. set.contains s cpu) (set.empty_of_len before none) ∙ contains-empty cpu)
+    some none = both_ways _ (ap (λ s. set.contains s cpu) (set.empty_of_len before none) ∙ contains-empty cpu) on
 
 -- a class of a block can be labelled
 pub block_arc : (ws : ℕ → ℕ → Option ℕ) (s : Assignment) (t mid : SearchTree) (k : ℕ) (firsts : List ℕ) (block : Block) (taken left : Ids) (cpu g : ℕ) → CanLabelBlock (ws k) s.residual.items firsts block → set.contains block.firsts cpu ≡ true
@@ -290,16 +290,11 @@ block_arc ws s t mid k firsts block taken left cpu g can has marks off own on h 
   where
     still_left : IsFirstOf firsts g cpu → is_taken t.tree_classes g ≡ false
     still_left f = elim (cases_Bool (is_taken t.tree_classes g)) [
-      | inl up ↦ absurd (not_both _ (subst (λ n. set.contains taken n ≡ true) f.is (marks.all g f.within up)) off)
+      | inl up ↦ absurd (both_ways _ off (subst (λ n. set.contains taken n ≡ true) f.is (marks.all g f.within up)))
       | inr not ↦ not
     ]
 
 -- ---- what is passed over
-
-both : (a b : Bool) → a ≡ true → b ≡ false → (a && not b) ≡ true
-both true true on off = absurd (not_both _ refl off)
-both true false on off = refl
-both false b on off = absurd (not_both _ on refl)
 
 -- what of a block is passed over is covered, before any of it is labelled
 pub block_start : (ws : ℕ → ℕ → Option ℕ) (s : Assignment) (t : SearchTree) (k : ℕ) (firsts : List ℕ) (block : Block) (passed left : Ids) → IsRunning ws s t → CanLabelBlock (ws k) s.residual.items firsts block → ArePassed ws s t firsts passed
@@ -309,14 +304,14 @@ block_start ws s t k firsts block passed left run can h there is = record {
   free_end = refl;
   each = λ cpu g has lt e off. elim (cases_Bool (set.contains passed cpu)) [
     | inl on ↦ inr (h.only cpu g k block.weight on lt e off there ((can cpu has).1 g lt e).0)
-    | inr out ↦ inl (is cpu ∙ both _ _ has out)
+    | inr out ↦ inl (is cpu ∙ left_over _ _ has out)
   ];
 }
 
 -- what is passed over before a scan: no more than what is taken up
 pub passed_start : (ws : ℕ → ℕ → Option ℕ) (s : Assignment) (t : SearchTree) (firsts : List ℕ) (cpus : Ids) → AreTakenFirsts firsts cpus t.tree_classes → ArePassed ws s t firsts cpus
 passed_start ws s t firsts cpus h = record {
-  only = λ cpu g k w on lt is off there weighs. absurd (not_both _ (h.only cpu g on lt is) off);
+  only = λ cpu g k w on lt is off there weighs. absurd (both_ways _ off (h.only cpu g on lt is));
   all = h.all;
 }
 
@@ -383,7 +378,7 @@ blocks_labelled ws s t mid new k firsts blocks at block is h n = record {
         let weight : block.weight ≡ w = ap (λ (x : Block). x.weight) (sym same) ∙ b.weight in
         let has : set.contains block.firsts cpu ≡ true = subst (λ (x : Block). set.contains x.firsts cpu ≡ true) same b.has in
         elim (n.each cpu g has in_firsts first off) [
-          | inl on ↦ absurd (not_both _ on (contains-empty cpu))
+          | inl on ↦ absurd (both_ways _ (contains-empty cpu) on)
           | inr covered ↦ subst (λ x. IsCovered s.values.items s.prices.items new.labels k g x) weight covered
         ]
 

@@ -1,12 +1,11 @@
 -- What a search marked and labelled, cleared place by place.
 use Rattle.std.proofs.Common.{◌≡◌, ℕ, ◌+◌, ◌<◌, ◌≤◌, Bool, true, false, Option, Some, None, List, length, get_or, set, ◌⊎◌, refl, sym, ap, ◌∙◌, subst, inl, inr, arith}
 use Rattle.std.proofs.lemmas.List.{length-set, get_or-set_same, get_or-set_other}
-use Rattle.std.proofs.lemmas.Bool.{cases_eq, cases_Bool}
+use Rattle.std.proofs.lemmas.Bool.{cases_eq, cases_Bool, both_ways}
 use Rattle.transport.specs.Numbers.{number, is_marked, IsIn}
 use Rattle.transport.specs.Searches.{never, AreNeverDue}
 use Rattle.transport.specs.Settled.{IsForgotten}
 use Rattle.transport.specs.declared.labels.Label.{Label}
-use Rattle.transport.proofs.Numbers.{not_both}
 
 -- the number stands in the list, not before that place
 pub record IsToCome (ns : List ℕ) (from n : ℕ) : Type 0 where
@@ -39,7 +38,7 @@ pub unmarking_more : (old marks : List Bool) (places : List ℕ) (i n : ℕ) →
 unmarking_more old marks places i n h is within = record {
   long = length-set marks n false ∙ h.long;
   left = λ k on. elim (cases_eq k n) [
-    | inl same ↦ absurd (not_both _ on (ap (is_marked (set marks n false)) same ∙ get_or-set_same marks n false false (omega (arith, is, within, h.long))))
+    | inl same ↦ absurd (both_ways _ (ap (is_marked (set marks n false)) same ∙ get_or-set_same marks n false false (omega (arith, is, within, h.long))) on)
     | inr other ↦ still_to_come places i k (λ e. other (e ∙ sym is)) (h.left k (sym (get_or-set_other marks n k false false other) ∙ on))
   ];
 }

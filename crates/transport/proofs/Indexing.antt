@@ -3,20 +3,19 @@ use Rattle.std.proofs.Common.{◌≡◌, ℕ, ◌+◌, ◌<◌, List, length, se
 use Rattle.std.specs.Prelude.{◌||◌, ◌==◌}
 use Rattle.std.specs.FinSet as finset
 use Rattle.std.proofs.lemmas.List.{length-set, get_or-set_same, get_or-set_other}
-use Rattle.std.proofs.lemmas.Bool.{cases_eq, eq-eqb, ne_eqb, or_right}
+use Rattle.std.proofs.lemmas.Bool.{cases_eq, eq-eqb, ne_eqb, or_right, both_ways}
 use Rattle.cpu_set.specs.Ids.{Ids}
 use Rattle.cpu_set.specs.Members.{IsCpu}
 use Rattle.cpu_set.specs.Pointwise.{contains-empty, contains-insert}
 use Rattle.cpu_set.specs.declared.TheConstants.{CPU_LIMIT}
 use Rattle.transport.specs.Numbers.{number, IsEachOnce}
 use Rattle.transport.specs.Representatives.{IsIndex}
-use Rattle.transport.proofs.Numbers.{not_both}
 
 pub index_none : (cpus : List ℕ) (s : Ids) (class_of : List ℕ) → length class_of ≡ CPU_LIMIT → ((g : ℕ) → IsCpu (number cpus g)) → s ≡ finset.empty → IsIndex cpus s class_of 0
 index_none cpus s class_of long in_range empty = record {
   long = long;
   in_range = in_range;
-  first = λ c has. absurd (not_both _ has (rw empty (contains-empty c)));
+  first = λ c has. absurd (both_ways _ (rw empty (contains-empty c)) has);
   all = λ g lt. absurd (omega (arith, lt));
   class = λ g lt. absurd (omega (arith, lt));
 }

@@ -1,6 +1,6 @@
 -- A class is labelled, or the free end, and what a search knows stays true.
 use Rattle.std.proofs.Common.{◌≡◌, ℕ, ◌+◌, ◌-◌, ◌^◌, ◌<◌, ◌≤◌, true, false, List, length, get_or, Option, Some, None, Vec, Global, refl, sym, ap, ◌∙◌, subst, inl, inr, arith}
-use Rattle.std.proofs.lemmas.Bool.{cases_eq, cases_lt}
+use Rattle.std.proofs.lemmas.Bool.{cases_eq, cases_lt, both_ways}
 use Rattle.transport.specs.Numbers.{number, IsIn}
 use Rattle.transport.specs.ReachedRows.{is_reached, row_at}
 use Rattle.transport.specs.Searches.{label_of, is_taken, AreNeverDue, HasLabel, IsLabelled, IsFreeEnd, IsSearch, IsCovered}
@@ -12,7 +12,6 @@ use Rattle.transport.specs.declared.labels.Labels.{Labels}
 use Rattle.transport.specs.declared.assignment.Assignment.{Assignment}
 use Rattle.transport.specs.declared.tree.SearchTree.{SearchTree}
 use Rattle.transport.specs.declared.arcs.Arc.{Arc}
-use Rattle.transport.proofs.Numbers.{not_both}
 
 some_same : (n m : Label) (o : Option Label) → o ≡ Some n → o ≡ Some m → n ≡ m
 some_same n m o a b = let both : Some n ≡ Some m = sym a ∙ b in cc
@@ -24,7 +23,7 @@ module _ (ws : ℕ → ℕ → Option ℕ) (s : Assignment) (t : SearchTree) (ne
   old = h.search
 
   other : (j : ℕ) → is_taken t.tree_classes j ≡ true → j ≡ g → ⊥
-  other j on e = not_both _ (subst (λ x. is_taken t.tree_classes x ≡ true) e on) left
+  other j on e = both_ways _ left (subst (λ x. is_taken t.tree_classes x ≡ true) e on)
 
   labelled_now : (j : ℕ) (m : Label) → label_of new.labels j ≡ Some m → IsLabelled ws s.residual.items t.reached_rows j m
   labelled_now j m is = elim (cases_eq j g) [
@@ -292,7 +291,7 @@ others_taken ws s a b k arcs from i h on = record {
 }
   where
     at_end : (j : ℕ) → j ≡ i → is_taken b.tree_classes (arc_at arcs j).class ≡ false → ⊥
-    at_end j e off = not_both _ on (subst (λ x. is_taken b.tree_classes (arc_at arcs x).class ≡ false) e off)
+    at_end j e off = both_ways _ (subst (λ x. is_taken b.tree_classes (arc_at arcs x).class ≡ false) e off) on
 
 -- the rest lies past the free end
 pub others_past : (ws : ℕ → ℕ → Option ℕ) (s : Assignment) (a b : SearchTree) (k : ℕ) (arcs : List Arc) (from i upto : ℕ) (limit : Option ℕ) → HasLabelledFrom ws s k a b arcs from i → IsLimit s.values.items k b.labels.free_end limit

@@ -1,7 +1,7 @@
 -- The least slack, class by class, and the classes that have it.
 use Rattle.std.proofs.Common.{◌≡◌, ℕ, zero, suc, ◌+◌, ◌-◌, ◌<◌, ◌≤◌, Bool, false, List, [], ◌∷◌, ◌++◌, length, get_or, take, Option, Some, None, refl, sym, ap, ◌∙◌, subst, inl, inr, arith}
 use Rattle.std.proofs.lemmas.List.{length-take-le, get_or-take, length_push, get_or_push, get_or_append_left, get_or_read}
-use Rattle.std.proofs.lemmas.Bool.{cases_lt}
+use Rattle.std.proofs.lemmas.Bool.{cases_lt, both_ways}
 use Rattle.transport.specs.Numbers.{number, IsIn}
 use Rattle.transport.specs.ReachedRows.{row_at}
 use Rattle.transport.specs.Searches.{label_of, is_taken, HasLabel, IsSlack}
@@ -12,7 +12,7 @@ use Rattle.transport.specs.declared.labels.Labels.{Labels}
 use Rattle.transport.specs.declared.tree.TreeClasses.{TreeClasses}
 use Rattle.transport.specs.declared.assignment.Assignment.{Assignment}
 use Rattle.transport.specs.declared.tree.SearchTree.{SearchTree}
-use Rattle.transport.proofs.Numbers.{not_both, in_push, in_last, read_mark, read_number}
+use Rattle.transport.proofs.Numbers.{in_push, in_last, read_mark, read_number}
 use Rattle.transport.proofs.ReachedRowsLemmas.{marked_below}
 
 -- no slack of the class is less
@@ -84,9 +84,9 @@ least_skip values prices ns ts xs nearest i x None lt is skip h = record {
 }
 least_skip values prices ns ts xs nearest i x (Some by) lt is skip h = record {
   free_end = h.free_end;
-  labelled = λ j n within. at_next (IsAtLeast values prices ns ts by) xs i x lt is (λ k w m. h.labelled k m w) (λ m its off. absurd (not_both _ (skip m its) off)) j within n;
+  labelled = λ j n within. at_next (IsAtLeast values prices ns ts by) xs i x lt is (λ k w m. h.labelled k m w) (λ m its off. absurd (both_ways _ off (skip m its))) j within n;
   each = h.each;
-  all = at_next (λ g. IsSlack values prices ns ts g by → IsIn nearest g) xs i x lt is h.all (λ s. absurd (not_both _ (skip s.label s.its) s.left));
+  all = at_next (λ g. IsSlack values prices ns ts g by → IsIn nearest g) xs i x lt is h.all (λ s. absurd (both_ways _ s.left (skip s.label s.its)));
   attained = h.attained;
 }
 
@@ -135,7 +135,7 @@ module _ (values prices : List ℕ) (ns : Labels) (ts : TreeClasses) (xs old new
 
   less_before : (least : Option ℕ) → ((b : ℕ) → least ≡ Some b → by < b) → IsLeastUpTo values prices ns ts (take i xs) old least
       → (j : ℕ) → j < length (take i xs) → IsAtLeast values prices ns ts (by + 1) (number (take i xs) j)
-  less_before None less h j w m its off = absurd (not_both _ (h.labelled j m w its) off)
+  less_before None less h j w m its off = absurd (both_ways _ off (h.labelled j m w its))
   less_before (Some b) less h j w m its off = omega (arith, less b refl, h.labelled j m w its off)
 
   least_less : (least : Option ℕ) → ((b : ℕ) → least ≡ Some b → by < b) → by ≡ slack → IsLeastUpTo values prices ns ts (take i xs) old least

@@ -1,11 +1,8 @@
 -- Numbers raised place by place.
 use Rattle.std.proofs.Common.{◌≡◌, ℕ, ◌+◌, ◌<◌, Bool, true, false, List, [], ◌∷◌, ◌++◌, length, get_or, set, take, refl, sym, ap, ◌∙◌, subst, inl, inr, arith}
 use Rattle.std.proofs.lemmas.List.{length-set, get_or-set_same, get_or-set_other, take_more, length_push, get_or_push, get_or_append_left, get_or_read, get_or-take, length-take-le}
-use Rattle.std.proofs.lemmas.Bool.{cases_lt}
+use Rattle.std.proofs.lemmas.Bool.{cases_lt, both_ways}
 use Rattle.transport.specs.Numbers.{number, is_marked, IsIn, IsListing, IsRaised}
-
-pub not_both : (b : Bool) → b ≡ true → b ≡ false → ⊥
-not_both b on off = let e : true ≡ false = sym on ∙ off in cc
 
 -- what a read of a mark says
 pub read_mark : (bs : List Bool) (i n : ℕ) (x b : Bool) → i < n → length bs ≡ n → x ≡ get_or bs i x → x ≡ b → is_marked bs i ≡ b
@@ -82,4 +79,4 @@ pub raised_others :
     (old new order : List ℕ) (marks : List Bool) (by : ℕ) → IsRaised old new order by → IsListing order marks
     → (k : ℕ) → is_marked marks k ≡ false → number new k ≡ number old k
 raised_others old new order marks by h listing k not =
-    h.off k (λ here. not_both (is_marked marks k) (subst (λ n. is_marked marks n ≡ true) here.is (listing.on here.index here.within)) not)
+    h.off k (λ here. both_ways (is_marked marks k) not (subst (λ n. is_marked marks n ≡ true) here.is (listing.on here.index here.within)))

@@ -4,20 +4,19 @@ use Rattle.std.specs.List.{count_by}
 use Rattle.std.proofs.lemmas.List.{length-set, get_or-set_same, get_or-set_other, length_push, get_or_push, get_or_append_left, get_or_past}
 use Rattle.std.proofs.lemmas.Option.{slice_get-get_or}
 use Rattle.std.proofs.lemmas.List.Sums.{sum_by-set, sum_by_more, get_or-le-sum_by}
-use Rattle.std.proofs.lemmas.Bool.{cases_eq, cases_lt, eq-eqb, ne_eqb}
+use Rattle.std.proofs.lemmas.Bool.{cases_eq, cases_lt, eq-eqb, ne_eqb, both_ways}
 use Rattle.transport.specs.Numbers.{is_marked, IsEachOnce}
 use Rattle.twins.specs.Holdings.{share_of}
 use Rattle.transport.specs.Shares.{amount_of, AllBelow, holders_of}
 use Rattle.transport.specs.ReachedRows.{IsReachedRows, IsReached, IsKept, IsNewRow, IsGrown, is_reached, bottleneck, index, row_at}
 use Rattle.twins.specs.declared.holders.Share.{Share}
 use Rattle.transport.specs.declared.tree.ReachedRows.{ReachedRows}
-use Rattle.transport.proofs.Numbers.{not_both}
 use Rattle.transport.proofs.Holders.{share_once}
 
 pub marked_below : (bs : List Bool) (k : ℕ) → is_marked bs k ≡ true → k < length bs
 marked_below bs k h = elim (cases_lt k (length bs)) [
   | inl lt ↦ lt
-  | inr past ↦ absurd (not_both _ h (get_or_past bs k false past))
+  | inr past ↦ absurd (both_ways _ (get_or_past bs k false past) h)
 ]
 
 pub count-set : (bs : List Bool) (k : ℕ) → k < length bs → is_marked bs k ≡ false → count_by (λ b. b) (set bs k true) ≡ count_by (λ b. b) bs + 1
@@ -41,7 +40,7 @@ module _ (rows : ℕ) (old new : ReachedRows) (k g amount : ℕ) (q : IsReachedR
   index_here = rw r.indices (get_or-set_same old.index.items k _ 0 (omega (arith, q.index_long)))
 
   other : (j : ℕ) → is_reached old j ≡ true → j ≡ k → ⊥
-  other j on e = not_both (is_reached old k) (subst (λ n. is_reached old n ≡ true) e on) off
+  other j on e = both_ways (is_reached old k) off (subst (λ n. is_reached old n ≡ true) e on)
 
   index_other : (j : ℕ) → (j ≡ k → ⊥) → index new j ≡ index old j
   index_other j ne = rw r.indices (get_or-set_other old.index.items k j _ 0 ne)
@@ -123,7 +122,7 @@ module _ (rows : ℕ) (old new : ReachedRows) (k g amount : ℕ) (q : IsReachedR
 pub grown_none : (q : ReachedRows) (g most : ℕ) (shares : List Share) → IsGrown q q g most (take 0 shares) shares
 grown_none q g most shares = record {
   kept = λ k on. record { reached = on; by = refl; bottlenecks = refl; indices = refl };
-  fresh = λ k off on. absurd (not_both _ on off);
+  fresh = λ k off on. absurd (both_ways _ off on);
   longer = omega arith;
   held = λ k some. absurd (omega arith);
 }

@@ -1,7 +1,7 @@
 -- A step of a search, for an assignment and a tree.
 use Rattle.std.proofs.Common.{◌≡◌, ℕ, zero, suc, ◌∷◌, take, ◌+◌, ◌<◌, ◌≤◌, Bool, true, false, List, [], length, get_or, Option, Some, None, Vec, Global, refl, sym, ap, ◌∙◌, subst, inl, inr, arith}
 use Rattle.std.proofs.lemmas.List.{get_or_read, get_or-set_same, get_or-set_other, get_or_append_left, length_push, length-take-le, get_or-take}
-use Rattle.std.proofs.lemmas.Bool.{cases_lt}
+use Rattle.std.proofs.lemmas.Bool.{cases_lt, both_ways}
 use Rattle.transport.specs.Numbers.{number, IsListing, IsRaised}
 use Rattle.twins.specs.Holdings.{share_of}
 use Rattle.transport.specs.Shares.{AllBelow}
@@ -14,7 +14,7 @@ use Rattle.transport.specs.declared.tree.SearchTree.{SearchTree}
 use Rattle.transport.specs.declared.labels.Label.{Label}
 use Rattle.transport.specs.declared.labels.FreeEnd.{FreeEnd}
 use Rattle.transport.specs.declared.tree.ReachedRows.{ReachedRows}
-use Rattle.transport.proofs.Numbers.{raised_marked, raised_others, not_both}
+use Rattle.transport.proofs.Numbers.{raised_marked, raised_others}
 use Rattle.transport.proofs.ReachedRowsLemmas.{marked_below}
 use Rattle.transport.proofs.Rising.{search_raised, covered_raised}
 use Rattle.transport.proofs.Taking.{search_taken, covered_taken, root_same}
@@ -148,7 +148,7 @@ taken_one s old new g n shares its left equal in_range long are up = record {
   nearest = up.nearest;
   longer = up.grown.longer;
   root = λ ws h. running_root ws s old new g n shares h its left equal in_range are up;
-  kept = λ h on. rw up.taken.taken (get_or-set_other old.tree_classes.taken.items g h true false (λ e. not_both _ (subst (λ x. is_taken old.tree_classes x ≡ true) e on) left) ∙ on);
+  kept = λ h on. rw up.taken.taken (get_or-set_other old.tree_classes.taken.items g h true false (λ e. both_ways _ left (subst (λ x. is_taken old.tree_classes x ≡ true) e on)) ∙ on);
   before = λ i lt. rw up.taken.order (get_or_append_left old.tree_classes.order.items (g ∷ []) 0 i lt);
   all = all;
   grew = inr (omega (arith, ap length up.taken.order, length_push old.tree_classes.order.items g));

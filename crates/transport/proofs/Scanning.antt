@@ -1,9 +1,8 @@
 -- A scan of a row: the free end, and the classes that are nearer.
-use Rattle.std.proofs.Common.{◌≡◌, ℕ, ◌+◌, ◌<◌, ◌≤◌, true, false, List, [], length, get_or, set, Option, Some, None, slice_get, refl, sym, ap, ◌∙◌, subst, inl, inr, arith}
+use Rattle.std.proofs.Common.{◌≡◌, ℕ, ◌+◌, ◌<◌, ◌≤◌, true, false, List, length, get_or, set, Option, Some, None, slice_get, refl, sym, ap, ◌∙◌, subst, inl, inr, arith}
 use Rattle.std.proofs.lemmas.Bool.{cases_eq, cases_lt}
-use Rattle.std.proofs.lemmas.List.{get_or-map, get_or_read, length-set, get_or-set_same, get_or-set_other}
+use Rattle.std.proofs.lemmas.List.{get_or_read, length-set, get_or-set_same, get_or-set_other}
 use Rattle.std.proofs.lemmas.Option.{slice_get-get_or, get_or_from_slice_get, slice_get_within}
-use Rattle.certificate.specs.RowView.{RowView}
 use Rattle.certificate.specs.declared.rows.Offer.{Offer}
 use Rattle.transport.specs.Numbers.{number}
 use Rattle.transport.specs.ReachedRows.{is_reached, index, row_at}
@@ -112,9 +111,6 @@ scanned_more ws s t new k at h is v all = record {
         let where_is : index t.reached_rows j ≡ at = subst (λ q. index q j ≡ at) v.better.reached_rows e in
         let same : k ≡ j = sym is ∙ ap (λ i. row_at t.reached_rows i) (sym where_is) ∙ h.search.reached_rows.placed j there in
         subst (λ x. IsCovered s.values.items s.prices.items new.labels x g w) same (v.own g w (subst (λ x. ws x g ≡ Some w) (sym same) its) off)
-
-pub offers_read : (rows : List RowView) (k : ℕ) (r : RowView) → k < length rows → r ≡ get_or rows k r → r.offers ≡ offers_of rows k
-offers_read rows k r lt is = ap (λ (x : RowView). x.offers) is ∙ sym (get_or-map (λ (x : RowView). x.offers) rows k r [] lt)
 
 pub sorted_as : (ws : ℕ → Option ℕ) (a b : List Offer) (f g u v : List ℕ) (l : SortedArcs) → a ≡ b → f ≡ g → u ≡ v → IsSortedArcs ws b g v l → IsSortedArcs ws a f u l
 sorted_as ws a b f g u v l x y z h = rw (x, y, z) h

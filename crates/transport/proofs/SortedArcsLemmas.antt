@@ -3,7 +3,7 @@ use Rattle.std.proofs.Common.{◌≡◌, ℕ, ◌+◌, ◌<◌, ◌≤◌, true,
 use Rattle.std.specs.FinSet as set
 use Rattle.std.proofs.lemmas.List.{length_push, get_or_push, get_or_append_left, get_or_read}
 use Rattle.std.proofs.lemmas.Option.{slice_get_within, slice_get_read}
-use Rattle.std.proofs.lemmas.Bool.{cases_eq, cases_lt}
+use Rattle.std.proofs.lemmas.Bool.{cases_eq, cases_lt, both_ways}
 use Rattle.certificate.specs.declared.rows.Offer.{Offer}
 use Rattle.cpu_set.specs.Ids.{Ids, NoneFrom, IsFirstFrom}
 use Rattle.transport.specs.Numbers.{number, IsIn}
@@ -15,7 +15,6 @@ use Rattle.transport.specs.Orders.{weighted_at, weighted_in, AreWeighted}
 use Rattle.transport.specs.declared.arcs.WeightedOffer.{WeightedOffer}
 use Rattle.transport.specs.declared.arcs.Arc.{Arc}
 use Rattle.transport.specs.declared.arcs.SortedArcs.{SortedArcs}
-use Rattle.transport.proofs.Numbers.{not_both}
 use Rattle.transport.proofs.Blocks.{blocks_kept}
 use Rattle.transport.proofs.Labelling.{past_rise}
 
@@ -66,9 +65,9 @@ found_at ws offers firsts residual l limit arc h lt is some below_limit = record
 
 -- a member from some number on is no lower than the next one of a walk
 pub ahead : (s : Ids) (from c : ℕ) (next : Option ℕ) → MatchOption next (NoneFrom s from) (λ n. IsFirstFrom s from n) → from ≤ c → set.contains s c ≡ true → IsAhead next c
-ahead s from c None none le on = not_both _ on (none c le)
+ahead s from c None none le on = both_ways _ (none c le) on
 ahead s from c (Some n) first le on = elim (cases_lt c n) [
-  | inl below ↦ absurd (not_both _ on (first.least c le below))
+  | inl below ↦ absurd (both_ways _ (first.least c le below) on)
   | inr at ↦ at
 ]
 

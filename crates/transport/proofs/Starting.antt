@@ -1,7 +1,7 @@
 -- A search at its start, and the bounds after it has found a free end.
 use Rattle.std.proofs.Common.{◌≡◌, ℕ, zero, suc, ◌<◌, ◌≤◌, Bool, true, false, cond, List, [], ◌∷◌, length, get_or, replicate, Option, Some, None, refl, sym, ap, ◌∙◌, subst, inl, inr, arith}
 use Rattle.std.specs.List.{count_by}
-use Rattle.std.proofs.lemmas.Bool.{cases_Bool, cases_lt}
+use Rattle.std.proofs.lemmas.Bool.{cases_Bool, cases_lt, both_ways}
 use Rattle.std.proofs.lemmas.List.{length_push, length-replicate, get_or-replicate, get_or_past, get_or-set_same}
 use Rattle.std.proofs.lemmas.List.Sums.{sum_by-cons, count_by-le-length}
 use Rattle.certificate.specs.declared.limits.TheConstants.{MAX_ROWS}
@@ -15,7 +15,6 @@ use Rattle.transport.specs.declared.labels.Label.{Label}
 use Rattle.transport.specs.declared.labels.FreeEnd.{FreeEnd}
 use Rattle.transport.specs.declared.assignment.Assignment.{Assignment}
 use Rattle.transport.specs.declared.tree.SearchTree.{SearchTree}
-use Rattle.transport.proofs.Numbers.{not_both}
 use Rattle.transport.proofs.ReachedRowsLemmas.{reached_reached}
 use Rattle.transport.proofs.Running.{listed_below}
 use Rattle.transport.specs.declared.tree.ReachedRows.{ReachedRows}
@@ -53,8 +52,8 @@ reached_none rows q h = record {
   index_long = h.index_long;
   on = λ i lt. absurd (omega (arith, lt, ap length h.order));
   at = λ i lt. absurd (omega (arith, lt, ap length h.order));
-  within = λ k on. absurd (not_both _ on (h.none k));
-  placed = λ k on. absurd (not_both _ on (h.none k));
+  within = λ k on. absurd (both_ways _ (h.none k) on);
+  placed = λ k on. absurd (both_ways _ (h.none k) on);
   counted = count_none q.reached.items h.none ∙ sym (ap length h.order);
 }
 
@@ -74,7 +73,7 @@ tidy_none rows classes t reached_rows of_class labelled due taken order = record
   taken_long = ap length taken ∙ length-replicate classes false;
   taken = record {
     on = λ i lt. absurd (omega (arith, lt, ap length order));
-    all = λ k on. absurd (not_both _ on (none k));
+    all = λ k on. absurd (both_ways _ (none k) on);
     once = λ i j lt. absurd (omega (arith, lt, ap length order));
     counted = count_none t.tree_classes.taken.items none ∙ sym (ap length order);
   };
@@ -129,7 +128,7 @@ tidy_running ws s t h = record {
 
 module _ (ws : ℕ → ℕ → Option ℕ) (s : Assignment) (t : SearchTree) (root amount : ℕ) (h : IsSettled ws s) (f : IsFresh (length s.values.items) (length s.prices.items) root amount t) (some : 0 < amount) where
   no_taken : (g : ℕ) → is_taken t.tree_classes g ≡ true → ⊥
-  no_taken g on = not_both _ on (f.tree_classes.taken g)
+  no_taken g on = both_ways _ (f.tree_classes.taken g) on
 
   at_root : index t.reached_rows root ≡ 0
   at_root = ap (λ k. index t.reached_rows k) (sym f.at_root.root_at) ∙ f.at_root.reached_rows.at 0 (omega (arith, f.at_root.one))

@@ -1,6 +1,6 @@
 -- A step of a search: the least slack is raised, and something is then at slack 0.
 use Rattle.std.proofs.Common.{◌≡◌, ℕ, ◌+◌, ◌-◌, ◌<◌, ◌≤◌, ◌^◌, Bool, true, false, List, length, Option, Some, None, sym, ap, ◌∙◌, subst, inl, inr, arith}
-use Rattle.std.proofs.lemmas.Bool.{cases_Bool}
+use Rattle.std.proofs.lemmas.Bool.{cases_Bool, both_ways}
 use Rattle.transport.specs.Numbers.{number, IsRaised, IsEachOnce}
 use Rattle.transport.specs.ReachedRows.{is_reached, bottleneck}
 use Rattle.transport.specs.Searches.{label_of, is_taken, IsCovered, IsLeast, IsFreeEndAt, IsSlack, IsAttained, top, weight_limit}
@@ -12,7 +12,7 @@ use Rattle.transport.specs.declared.labels.Labels.{Labels}
 use Rattle.transport.specs.declared.assignment.Assignment.{Assignment}
 use Rattle.transport.specs.declared.tree.SearchTree.{SearchTree}
 use Rattle.transport.specs.declared.tree.TreeClasses.{TreeClasses}
-use Rattle.transport.proofs.Numbers.{not_both, raised_marked, raised_others}
+use Rattle.transport.proofs.Numbers.{raised_marked, raised_others}
 use Rattle.transport.proofs.Running.{reached_lists, listed_below, labelled_in_reach, running_raised, scanned_raised}
 use Rattle.std.proofs.lemmas.List.Sums.{count_by-le-length}
 use Rattle.transport.specs.Scans.{IsBetter}
@@ -86,7 +86,7 @@ module _ (ws : ℕ → ℕ → Option ℕ) (old new : Assignment) (t : SearchTre
       stuck some same =
           let c = l.each 0 some in
           let taken = m.all 0 c.label some c.its (class_at_0 _ c) in
-          not_both _ (subst (λ (ts : TreeClasses). is_taken ts (number t.nearest.items 0) ≡ true) same taken) c.left
+          both_ways _ c.left (subst (λ (ts : TreeClasses). is_taken ts (number t.nearest.items 0) ≡ true) same taken)
 
 -- no raise is past what fits
 pub raise_low : (ws : ℕ → ℕ → Option ℕ) (s : Assignment) (t : SearchTree) (by : ℕ) → IsRunning ws s t → IsAttained s.values.items s.prices.items t.labels t.tree_classes by → by ≤ weight_limit + top

@@ -1,7 +1,7 @@
 -- A class is taken up, and its holders are reached.
 use Rattle.std.proofs.Common.{◌≡◌, ℕ, ◌+◌, ◌<◌, ◌≤◌, Bool, true, false, List, [], ◌∷◌, ◌++◌, length, set, Option, Some, ◌⊎◌, sym, ap, ◌∙◌, subst, inl, inr, arith}
 use Rattle.std.proofs.lemmas.List.{length-set, length_push, get_or-set_same, get_or-set_other, get_or_append_left, get_or_push}
-use Rattle.std.proofs.lemmas.Bool.{cases_lt, cases_Bool}
+use Rattle.std.proofs.lemmas.Bool.{cases_lt, cases_Bool, both_ways}
 use Rattle.transport.specs.Numbers.{number, is_marked, IsIn, IsListing}
 use Rattle.twins.specs.Holdings.{share_of}
 use Rattle.transport.specs.ReachedRows.{IsReachedRows, IsGrown, is_reached, parent_class, bottleneck, index, row_at}
@@ -11,7 +11,7 @@ use Rattle.transport.specs.declared.tree.ReachedRows.{ReachedRows}
 use Rattle.transport.specs.declared.labels.Label.{Label}
 use Rattle.transport.specs.declared.labels.Labels.{Labels}
 use Rattle.transport.specs.declared.tree.TreeClasses.{TreeClasses}
-use Rattle.transport.proofs.Numbers.{not_both, in_push, in_last}
+use Rattle.transport.proofs.Numbers.{in_push, in_last}
 use Rattle.transport.proofs.ReachedRowsLemmas.{count-set, marked_more}
 
 pub listing_push :
@@ -25,7 +25,7 @@ listing_push order marks g h lt off = record {
 }
   where
     other : (i : ℕ) → i < length order → number order i ≡ g → ⊥
-    other i before e = not_both (is_marked marks g) (subst (λ n. is_marked marks n ≡ true) e (h.on i before)) off
+    other i before e = both_ways (is_marked marks g) off (subst (λ n. is_marked marks n ≡ true) e (h.on i before))
 
     at_before : (i : ℕ) → i < length order → number (order ++ g ∷ []) i ≡ number order i
     at_before i before = get_or_append_left order (g ∷ []) 0 i before
@@ -62,7 +62,7 @@ module _ (ws : ℕ → ℕ → Option ℕ) (cells : ℕ → ℕ → ℕ) (values
   now_taken = rw taken.taken (get_or-set_same ts.taken.items g true false (omega (arith, s.taken_long, in_range)))
 
   other_class : (h : ℕ) → is_taken ts h ≡ true → h ≡ g → ⊥
-  other_class h on e = not_both (is_taken ts g) (subst (λ x. is_taken ts x ≡ true) e on) left
+  other_class h on e = both_ways (is_taken ts g) left (subst (λ x. is_taken ts x ≡ true) e on)
 
   still_taken : (h : ℕ) → is_taken ts h ≡ true → is_taken us h ≡ true
   still_taken h on = rw taken.taken (get_or-set_other ts.taken.items g h true false (other_class h on) ∙ on)
@@ -71,10 +71,10 @@ module _ (ws : ℕ → ℕ → Option ℕ) (cells : ℕ → ℕ → ℕ) (values
   taken_cases h on = marked_more ts.taken.items g h (rw taken.taken at on)
 
   was_left : (h : ℕ) → is_taken us h ≡ false → is_taken ts h ≡ false
-  was_left h off = elim (cases_Bool (is_taken ts h)) [ inl on ↦ absurd (not_both _ (still_taken h on) off) | inr not ↦ not ]
+  was_left h off = elim (cases_Bool (is_taken ts h)) [ inl on ↦ absurd (both_ways _ off (still_taken h on)) | inr not ↦ not ]
 
   was_out : (k : ℕ) → is_reached r k ≡ false → is_reached q k ≡ false
-  was_out k off = elim (cases_Bool (is_reached q k)) [ inl on ↦ absurd (not_both _ (grown.kept k on).reached off) | inr not ↦ not ]
+  was_out k off = elim (cases_Bool (is_reached q k)) [ inl on ↦ absurd (both_ways _ off (grown.kept k on).reached) | inr not ↦ not ]
 
   label_place : index q n.row < length q.order.items
   label_place = s.reached_rows.within n.row label.there

@@ -14,17 +14,21 @@ use Rattle.certificate.specs.declared.rows.Offer.{Offer}
 use Rattle.twins.specs.Kinds.{offers_of, kind_at, IsKindOf, AreKinds, IsNextKind}
 use Rattle.twins.proofs.Splitting.{twins_more}
 
-pub own_offers : (rows : List RowView) (k : ℕ) (row : RowView) → k < length rows → row ≡ get_or rows k row → row.offers ≡ offers_of rows k
-own_offers rows k row lt is = ap (λ (r : RowView). r.offers) is ∙ sym (get_or-map (λ (r : RowView). r.offers) rows k row [] lt)
+abbrev pub no_row : RowView
+no_row = record { id = []; demand = 0; offers = [] }
+
+-- the row at a place
+abbrev pub row_at : List RowView → ℕ → RowView
+row_at rows k = get_or rows k no_row
+
+pub is_row : (rows : List RowView) (k : ℕ) → k < length rows → row_at rows k ≡ get_or rows k (row_at rows k)
+is_row rows k lt = get_or_default rows k no_row _ lt
 
 -- the offers of a row that fits do
 pub offers_fit_at : (rows : List RowView) (k : ℕ) (offers : List Offer) → list_all row_fits rows ≡ true → k < length rows → ((d : RowView) → offers ≡ (get_or rows k d).offers) → offers_fit offers ≡ true
 offers_fit_at rows k offers fits lt is =
-    subst (λ (o : List Offer). offers_fit o ≡ true) (sym (is none))
-    (row_offers_fit (get_or rows k none) (passes_at row_fits rows k (get_or rows k none) fits lt (get_or_default rows k none (get_or rows k none) lt)))
-  where
-    none : RowView
-    none = record { id = []; demand = 0; offers = [] }
+    subst (λ (o : List Offer). offers_fit o ≡ true) (sym (is no_row))
+    (row_offers_fit (row_at rows k) (passes_at row_fits rows k (row_at rows k) fits lt (is_row rows k lt)))
 
 -- a row of the kind of an earlier one tells no more CPUs apart
 pub kind_tells_none :

@@ -1,5 +1,5 @@
 -- Sets with few members.
-use Rattle.std.proofs.Common.{◌≡◌, ℕ, ◌+◌, ◌<◌, ◌≤◌, Bool, true, false, cond, not, ◌&&◌, List, length, sum_by, sym, ap, ◌∙◌, inl, inr, arith}
+use Rattle.std.proofs.Common.{◌≡◌, ℕ, ◌+◌, ◌<◌, Bool, true, false, cond, not, ◌&&◌, List, length, sum_by, sym, ap, ◌∙◌, inl, inr, arith}
 use Rattle.std.specs.FinSet as set
 use Rattle.std.proofs.lemmas.Bool.{cases_eq, cases_lt, true≢false}
 use Rattle.std.proofs.lemmas.List.{get_or_past}
@@ -8,10 +8,8 @@ use Rattle.cpu_set.specs.Ids.{Ids}
 use Rattle.cpu_set.specs.Members.{InRange, cpus}
 use Rattle.cpu_set.specs.Pointwise.{contains-empty, contains-intersection, contains-difference}
 use Rattle.cpu_set.specs.SetLaws.{length-members}
-use Rattle.cpu_set.specs.declared.TheConstants.{CPU_LIMIT}
-use Rattle.certificate.specs.Cpus.{sum_by-cpus-le, length-cpus}
-use Rattle.certificate.specs.Sums.{sum_by_same, sum_by_plus, sum_by-constant}
-use Rattle.certificate.specs.Tests.{and_left, one_at_most}
+use Rattle.certificate.specs.Sums.{sum_by_same, sum_by_plus}
+use Rattle.certificate.specs.Tests.{and_left}
 use Rattle.certificate.specs.IsDealt.{Holds}
 
 -- an empty set has no member
@@ -49,17 +47,6 @@ len_split s t in_range =
     ∙ ap (λ b. cond {A = ℕ} b 1 0 + cond {A = ℕ} (set.contains s c && not (set.contains t c)) 1 0) (sym (contains-intersection s t c))
     ∙ ap (λ b. cond {A = ℕ} (set.contains (set.intersection s t) c) 1 0 + cond {A = ℕ} b 1 0) (sym (contains-difference s t c)))
     ∙ sum_by_plus (λ c. cond {A = ℕ} (set.contains (set.intersection s t) c) 1 0) (λ c. cond {A = ℕ} (set.contains (set.difference s t) c) 1 0) cpus)
-
--- a set has no more members than there are CPUs
-pub len_small : (s : Ids) → InRange s → set.len s ≤ CPU_LIMIT
-len_small s in_range =
-    omega (
-      arith,
-      len_sum s in_range,
-      sum_by-cpus-le (λ c. cond {A = ℕ} (set.contains s c) 1 0) (λ _. 1) (λ c is_cpu. one_at_most (set.contains s c)),
-      sum_by-constant {X = ℕ} 1 cpus,
-      length-cpus,
-    )
 
 -- a set that has a CPU stands in the list
 pub there : (sets : List Ids) (g c : ℕ) → Holds sets g c → g < length sets

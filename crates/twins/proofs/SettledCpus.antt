@@ -18,8 +18,8 @@ use Rattle.twins.specs.Kinds.{offers_of, IsKindOf}
 use Rattle.twins.specs.Settled.{AreOnce, AreSettled, IsSettling, IsNoted, IsTurned}
 use Rattle.twins.specs.declared.settling.Settling.{Settling}
 use Rattle.twins.specs.declared.spans.Spans.{Spans}
-use Rattle.twins.proofs.SameOffers.{own_offers}
 use Rattle.twins.proofs.Splitting.{twins_before, twins_at}
+use Rattle.twins.specs.KindLaws.{own_offers}
 
 none : RowView
 none = record { id = []; demand = 0; offers = [] }

@@ -14,6 +14,7 @@ use Rattle.certificate.specs.OfferLaws.{offers_apart}
 use Rattle.certificate.specs.Offers.{is_some-find}
 use Rattle.twins.specs.IsPart.{is_same_weight}
 use Rattle.certificate.specs.RisingOffers.{AreRising}
+use Rattle.std.proofs.Math.Bool.{or-false}
 
 -- an offer at a place, by any default
 pub at_place : (offers : List Offer) (k : ℕ) (d : Offer) → k < length offers → get_or offers k d ≡ get_or offers k (get_or offers k d)
@@ -37,10 +38,6 @@ pub same_none : (v : Option ℕ) → is_same_weight None v ≡ not (is_some v)
 same_none None = refl
 same_none (Some v) = refl
 
-or_false : (b : Bool) → b ≡ (b || false)
-or_false true = refl
-or_false false = refl
-
 one_same :
     (w : ℕ) (o : Offer) (b : Bool) (before : Option Offer) → (b ≡ true → is_some before ≡ false)
     → is_same_weight (Some w) (option_map (λ (p : Offer). p.weight) (option_or before (cond b (Some o) None)))
@@ -48,7 +45,7 @@ one_same :
 one_same w o true None apart = refl
 one_same w o true (Some p) apart = absurd (true≢false (apart refl))
 one_same w o false None apart = refl
-one_same w o false (Some p) apart = or_false (w == p.weight)
+one_same w o false (Some p) apart = sym (or-false (w == p.weight))
 
 -- one offer more
 pub same_more :
@@ -79,8 +76,8 @@ without_match : (v w : ℕ) (b c : Bool) → (w ≡ v → ⊥) → c ≡ (c || (
 without_match v w b c differ = rw (eqb_differ v w differ) (keep b c)
   where
     keep : (b c : Bool) → c ≡ (c || (b && false))
-    keep true c = or_false c
-    keep false c = or_false c
+    keep true c = sym (or-false c)
+    keep false c = sym (or-false c)
 
 -- an offer of another weight adds none
 pub same_without :

@@ -7,6 +7,7 @@ pub mod IsPart
 pub mod IsPriced
 pub mod IsClosed
 pub mod Kinds
+pub mod KindLaws
 pub mod Edges
 pub mod AreSpans
 pub mod PartsView

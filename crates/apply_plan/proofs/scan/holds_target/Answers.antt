@@ -3,8 +3,9 @@ use Rattle.std.proofs.lemmas.Bool.{both_ways, not-true}
 use Rattle.cpu_set.specs.Ids.{is_empty}
 use Rattle.cpu_set.specs.Pointwise.{is_same_decides}
 use Rattle.apply_plan.specs.Kept.{kept}
-use Rattle.apply_plan.specs.KeptLemmas.{is_empty-some, kept_target}
+use Rattle.apply_plan.specs.KeptLemmas.{kept_target}
 use Rattle.apply_plan.proofs.scan.holds_target.Goals as goal
+use Rattle.cpu_set.specs.SetLaws.{is_empty-some}
 
 pub returns-then-eq : goal.returns-then-eq
 returns-then-eq c = λ yes reserved.

@@ -2,7 +2,7 @@ use Rattle.std.proofs.Common.{◌≡◌, ◌-◌, ◌<◌, ◌≤◌, IfNone, le
 use Rattle.cpu_set.specs.Pointwise.{contains-empty}
 use Rattle.transport.specs.Blocks.{AreFirstsOfTaken, AreTakenFirsts, AreNoted}
 use Rattle.transport.proofs.Blocks.{taken_firsts_more, taken_firsts_kept, noted_kept}
-use Rattle.transport.proofs.Numbers.{not_both, read_number}
+use Rattle.transport.proofs.Numbers.{read_number}
 use Rattle.transport.specs.States.{IsRunning, HasScanned, IsLeastOf, IsLeastUpTo, IsSameRoot}
 use Rattle.transport.specs.declared.tree.ReachedRows.{ReachedRows}
 use Rattle.transport.specs.declared.tree.TreeClasses.{TreeClasses}
@@ -15,6 +15,7 @@ use Rattle.transport.proofs.Steps.{closed, raise_rows, raise_classes, raise_valu
 use Rattle.transport.proofs.Striking.{running_struck, scanned_struck}
 use Rattle.transport.proofs.search.find_augmenting_path.Goals as goal
 use Rattle.transport.proofs.search.find_augmenting_path.Goals.{After-note_taken-noted, After-least_slack, In-Some-least, After-update_duals}
+use Rattle.std.proofs.lemmas.Bool.{both_ways}
 
 pub steps-init : goal.steps-init
 steps-init c = record {
@@ -25,7 +26,7 @@ steps-init c = record {
   scanned = record { covered = λ k g w on here its off. absurd (omega (arith, here)) };
   rest = record { residual = refl; deficit = refl; holdings = refl };
   root = record { row = refl; bottlenecks = refl };
-  taken = λ cpu g on lt is. absurd (not_both _ on (rw c.empty-taken.ensures (contains-empty cpu)));
+  taken = λ cpu g on lt is. absurd (both_ways _ (rw c.empty-taken.ensures (contains-empty cpu)) on);
   noted_in = omega arith;
   noted = λ i lt. absurd (omega (arith, lt));
 }

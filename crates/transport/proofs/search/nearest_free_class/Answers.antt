@@ -2,17 +2,18 @@ use Rattle.std.proofs.Common.{refl, sym, ap, ◌∙◌, subst}
 use Rattle.certificate.specs.RowView.{RowView}
 use Rattle.transport.specs.SortedArcs.{IsFoundFreeEnd}
 use Rattle.transport.specs.Weights.{weights}
-use Rattle.transport.proofs.Scanning.{offers_read, sorted_as, sorted_back}
+use Rattle.transport.proofs.Scanning.{sorted_as, sorted_back}
 use Rattle.transport.proofs.search.nearest_free_class.Goals as goal
+use Rattle.twins.specs.KindLaws.{own_offers}
 
 pub nearest_free_class-requires : goal.nearest_free_class-requires
 nearest_free_class-requires c =
-    let e = ap (λ (r : RowView). r.offers) (c.asked.view_is ∙ sym c.index-instance-row.is) ∙ offers_read _ _ _ c.requires.row c.index-instance-row.is in
+    let e = ap (λ (r : RowView). r.offers) (c.asked.view_is ∙ sym c.index-instance-row.is) ∙ own_offers _ _ _ c.requires.row c.index-instance-row.is in
     (weights c.args.instance.now c.args.row, sorted_as _ _ _ _ _ _ _ _ e refl c.deref.ensures.value c.requires.sorted_arcs)
 
 pub returns : goal.returns
 returns c =
-    let e = ap (λ (r : RowView). r.offers) (c.asked.view_is ∙ sym c.index-instance-row.is) ∙ offers_read _ _ _ c.requires.row c.index-instance-row.is in
+    let e = ap (λ (r : RowView). r.offers) (c.asked.view_is ∙ sym c.index-instance-row.is) ∙ own_offers _ _ _ c.requires.row c.index-instance-row.is in
     let ws = weights c.args.instance.now c.args.row in
     let old = sorted_as ws _ _ _ _ _ _ _ e refl c.deref.ensures.value c.requires.sorted_arcs in
     record {

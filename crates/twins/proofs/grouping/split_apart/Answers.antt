@@ -1,11 +1,9 @@
-use Rattle.certificate.specs.RowView.{RowView}
 use Rattle.certificate.specs.Weight.{weight_in}
 use Rattle.certificate.specs.declared.rows.Offer.{Offer}
-use Rattle.std.proofs.Common.{List, [], Option, Some, None, MatchOption, IfSome, get_or, length, refl, subst, ℕ, ◌&&◌, ◌<◌, ◌≡◌, ◌∙◌}
-use Rattle.std.proofs.lemmas.List.{get_or_default}
+use Rattle.std.proofs.Common.{List, Option, Some, None, MatchOption, IfSome, get_or, length, refl, subst, ℕ, ◌&&◌, ◌<◌, ◌≡◌, ◌∙◌}
 use Rattle.cpu_set.specs.Ids.{NoneFrom, IsFirstFrom}
 use Rattle.cpu_set.specs.Members.{IsCpu}
-use Rattle.twins.proofs.SameOffers.{offers_fit_at}
+use Rattle.twins.proofs.SameOffers.{offers_fit_at, row_at, is_row, no_row}
 use Rattle.twins.proofs.Splitting.{IsAlike, in_piece, left_above, less_left, not_below, piece_is_part, to_piece, splitting_end, splitting_more, splitting_start}
 use Rattle.twins.proofs.SettledCpus.{settling_noted}
 use Rattle.twins.specs.AreSpans.{AreSpans, IsPlaceOf}
@@ -25,23 +23,13 @@ loop-next-init c = record {
   splitting = rw (c.cpus.ensures set.empty) (splitting_start _ _ _ _ _ c.requires.part c.requires.parts c.requires.alone);
 }
 
-abbrev none : RowView
-none = record { id = []; demand = 0; offers = [] }
-
--- the row at a place
-abbrev row_at : List RowView → ℕ → RowView
-row_at rows k = get_or rows k none
-
-is_row : (rows : List RowView) (k : ℕ) → k < length rows → row_at rows k ≡ get_or rows k (row_at rows k)
-is_row rows k lt = get_or_default rows k none _ lt
-
 -- the first CPU that is left
 first : (c : In-Some) → IsFirstFrom c.loop-next.rest 0 c.in-Some.cpu
 first c = subst (λ next. MatchOption next (NoneFrom c.loop-next.rest 0) (λ n. IsFirstFrom c.loop-next.rest 0 n)) c.in-Some.is c.loop-next.invariant.first
 
 alike : (c : After-alike-piece) → IsAlike (row_at c.args.rows.now c.args.k) c.in-Some.cpu c.loop-next.rest c.alike-piece.result
 alike c =
-    subst (λ (o : List Offer). (q : ℕ) → set.contains c.alike-piece.result q ≡ (set.contains c.loop-next.rest q && is_same_weight (weight_in o c.in-Some.cpu) (weight_in o q))) (c.requires.offers none)
+    subst (λ (o : List Offer). (q : ℕ) → set.contains c.alike-piece.result q ≡ (set.contains c.loop-next.rest q && is_same_weight (weight_in o c.in-Some.cpu) (weight_in o q))) (c.requires.offers no_row)
     (λ q. c.alike-piece.ensures c.args.offers.now c.in-Some.cpu q c.in_ok-place.ensures.spans c.in_ok-place.ensures.place)
 
 pub place_of_alike-requires-clause-fit : goal.place_of_alike-requires-clause-fit
@@ -80,7 +68,7 @@ loop-next-preserved c =
       settling = settling_noted c.args.rows.now c.args.k row _ c.alike-piece.result c.in-Some.cpu _ _ c.requires.there its_row
           (piece_is_part _ _ _ _ _ _ _ _ _ _ _ c.requires.there its_row c.requires.part c.loop-next.invariant.splitting member same)
           (to_piece row _ _ _ same c.in-Some.cpu member refl)
-          (subst (λ (o : List Offer). AreSpans o c.place_of_alike.new.spans) (c.requires.offers none) c.in_ok-place.ensures.spans) c.loop-next.invariant.settling c.note.ensures;
+          (subst (λ (o : List Offer). AreSpans o c.place_of_alike.new.spans) (c.requires.offers no_row) c.in_ok-place.ensures.spans) c.loop-next.invariant.settling c.note.ensures;
       waiting = c.in_ok-put.ensures.waiting ∙ c.loop-next.invariant.waiting;
       first = c.first_above-next.ensures.first;
       in_range = c.first_above-next.ensures.in_range;

@@ -2,17 +2,10 @@ use Rattle.certificate.proofs.Offering.{AreTold, told_more}
 use Rattle.certificate.proofs.OffersKept.{push_is}
 use Rattle.certificate.specs.RisingOffers.{AreRising}
 use Rattle.certificate.specs.declared.rows.Offer.{Offer}
-use Rattle.std.proofs.Common.{◌≡◌, ◌↔◌, ◌≤◌, ◌∙◌, ℕ, List, nat_le, true, arith, subst, sym}
-use Rattle.std.proofs.lemmas.Bool.{false≢true}
-use Rattle.std.proofs.lemmas.Bool.Decides.{nat_tests}
+use Rattle.std.proofs.Common.{◌≡◌, ◌↔◌, ◌≤◌, ◌∙◌, List, true, arith, subst, sym}
+use Rattle.std.proofs.lemmas.Bool.{false≢true, leb-true, le-leb}
 use Rattle.certificate.proofs.offers.Offers.push.Goals as goal
 use Rattle.certificate.proofs.offers.Offers.push.Goals.{then-self, else-self}
-
-tested : {a b : ℕ} → a ≤ b → nat_le a b ≡ true
-tested le = grind (arith, nat_tests)
-
-within : {a b : ℕ} → nat_le a b ≡ true → a ≤ b
-within test = grind (arith, nat_tests)
 
 pub invariant_of-self-2 : goal.invariant_of-self-2
 invariant_of-self-2 c =
@@ -24,8 +17,8 @@ invariant_of-self-2 c =
     }) in
     rw (c.in_ok-push.ensures.ok, push_is c.self.inside.sets c.args.offer) (elim c.if-self.branch [
       | then-self w ↦
-          told_more _ _ _ (c.if-self.self) _ told (λ on. (w.if-self.true, let fits : c.least.result ≤ c.from.result = within (sym w.self-is ∙ on) in omega (arith, fits, c.from.ensures)))
-          (λ on over. w.self-is ∙ tested (omega (arith, over, c.from.ensures)))
+          told_more _ _ _ (c.if-self.self) _ told (λ on. (w.if-self.true, let fits : c.least.result ≤ c.from.result = leb-true _ _ (sym w.self-is ∙ on) in omega (arith, fits, c.from.ensures)))
+          (λ on over. w.self-is ∙ le-leb _ _ (omega (arith, over, c.from.ensures)))
       | else-self w ↦
           told_more _ _ _ (c.if-self.self) _ told (λ on. absurd (false≢true (sym w.if-self.false ∙ (sym w.self-is ∙ on)))) (λ on over. w.self-is ∙ on)
     ])

@@ -4,18 +4,11 @@ use Rattle.certificate.specs.OffersOf.{offers_of}
 use Rattle.certificate.specs.RisingOffers.{AreRising}
 use Rattle.certificate.specs.declared.rows.Offer.{Offer}
 use Rattle.cpu_set.specs.Ids.{Ids}
-use Rattle.std.proofs.Common.{◌≡◌, ◌↔◌, ◌≤◌, ◌++◌, ◌∙◌, ◌∷◌, [], ℕ, List, ap, nat_le, true, arith, get_or, length, subst, sym}
-use Rattle.std.proofs.lemmas.Bool.{false≢true}
-use Rattle.std.proofs.lemmas.Bool.Decides.{nat_tests}
+use Rattle.std.proofs.Common.{◌≡◌, ◌↔◌, ◌≤◌, ◌++◌, ◌∙◌, ◌∷◌, [], ℕ, List, ap, true, arith, get_or, length, subst, sym}
+use Rattle.std.proofs.lemmas.Bool.{false≢true, leb-true, le-leb}
 use Rattle.std.specs.FinSet as set
 use Rattle.certificate.proofs.offers.Offers.push_from.Goals as goal
 use Rattle.certificate.proofs.offers.Offers.push_from.Goals.{then-self, else-self}
-
-tested : {a b : ℕ} → a ≤ b → nat_le a b ≡ true
-tested le = grind (arith, nat_tests)
-
-within : {a b : ℕ} → nat_le a b ≡ true → a ≤ b
-within test = grind (arith, nat_tests)
 
 pub push_from-requires : goal.push_from-requires
 push_from-requires c = omega (arith, length-offers_of c.other.inside.sets, ap length c.other.view_is)
@@ -35,8 +28,8 @@ invariant_of-self-2 c =
     }) in
     rw (c.in_ok-push_from.ensures.ok e, push_is c.self.inside.sets o) (elim c.if-self.branch [
       | then-self w ↦
-          told_more _ _ _ (c.if-self.self) _ told (λ on. (w.if-self.true, let fits : c.least.result ≤ c.from.result = within (sym w.self-is ∙ on) in omega (arith, fits, c.from.ensures)))
-          (λ on over. w.self-is ∙ tested (omega (arith, over, c.from.ensures)))
+          told_more _ _ _ (c.if-self.self) _ told (λ on. (w.if-self.true, let fits : c.least.result ≤ c.from.result = leb-true _ _ (sym w.self-is ∙ on) in omega (arith, fits, c.from.ensures)))
+          (λ on over. w.self-is ∙ le-leb _ _ (omega (arith, over, c.from.ensures)))
       | else-self w ↦
           told_more _ _ _ (c.if-self.self) _ told (λ on. absurd (false≢true (sym w.if-self.false ∙ (sym w.self-is ∙ on)))) (λ on over. w.self-is ∙ on)
     ])
