@@ -7,8 +7,8 @@ ghost use Rattle.apply_plan.specs.OneStep.{StepsLeave};
 ghost use Rattle.apply_plan.specs.Effects.{TargetsTakeEffect, SafeInEffect};
 ghost use Rattle.apply_plan.specs.Worked.{swap, both_live, one_lives, write};
 
-/// Any list of events while a hand-over is open: its steps, failing ones too, forks and ends of processes, CPUs that go
-/// and come, and writes of other groups.
+/// Any list of events while a hand-over is open. An event is a step of it, a failing one too, a fork or an end of a
+/// process, a CPU that goes or comes, or a write of another group.
 ///
 /// What was safe stays safe after each single event. Each container requests what it did at first, what it keeps of
 /// that, or its target. At most two writes for each entry are to come, and each that succeeds is one less, as the
@@ -34,8 +34,8 @@ pub fn effects()
     ensures safe { SafeInEffect }
 {}
 
-/// Worked rows of docs/formats.md, "Scripts": the writes of a hand-over in which two containers swap their CPUs, each
-/// one evaluated from what the containers request then.
+/// Worked rows of docs/formats.md, "Scripts": the writes of a hand-over in which two containers swap their CPUs. Each
+/// is evaluated from what the containers request then.
 pub fn worked()
     ensures keeps_part { due swap (both_live (2 ∷ 3 ∷ []) (1 ∷ [])) ≡ Some (write web (2 ∷ [])) }
     ensures keeps_none { due swap (both_live (3 ∷ []) (1 ∷ [])) ≡ Some (write web (0 ∷ [])) }

@@ -50,15 +50,15 @@ pub fn scaled_rows_have_two_costs()
     ensures least { LeastIsNearest }
 {}
 
-/// Rows that ask for as many CPUs and weigh each CPU the same have the same plans at the same costs, however their
-/// offers are cut.
+/// Rows that ask for as many CPUs and weigh each CPU the same have the same plans at the same costs. How their offers
+/// are cut makes no difference.
 pub fn same_weights_have_the_same_plans()
     ensures plans { SameWeightsSamePlans }
     ensures costs { SameWeightsSameCosts }
 {}
 
-/// The limits: 1,024 rows, 4,096 CPUs that a row asks for, weights below 2^25, values and prices up to 2^40; and the
-/// scale of weights that count moves, 2^16.
+/// The limits: 1,024 rows, 4,096 CPUs that a row asks for, weights below 2^25, values and prices up to 2^40. The scale
+/// of weights that count moves is 2^16.
 pub fn the_limits()
     ensures rows { MAX_ROWS ≡ 1_024 }
     ensures demand { MAX_DEMAND ≡ 4_096 }

@@ -33,7 +33,7 @@ pub fn check_text(alloc: Global, text: &[u8]) -> Result<Verdict, OrMemory<Verdic
     ensures least { IfOk result (λ v. SaysLeast text.now v) }
     // A yes wherever that holds, unless an allocation failed. By the code one can fail in the reading alone.
     ensures complete { (v : Verdict) → IsVerdict text.now v → IsAnswered result v }
-    // A no: the first bad line, or the certificate's first fault, whose cause holds; or an allocation failed at a line,
+    // A no: the first bad line, or the certificate's first fault, whose cause holds. Or an allocation failed at a line,
     // and those before it were in order.
     ensures fault { IfErr result (λ e. IsVerdictError text.now e) }
 {

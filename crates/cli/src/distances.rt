@@ -21,9 +21,9 @@ use std::alloc::Global;
 use std::io;
 use std::io::Write;
 
-/// Prints the distance table in the source that is called so. It is a line `localities N`, and then for each locality a
-/// line of its distances to all of them; or why the bytes are no table. The status is 0, or 1 for a refusal and for
-/// lines that can't be written.
+/// Prints the distance table in the source that is called so, or why the bytes are no table. A table is a line
+/// `localities N`, and then for each locality a line of its distances to all of them. The status is 0, or 1 for a
+/// refusal and for lines that can't be written.
 pub fn do_slit<S: Source, W: Write, E: Write>(
     alloc: Global,
     source: S,

@@ -32,8 +32,8 @@ pub struct Root<'a> {
     pub adopt: bool,
 }
 
-/// Runs a script as [`do_run`](crate::do_run) does, and makes each kernel write below this root too; or prints why one
-/// of the files or the root is refused. No number of reads is too many.
+/// Runs a script as [`do_run`](crate::do_run) does, and makes each kernel write below this root too. If one of the files
+/// or the root is refused, it prints why. No number of reads is too many.
 pub fn do_run_mirrored<
     F: Opens,
     T: GroupTrees + Drop,

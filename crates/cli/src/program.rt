@@ -24,7 +24,7 @@ use std::io::{Read, Write};
 
 /// Does what the words of the command line ask for, over these files and standard streams, and tells the exit status.
 /// It is 0; or 1 if an input is refused, an allocation fails or the answer can't be written. It is 2 if the words are
-/// no command line, or an allocation fails while they are parsed or the help or a mistake is put into words.
+/// no command line. It is 2 too if an allocation fails while they are parsed or the help or a mistake is put into words.
 pub fn run_program<G: Grammar, F: Opens, T: GroupTrees + Drop, R: Read + Input, W: Write, E: Write>(
     alloc: Global,
     grammar: &G,

@@ -19,14 +19,14 @@ pub fn slit_spellings()
 {}
 
 /// `run MACHINE` asks for a run over the machine in that file, if its name doesn't begin with a hyphen or has `--`
-/// before it. With `--slit FILE`, with `--cgroup ROOT`, or with that and `--adopt`, behind the machine or before it, it
-/// asks for one with these, if no name begins with a hyphen. `--adopt` without `--cgroup` is a mistake, in whatever
-/// words (`adopt_beside`).
+/// before it. With `--slit FILE`, with `--cgroup ROOT`, or with that and `--adopt`, it asks for one with these, if no
+/// name begins with a hyphen. They stand behind the machine or before it. `--adopt` without `--cgroup` is a mistake, in
+/// whatever words (`adopt_beside`).
 pub fn run_spellings()
     ensures { RunSpellings }
 {}
 
-/// `solve` asks for the solution of the problem on standard input, and `solve FILE` for that of the file's, if its name
+/// `solve` asks for the solution of the problem on standard input. `solve FILE` asks for that of the file's, if its name
 /// doesn't begin with a hyphen or has `--` before it.
 pub fn solve_spellings()
     ensures { SolveSpellings }

@@ -9,7 +9,7 @@
 //!   makes its nth write fail, told by the count of writes, and else answers as the kernel within.
 //! - Each writing call is counted, whatever it answers, and no other call is (`CountsEachWrite`). The model keeps that
 //!   count as ghost data; nothing of it runs.
-//! - The count binds code that is generic over `Kernel`, such as `apply_plan` and `node`: such code gets a count one
+//! - The count binds code that is generic over `Kernel`, such as `apply_plan` and `node`. Such code gets a count one
 //!   higher from a writing call alone. Of the body of a single kernel it says nothing.
 //! - The laws prove what each call leaves whatever it answers. They prove when nothing stands against it, and what does
 //!   if it is refused. Over any list of calls no pid and no serial is given twice, and every process is in a group that

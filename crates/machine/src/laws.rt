@@ -41,8 +41,8 @@ pub fn core_laws()
     ensures filled { CoresFillWithin }
 {}
 
-/// n cores have n × `threads` CPUs, and so has what is whole in a set. If f is the same for all CPUs of a core (their
-/// weight is), its sum over the CPUs is `threads` times that over the cores.
+/// n cores have n × `threads` CPUs, and so has what is whole in a set. If f is the same for all CPUs of a core, as
+/// weights are, its sum over the CPUs is `threads` times that over the cores.
 pub fn core_counts()
     ensures cores { CoresAreAlike }
     ensures whole { WholeIsCounted }

@@ -123,7 +123,7 @@ impl<K: Kernel + Drop> Node<K> {
         Ok(outcome)
     }
 
-    /// Works out a plan of the live containers of least total distance to the home nodes; among all plans of that total
+    /// Works out a plan of the live containers of least total distance to the home nodes. Among all plans of that total
     /// it moves the fewest cores. It opens the hand-over to it, of which [`step`](Node::step) makes the writes one by
     /// one. If there is no plan, a shortage shows why. In the kernel nothing is written.
     ///

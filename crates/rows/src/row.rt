@@ -13,7 +13,7 @@ use demand::{Demand, Kind};
 use machine::Machine;
 use std::alloc::{AllocError, Global};
 
-/// The row of a container that asks for CPUs of its own while these CPUs are online, and that holds some already; a
+/// The row of a container that asks for CPUs of its own while these CPUs are online, and that holds some already. A
 /// shared one has none.
 ///
 /// It asks for cores, and offers those of which the container may get all CPUs and all are online, each by its lowest
