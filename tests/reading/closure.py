@@ -23,6 +23,7 @@ USE = re.compile(r"^ *(?:ghost )?use Rattle\.(\w+)\.specs\.([\w.]+?)(?:\.\{(.*)\
 CLAUSES = [
     ("check_plan", "certificate", "checks.rt", "check_plan", "least"),
     ("check", "certificate", "checking.rt", "check", "best"),
+    ("check_text", "certificate_text", "checking.rt", "check_text", "least"),
     ("solve", "transport", "solver.rt", "solve", "decided"),
     ("rebalance", "node", "planning.rt", "rebalance", "headline"),
     ("rebalance_told", "node", "planning.rt", "rebalance", "told"),
@@ -258,17 +259,19 @@ def figures(found):
 
 def sentence(found):
     """How little that is, as README.md says it."""
-    def lines(title, key="definitions"):
-        return f"{found[title]['sources'].size(found[title][key]):,}"
+    def lines(title, key="definitions", without=frozenset()):
+        return f"{found[title]['sources'].size(found[title][key] - without):,}"
 
-    yield f"To trust a yes of the checker, read {lines('check_plan')} lines of definitions, and {lines('check_plan', 'views')} on its types. The headline of a rebalance takes"
-    yield f"{lines('rebalance')} and {lines('rebalance', 'views')}; `told`, by which a shortage names containers, {lines('rebalance_told')}. They have no condition, so they hold after any"
-    yield "commands. [docs/reading.md](docs/reading.md) lists them."
+    added = lines("rebalance_told", without=found["rebalance"]["definitions"])
+    yield f"To trust a yes of the checker, read {lines('check')} lines of definitions, and {lines('check', 'views')} on its types. The headline of a rebalance takes"
+    yield f"{lines('rebalance')} and {lines('rebalance', 'views')}; `told`, by which a shortage names containers, adds {added}. These clauses have no precondition, so they"
+    yield "always hold. [docs/reading.md](docs/reading.md) lists them."
 
 
 SAYS = {
-    "check_plan": "the checker's yes: no plan costs less",
-    "check": "a verdict of `numarun check`, moves and shortages too",
+    "check_plan": "the checker's yes to a plan: none costs less",
+    "check": "its yes to a certificate, moves and shortages too",
+    "check_text": "its yes to a certificate's text, as `numarun check` reads it",
     "solve": "the solver's answer: optimal, or no plan exists",
     "rebalance": "the headline, of one rebalance",
     "rebalance_told": "what the certificate tells of it",
