@@ -263,9 +263,9 @@ def sentence(found):
         return f"{found[title]['sources'].size(found[title][key] - without):,}"
 
     added = lines("rebalance_told", without=found["rebalance"]["definitions"])
-    yield f"To trust a yes of the checker, read {lines('check')} lines of definitions, and {lines('check', 'views')} on its types. The headline of a rebalance takes"
-    yield f"{lines('rebalance')} and {lines('rebalance', 'views')}; `told`, by which a shortage names containers, adds {added}. These clauses have no precondition, so they"
-    yield "always hold. [docs/reading.md](docs/reading.md) lists them."
+    yield f"To trust a yes to a certificate in memory, read {lines('check')} lines of definitions, and {lines('check', 'views')} on its types; to a text"
+    yield f"{lines('check_text')} and {lines('check_text', 'views')}. The headline of a rebalance takes {lines('rebalance')} and {lines('rebalance', 'views')}; `told`, by which a shortage names"
+    yield f"containers, adds {added}. They have no precondition, so they always hold. [docs/reading.md](docs/reading.md) lists them."
 
 
 SAYS = {
