@@ -1,7 +1,8 @@
 """Kills the agent, and only that, at moments by chance and starts it again, while containers come, go and come back under their
-ids, some with a config that is written in two parts. `kills.py [SEED [MOMENTS]]`. Looks at the tree all the while: no CPU
-outside the reserved ones is with two containers of which one is pinned, and no container that had its CPUs is squeezed onto
-the reserved ones. A look counts where two readings, one behind the other, are the same."""
+ids, some with a config that is written in two parts. `kills.py [SEED [MOMENTS]]`. Looks at the tree all the while: who requests CPUs
+without a reserved one has them as its own, and they are with no other container; and no container that had its CPUs is squeezed
+onto the reserved ones. Who comes while a plan is handed over may get what was meant for the one before, as the pool's CPUs, which are
+nobody's own. A look counts where two readings, one behind the other, are the same."""
 
 import json
 import os
@@ -32,9 +33,10 @@ class World:
     def __init__(self, folder, chance):
         self.folder, self.chance, self.lock = folder, chance, threading.Lock()
         self.there, self.count, self.ended = {}, 0, False
-        self.looks = self.shared = self.squeezed = self.torn = 0
+        self.looks = self.torn = self.went = 0
+        self.shared, self.squeezed = [], []  # when, who, and what each one requested
         self.had = set()    # the containers, each time that one came, that had all their CPUs
-        for name in ("g", "root/numarun"):
+        for name in ("g", "root/numarun", "gone"):
             os.makedirs(os.path.join(folder, name))
         with open(os.path.join(folder, "machine.json"), "w") as file:
             json.dump(MACHINE, file)
@@ -64,11 +66,13 @@ class World:
             file.write(text)
 
     def go(self, name):
+        """Each folder at once, as the kernel does it, though somebody may write into it. It is kept elsewhere: the kernel gives no group
+        the inode of one before, and a file system would give that of a removed folder to the next one."""
         ways = [os.path.join(self.folder, "g", name), self.group(name)]
         self.chance.shuffle(ways)
-        for path in ways:  # each at once, as the kernel does it, though somebody may write into it
-            os.rename(path, os.path.join(self.folder, "gone"))
-            shutil.rmtree(os.path.join(self.folder, "gone"))
+        for path in ways:
+            self.went += 1
+            os.rename(path, os.path.join(self.folder, "gone", str(self.went)))
         del self.there[name]
 
     def change(self):
@@ -93,16 +97,16 @@ class World:
                 return
             sets = {name: read_list(text, name) if text.strip() else set() for name, text in first.items()}
             self.looks += 1
-            names = sorted(sets)
-            self.shared += any(sets[a] & sets[b] - RESERVED for a in names for b in names if a < b and a in PINNED)
+            names, now = sorted(sets), time.strftime("%H:%M:%S")
+            own = {name for name in names if name in PINNED and not sets[name] & RESERVED}
+            both = [(a, b) for a in names for b in names if a < b and {a, b} & own and sets[a] & sets[b]]
+            self.shared += [(now, both, first)] if both else []
             for name in PINNED:
                 came, count = self.there.get(name, (0, 0))
                 if count and len(sets[name] - RESERVED) == count:
                     self.had.add(came)
                 elif came in self.had:
-                    self.squeezed += 1
-                    if os.environ.get("KEEP"):
-                        print("squeezed", time.strftime("%H:%M:%S"), name, came, first)
+                    self.squeezed.append((now, name, first))
 
     def watch(self):
         while not self.ended:
@@ -138,7 +142,8 @@ def main(folder):
     check("the last run", agent(folder, "--rounds", "4").wait(), 0)
     for _ in range(3):
         world.look()
-    check("CPUs with two containers, and squeezed ones", (world.shared, world.squeezed), (0, 0))
+    check("CPUs with two containers", world.shared[:2] + world.shared[-1:], [])
+    check("squeezed ones", world.squeezed[:2] + world.squeezed[-1:], [])
     left = {name: len(read_list(text, name)) for name, text in world.reading().items() if name in PINNED}
     check("what each has in the end", left, {name: count for name, (_, count) in world.there.items() if count})
     said = open(f"{folder}/out").read().splitlines()

@@ -31,7 +31,7 @@ class Site:
 
     def __init__(self, machine=None, root=True):
         Site.count += 1
-        self.folder = os.path.join(SCRATCH, f"site-{os.getpid()}-{Site.count}")
+        self.folder, self.went = os.path.join(SCRATCH, f"site-{os.getpid()}-{Site.count}"), 0
         shutil.rmtree(self.folder, ignore_errors=True)
         os.makedirs(os.path.join(self.folder, "g"))
         if root:
@@ -83,9 +83,11 @@ class Site:
         self.put(f"numarun/{name}", "cpuset.cpus", cpus)
 
     def go(self, name):
+        """Its folders are kept elsewhere, so that the next group in this place has another inode, as in the kernel."""
         for path in (self.at("g", name), self.at("root", "numarun", name)):
-            os.rename(path, self.at("gone"))
-            shutil.rmtree(self.at("gone"))
+            self.went += 1
+            os.makedirs(self.at("gone"), exist_ok=True)
+            os.rename(path, self.at("gone", str(self.went)))
 
     def has(self, *names):
         return [open(self.at("root", "numarun", name, "cpuset.cpus")).read().strip() for name in names]

@@ -35,11 +35,11 @@ class World:
     def __init__(self, folder, chance):
         self.folder, self.chance, self.lock = folder, chance, threading.Lock()
         self.there, self.count, self.ended = {}, 0, False
-        self.looks = self.torn = 0
+        self.looks = self.torn = self.went = 0
         self.unsafe = []
         self.own, self.squeezed = {}, []  # which CPUs each one had last as its own; and when one had not, by its name
         self.did = dict.fromkeys(("come", "go", "configure", "break_config", "limit", "flap", "hide", "drift"), 0)
-        for name in ("g", "root/numarun"):
+        for name in ("g", "root/numarun", "gone"):
             os.makedirs(self.at(name))
         self.write("machine.json", json.dumps(MACHINE))
         self.write("online", "0-15\n")
@@ -79,12 +79,14 @@ class World:
             file.write(text)
 
     def go(self, name):
+        """Each folder at once, as the kernel does it, though somebody may write into it. It is kept elsewhere: the kernel gives no group
+        the inode of one before, and a file system would give that of a removed folder to the next one."""
         self.write(self.group(name, "cgroup.events"), "populated 0\n")
         ways = [self.at("g", name), self.group(name)]
         self.chance.shuffle(ways)
-        for path in ways:  # each at once, as the kernel does it, though somebody may write into it
-            os.rename(path, self.at("gone"))
-            shutil.rmtree(self.at("gone"))
+        for path in ways:
+            self.went += 1
+            os.rename(path, self.at("gone", str(self.went)))
         del self.there[name]
         self.own.pop(name, None)
 
