@@ -22,7 +22,8 @@ use Rattle.transport.specs.States.{cell, shares_of, AreHoldings, IsNoHolder}
 use Rattle.transport.specs.Searches.{IsSearch, AreWeights}
 use Rattle.transport.specs.ReachedRows.{is_reached, parent_class, index, row_at}
 use Rattle.transport.specs.Settled.{IsSettled}
-use Rattle.transport.specs.Outcomes.{demand_of, IsDone, IsStuck}
+use Rattle.transport.specs.Outcomes.{demand_of, IsDone, IsStuck, IsLate}
+use Rattle.transport.specs.Solved.{MayTakeMore}
 use Rattle.transport.specs.Assigning.{IsFirst, IsHandedOut, CanAssign, IsAssigning, IsAtEnd, a_search, AreAssigned}
 use Rattle.transport.specs.declared.assignment.Assignment.{Assignment}
 use Rattle.transport.specs.declared.instance.Instance.{Instance}
@@ -187,6 +188,23 @@ grow x y a after le most =
     let same : a ≤ a = omega arith in
     let up : x * a ≤ y * a = mul-le-mul le same in
     omega (arith, most, up)
+
+-- so many rows ask for no more CPUs than they may
+asked_low : (rows : List RowView) → AreRowsWithin rows → asked rows ≤ MAX_ROWS * MAX_DEMAND
+asked_low rows fit = below (asked_is rows) (total_small (demand_of rows) (length rows) MAX_DEMAND (λ k. demand_low rows k fit))
+  where
+    below : total (demand_of rows) (length rows) ≡ asked rows → total (demand_of rows) (length rows) ≤ length rows * MAX_DEMAND → asked rows ≤ MAX_ROWS * MAX_DEMAND
+    below is small = omega (arith, is, small, fit.few)
+
+-- no rows take as many turns as a number of 64 bits can count
+pub never_late : (rows : List RowView) → AreRowsWithin rows → MayTakeMore rows (18446744073709551615) → ⊥
+never_late rows fit late =
+    let few : length rows + length late.classes ≤ MAX_ROWS + CPU_LIMIT = omega (arith, fit.few, late.few) in
+    let low : asked rows * (length rows + length late.classes) ≤ most_turns = mul-le-mul (asked_low rows fit) few in
+    never (asked rows * (length rows + length late.classes)) low late.more
+  where
+    never : (x : ℕ) → x ≤ most_turns → 18446744073709551615 < x → ⊥
+    never x low more = omega (arith, low, more)
 
 -- before the first row
 module _ (t : Instance) (sizes : List ℕ) (s : Assignment) (arcs_by_kind : List SortedArcs) (fit : AreRowsWithin t.rows.now) (kinds : AreKinds t.rows.now (length t.rows.now) t.kinds.now)
@@ -354,6 +372,17 @@ module _ (t : Instance) (sizes : List ℕ) (s : Assignment) (arcs_by_kind : List
       up : total (demand_of t.rows.now) (suc row) ≤ total (demand_of t.rows.now) (length t.rows.now) → after ≤ total (demand_of t.rows.now) (suc row) * (length t.rows.now + length sizes)
           → after ≤ asked t.rows.now * (length t.rows.now + length sizes)
       up le most = rw (← asked_is t.rows.now) (grow (total (demand_of t.rows.now) (suc row)) (total (demand_of t.rows.now) (length t.rows.now)) (length t.rows.now + length sizes) after le most)
+
+-- the rows so far took more turns than these
+pub late_at_row : (t : Instance) (sizes : List ℕ) (s : Assignment) (arcs_by_kind : List SortedArcs) (row turns most : ℕ) → AreAssigned t sizes s arcs_by_kind row turns → row < length t.rows.now → most < turns → IsLate t.rows.now sizes most
+late_at_row t sizes s arcs_by_kind row turns most h lt late =
+    let up = total_up (demand_of t.rows.now) row (length t.rows.now) (omega (arith, lt)) in
+    let grown = grow (total (demand_of t.rows.now) row) (total (demand_of t.rows.now) (length t.rows.now)) (length t.rows.now + length sizes) turns up h.at_most in
+    let all : turns ≤ asked t.rows.now * (length t.rows.now + length sizes) = rw (← asked_is t.rows.now) grown in
+    above (asked t.rows.now * (length t.rows.now + length sizes)) all
+  where
+    above : (x : ℕ) → turns ≤ x → most < x
+    above x all = omega (arith, all, late)
 
 -- all rows have what they ask for
 pub done_at_end : (t : Instance) (sizes : List ℕ) (s : Assignment) (arcs_by_kind : List SortedArcs) (row turns : ℕ) → AreAssigned t sizes s arcs_by_kind row turns → row ≡ length t.rows.now → IsDone t.rows.now t.firsts sizes s turns

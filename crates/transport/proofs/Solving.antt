@@ -1,7 +1,7 @@
 -- What a solved problem's answer says, clause by clause.
-use Rattle.std.proofs.Common.{List, Result, IfOk, Ok, Err}
+use Rattle.std.proofs.Common.{◌≡◌, ℕ, List, Option, Some, None, IfSome, Result, IfOk, Ok, Err, subst}
 use Rattle.certificate.specs.RowView.{RowView}
-use Rattle.transport.specs.Solved.{IsRight, IsDecided, AreTwinsDealt, ArePricesOfClasses, AreTurns, IsSolved}
+use Rattle.transport.specs.Solved.{IsRight, IsDecided, AreTwinsDealt, ArePricesOfClasses, AreTurns, IsSolved, MayTakeMore, IsSolvedWithin}
 use Rattle.transport.specs.declared.solver.Answer.{Answer}
 use Rattle.transport.specs.declared.solver.Answer.TheVariants.{Plan, Short}
 
@@ -29,3 +29,11 @@ turns_of rows (Short members turns) h = h.counted
 pub if_ok : {A E : Type 0} {P Q : A → Type 0} → (r : Result A E) → ((a : A) → P a → Q a) → IfOk r P → IfOk r Q
 if_ok (Ok a) follows h = follows a h
 if_ok (Err e) follows h = tt
+
+-- what follows from an answer, if there is one
+pub if_some : {Q : Answer → Type 0} (rows : List RowView) (most : ℕ) → ((a : Answer) → IsSolved rows a → Q a) → (found : Option Answer) → IsSolvedWithin rows most found → IfSome found Q
+if_some rows most follows (Some a) h = follows a h
+if_some rows most follows None h = tt
+
+pub late_of : (rows : List RowView) (most : ℕ) (found : Option Answer) → IsSolvedWithin rows most found → found ≡ None → MayTakeMore rows most
+late_of rows most found h is = subst (IsSolvedWithin rows most) is h

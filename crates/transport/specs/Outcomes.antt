@@ -10,7 +10,7 @@ use Rattle.transport.specs.States.{cell}
 use Rattle.transport.specs.Settled.{IsSettled}
 use Rattle.transport.specs.declared.assignment.Assignment.{Assignment}
 use Rattle.transport.specs.declared.augment.Outcome.{Outcome}
-use Rattle.transport.specs.declared.augment.Outcome.TheVariants.{Done, Stuck}
+use Rattle.transport.specs.declared.augment.Outcome.TheVariants.{Done, Stuck, Late}
 
 -- how many CPUs row k asks for
 abbrev pub demand_of : List RowView → ℕ → ℕ
@@ -37,6 +37,12 @@ pub record IsStuck (rows : List RowView) (firsts sizes : List ℕ) (reached take
   pub at_least : (k : ℕ) → is_marked reached k ≡ true → 2 * k + (count_by (λ b. b) reached + count_by (λ b. b) taken) ≤ turns
   pub at_most : turns ≤ asked rows * (length rows + length sizes)
 
-abbrev pub IsOutcome : List RowView → List ℕ → List ℕ → Outcome → Type 0
-IsOutcome rows firsts sizes (Done assignment turns) = IsDone rows firsts sizes assignment turns
-IsOutcome rows firsts sizes (Stuck reached taken turns) = IsStuck rows firsts sizes reached.items taken.items turns
+-- the searches may take more turns than these
+abbrev pub IsLate : List RowView → List ℕ → ℕ → Type 0
+IsLate rows sizes most = most < asked rows * (length rows + length sizes)
+
+-- what the rows get, or that it may take more turns than these
+abbrev pub IsOutcome : List RowView → List ℕ → List ℕ → ℕ → Outcome → Type 0
+IsOutcome rows firsts sizes most (Done assignment turns) = IsDone rows firsts sizes assignment turns
+IsOutcome rows firsts sizes most (Stuck reached taken turns) = IsStuck rows firsts sizes reached.items taken.items turns
+IsOutcome rows firsts sizes most Late = IsLate rows sizes most

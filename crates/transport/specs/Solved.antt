@@ -1,8 +1,9 @@
 -- What a problem comes to: a least plan with what proves it, or a shortage.
-use Rattle.std.specs.Prelude.{◌≡◌, ℕ, ◌+◌, ◌*◌, ◌<◌, ◌≤◌, Bool, cond, List, All, Contains, length, is_some}
+use Rattle.std.specs.Prelude.{◌≡◌, ℕ, ◌+◌, ◌*◌, ◌<◌, ◌≤◌, Bool, cond, List, All, Contains, length, is_some, Option, Some, None}
 use Rattle.std.specs.FinSet as set
 use Rattle.std.specs.List.{list_any}
 use Rattle.cpu_set.specs.Ids.{Ids}
+use Rattle.cpu_set.specs.declared.TheConstants.{CPU_LIMIT}
 use Rattle.certificate.specs.RowView.{RowView}
 use Rattle.certificate.specs.PricesView.{PricesView}
 use Rattle.certificate.specs.IsLeast.{IsLeast}
@@ -94,3 +95,15 @@ pub record IsSolvedShortage (rows : List RowView) (members : List ℕ) (turns : 
 abbrev pub IsSolved : List RowView → Answer → Type 0
 IsSolved rows (Plan sets prices total turns) = IsSolvedPlan rows sets prices total turns
 IsSolved rows (Short members turns) = IsSolvedShortage rows members.items turns
+
+-- more turns than these may be needed: the bound for all rows is above them
+pub record MayTakeMore (rows : List RowView) (most : ℕ) : Type 0 where
+  pub classes : List Ids
+  pub grouping : IsGrouping rows classes
+  pub few : length classes ≤ CPU_LIMIT
+  pub more : most < asked rows * (length rows + length classes)
+
+-- an answer; or none, where more turns may be needed
+abbrev pub IsSolvedWithin : List RowView → ℕ → Option Answer → Type 0
+IsSolvedWithin rows most (Some answer) = IsSolved rows answer
+IsSolvedWithin rows most None = MayTakeMore rows most

@@ -43,24 +43,34 @@ pub enum Outcome {
         taken: Vec<bool>,
         turns: u64,
     },
+    /// More turns were taken than are to be, and there are rows left.
+    Late,
 }
 
 /// Assigns the rows one after another, with CPUs of classes of the given sizes.
 ///
 /// A turn is counted for each row or class that a search takes up: at most one search for each CPU that is
-/// asked for, and in a search at most one turn for each row and class.
-pub fn assign_all(alloc: Global, instance: &Instance, sizes: &[u32]) -> Result<Outcome, AllocError>
+/// asked for, and in a search at most one turn for each row and class. No row is begun behind more than `most` turns.
+pub fn assign_all(
+    alloc: Global,
+    instance: &Instance,
+    sizes: &[u32],
+    most: u64,
+) -> Result<Outcome, AllocError>
     requires fit { AreRowsWithin instance.now.rows.now }
     requires kinds { AreKinds instance.now.rows.now (length instance.now.rows.now) instance.now.kinds.now }
     requires classes { length instance.now.firsts ≡ length sizes.now }
     requires few { length sizes.now ≤ CPU_LIMIT }
-    ensures { IfOk result (IsOutcome instance.now.rows.now instance.now.firsts sizes.now) }
+    ensures { IfOk result (IsOutcome instance.now.rows.now instance.now.firsts sizes.now most) }
 {
     let mut assignment = Assignment::first(alloc, instance, sizes)?;
     let mut arcs_by_kind = sorted_arcs_of(alloc, instance)?;
     let mut tree = SearchTree::new(alloc, instance.rows.len(), sizes.len())?;
     let mut turns = 0;
     for row in 0..instance.rows.len() {
+        if turns > most {
+            return Ok(Outcome::Late);
+        }
         if !assign_row(
             instance,
             &mut assignment,

@@ -47,4 +47,4 @@ mod tree;
 pub(crate) use assignment::Assignment;
 pub(crate) use augment::{Outcome, assign_all};
 pub(crate) use instance::{Instance, Representatives};
-pub use solver::{Answer, solve};
+pub use solver::{Answer, solve, solve_within};

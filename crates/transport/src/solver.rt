@@ -1,5 +1,5 @@
 //! The plan or the shortage that a problem comes to.
-ghost use Rattle.std.specs.Prelude.{◌≡◌, ◌≤◌, IsTrue, IfOk, length, map};
+ghost use Rattle.std.specs.Prelude.{◌≡◌, ◌≤◌, IsTrue, IfOk, IfSome, None, length, map};
 ghost use Rattle.certificate.specs.AreWithin.{AreRowsWithin};
 ghost use Rattle.certificate.specs.Limits.{rows_fit};
 ghost use Rattle.twins.specs.IsGrouping.{IsGrouping};
@@ -7,6 +7,7 @@ ghost use Rattle.twins.specs.Kinds.{AreKinds};
 ghost use Rattle.transport.specs.Outcomes.{IsDone, IsStuck, IsOutcome};
 ghost use Rattle.transport.specs.Representatives.{first_of};
 ghost use Rattle.transport.specs.Solved.{IsRight, IsDecided, AreTwinsDealt, ArePricesOfClasses, AreTurns, IsSolved};
+ghost use Rattle.transport.specs.Solved.{MayTakeMore, IsSolvedWithin};
 ghost use Rattle.transport.specs.Places.{marked_places};
 ghost use Rattle.std.specs.FinSet as set;
 
@@ -53,17 +54,69 @@ fn solve_body(alloc: Global, problem: &Problem) -> Result<Answer, AllocError>
     ensures { IfOk result (IsSolved problem.now) }
 {
     certificate::laws::what_is_within_the_limits();
+    match solve_within_body(alloc, problem, u64::MAX)? {
+        Some(answer) => Ok(answer),
+        None => unreachable!(),
+    }
+}
+
+/// What [`solve`] answers, if that takes few turns: once more than `most` are taken, no further row is begun.
+///
+/// # Errors
+/// An allocation failure; no problem is refused.
+pub fn solve_within(
+    alloc: Global,
+    problem: &Problem,
+    most: u64,
+) -> Result<Option<Answer>, AllocError>
+    requires { IsTrue (rows_fit problem.now) }
+
+    // An answer is what `solve` promises: a plan with its cost and what proves it least, or a shortage.
+    ensures right { IfOk result (λ found. IfSome found (IsRight problem.now)) }
+
+    // **There is a plan in the answer wherever there is one at all**, and none costs less. There is a shortage only if
+    // there is no plan.
+    ensures decided { IfOk result (λ found. IfSome found (IsDecided problem.now)) }
+
+    // Twins go to the rows in order, the lower CPU first.
+    ensures dealt { IfOk result (λ found. IfSome found (AreTwinsDealt problem.now)) }
+
+    // Each class of twins whose price is not 0 has one price, and there are no other prices.
+    ensures priced { IfOk result (λ found. IfSome found (ArePricesOfClasses problem.now)) }
+
+    // The turns of an answer are those of `solve`.
+    ensures turns { IfOk result (λ found. IfSome found (AreTurns problem.now)) }
+
+    // There is no answer only where more turns may be needed: (rows + classes) × CPUs asked for are more than `most`.
+    ensures late { IfOk result (λ found. found ≡ None → MayTakeMore problem.now most) }
+{
+    solve_within_body(alloc, problem, most)
+}
+
+fn solve_within_body(
+    alloc: Global,
+    problem: &Problem,
+    most: u64,
+) -> Result<Option<Answer>, AllocError>
+    requires { IsTrue (rows_fit problem.now) }
+    ensures { IfOk result (IsSolvedWithin problem.now most) }
+{
+    certificate::laws::what_is_within_the_limits();
     let rows = problem.rows.as_slice();
     let kinds = kinds_of(alloc, rows)?;
     let classes = group(alloc, problem, &kinds)?;
-    match assigned(alloc, rows, &kinds, classes.sets.as_slice())? {
-        Outcome::Done { assignment, turns } => planned(alloc, problem, &classes, assignment, turns),
+    let answer = match assigned(alloc, rows, &kinds, classes.sets.as_slice(), most)? {
+        Outcome::Done { assignment, turns } => {
+            planned(alloc, problem, &classes, assignment, turns)?
+        }
         Outcome::Stuck {
             reached,
             taken,
             turns,
-        } => short(alloc, problem, &classes, &reached, &taken, turns),
-    }
+        } => short(alloc, problem, &classes, &reached, &taken, turns)?,
+        Outcome::Late => return Ok(None),
+    };
+    Ok(Some(answer))
 }
 
 /// What assigning the rows CPUs of these classes ends with.
@@ -72,12 +125,13 @@ fn assigned(
     rows: &[Row],
     kinds: &[usize],
     classes: &[IdSet],
+    most: u64,
 ) -> Result<Outcome, AllocError>
     requires kinds { AreKinds rows.now (length rows.now) kinds.now }
     requires fit { AreRowsWithin rows.now }
     requires grouping { IsGrouping rows.now classes.now }
     requires few { length classes.now ≤ CPU_LIMIT }
-    ensures { IfOk result (IsOutcome rows.now (map first_of classes.now) (map (λ s. set.len s) classes.now)) }
+    ensures { IfOk result (IsOutcome rows.now (map first_of classes.now) (map (λ s. set.len s) classes.now) most) }
 {
     let firsts = Representatives::new(alloc, classes)?;
     let sizes = sizes_of(alloc, classes)?;
@@ -86,7 +140,7 @@ fn assigned(
         kinds,
         firsts,
     };
-    assign_all(alloc, &instance, &sizes)
+    assign_all(alloc, &instance, &sizes, most)
 }
 
 /// The plan of rows that have what they ask for, of each class so many CPUs.

@@ -3,7 +3,7 @@ use Rattle.std.proofs.lemmas.List.{take-append-le, take_all}
 use Rattle.transport.specs.declared.arcs.SortedArcs.{SortedArcs}
 use Rattle.transport.specs.Outcomes.{IsOutcome}
 use Rattle.transport.specs.Assigning.{CanAssign, AreAssigned, IsRowAssigned}
-use Rattle.transport.proofs.Assigning.{assigned_first, can_assign, assigned_more, stuck_at_end, done_at_end}
+use Rattle.transport.proofs.Assigning.{assigned_first, can_assign, assigned_more, stuck_at_end, late_at_row, done_at_end}
 use Rattle.transport.proofs.augment.assign_all.Goals as goal
 
 pub loop-row-init : goal.loop-row-init
@@ -18,7 +18,7 @@ assign_row-requires-clause-can c =
 
 pub returns-then-not-branch : goal.returns-then-not-branch
 returns-then-not-branch c =
-    subst (IsOutcome c.args.instance.now.rows.now c.args.instance.now.firsts c.args.sizes.now) (sym c.stuck.ensures)
+    subst (IsOutcome c.args.instance.now.rows.now c.args.instance.now.firsts c.args.sizes.now c.args.most) (sym c.stuck.ensures)
     (stuck_at_end _ _ _ _ _ _ c.loop-row.invariant.0 c.requires.fit c.loop-row-test.true _ _ _
     (subst (IsRowAssigned c.args.instance.now c.loop-row.row c.loop-row.assignment c.assign_row.new.assignment c.assign_row.new.arcs_by_kind c.assign_row.new.tree c.loop-row.turns c.assign_row.new.turns) c.if-not-branch.true c.in_ok-assign_row.ensures))
 
@@ -37,3 +37,7 @@ loop-row-preserved c =
 
 pub returns : goal.returns
 returns c = done_at_end _ _ _ _ _ _ c.loop-row.invariant.0 (omega (arith, c.loop-row-test.false, c.loop-row.auto.row-end))
+
+pub returns-then-turns-most : goal.returns-then-turns-most
+returns-then-turns-most c =
+    late_at_row c.args.instance.now c.args.sizes.now _ _ _ _ c.args.most c.loop-row.invariant.0 c.loop-row-test.true (omega (arith, c.if-turns-most.true))

@@ -1,5 +1,9 @@
-use Rattle.transport.proofs.Pricing.{each_row_fits}
+use Rattle.std.proofs.Common.{subst}
+use Rattle.transport.proofs.Assigning.{never_late}
+use Rattle.transport.specs.Solved.{IsSolvedWithin}
 use Rattle.transport.proofs.solver.solve_body.Goals as goal
 
-pub group-requires-clause-fit : goal.group-requires-clause-fit
-group-requires-clause-fit c = each_row_fits c.args.problem.now c.requires
+pub unreachable-requires : goal.unreachable-requires
+unreachable-requires c =
+    never_late c.args.problem.now ((c.what_is_within_the_limits.ensures.rows _).0 c.requires)
+    (subst (IsSolvedWithin c.args.problem.now 18446744073709551615) c.in-None.is c.in_ok-answer.ensures)
