@@ -1,0 +1,254 @@
+//! The spanning tree: which rows and classes hang by which others, with the flow on each tree arc and the potentials.
+
+use certificate::Row;
+use cpu_set::IdSet;
+use std::alloc::{AllocError, Global};
+
+/// Stands for no node.
+pub(crate) const NONE: u32 = u32::MAX;
+
+/// The number of a node: none is past those of 32 bits.
+pub(crate) fn number_of(n: usize) -> u32 {
+    if n < NONE as usize { n as u32 } else { NONE }
+}
+
+/// What a CPU costs that a row has of nobody. No way through the tree costs as much.
+const UNSERVED: i64 = 1 << 38;
+
+/// A row, a class, or the root. Its children are a list.
+#[derive(Clone, Copy)]
+pub(crate) struct Node {
+    pub parent: u32,
+    pub first: u32,
+    next: u32,
+    before: u32,
+    pub depth: u32,
+    /// How many CPUs go over the arc to the parent: of a row to it, of a class from it.
+    pub flow: u32,
+    /// The part of the tree that it was last marked as one of.
+    pub part: u32,
+}
+
+const NOWHERE: Node = Node {
+    parent: NONE,
+    first: NONE,
+    next: NONE,
+    before: NONE,
+    depth: 0,
+    flow: 0,
+    part: NONE,
+};
+
+/// The rows are the first nodes, then comes the root, and then the classes.
+#[derive(Drop)]
+pub(crate) struct Tree {
+    nodes: Vec<Node>,
+    potentials: Vec<i64>,
+    /// How many rows there are. It is the root's number.
+    pub root: u32,
+}
+
+impl Tree {
+    /// Each row hangs by the root, which gives it nothing, and each class, whose CPUs nobody has.
+    pub(crate) fn new(alloc: Global, rows: &[Row], classes: &[IdSet]) -> Result<Tree, AllocError> {
+        let count = rows.len().wrapping_add(1).wrapping_add(classes.len());
+        let mut tree = Tree {
+            nodes: vec![in alloc; NOWHERE; count]?,
+            potentials: vec![in alloc; 0i64; count]?,
+            root: number_of(rows.len()),
+        };
+        for (k, row) in rows.iter().enumerate() {
+            tree.hang_first(number_of(k), row.demand, 0i64.wrapping_sub(UNSERVED));
+        }
+        for (g, cpus) in classes.iter().enumerate() {
+            let node = tree.node_of(g);
+            tree.hang_first(node, cpus.count(), 0);
+        }
+        Ok(tree)
+    }
+
+    /// How many nodes there are.
+    pub(crate) fn len(&self) -> usize {
+        self.nodes.len()
+    }
+
+    /// The node of a class.
+    pub(crate) fn node_of(&self, class: usize) -> u32 {
+        number_of(class).wrapping_add(self.root).wrapping_add(1)
+    }
+
+    pub(crate) fn is_class(&self, node: u32) -> bool {
+        node > self.root
+    }
+
+    pub(crate) fn node(&self, at: u32) -> Node {
+        match self.nodes.get(at as usize) {
+            Some(node) => *node,
+            None => NOWHERE,
+        }
+    }
+
+    pub(crate) fn potential(&self, at: u32) -> i64 {
+        match self.potentials.get(at as usize) {
+            Some(potential) => *potential,
+            None => 0,
+        }
+    }
+
+    /// The potentials of all nodes, those of the rows first.
+    pub(crate) fn potentials(&self) -> &[i64] {
+        self.potentials.as_slice()
+    }
+
+    fn hang_first(&mut self, at: u32, flow: u32, potential: i64) {
+        self.hang(at, self.root, flow);
+        if let Some(node) = self.nodes.get_mut(at as usize) {
+            node.depth = 1;
+        }
+        if let Some(place) = self.potentials.get_mut(at as usize) {
+            *place = potential;
+        }
+    }
+
+    /// Makes a node that has no parent the first child of another one.
+    fn hang(&mut self, at: u32, parent: u32, flow: u32) {
+        let mut next = NONE;
+        if let Some(above) = self.nodes.get_mut(parent as usize) {
+            next = above.first;
+            above.first = at;
+        }
+        if let Some(behind) = self.nodes.get_mut(next as usize) {
+            behind.before = at;
+        }
+        if let Some(node) = self.nodes.get_mut(at as usize) {
+            node.parent = parent;
+            node.next = next;
+            node.before = NONE;
+            node.flow = flow;
+        }
+    }
+
+    /// Takes a node out of its parent's children.
+    fn take_off(&mut self, node: Node) {
+        if let Some(before) = self.nodes.get_mut(node.before as usize) {
+            before.next = node.next;
+        } else if let Some(above) = self.nodes.get_mut(node.parent as usize) {
+            above.first = node.next;
+        }
+        if let Some(behind) = self.nodes.get_mut(node.next as usize) {
+            behind.before = node.before;
+        }
+    }
+
+    /// Hangs the part of the tree below `leaving` by another arc: from `at`, one of its nodes, to a node outside of it.
+    pub(crate) fn hang_anew(&mut self, leaving: u32, at: u32, by: u32, amount: u32) {
+        let (mut at, mut parent, mut flow) = (at, by, amount);
+        for _ in 0..self.nodes.len() {
+            let before = self.node(at);
+            self.take_off(before);
+            self.hang(at, parent, flow);
+            if at == leaving {
+                break;
+            }
+            parent = at;
+            flow = before.flow;
+            at = before.parent;
+        }
+    }
+
+    /// Adds to the flow on the way from a node up to another one: to what rows give and to what classes get.
+    pub(crate) fn add_flow(&mut self, from: u32, to: u32, of_rows: u32, of_classes: u32) {
+        let mut at = from;
+        for _ in 0..self.nodes.len() {
+            if at == to {
+                break;
+            }
+            let more = if self.is_class(at) {
+                of_classes
+            } else {
+                of_rows
+            };
+            at = match self.nodes.get_mut(at as usize) {
+                Some(node) => {
+                    node.flow = node.flow.wrapping_add(more);
+                    node.parent
+                }
+                None => to,
+            };
+        }
+    }
+
+    /// Adds to the potential of each node from `top` down, and counts their depths anew.
+    pub(crate) fn raise(&mut self, top: u32, by: i64) {
+        let mut at = top;
+        for _ in 0..self.nodes.len() {
+            let first = self.raise_one(at, by);
+            at = if first == NONE {
+                self.next_below(at, top)
+            } else {
+                first
+            };
+            if at == NONE {
+                break;
+            }
+        }
+    }
+
+    /// Adds to the potential of a node; its first child.
+    fn raise_one(&mut self, at: u32, by: i64) -> u32 {
+        if let Some(potential) = self.potentials.get_mut(at as usize) {
+            *potential = potential.wrapping_add(by);
+        }
+        let depth = self.node(self.node(at).parent).depth.wrapping_add(1);
+        match self.nodes.get_mut(at as usize) {
+            Some(node) => {
+                node.depth = depth;
+                node.first
+            }
+            None => NONE,
+        }
+    }
+
+    /// What comes behind a node and all below it, in the part below `top`.
+    fn next_below(&self, from: u32, top: u32) -> u32 {
+        let mut at = from;
+        for _ in 0..self.nodes.len() {
+            if at == top {
+                return NONE;
+            }
+            let node = self.node(at);
+            if node.next != NONE {
+                return node.next;
+            }
+            at = node.parent;
+        }
+        NONE
+    }
+
+    /// Marks each node from `top` down as one of its part.
+    pub(crate) fn mark(&mut self, top: u32) {
+        let mut at = top;
+        for _ in 0..self.nodes.len() {
+            let first = self.mark_one(at, top);
+            at = if first == NONE {
+                self.next_below(at, top)
+            } else {
+                first
+            };
+            if at == NONE {
+                break;
+            }
+        }
+    }
+
+    /// Marks a node; its first child.
+    fn mark_one(&mut self, at: u32, part: u32) -> u32 {
+        match self.nodes.get_mut(at as usize) {
+            Some(node) => {
+                node.part = part;
+                node.first
+            }
+            None => NONE,
+        }
+    }
+}
