@@ -62,6 +62,8 @@ printf 'numarun-problem 1\nrow a 2 10:1-2\nrow b 1 10:1-2\nend\n' >"$work/lack"
 sed 's/^row b/row a/' "$work/problem" >"$work/twice"
 each_failure "solve" 0 "1+2+1+" "$work/problem" solve
 each_failure "solve FILE" 0 "1+2+1+" /dev/null solve "$work/lack"
+awk 'BEGIN { print "numarun-problem 1"; for (k = 1; k < 4; k++) { printf "row r%d 4", k; for (c = 0; c < 4096; c++) printf " %d:%d", k * (c + 1), c; print "" }; print "end" }' >"$work/many"
+each_failure "solve by the second way" 0 "1+2+1+" "$work/many" solve
 each_failure "an id of two rows" 1 "1+2+1+" "$work/twice" solve
 each_failure "list" 0 "1+2+" /dev/null list "3,1-2"
 each_failure "a text that is no list" 1 "1+2+" /dev/null list 5-3

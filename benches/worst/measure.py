@@ -46,12 +46,14 @@ def singles(out, kind):
     out.writelines([*(f"price 5 {cpu}\n" for cpu in range(1, 4096)), "total 40950\nend\n"])
 
 
-def products(rows):
-    """Row k asks for 4 of 4 * `rows` CPUs, CPU c at the weight (k + 1) * (c + 1): each search takes up nearly all rows and CPUs."""
+def products(rows, each=4):
+    """Each row asks for so many of 4 * `rows` CPUs, the last one for the rest, and row k has CPU c at the weight (k + 1) * (c + 1):
+    each search takes up nearly all rows and CPUs."""
     def write(out, kind):
         out.write(FIRST[kind])
         for k in range(rows):
-            out.write(f"row r{k} 4" + "".join(f" {(k + 1) * (c + 1)}:{c}" for c in range(4 * rows)) + "\n")
+            demand = each if k < rows - 1 else 4 * rows - each * (rows - 1)
+            out.write(f"row r{k} {demand}" + "".join(f" {(k + 1) * (c + 1)}:{c}" for c in range(4 * rows)) + "\n")
         out.write("end\n")
     return write
 
@@ -124,6 +126,8 @@ INPUTS = {
     "`check`, an accepted text of 32 MB: an offer and a price for each CPU": ("check", singles),
     "`solve`, 1,024 rows of 4 on 4,096 CPUs, each weight a product: 50 MB": ("solve", products(1024)),
     "the same, 512 rows on 2,048 CPUs": ("solve", products(512)),
+    "`solve`, 1,023 such rows of 1, and a last one that takes the rest: 50 MB": ("solve", products(1024, 1)),
+    "the same, 512 rows on 2,048 CPUs in all": ("solve", products(512, 1)),
     "`solve`, 64 MiB of rows with ids in random order": ("solve", rows_in("chance")),
     "`solve`, 64 MiB of rows with ids in order": ("solve", rows_in("order")),
     "`solve`, 64 MiB of the shortest offers": ("solve", offers),

@@ -1,18 +1,14 @@
 """Counts the instructions of the solver on the inputs that are worst for it: `bounds.py TOOLS`. Each of them was once far above
-its bound; callgrind counts the same however busy a machine is. Where valgrind is not there it is installed by apt-get, with a
-line; where that fails nothing is counted, and a line says so."""
+its bound. Without valgrind nothing is counted, and a line says so."""
 
 import os
 import random
-import re
-import shutil
-import subprocess
 import sys
 
 HERE = os.path.dirname(os.path.abspath(__file__))
 sys.path[:0] = [os.path.join(HERE, ".."), os.path.join(HERE, "..", "..", "benches", "solver")]
+from callgrind import has_valgrind, instructions
 from families import FAMILIES, HARD, text
-from program import run
 
 # Of each family the last CPU, the rows, and how many millions of instructions one run may take.
 BOUNDS = {
@@ -30,26 +26,12 @@ BOUNDS = {
 
 def millions(tools, given):
     """What a second run takes: the first is there to take off what reading the text does."""
-    counts = []
-    for times in "1", "2":
-        done = run(["valgrind", "--tool=callgrind", "--callgrind-out-file=/dev/null", tools, "solve", times], given)
-        found = re.search(rb"Collected : (\d+)", done.stderr)
-        if done.returncode or not found:
-            sys.exit(f"bounds: {done}")
-        counts.append(int(found[1]))
+    counts = [instructions([tools, "solve", times], given) for times in ("1", "2")]
     return (counts[1] - counts[0]) / 1e6
-
-
-def has_valgrind():
-    if not shutil.which("valgrind"):
-        print("bounds: there is no valgrind; installing it by apt-get", file=sys.stderr)
-        subprocess.run("apt-get -qq update && apt-get -qq install -y valgrind", shell=True, stdout=subprocess.DEVNULL)
-    return shutil.which("valgrind")
 
 
 def main(tools):
     if not has_valgrind():
-        print("bounds: nothing is counted without valgrind")
         return
     told = []
     for name, (last, rows, most) in BOUNDS.items():

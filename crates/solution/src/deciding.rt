@@ -35,7 +35,7 @@ pub fn decide(alloc: Global, problem: Problem, weights: Weights) -> Result<Certi
 }
 
 /// A problem with its answer.
-fn answered(problem: Problem, weights: Weights, answer: Answer) -> Certificate
+pub(crate) fn answered(problem: Problem, weights: Weights, answer: Answer) -> Certificate
     ensures is { result ≡ answered problem weights answer }
     ensures held { IsTotalHeld result }
 {

@@ -7,6 +7,7 @@
 #![tactic(auto)]
 
 mod deciding;
+mod quick;
 mod solution;
 mod solving;
 

@@ -8,7 +8,7 @@ ghost use Rattle.faults.specs.declared.or_memory.OrMemory.TheVariants.{Memory};
 ghost use Rattle.solution.specs.Solves.{HasRows, IsSolution, IsUnsolved, Solves};
 
 use crate::Solution;
-use crate::deciding::decide;
+use crate::quick::decide_quickly;
 use certificate::{Certificate, CheckFault, Problem, Weights, rows_fit};
 use certificate_text::{VerdictFault, read_problem};
 use faults::OrMemory;
@@ -55,5 +55,5 @@ fn solved(alloc: Global, problem: Problem) -> Result<Certificate, AllocError>
     ensures can { IfOk result CanWrite }
 {
     certificate_text::laws::written_texts_are_read();
-    decide(alloc, problem, Weights::Plain)
+    decide_quickly(alloc, problem, Weights::Plain)
 }
