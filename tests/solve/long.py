@@ -8,7 +8,6 @@ done a small part of it. Of some too few CPUs a shortage is told."""
 
 import os
 import random
-import subprocess
 import sys
 import time
 
