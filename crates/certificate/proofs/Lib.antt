@@ -19,3 +19,4 @@ pub mod Elements
 pub mod Noting
 pub mod Verdicts
 pub mod SameWeights
+pub mod Singles

@@ -1,5 +1,5 @@
 //! What a plan costs, and what its rows are worth.
-ghost use Rattle.std.specs.Prelude.{◌≡◌, ℕ, ◌≤◌, ◌*◌, IsTrue, List, length, sum_by, unwrap_or};
+ghost use Rattle.std.specs.Prelude.{◌≡◌, ℕ, ◌<◌, ◌≤◌, ◌*◌, IsTrue, List, length, slice_index_or, sum_by, unwrap_or};
 ghost use Rattle.std.specs.List.{list_all};
 ghost use Rattle.std.specs.FinSet as set;
 ghost use Rattle.cpu_set.specs.Ids.{Ids};
@@ -10,7 +10,9 @@ ghost use Rattle.certificate.specs.IsBound.{worth};
 ghost use Rattle.certificate.specs.IsProved.{IsProved};
 ghost use Rattle.certificate.specs.Price.{all_prices};
 ghost use Rattle.certificate.specs.Limits.{offers_fit, row_fits, values_fit, prices_fit};
+ghost use Rattle.certificate.specs.declared.rows.Offer.{Offer};
 
+use crate::single::only_cpu;
 use crate::{MAX_AMOUNT, MAX_DEMAND, MAX_ROWS, MAX_WEIGHT, Offers, PriceList, Prices, Row};
 use cpu_set::{CPU_LIMIT, IdSet};
 
@@ -46,10 +48,22 @@ fn offers_cost(offers: &Offers, held: &IdSet) -> u64
 {
     let mut cost = 0;
     for at in 0..offers.len() {
-        let offer = offers.offer(at);
-        cost += u64::from(offer.weight) * u64::from(shared_count(held, &offer.cpus));
+        cost += u64::from(offers.weight(at)) * u64::from(held_count(offers, at, held));
     }
     cost
+}
+
+/// How many CPUs of the offer at a place are held.
+fn held_count(offers: &Offers, at: usize, held: &IdSet) -> u32
+    requires { at < length offers.now }
+    ensures is_len { (d : Offer) → result ≡ set.len (set.intersection held.now (slice_index_or offers.now at d).cpus) }
+    ensures in_range { (d : Offer) → InRange (set.intersection held.now (slice_index_or offers.now at d).cpus) }
+{
+    if let Some(cpu) = only_cpu(offers.ranges(at)) {
+        return u32::from(held.contains(cpu));
+    }
+    let offer = offers.offer(at);
+    shared_count(held, &offer.cpus)
 }
 
 /// How many CPUs both sets have; most have none.

@@ -40,6 +40,7 @@ mod rows;
 mod scaled;
 mod set_checks;
 mod shortages;
+mod single;
 mod value_checks;
 mod weights;
 
