@@ -43,10 +43,10 @@ fn pivot(tree: &mut Tree, entering: Entering) {
     }
     if leaving.is_on_row_side {
         tree.hang_anew(leaving.node, entering.row, entering.class, leaving.amount);
-        tree.raise(entering.row, 0i64.wrapping_sub(entering.reduced));
+        tree.raise(entering.row, 0i64.wrapping_sub(entering.reduced), NONE);
     } else {
         tree.hang_anew(leaving.node, entering.class, entering.row, leaving.amount);
-        tree.raise(entering.class, entering.reduced);
+        tree.raise(entering.class, entering.reduced, NONE);
     }
 }
 
@@ -101,7 +101,7 @@ fn hang_part(tree: &mut Tree, arcs: &Arcs, top: u32) {
         class: NONE,
         reduced: i64::MAX,
     };
-    tree.mark(top);
+    tree.raise(top, 0, top);
     for g in 0..arcs.classes() {
         let class = tree.node_of(g);
         if tree.node(class).part == top {
@@ -110,7 +110,7 @@ fn hang_part(tree: &mut Tree, arcs: &Arcs, top: u32) {
     }
     if best.row != NONE {
         tree.hang_anew(top, best.class, best.row, 0);
-        tree.raise(best.class, best.reduced);
+        tree.raise(best.class, best.reduced, NONE);
     }
 }
 

@@ -28,8 +28,8 @@ pub struct Proposal {
 /// was found, which says nothing of whether there is one.
 ///
 /// There are at most 256 pivots for each row and class, of which each takes a step for each row and class at most, and 512
-/// looks at each arc: O((r + g)^2 + a) of r rows, g classes and a pairs of a row and a class that it may have. Memory is
-/// allocated for each row, class and such pair.
+/// looks at each arc. Where all CPUs are taken, each arc is looked at once more for each row: O((r + g)^2 + r a) of r rows,
+/// g classes and a pairs of a row and a class that it may have. Memory is allocated for each row, class and such pair.
 ///
 /// # Errors
 /// An allocation failure; no problem is refused.

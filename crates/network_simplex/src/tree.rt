@@ -178,11 +178,11 @@ impl Tree {
         }
     }
 
-    /// Adds to the potential of each node from `top` down, and counts their depths anew.
-    pub(crate) fn raise(&mut self, top: u32, by: i64) {
+    /// Adds to the potential of each node from `top` down, counts their depths anew, and marks them as of a part.
+    pub(crate) fn raise(&mut self, top: u32, by: i64, part: u32) {
         let mut at = top;
         for _ in 0..self.nodes.len() {
-            let first = self.raise_one(at, by);
+            let first = self.raise_one(at, by, part);
             at = if first == NONE {
                 self.next_below(at, top)
             } else {
@@ -195,7 +195,7 @@ impl Tree {
     }
 
     /// Adds to the potential of a node; its first child.
-    fn raise_one(&mut self, at: u32, by: i64) -> u32 {
+    fn raise_one(&mut self, at: u32, by: i64, part: u32) -> u32 {
         if let Some(potential) = self.potentials.get_mut(at as usize) {
             *potential = potential.wrapping_add(by);
         }
@@ -203,6 +203,7 @@ impl Tree {
         match self.nodes.get_mut(at as usize) {
             Some(node) => {
                 node.depth = depth;
+                node.part = part;
                 node.first
             }
             None => NONE,
@@ -223,32 +224,5 @@ impl Tree {
             at = node.parent;
         }
         NONE
-    }
-
-    /// Marks each node from `top` down as one of its part.
-    pub(crate) fn mark(&mut self, top: u32) {
-        let mut at = top;
-        for _ in 0..self.nodes.len() {
-            let first = self.mark_one(at, top);
-            at = if first == NONE {
-                self.next_below(at, top)
-            } else {
-                first
-            };
-            if at == NONE {
-                break;
-            }
-        }
-    }
-
-    /// Marks a node; its first child.
-    fn mark_one(&mut self, at: u32, part: u32) -> u32 {
-        match self.nodes.get_mut(at as usize) {
-            Some(node) => {
-                node.part = part;
-                node.first
-            }
-            None => NONE,
-        }
     }
 }

@@ -1,11 +1,10 @@
 -- The prices of classes, as prices of their CPUs.
-use Rattle.std.proofs.Common.{◌≡◌, ◌≢◌, ◌⊎◌, ℕ, zero, suc, ◌+◌, ◌<◌, ◌==◌, Bool, true, false, cond, ◌||◌, Some, option_map, unwrap_or, List, [], ◌∷◌, ◌++◌, length, take, get_or, nat_le, refl, sym, ap, ◌∙◌, inl, inr, arith}
-use Rattle.std.specs.Prelude.{All, AllPairs, find}
+use Rattle.std.proofs.Common.{◌≡◌, ◌≢◌, ℕ, zero, suc, ◌+◌, ◌<◌, ◌==◌, Bool, true, false, cond, ◌||◌, Some, option_map, unwrap_or, List, [], ◌∷◌, ◌++◌, length, take, get_or, nat_le, refl, sym, ap, ◌∙◌, arith}
+use Rattle.std.specs.Prelude.{AllPairs, find}
 use Rattle.std.specs.List.{list_all}
 use Rattle.std.proofs.Math.Numerals.{add-one}
-use Rattle.std.proofs.lemmas.List.Elements.{All-nil, All-cons, All-head, All-tail}
 use Rattle.std.specs.FinSet as set
-use Rattle.std.proofs.lemmas.Bool.{cases_eq, true≢false, eqb-true, eq-eqb, and_from, or_parts}
+use Rattle.std.proofs.lemmas.Bool.{true≢false, eqb-true, and_from, or_parts}
 use Rattle.cpu_set.specs.Ids.{Ids, IsDisjoint}
 use Rattle.cpu_set.specs.Pointwise.{contains-empty}
 use Rattle.certificate.specs.IsDealt.{Holds}
@@ -92,24 +91,6 @@ pub class_prices_more :
     (classes : List Ids) (prices : List ℕ) (g : ℕ) (s : Ids) → g < length classes → g < length prices → s ≡ get_or classes g s
     → class_prices (take (g + 1) classes) (take (g + 1) prices) ≡ with_price (class_prices (take g classes) (take g prices)) (get_or prices g 0) s
 class_prices_more classes prices g s in_classes in_prices is = rw add-one (prices_suc classes prices g s in_classes in_prices is)
-
--- each price is above 0, and some CPUs have it
-pub prices_some : (classes : List Ids) (prices : List ℕ) → All (λ s. 0 < set.len s) classes → All (λ (p : Price). (0 < p.amount) × (0 < set.len p.cpus)) (class_prices classes prices)
-prices_some [] prices some = All-nil (λ (p : Price). (0 < p.amount) × (0 < set.len p.cpus))
-prices_some (s ∷ classes) [] some = All-nil (λ (p : Price). (0 < p.amount) × (0 < set.len p.cpus))
-prices_some (s ∷ classes) (p ∷ prices) some =
-    by_cases (p == 0) refl (prices_some classes prices (All-tail (λ t. 0 < set.len t) s classes some))
-  where
-    by_cases : (b : Bool) → (p == 0) ≡ b → All (λ (q : Price). (0 < q.amount) × (0 < set.len q.cpus)) (class_prices classes prices)
-        → All (λ (q : Price). (0 < q.amount) × (0 < set.len q.cpus)) (cond b (class_prices classes prices) (record { amount = p; cpus = s } ∷ class_prices classes prices))
-    by_cases true e rest = rest
-    by_cases false e rest =
-        All-cons (λ (q : Price). (0 < q.amount) × (0 < set.len q.cpus)) (record { amount = p; cpus = s }) (class_prices classes prices)
-        (above (cases_eq p 0), All-head (λ t. 0 < set.len t) s classes some) rest
-      where
-        above : (p ≡ 0) ⊎ (p ≢ 0) → 0 < p
-        above (inl none) = absurd (true≢false (sym (eq-eqb p 0 none) ∙ e))
-        above (inr some_price) = omega arith
 
 small_prices : (classes : List Ids) (prices : List ℕ) → values_fit prices ≡ true → list_all (λ (p : Price). nat_le p.amount MAX_AMOUNT) (class_prices classes prices) ≡ true
 small_prices [] prices fit = refl

@@ -38,7 +38,8 @@ use Rattle.twins.proofs.Sets.{some_of_member, there}
 use Rattle.twins.proofs.Deals.{at}
 use Rattle.twins.proofs.TwinLaws.{members_weigh, held_at}
 use Rattle.twins.proofs.ByClass.{sum_by_swap, sum_by_places, len_of_parts, len_of_parts_le}
-use Rattle.twins.proofs.ClassPrices.{price_none, price_of_class, prices_some, class_prices_fit}
+use Rattle.twins.specs.PriceLaws.{prices_some}
+use Rattle.twins.proofs.ClassPrices.{price_none, price_of_class, class_prices_fit}
 
 -- the prices of a set's CPUs
 abbrev prices_in : List Price → Ids → ℕ

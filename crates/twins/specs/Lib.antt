@@ -5,6 +5,7 @@ pub mod Holdings
 pub mod IsDeal
 pub mod IsPart
 pub mod IsPriced
+pub mod PriceLaws
 pub mod IsClosed
 pub mod Kinds
 pub mod KindLaws

@@ -1,5 +1,5 @@
 use Rattle.std.proofs.Common.{◌∙◌, ap, length, arith}
-use Rattle.network_simplex.proofs.Proposals.{prices_some}
+use Rattle.twins.specs.PriceLaws.{prices_some}
 use Rattle.network_simplex.proofs.proposal.checked.Goals as goal
 
 pub returns-in-Ok : goal.returns-in-Ok
