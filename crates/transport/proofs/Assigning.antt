@@ -279,6 +279,12 @@ module _ (t : Instance) (sizes : List ℕ) (s : Assignment) (arcs_by_kind : List
       spend (total (demand_of t.rows.now) row) (total (demand_of t.rows.now) (suc row)) (demand_of t.rows.now row) (length t.rows.now + length sizes) turns after
       (total_last (demand_of t.rows.now) row) h.at_most (rw (wants, search_is) at most)
 
+  -- and so within those of all rows
+  within_all : (after : ℕ) → after ≤ total (demand_of t.rows.now) (suc row) * (length t.rows.now + length sizes) → after ≤ asked t.rows.now * (length t.rows.now + length sizes)
+  within_all after most =
+      let up = total_up (demand_of t.rows.now) (suc row) (length t.rows.now) (omega (arith, lt)) in
+      rw (← asked_is t.rows.now) (grow (total (demand_of t.rows.now) (suc row)) (total (demand_of t.rows.now) (length t.rows.now)) (length t.rows.now + length sizes) after up most)
+
   pub can_assign : length sizes ≤ CPU_LIMIT → ((g : ℕ) → number sizes g < 2 ^ 32) → CanAssign t row s arcs_by_kind turns
   can_assign few small = record {
     settled = h.settled;
@@ -348,7 +354,7 @@ module _ (t : Instance) (sizes : List ℕ) (s : Assignment) (arcs_by_kind : List
         (λ g on. taken_full (weights t) new tree g e.closed.running on) x.holders lt e.on e.lacks;
     some = omega (arith, x.reached_rows.counted, x.rooted);
     at_least = λ k on. omega (arith, not_after k on, h.at_least, x.reached_rows.counted, x.listing.counted, e.least);
-    at_most = up (total_up (demand_of t.rows.now) (suc row) (length t.rows.now) (omega (arith, lt))) (most_after after e.most);
+    at_most = within_all after (most_after after e.most);
   }
     where
       x : IsSearch (weights t) (cell new.holdings.items) new.values.items new.prices.items new.residual.items tree.reached_rows tree.labels tree.tree_classes
@@ -369,20 +375,13 @@ module _ (t : Instance) (sizes : List ℕ) (s : Assignment) (arcs_by_kind : List
         | inr within ↦ omega (arith, within)
       ]
 
-      up : total (demand_of t.rows.now) (suc row) ≤ total (demand_of t.rows.now) (length t.rows.now) → after ≤ total (demand_of t.rows.now) (suc row) * (length t.rows.now + length sizes)
-          → after ≤ asked t.rows.now * (length t.rows.now + length sizes)
-      up le most = rw (← asked_is t.rows.now) (grow (total (demand_of t.rows.now) (suc row)) (total (demand_of t.rows.now) (length t.rows.now)) (length t.rows.now + length sizes) after le most)
-
--- the rows so far took more turns than these
-pub late_at_row : (t : Instance) (sizes : List ℕ) (s : Assignment) (arcs_by_kind : List SortedArcs) (row turns most : ℕ) → AreAssigned t sizes s arcs_by_kind row turns → row < length t.rows.now → most < turns → IsLate t.rows.now sizes most
-late_at_row t sizes s arcs_by_kind row turns most h lt late =
-    let up = total_up (demand_of t.rows.now) row (length t.rows.now) (omega (arith, lt)) in
-    let grown = grow (total (demand_of t.rows.now) row) (total (demand_of t.rows.now) (length t.rows.now)) (length t.rows.now + length sizes) turns up h.at_most in
-    let all : turns ≤ asked t.rows.now * (length t.rows.now + length sizes) = rw (← asked_is t.rows.now) grown in
-    above (asked t.rows.now * (length t.rows.now + length sizes)) all
-  where
-    above : (x : ℕ) → turns ≤ x → most < x
-    above x all = omega (arith, all, late)
+  -- the searches for it were broken off, behind more turns than these
+  pub late_in_row : (most : ℕ) (new : Assignment) (arcs_by_kind' : List SortedArcs) (after : ℕ) → IsAssigning t row s new arcs_by_kind' turns after → most < after → IsLate t.rows.now sizes most
+  late_in_row most new arcs_by_kind' after f late =
+      above (asked t.rows.now * (length t.rows.now + length sizes)) (within_all after (most_after after (omega (arith, f.most))))
+    where
+      above : (x : ℕ) → after ≤ x → most < x
+      above x all = omega (arith, all, late)
 
 -- all rows have what they ask for
 pub done_at_end : (t : Instance) (sizes : List ℕ) (s : Assignment) (arcs_by_kind : List SortedArcs) (row turns : ℕ) → AreAssigned t sizes s arcs_by_kind row turns → row ≡ length t.rows.now → IsDone t.rows.now t.firsts sizes s turns

@@ -10,6 +10,8 @@ use Rattle.transport.specs.Answers.{IsClosed}
 use Rattle.transport.specs.Settled.{IsSettled, IsTreeOf}
 use Rattle.transport.specs.Outcomes.{demand_of}
 use Rattle.transport.specs.declared.assignment.Assignment.{Assignment}
+use Rattle.transport.specs.declared.augment.Ended.{Ended}
+use Rattle.transport.specs.declared.augment.Ended.TheVariants.{Met, Blocked, BrokenOff}
 use Rattle.transport.specs.declared.instance.Instance.{Instance}
 use Rattle.transport.specs.declared.tree.SearchTree.{SearchTree}
 use Rattle.transport.specs.declared.arcs.SortedArcs.{SortedArcs}
@@ -81,10 +83,11 @@ abbrev pub IsSearched : Instance → ℕ → Assignment → Assignment → List 
 IsSearched t root old new arcs_by_kind tree before after true = IsAssigning t root old new arcs_by_kind before after × (number new.deficit.items root < number old.deficit.items root) × IsTreeOf new tree
 IsSearched t root old new arcs_by_kind tree before after false = IsAtEnd t root old new tree before after
 
--- whether all searches for the row did: it wants nothing more
-abbrev pub IsRowAssigned : Instance → ℕ → Assignment → Assignment → List SortedArcs → SearchTree → ℕ → ℕ → Bool → Type 0
-IsRowAssigned t root old new arcs_by_kind tree before after true = IsAssigning t root old new arcs_by_kind before after × (number new.deficit.items root ≡ 0) × IsTreeOf new tree
-IsRowAssigned t root old new arcs_by_kind tree before after false = IsAtEnd t root old new tree before after
+-- what the searches for a row end with: it wants nothing more, it can't have it, or there are more turns than these
+abbrev pub IsRowAssigned : Instance → ℕ → ℕ → Assignment → Assignment → List SortedArcs → SearchTree → ℕ → ℕ → Ended → Type 0
+IsRowAssigned t root most old new arcs_by_kind tree before after Met = IsAssigning t root old new arcs_by_kind before after × (number new.deficit.items root ≡ 0) × IsTreeOf new tree
+IsRowAssigned t root most old new arcs_by_kind tree before after Blocked = IsAtEnd t root old new tree before after
+IsRowAssigned t root most old new arcs_by_kind tree before after BrokenOff = IsAssigning t root old new arcs_by_kind before after × (most < after)
 
 -- the first rows have what they ask for, and the others hold nothing and still want it
 pub record AreAssigned (t : Instance) (sizes : List ℕ) (s : Assignment) (arcs_by_kind : List SortedArcs) (upto turns : ℕ) : Type 0 where

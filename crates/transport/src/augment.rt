@@ -50,7 +50,7 @@ pub enum Outcome {
 /// Assigns the rows one after another, with CPUs of classes of the given sizes.
 ///
 /// A turn is counted for each row or class that a search takes up: at most one search for each CPU that is
-/// asked for, and in a search at most one turn for each row and class. No row is begun behind more than `most` turns.
+/// asked for, and in a search at most one turn for each row and class. No search is begun behind more than `most` turns.
 pub fn assign_all(
     alloc: Global,
     instance: &Instance,
@@ -68,18 +68,18 @@ pub fn assign_all(
     let mut tree = SearchTree::new(alloc, instance.rows.len(), sizes.len())?;
     let mut turns = 0;
     for row in 0..instance.rows.len() {
-        if turns > most {
-            return Ok(Outcome::Late);
-        }
-        if !assign_row(
+        match assign_row(
             instance,
             &mut assignment,
             &mut arcs_by_kind,
             &mut tree,
             row,
+            most,
             &mut turns,
         )? {
-            return Ok(stuck(tree, turns));
+            Ended::Met => {}
+            Ended::Blocked => return Ok(stuck(tree, turns)),
+            Ended::BrokenOff => return Ok(Outcome::Late),
         }
     }
     Ok(Outcome::Done { assignment, turns })
@@ -114,26 +114,41 @@ fn arcs_of_kind(alloc: Global, instance: &Instance, k: usize) -> Result<SortedAr
     Ok(sorted_arcs)
 }
 
-/// Searches until the row has what it asks for, or until a search finds nothing; says which.
+/// What the searches for a row end with.
+enum Ended {
+    /// The row has what it asks for.
+    Met,
+    /// The last search found no class with a free CPU.
+    Blocked,
+    /// More turns were taken than are to be, and the row lacks CPUs.
+    BrokenOff,
+}
+
+/// Searches until the row has what it asks for, until a search finds nothing, or until more than `most` turns are taken;
+/// says which.
 fn assign_row(
     instance: &Instance,
     assignment: &mut Assignment,
     arcs_by_kind: &mut [SortedArcs],
     tree: &mut SearchTree,
     row: usize,
+    most: u64,
     turns: &mut u64,
-) -> Result<bool, AllocError>
+) -> Result<Ended, AllocError>
     requires can { CanAssign instance.now row assignment.old arcs_by_kind.old turns.old }
     requires tidy { IsTreeOf assignment.old tree.old }
-    ensures { IfOk result (IsRowAssigned instance.now row assignment.old assignment.new arcs_by_kind.new tree.new
+    ensures { IfOk result (IsRowAssigned instance.now row most assignment.old assignment.new arcs_by_kind.new tree.new
         turns.old turns.new) }
 {
     'searches: while assignment.deficit[row] > 0 {
+        if *turns > most {
+            return Ok(Ended::BrokenOff);
+        }
         if !augment_once(instance, assignment, arcs_by_kind, tree, row, turns)? {
-            return Ok(false);
+            return Ok(Ended::Blocked);
         }
     }
-    Ok(true)
+    Ok(Ended::Met)
 }
 
 /// Searches once for the row, and moves CPUs along the path, where one is found.

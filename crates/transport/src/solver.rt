@@ -60,7 +60,7 @@ fn solve_body(alloc: Global, problem: &Problem) -> Result<Answer, AllocError>
     }
 }
 
-/// What [`solve`] answers, if that takes few turns: once more than `most` are taken, no further row is begun.
+/// What [`solve`] answers, if that takes few turns: once more than `most` are taken, no further search is begun.
 ///
 /// # Errors
 /// An allocation failure; no problem is refused.

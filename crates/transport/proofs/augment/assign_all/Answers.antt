@@ -3,7 +3,7 @@ use Rattle.std.proofs.lemmas.List.{take-append-le, take_all}
 use Rattle.transport.specs.declared.arcs.SortedArcs.{SortedArcs}
 use Rattle.transport.specs.Outcomes.{IsOutcome}
 use Rattle.transport.specs.Assigning.{CanAssign, AreAssigned, IsRowAssigned}
-use Rattle.transport.proofs.Assigning.{assigned_first, can_assign, assigned_more, stuck_at_end, late_at_row, done_at_end}
+use Rattle.transport.proofs.Assigning.{assigned_first, can_assign, assigned_more, stuck_at_end, late_in_row, done_at_end}
 use Rattle.transport.proofs.augment.assign_all.Goals as goal
 
 pub loop-row-init : goal.loop-row-init
@@ -16,11 +16,16 @@ assign_row-requires-clause-can c =
     subst (λ arcs_by_kind. CanAssign c.args.instance.now c.loop-row.row c.loop-row.assignment arcs_by_kind c.loop-row.turns) (sym c.deref_mut.ensures.value)
     (can_assign _ _ _ _ _ _ c.loop-row.invariant.0 c.requires.fit c.loop-row-test.true c.requires.few (λ g. omega (arith, c.type_inv.sizes g)))
 
-pub returns-then-not-branch : goal.returns-then-not-branch
-returns-then-not-branch c =
+pub returns-in-Blocked : goal.returns-in-Blocked
+returns-in-Blocked c =
     subst (IsOutcome c.args.instance.now.rows.now c.args.instance.now.firsts c.args.sizes.now c.args.most) (sym c.stuck.ensures)
     (stuck_at_end _ _ _ _ _ _ c.loop-row.invariant.0 c.requires.fit c.loop-row-test.true _ _ _
-    (subst (IsRowAssigned c.args.instance.now c.loop-row.row c.loop-row.assignment c.assign_row.new.assignment c.assign_row.new.arcs_by_kind c.assign_row.new.tree c.loop-row.turns c.assign_row.new.turns) c.if-not-branch.true c.in_ok-assign_row.ensures))
+    (subst (IsRowAssigned c.args.instance.now c.loop-row.row c.args.most c.loop-row.assignment c.assign_row.new.assignment c.assign_row.new.arcs_by_kind c.assign_row.new.tree c.loop-row.turns c.assign_row.new.turns) c.in-Blocked.is c.in_ok-assign_row.ensures))
+
+pub returns-in-BrokenOff : goal.returns-in-BrokenOff
+returns-in-BrokenOff c =
+    let p = subst (IsRowAssigned c.args.instance.now c.loop-row.row c.args.most c.loop-row.assignment c.assign_row.new.assignment c.assign_row.new.arcs_by_kind c.assign_row.new.tree c.loop-row.turns c.assign_row.new.turns) c.in-BrokenOff.is c.in_ok-assign_row.ensures in
+    late_in_row _ _ _ _ _ _ c.loop-row.invariant.0 c.requires.fit c.loop-row-test.true c.args.most _ _ _ p.0 p.1
 
 -- the sorted arcs behind the slice are those that the call left
 written : (n : ℕ) (new rest : List SortedArcs) → n ≡ length new → take n (new ++ rest) ≡ new
@@ -28,7 +33,7 @@ written n new rest long = take-append-le n new rest (omega (arith, long)) ∙ ta
 
 pub loop-row-preserved : goal.loop-row-preserved
 loop-row-preserved c =
-    let p = subst (IsRowAssigned c.args.instance.now c.loop-row.row c.loop-row.assignment c.assign_row.new.assignment c.assign_row.new.arcs_by_kind c.assign_row.new.tree c.loop-row.turns c.assign_row.new.turns) c.if-not-branch.false c.in_ok-assign_row.ensures in (
+    let p = subst (IsRowAssigned c.args.instance.now c.loop-row.row c.args.most c.loop-row.assignment c.assign_row.new.assignment c.assign_row.new.arcs_by_kind c.assign_row.new.tree c.loop-row.turns c.assign_row.new.turns) c.in-Met.is c.in_ok-assign_row.ensures in (
       subst (λ arcs_by_kind. AreAssigned c.args.instance.now c.args.sizes.now c.assign_row.new.assignment arcs_by_kind (c.loop-row.row + 1) c.assign_row.new.turns)
           (sym (written _ _ _ (omega (arith, c.loop-row.arcs_by_kind.ok.0, c.loop-row.invariant.0.sorted.long, p.0.sorted.long))))
           (assigned_more _ _ _ _ _ _ c.loop-row.invariant.0 c.requires.fit c.loop-row-test.true _ _ _ p.0 p.1),
@@ -37,7 +42,3 @@ loop-row-preserved c =
 
 pub returns : goal.returns
 returns c = done_at_end _ _ _ _ _ _ c.loop-row.invariant.0 (omega (arith, c.loop-row-test.false, c.loop-row.auto.row-end))
-
-pub returns-then-turns-most : goal.returns-then-turns-most
-returns-then-turns-most c =
-    late_at_row c.args.instance.now c.args.sizes.now _ _ _ _ c.args.most c.loop-row.invariant.0 c.loop-row-test.true (omega (arith, c.if-turns-most.true))
