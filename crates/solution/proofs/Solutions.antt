@@ -1,6 +1,6 @@
 -- What decides rows, as a solution of them.
 use Rattle.std.proofs.Common.{List, length, refl, sym, subst}
-use Rattle.std.specs.Prelude.{IsTrue, IfOk, Result, Ok, Err}
+use Rattle.std.specs.Prelude.{IsTrue}
 use Rattle.certificate.specs.IsShortage.{asked, chosen, offered}
 use Rattle.certificate.specs.Limits.{rows_fit}
 use Rattle.certificate.specs.RowView.{RowView}
@@ -9,14 +9,13 @@ use Rattle.certificate.specs.declared.certificates.Certificate.{Certificate}
 use Rattle.certificate.specs.declared.certificates.Certificate.TheVariants.{Plan, Short}
 use Rattle.certificate.specs.declared.weights.Weights.{Weights}
 use Rattle.certificate.specs.declared.weights.Weights.TheVariants.{Plain}
-use Rattle.certificate_text.specs.CertificateText.{IsText}
-use Rattle.certificate_text.specs.Written.{CanWrite, IsHeld, WrittenReadsAgain, text_of}
 use Rattle.solution.specs.Decides.{Decides}
 use Rattle.solution.specs.Solves.{IsSolution}
 
 module _ (rows : List RowView) (fit : IsTrue (rows_fit rows)) where
-  of_these : (c : Certificate) → Decides rows Plain c → IsSolution rows c
-  of_these (Plan own sets prices total said) d =
+  -- what decides rows, in version 1, is a solution of them
+  pub solution : (c : Certificate) → Decides rows Plain c → IsSolution rows c
+  solution (Plan own sets prices total said) d =
       subst (λ (w : Weights). IsSolution rows (Plan own sets prices total w)) (sym d.1)
       (subst (λ (rs : List RowView). IsSolution rows (Plan rs sets prices total Plain)) (sym d.0)
       (record {
@@ -27,7 +26,7 @@ module _ (rows : List RowView) (fit : IsTrue (rows_fit rows)) where
         best = (d.2.least, d.2.proved.costs);
         dealt = d.2.dealt;
       }))
-  of_these (Short own members said) d =
+  solution (Short own members said) d =
       subst (λ (w : Weights). IsSolution rows (Short own members w)) (sym d.1)
       (subst (λ (rs : List RowView). IsSolution rows (Short rs members Plain)) (sym d.0)
       (record {
@@ -38,13 +37,3 @@ module _ (rows : List RowView) (fit : IsTrue (rows_fit rows)) where
         best = d.2.none;
         dealt = tt;
       }))
-
-  -- what decides rows, in version 1, is a solution of them
-  pub solution : {E : Type 0} (r : Result Certificate E) → IfOk r (Decides rows Plain) → IfOk r (IsSolution rows)
-  solution (Ok c) d = of_these c d
-  solution (Err e) d = tt
-
--- its text stands for it
-pub stands : WrittenReadsAgain → {E : Type 0} (r : Result Certificate E) → IfOk r CanWrite → IfOk r IsHeld → IfOk r (λ c. IsText (text_of c) c)
-stands again (Ok c) can held = again c can held
-stands again (Err e) can held = tt

@@ -3,6 +3,7 @@ ghost use Rattle.std.specs.Prelude.{◌≡◌, IsTrue, IfOk};
 ghost use Rattle.certificate.specs.Limits.{rows_fit};
 ghost use Rattle.certificate_text.specs.ProblemText.{AreWritable};
 ghost use Rattle.certificate_text.specs.Written.{CanWrite, IsHeld};
+ghost use Rattle.transport.specs.Solved.{IsRight, IsDecided, AreTwinsDealt, ArePricesOfClasses};
 ghost use Rattle.solution.specs.Decides.{Decides, IsTotalHeld, answered};
 
 use certificate::{Certificate, Members, Problem, Weights};
@@ -29,13 +30,27 @@ pub fn decide(alloc: Global, problem: Problem, weights: Weights) -> Result<Certi
     // Its numbers and sets are such as their types hold.
     ensures held { IfOk result IsHeld }
 {
-    certificate::laws::what_is_within_the_limits();
     let answer = solve(alloc, &problem)?;
-    Ok(answered(problem, weights, answer))
+    Ok(certificate_of(problem, weights, answer))
+}
+
+/// The certificate of an answer.
+pub(crate) fn certificate_of(problem: Problem, weights: Weights, answer: Answer) -> Certificate
+    requires writable { AreWritable problem }
+    requires right { IsRight problem answer }
+    requires decided { IsDecided problem answer }
+    requires dealt { AreTwinsDealt problem answer }
+    requires priced { ArePricesOfClasses problem answer }
+    ensures decided { Decides problem weights result }
+    ensures can { CanWrite result }
+    ensures held { IsHeld result }
+{
+    certificate::laws::what_is_within_the_limits();
+    answered(problem, weights, answer)
 }
 
 /// A problem with its answer.
-pub(crate) fn answered(problem: Problem, weights: Weights, answer: Answer) -> Certificate
+fn answered(problem: Problem, weights: Weights, answer: Answer) -> Certificate
     ensures is { result ≡ answered problem weights answer }
     ensures held { IsTotalHeld result }
 {

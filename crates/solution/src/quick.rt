@@ -1,13 +1,9 @@
 //! What a problem comes to, by whichever of two ways is short.
 ghost use Rattle.std.specs.Prelude.{IsTrue, IfOk};
 ghost use Rattle.certificate.specs.Limits.{rows_fit};
-ghost use Rattle.certificate_text.specs.ProblemText.{AreWritable};
-ghost use Rattle.certificate_text.specs.Written.{CanWrite, IsHeld};
 ghost use Rattle.transport.specs.Solved.{IsRight, IsDecided, AreTwinsDealt, ArePricesOfClasses};
-ghost use Rattle.solution.specs.Decides.{Decides};
 
-use crate::deciding::answered;
-use certificate::{Certificate, Problem, Row, Weights};
+use certificate::{Problem, Row};
 use network_simplex::propose;
 use std::alloc::{AllocError, Global};
 use transport::{Answer, solve, solve_within};
@@ -17,30 +13,13 @@ use transport::{Answer, solve, solve_within};
 /// as long, where turns are at their longest twice as long.
 const TURNS_A_ROW: u64 = 512;
 
-/// The certificate of what the problem comes to, as [`decide`](crate::decide) makes it. Of several plans of the least cost
-/// it may be another one.
+/// What the solver answers, where that takes few turns. Else a plan that network simplex finds; and where it finds none,
+/// what the solver answers in as many turns as it takes. Of several plans of the least cost it may be another one than
+/// [`solve`] has.
 ///
 /// # Errors
 /// An allocation failure; no problem is refused.
-pub(crate) fn decide_quickly(
-    alloc: Global,
-    problem: Problem,
-    weights: Weights,
-) -> Result<Certificate, AllocError>
-    requires fit { IsTrue (rows_fit problem) }
-    requires writable { AreWritable problem }
-    ensures decided { IfOk result (Decides problem weights) }
-    ensures can { IfOk result CanWrite }
-    ensures held { IfOk result IsHeld }
-{
-    certificate::laws::what_is_within_the_limits();
-    let answer = quick_answer(alloc, &problem)?;
-    Ok(answered(problem, weights, answer))
-}
-
-/// What the solver answers, where that takes few turns. Else a plan that network simplex finds; and where it finds none,
-/// what the solver answers in as many turns as it takes.
-fn quick_answer(alloc: Global, problem: &Problem) -> Result<Answer, AllocError>
+pub(crate) fn quick_answer(alloc: Global, problem: &Problem) -> Result<Answer, AllocError>
     requires { IsTrue (rows_fit problem.now) }
     ensures right { IfOk result (IsRight problem.now) }
     ensures decided { IfOk result (IsDecided problem.now) }

@@ -8,7 +8,8 @@ ghost use Rattle.faults.specs.declared.or_memory.OrMemory.TheVariants.{Memory};
 ghost use Rattle.solution.specs.Solves.{HasRows, IsSolution, IsUnsolved, Solves};
 
 use crate::Solution;
-use crate::quick::decide_quickly;
+use crate::deciding::certificate_of;
+use crate::quick::quick_answer;
 use certificate::{Certificate, CheckFault, Problem, Weights, rows_fit};
 use certificate_text::{VerdictFault, read_problem};
 use faults::OrMemory;
@@ -55,5 +56,6 @@ fn solved(alloc: Global, problem: Problem) -> Result<Certificate, AllocError>
     ensures can { IfOk result CanWrite }
 {
     certificate_text::laws::written_texts_are_read();
-    decide_quickly(alloc, problem, Weights::Plain)
+    let answer = quick_answer(alloc, &problem)?;
+    Ok(certificate_of(problem, Weights::Plain, answer))
 }
