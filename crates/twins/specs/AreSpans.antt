@@ -5,7 +5,7 @@ use Rattle.cpu_set.specs.Ids.{Ids}
 use Rattle.certificate.specs.Weight.{weight_in}
 use Rattle.certificate.specs.declared.rows.Offer.{Offer}
 use Rattle.twins.specs.IsPart.{is_same_weight}
-use Rattle.twins.specs.declared.spans.Span.{Span}
+use Rattle.twins.specs.declared.span_list.Span.{Span}
 use Rattle.twins.specs.declared.spans.Spans.{Spans}
 
 -- each CPU of the range has its weight
@@ -20,7 +20,7 @@ pub record IsMade (offers : List Offer) (sets : List Ids) (at place : ℕ) : Typ
 -- the ranges have the weights of the offers, the set has the CPUs of the offers, and each set that was made for an offer
 -- has the CPUs of its weight
 pub record AreSpans (offers : List Offer) (spans : Spans) : Type 0 where
-  pub each : All (IsSpan offers) spans.items.items
+  pub each : All (IsSpan offers) spans.items
   pub cpus : (cpu : ℕ) → set.contains spans.cpus cpu ≡ is_some (weight_in offers cpu)
   pub places : length spans.places.items ≡ length offers
   pub made : (at place : ℕ) → slice_index_or spans.places.items at None ≡ Some place → IsMade offers spans.sets.items at place

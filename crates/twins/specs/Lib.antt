@@ -10,6 +10,7 @@ pub mod IsClosed
 pub mod Kinds
 pub mod KindLaws
 pub mod Edges
+pub mod SpanCode
 pub mod AreSpans
 pub mod PartsView
 pub mod Settled

@@ -10,7 +10,8 @@ ghost use Rattle.twins.specs.IsPart.{is_same_weight};
 ghost use Rattle.twins.specs.PartsView.{AreBounds};
 ghost use Rattle.twins.specs.AreSpans.{IsSpan, IsMade, AreSpans, AreAlike, IsPlaceOf};
 
-use crate::spans::{Span, Spans};
+use crate::span_list::Span;
+use crate::spans::Spans;
 use certificate::Offers;
 use cpu_set::IdSet;
 use std::alloc::AllocError;

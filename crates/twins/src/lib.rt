@@ -17,6 +17,7 @@ pub mod laws;
 mod parts;
 mod pricing;
 mod settling;
+mod span_list;
 mod spans;
 
 pub use classes::Classes;

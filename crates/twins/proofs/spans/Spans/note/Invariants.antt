@@ -5,7 +5,7 @@ use Rattle.twins.proofs.spans.Spans.note.Given as goal
 
 abbrev pub invariant-loop-at : goal.invariant-loop-at
 invariant-loop-at l = record {
-  each : All (IsSpan l.offers) l.self.items.items;
+  each : All (IsSpan l.offers) l.self.items;
   places : length l.self.places.items ≡ l.at;
   none : (at : ℕ) → get_or l.self.places.items at None ≡ None;
 }
