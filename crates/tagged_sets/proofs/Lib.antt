@@ -1,3 +1,4 @@
 pub mod Sets
 pub mod Kept
 pub mod Left
+pub mod Pieces

@@ -1,1 +1,2 @@
+pub mod CutOut
 pub mod Tagged

@@ -1,4 +1,5 @@
 ghost use Rattle.std.specs.Prelude.{◌≡◌, ◌↔◌, ℕ, ◌<◌, ◌≤◌, ◌++◌, [], ◌∷◌, All, IsTrue, IfOk, OnOk, OnErr, length};
+ghost use Rattle.std.specs.Prelude.{◌&&◌, ◌||◌, nat_le};
 ghost use Rattle.std.specs.Prelude.{slice_index_or, slice_range};
 ghost use Rattle.std.specs.FinSet as set;
 ghost use Rattle.cpu_set.specs.Ids.{Ids};
@@ -7,6 +8,7 @@ ghost use Rattle.tagged_sets.specs.Tagged.{ranges_of_set, start_at, in_any};
 ghost use Rattle.cpu_set.specs.Ranges.{in_ranges};
 
 use crate::Tag;
+use crate::cuts::add_without;
 use cpu_set::{CPU_LIMIT, IdSet};
 use std::alloc::{AllocError, Global};
 use std::marker::Model;
@@ -88,6 +90,36 @@ impl<T: Copy> TaggedSets<T> {
         };
         self.heads.push(head)?;
         self.ranges.extend_from_slice(more)?;
+        Ok(())
+    }
+
+    /// Adds a set of another list, less the CPUs of `without`, with a tag of its own behind the others: no set is made.
+    /// The ranges that have none of these CPUs are copied as they stand, and the others are cut. O(r + c + w) of its r
+    /// ranges, where c are cut out of them and a set has w words.
+    ///
+    /// # Errors
+    /// An allocation failure, which changes nothing.
+    pub fn push_without(
+        &mut self,
+        tag: T,
+        other: &TaggedSets<T>,
+        at: usize,
+        without: &IdSet,
+    ) -> Result<(), AllocError>
+        requires { at < length other.now }
+        ensures ok { (d : T × Ids) → OnOk result (self.new ≡ self.old
+            ++ (tag, set.difference (slice_index_or other.now at d).1 without.now) ∷ []) }
+        ensures err { OnErr result (self.new ≡ self.old) }
+    {
+        if self.heads.reserve(1).is_err() {
+            return Err(AllocError);
+        }
+        add_without(&mut self.ranges, other.ranges(at), without)?;
+        let head = Head {
+            tag,
+            end: self.ranges.len(),
+        };
+        self.heads.push(head)?;
         Ok(())
     }
 
@@ -221,7 +253,19 @@ fn set_of(ranges: &[(u16, u16)]) -> IdSet
     let mut cpus = IdSet::empty();
     for range in ranges {
         let (first, last) = *range;
-        cpus.insert_range(first, last);
+        add_range(&mut cpus, first, last);
     }
     cpus
+}
+
+/// Adds the numbers of a range. A set takes one number in fewer steps than a range of one.
+fn add_range(cpus: &mut IdSet, first: u16, last: u16)
+    requires { last < CPU_LIMIT }
+    ensures { (n : ℕ) → set.contains cpus.new n ≡ (set.contains cpus.old n || (nat_le first n && nat_le n last)) }
+{
+    if first == last {
+        cpus.insert(first);
+    } else {
+        cpus.insert_range(first, last);
+    }
 }
