@@ -81,6 +81,31 @@ impl Offers {
         Ok(())
     }
 
+    /// Adds an offer of other ones, less the CPUs of `without`, after the others, with a weight of its own. No set is
+    /// made: O(r + c + w) of its r ranges, where c are cut out of them and a set has w words.
+    ///
+    /// # Errors
+    /// An allocation failure, which changes nothing.
+    pub fn push_without(
+        &mut self,
+        weight: u32,
+        other: &Offers,
+        at: usize,
+        without: &IdSet,
+    ) -> Result<(), AllocError>
+        requires { at < length other.now }
+        ensures ok { (d : Offer) → OnOk result (self.new ≡ self.old ++ (record {
+          weight = weight;
+          cpus = set.difference (slice_index_or other.now at d).cpus without.now;
+        }) ∷ []) }
+        ensures err { OnErr result (self.new ≡ self.old) }
+    {
+        let rises = self.least() <= u64::from(weight);
+        self.sets.push_without(weight, &other.sets, at, without)?;
+        self.is_rising = self.is_rising && rises;
+        Ok(())
+    }
+
     /// The least weight with which the next offer weighs more than the last.
     fn least(&self) -> u64
         ensures none { length self.now ≡ 0 → result ≡ 0 }
