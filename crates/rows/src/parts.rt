@@ -45,7 +45,8 @@ fn span_of(ids: &IdSet) -> Span
     }
 }
 
-/// Adds the parts of an offer. Most offers have no CPU that is held: such a one is copied as it stands.
+/// Adds the parts of an offer. Most offers have no CPU that is held: such a one is copied as it stands, and of another
+/// the ranges that have none are.
 fn push_parts(
     parts: &mut Offers,
     offers: &Offers,
@@ -67,7 +68,10 @@ fn push_parts(
     let kept = Cost { distance, moves: 0 }.weight();
     let cpus = offers.offer(at).cpus;
     push_some(parts, kept, cpus.meet(held))?;
-    push_some(parts, moved, cpus.minus(held))
+    if cpus.is_subset(held) {
+        return Ok(());
+    }
+    parts.push_without(moved, offers, at, held)
 }
 
 /// Whether no CPU of the ranges is held, where all that are held are in the span.
