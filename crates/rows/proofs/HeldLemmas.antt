@@ -1,5 +1,5 @@
 -- Offers with no CPU that is held.
-use Rattle.std.proofs.Common.{◌≡◌, ℕ, ◌+◌, ◌<◌, ◌≤◌, Bool, true, false, cond, not, ◌&&◌, nat_lt, nat_le, Option, Some, None, unwrap_or, MatchOption, List, [], ◌∷◌, filter, length, map, take, get_or, ◌++◌, inl, inr, refl, sym, ap, append-nil, ◌∙◌, arith}
+use Rattle.std.proofs.Common.{◌≡◌, ℕ, ◌+◌, ◌<◌, ◌≤◌, Bool, true, false, cond, not, ◌&&◌, nat_lt, nat_le, Option, Some, None, unwrap_or, MatchOption, List, [], ◌∷◌, filter, length, map, take, get_or, ◌++◌, inl, inr, refl, sym, ap, ◌∙◌, arith}
 use Rattle.std.specs.List.{flat_map, list_all, range_with_len}
 use Rattle.std.specs.FinSet as set
 use Rattle.std.proofs.lemmas.Bool.{cases_lt, false≢true}
@@ -15,7 +15,7 @@ use Rattle.machine.specs.Layout.{Layout}
 use Rattle.certificate.specs.declared.Offer.{Offer}
 use Rattle.certificate.specs.Packed.{packed}
 use Rattle.rows.specs.Offers.{has_some, offer_at, offers_of}
-use Rattle.rows.specs.PartLemmas.{none_pushed, some_pushed}
+use Rattle.rows.specs.PartLemmas.{some_pushed}
 use Rattle.rows.specs.Scaled.{are_distances, kept, moved, parted}
 
 -- the least number, or the limit where there is none, is above no number of the set
@@ -55,14 +55,7 @@ parted_none held o some none =
     no_less : set.difference o.cpus held ≡ o.cpus
     no_less = same_members _ _ (λ q. contains-difference o.cpus held q ∙ stays _ _ (none q))
 
--- an offer within what is held is one part at most
-pub parted_within : (held : Ids) (o : Offer) → set.is_subset o.cpus held ≡ true → parted held o ≡ filter has_some (kept held o ∷ [])
-parted_within held o within =
-    filter-append has_some (kept held o ∷ []) (moved held o ∷ [])
-    ∙ ap (λ l. filter has_some (kept held o ∷ []) ++ l) (none_pushed _ _ ((is_subset-Decides o.cpus held).0 within))
-    ∙ append-nil (filter has_some (kept held o ∷ []))
-
--- one that is not has a part with the CPUs that are not held
+-- an offer that is not within what is held has a part with the CPUs that are not
 pub parted_cut : (held : Ids) (o : Offer) → set.is_subset o.cpus held ≡ false → parted held o ≡ filter has_some (kept held o ∷ []) ++ moved held o ∷ []
 parted_cut held o cut =
     filter-append has_some (kept held o ∷ []) (moved held o ∷ [])

@@ -8,7 +8,7 @@ use Rattle.certificate.specs.declared.Offer.{Offer}
 use Rattle.rows.specs.Offers.{has_some}
 use Rattle.rows.specs.Scaled.{kept}
 use Rattle.std.specs.FinSet as set
-use Rattle.rows.proofs.HeldLemmas.{distance_at, parted_cut, parted_none, parted_within}
+use Rattle.rows.proofs.HeldLemmas.{distance_at, parted_cut, parted_none}
 use Rattle.rows.proofs.parts.push_parts.Goals as goal
 
 pub weight-moved-requires : goal.weight-moved-requires
@@ -40,27 +40,14 @@ kept_of held s o e w same weighs has =
     ap (λ n. record { weight = n; cpus = s }) weighs
     ∙ ap (λ (t : Ids). record { weight = packed e.weight 0; cpus = t }) (has ∙ ap (λ (p : Offer). set.intersection p.cpus held) same)
 
-pub returns-then-is_subset : goal.returns-then-is_subset
-returns-then-is_subset c = λ d.
-    let held = c.args.held.now in
-    let o : Offer = get_or c.args.offers.now c.args.at d in
-    let same : c.offer-cpus.result ≡ o = read_as c.args.offers.now c.args.at _ d c.requires.place c.offer-cpus.ensures in
-    let within : set.is_subset o.cpus held ≡ true =
-    ap (λ (p : Offer). set.is_subset p.cpus held) (sym same) ∙ sym c.is_subset.ensures ∙ c.if-is_subset.true in
-    c.in_ok-push_some.ensures
-    ∙ ap (λ l. c.args.parts.now ++ l)
-    (ap (λ x. filter has_some (x ∷ []))
-    (kept_of held _ _ o _ same (c.weight-kept.ensures ∙ ap (λ w. packed w 0) (c.from-distance.ensures ∙ c.weight.ensures d)) c.meet.ensures)
-    ∙ sym (parted_within held o within))
-
-pub returns : goal.returns
-returns c = λ d.
+pub returns-then-not-is_subset : goal.returns-then-not-is_subset
+returns-then-not-is_subset c = λ d.
     let held = c.args.held.now in
     let parts = c.args.parts.now in
     let o : Offer = get_or c.args.offers.now c.args.at d in
     let same : c.offer-cpus.result ≡ o = read_as c.args.offers.now c.args.at _ d c.requires.place c.offer-cpus.ensures in
     let cut : set.is_subset o.cpus held ≡ false =
-    ap (λ (p : Offer). set.is_subset p.cpus held) (sym same) ∙ sym c.is_subset.ensures ∙ c.if-is_subset.false in
+    ap (λ (p : Offer). set.is_subset p.cpus held) (sym same) ∙ sym c.is_subset.ensures ∙ c.if-not-is_subset.true in
     let distance = c.from-distance.ensures ∙ c.weight.ensures d in
     on_ok_weaker c.push_without.result
     (λ pushed. pushed
