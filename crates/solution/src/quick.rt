@@ -6,12 +6,15 @@ ghost use Rattle.transport.specs.Solved.{IsRight, IsDecided, AreTwinsDealt, AreP
 use certificate::{Problem, Row};
 use network_simplex::propose;
 use std::alloc::{AllocError, Global};
-use transport::{Answer, solve, solve_within};
+use transport::{Answer, TurnLimit, solve, solve_within};
 
-/// So many turns a row may take, for as many CPUs that are asked for as a row has offers in the mean. A turn takes some steps
-/// for each offer of a row, and network simplex and its check some thousands for each CPU of each row. So this takes about
-/// as long, where turns are at their longest twice as long.
-const TURNS_A_ROW: u64 = 512;
+/// How many turns the solver may take at first: so many for each row, for as many CPUs that are asked for as a row has offers in
+/// the mean. A turn takes some steps for each offer of a row, so this is a tenth of what network simplex takes, or less.
+const TURNS_AT_FIRST: u64 = 32;
+
+/// How many more it may take when all rows have their CPUs. So it goes on where it takes about as long as network simplex, and
+/// where turns rise with each row it stops early.
+const TURNS_BEHIND: u64 = 192;
 
 /// What the solver answers, where that takes few turns. Else a plan that network simplex finds; and where it finds none,
 /// what the solver answers in as many turns as it takes. Of several plans of the least cost it may be another one than
@@ -26,8 +29,8 @@ pub(crate) fn quick_answer(alloc: Global, problem: &Problem) -> Result<Answer, A
     ensures dealt { IfOk result (AreTwinsDealt problem.now) }
     ensures priced { IfOk result (ArePricesOfClasses problem.now) }
 {
-    let few = few_turns(problem.rows.as_slice());
-    if let Some(answer) = solve_within(alloc, problem, few)? {
+    let limit = limit_of(problem.rows.as_slice());
+    if let Some(answer) = solve_within(alloc, problem, limit)? {
         return Ok(answer);
     }
     match propose(alloc, problem)? {
@@ -42,7 +45,7 @@ pub(crate) fn quick_answer(alloc: Global, problem: &Problem) -> Result<Answer, A
 }
 
 /// How many turns are few for these rows.
-fn few_turns(rows: &[Row]) -> u64 {
+fn limit_of(rows: &[Row]) -> TurnLimit {
     let mut asked = 0u64;
     let mut offers = 0u64;
     for row in rows {
@@ -50,9 +53,11 @@ fn few_turns(rows: &[Row]) -> u64 {
         offers = offers.saturating_add(row.offers.len() as u64);
     }
     let count = rows.len() as u64;
-    let few = TURNS_A_ROW
-        .saturating_mul(count)
-        .saturating_mul(count)
-        .saturating_mul(asked);
-    few.checked_div(offers).unwrap_or(u64::MAX)
+    let pairs = count.saturating_mul(count);
+    let first = TURNS_AT_FIRST.saturating_mul(pairs).saturating_mul(asked);
+    let behind = TURNS_BEHIND.saturating_mul(pairs);
+    TurnLimit {
+        at_first: first.checked_div(offers).unwrap_or(u64::MAX),
+        per_cpu: behind.checked_div(offers).unwrap_or(u64::MAX),
+    }
 }

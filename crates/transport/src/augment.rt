@@ -25,7 +25,7 @@ use crate::labels::FreeEnd;
 use crate::search::find_augmenting_path;
 use crate::tree::SearchTree;
 use crate::{Assignment, Instance};
-use certificate::Offers;
+use certificate::{Offers, Row};
 use cpu_set::CPU_LIMIT;
 use std::alloc::{AllocError, Global};
 
@@ -47,26 +47,35 @@ pub enum Outcome {
     Late,
 }
 
+/// How many turns the searches may take: so many at first, and so many more for each CPU that a row got.
+#[derive(Clone, Copy, Debug)]
+pub struct TurnLimit {
+    pub at_first: u64,
+    pub per_cpu: u64,
+}
+
 /// Assigns the rows one after another, with CPUs of classes of the given sizes.
 ///
 /// A turn is counted for each row or class that a search takes up: at most one search for each CPU that is
-/// asked for, and in a search at most one turn for each row and class. No search is begun behind more than `most` turns.
+/// asked for, and in a search at most one turn for each row and class. No search is begun behind more turns than the limit
+/// has for the rows that are met.
 pub fn assign_all(
     alloc: Global,
     instance: &Instance,
     sizes: &[u32],
-    most: u64,
+    limit: TurnLimit,
 ) -> Result<Outcome, AllocError>
     requires fit { AreRowsWithin instance.now.rows.now }
     requires kinds { AreKinds instance.now.rows.now (length instance.now.rows.now) instance.now.kinds.now }
     requires classes { length instance.now.firsts ≡ length sizes.now }
     requires few { length sizes.now ≤ CPU_LIMIT }
-    ensures { IfOk result (IsOutcome instance.now.rows.now instance.now.firsts sizes.now most) }
+    ensures { IfOk result (IsOutcome instance.now.rows.now instance.now.firsts sizes.now limit.at_first) }
 {
     let mut assignment = Assignment::first(alloc, instance, sizes)?;
     let mut arcs_by_kind = sorted_arcs_of(alloc, instance)?;
     let mut tree = SearchTree::new(alloc, instance.rows.len(), sizes.len())?;
     let mut turns = 0;
+    let mut most = limit.at_first;
     for row in 0..instance.rows.len() {
         match assign_row(
             instance,
@@ -77,12 +86,19 @@ pub fn assign_all(
             most,
             &mut turns,
         )? {
-            Ended::Met => {}
+            Ended::Met => most = raised(most, limit, &instance.rows[row]),
             Ended::Blocked => return Ok(stuck(tree, turns)),
             Ended::BrokenOff => return Ok(Outcome::Late),
         }
     }
     Ok(Outcome::Done { assignment, turns })
+}
+
+/// How many turns the searches may take where a row more has its CPUs.
+fn raised(most: u64, limit: TurnLimit, row: &Row) -> u64
+    ensures { most ≤ result }
+{
+    most.saturating_add(limit.per_cpu.saturating_mul(u64::from(row.demand)))
 }
 
 /// Sorted arcs for each row that is the first of its kind, which the others share; theirs are without offers.

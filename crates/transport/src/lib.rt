@@ -45,6 +45,7 @@ mod solver;
 mod tree;
 
 pub(crate) use assignment::Assignment;
+pub use augment::TurnLimit;
 pub(crate) use augment::{Outcome, assign_all};
 pub(crate) use instance::{Instance, Representatives};
 pub use solver::{Answer, solve, solve_within};

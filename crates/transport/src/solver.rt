@@ -12,7 +12,7 @@ ghost use Rattle.transport.specs.Places.{marked_places};
 ghost use Rattle.std.specs.FinSet as set;
 
 use crate::instance::sizes_of;
-use crate::{Assignment, Instance, Outcome, Representatives, assign_all};
+use crate::{Assignment, Instance, Outcome, Representatives, TurnLimit, assign_all};
 use certificate::{Plan, Prices, Problem, Row, proved_cost};
 use cpu_set::{CPU_LIMIT, IdSet};
 use std::alloc::{AllocError, Global};
@@ -54,20 +54,25 @@ fn solve_body(alloc: Global, problem: &Problem) -> Result<Answer, AllocError>
     ensures { IfOk result (IsSolved problem.now) }
 {
     certificate::laws::what_is_within_the_limits();
-    match solve_within_body(alloc, problem, u64::MAX)? {
+    let none = TurnLimit {
+        at_first: u64::MAX,
+        per_cpu: 0,
+    };
+    match solve_within_body(alloc, problem, none)? {
         Some(answer) => Ok(answer),
         None => unreachable!(),
     }
 }
 
-/// What [`solve`] answers, if that takes few turns: once more than `most` are taken, no further search is begun.
+/// What [`solve`] answers, if that takes few turns: once more are taken than the limit has for the rows that are met, no
+/// further search is begun.
 ///
 /// # Errors
 /// An allocation failure; no problem is refused.
 pub fn solve_within(
     alloc: Global,
     problem: &Problem,
-    most: u64,
+    limit: TurnLimit,
 ) -> Result<Option<Answer>, AllocError>
     requires { IsTrue (rows_fit problem.now) }
 
@@ -87,25 +92,26 @@ pub fn solve_within(
     // The turns of an answer are those of `solve`.
     ensures turns { IfOk result (λ found. IfSome found (AreTurns problem.now)) }
 
-    // There is no answer only where more turns may be needed: (rows + classes) × CPUs asked for are more than `most`.
-    ensures late { IfOk result (λ found. found ≡ None → MayTakeMore problem.now most) }
+    // There is no answer only where more turns may be needed: (rows + classes) × CPUs asked for are more
+    // than the limit's turns at first.
+    ensures late { IfOk result (λ found. found ≡ None → MayTakeMore problem.now limit.at_first) }
 {
-    solve_within_body(alloc, problem, most)
+    solve_within_body(alloc, problem, limit)
 }
 
 fn solve_within_body(
     alloc: Global,
     problem: &Problem,
-    most: u64,
+    limit: TurnLimit,
 ) -> Result<Option<Answer>, AllocError>
     requires { IsTrue (rows_fit problem.now) }
-    ensures { IfOk result (IsSolvedWithin problem.now most) }
+    ensures { IfOk result (IsSolvedWithin problem.now limit.at_first) }
 {
     certificate::laws::what_is_within_the_limits();
     let rows = problem.rows.as_slice();
     let kinds = kinds_of(alloc, rows)?;
     let classes = group(alloc, problem, &kinds)?;
-    let answer = match assigned(alloc, rows, &kinds, classes.sets.as_slice(), most)? {
+    let answer = match assigned(alloc, rows, &kinds, classes.sets.as_slice(), limit)? {
         Outcome::Done { assignment, turns } => {
             planned(alloc, problem, &classes, assignment, turns)?
         }
@@ -125,13 +131,14 @@ fn assigned(
     rows: &[Row],
     kinds: &[usize],
     classes: &[IdSet],
-    most: u64,
+    limit: TurnLimit,
 ) -> Result<Outcome, AllocError>
     requires kinds { AreKinds rows.now (length rows.now) kinds.now }
     requires fit { AreRowsWithin rows.now }
     requires grouping { IsGrouping rows.now classes.now }
     requires few { length classes.now ≤ CPU_LIMIT }
-    ensures { IfOk result (IsOutcome rows.now (map first_of classes.now) (map (λ s. set.len s) classes.now) most) }
+    ensures { IfOk result (IsOutcome rows.now (map first_of classes.now) (map (λ s. set.len s) classes.now)
+        limit.at_first) }
 {
     let firsts = Representatives::new(alloc, classes)?;
     let sizes = sizes_of(alloc, classes)?;
@@ -140,7 +147,7 @@ fn assigned(
         kinds,
         firsts,
     };
-    assign_all(alloc, &instance, &sizes, most)
+    assign_all(alloc, &instance, &sizes, limit)
 }
 
 /// The plan of rows that have what they ask for, of each class so many CPUs.

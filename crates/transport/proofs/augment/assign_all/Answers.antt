@@ -9,7 +9,7 @@ use Rattle.transport.proofs.augment.assign_all.Goals as goal
 pub loop-row-init : goal.loop-row-init
 loop-row-init c =
     let first = assigned_first _ _ _ _ c.requires.fit c.requires.kinds c.requires.classes c.in_ok-assignment.ensures c.in_ok-arcs_by_kind.ensures in
-    (first, rw (first.values_long, first.prices_long) c.in_ok-tree.ensures)
+    (first, rw (first.values_long, first.prices_long) c.in_ok-tree.ensures, omega arith)
 
 pub assign_row-requires-clause-can : goal.assign_row-requires-clause-can
 assign_row-requires-clause-can c =
@@ -18,14 +18,14 @@ assign_row-requires-clause-can c =
 
 pub returns-in-Blocked : goal.returns-in-Blocked
 returns-in-Blocked c =
-    subst (IsOutcome c.args.instance.now.rows.now c.args.instance.now.firsts c.args.sizes.now c.args.most) (sym c.stuck.ensures)
+    subst (IsOutcome c.args.instance.now.rows.now c.args.instance.now.firsts c.args.sizes.now c.args.limit.at_first) (sym c.stuck.ensures)
     (stuck_at_end _ _ _ _ _ _ c.loop-row.invariant.0 c.requires.fit c.loop-row-test.true _ _ _
-    (subst (IsRowAssigned c.args.instance.now c.loop-row.row c.args.most c.loop-row.assignment c.assign_row.new.assignment c.assign_row.new.arcs_by_kind c.assign_row.new.tree c.loop-row.turns c.assign_row.new.turns) c.in-Blocked.is c.in_ok-assign_row.ensures))
+    (subst (IsRowAssigned c.args.instance.now c.loop-row.row c.loop-row.most c.loop-row.assignment c.assign_row.new.assignment c.assign_row.new.arcs_by_kind c.assign_row.new.tree c.loop-row.turns c.assign_row.new.turns) c.in-Blocked.is c.in_ok-assign_row.ensures))
 
 pub returns-in-BrokenOff : goal.returns-in-BrokenOff
 returns-in-BrokenOff c =
-    let p = subst (IsRowAssigned c.args.instance.now c.loop-row.row c.args.most c.loop-row.assignment c.assign_row.new.assignment c.assign_row.new.arcs_by_kind c.assign_row.new.tree c.loop-row.turns c.assign_row.new.turns) c.in-BrokenOff.is c.in_ok-assign_row.ensures in
-    late_in_row _ _ _ _ _ _ c.loop-row.invariant.0 c.requires.fit c.loop-row-test.true c.args.most _ _ _ p.0 p.1
+    let p = subst (IsRowAssigned c.args.instance.now c.loop-row.row c.loop-row.most c.loop-row.assignment c.assign_row.new.assignment c.assign_row.new.arcs_by_kind c.assign_row.new.tree c.loop-row.turns c.assign_row.new.turns) c.in-BrokenOff.is c.in_ok-assign_row.ensures in
+    late_in_row _ _ _ _ _ _ c.loop-row.invariant.0 c.requires.fit c.loop-row-test.true c.args.limit.at_first _ _ _ p.0 (omega (arith, p.1, c.loop-row.invariant.2))
 
 -- the sorted arcs behind the slice are those that the call left
 written : (n : ℕ) (new rest : List SortedArcs) → n ≡ length new → take n (new ++ rest) ≡ new
@@ -33,11 +33,12 @@ written n new rest long = take-append-le n new rest (omega (arith, long)) ∙ ta
 
 pub loop-row-preserved : goal.loop-row-preserved
 loop-row-preserved c =
-    let p = subst (IsRowAssigned c.args.instance.now c.loop-row.row c.args.most c.loop-row.assignment c.assign_row.new.assignment c.assign_row.new.arcs_by_kind c.assign_row.new.tree c.loop-row.turns c.assign_row.new.turns) c.in-Met.is c.in_ok-assign_row.ensures in (
+    let p = subst (IsRowAssigned c.args.instance.now c.loop-row.row c.loop-row.most c.loop-row.assignment c.assign_row.new.assignment c.assign_row.new.arcs_by_kind c.assign_row.new.tree c.loop-row.turns c.assign_row.new.turns) c.in-Met.is c.in_ok-assign_row.ensures in (
       subst (λ arcs_by_kind. AreAssigned c.args.instance.now c.args.sizes.now c.assign_row.new.assignment arcs_by_kind (c.loop-row.row + 1) c.assign_row.new.turns)
           (sym (written _ _ _ (omega (arith, c.loop-row.arcs_by_kind.ok.0, c.loop-row.invariant.0.sorted.long, p.0.sorted.long))))
           (assigned_more _ _ _ _ _ _ c.loop-row.invariant.0 c.requires.fit c.loop-row-test.true _ _ _ p.0 p.1),
       p.2,
+      omega (arith, c.raised-most.ensures, c.loop-row.invariant.2),
     )
 
 pub returns : goal.returns

@@ -1,6 +1,7 @@
+use Rattle.std.proofs.Common.{◌≤◌}
 use Rattle.transport.specs.Settled.{IsTreeOf}
 use Rattle.transport.specs.Assigning.{AreAssigned}
 use Rattle.transport.proofs.augment.assign_all.Given as goal
 
 abbrev pub invariant-loop-row : goal.invariant-loop-row
-invariant-loop-row l = AreAssigned l.instance l.sizes l.assignment l.arcs_by_kind.items l.row l.turns × IsTreeOf l.assignment l.tree
+invariant-loop-row l = AreAssigned l.instance l.sizes l.assignment l.arcs_by_kind.items l.row l.turns × IsTreeOf l.assignment l.tree × (l.limit.at_first ≤ l.most)

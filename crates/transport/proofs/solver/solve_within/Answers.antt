@@ -4,7 +4,7 @@ use Rattle.transport.proofs.solver.solve_within.Goals as goal
 pub returns : goal.returns
 returns c =
     let rows = c.args.problem.now in
-    let most = c.args.most in
+    let most = c.args.limit.at_first in
     record {
       right = if_ok c.solve_within_body.result (if_some rows most (right_of rows)) c.solve_within_body.ensures;
       decided = if_ok c.solve_within_body.result (if_some rows most (decided_of rows)) c.solve_within_body.ensures;
