@@ -25,11 +25,12 @@ from places import Job, place
 ROUNDS, TIMES, RUNS = 5, 200, 40
 
 
-# The last eight are as large as may be.
+# Those of 4,096 CPUs are as large as may be.
 JOBS = {
     "2-nodes-in-turn": Job(2, 1024, 255, in_turn=True),
     "8-nodes-in-turn": Job(8, 1024, 255, in_turn=True),
     "64-nodes-in-turn": Job(64, 1024, 255, in_turn=True),
+    "2-nodes-2048-in-turn": Job(2, 2048, 443, in_turn=True),
     "8-nodes": Job(8, 1024, 256),
     "64-nodes": Job(64, 1024, 256),
     "64-nodes-ring": Job(64, 1024, 255, ring=True),
@@ -41,6 +42,7 @@ JOBS = {
     "8-nodes-few": Job(8, 4096, 1024, lists="few"),
     "128-nodes-whole": Job(128, 4096, 1023, whole=True),
     "128-nodes-cores": Job(128, 4096, 1023, whole=True, threads=2),
+    "128-nodes-cores-beside": Job(128, 4096, 1000, whole=True, threads=2, beside=True),
     "128-nodes-ring-whole": Job(128, 4096, 1023, ring=True, whole=True),
     "128-nodes-ring-cores": Job(128, 4096, 1023, ring=True, whole=True, threads=2),
 }

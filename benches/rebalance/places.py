@@ -15,11 +15,13 @@ class Job(NamedTuple):
     whole: bool = False    # demands of whole cores of two CPUs
     threads: int = 1       # CPUs a core; more than one are listed in the machine file
     in_turn: bool = False  # cores numbered in turn over the nodes, in place of node by node
+    beside: bool = False   # the CPUs of a core side by side, in place of half of all apart
 
     def about(self):
         lists = {"": "", "half": ", lists of their own", "few": ", few CPUs of their own"}[self.lists]
         ring = ", the distances of a ring" if self.ring else ""
         cores = f", {self.cpus // self.threads} cores" if self.threads > 1 else ", the same demands without cores" if self.whole else ""
+        cores += " of CPUs side by side" if self.beside else ""
         turn = ", numbered in turn over the nodes" if self.in_turn else ""
         return f"{self.cpus} CPUs{turn}, {self.containers} containers{lists}{ring}{cores}"
 
@@ -41,9 +43,11 @@ def distance(job, i, j):
 
 
 def machine(job):
-    """The machine file. With demands of whole cores the CPUs k and k + half of all are one core's, whether cores are listed or not."""
+    """The machine file. With demands of whole cores two CPUs are one core's, whether cores are listed or not: k and k + half of all, or 2 k
+    and 2 k + 1."""
     half = job.cpus // 2
-    cores = [{k, k + half} for k in range(half)] if job.whole else [{k} for k in range(job.cpus)]
+    pairs = [{2 * k, 2 * k + 1} if job.beside else {k, k + half} for k in range(half)]
+    cores = pairs if job.whole else [{k} for k in range(job.cpus)]
     per = len(cores) // job.nodes
     of_node = [cores[k :: job.nodes] if job.in_turn else cores[per * k : per * k + per] for k in range(job.nodes)]
     nodes = [listed(set().union(*own)) for own in of_node]
