@@ -8,13 +8,15 @@ use network_simplex::propose;
 use std::alloc::{AllocError, Global};
 use transport::{Answer, TurnLimit, solve, solve_within};
 
-/// How many turns the solver may take at first: so many for each row, for as many CPUs that are asked for as a row has offers in
-/// the mean. A turn takes some steps for each offer of a row, so this is a tenth of what network simplex takes, or less.
-const TURNS_AT_FIRST: u64 = 32;
+/// For each turn that the solver may take at first, so many more when all rows have their CPUs. So it goes on where it takes about
+/// as long as network simplex, and where turns rise with each row it stops early.
+const MORE_BEHIND: u64 = 13;
 
-/// How many more it may take when all rows have their CPUs. So it goes on where it takes about as long as network simplex, and
-/// where turns rise with each row it stops early.
-const TURNS_BEHIND: u64 = 192;
+/// How many rows and CPUs together there were for each row where the limit was measured.
+const NODES_A_ROW: u64 = 5;
+
+/// The root of the number of rows there. With fewer rows the limit is no lower for that.
+const LEAST_TIMES: u64 = 16;
 
 /// What the solver answers, where that takes few turns. Else a plan that network simplex finds; and where it finds none,
 /// what the solver answers in as many turns as it takes. Of several plans of the least cost it may be another one than
@@ -44,7 +46,10 @@ pub(crate) fn quick_answer(alloc: Global, problem: &Problem) -> Result<Answer, A
     }
 }
 
-/// How many turns are few for these rows.
+/// How many turns are few for these rows: about as many as take as long as network simplex.
+///
+/// A turn is a row, which looks at its offers, or a class, which takes few steps. There are about as many classes for a row as it asks
+/// for CPUs. And the more rows there are, the fewer steps a turn takes, and the more network simplex does.
 fn limit_of(rows: &[Row]) -> TurnLimit {
     let mut asked = 0u64;
     let mut offers = 0u64;
@@ -53,9 +58,11 @@ fn limit_of(rows: &[Row]) -> TurnLimit {
         offers = offers.saturating_add(row.offers.len() as u64);
     }
     let count = rows.len() as u64;
-    let pairs = count.saturating_mul(count);
-    let first = TURNS_AT_FIRST.saturating_mul(pairs).saturating_mul(asked);
-    let behind = TURNS_BEHIND.saturating_mul(pairs);
+    let nodes = count.saturating_add(asked);
+    let times = count.isqrt().max(LEAST_TIMES);
+    let unit = count.saturating_mul(nodes).saturating_mul(times) / NODES_A_ROW;
+    let first = unit.saturating_mul(asked);
+    let behind = unit.saturating_mul(MORE_BEHIND);
     TurnLimit {
         at_first: first.checked_div(offers).unwrap_or(u64::MAX),
         per_cpu: behind.checked_div(offers).unwrap_or(u64::MAX),
