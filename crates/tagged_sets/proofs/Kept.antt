@@ -2,15 +2,17 @@
 use Rattle.cpu_set.specs.Ids.{Ids}
 use Rattle.cpu_set.specs.Members.{InRange}
 use Rattle.cpu_set.specs.Ranges.{in_ranges}
-use Rattle.std.proofs.Common.{List, [], ap, arith, drop, drop-drop, get_or, length, length-append, length-drop, refl, subst, suc, sym, take, take-append-drop, zero, ℕ, ◌&&◌, ◌++◌, ◌+◌, ◌-◌, ◌<◌, ◌||◌, ◌∙◌, ◌∷◌, ◌≡◌, ◌≤◌}
-use Rattle.std.proofs.Math.Seq.{drop-append_seam}
-use Rattle.std.proofs.lemmas.List.{drop-append-le, drop_all, length-take-le, take-append-le, take_all}
-use Rattle.std.proofs.lemmas.List.Elements.{All-append, All-nil}
+use Rattle.std.proofs.Common.{Bool, IfSome, None, Option, Some, false, true, List, [], ap, arith, drop, drop-drop, get_or, length, length-append, length-drop, inl, inr, refl, subst, suc, sym, take, take-append-drop, zero, ℕ, ◌&&◌, ◌++◌, ◌+◌, ◌-◌, ◌<◌, ◌||◌, ◌∙◌, ◌∷◌, ◌≡◌, ◌≤◌}
+use Rattle.std.proofs.Math.Seq.{drop-append_seam, get_or-append_seam}
+use Rattle.std.proofs.lemmas.List.{drop-append-le, drop_all, get_or_append_left, length-take-le, take-append-le, take_all, take_more}
+use Rattle.std.proofs.lemmas.List.Elements.{All-append, All-nil, All-push}
 use Rattle.std.proofs.lemmas.List.Folds.{list_any-append}
 use Rattle.std.specs.Prelude.{All, nat_le, slice_range}
-use Rattle.tagged_sets.proofs.Sets.{IsBelow, are_of_set, below_if_of_set, in_of_set}
-use Rattle.tagged_sets.specs.Tagged.{AreKept, IsOfSet, in_any, ranges_of_set, set_of_ranges, start_at, tagged}
+use Rattle.tagged_sets.proofs.Sets.{IsBelow, are_of_set, below_if_of_set, in_of_set, set_again}
+use Rattle.tagged_sets.specs.Tagged.{AreKept, AreWide, IsOfSet, IsWideOf, MayKeep, in_any, ranges_of_set, set_of_ranges, start_at, tagged, wide_set}
 use Rattle.tagged_sets.specs.declared.tagged_sets.Head.{Head}
+use Rattle.tagged_sets.specs.declared.tagged_sets.WideSet.{WideSet}
+use Rattle.cpu_set.specs.Pointwise.{contains-union}
 use Rattle.std.specs.FinSet as set
 
 module _ {A : Type 0} where
@@ -32,6 +34,11 @@ module _ {A : Type 0} where
   cut xs a b rise =
       let e : a + (b - a) ≡ b = omega arith in
       sym (take-append-drop (b - a) (drop a xs)) ∙ ap (λ rest. take (b - a) (drop a xs) ++ rest) (drop-drop (b - a) a xs ∙ ap (λ k. drop k xs) e)
+
+-- what an option has meets what follows
+pub if_some : {A : Type 0} (o : Option A) (P Q : A → Type 0) → ((x : A) → P x → Q x) → IfSome o P → IfSome o Q
+if_some None P Q more is = tt
+if_some (Some x) P Q more is = more x is
 
 -- the ranges of one set
 pub record IsKept (ranges : List (ℕ × ℕ)) (start end : ℕ) : Type 0 where
@@ -115,6 +122,13 @@ module _ {T : Type 0} where
       let d : T × Ids = (t, set.empty) in
       subst IsOfSet (sym (are d)) (are_of_set (get_or sets k d).1 (low d))
 
+  -- one of some sets is made of its ranges
+  pub one_set : (ranges : List (ℕ × ℕ)) (sets : List (T × Ids)) (k : ℕ) (t : T) → ((d : T × Ids) → ranges ≡ ranges_of_set (get_or sets k d).1)
+      → ((d : T × Ids) → InRange (get_or sets k d).1) → (get_or sets k (t, set.empty)).1 ≡ set_of_ranges ranges
+  one_set ranges sets k t are low =
+      let d : T × Ids = (t, set.empty) in
+      sym (ap set_of_ranges (are d) ∙ set_again (get_or sets k d).1 (low d))
+
   -- all ranges have the numbers of all sets
   pub in_any-ranges : (ranges : List (ℕ × ℕ)) (start : ℕ) (heads : List (Head T)) → AreKept ranges start heads → (q : ℕ)
       → in_ranges (drop start ranges) q ≡ in_any (tagged ranges start heads) q
@@ -155,3 +169,49 @@ module _ {T : Type 0} where
         ap (λ (x : Head T). x ∷ hs) (same_head h g tag end) ∙ ap (λ xs. g ∷ xs) rest.0,
         cut rs start h.end kept.0 ∙ ap (λ xs. xs ++ drop h.end rs) part ∙ ap (λ xs. slice_range ts start g.end ++ xs) (rest.1 ∙ ap (λ n. drop n ts) end) ∙ sym (cut ts start g.end other.0),
       )
+
+  wide_stays : (sets : List (T × Ids)) (p : T × Ids) (w : WideSet) → IsWideOf sets w → IsWideOf (sets ++ p ∷ []) w
+  wide_stays sets p w is = (
+    omega (arith, is.0, length-append sets (p ∷ [])),
+    λ d. is.1 d ∙ sym (ap (λ (x : T × Ids). x.1) (get_or_append_left sets (p ∷ []) d w.at is.0)),
+  )
+
+  wide_last : (sets : List (T × Ids)) (p : T × Ids) (place : ℕ) → place ≡ length sets → IsWideOf (sets ++ p ∷ []) (wide_set place p.1)
+  wide_last sets p place e = (
+    omega (arith, e, length-append sets (p ∷ [])),
+    λ d. sym (ap (λ (x : T × Ids). x.1) (ap (λ n. get_or (sets ++ p ∷ []) n d) e ∙ get_or-append_seam sets p [] d)),
+  )
+
+  wide_added : (old new : List WideSet) (sets : List (T × Ids)) (p : T × Ids) (place : ℕ) → AreWide old sets → place ≡ length sets → MayKeep old new place p.1
+      → AreWide new (sets ++ p ∷ [])
+  wide_added old new sets p place are e (inl same) =
+      subst (λ ws. AreWide ws (sets ++ p ∷ [])) (sym same) (λ k d lt. wide_stays sets p (get_or old k d) (are k d lt))
+  wide_added old new sets p place are e (inr more) =
+      subst (λ ws. AreWide ws (sets ++ p ∷ [])) (sym more)
+      (All-push (IsWideOf (sets ++ p ∷ [])) old (wide_set place p.1) (λ k d lt. wide_stays sets p (get_or old k d) (are k d lt)) (wide_last sets p place e))
+
+  -- with one set more, those that are kept beside their ranges stay those at their places
+  pub wide_more : (ranges new : List (ℕ × ℕ)) (heads : List (Head T)) (h : Head T) (old after : List WideSet) (place : ℕ) → AreKept ranges 0 heads
+      → h.end ≡ length ranges + length new → AreWide old (tagged ranges 0 heads) → place ≡ length heads → MayKeep old after place (set_of_ranges new)
+      → AreWide after (tagged (ranges ++ new) 0 (heads ++ h ∷ []))
+  wide_more ranges new heads h old after place kept end are e may =
+      subst (AreWide after) (sym (tagged_more ranges new 0 heads h kept end))
+      (wide_added old after (tagged ranges 0 heads) (h.tag, set_of_ranges new) place are (e ∙ sym (length-tagged ranges 0 heads)) may)
+
+  -- the numbers of the first sets, with those of one more
+  pub in_any_more : (sets : List (T × Ids)) (k : ℕ) (s all next : Ids) → k < length sets → ((d : T × Ids) → s ≡ (get_or sets k d).1)
+      → ((q : ℕ) → set.contains all q ≡ in_any (take k sets) q) → next ≡ set.union all s → (q : ℕ) → set.contains next q ≡ in_any (take (k + 1) sets) q
+  in_any_more [] k s all next lt is same e q = absurd (omega arith)
+  in_any_more (x ∷ xs) k s all next lt is same e q =
+      let sets : List (T × Ids) = x ∷ xs in
+      ap (λ t. set.contains t q) e
+      ∙ contains-union all s q
+      ∙ ap (λ b. b || set.contains s q) (same q)
+      ∙ ap (λ t. in_any (take k sets) q || set.contains t q) (is x)
+      ∙ last_one (in_any (take k sets) q) (set.contains (get_or sets k x).1 q)
+      ∙ sym (list_any-append (λ (p : T × Ids). set.contains p.1 q) (take k sets) (get_or sets k x ∷ []))
+      ∙ sym (ap (λ xs. in_any xs q) (take_more sets k x lt))
+    where
+      last_one : (a b : Bool) → (a || b) ≡ (a || (b || false))
+      last_one a true = refl
+      last_one a false = refl

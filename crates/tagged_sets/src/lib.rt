@@ -1,14 +1,15 @@
 //! Sets of CPUs with tags, in memory that is linear in their ranges.
 //!
-//! A set of a few ranges takes a few bytes, however many CPUs there may be. A contract sees [`TaggedSets`] as the list
-//! of the tags and the sets.
+//! A set of a few ranges takes a few bytes, however many CPUs there may be. One of many ranges, as where CPUs are
+//! numbered in turn over the nodes, is kept as a set too, since it is copied faster than it is made of its ranges. A
+//! contract sees [`TaggedSets`] as the list of the tags and the sets.
 //!
 //! # Proved
 //!
 //! - `TaggedSets` is a list of sets with tags, to which sets are added. Those of another list are added as they are
 //!   (`push_from`) or less some CPUs (`push_without`). If an allocation fails nothing changes.
-//! - It gives the tag, the set and the ranges of each, all CPUs in one of them (`all`), and a copy. `is_same` says
-//!   exactly whether two such lists are the same.
+//! - It gives the tag, the set and the ranges of each, all CPUs in one of them (`all`), and a copy. A set that `wide`
+//!   hands out is the one at its place. `is_same` says exactly whether two such lists are the same.
 //! - How sets are kept no contract mentions.
 #![tactic(auto)]
 

@@ -1,10 +1,10 @@
-ghost use Rattle.std.specs.Prelude.{◌≡◌, ◌↔◌, ℕ, ◌<◌, ◌≤◌, ◌++◌, [], ◌∷◌, All, IsTrue, IfOk, OnOk, OnErr, length};
-ghost use Rattle.std.specs.Prelude.{◌&&◌, ◌||◌, nat_le};
+ghost use Rattle.std.specs.Prelude.{◌≡◌, ◌↔◌, ℕ, ◌<◌, ◌≤◌, ◌++◌, [], ◌∷◌, All, IsTrue, length};
+ghost use Rattle.std.specs.Prelude.{◌&&◌, ◌||◌, nat_le, IfOk, OnOk, OnErr, IfSome};
 ghost use Rattle.std.specs.Prelude.{slice_index_or, slice_range};
 ghost use Rattle.std.specs.FinSet as set;
 ghost use Rattle.cpu_set.specs.Ids.{Ids};
 ghost use Rattle.cpu_set.specs.Members.{InRange};
-ghost use Rattle.tagged_sets.specs.Tagged.{ranges_of_set, start_at, in_any};
+ghost use Rattle.tagged_sets.specs.Tagged.{ranges_of_set, set_of_ranges, start_at, in_any, IsOfSet, MayKeep};
 ghost use Rattle.cpu_set.specs.Ranges.{in_ranges};
 
 use crate::Tag;
@@ -13,14 +13,20 @@ use cpu_set::{CPU_LIMIT, IdSet};
 use std::alloc::{AllocError, Global};
 use std::marker::Model;
 
+/// A set of more ranges than this is kept as a set beside them, since it is copied faster than it is made of them.
+const WIDE: usize = 64;
+
 /// Sets of CPUs in the order in which they came, each with a tag.
 ///
-/// A set takes a head and its ranges, not a bit for each CPU that there may be.
+/// A set takes a head and its ranges, not a bit for each CPU that there may be. Only one of many ranges, as on a
+/// machine whose CPUs are numbered in turn over its nodes, is kept as a set beside them.
 #[derive(Debug, Drop)]
 pub struct TaggedSets<T: Copy> {
     heads: Vec<Head<T>>,
     // The ranges of all sets, rising within each set and as long as possible.
     ranges: Vec<(u16, u16)>,
+    // Sets that are kept beside their ranges, in the order of their places.
+    wide: Vec<WideSet>,
 }
 
 /// A set's tag, and where its ranges end. They begin where those of the set before end.
@@ -30,11 +36,18 @@ struct Head<T: Copy> {
     end: usize,
 }
 
+/// A set of many ranges, and its place among all sets.
+#[derive(Clone, Copy, Debug)]
+struct WideSet {
+    at: usize,
+    cpus: IdSet,
+}
+
 impl<T: Copy> Model for TaggedSets<T> {
     ghost use Rattle.std.specs.Prelude.{List};
     ghost use Rattle.cpu_set.specs.Ids.{Ids, ids_code};
     ghost use Rattle.std.specs.Coded.{coded×, coded_list};
-    ghost use Rattle.tagged_sets.specs.Tagged.{tagged, AreKept};
+    ghost use Rattle.tagged_sets.specs.Tagged.{tagged, AreKept, AreWide};
 
     ghost Value = { List (T × Ids) };
 
@@ -42,7 +55,8 @@ impl<T: Copy> Model for TaggedSets<T> {
 
     ghost view = { λ a. tagged a.ranges.items 0 a.heads.items };
 
-    ghost invariant = { λ a. AreKept a.ranges.items 0 a.heads.items };
+    ghost invariant = { λ a. AreKept a.ranges.items 0 a.heads.items
+        × AreWide a.wide.items (tagged a.ranges.items 0 a.heads.items) };
 }
 
 impl<T: Copy> TaggedSets<T> {
@@ -53,6 +67,7 @@ impl<T: Copy> TaggedSets<T> {
         TaggedSets {
             heads: Vec::new(alloc),
             ranges: Vec::new(alloc),
+            wide: Vec::new(alloc),
         }
     }
 
@@ -65,14 +80,15 @@ impl<T: Copy> TaggedSets<T> {
         ensures err { OnErr result (self.new ≡ self.old) }
     {
         self.heads.reserve(1)?;
-        add_ranges(&mut self.ranges, cpus)?;
+        let place = self.heads.len();
+        add_set(&mut self.ranges, &mut self.wide, place, cpus)?;
         let end = self.ranges.len();
         self.heads.push(Head { tag, end })?;
         Ok(())
     }
 
-    /// Adds a set of another list with a tag of its own behind the others: its ranges are copied as they stand, and no
-    /// set is made of them. O(r) of its r ranges.
+    /// Adds a set of another list with a tag of its own behind the others: its ranges are copied as they stand, with
+    /// the set where it is kept, and no set is made of them. O(r) of its r ranges.
     ///
     /// # Errors
     /// An allocation failure, which changes nothing.
@@ -84,6 +100,11 @@ impl<T: Copy> TaggedSets<T> {
     {
         let more = other.ranges(at);
         self.ranges.reserve(more.len())?;
+        if self.heads.reserve(1).is_err() {
+            return Err(AllocError);
+        }
+        let place = self.heads.len();
+        keep_same(&mut self.wide, place, other.wide(at))?;
         let head = Head {
             tag,
             end: self.ranges.len() + more.len(),
@@ -93,9 +114,10 @@ impl<T: Copy> TaggedSets<T> {
         Ok(())
     }
 
-    /// Adds a set of another list, less the CPUs of `without`, with a tag of its own behind the others: no set is made.
-    /// The ranges that have none of these CPUs are copied as they stand, and the others are cut. O(r + c + w) of its r
-    /// ranges, where c are cut out of them and a set has w words.
+    /// Adds a set of another list, less the CPUs of `without`, with a tag of its own behind the others: no set is made
+    /// of ranges. Those that have none of these CPUs are copied as they stand, and the others are cut. Where the set is
+    /// kept and many ranges are left, what is left of it is kept too. O(r + c + w) of its r ranges, where c are cut out
+    /// of them and a set has w words.
     ///
     /// # Errors
     /// An allocation failure, which changes nothing.
@@ -114,7 +136,17 @@ impl<T: Copy> TaggedSets<T> {
         if self.heads.reserve(1).is_err() {
             return Err(AllocError);
         }
-        add_without(&mut self.ranges, other.ranges(at), without)?;
+        let others = other.ranges(at);
+        let kept = other.wide(at);
+        let place = self.heads.len();
+        add_left(
+            &mut self.ranges,
+            &mut self.wide,
+            place,
+            others,
+            kept,
+            without,
+        )?;
         let head = Head {
             tag,
             end: self.ranges.len(),
@@ -132,7 +164,12 @@ impl<T: Copy> TaggedSets<T> {
     {
         let heads = Vec::from_slice(alloc, self.heads.as_slice())?;
         let ranges = Vec::from_slice(alloc, self.ranges.as_slice())?;
-        Ok(TaggedSets { heads, ranges })
+        let wide = Vec::from_slice(alloc, self.wide.as_slice())?;
+        Ok(TaggedSets {
+            heads,
+            ranges,
+            wide,
+        })
     }
 
     /// How many sets there are.
@@ -164,19 +201,45 @@ impl<T: Copy> TaggedSets<T> {
         part_of(self.ranges.as_slice(), start, end)
     }
 
-    /// A set, made of its ranges.
+    /// A set, where it is kept beside its ranges, as most sets of more than 64 ranges are. [`TaggedSets::cpus`] makes
+    /// those that are not. O(log n) of n sets.
+    pub fn wide(&self, at: usize) -> Option<&IdSet>
+        ensures { (d : T × Ids) → IfSome result (λ s. s.now ≡ (slice_index_or self.now at d).1) }
+    {
+        if self.wide.is_empty() {
+            return None;
+        }
+        let place = place_of(self.wide.as_slice(), self.heads.len(), at);
+        if place >= self.wide.len() {
+            return None;
+        }
+        let kept = &self.wide[place];
+        if kept.at == at {
+            Some(&kept.cpus)
+        } else {
+            None
+        }
+    }
+
+    /// A set: as it is kept, or made of its ranges.
     pub fn cpus(&self, at: usize) -> IdSet
         requires { at < length self.now }
         ensures { (d : T × Ids) → result ≡ (slice_index_or self.now at d).1 }
     {
-        set_of(self.ranges(at))
+        match self.wide(at) {
+            Some(kept) => *kept,
+            None => set_of(self.ranges(at)),
+        }
     }
 
     /// The CPUs that are in one of the sets.
     pub fn all(&self) -> IdSet
         ensures { (n : ℕ) → set.contains result n ≡ in_any self.now n }
     {
-        set_of(self.ranges.as_slice())
+        if self.wide.is_empty() {
+            return set_of(self.ranges.as_slice());
+        }
+        union_of(self)
     }
 }
 
@@ -222,6 +285,141 @@ fn part_of(ranges: &[(u16, u16)], start: usize, end: usize) -> &[(u16, u16)]
     ensures { result.now ≡ slice_range ranges.now start end }
 {
     &ranges[start..end]
+}
+
+/// The place in `wide` of the set at a place among all sets, if it is kept there. No more sets of few ranges stand
+/// before it than there are of these, so it is sought among so many. Not inlined: most lists keep none.
+#[inline(never)]
+fn place_of(wide: &[WideSet], sets: usize, at: usize) -> usize {
+    let narrow = sets.saturating_sub(wide.len());
+    let mut from = at.saturating_sub(narrow);
+    let mut to = at.min(wide.len());
+    while from < to {
+        let middle = from + (to - from) / 2;
+        if wide[middle].at < at {
+            from = middle + 1;
+        } else {
+            to = middle;
+        }
+    }
+    from
+}
+
+/// The CPUs that are in one of the sets, one set after another.
+fn union_of<T: Copy>(sets: &TaggedSets<T>) -> IdSet
+    ensures { (n : ℕ) → set.contains result n ≡ in_any sets.now n }
+{
+    let mut all = IdSet::empty();
+    for at in 0..sets.len() {
+        all = all.union(&sets.cpus(at));
+    }
+    all
+}
+
+/// Adds the ranges of a set, and the set itself if they are many; an allocation failure changes nothing.
+fn add_set(
+    ranges: &mut Vec<(u16, u16)>,
+    wide: &mut Vec<WideSet>,
+    place: usize,
+    cpus: &IdSet,
+) -> Result<(), AllocError>
+    ensures ok { OnOk result (ranges.new.items ≡ ranges.old.items ++ ranges_of_set cpus.now) }
+    ensures kept { OnOk result (MayKeep wide.old.items wide.new.items place cpus.now) }
+    ensures err { OnErr result (ranges.new.items ≡ ranges.old.items) }
+    ensures not_kept { OnErr result (wide.new.items ≡ wide.old.items) }
+    ensures in_range { InRange cpus.now }
+{
+    let start = ranges.len();
+    add_ranges(ranges, cpus)?;
+    let count = ranges.len().saturating_sub(start);
+    if keep_wide(wide, place, count, cpus).is_err() {
+        ranges.truncate(start);
+        return Err(AllocError);
+    }
+    Ok(())
+}
+
+/// Adds the ranges of a set less the numbers of another, and the set that is left if the first is at hand and they are
+/// many; an allocation failure changes nothing.
+fn add_left(
+    ranges: &mut Vec<(u16, u16)>,
+    wide: &mut Vec<WideSet>,
+    place: usize,
+    more: &[(u16, u16)],
+    kept: Option<&IdSet>,
+    without: &IdSet,
+) -> Result<(), AllocError>
+    requires of_set { IsOfSet more.now }
+    requires kept { IfSome kept (λ s. s.now ≡ set_of_ranges more.now) }
+    ensures ok { OnOk result (ranges.new.items
+        ≡ ranges.old.items ++ ranges_of_set (set.difference (set_of_ranges more.now) without.now)) }
+    ensures kept { OnOk result (MayKeep wide.old.items wide.new.items place
+        (set.difference (set_of_ranges more.now) without.now)) }
+    ensures err { OnErr result (ranges.new.items ≡ ranges.old.items) }
+    ensures not_kept { OnErr result (wide.new.items ≡ wide.old.items) }
+{
+    let start = ranges.len();
+    add_without(ranges, more, without)?;
+    let count = ranges.len().saturating_sub(start);
+    if keep_left(wide, place, count, kept, without).is_err() {
+        ranges.truncate(start);
+        return Err(AllocError);
+    }
+    Ok(())
+}
+
+/// Keeps a set if its ranges are many.
+fn keep_wide(
+    wide: &mut Vec<WideSet>,
+    place: usize,
+    count: usize,
+    cpus: &IdSet,
+) -> Result<(), AllocError>
+    ensures ok { OnOk result (MayKeep wide.old.items wide.new.items place cpus.now) }
+    ensures err { OnErr result (wide.new.items ≡ wide.old.items) }
+{
+    if count <= WIDE {
+        return Ok(());
+    }
+    wide.push(WideSet {
+        at: place,
+        cpus: *cpus,
+    })?;
+    Ok(())
+}
+
+/// Keeps a set that is at hand.
+fn keep_same(wide: &mut Vec<WideSet>, place: usize, kept: Option<&IdSet>) -> Result<(), AllocError>
+    ensures ok { (s : Ids) → IfSome kept.entry (λ k. k.now ≡ s)
+        → OnOk result (MayKeep wide.old.items wide.new.items place s) }
+    ensures err { OnErr result (wide.new.items ≡ wide.old.items) }
+{
+    match kept {
+        Some(kept) => {
+            let cpus = *kept;
+            wide.push(WideSet { at: place, cpus })?;
+            Ok(())
+        }
+        None => Ok(()),
+    }
+}
+
+/// Keeps what is left of a set that is at hand, if its ranges are many.
+fn keep_left(
+    wide: &mut Vec<WideSet>,
+    place: usize,
+    count: usize,
+    kept: Option<&IdSet>,
+    without: &IdSet,
+) -> Result<(), AllocError>
+    ensures ok { (s : Ids) → IfSome kept.entry (λ k. k.now ≡ s)
+        → OnOk result (MayKeep wide.old.items wide.new.items place (set.difference s without.now)) }
+    ensures err { OnErr result (wide.new.items ≡ wide.old.items) }
+{
+    match kept {
+        Some(kept) => keep_wide(wide, place, count, &kept.minus(without)),
+        None => Ok(()),
+    }
 }
 
 /// Adds the ranges of a set, each up to the next number that the set lacks; an allocation failure changes nothing.

@@ -7,9 +7,9 @@ use Rattle.tagged_sets.specs.Tagged.{in_any}
 use Rattle.tagged_sets.proofs.tagged_sets.TaggedSets.all.Goals as goal
 
 pub set_of-requires : goal.set_of-requires
-set_of-requires g c = subst (All IsBelow) (sym c.as_slice.ensures.value) (kept_below c.self.inside.ranges.items 0 c.self.inside.heads.items c.self.invariant)
+set_of-requires g c = subst (All IsBelow) (sym c.as_slice.ensures.value) (kept_below c.self.inside.ranges.items 0 c.self.inside.heads.items c.self.invariant.0)
 
-pub returns : goal.returns
-returns g c = λ n.
+pub returns-then-is_empty : goal.returns-then-is_empty
+returns-then-is_empty g c = λ n.
     c.set_of.ensures n ∙ ap (λ rs. in_ranges rs n) c.as_slice.ensures.value
-    ∙ in_any-ranges c.self.inside.ranges.items 0 c.self.inside.heads.items c.self.invariant n ∙ ap (λ sets. in_any sets n) c.self.view_is
+    ∙ in_any-ranges c.self.inside.ranges.items 0 c.self.inside.heads.items c.self.invariant.0 n ∙ ap (λ sets. in_any sets n) c.self.view_is

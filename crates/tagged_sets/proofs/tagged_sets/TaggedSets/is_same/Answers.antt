@@ -26,7 +26,7 @@ returns-then-eq g c =
           ∙ c.other.view_is,
       λ e. c.are_same.ensures.1
           (c.as_slice-then-eq.ensures.value
-          ∙ (kept_once c.self.inside.ranges.items c.other.inside.ranges.items 0 _ _ c.self.invariant c.other.invariant (c.self.view_is ∙ e ∙ sym c.other.view_is)).0
+          ∙ (kept_once c.self.inside.ranges.items c.other.inside.ranges.items 0 _ _ c.self.invariant.0 c.other.invariant.0 (c.self.view_is ∙ e ∙ sym c.other.view_is)).0
           ∙ sym c.as_slice-then-eq-2.ensures.value),
     )
 
@@ -35,6 +35,6 @@ returns-else-eq g c = (
   λ t. absurd (false≢true (sym c.if-eq.false ∙ t)),
   λ e. (slice_eq-Decides pair-Decides _ _ _ c.eq.ensures).1
       (c.as_slice.ensures.value
-      ∙ (kept_once c.self.inside.ranges.items c.other.inside.ranges.items 0 c.self.inside.heads.items c.other.inside.heads.items c.self.invariant c.other.invariant (c.self.view_is ∙ e ∙ sym c.other.view_is)).1
+      ∙ (kept_once c.self.inside.ranges.items c.other.inside.ranges.items 0 c.self.inside.heads.items c.other.inside.heads.items c.self.invariant.0 c.other.invariant.0 (c.self.view_is ∙ e ∙ sym c.other.view_is)).1
       ∙ sym c.as_slice-2.ensures.value),
 )

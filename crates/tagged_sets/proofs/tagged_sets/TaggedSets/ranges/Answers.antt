@@ -19,7 +19,7 @@ index-requires g c =
 pub part_of-requires : goal.part_of-requires
 part_of-requires g c =
     let kept : IsKept c.self.inside.ranges.items c.start_of-start.result c.index.result.now.end =
-    kept_from c.self.inside.ranges.items c.self.inside.heads.items c.args.at c.start_of-start.result c.index.result.now c.self.invariant
+    kept_from c.self.inside.ranges.items c.self.inside.heads.items c.args.at c.start_of-start.result c.index.result.now c.self.invariant.0
     (omega (arith, length-tagged c.self.inside.ranges.items 0 c.self.inside.heads.items, ap length c.self.view_is))
     (rw c.as_slice.ensures.value at c.start_of-start.ensures) c.index.ensures in
     record { rising = kept.rising; within = omega (arith, kept.within, ap length c.as_slice-2.ensures.value) }
@@ -30,7 +30,7 @@ returns g c =
     omega (arith, length-tagged c.self.inside.ranges.items 0 c.self.inside.heads.items, ap length c.self.view_is) in
     let start = rw c.as_slice.ensures.value at c.start_of-start.ensures in
     let kept : IsKept c.self.inside.ranges.items c.start_of-start.result c.index.result.now.end =
-    kept_from c.self.inside.ranges.items c.self.inside.heads.items c.args.at c.start_of-start.result c.index.result.now c.self.invariant lt start c.index.ensures in
+    kept_from c.self.inside.ranges.items c.self.inside.heads.items c.args.at c.start_of-start.result c.index.result.now c.self.invariant.0 lt start c.index.ensures in
     record {
       ranges = λ d.
           rw (c.part_of.ensures, c.as_slice-2.ensures.value)
