@@ -1,7 +1,7 @@
 -- The text of a set is its canonical text, and the only one.
-use Rattle.std.proofs.Common.{◌≡◌, ℕ, ◌+◌, ◌<◌, ◌≤◌, Bool, true, false, ◌&&◌, ◌||◌, nat_le, nat_lt, List, [], ◌∷◌, refl, sym, ap, subst, ◌∙◌, ⊎_elim, arith}
+use Rattle.std.proofs.Common.{◌≡◌, ℕ, ◌+◌, ◌<◌, ◌≤◌, Bool, true, false, ◌&&◌, nat_le, nat_lt, List, [], ◌∷◌, refl, sym, ap, subst, ◌∙◌, ⊎_elim, arith}
 use Rattle.std.specs.FinSet as set
-use Rattle.std.proofs.lemmas.Bool.{true≢false, cases_lt, and_from, or_left, or_from, le-leb, lt-leb, and_left, and_right}
+use Rattle.std.proofs.lemmas.Bool.{true≢false, cases_lt}
 use Rattle.std.proofs.lemmas.Bool.Decides.{nat_tests}
 use Rattle.cpu_set.specs.Ids.{Ids}
 use Rattle.cpu_set.specs.Members.{InRange}
@@ -10,7 +10,7 @@ use Rattle.cpu_set.specs.Ranges.{AreRuns, in_ranges}
 use Rattle.cpu_list.specs.CanonicalList.{ranges_text, list_text, IsCanonical}
 use Rattle.cpu_list.specs.CanonicalLaws.{TextIsCanonical, OneCanonicalText}
 use Rattle.cpu_set.specs.RangesFrom.{ranges_from}
-use Rattle.cpu_set.specs.RangeLaws.{ranges_among, AreRuns-ranges_among, in_ranges-among, ranges_from-is}
+use Rattle.cpu_set.specs.RangeLaws.{ranges_among, AreRuns-ranges_among, above_first, first_in, in_ranges-among, none_below, ranges_from-is}
 use Rattle.cpu_list.proofs.RangeText.{text_after-nil}
 use Rattle.cpu_list.proofs.SetTexts.{list_text-is}
 
@@ -32,18 +32,6 @@ canonical_at s n e small =
 
 pub text_is_canonical : TextIsCanonical
 text_is_canonical s small = canonical_at s CPU_LIMIT refl small
-
--- rising ranges have no number below the first
-none_below : (from n : ℕ) (rs : List (ℕ × ℕ)) → AreRuns from rs → n < from → in_ranges rs n ≡ false
-none_below from n [] runs low = refl
-none_below from n (r ∷ more) runs low =
-    or_from _ _ (and_left _ _ (lt-leb r.0 n (omega arith))) (none_below (r.1 + 2) n more runs.2 (omega arith))
-
-first_in : (r : ℕ × ℕ) (more : List (ℕ × ℕ)) (n : ℕ) → r.0 ≤ n → n ≤ r.1 → in_ranges (r ∷ more) n ≡ true
-first_in r more n low high = or_left _ _ (and_from _ _ (le-leb r.0 n low) (le-leb n r.1 high))
-
-above_first : (r : ℕ × ℕ) (more : List (ℕ × ℕ)) (n : ℕ) → r.1 < n → in_ranges (r ∷ more) n ≡ in_ranges more n
-above_first r more n high = ap (λ b. b || in_ranges more n) (and_right _ _ (lt-leb n r.1 high))
 
 -- the first number of one is not below that of the other, and its first range ends no later
 no_earlier : (a b : ℕ) (r q : ℕ × ℕ) (rs qs : List (ℕ × ℕ)) → AreRuns a (r ∷ rs) → AreRuns b (q ∷ qs) → ((n : ℕ) → in_ranges (r ∷ rs) n ≡ in_ranges (q ∷ qs) n) → q.0 ≤ r.0

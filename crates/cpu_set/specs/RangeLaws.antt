@@ -1,7 +1,7 @@
 -- The longest ranges of rising numbers, met one after another, and those of a set.
 use Rattle.std.proofs.Common.{◌≡◌, ℕ, zero, suc, ◌+◌, ◌<◌, ◌≤◌, Bool, true, false, ◌&&◌, ◌||◌, ◌==◌, nat_le, nat_lt, ◌-◌, cond, eqb, List, [], ◌∷◌, filter, refl, sym, ap, subst, ◌∙◌, ⊎_elim, arith}
 use Rattle.std.specs.List.{range_with_len}
-use Rattle.std.proofs.lemmas.Bool.{cases_Bool, cases_eq, eqb-true, cond-true, cond-false, cond_both, eq-eqb, ne_eqb, eqb-false}
+use Rattle.std.proofs.lemmas.Bool.{cases_Bool, cases_eq, eqb-true, cond-true, cond-false, cond_both, eq-eqb, ne_eqb, eqb-false, and_from, and_left, and_right, or_from, or_left, le-leb, lt-leb}
 use Rattle.std.proofs.lemmas.Bool.Decides.{nat_tests}
 use Rattle.std.specs.FinSet as set
 use Rattle.cpu_set.specs.LeastLaws.{cpus_from}
@@ -28,6 +28,18 @@ step_out p n count e =
 pub AreRuns-weaker : (m n : ℕ) (rs : List (ℕ × ℕ)) → m ≤ n → AreRuns n rs → AreRuns m rs
 AreRuns-weaker m n [] le h = tt
 AreRuns-weaker m n (r ∷ more) le h = (omega arith, h.1, h.2)
+
+-- rising ranges have no number below the first
+pub none_below : (from n : ℕ) (rs : List (ℕ × ℕ)) → AreRuns from rs → n < from → in_ranges rs n ≡ false
+none_below from n [] runs low = refl
+none_below from n (r ∷ more) runs low =
+    or_from _ _ (and_left _ _ (lt-leb r.0 n (omega (arith, runs.0)))) (none_below (r.1 + 2) n more runs.2 (omega (arith, runs.0, runs.1)))
+
+pub first_in : (r : ℕ × ℕ) (more : List (ℕ × ℕ)) (n : ℕ) → r.0 ≤ n → n ≤ r.1 → in_ranges (r ∷ more) n ≡ true
+first_in r more n low high = or_left _ _ (and_from _ _ (le-leb r.0 n low) (le-leb n r.1 high))
+
+pub above_first : (r : ℕ × ℕ) (more : List (ℕ × ℕ)) (n : ℕ) → r.1 < n → in_ranges (r ∷ more) n ≡ in_ranges more n
+above_first r more n high = ap (λ b. b || in_ranges more n) (and_right _ _ (lt-leb n r.1 high))
 
 AreRuns-with_number : (n : ℕ) (rs : List (ℕ × ℕ)) → AreRuns (n + 1) rs → AreRuns n (with_number n rs)
 AreRuns-with_number n [] h = (omega arith, omega arith, tt)

@@ -2,13 +2,13 @@
 use Rattle.cpu_set.specs.Ids.{Ids, IsFirstFrom, NoneFrom}
 use Rattle.cpu_set.specs.Members.{InRange, IsComplement, IsCpu}
 use Rattle.cpu_set.specs.Pointwise.{contains-difference}
-use Rattle.cpu_set.specs.RangeLaws.{AreRuns-weaker, members_ranges, ranges_among, ranges_from-is, ranges_none_among, ranges_skip}
+use Rattle.cpu_set.specs.RangeLaws.{AreRuns-weaker, above_first, first_in, members_ranges, none_below, ranges_among, ranges_from-is, ranges_none_among, ranges_skip}
 use Rattle.cpu_set.specs.Ranges.{AreRuns, in_ranges}
 use Rattle.cpu_set.specs.RangesFrom.{ranges_from}
 use Rattle.cpu_set.specs.SetRanges.{from_range}
 use Rattle.cpu_set.specs.declared.TheConstants.{CPU_LIMIT}
 use Rattle.std.proofs.Common.{nat_le, Bool, List, MatchOption, None, Option, Some, [], ap, append_assoc, append-nil, arith, drop, drop-cons, false, get_or, length, min, nat_lt, not, refl, subst, suc, sym, take, take-append-drop, true, unwrap_or, zero, ℕ, ◌&&◌, ◌++◌, ◌+◌, ◌-◌, ◌<◌, ◌||◌, ◌∙◌, ◌∷◌, ◌≡◌, ◌≤◌, ⊎_elim}
-use Rattle.std.proofs.lemmas.Bool.{and_from, and_left, and_parts, and_right, cases_eq, cases_lt, le-leb, lt-leb, or_cases, or_from, or_left, or_right}
+use Rattle.std.proofs.lemmas.Bool.{and_parts, cases_eq, cases_lt, or_cases, or_right}
 use Rattle.std.proofs.lemmas.Bool.Decides.{nat_tests}
 use Rattle.std.proofs.lemmas.List.{drop_all, get_or-drop, length-drop, length-take, take-append-le, take_all, take_more}
 use Rattle.std.proofs.lemmas.List.Folds.{list_any-append}
@@ -83,18 +83,6 @@ IsRun-later s a b first end le h = record { none = λ q lo hi. h.none q (omega a
 
 not_lacked : (n : ℕ) (b c : Bool) → n < CPU_LIMIT → c ≡ (nat_lt n CPU_LIMIT && not b) → c ≡ false → b ≡ true
 not_lacked n b c lt e f = grind (arith, nat_tests)
-
--- rising ranges have no number below the first
-none_below : (from n : ℕ) (rs : List (ℕ × ℕ)) → AreRuns from rs → n < from → in_ranges rs n ≡ false
-none_below from n [] runs low = refl
-none_below from n (r ∷ more) runs low =
-    or_from _ _ (and_left _ _ (lt-leb r.0 n (omega (arith, runs.0)))) (none_below (r.1 + 2) n more runs.2 (omega (arith, runs.0, runs.1)))
-
-first_in : (r : ℕ × ℕ) (more : List (ℕ × ℕ)) (n : ℕ) → r.0 ≤ n → n ≤ r.1 → in_ranges (r ∷ more) n ≡ true
-first_in r more n low high = or_left _ _ (and_from _ _ (le-leb r.0 n low) (le-leb n r.1 high))
-
-above_first : (r : ℕ × ℕ) (more : List (ℕ × ℕ)) (n : ℕ) → r.1 < n → in_ranges (r ∷ more) n ≡ in_ranges more n
-above_first r more n high = ap (λ b. b || in_ranges more n) (and_right _ _ (lt-leb n r.1 high))
 
 -- from a number on t has the numbers of the ranges that s lacks
 pub record IsLeft (t s : Ids) (rest : List (ℕ × ℕ)) (from : ℕ) : Type 0 where
