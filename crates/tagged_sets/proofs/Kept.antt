@@ -12,7 +12,6 @@ use Rattle.tagged_sets.proofs.Sets.{IsBelow, are_of_set, below_if_of_set, in_of_
 use Rattle.tagged_sets.specs.Tagged.{AreKept, AreWide, IsOfSet, IsWideOf, MayKeep, in_any, ranges_of_set, set_of_ranges, start_at, tagged, wide_set}
 use Rattle.tagged_sets.specs.declared.tagged_sets.Head.{Head}
 use Rattle.tagged_sets.specs.declared.tagged_sets.WideSet.{WideSet}
-use Rattle.cpu_set.specs.Pointwise.{contains-union}
 use Rattle.std.specs.FinSet as set
 
 module _ {A : Type 0} where
@@ -199,15 +198,14 @@ module _ {T : Type 0} where
       (wide_added old after (tagged ranges 0 heads) (h.tag, set_of_ranges new) place are (e ∙ sym (length-tagged ranges 0 heads)) may)
 
   -- the numbers of the first sets, with those of one more
-  pub in_any_more : (sets : List (T × Ids)) (k : ℕ) (s all next : Ids) → k < length sets → ((d : T × Ids) → s ≡ (get_or sets k d).1)
-      → ((q : ℕ) → set.contains all q ≡ in_any (take k sets) q) → next ≡ set.union all s → (q : ℕ) → set.contains next q ≡ in_any (take (k + 1) sets) q
-  in_any_more [] k s all next lt is same e q = absurd (omega arith)
-  in_any_more (x ∷ xs) k s all next lt is same e q =
+  pub in_any_more : (sets : List (T × Ids)) (k : ℕ) (all next : Ids) → k < length sets
+      → ((d : T × Ids) (q : ℕ) → set.contains next q ≡ (set.contains all q || set.contains (get_or sets k d).1 q))
+      → ((q : ℕ) → set.contains all q ≡ in_any (take k sets) q) → (q : ℕ) → set.contains next q ≡ in_any (take (k + 1) sets) q
+  in_any_more [] k all next lt is same q = absurd (omega arith)
+  in_any_more (x ∷ xs) k all next lt is same q =
       let sets : List (T × Ids) = x ∷ xs in
-      ap (λ t. set.contains t q) e
-      ∙ contains-union all s q
-      ∙ ap (λ b. b || set.contains s q) (same q)
-      ∙ ap (λ t. in_any (take k sets) q || set.contains t q) (is x)
+      is x q
+      ∙ ap (λ b. b || set.contains (get_or sets k x).1 q) (same q)
       ∙ last_one (in_any (take k sets) q) (set.contains (get_or sets k x).1 q)
       ∙ sym (list_any-append (λ (p : T × Ids). set.contains p.1 q) (take k sets) (get_or sets k x ∷ []))
       ∙ sym (ap (λ xs. in_any xs q) (take_more sets k x lt))

@@ -5,8 +5,8 @@ ghost use Rattle.cpu_set.specs.Ids.{Ids};
 ghost use Rattle.cpu_set.specs.Members.{IsComplement};
 ghost use Rattle.cpu_set.specs.Ranges.{in_ranges};
 ghost use Rattle.cpu_set.specs.RangesFrom.{ranges_from};
-ghost use Rattle.tagged_sets.specs.CutOut.{IsCut, IsRun};
-ghost use Rattle.tagged_sets.specs.Tagged.{IsOfSet, ranges_of_set, set_of_ranges};
+ghost use Rattle.tagged_sets.specs.CutOut.{IsCut, IsRun, left_of};
+ghost use Rattle.tagged_sets.specs.Tagged.{IsOfSet, ranges_of_set};
 
 use cpu_set::{CPU_LIMIT, IdSet};
 use std::alloc::AllocError;
@@ -26,8 +26,7 @@ pub(crate) fn add_without(
     without: &IdSet,
 ) -> Result<(), AllocError>
     requires { IsOfSet more.now }
-    ensures ok { OnOk result (ranges.new.items
-        ≡ ranges.old.items ++ ranges_of_set (set.difference (set_of_ranges more.now) without.now)) }
+    ensures ok { OnOk result (ranges.new.items ≡ ranges.old.items ++ ranges_of_set (left_of more.now without.now)) }
     ensures err { OnErr result (ranges.new.items ≡ ranges.old.items) }
 {
     let before = ranges.len();
@@ -48,8 +47,7 @@ fn add_pieces(
     without: &IdSet,
 ) -> Result<(), AllocError>
     requires { IsOfSet more.now }
-    ensures ok { OnOk result (ranges.new.items
-        ≡ ranges.old.items ++ ranges_of_set (set.difference (set_of_ranges more.now) without.now)) }
+    ensures ok { OnOk result (ranges.new.items ≡ ranges.old.items ++ ranges_of_set (left_of more.now without.now)) }
     ensures there { take (length ranges.old.items) ranges.new.items ≡ ranges.old.items }
 {
     let others = without.complement();

@@ -4,6 +4,7 @@ ghost use Rattle.std.specs.Prelude.{slice_index_or, slice_range};
 ghost use Rattle.std.specs.FinSet as set;
 ghost use Rattle.cpu_set.specs.Ids.{Ids};
 ghost use Rattle.cpu_set.specs.Members.{InRange};
+ghost use Rattle.tagged_sets.specs.CutOut.{left_of};
 ghost use Rattle.tagged_sets.specs.Tagged.{ranges_of_set, set_of_ranges, start_at, in_any, IsOfSet, MayKeep};
 ghost use Rattle.cpu_set.specs.Ranges.{in_ranges};
 
@@ -310,10 +311,31 @@ fn union_of<T: Copy>(sets: &TaggedSets<T>) -> IdSet
     ensures { (n : ℕ) → set.contains result n ≡ in_any sets.now n }
 {
     let mut all = IdSet::empty();
+    let mut kept = 0;
     for at in 0..sets.len() {
-        all = all.union(&sets.cpus(at));
+        if add_one(&mut all, sets, at, kept) {
+            kept += 1;
+        }
     }
     all
+}
+
+/// Adds the CPUs of the set at a place: as it is kept, if it is the one at this place among those kept, or range by
+/// range. Whether it was kept.
+fn add_one<T: Copy>(all: &mut IdSet, sets: &TaggedSets<T>, at: usize, kept: usize) -> bool
+    requires { at < length sets.now }
+    ensures { (d : T × Ids) (n : ℕ) → set.contains all.new n
+        ≡ (set.contains all.old n || set.contains (slice_index_or sets.now at d).1 n) }
+{
+    if kept < sets.wide.len() {
+        let set = &sets.wide[kept];
+        if set.at == at {
+            *all = all.union(&set.cpus);
+            return true;
+        }
+    }
+    insert_all(all, sets.ranges(at));
+    false
 }
 
 /// Adds the ranges of a set, and the set itself if they are many; an allocation failure changes nothing.
@@ -351,10 +373,8 @@ fn add_left(
 ) -> Result<(), AllocError>
     requires of_set { IsOfSet more.now }
     requires kept { IfSome kept (λ s. s.now ≡ set_of_ranges more.now) }
-    ensures ok { OnOk result (ranges.new.items
-        ≡ ranges.old.items ++ ranges_of_set (set.difference (set_of_ranges more.now) without.now)) }
-    ensures kept { OnOk result (MayKeep wide.old.items wide.new.items place
-        (set.difference (set_of_ranges more.now) without.now)) }
+    ensures ok { OnOk result (ranges.new.items ≡ ranges.old.items ++ ranges_of_set (left_of more.now without.now)) }
+    ensures kept { OnOk result (MayKeep wide.old.items wide.new.items place (left_of more.now without.now)) }
     ensures err { OnErr result (ranges.new.items ≡ ranges.old.items) }
     ensures not_kept { OnErr result (wide.new.items ≡ wide.old.items) }
 {
@@ -449,11 +469,19 @@ fn set_of(ranges: &[(u16, u16)]) -> IdSet
     ensures { (n : ℕ) → set.contains result n ≡ in_ranges ranges.now n }
 {
     let mut cpus = IdSet::empty();
+    insert_all(&mut cpus, ranges);
+    cpus
+}
+
+/// Adds the numbers of the ranges.
+fn insert_all(cpus: &mut IdSet, ranges: &[(u16, u16)])
+    requires { All (λ r. r.1 < CPU_LIMIT) ranges.now }
+    ensures { (n : ℕ) → set.contains cpus.new n ≡ (set.contains cpus.old n || in_ranges ranges.now n) }
+{
     for range in ranges {
         let (first, last) = *range;
-        add_range(&mut cpus, first, last);
+        add_range(cpus, first, last);
     }
-    cpus
 }
 
 /// Adds the numbers of a range. A set takes one number in fewer steps than a range of one.
