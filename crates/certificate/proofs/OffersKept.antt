@@ -6,12 +6,12 @@ use Rattle.certificate.specs.OffersOf.{offer_of, offers_of}
 use Rattle.certificate.specs.Weight.{weight_in}
 use Rattle.certificate.specs.declared.rows.Offer.{Offer}
 use Rattle.cpu_set.specs.Ids.{Ids}
-use Rattle.std.proofs.Common.{Bool, List, [], ap, arith, get_or, length, refl, suc, sym, ℕ, ◌&&◌, ◌++◌, ◌<◌, ◌||◌, ◌∙◌, ◌∷◌, ◌≡◌}
+use Rattle.std.proofs.Common.{Bool, List, None, Option, Some, [], ap, arith, get_or, length, refl, suc, sym, ℕ, ◌&&◌, ◌++◌, ◌<◌, ◌||◌, ◌∙◌, ◌∷◌, ◌≡◌}
 use Rattle.std.proofs.Math.ListN.{get_or-map}
 use Rattle.std.proofs.lemmas.List.{get_or_default, map-append}
 use Rattle.std.proofs.lemmas.List.Folds.{list_all-map}
 use Rattle.std.specs.List.{list_all}
-use Rattle.std.specs.Prelude.{is_some}
+use Rattle.std.specs.Prelude.{IfSome, is_some}
 use Rattle.tagged_sets.specs.Tagged.{in_any}
 use Rattle.std.specs.FinSet as set
 
@@ -78,3 +78,11 @@ has_at sets k q b o lt has =
     has d
     ∙ ap (λ (p : Offer). set.contains p.cpus q)
     (sym (get_or-map offer_of sets k d) ∙ get_or_default (offers_of sets) k (offer_of d) o (omega (arith, length-offers_of sets)))
+
+-- what is kept of a set is the CPUs of its offer
+pub kept_at : {A : Type 0} (now : A → Ids) (sets : List (ℕ × Ids)) (k : ℕ) (kept : Option A) (o : Offer) → k < length sets
+    → ((d : ℕ × Ids) → IfSome kept (λ a. now a ≡ (get_or sets k d).1)) → IfSome kept (λ a. now a ≡ (get_or (offers_of sets) k o).cpus)
+kept_at now sets k None o lt is = tt
+kept_at now sets k (Some a) o lt is =
+    let d : ℕ × Ids = (0, set.empty) in
+    is d ∙ cpus_at sets k d o lt

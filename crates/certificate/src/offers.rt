@@ -1,4 +1,4 @@
-ghost use Rattle.std.specs.Prelude.{◌≡◌, ◌↔◌, ℕ, ◌+◌, ◌<◌, ◌++◌, [], ◌∷◌, All, IsTrue, IfOk, OnOk, OnErr, is_some};
+ghost use Rattle.std.specs.Prelude.{◌≡◌, ◌↔◌, ℕ, ◌+◌, ◌<◌, ◌++◌, [], ◌∷◌, All, IsTrue, IfOk, IfSome, OnOk, OnErr, is_some};
 ghost use Rattle.std.specs.Prelude.{length, slice_index_or};
 ghost use Rattle.std.specs.FinSet as set;
 ghost use Rattle.certificate.specs.Weight.{weight_in};
@@ -166,6 +166,14 @@ impl Offers {
         ensures below { All (λ r. r.1 < CPU_LIMIT) result.now }
     {
         self.sets.ranges(at)
+    }
+
+    /// The CPUs of the offer at a place, where they are kept as a set, as most of more than 64 ranges are.
+    pub fn wide(&self, at: usize) -> Option<&IdSet>
+        requires { at < length self.now }
+        ensures { (d : Offer) → IfSome result (λ cpus. cpus.now ≡ (slice_index_or self.now at d).cpus) }
+    {
+        self.sets.wide(at)
     }
 
     /// The offers in a list, each with a whole set.
