@@ -62,7 +62,7 @@ fn push_parts(
 {
     let distance = u64::from(offers.weight(at));
     let moved = Cost { distance, moves: 1 }.weight();
-    if have_none(offers.ranges(at), held, span) {
+    if has_none(offers, at, held, span) {
         return parts.push_from(moved, offers, at);
     }
     let kept = Cost { distance, moves: 0 }.weight();
@@ -78,6 +78,20 @@ fn push_parts(
 /// alone takes some 145 instructions, and to make one of a set some 40: the first pays up to about a fifth of them.
 fn are_few(parts: &Offers, whole: &[(u16, u16)]) -> bool {
     parts.len() > 0 && parts.ranges(parts.len() - 1).len() < whole.len() / 5
+}
+
+/// Whether no CPU of an offer is held, where all that are held are in the span. It is seen by its set, where that is
+/// at hand, or else by its ranges.
+fn has_none(offers: &Offers, at: usize, held: &IdSet, span: Span) -> bool
+    requires place { at < length offers.now }
+    requires span { (n : ℕ) → set.contains held.now n ≡ true → (span.first ≤ n) × (n ≤ span.last) }
+    ensures { (d : Offer) → IsTrue result → (n : ℕ) → set.contains (slice_index_or offers.now at d).cpus n ≡ true
+        → set.contains held.now n ≡ false }
+{
+    match offers.wide(at) {
+        Some(cpus) => cpus.is_disjoint(held),
+        None => have_none(offers.ranges(at), held, span),
+    }
 }
 
 /// Whether no CPU of the ranges is held, where all that are held are in the span.

@@ -21,14 +21,14 @@ weight-kept-requires c =
     let low : c.from-distance.result ≤ 254 = distance_at _ _ _ c.requires.distances c.requires.place (λ d. c.from-distance.ensures ∙ c.weight.ensures d) in
     omega arith
 
-pub returns-then-have_none : goal.returns-then-have_none
-returns-then-have_none c = λ d.
+pub returns-then-has_none : goal.returns-then-has_none
+returns-then-has_none c = λ d.
     let o : Offer = get_or c.args.offers.now c.args.at d in
     let some : has_some o ≡ true = AllPass-from_list_all has_some c.args.offers.now c.requires.some c.args.at d c.requires.place in
     on_ok_weaker c.push_from.result
     (λ pushed. pushed ∙ ap (λ (l : List Offer). c.args.parts.now ++ l)
     (ap (λ w. record { weight = w; cpus = o.cpus } ∷ []) (c.weight-moved.ensures ∙ ap (λ w. packed w 1) (c.from-distance.ensures ∙ c.weight.ensures d))
-    ∙ sym (parted_none c.args.held.now o some (λ n has. c.have_none.ensures c.if-have_none.true n (c.ranges-2.ensures.members d n ∙ has)))))
+    ∙ sym (parted_none c.args.held.now o some (c.has_none.ensures d c.if-has_none.true))))
     (c.push_from.ensures.ok d)
 
 -- the offer as it is read
