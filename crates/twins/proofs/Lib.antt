@@ -1,3 +1,4 @@
+pub mod AtHand
 pub mod Weights
 pub mod Sets
 pub mod Times

@@ -1,5 +1,5 @@
 -- Ranges of CPUs, each of one weight to a row.
-use Rattle.std.specs.Prelude.{◌≡◌, ℕ, ◌<◌, ◌≤◌, true, Option, Some, None, List, All, is_some, length, slice_index_or}
+use Rattle.std.specs.Prelude.{◌≡◌, ℕ, ◌<◌, ◌≤◌, ◌++◌, [], ◌∷◌, true, Option, Some, None, List, All, is_some, length, slice_index_or, take}
 use Rattle.std.specs.FinSet as set
 use Rattle.cpu_set.specs.Ids.{Ids}
 use Rattle.certificate.specs.Weight.{weight_in}
@@ -17,13 +17,36 @@ pub record IsMade (offers : List Offer) (sets : List Ids) (at place : ℕ) : Typ
   pub there : place < length sets
   pub members : (d : Offer) (q : ℕ) → set.contains (slice_index_or sets place set.empty) q ≡ is_same_weight (Some (slice_index_or offers at d).weight) (weight_in offers q)
 
--- the ranges have the weights of the offers, the set has the CPUs of the offers, and each set that was made for an offer
--- has the CPUs of its weight
+-- the set has the CPUs of the weight
+abbrev pub HasWeight : List Offer → Ids → ℕ → Type 0
+HasWeight offers s weight = (q : ℕ) → set.contains s q ≡ is_same_weight (Some weight) (weight_in offers q)
+
+-- the set has the CPUs of one weight
+pub record IsOfWeight (offers : List Offer) (s : Ids) : Type 0 where
+  pub weight : ℕ
+  pub members : HasWeight offers s weight
+
+-- the CPUs of the weight of an offer are added behind the sets, at the place
+pub record IsAddedAt (offers : List Offer) (at : ℕ) (before after : List Ids) (place : ℕ) : Type 0 where
+  pub cpus : Ids
+  pub added : after ≡ before ++ cpus ∷ []
+  pub members : (d : Offer) → HasWeight offers cpus (slice_index_or offers at d).weight
+  pub last : place ≡ length before
+
+-- they are added, or none are
+abbrev pub MayBeAdded : List Offer → ℕ → List Ids → List Ids → Option ℕ → Type 0
+MayBeAdded offers at before after None = after ≡ before
+MayBeAdded offers at before after (Some place) = IsAddedAt offers at before after place
+
+-- the ranges have the weights of the offers, the set has the CPUs of the offers, and each set that was at hand or made
+-- for an offer has the CPUs of its weight
 pub record AreSpans (offers : List Offer) (spans : Spans) : Type 0 where
   pub each : All (IsSpan offers) spans.items
   pub cpus : (cpu : ℕ) → set.contains spans.cpus cpu ≡ is_some (weight_in offers cpu)
   pub places : length spans.places.items ≡ length offers
   pub made : (at place : ℕ) → slice_index_or spans.places.items at None ≡ Some place → IsMade offers spans.sets.items at place
+  pub within : spans.at_hand ≤ length spans.sets.items
+  pub at_hand : All (IsOfWeight offers) (take spans.at_hand spans.sets.items)
 
 -- all of the CPUs have the same weight, or none of them has one
 abbrev pub AreAlike : List Offer → Ids → Type 0

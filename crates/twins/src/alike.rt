@@ -1,5 +1,5 @@
 //! The CPUs that are alike to one row.
-ghost use Rattle.std.specs.Prelude.{◌≡◌, ℕ, ◌<◌, ◌&&◌, true, false, Some, List, length, slice_index_or};
+ghost use Rattle.std.specs.Prelude.{◌≡◌, ℕ, ◌<◌, ◌≤◌, ◌&&◌, true, false, Some, List, length, slice_index_or};
 ghost use Rattle.std.specs.Prelude.{IsTrue, IfOk, OnOk, IfSome, IfNone};
 ghost use Rattle.std.specs.FinSet as set;
 ghost use Rattle.cpu_set.specs.Ranges.{in_ranges};
@@ -37,11 +37,22 @@ pub(crate) fn are_alike(
     ensures spans { OnOk result (AreSpans offers.now spans.new) }
 {
     let Some(span) = spans.span_at(first) else {
-        return Ok(cpus.is_disjoint(spans.cpus()));
+        return Ok(lie_in_a_set(spans, cpus, first, last));
     };
     match lie_in_few(spans, cpus, span, last) {
         Some(lie) => Ok(lie),
         None => have_weight(offers, spans, cpus, span.weight),
+    }
+}
+
+/// Whether some CPUs, of which the first is in no range, lie in one of the sets that were at hand, or in no offer.
+fn lie_in_a_set(spans: &Spans, cpus: &IdSet, first: u16, last: u16) -> bool
+    requires { spans.now.at_hand ≤ length spans.now.sets.items }
+    ensures { (offers : List Offer) → AreSpans offers spans.now → IsTrue result → AreAlike offers cpus.now }
+{
+    match spans.place_at_hand(first) {
+        Some(place) => spans.sets[place].contains(last) && cpus.is_subset(&spans.sets[place]),
+        None => cpus.is_disjoint(spans.cpus()),
     }
 }
 
@@ -114,6 +125,9 @@ pub(crate) fn place_of_alike(
     ensures place { IfOk result (IsPlaceOf offers.now spans.new cpu) }
     ensures spans { OnOk result (AreSpans offers.now spans.new) }
 {
+    if let Some(place) = spans.place_at_hand(cpu) {
+        return Ok(Some(place));
+    }
     let Some(weight) = weight_of(offers, spans, cpu) else {
         return Ok(None);
     };
@@ -150,8 +164,8 @@ fn weight_of(offers: &Offers, spans: &Spans, cpu: u16) -> Option<u32>
 }
 
 /// The weight of a CPU, by a look at each offer. Where none has it, none is looked at.
-// Each CPU of an offer is noted with its range, so no valid problem comes to the loop: it stands for what is not proved
-// of hints.
+// Each CPU of an offer is noted with its range or in a set at hand, so no valid problem comes to the loop: it stands
+// for what is not proved of hints.
 fn weight_among(offers: &Offers, spans: &Spans, cpu: u16) -> Option<u32>
     requires fit { IsTrue (offers_fit offers.now) }
     requires spans { AreSpans offers.now spans.now }

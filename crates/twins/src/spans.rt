@@ -1,23 +1,27 @@
-ghost use Rattle.std.specs.Prelude.{◌≡◌, ℕ, ◌≤◌, List, All, IsTrue, IfSome, OnOk, is_some};
+ghost use Rattle.std.specs.Prelude.{◌≡◌, ℕ, ◌<◌, ◌≤◌, List, All, IsTrue, IfOk, IfSome, OnOk, is_some, true};
+ghost use Rattle.std.specs.Prelude.{length, slice_index_or};
 ghost use Rattle.std.specs.FinSet as set;
 ghost use Rattle.certificate.specs.Limits.{offers_fit};
 ghost use Rattle.certificate.specs.Weight.{weight_in};
 ghost use Rattle.certificate.specs.declared.rows.Offer.{Offer};
-ghost use Rattle.twins.specs.AreSpans.{IsSpan, AreSpans};
+ghost use Rattle.twins.specs.AreSpans.{IsSpan, AreSpans, MayBeAdded};
 
 use crate::span_list::{Span, SpanList};
 use certificate::Offers;
 use cpu_set::IdSet;
 use std::alloc::{AllocError, Global};
 
-/// The offers of one row as ranges, in which many CPUs are looked up, and the sets that were made of them.
+/// The offers of one row, in which many CPUs are looked up: those whose sets are at hand as these, and the others as
+/// ranges, with the sets that were made of them.
 #[derive(Drop)]
 pub(crate) struct Spans {
     items: SpanList,
     cpus: IdSet,
-    /// For each offer where the set of all CPUs of its weight stands, if it was made for this row.
+    // How many sets were at hand. They stand before those that were made.
+    at_hand: usize,
+    /// For each offer where the set of all CPUs of its weight stands, if it was at hand or made for this row.
     pub places: Vec<Option<usize>>,
-    /// The sets that were made for this row.
+    /// The sets that were at hand or made for this row.
     pub sets: Vec<IdSet>,
 }
 
@@ -28,6 +32,7 @@ impl Spans {
         Ok(Spans {
             items,
             cpus: IdSet::empty(),
+            at_hand: 0,
             places: Vec::new(alloc),
             sets: Vec::new(alloc),
         })
@@ -43,11 +48,30 @@ impl Spans {
         self.places.clear();
         self.sets.clear();
         for at in 0..offers.len() {
-            self.items.add(offers.ranges(at), offers.weight(at))?;
-            self.places.push(None)?;
+            let place = add_at_hand(&mut self.sets, offers, at)?;
+            if place.is_none() {
+                self.items.add(offers.ranges(at), offers.weight(at))?;
+            }
+            self.places.push(place)?;
         }
+        self.at_hand = self.sets.len();
         self.cpus = *cpus;
         Ok(())
+    }
+
+    /// Where the set that has the CPU stands among those that were at hand.
+    pub(crate) fn place_at_hand(&self, cpu: u16) -> Option<usize>
+        requires { self.now.at_hand ≤ length self.now.sets.items }
+        ensures within { IfSome result (λ place. place < self.now.at_hand) }
+        ensures has { IfSome result (λ place. set.contains (slice_index_or self.now.sets.items place set.empty) cpu
+            ≡ true) }
+    {
+        for place in 0..self.at_hand {
+            if self.sets[place].contains(cpu) {
+                return Some(place);
+            }
+        }
+        None
     }
 
     /// The range that has the CPU, as far as one is known.
@@ -73,5 +97,28 @@ impl Spans {
             → set.contains result.now cpu ≡ is_some (weight_in offers cpu) }
     {
         &self.cpus
+    }
+}
+
+/// Adds the CPUs of an offer, if its set is at hand and no other offer has its weight, and says where they stand.
+fn add_at_hand(
+    sets: &mut Vec<IdSet>,
+    offers: &Offers,
+    at: usize,
+) -> Result<Option<usize>, AllocError>
+    requires fit { IsTrue (offers_fit offers.now) }
+    requires there { at < length offers.now }
+    ensures { IfOk result (MayBeAdded offers.now at sets.old.items sets.new.items) }
+{
+    if !offers.are_rising() {
+        return Ok(None);
+    }
+    match offers.wide(at) {
+        Some(cpus) => {
+            let place = sets.len();
+            sets.push(*cpus)?;
+            Ok(Some(place))
+        }
+        None => Ok(None),
     }
 }
