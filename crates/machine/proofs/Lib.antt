@@ -4,6 +4,7 @@ pub mod CoreSteps
 pub mod CoreSets
 pub mod Siblings
 pub mod ItemLaws
+pub mod Lacking
 pub mod Marking
 pub mod NoFaultLaws
 pub mod NodeSteps

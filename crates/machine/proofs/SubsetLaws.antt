@@ -1,5 +1,5 @@
 -- Which sets are within which.
-use Rattle.std.proofs.Common.{◌≡◌, Bool, true, false, ◌↔◌, ◌≢◌, not, refl, sym, ap, ◌∙◌}
+use Rattle.std.proofs.Common.{◌≡◌, Bool, true, false, ◌↔◌, not, refl, sym, ap, ◌∙◌}
 use Rattle.std.proofs.lemmas.Bool.{true≢false, false≢true, false_from_ne_true, and_parts}
 use Rattle.std.specs.FinSet as set
 use Rattle.faults.specs.Tests.{left_over}

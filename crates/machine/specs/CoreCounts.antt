@@ -116,7 +116,7 @@ one_more m cores more core are in_range there own new is =
 pub not_below_itself : (n : ℕ) (b : Bool) → (nat_lt n n && b) ≡ false
 not_below_itself n b = grind (arith, nat_tests)
 
-below_more : (q n m : ℕ) (b v : Bool) → m ≡ n + 1 → (q ≡ n → b ≡ v) → (nat_lt q m && b) ≡ (((q == n) && v) || (nat_lt q n && b))
+pub below_more : (q n m : ℕ) (b v : Bool) → m ≡ n + 1 → (q ≡ n → b ≡ v) → (nat_lt q m && b) ≡ (((q == n) && v) || (nat_lt q n && b))
 below_more q n m b v next f = grind (arith, nat_tests)
 
 pub and_none : (a b : Bool) → ((a && false) || b) ≡ b

@@ -1,5 +1,5 @@
 -- What a machine works out once, as it is read.
-use Rattle.std.specs.Prelude.{◌≡◌, ℕ, ◌+◌, ◌<◌, ◌≤◌, true, List, length, slice_index_or}
+use Rattle.std.specs.Prelude.{◌≡◌, ℕ, ◌+◌, ◌<◌, ◌≤◌, true, ◌&&◌, ◌==◌, nat_lt, List, length, slice_index_or}
 use Rattle.std.specs.FinSet as set
 use Rattle.cpu_set.specs.Ids.{Ids}
 use Rattle.cpu_set.specs.Members.{InRange}
@@ -23,10 +23,15 @@ pub record AreSiblings (lowest next : List ℕ) : Type 0 where
   pub room : length next ≡ CPU_LIMIT
   pub each : (c : ℕ) → c < CPU_LIMIT → IsFirstOf lowest (slice_index_or lowest c c) (c + 1) (slice_index_or next c 0)
 
--- a sound machine, all of its CPUs, the node of each, and the next of its core
-pub record IsIndexed (m : Layout) (cpus : Ids) (written next : List ℕ) : Type 0 where
+-- these are the numbers that are the lowest of their core, or of no core
+abbrev pub AreFirsts : List ℕ → Ids → Type 0
+AreFirsts lowest firsts = (c : ℕ) → set.contains firsts c ≡ (nat_lt c CPU_LIMIT && (slice_index_or lowest c c == c))
+
+-- a sound machine, all of its CPUs, the node of each, the next of its core, and the lowest of all cores
+pub record IsIndexed (m : Layout) (cpus : Ids) (written next : List ℕ) (low : Ids) : Type 0 where
   pub sound : IsSound m
   pub all : cpus ≡ present m
   pub in_range : InRange cpus
   pub places : ArePlaces m.nodes written
   pub siblings : AreSiblings m.lowest next
+  pub firsts : AreFirsts m.lowest low

@@ -13,7 +13,7 @@ ghost use Rattle.machine.specs.declared.field.Field.TheVariants.{Nodes, Cores as
 ghost use Rattle.cpu_set.specs.Least.{least_of};
 ghost use Rattle.machine.specs.CoresFault.{cores_fault, lists_fault, first_core_fault, left_fault, lowest_of, size_of};
 ghost use Rattle.machine.specs.CoresFault.{is_within, is_core};
-ghost use Rattle.machine.specs.Index.{ArePlaces, AreSiblings};
+ghost use Rattle.machine.specs.Index.{ArePlaces, AreSiblings, AreFirsts};
 ghost use Rattle.machine.specs.KindFaults.{AreLists};
 ghost use Rattle.machine.specs.Listed.{is_list, listed};
 ghost use Rattle.machine.specs.Members.{items_in, items_of};
@@ -232,4 +232,18 @@ pub(crate) fn siblings_of(lowest: &Numbers) -> Numbers
         firsts[core] = cpu;
     }
     next
+}
+
+/// The CPU numbers that are the lowest of their core, or of no core, given the lowest of the core of each.
+pub(crate) fn firsts_of(lowest: &Numbers) -> IdSet
+    requires { length lowest.now ≡ CPU_LIMIT }
+    ensures { AreFirsts lowest.now result }
+{
+    let mut firsts = IdSet::empty();
+    for cpu in 0..CPU_LIMIT {
+        if lowest[cpu as usize] == cpu {
+            firsts.insert(cpu);
+        }
+    }
+    firsts
 }

@@ -1,4 +1,5 @@
-ghost use Rattle.std.specs.Prelude.{◌≡◌, ◌≢◌, ℕ, ◌+◌, ◌<◌, ◌≤◌, ◌↔◌, ◌&&◌, ◌||◌, ◌==◌, true, nat_lt, length};
+ghost use Rattle.std.specs.Prelude.{◌≡◌, ◌≢◌, ℕ, ◌+◌, ◌<◌, ◌≤◌, ◌↔◌, ◌&&◌, ◌||◌, ◌==◌, true, false, not};
+ghost use Rattle.std.specs.Prelude.{nat_lt, length};
 ghost use Rattle.std.specs.Prelude.{option_map, IfOk};
 ghost use Rattle.serde_json.specs.View.{view};
 ghost use Rattle.std.specs.FinSet as set;
@@ -15,7 +16,7 @@ ghost use Rattle.cpu_set.specs.Members.{IsCpu, InRange};
 ghost use Rattle.faults.specs.Answers.{Reports, Gives, ChecksFirst};
 
 use crate::boot::{read_offline, read_reserved};
-use crate::cores::{read_cores, siblings_of};
+use crate::cores::{firsts_of, read_cores, siblings_of};
 use crate::fault::MachineFault;
 use crate::field::Field;
 use crate::index::places_of;
@@ -31,11 +32,15 @@ use slit::Slit;
 use std::alloc::Global;
 use std::marker::Model;
 
+/// So many members of a set are walked before it is counted whether fewer are lacking in it: a count of all words costs
+/// as much as a walk over some tens.
+const FEW: u16 = 16;
+
 /// The nodes of a machine with their CPUs and distances, its reserved CPUs, and those online at boot.
 ///
 /// There are 1 to [`NODE_LIMIT`](crate::NODE_LIMIT) nodes. No CPU is in two of them, and a node may have
 /// none. The reserved CPUs are one or more of those that are online at boot. Which CPUs are present, and the
-/// node of each, is worked out once, as the file is read.
+/// node of each, is worked out once, as the file is read; so are the lowest CPUs of all cores.
 #[derive(Debug, Drop)]
 pub struct Machine {
     nodes: Vec<IdSet>,
@@ -46,6 +51,7 @@ pub struct Machine {
     places: Vec<u16>,
     lowest: Vec<u16>,
     siblings: Vec<u16>,
+    firsts: IdSet,
     threads: u32,
 }
 
@@ -73,7 +79,7 @@ impl Model for Machine {
       online = m.online;
       lowest = m.lowest.items;
       threads = m.threads;
-    }) m.present m.places.items m.siblings.items };
+    }) m.present m.places.items m.siblings.items m.firsts };
 }
 
 impl Machine {
@@ -152,6 +158,7 @@ impl Machine {
             places: Vec::from_slice(alloc, &places)?,
             lowest: Vec::from_slice(alloc, &cores.lowest)?,
             siblings: Vec::from_slice(alloc, &siblings_of(&cores.lowest))?,
+            firsts: firsts_of(&cores.lowest),
             threads: cores.threads,
         })
     }
@@ -251,7 +258,7 @@ impl Machine {
     }
 
     /// The cores of which the set has all CPUs, each by its lowest CPU. It is the set itself if each CPU is a core of
-    /// its own. O(c) of c CPUs in the set.
+    /// its own. O(c) of c CPUs in the set or lacking in it, whichever are fewer.
     pub fn cores_in(&self, cpus: &IdSet) -> IdSet
         ensures is { result ≡ cores_in self.now cpus.now }
         ensures sound { IsSound self.now }
@@ -260,12 +267,36 @@ impl Machine {
             return *cpus;
         }
         let mut cores = IdSet::empty();
+        let mut walked = 0;
         let mut next = cpus.first();
         while let Some(cpu) = next {
+            if walked == FEW {
+                let lacking = self.present.minus(cpus);
+                if lacking.count() < cpus.count() {
+                    return self.cores_by_lacking(cpus, &lacking);
+                }
+            }
             if self.has_core(cpu, cpus) {
                 cores.insert(cpu);
             }
+            walked += 1;
             next = cpus.next_after(cpu);
+        }
+        cores
+    }
+
+    /// The cores of which the set has all CPUs: all but those of the present CPUs that it lacks.
+    fn cores_by_lacking(&self, cpus: &IdSet, lacking: &IdSet) -> IdSet
+        requires { lacking.now ≡ set.difference (present self.now) cpus.now }
+        ensures { result ≡ cores_in self.now cpus.now }
+    {
+        cpus.stays_below_the_limit();
+        let mut cores = cpus.meet(&self.firsts);
+        let mut next = lacking.first();
+        while let Some(cpu) = next {
+            let core = self.core_at(cpu);
+            cores.remove(core);
+            next = lacking.next_after(cpu);
         }
         cores
     }
@@ -308,7 +339,7 @@ impl Machine {
     }
 
     /// The CPUs of the cores with these lowest CPUs. It is the set itself if each CPU is a core of its own. O(c) of c
-    /// CPUs.
+    /// CPUs of the cores in the set or lacking in it, whichever are fewer.
     pub fn cpus_of_cores(&self, cores: &IdSet) -> IdSet
         ensures is { result ≡ cpus_of_cores self.now cores.now }
         ensures sound { IsSound self.now }
@@ -318,12 +349,53 @@ impl Machine {
             return *cores;
         }
         let mut cpus = IdSet::empty();
+        let mut walked = 0;
         let mut next = cores.first();
         while let Some(core) = next {
+            if walked == FEW {
+                let lacking = self.present.meet(&self.firsts).minus(cores);
+                if lacking.count() < cores.count() {
+                    return self.cpus_by_lacking(cores, &lacking);
+                }
+            }
             self.add_core(core, &mut cpus);
+            walked += 1;
             next = cores.next_after(core);
         }
         cpus
+    }
+
+    /// The CPUs of the cores: all but those of the cores that the set lacks.
+    fn cpus_by_lacking(&self, cores: &IdSet, lacking: &IdSet) -> IdSet
+        requires { (c : ℕ) → set.contains lacking.now c
+            ≡ ((set.contains (present self.now) c && (core_of self.now c == c)) && not (set.contains cores.now c)) }
+        ensures { result ≡ cpus_of_cores self.now cores.now }
+    {
+        cores.stays_below_the_limit();
+        let mut cpus = self.present.union(cores);
+        let mut next = lacking.first();
+        while let Some(core) = next {
+            self.take_core(core, &mut cpus);
+            next = lacking.next_after(core);
+        }
+        cpus.stays_below_the_limit();
+        cpus
+    }
+
+    /// Takes out the CPUs of the core with this lowest CPU.
+    fn take_core(&self, core: u16, cpus: &mut IdSet)
+        requires in_range { IsCpu core }
+        requires lowest { core_of self.now core ≡ core }
+        ensures gone { (q : ℕ) → core ≤ q → q < CPU_LIMIT → core_of self.now q ≡ core
+            → set.contains cpus.new q ≡ false }
+        ensures others { (q : ℕ) → (core_of self.now q ≡ core → ⊥)
+            → set.contains cpus.new q ≡ set.contains cpus.old q }
+    {
+        let mut next = core;
+        while next < CPU_LIMIT {
+            cpus.remove(next);
+            next = self.sibling_of(next);
+        }
     }
 
     /// Adds the CPUs of the core with this lowest CPU, and none where no core has it.
@@ -343,7 +415,7 @@ impl Machine {
     }
 
     /// The CPUs of those cores of which the set has all CPUs. It is the set itself if each CPU is a core of its own.
-    /// O(c) of c CPUs in the set.
+    /// O(c) of c CPUs in the set or lacking in it, whichever are fewer.
     pub fn whole_in(&self, cpus: IdSet) -> IdSet
         ensures is { result ≡ whole_in self.now cpus }
         // What it returns is whole.

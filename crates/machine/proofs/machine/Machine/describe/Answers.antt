@@ -10,6 +10,9 @@ use Rattle.machine.proofs.machine.Machine.describe.Goals as goal
 pub siblings_of-requires : goal.siblings_of-requires
 siblings_of-requires c = record { room = ap length c.in_ok-cores.ensures.lowest ∙ lowest_of-long _; low = lowest_of-low _ _ c.in_ok-cores.ensures.lowest }
 
+pub firsts_of-requires : goal.firsts_of-requires
+firsts_of-requires c = ap length c.in_ok-cores.ensures.lowest ∙ lowest_of-long _
+
 pub invariant_of-result : goal.invariant_of-result
 invariant_of-result c =
     let items = c.in_ok-items.items.now in
@@ -31,6 +34,7 @@ invariant_of-result c =
       in_range = c.stays_below_the_limit.ensures;
       places = rw (same, c.in_ok-from_slice-2.ensures.items) c.places_of-places.ensures;
       siblings = rw (c.in_ok-from_slice-3.ensures.items, c.in_ok-from_slice-4.ensures.items) c.siblings_of.ensures;
+      firsts = rw c.in_ok-from_slice-3.ensures.items c.firsts_of.ensures;
     }
 
 pub returns-clause-sound : goal.returns-clause-sound
