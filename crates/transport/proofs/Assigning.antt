@@ -22,10 +22,11 @@ use Rattle.transport.specs.States.{cell, shares_of, AreHoldings, IsNoHolder}
 use Rattle.transport.specs.Searches.{IsSearch, AreWeights}
 use Rattle.transport.specs.ReachedRows.{is_reached, parent_class, index, row_at}
 use Rattle.transport.specs.Settled.{IsSettled}
-use Rattle.transport.specs.Outcomes.{demand_of, IsDone, IsStuck, IsLate}
+use Rattle.transport.specs.Outcomes.{demand_of, IsDone, IsStuck, IsLate, turns_of_limit}
 use Rattle.transport.specs.Solved.{MayTakeMore}
 use Rattle.transport.specs.Assigning.{IsFirst, IsHandedOut, CanAssign, IsAssigning, IsAtEnd, a_search, AreAssigned}
 use Rattle.transport.specs.declared.assignment.Assignment.{Assignment}
+use Rattle.transport.specs.declared.augment.TurnLimit.{TurnLimit}
 use Rattle.transport.specs.declared.instance.Instance.{Instance}
 use Rattle.transport.specs.declared.tree.SearchTree.{SearchTree}
 use Rattle.transport.specs.declared.arcs.SortedArcs.{SortedArcs}
@@ -68,6 +69,10 @@ handed_more root a b c f g = record {
 
 search_same : (root : ℕ) (a b : Assignment) → IsHandedOut root a b → a_search b ≡ a_search a
 search_same root a b h = omega (arith, h.values_long, h.prices_long)
+
+-- a search that begins within a limit ends within it and a search more
+pub limit_kept : (root : ℕ) (a b : Assignment) (x y most : ℕ) → IsHandedOut root a b → x ≤ most → y ≤ x + a_search b → y ≤ most + a_search a
+limit_kept root a b x y most h within once = omega (arith, within, once, search_same root a b h)
 
 -- a search more
 pub assigning_more : (t : Instance) (root : ℕ) (a b c : Assignment) (arcs_by_kind arcs_by_kind' : List SortedArcs) (x y z : ℕ) → IsAssigning t root a b arcs_by_kind x y → IsAssigning t root b c arcs_by_kind' y z
@@ -168,6 +173,28 @@ demand_low rows k fit = elim (cases_lt k (length rows)) [
 
 spend : (x y d a turns after : ℕ) → y ≡ x + d → turns ≤ x * a → after ≤ turns + d * a → after ≤ y * a
 spend x y d a turns after e le most = rw e (omega (arith, le, most))
+
+raise_by : (first per x y d asks most after : ℕ) → y ≡ x + d → asks ≡ d → most ≤ first + per * x → after ≤ most + per * asks → after ≤ first + per * y
+raise_by first per x y d asks most after more same low raised = rw more (omega (arith, low, rw same at raised))
+
+-- the limit where a row more has its CPUs
+pub limit_raised : (rows : List RowView) (row : ℕ) (r : RowView) (limit : TurnLimit) (most after : ℕ) → row < length rows
+    → most ≤ limit.at_first + limit.per_cpu * total (demand_of rows) row → after ≤ most + limit.per_cpu * (get_or rows row r).demand → after ≤ limit.at_first + limit.per_cpu * total (demand_of rows) (row + 1)
+limit_raised rows row r limit most after lt low raised =
+    rw add-one
+    (raise_by limit.at_first limit.per_cpu (total (demand_of rows) row) (total (demand_of rows) (suc row)) (demand_of rows row) (get_or rows row r).demand most after
+    (total_last (demand_of rows) row) (sym (get_or-map (λ (x : RowView). x.demand) rows row r 0 lt)) low raised)
+
+-- the limit of the first rows is within that of all rows
+pub limit_of_all : (rows : List RowView) (sizes : List ℕ) (row : ℕ) (limit : TurnLimit) (most turns : ℕ) → row ≤ length rows
+    → most ≤ limit.at_first + limit.per_cpu * total (demand_of rows) row → turns ≤ most + (length rows + length sizes) → turns ≤ turns_of_limit rows sizes limit
+limit_of_all rows sizes row limit most turns le low few =
+    let same : limit.per_cpu ≤ limit.per_cpu = omega arith in
+    let up : limit.per_cpu * total (demand_of rows) row ≤ limit.per_cpu * total (demand_of rows) (length rows) = mul-le-mul same (total_up (demand_of rows) row (length rows) le) in
+    below (limit.per_cpu * total (demand_of rows) row) (limit.per_cpu * asked rows) (subst (λ n. limit.per_cpu * total (demand_of rows) row ≤ limit.per_cpu * n) (asked_is rows) up) low
+  where
+    below : (x y : ℕ) → x ≤ y → most ≤ limit.at_first + x → turns ≤ limit.at_first + y + (length rows + length sizes)
+    below x y up low = omega (arith, up, low, few)
 
 -- turns that the first rows and one more can take
 abbrev most_turns : ℕ

@@ -223,7 +223,7 @@ module _ (tb : Instance) (root : ℕ) (old mid : Assignment) (t : SearchTree) (b
   a_row : a_search old ≤ number old.deficit.items root * a_search old
   a_row = let e = one_more 0 (number old.deficit.items root) (a_search old) lacks in omega (arith, e)
 
-  taken_up : length t.reached_rows.order.items + length t.tree_classes.order.items ≤ a_search old
+  pub taken_up : length t.reached_rows.order.items + length t.tree_classes.order.items ≤ a_search old
   taken_up = omega (arith, rows_few (weights tb) mid t running, classes_few (weights tb) mid t running, values_long, prices_are)
 
   pub turns_fit : turns + (length t.reached_rows.order.items + length t.tree_classes.order.items) < 2 ^ 64
@@ -241,7 +241,7 @@ module _ (tb : Instance) (root : ℕ) (old mid : Assignment) (t : SearchTree) (b
   }
 
   module _ (e : FreeEnd) (f : IsFound (weights tb) mid t e) where
-    taken_up_free_end : length t.reached_rows.order.items + length t.tree_classes.order.items + 1 ≤ a_search old
+    pub taken_up_free_end : length t.reached_rows.order.items + length t.tree_classes.order.items + 1 ≤ a_search old
     taken_up_free_end = omega (arith, rows_few (weights tb) mid t running, classes_fewer (weights tb) mid t e f, values_long, prices_are)
 
     pub turns_fit_free_end : turns + (length t.reached_rows.order.items + length t.tree_classes.order.items) + 1 < 2 ^ 64

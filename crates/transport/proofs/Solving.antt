@@ -1,7 +1,8 @@
 -- What a solved problem's answer says, clause by clause.
-use Rattle.std.proofs.Common.{◌≡◌, ℕ, List, Option, Some, None, IfSome, Result, IfOk, Ok, Err, subst}
+use Rattle.std.proofs.Common.{◌≡◌, List, Option, Some, None, IfSome, Result, IfOk, Ok, Err, subst}
 use Rattle.certificate.specs.RowView.{RowView}
-use Rattle.transport.specs.Solved.{IsRight, IsDecided, AreTwinsDealt, ArePricesOfClasses, AreTurns, IsSolved, MayTakeMore, IsSolvedWithin}
+use Rattle.transport.specs.Solved.{IsRight, IsDecided, AreTwinsDealt, ArePricesOfClasses, AreTurns, IsSolved, MayTakeMore, turns_taken, IsWithinLimit, IsSolvedWithin}
+use Rattle.transport.specs.declared.augment.TurnLimit.{TurnLimit}
 use Rattle.transport.specs.declared.solver.Answer.{Answer}
 use Rattle.transport.specs.declared.solver.Answer.TheVariants.{Plan, Short}
 
@@ -31,9 +32,13 @@ if_ok (Ok a) follows h = follows a h
 if_ok (Err e) follows h = tt
 
 -- what follows from an answer, if there is one
-pub if_some : {Q : Answer → Type 0} (rows : List RowView) (most : ℕ) → ((a : Answer) → IsSolved rows a → Q a) → (found : Option Answer) → IsSolvedWithin rows most found → IfSome found Q
-if_some rows most follows (Some a) h = follows a h
-if_some rows most follows None h = tt
+pub if_some : {Q : Answer → Type 0} (rows : List RowView) (limit : TurnLimit) → ((a : Answer) → IsSolved rows a → Q a) → (found : Option Answer) → IsSolvedWithin rows limit found → IfSome found Q
+if_some rows limit follows (Some a) h = follows a h.0
+if_some rows limit follows None h = tt
 
-pub late_of : (rows : List RowView) (most : ℕ) (found : Option Answer) → IsSolvedWithin rows most found → found ≡ None → MayTakeMore rows most
-late_of rows most found h is = subst (IsSolvedWithin rows most) is h
+pub limited_of : (rows : List RowView) (limit : TurnLimit) (found : Option Answer) → IsSolvedWithin rows limit found → IfSome found (λ a. IsWithinLimit rows limit (turns_taken a))
+limited_of rows limit (Some a) h = h.1
+limited_of rows limit None h = tt
+
+pub late_of : (rows : List RowView) (limit : TurnLimit) (found : Option Answer) → IsSolvedWithin rows limit found → found ≡ None → MayTakeMore rows limit.at_first
+late_of rows limit found h is = subst (IsSolvedWithin rows limit) is h

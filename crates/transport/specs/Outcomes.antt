@@ -9,6 +9,7 @@ use Rattle.transport.specs.Totals.{IsShared, IsHall}
 use Rattle.transport.specs.States.{cell}
 use Rattle.transport.specs.Settled.{IsSettled}
 use Rattle.transport.specs.declared.assignment.Assignment.{Assignment}
+use Rattle.transport.specs.declared.augment.TurnLimit.{TurnLimit}
 use Rattle.transport.specs.declared.augment.Outcome.{Outcome}
 use Rattle.transport.specs.declared.augment.Outcome.TheVariants.{Done, Stuck, Late}
 
@@ -46,3 +47,13 @@ abbrev pub IsOutcome : List RowView → List ℕ → List ℕ → ℕ → Outcom
 IsOutcome rows firsts sizes most (Done assignment turns) = IsDone rows firsts sizes assignment turns
 IsOutcome rows firsts sizes most (Stuck reached taken turns) = IsStuck rows firsts sizes reached.items taken.items turns
 IsOutcome rows firsts sizes most Late = IsLate rows sizes most
+
+-- the turns that the limit has for all rows, and those of one search
+abbrev pub turns_of_limit : List RowView → List ℕ → TurnLimit → ℕ
+turns_of_limit rows sizes limit = limit.at_first + limit.per_cpu * asked rows + (length rows + length sizes)
+
+-- no more turns were taken
+abbrev pub IsOutcomeWithin : List RowView → List ℕ → TurnLimit → Outcome → Type 0
+IsOutcomeWithin rows sizes limit (Done assignment turns) = turns ≤ turns_of_limit rows sizes limit
+IsOutcomeWithin rows sizes limit (Stuck reached taken turns) = turns ≤ turns_of_limit rows sizes limit
+IsOutcomeWithin rows sizes limit Late = Unit {0}

@@ -15,6 +15,7 @@ use Rattle.twins.specs.IsGrouping.{IsGrouping}
 use Rattle.twins.specs.ClassWeight.{class_weight}
 use Rattle.twins.specs.IsPriced.{class_prices}
 use Rattle.transport.specs.Totals.{total}
+use Rattle.transport.specs.declared.augment.TurnLimit.{TurnLimit}
 use Rattle.transport.specs.declared.solver.Answer.{Answer}
 use Rattle.transport.specs.declared.solver.Answer.TheVariants.{Plan, Short}
 
@@ -103,7 +104,19 @@ pub record MayTakeMore (rows : List RowView) (most : ℕ) : Type 0 where
   pub few : length classes ≤ CPU_LIMIT
   pub more : most < asked rows * (length rows + length classes)
 
--- an answer; or none, where more turns may be needed
-abbrev pub IsSolvedWithin : List RowView → ℕ → Option Answer → Type 0
-IsSolvedWithin rows most (Some answer) = IsSolved rows answer
-IsSolvedWithin rows most None = MayTakeMore rows most
+-- how many turns an answer took
+abbrev pub turns_taken : Answer → ℕ
+turns_taken (Plan sets prices total turns) = turns
+turns_taken (Short members turns) = turns
+
+-- the limit is heeded: no more turns than it has at first and for each CPU that is asked for, and those of one search,
+-- which takes up each row and each class of twins once at most
+pub record IsWithinLimit (rows : List RowView) (limit : TurnLimit) (turns : ℕ) : Type 0 where
+  pub classes : List Ids
+  pub grouping : IsGrouping rows classes
+  pub within : turns ≤ limit.at_first + limit.per_cpu * asked rows + (length rows + length classes)
+
+-- an answer within the limit; or none, where more turns may be needed
+abbrev pub IsSolvedWithin : List RowView → TurnLimit → Option Answer → Type 0
+IsSolvedWithin rows limit (Some answer) = IsSolved rows answer × IsWithinLimit rows limit (turns_taken answer)
+IsSolvedWithin rows limit None = MayTakeMore rows limit.at_first

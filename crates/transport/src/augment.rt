@@ -8,8 +8,8 @@ ghost use Rattle.transport.specs.Weights.{AreNewSortedArcs};
 ghost use Rattle.transport.specs.Totals.{class_total};
 ghost use Rattle.transport.specs.States.{cell, shares_of, AreHoldings, IsNoHolder};
 ghost use Rattle.transport.specs.Settled.{IsTreeOf};
-ghost use Rattle.transport.specs.Outcomes.{IsOutcome};
-ghost use Rattle.transport.specs.Assigning.{CanAssign, IsSearched, IsRowAssigned};
+ghost use Rattle.transport.specs.Outcomes.{IsOutcome, IsOutcomeWithin};
+ghost use Rattle.transport.specs.Assigning.{CanAssign, IsSearched, IsRowAssigned, a_search};
 ghost use Rattle.transport.specs.declared.augment.Outcome.TheVariants.{Stuck};
 ghost use Rattle.transport.specs.Shares.{HasNoShare};
 ghost use Rattle.transport.specs.ReachedRows.{bottleneck, row_at};
@@ -69,7 +69,8 @@ pub fn assign_all(
     requires kinds { AreKinds instance.now.rows.now (length instance.now.rows.now) instance.now.kinds.now }
     requires classes { length instance.now.firsts ≡ length sizes.now }
     requires few { length sizes.now ≤ CPU_LIMIT }
-    ensures { IfOk result (IsOutcome instance.now.rows.now instance.now.firsts sizes.now limit.at_first) }
+    ensures outcome { IfOk result (IsOutcome instance.now.rows.now instance.now.firsts sizes.now limit.at_first) }
+    ensures limited { IfOk result (IsOutcomeWithin instance.now.rows.now sizes.now limit) }
 {
     let mut assignment = Assignment::first(alloc, instance, sizes)?;
     let mut arcs_by_kind = sorted_arcs_of(alloc, instance)?;
@@ -96,7 +97,8 @@ pub fn assign_all(
 
 /// How many turns the searches may take where a row more has its CPUs.
 fn raised(most: u64, limit: TurnLimit, row: &Row) -> u64
-    ensures { most ≤ result }
+    ensures at_least { most ≤ result }
+    ensures at_most { result ≤ most + limit.per_cpu * row.now.demand }
 {
     most.saturating_add(limit.per_cpu.saturating_mul(u64::from(row.demand)))
 }
@@ -153,8 +155,10 @@ fn assign_row(
 ) -> Result<Ended, AllocError>
     requires can { CanAssign instance.now row assignment.old arcs_by_kind.old turns.old }
     requires tidy { IsTreeOf assignment.old tree.old }
-    ensures { IfOk result (IsRowAssigned instance.now row most assignment.old assignment.new arcs_by_kind.new tree.new
-        turns.old turns.new) }
+    requires few { turns.old ≤ most + a_search assignment.old }
+    ensures assigned { IfOk result (IsRowAssigned instance.now row most assignment.old assignment.new arcs_by_kind.new
+        tree.new turns.old turns.new) }
+    ensures limited { OnOk result (turns.new ≤ most + a_search assignment.old) }
 {
     'searches: while assignment.deficit[row] > 0 {
         if *turns > most {
@@ -179,8 +183,9 @@ fn augment_once(
     requires can { CanAssign instance.now row assignment.old arcs_by_kind.old turns.old }
     requires lacks { 0 < number assignment.old.deficit.items row }
     requires tidy { IsTreeOf assignment.old tree.old }
-    ensures { IfOk result (IsSearched instance.now row assignment.old assignment.new arcs_by_kind.new tree.new turns.old
-        turns.new) }
+    ensures searched { IfOk result (IsSearched instance.now row assignment.old assignment.new arcs_by_kind.new tree.new
+        turns.old turns.new) }
+    ensures once { OnOk result (turns.new ≤ turns.old + a_search assignment.old) }
 {
     let wanted = assignment.deficit[row];
     tree.start(row, wanted)?;

@@ -4,10 +4,10 @@ ghost use Rattle.certificate.specs.AreWithin.{AreRowsWithin};
 ghost use Rattle.certificate.specs.Limits.{rows_fit};
 ghost use Rattle.twins.specs.IsGrouping.{IsGrouping};
 ghost use Rattle.twins.specs.Kinds.{AreKinds};
-ghost use Rattle.transport.specs.Outcomes.{IsDone, IsStuck, IsOutcome};
+ghost use Rattle.transport.specs.Outcomes.{IsDone, IsStuck, IsOutcome, IsOutcomeWithin};
 ghost use Rattle.transport.specs.Representatives.{first_of};
 ghost use Rattle.transport.specs.Solved.{IsRight, IsDecided, AreTwinsDealt, ArePricesOfClasses, AreTurns, IsSolved};
-ghost use Rattle.transport.specs.Solved.{MayTakeMore, IsSolvedWithin};
+ghost use Rattle.transport.specs.Solved.{MayTakeMore, IsSolvedWithin, IsWithinLimit, turns_taken};
 ghost use Rattle.transport.specs.Places.{marked_places};
 ghost use Rattle.std.specs.FinSet as set;
 
@@ -65,7 +65,7 @@ fn solve_body(alloc: Global, problem: &Problem) -> Result<Answer, AllocError>
 }
 
 /// What [`solve`] answers, if that takes few turns: once more are taken than the limit has for the rows that are met, no
-/// further search is begun.
+/// further search is begun. So an answer took at most the turns that the limit has for all rows, and one search's.
 ///
 /// # Errors
 /// An allocation failure; no problem is refused.
@@ -92,6 +92,11 @@ pub fn solve_within(
     // The turns of an answer are those of `solve`.
     ensures turns { IfOk result (λ found. IfSome found (AreTurns problem.now)) }
 
+    // The limit is heeded: the turns of an answer are at most its turns at first + its turns for each CPU × CPUs asked
+    // for + rows + classes.
+    ensures limited { IfOk result (λ found. IfSome found (λ answer. IsWithinLimit problem.now limit (turns_taken
+        answer))) }
+
     // There is no answer only where more turns may be needed: (rows + classes) × CPUs asked for are more
     // than the limit's turns at first.
     ensures late { IfOk result (λ found. found ≡ None → MayTakeMore problem.now limit.at_first) }
@@ -105,7 +110,7 @@ fn solve_within_body(
     limit: TurnLimit,
 ) -> Result<Option<Answer>, AllocError>
     requires { IsTrue (rows_fit problem.now) }
-    ensures { IfOk result (IsSolvedWithin problem.now limit.at_first) }
+    ensures { IfOk result (IsSolvedWithin problem.now limit) }
 {
     certificate::laws::what_is_within_the_limits();
     let rows = problem.rows.as_slice();
@@ -137,8 +142,9 @@ fn assigned(
     requires fit { AreRowsWithin rows.now }
     requires grouping { IsGrouping rows.now classes.now }
     requires few { length classes.now ≤ CPU_LIMIT }
-    ensures { IfOk result (IsOutcome rows.now (map first_of classes.now) (map (λ s. set.len s) classes.now)
+    ensures outcome { IfOk result (IsOutcome rows.now (map first_of classes.now) (map (λ s. set.len s) classes.now)
         limit.at_first) }
+    ensures limited { IfOk result (IsOutcomeWithin rows.now (map (λ s. set.len s) classes.now) limit) }
 {
     let firsts = Representatives::new(alloc, classes)?;
     let sizes = sizes_of(alloc, classes)?;
@@ -161,7 +167,8 @@ fn planned(
     requires fit { IsTrue (rows_fit problem.now) }
     requires grouping { IsGrouping problem.now classes.now }
     requires done { IsDone problem.now (map first_of classes.now) (map (λ s. set.len s) classes.now) assignment turns }
-    ensures { IfOk result (IsSolved problem.now) }
+    ensures solved { IfOk result (IsSolved problem.now) }
+    ensures turns { IfOk result (λ answer. turns_taken answer ≡ turns) }
 {
     twins::laws::classes_prove_plans();
     twins::laws::deals_of_twins_are_dealt();
@@ -195,7 +202,8 @@ fn short(
     requires grouping { IsGrouping problem.now classes.now }
     requires stuck { IsStuck problem.now (map first_of classes.now) (map (λ s. set.len s) classes.now) reached.now
         taken.now turns }
-    ensures { IfOk result (IsSolved problem.now) }
+    ensures solved { IfOk result (IsSolved problem.now) }
+    ensures turns { IfOk result (λ answer. turns_taken answer ≡ turns) }
 {
     twins::laws::closed_rows_are_short();
     certificate::laws::a_shortage_leaves_no_plan();

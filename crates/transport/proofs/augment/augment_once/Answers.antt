@@ -11,7 +11,7 @@ use Rattle.transport.specs.Answers.{IsAnswer, IsFound}
 use Rattle.std.proofs.lemmas.Bool.{eqb-true}
 use Rattle.transport.proofs.Numbers.{read_number}
 use Rattle.transport.proofs.Starting.{running_start}
-use Rattle.transport.proofs.HandingOut.{answer_running, turns_fit, no_free_end, turns_fit_free_end, free_end_row, free_end_class, bottleneck_deficit, fewer, augmented, tree_left}
+use Rattle.transport.proofs.HandingOut.{answer_running, turns_fit, taken_up, no_free_end, turns_fit_free_end, taken_up_free_end, free_end_row, free_end_class, bottleneck_deficit, fewer, augmented, tree_left}
 use Rattle.transport.proofs.augment.augment_once.Goals as goal
 use Rattle.transport.proofs.augment.augment_once.Goals.{In_ok-start, In_ok-found, In-Some, After-min-amount}
 
@@ -51,10 +51,10 @@ overflow_add-turns-2 c =
       turns_fit _ _ _ _ _ _ _ _ c.requires.can c.requires.lacks (running i) c.in_ok-found.ensures.rows c.in_ok-found.ensures.rest (root_at i) (bottleneck_is i w) c.in_ok-found.ensures.arcs_by_kind,
     )
 
-pub returns-in_default : goal.returns-in_default
-returns-in_default c =
-    let i = (goal.at.returns-in_default c).In_ok-found in
-    let w = wanted (goal.at.returns-in_default c).In_ok-start in
+pub returns-in_default-clause-searched : goal.returns-in_default-clause-searched
+returns-in_default-clause-searched c =
+    let i = (goal.at.returns-in_default-clause-searched c).In_ok-found in
+    let w = wanted (goal.at.returns-in_default-clause-searched c).In_ok-start in
     no_free_end _ _ _ _ _ _ _ _ c.requires.can c.requires.lacks (running i) c.in_ok-found.ensures.rows c.in_ok-found.ensures.rest (root_at i) (bottleneck_is i w) c.in_ok-found.ensures.arcs_by_kind _
     (omega (arith, c.len.ensures, c.len-2.ensures, c.find_augmenting_path.new.tree.reached_rows.order.ok.0, c.find_augmenting_path.new.tree.tree_classes.order.ok.0))
     (subst (IsAnswer (weights c.args.instance.now) c.find_augmenting_path.new.assignment c.find_augmenting_path.new.tree) c.in_default.is c.in_ok-found.ensures.answer)
@@ -117,12 +117,12 @@ augment-requires-clause-deficit c =
       bottleneck_deficit _ _ _ _ _ _ _ _ c.requires.can c.requires.lacks (running i) c.in_ok-found.ensures.rows c.in_ok-found.ensures.rest (root_at i) (bottleneck_is i w) c.in_ok-found.ensures.arcs_by_kind _ f,
     )
 
-pub returns : goal.returns
-returns c =
-    let i = (goal.at.returns c).In_ok-found in
-    let w = wanted (goal.at.returns c).In_ok-start in
-    let f = found (goal.at.returns c).In-Some in
-    let is = amount_is (goal.at.returns c).After-min-amount w f (root_at i) (bottleneck_is i w) in (
+pub returns-clause-searched : goal.returns-clause-searched
+returns-clause-searched c =
+    let i = (goal.at.returns-clause-searched c).In_ok-found in
+    let w = wanted (goal.at.returns-clause-searched c).In_ok-start in
+    let f = found (goal.at.returns-clause-searched c).In-Some in
+    let is = amount_is (goal.at.returns-clause-searched c).After-min-amount w f (root_at i) (bottleneck_is i w) in (
       augmented _ _ _ _ _ _ _ _ c.requires.can c.requires.lacks (running i) c.in_ok-found.ensures.rows c.in_ok-found.ensures.rest (root_at i) (bottleneck_is i w) c.in_ok-found.ensures.arcs_by_kind _ f _ _ c.in_ok-augment.ensures is _
           (omega (arith, c.len.ensures, c.len-2.ensures, c.find_augmenting_path.new.tree.reached_rows.order.ok.0, c.find_augmenting_path.new.tree.tree_classes.order.ok.0)),
       fewer _ _ _ _ _ _ _ _ c.requires.can c.requires.lacks (running i) c.in_ok-found.ensures.rows c.in_ok-found.ensures.rest (root_at i) (bottleneck_is i w) c.in_ok-found.ensures.arcs_by_kind _ f _ _ c.in_ok-augment.ensures is,
@@ -139,3 +139,30 @@ augment-requires-clause-fresh c = λ new.
     ap (λ (r : RowView). r.demand) (c.asked.view_is ∙ sym c.index-instance-row.is) ∙ demand_read _ _ _ in_rows c.index-instance-row.is in
     let none : IsNoHolder c.args.row c.find_augmenting_path.new.assignment.holdings.items = rw c.in_ok-found.ensures.rest.holdings (c.requires.can.fresh (sym w ∙ all ∙ asks)) in
     subst (λ k. IsNoHolder k c.find_augmenting_path.new.assignment.holdings.items) (sym (root_at i)) none
+
+pub returns-in_default-clause-once : goal.returns-in_default-clause-once
+returns-in_default-clause-once c =
+    let i = (goal.at.returns-in_default-clause-once c).In_ok-found in
+    let w = wanted (goal.at.returns-in_default-clause-once c).In_ok-start in
+    omega (
+      arith,
+      c.len.ensures,
+      c.len-2.ensures,
+      c.find_augmenting_path.new.tree.reached_rows.order.ok.0,
+      c.find_augmenting_path.new.tree.tree_classes.order.ok.0,
+      taken_up _ _ _ _ _ _ _ _ c.requires.can c.requires.lacks (running i) c.in_ok-found.ensures.rows c.in_ok-found.ensures.rest (root_at i) (bottleneck_is i w) c.in_ok-found.ensures.arcs_by_kind,
+    )
+
+pub returns-clause-once : goal.returns-clause-once
+returns-clause-once c =
+    let i = (goal.at.returns-clause-once c).In_ok-found in
+    let w = wanted (goal.at.returns-clause-once c).In_ok-start in
+    let f = found (goal.at.returns-clause-once c).In-Some in
+    omega (
+      arith,
+      c.len.ensures,
+      c.len-2.ensures,
+      c.find_augmenting_path.new.tree.reached_rows.order.ok.0,
+      c.find_augmenting_path.new.tree.tree_classes.order.ok.0,
+      taken_up_free_end _ _ _ _ _ _ _ _ c.requires.can c.requires.lacks (running i) c.in_ok-found.ensures.rows c.in_ok-found.ensures.rest (root_at i) (bottleneck_is i w) c.in_ok-found.ensures.arcs_by_kind _ f,
+    )

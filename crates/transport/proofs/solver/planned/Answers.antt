@@ -30,13 +30,13 @@ proved c =
 pub proved_cost-total-requires : goal.proved_cost-total-requires
 proved_cost-total-requires c = (c.in_ok-sets.sets.items, cost c.args.problem.now c.in_ok-sets.sets.items, proved (goal.at.proved_cost-total-requires c).In_ok-of_cpu)
 
-pub returns : goal.returns
-returns c =
+pub returns-clause-solved : goal.returns-clause-solved
+returns-clause-solved c =
     let rows_are : c.as_slice-rows.result.now ≡ c.args.problem.now = c.as_slice-rows.ensures.value ∙ c.problem.view_is in
     solved_plan c.args.problem.now c.args.classes.now c.args.assignment c.args.turns c.requires.grouping c.requires.done
     c.deref.result.now c.in_ok-sets.sets.items c.in_ok-of_cpu.of_cpu c.proved_cost-total.result c.deref.ensures.value c.requires.fit
     c.in_ok-sets.ensures.dealt
     (c.in_ok-sets.ensures.long ∙ ap length rows_are)
     (c.in_ok-of_cpu.ensures ∙ ap (class_prices c.args.classes.now) c.deref-2.ensures.value)
-    (c.proved_cost-total.ensures _ _ (proved (goal.at.returns c).In_ok-of_cpu))
+    (c.proved_cost-total.ensures _ _ (proved (goal.at.returns-clause-solved c).In_ok-of_cpu))
     c.classes_prove_plans.ensures c.deals_of_twins_are_dealt.ensures c.no_plan_is_below_a_bound.ensures.least
