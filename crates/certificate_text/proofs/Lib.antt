@@ -5,6 +5,7 @@ pub mod RowIds
 pub mod Zips
 pub mod Runs
 pub mod Taking
+pub mod HeldSets
 pub mod DraftTakes
 pub mod DraftLines
 pub mod DraftSteps
@@ -17,7 +18,9 @@ pub mod Pieces
 pub mod HeldItems
 pub mod Texts
 pub mod Rereading
+pub mod Finishing
 pub mod Verdicts
+pub mod TooMany
 pub mod Writable
 pub mod Totals
 pub mod ProblemRows

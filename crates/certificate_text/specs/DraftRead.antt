@@ -6,14 +6,15 @@ use Rattle.std.specs.Cmp.Lexicographic.{slice_cmp}
 use Rattle.std.specs.Ordering.{nat_cmp}
 use Rattle.certificate_text.specs.declared.draft.Draft.TheInside.{Inside}
 use Rattle.certificate_text.specs.DraftView.{DraftView, has_id}
+use Rattle.certificate_text.specs.Held.{sets_of, values_of}
 
 -- its lists without where they lie in memory, and without the kept ids
 abbrev pub draft_view : Inside → DraftView
 draft_view d = record {
   stage = d.stage;
   rows = d.rows.items;
-  sets = d.sets.items;
-  values = d.values.items;
+  sets = sets_of d.held;
+  values = values_of d.held;
   prices = d.prices;
   members = d.members.items;
   from = d.from;

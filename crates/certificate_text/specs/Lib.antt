@@ -7,6 +7,7 @@ pub mod LineRead
 pub mod CertificateText
 pub mod FirstBadLine
 pub mod DraftView
+pub mod Held
 pub mod DraftRead
 pub mod Takes
 pub mod LineTaken

@@ -2,7 +2,7 @@ ghost use Rattle.std.specs.Prelude.{IfOk, IfErr};
 ghost use Rattle.certificate.specs.declared.checking.Verdict.{Verdict};
 ghost use Rattle.certificate_text.specs.Verdict.{IsVerdict, SaysLeast, IsVerdictError, IsAnswered};
 
-use crate::reading::{BadText, read_text};
+use crate::reading::{BadText, read_draft};
 use certificate::{CheckFault, Verdict, check};
 use faults::{Fault, OrMemory};
 use std::alloc::Global;
@@ -20,10 +20,10 @@ pub enum VerdictFault {
 
 impl Fault for VerdictFault {}
 
-/// Reads a certificate from its text and checks it: [`read_text`], then [`check`].
+/// Reads a certificate from its text and checks it: [`read_text`](crate::read_text), then [`check`].
 ///
 /// # Errors
-/// Those of [`read_text`], then those of [`check`].
+/// Those of [`read_text`](crate::read_text), then those of [`check`].
 pub fn check_text(alloc: Global, text: &[u8]) -> Result<Verdict, OrMemory<VerdictFault>>
     // A yes: the text stands for a plan that values and prices prove to cost the written total. Or it stands for
     // members that are short by these counts.
@@ -37,10 +37,17 @@ pub fn check_text(alloc: Global, text: &[u8]) -> Result<Verdict, OrMemory<Verdic
     // and those before it were in order.
     ensures fault { IfErr result (λ e. IsVerdictError text.now e) }
 {
-    let certificate = match read_text(alloc, text) {
-        Ok(certificate) => certificate,
+    let draft = match read_draft(alloc, text) {
+        Ok(draft) => draft,
         Err(OrMemory::Memory) => return Err(OrMemory::Memory),
         Err(OrMemory::Fault(bad)) => return Err(OrMemory::Fault(VerdictFault::BadText(bad))),
+    };
+    // Refused whatever else the text says, and before each row gets a whole set.
+    if draft.has_too_many_rows() {
+        return Err(OrMemory::Fault(VerdictFault::Check(CheckFault::BadProblem)));
+    }
+    let Ok(certificate) = draft.finish(alloc) else {
+        return Err(OrMemory::Memory);
     };
     match check(&certificate) {
         Ok(verdict) => Ok(verdict),

@@ -1,4 +1,5 @@
-ghost use Rattle.std.specs.Prelude.{◌≡◌, ◌+◌, ◌<◌, ◌^◌, length, slice_get, IfSome};
+ghost use Rattle.std.specs.Prelude.{◌≡◌, ◌+◌, ◌<◌, ◌^◌, nat_lt, length, slice_get};
+ghost use Rattle.std.specs.Prelude.{Some, is_some, IfOk, IfSome, OnErr};
 ghost use Rattle.certificate_text.specs.Line.{HeaderLine, RowLine, HoldLine, PriceLine, TotalLine, ShortLine, EndLine};
 ghost use Rattle.certificate_text.specs.Line.{Spells};
 ghost use Rattle.certificate_text.specs.DraftView.{are_same};
@@ -6,16 +7,17 @@ ghost use Rattle.certificate_text.specs.LineRead.{line_view};
 ghost use Rattle.certificate_text.specs.Takes.{Takes};
 
 use crate::bad_line::BadLine;
+use crate::held::{sets_of, values_of};
 use crate::line::{Line, second_word};
 use crate::line_words::{Hold, Total};
 use crate::stage::Stage;
 use crate::{Certificate, Members};
-use certificate::{Plan, Price, PriceList, Prices, Problem, Row, Weights};
-use cpu_set::IdSet;
+use certificate::{MAX_ROWS, Plan, Price, PriceList, Prices, Problem, Row, Weights};
 use faults::OrMemory;
-use std::alloc::Global;
+use std::alloc::{AllocError, Global};
 use std::collections::BTreeSet;
 use std::marker::Model;
+use tagged_sets::TaggedSets;
 
 /// Whether both count the same.
 fn are_same(a: Weights, b: Weights) -> bool
@@ -34,8 +36,8 @@ pub struct Draft<'a> {
     rows: Vec<Row>,
     /// The ids of the rows, where the text has them.
     ids: BTreeSet<&'a [u8]>,
-    sets: Vec<IdSet>,
-    values: Vec<u64>,
+    /// The set of each row that has one, with its value: as much memory as it has ranges.
+    held: TaggedSets<u64>,
     prices: PriceList,
     members: Vec<usize>,
     /// The first row after the members.
@@ -63,7 +65,7 @@ impl<'a> Draft<'a> {
     ghost use Rattle.certificate_text.specs.DraftView.{takes_members, takes_row};
     ghost use Rattle.certificate_text.specs.RowTaken.{rows_draft};
     ghost use Rattle.std.specs.Prelude.{[]};
-    ghost use Rattle.certificate_text.specs.Finished.{finished};
+    ghost use Rattle.certificate_text.specs.Finished.{finished, IsComplete, HasSets};
 
     /// A draft of which nothing has been read.
     pub fn new(alloc: Global) -> Draft<'a>
@@ -73,8 +75,7 @@ impl<'a> Draft<'a> {
             stage: Stage::Start,
             rows: Vec::new(alloc),
             ids: BTreeSet::new(alloc),
-            sets: Vec::new(alloc),
-            values: Vec::new(alloc),
+            held: TaggedSets::new(alloc),
             prices: PriceList::new(alloc),
             members: Vec::new(alloc),
             from: 0,
@@ -121,10 +122,11 @@ impl<'a> Draft<'a> {
         }
     }
 
+    #[tactic(auto, using(crate::proofs::HeldSets::sets_length))]
     fn has_no_plan(&self) -> bool
         ensures { result ≡ has_no_plan self.now }
     {
-        self.sets.is_empty() && self.prices.len() == 0
+        self.held.len() == 0 && self.prices.len() == 0
     }
 
     /// Whether a row of this id can follow.
@@ -167,13 +169,14 @@ impl<'a> Draft<'a> {
     fn awaits(&self, id: &[u8]) -> bool
         ensures { result ≡ is_id_of id.now (slice_get self.now.rows (length self.now.sets)) }
     {
-        match self.rows.get(self.sets.len()) {
+        match self.rows.get(self.held.len()) {
             Some(row) => row.id.as_bytes() == id,
             None => false,
         }
     }
 
     /// A set and a value are those of the first row that has none yet, and of this id.
+    #[tactic(auto, using(crate::proofs::HeldSets::sets_push, crate::proofs::HeldSets::values_push))]
     fn add_hold(&mut self, hold: Hold<'_>) -> Result<(), OrMemory<BadLine>>
         ensures { Takes result self.old (HoldLine hold.entry.id.now hold.entry.cpus hold.entry.value) self.new }
     {
@@ -183,17 +186,17 @@ impl<'a> Draft<'a> {
         if !self.awaits(hold.id) {
             return Err(OrMemory::Fault(BadLine));
         }
-        self.sets.reserve(1)?;
-        self.values.push(hold.value)?;
-        self.sets.push(hold.cpus)?;
+        let cpus = hold.cpus;
+        self.held.push(hold.value, &cpus)?;
         Ok(())
     }
 
     /// Whether each row has its set and value.
+    #[tactic(auto, using(crate::proofs::HeldSets::sets_length))]
     fn is_held(&self) -> bool
         ensures { result ≡ is_held self.now }
     {
-        self.sets.len() == self.rows.len()
+        self.held.len() == self.rows.len()
     }
 
     /// Prices come once each row has its set.
@@ -294,28 +297,45 @@ impl<'a> Draft<'a> {
         Problem { rows: self.rows }
     }
 
-    /// The certificate, if all of it has been read.
-    pub fn finish(self) -> Option<Certificate>
-        ensures { result ≡ finished self.entry }
+    /// Whether all of a certificate has been read.
+    pub fn is_complete(&self) -> bool
+        ensures { result ≡ is_some (finished self.now) }
+    {
+        matches!(self.stage, Stage::Planned | Stage::Shown)
+    }
+
+    /// Whether there are more rows than are checked.
+    pub fn has_too_many_rows(&self) -> bool
+        ensures { result ≡ nat_lt MAX_ROWS (length self.now.rows) }
+    {
+        self.rows.len() > MAX_ROWS
+    }
+
+    /// The certificate, all of which has been read.
+    pub fn finish(self, alloc: Global) -> Result<Certificate, AllocError>
+        requires { IsComplete self }
+        ensures ok { IfOk result (λ c. finished self.entry ≡ Some c) }
+        ensures err { OnErr result (HasSets self.entry) }
     {
         let problem = Problem { rows: self.rows };
-        match self.stage {
-            Stage::Planned => Some(Certificate::Plan {
-                problem,
-                plan: Plan { sets: self.sets },
-                prices: Prices {
-                    values: self.values,
-                    of_cpu: self.prices,
-                },
-                total: self.total,
-                weights: self.weights,
-            }),
-            Stage::Shown => Some(Certificate::Short {
+        let Stage::Planned = self.stage else {
+            return Ok(Certificate::Short {
                 problem,
                 members: Members { rows: self.members },
                 weights: self.weights,
-            }),
-            _ => None,
-        }
+            });
+        };
+        let sets = sets_of(alloc, &self.held)?;
+        let values = values_of(alloc, &self.held)?;
+        Ok(Certificate::Plan {
+            problem,
+            plan: Plan { sets },
+            prices: Prices {
+                values,
+                of_cpu: self.prices,
+            },
+            total: self.total,
+            weights: self.weights,
+        })
     }
 }

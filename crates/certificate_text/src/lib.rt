@@ -9,6 +9,7 @@ mod bad_line;
 mod checking;
 mod decimal;
 mod draft;
+mod held;
 mod id;
 pub mod laws;
 mod line;

@@ -3,6 +3,7 @@ ghost use Rattle.certificate.specs.RowView.{RowView};
 ghost use Rattle.certificate.specs.declared.certificates.Certificate.{Certificate};
 ghost use Rattle.certificate_text.specs.Line.{RowLine, Spells};
 ghost use Rattle.certificate_text.specs.CertificateText.{IsText};
+ghost use Rattle.certificate_text.specs.Finished.{IsDraftOf};
 ghost use Rattle.certificate_text.specs.LineTaken.{TakesLine};
 ghost use Rattle.certificate_text.specs.TextError.{IsTextError, IsRead};
 
@@ -12,7 +13,7 @@ use crate::draft::Draft;
 use crate::line::{read_line, second_word};
 use crate::split_once::split_once;
 use faults::{Fault, OrMemory};
-use std::alloc::Global;
+use std::alloc::{AllocError, Global};
 
 /// E77: a text is no certificate's. The line of this number, counted from 1, is the first that can't follow the lines
 /// before it; it is the last line where no line feed ends that, and the one after the last where the text ends too
@@ -54,6 +55,21 @@ fn read_text_body(alloc: Global, text: &[u8]) -> Result<Certificate, OrMemory<Ba
     ensures ok { IfOk result (λ c. IsText text.now c) }
     ensures error { IfErr result (λ e. IsTextError text.now e) }
 {
+    let draft = match read_draft(alloc, text) {
+        Ok(draft) => draft,
+        Err(fault) => return Err(fault),
+    };
+    match draft.finish(alloc) {
+        Ok(certificate) => Ok(certificate),
+        Err(AllocError) => Err(OrMemory::Memory),
+    }
+}
+
+/// Reads all of a certificate's text. Its sets take as much memory as they have ranges until the draft is finished.
+pub(crate) fn read_draft(alloc: Global, text: &[u8]) -> Result<Draft<'_>, OrMemory<BadText>>
+    ensures ok { IfOk result (λ d. IsDraftOf text.now d) }
+    ensures error { IfErr result (λ e. IsTextError text.now e) }
+{
     let mut draft = Draft::new(alloc);
     let mut rest = text;
     let mut number = 1;
@@ -69,10 +85,10 @@ fn read_text_body(alloc: Global, text: &[u8]) -> Result<Certificate, OrMemory<Ba
     if !rest.is_empty() {
         return Err(OrMemory::Fault(BadText { line: number }));
     }
-    match draft.finish() {
-        Some(certificate) => Ok(certificate),
-        None => Err(OrMemory::Fault(BadText { line: number })),
+    if !draft.is_complete() {
+        return Err(OrMemory::Fault(BadText { line: number }));
     }
+    Ok(draft)
 }
 
 /// Adds what the next line of the text says.

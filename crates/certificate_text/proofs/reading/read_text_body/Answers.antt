@@ -1,34 +1,12 @@
-use Rattle.std.proofs.Common.{sym}
-use Rattle.certificate_text.proofs.BadLines.{read_more, read_bad, read_asks, read_no_feed, read_too_early, read_all, no_bytes, some_bytes}
+use Rattle.certificate_text.proofs.Finishing.{asks_text, text_finished}
 use Rattle.certificate_text.proofs.reading.read_text_body.Goals as goal
 
-pub returns-in-Err-Memory-clause-error : goal.returns-in-Err-Memory-clause-error
-returns-in-Err-Memory-clause-error c =
-    read_asks c.args.text.now c.loop-line.rest.now c.in-Some.line.now c.in-Some.after.now c.loop-line.draft c.loop-line.number c.loop-line.invariant
-    c.in-Some.ensures.0 (rw c.in-Err-Memory.field-0-is at c.in-Err-Memory.ensures)
+pub finish-requires : goal.finish-requires
+finish-requires c = let is = c.in-Ok.ensures.ok in (is.0, is.1)
 
-pub returns-in-Err-Fault-clause-error : goal.returns-in-Err-Fault-clause-error
-returns-in-Err-Fault-clause-error c =
-    read_bad c.args.text.now c.loop-line.rest.now c.in-Some.line.now c.in-Some.after.now c.loop-line.draft c.loop-line.number c.loop-line.invariant
-    c.in-Some.ensures.0 (rw c.in-Err-Fault.field-0-is at c.in-Err-Fault.ensures)
+pub returns-in-Ok-finish-clause-ok : goal.returns-in-Ok-finish-clause-ok
+returns-in-Ok-finish-clause-ok c =
+    text_finished c.args.text.now c.in-Ok.draft c.in-Ok-finish.certificate c.in-Ok.ensures.ok c.in-Ok-finish.ensures.ok
 
-pub loop-line-preserved : goal.loop-line-preserved
-loop-line-preserved c =
-    let taken = c.in-Ok.ensures in
-    read_more c.args.text.now c.loop-line.rest.now c.in-Some.line.now c.in-Some.after.now c.loop-line.draft c.take_line.new.draft c.loop-line.number taken.0
-    c.loop-line.invariant c.in-Some.ensures.0 c.in-Some.ensures.1 taken.1 taken.2
-
-pub returns-then-not-is_empty-clause-error : goal.returns-then-not-is_empty-clause-error
-returns-then-not-is_empty-clause-error c =
-    read_no_feed c.args.text.now c.loop-line.rest.now c.loop-line.draft c.loop-line.number c.loop-line.invariant c.in_default.ensures
-    (some_bytes c.loop-line.rest.now c.is_empty.result c.is_empty.ensures c.if-not-is_empty.true)
-
-pub returns-in-Some-finish-clause-ok : goal.returns-in-Some-finish-clause-ok
-returns-in-Some-finish-clause-ok c =
-    read_all c.args.text.now c.loop-line.rest.now c.loop-line.draft c.loop-line.number c.in-Some-finish.certificate c.loop-line.invariant c.in_default.ensures
-    (no_bytes c.loop-line.rest.now c.is_empty.result c.is_empty.ensures c.if-not-is_empty.false) (sym c.in-Some-finish.ensures)
-
-pub returns-in-None-clause-error : goal.returns-in-None-clause-error
-returns-in-None-clause-error c =
-    read_too_early c.args.text.now c.loop-line.rest.now c.loop-line.draft c.loop-line.number c.loop-line.invariant c.in_default.ensures
-    (sym c.in-None.ensures)
+pub returns-in-Err-finish-clause-error : goal.returns-in-Err-finish-clause-error
+returns-in-Err-finish-clause-error c = asks_text c.args.text.now c.in-Ok.draft c.in-Ok.ensures.ok c.in-Err-finish.ensures.err

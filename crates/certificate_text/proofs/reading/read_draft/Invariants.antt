@@ -1,6 +1,6 @@
 use Rattle.std.proofs.Common.{length}
 use Rattle.certificate_text.proofs.BadLines.{IsReadTo}
-use Rattle.certificate_text.proofs.reading.read_text_body.Given as goal
+use Rattle.certificate_text.proofs.reading.read_draft.Given as goal
 
 abbrev pub invariant-loop-line : goal.invariant-loop-line
 invariant-loop-line l = IsReadTo l.text l.rest l.draft l.number
