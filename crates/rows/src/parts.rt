@@ -65,13 +65,27 @@ fn push_parts(
     if has_none(offers, at, held, span) {
         return parts.push_from(moved, offers, at);
     }
+    push_cut(parts, offers, at, held)
+}
+
+/// Adds the parts of an offer of which a CPU is held.
+// Not inlined: inlined, it makes a stack slot for the set of the offer, which is cleared for each other offer too.
+#[inline(never)]
+fn push_cut(parts: &mut Offers, offers: &Offers, at: usize, held: &IdSet) -> Result<(), AllocError>
+    requires place { at < length offers.now }
+    requires distances { IsTrue (are_distances offers.now) }
+    requires some { IsTrue (list_all has_some offers.now) }
+    ensures { (d : Offer) → OnOk result (parts.new ≡ parts.old ++ parted held.now (slice_index_or offers.now at d)) }
+{
+    let distance = u64::from(offers.weight(at));
     let kept = Cost { distance, moves: 0 }.weight();
+    let anew = Cost { distance, moves: 1 }.weight();
     let cpus = offers.offer(at).cpus;
     push_some(parts, kept, cpus.meet(held))?;
     if are_few(parts, offers.ranges(at)) && !cpus.is_subset(held) {
-        return parts.push_without(moved, offers, at, held);
+        return parts.push_without(anew, offers, at, held);
     }
-    push_some(parts, moved, cpus.minus(held))
+    push_some(parts, anew, cpus.minus(held))
 }
 
 /// Whether the offer that was added last has few ranges beside those of a whole one. To cut out a range that stands
