@@ -168,6 +168,11 @@ impl Offers {
         self.sets.ranges(at)
     }
 
+    /// Whether the CPUs of an offer are kept as a set. Where none are, [`Offers::wide`] has nothing to lend.
+    pub fn has_wide(&self) -> bool {
+        self.sets.has_wide()
+    }
+
     /// The CPUs of the offer at a place, where they are kept as a set, as most of more than 64 ranges are.
     pub fn wide(&self, at: usize) -> Option<&IdSet>
         requires { at < length self.now }

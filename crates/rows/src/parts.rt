@@ -4,6 +4,7 @@ ghost use Rattle.std.specs.Prelude.{IsTrue, OnOk};
 ghost use Rattle.std.specs.List.{flat_map, list_all};
 ghost use Rattle.std.specs.FinSet as set;
 ghost use Rattle.cpu_set.specs.Ranges.{in_ranges};
+ghost use Rattle.certificate.specs.Packed.{packed};
 ghost use Rattle.certificate.specs.declared.Offer.{Offer};
 ghost use Rattle.rows.specs.Offers.{has_some};
 ghost use Rattle.rows.specs.Scaled.{are_distances, parted};
@@ -62,9 +63,28 @@ fn push_parts(
 {
     let distance = u64::from(offers.weight(at));
     let moved = Cost { distance, moves: 1 }.weight();
-    if has_none(offers, at, held, span) {
+    if is_unheld(offers, at, held, span) {
         return parts.push_from(moved, offers, at);
     }
+    push_cut(parts, offers, at, held, moved)
+}
+
+/// Adds the parts of an offer of which a CPU is held, with the weight of those of its CPUs that are not.
+// Not inlined: inlined, it makes a stack slot for the set of the offer, which is cleared for each other offer too.
+#[inline(never)]
+fn push_cut(
+    parts: &mut Offers,
+    offers: &Offers,
+    at: usize,
+    held: &IdSet,
+    moved: u32,
+) -> Result<(), AllocError>
+    requires place { at < length offers.now }
+    requires distances { IsTrue (are_distances offers.now) }
+    requires moved { (d : Offer) → moved ≡ packed (slice_index_or offers.now at d).weight 1 }
+    ensures { (d : Offer) → OnOk result (parts.new ≡ parts.old ++ parted held.now (slice_index_or offers.now at d)) }
+{
+    let distance = u64::from(offers.weight(at));
     let kept = Cost { distance, moves: 0 }.weight();
     let cpus = offers.offer(at).cpus;
     push_some(parts, kept, cpus.meet(held))?;
@@ -82,7 +102,7 @@ fn are_few(parts: &Offers, whole: &[(u16, u16)]) -> bool {
 
 /// Whether no CPU of an offer is held, where all that are held are in the span. It is seen by its set, where that is
 /// at hand, or else by its ranges.
-fn has_none(offers: &Offers, at: usize, held: &IdSet, span: Span) -> bool
+fn is_unheld(offers: &Offers, at: usize, held: &IdSet, span: Span) -> bool
     requires place { at < length offers.now }
     requires span { (n : ℕ) → set.contains held.now n ≡ true → (span.first ≤ n) × (n ≤ span.last) }
     ensures { (d : Offer) → IsTrue result → (n : ℕ) → set.contains (slice_index_or offers.now at d).cpus n ≡ true

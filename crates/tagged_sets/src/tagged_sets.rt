@@ -222,15 +222,20 @@ impl<T: Copy> TaggedSets<T> {
         }
     }
 
+    /// Whether a set is kept beside its ranges. Where none is, [`TaggedSets::wide`] has nothing to lend.
+    pub fn has_wide(&self) -> bool {
+        !self.wide.is_empty()
+    }
+
     /// A set: as it is kept, or made of its ranges.
     pub fn cpus(&self, at: usize) -> IdSet
         requires { at < length self.now }
         ensures { (d : T × Ids) → result ≡ (slice_index_or self.now at d).1 }
     {
-        match self.wide(at) {
-            Some(kept) => *kept,
-            None => set_of(self.ranges(at)),
+        if self.wide.is_empty() {
+            return set_of(self.ranges(at));
         }
+        kept_or_made(self, at)
     }
 
     /// The CPUs that are in one of the sets.
@@ -277,6 +282,18 @@ fn start_of<T: Copy>(heads: &[Head<T>], at: usize) -> usize
     ensures { result ≡ start_at 0 heads.now at }
 {
     if at == 0 { 0 } else { heads[at - 1].end }
+}
+
+/// A set: as it is kept, or made of its ranges.
+#[inline(never)]
+fn kept_or_made<T: Copy>(sets: &TaggedSets<T>, at: usize) -> IdSet
+    requires { at < length sets.now }
+    ensures { (d : T × Ids) → result ≡ (slice_index_or sets.now at d).1 }
+{
+    match sets.wide(at) {
+        Some(kept) => *kept,
+        None => set_of(sets.ranges(at)),
+    }
 }
 
 /// The ranges from one place up to another.
@@ -469,7 +486,10 @@ fn set_of(ranges: &[(u16, u16)]) -> IdSet
     ensures { (n : ℕ) → set.contains result n ≡ in_ranges ranges.now n }
 {
     let mut cpus = IdSet::empty();
-    insert_all(&mut cpus, ranges);
+    for range in ranges {
+        let (first, last) = *range;
+        add_range(&mut cpus, first, last);
+    }
     cpus
 }
 

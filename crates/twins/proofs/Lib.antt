@@ -1,3 +1,4 @@
+pub mod SpanWeights
 pub mod AtHand
 pub mod Weights
 pub mod Sets

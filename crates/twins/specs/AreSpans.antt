@@ -38,6 +38,19 @@ abbrev pub MayBeAdded : List Offer → ℕ → List Ids → List Ids → Option 
 MayBeAdded offers at before after None = after ≡ before
 MayBeAdded offers at before after (Some place) = IsAddedAt offers at before after place
 
+-- no offer is noted
+pub record IsNothingNoted (spans : Spans) : Type 0 where
+  pub items : spans.items ≡ []
+  pub places : spans.places.items ≡ []
+  pub sets : spans.sets.items ≡ []
+
+-- each offer is noted, by its ranges or by a set at hand
+pub record AreNoted (offers : List Offer) (spans : Spans) : Type 0 where
+  pub each : All (IsSpan offers) spans.items
+  pub places : length spans.places.items ≡ length offers
+  pub made : (at place : ℕ) → slice_index_or spans.places.items at None ≡ Some place → IsMade offers spans.sets.items at place
+  pub at_hand : All (IsOfWeight offers) spans.sets.items
+
 -- the ranges have the weights of the offers, the set has the CPUs of the offers, and each set that was at hand or made
 -- for an offer has the CPUs of its weight
 pub record AreSpans (offers : List Offer) (spans : Spans) : Type 0 where

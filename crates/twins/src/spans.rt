@@ -4,7 +4,7 @@ ghost use Rattle.std.specs.FinSet as set;
 ghost use Rattle.certificate.specs.Limits.{offers_fit};
 ghost use Rattle.certificate.specs.Weight.{weight_in};
 ghost use Rattle.certificate.specs.declared.rows.Offer.{Offer};
-ghost use Rattle.twins.specs.AreSpans.{IsSpan, AreSpans, MayBeAdded};
+ghost use Rattle.twins.specs.AreSpans.{IsSpan, AreSpans, AreNoted, IsNothingNoted, MayBeAdded};
 
 use crate::span_list::{Span, SpanList};
 use certificate::Offers;
@@ -47,6 +47,36 @@ impl Spans {
         self.items.clear();
         self.places.clear();
         self.sets.clear();
+        if offers.has_wide() && offers.are_rising() {
+            self.note_with_sets(offers)?;
+        } else {
+            self.note_ranges(offers)?;
+        }
+        self.at_hand = self.sets.len();
+        self.cpus = *cpus;
+        Ok(())
+    }
+
+    /// Notes offers of which none has its set at hand.
+    fn note_ranges(&mut self, offers: &Offers) -> Result<(), AllocError>
+        requires fit { IsTrue (offers_fit offers.now) }
+        requires none { IsNothingNoted self.old }
+        ensures { OnOk result (AreNoted offers.now self.new) }
+    {
+        for at in 0..offers.len() {
+            self.items.add(offers.ranges(at), offers.weight(at))?;
+            self.places.push(None)?;
+        }
+        Ok(())
+    }
+
+    /// Notes offers of which some have their sets at hand. Not inlined: few machines have such.
+    #[inline(never)]
+    fn note_with_sets(&mut self, offers: &Offers) -> Result<(), AllocError>
+        requires fit { IsTrue (offers_fit offers.now) }
+        requires none { IsNothingNoted self.old }
+        ensures { OnOk result (AreNoted offers.now self.new) }
+    {
         for at in 0..offers.len() {
             let place = add_at_hand(&mut self.sets, offers, at)?;
             if place.is_none() {
@@ -54,8 +84,6 @@ impl Spans {
             }
             self.places.push(place)?;
         }
-        self.at_hand = self.sets.len();
-        self.cpus = *cpus;
         Ok(())
     }
 

@@ -1,7 +1,7 @@
 use Rattle.std.proofs.Common.{◌≡◌, ℕ, None, Some, length, get_or}
 use Rattle.std.specs.List.{All}
 use Rattle.twins.specs.AreSpans.{IsMade, IsOfWeight, IsSpan}
-use Rattle.twins.proofs.spans.Spans.note.Given as goal
+use Rattle.twins.proofs.spans.Spans.note_with_sets.Given as goal
 
 abbrev pub invariant-loop-at : goal.invariant-loop-at
 invariant-loop-at l = record {
