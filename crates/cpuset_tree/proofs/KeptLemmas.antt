@@ -1,9 +1,12 @@
 -- What a tree keeps of its groups, through a change of one of them.
-use Rattle.std.proofs.Common.{◌≡◌, ◌≢◌, ℕ, ◌≤◌, true, false, List, [], ◌∷◌, refl, sym, ap, ◌∙◌, subst, eq-eqb, eqb-true, arith, drop, suc, zero}
+use Rattle.std.proofs.Common.{◌≡◌, ◌≢◌, ℕ, ◌≤◌, ◌++◌, true, false, List, [], ◌∷◌, refl, sym, ap, ◌∙◌, subst, eq-eqb, eqb-true, arith, drop, suc, zero}
 use Rattle.std.proofs.lemmas.Bool.{or_parts, both_ways}
 use Rattle.std.proofs.lemmas.Option.{same_Some, none-some}
-use Rattle.std.specs.Prelude.{Option, Some, None, is_some, ◌==◌}
-use Rattle.std.specs.List.{list_any}
+use Rattle.std.specs.Prelude.{Option, Some, None, is_some, option_map, Bool, ◌==◌, ◌&&◌, nat_eq}
+use Rattle.std.specs.List.{find, list_any}
+use Rattle.std.specs.Option.{option_or}
+use Rattle.std.specs.Cmp.Lexicographic.{pointwise}
+use Rattle.std.proofs.lemmas.List.Folds.{find-append}
 use Rattle.slab.specs.Slab.{Slab, get}
 use Rattle.cpu_set.specs.Ids.{Ids}
 use Rattle.cpuset_tree.specs.declared.groups.Group.{Group}
@@ -11,7 +14,7 @@ use Rattle.cpuset_tree.specs.declared.groups.Cgroup.{Cgroup}
 use Rattle.cpuset_tree.specs.declared.groups.Resource.{Resource}
 use Rattle.cpuset_tree.specs.declared.groups.Resource.TheVariants.{Cpus, Mems}
 use Rattle.cpuset_tree.specs.TreeState.{GroupEntry}
-use Rattle.cpuset_tree.specs.Groups.{same_group, entry_among}
+use Rattle.cpuset_tree.specs.Groups.{same_group, entry_among, is_parent, child_among}
 use Rattle.cpuset_tree.specs.Effective.{standing, effective}
 use Rattle.cpuset_tree.specs.TreeWellFormed.{ParentIsAmong, IsFalling}
 use Rattle.cpuset_tree.specs.Kept.{entry_of_kept, before, listed, HasParentAmong, IsInOrder, IsOrder, share_of, requested_of, KeepsEffective, AllKept, effective_kept}
@@ -20,6 +23,31 @@ use Rattle.cpuset_tree.specs.GroupLemmas.{same_group-key, entry_among-there, eff
 -- the group under a key that has one stands before the older ones
 pub listed_at : (s : Slab Cgroup) (key : ℕ) (older : List ℕ) (n : Cgroup) → get s key ≡ Some n → listed s (key ∷ older) ≡ entry_of_kept n ∷ listed s older
 listed_at s key older n at = ap (λ (o : Option Cgroup). before o (listed s older)) at
+
+-- the groups of two lists of keys
+before-append : (kept : Option Cgroup) (xs ys : List GroupEntry) → before kept (xs ++ ys) ≡ before kept xs ++ ys
+before-append None xs ys = refl
+before-append (Some n) xs ys = refl
+
+pub listed-append : (s : Slab Cgroup) (keys more : List ℕ) → listed s (keys ++ more) ≡ listed s keys ++ listed s more
+listed-append s [] more = refl
+listed-append s (key ∷ keys) more =
+    ap (λ (l : List GroupEntry). before (get s key) l) (listed-append s keys more) ∙ before-append (get s key) (listed s keys) (listed s more)
+
+-- a child among the groups of two lists of keys
+mapped-or : (a b : Option GroupEntry) → option_map (λ (e : GroupEntry). e.group) (option_or a b)
+    ≡ option_or (option_map (λ (e : GroupEntry). e.group) a) (option_map (λ (e : GroupEntry). e.group) b)
+mapped-or None b = refl
+mapped-or (Some e) b = refl
+
+pub child_in_two : (s : Slab Cgroup) (newer older keys : List ℕ) (parent : Group) (name : List ℕ) → newer ++ older ≡ keys
+    → child_among (listed s keys) parent name ≡ option_or (child_among (listed s newer) parent name) (child_among (listed s older) parent name)
+child_in_two s newer older keys parent name both =
+    let is_it : GroupEntry → Bool = λ e. is_parent e.parent parent && pointwise nat_eq e.name name in
+    ap (λ (k : List ℕ). child_among (listed s k) parent name) (sym both)
+    ∙ ap (λ (l : List GroupEntry). child_among l parent name) (listed-append s newer older)
+    ∙ ap (λ (o : Option GroupEntry). option_map (λ (e : GroupEntry). e.group) o) (find-append is_it (listed s newer) (listed s older))
+    ∙ mapped-or (find is_it (listed s newer)) (find is_it (listed s older))
 
 -- a key whose group is as new as this is not among the older keys
 pub key_is_absent : (s : Slab Cgroup) (next : ℕ) (keys : List ℕ) → IsInOrder s next keys → (key : ℕ) (n : Cgroup) → get s key ≡ Some n → next ≤ n.group.serial

@@ -1,10 +1,10 @@
 ghost use Rattle.std.specs.Prelude.{◌≡◌, nat_eq, string_bytes};
 ghost use Rattle.std.specs.Cmp.Lexicographic.{pointwise};
-ghost use Rattle.cpuset_tree.specs.Groups.{is_parent};
+ghost use Rattle.cpuset_tree.specs.Groups.{child_among, is_parent};
 ghost use Rattle.cpuset_tree.specs.Effective.{granted};
 ghost use Rattle.cpu_set.specs.Members.{IsCpu};
 ghost use Rattle.cpuset_tree.specs.Near.{having};
-ghost use Rattle.cpuset_tree.specs.Kept.{ChangesAt, share_of, unrequested, with_requested, with_effective, may_change};
+ghost use Rattle.cpuset_tree.specs.Kept.{ChangesAt, listed, share_of, unrequested, with_requested, with_effective, may_change};
 
 use cpu_set::IdSet;
 use slab::Slab;
@@ -146,6 +146,25 @@ impl Cgroup {
             _ => self.group.serial == written,
         }
     }
+}
+
+/// The parent's child of this name, if it is among the groups of these keys.
+pub fn child_among(
+    groups: &Slab<Cgroup>,
+    keys: &[usize],
+    parent: Group,
+    name: &str,
+) -> Option<Group>
+    ensures { result ≡ child_among (listed groups.now keys.now) parent name.now }
+{
+    for key in keys {
+        if let Some(kept) = groups.get(*key) {
+            if kept.is_named(name) && kept.is_child_of(parent) {
+                return Some(kept.group);
+            }
+        }
+    }
+    None
 }
 
 /// What a group that requests these has in effect of what its parent has: all of it, where it requests none of it.

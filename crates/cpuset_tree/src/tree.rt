@@ -10,7 +10,7 @@ ghost use Rattle.cpuset_tree.specs.Places.{place_of, place_behind};
 ghost use Rattle.cpuset_tree.specs.TreeWellFormed.{IsWellFormed};
 ghost use Rattle.cpuset_tree.specs.TreeLaws.{RunsUpThePath};
 
-use crate::groups::{Cgroup, Resource, Shares, request_at};
+use crate::groups::{Cgroup, Resource, Shares, child_among, request_at};
 use crate::one_cpu::refresh_online;
 use crate::refresh::refresh_written;
 use crate::{Group, SERIAL_LIMIT, TreeFault};
@@ -149,14 +149,11 @@ impl Tree {
     fn child(&self, parent: Group, name: &str) -> Option<Group>
         ensures { result ≡ child_of self.now parent name.now }
     {
-        for place in 0..self.order.len() {
-            if let Some(kept) = self.groups.get(self.order[place]) {
-                if kept.is_named(name) && kept.is_child_of(parent) {
-                    return Some(kept.group);
-                }
-            }
+        let (newer, older) = self.order.as_slices();
+        match child_among(&self.groups, newer, parent, name) {
+            Some(group) => Some(group),
+            None => child_among(&self.groups, older, parent, name),
         }
-        None
     }
 
     fn has_children(&self, group: Group) -> bool
