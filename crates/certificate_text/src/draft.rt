@@ -7,7 +7,7 @@ ghost use Rattle.certificate_text.specs.LineRead.{line_view};
 ghost use Rattle.certificate_text.specs.Takes.{Takes};
 
 use crate::bad_line::BadLine;
-use crate::held::{sets_of, values_of};
+use crate::held::lists_of;
 use crate::line::{Line, second_word};
 use crate::line_words::{Hold, Total};
 use crate::stage::Stage;
@@ -325,8 +325,7 @@ impl<'a> Draft<'a> {
                 weights: self.weights,
             });
         };
-        let sets = sets_of(alloc, &self.held)?;
-        let values = values_of(alloc, &self.held)?;
+        let (sets, values) = lists_of(alloc, &self.held)?;
         Ok(Certificate::Plan {
             problem,
             plan: Plan { sets },
