@@ -7,6 +7,8 @@ mod conditions;
 #[cfg(test)]
 mod hand_over;
 mod requirements;
+#[cfg(test)]
+mod wide_offers;
 
 pub use conditions::{finish, handover, step, step_out};
 pub use requirements::{are_placed, may_begin};
