@@ -57,7 +57,7 @@ rest_same a b r q rs qs one two same ends n =
     (cases_lt r.1 n)
 
 -- rising ranges with the same numbers are the same
-same_ranges : (a b : ℕ) (rs qs : List (ℕ × ℕ)) → AreRuns a rs → AreRuns b qs → ((n : ℕ) → in_ranges rs n ≡ in_ranges qs n) → rs ≡ qs
+pub same_ranges : (a b : ℕ) (rs qs : List (ℕ × ℕ)) → AreRuns a rs → AreRuns b qs → ((n : ℕ) → in_ranges rs n ≡ in_ranges qs n) → rs ≡ qs
 same_ranges a b [] [] one two same = refl
 same_ranges a b [] (q ∷ qs) one two same = absurd (true≢false (sym (first_in q qs q.0 (omega arith) two.1) ∙ sym (same q.0)))
 same_ranges a b (r ∷ rs) [] one two same = absurd (true≢false (sym (first_in r rs r.0 (omega arith) one.1) ∙ same r.0))

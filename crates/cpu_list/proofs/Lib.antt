@@ -7,6 +7,7 @@ pub mod Printed
 pub mod RangeReads
 pub mod RangeText
 pub mod ReadSteps
+pub mod RisingSteps
 pub mod RoundTrip
 pub mod SetTexts
 pub mod TextBytes

@@ -6,4 +6,5 @@ pub mod FirstFaults
 pub mod ItemFaults
 pub mod ListText
 pub mod Plain
+pub mod RisingList
 pub mod TextAfter

@@ -89,6 +89,8 @@ fn front_number(text: &[u8], limit: u16) -> (u16, usize)
 
 /// The first and the last number of a list's first item, and its length, where it has no blank and is right under the
 /// limit. It is read in one go; of most lists this is each item.
+// Inlined: a call for each item would cost as much as the item.
+#[inline(always)]
 pub(crate) fn read_plain(text: &[u8], limit: u16) -> Option<(u16, u16, usize)>
     ensures plain { IfSome result (λ r. IsPlain text.now r.0 r.1 r.2) }
     ensures right { IfSome result (λ r. (r.0 ≤ r.1) × (r.1 < limit)) }

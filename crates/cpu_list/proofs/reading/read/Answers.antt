@@ -1,6 +1,8 @@
 use Rattle.std.proofs.Common.{◌∙◌, ap}
 use Rattle.std.specs.List.{before_first}
 use Rattle.std.proofs.lemmas.List.{take_rest}
+use Rattle.std.specs.FinSet as set
+use Rattle.cpu_set.specs.Pointwise.{contains-empty}
 use Rattle.cpu_list.specs.ListText.{is_comma, item_of}
 use Rattle.cpu_list.specs.FirstFault.{item_fault}
 use Rattle.cpu_list.specs.FirstFaults.{first_decides}
@@ -8,7 +10,7 @@ use Rattle.cpu_list.proofs.ReadSteps.{IsRead-none, IsRead-more, IsRead-fault, Is
 use Rattle.cpu_list.proofs.reading.read.Goals as goal
 
 pub loop-at-init : goal.loop-at-init
-loop-at-init c = IsRead-none _ _ _ c.empty-set.ensures
+loop-at-init c = IsRead-none _ _ _ (λ n. ap (λ s. set.contains s n) c.empty-set.ensures ∙ contains-empty n)
 
 pub returns-in-Err : goal.returns-in-Err
 returns-in-Err c =
