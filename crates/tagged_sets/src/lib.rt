@@ -6,8 +6,9 @@
 //!
 //! # Proved
 //!
-//! - `TaggedSets` is a list of sets with tags, to which sets are added. Those of another list are added as they are
-//!   (`push_from`) or less some CPUs (`push_without`). If an allocation fails nothing changes.
+//! - `TaggedSets` is a list of sets with tags, to which sets are added (`push`), also by their ranges (`push_ranges`).
+//!   Those of another list are added as they are (`push_from`) or less some CPUs (`push_without`). If an allocation
+//!   fails nothing changes.
 //! - It gives the tag, the set and the ranges of each, all CPUs in one of them (`all`), and a copy. A set that `wide`
 //!   hands out is the one at its place. `is_same` says exactly whether two such lists are the same.
 //! - How sets are kept no contract mentions.

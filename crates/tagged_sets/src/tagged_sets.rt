@@ -115,6 +115,31 @@ impl<T: Copy> TaggedSets<T> {
         Ok(())
     }
 
+    /// Adds the set of these ranges with its tag behind the others: they are copied as they stand, and a set is made of
+    /// them only where they are many. O(r) of r ranges.
+    ///
+    /// # Errors
+    /// An allocation failure, which changes nothing.
+    pub fn push_ranges(&mut self, tag: T, ranges: &[(u16, u16)]) -> Result<(), AllocError>
+        requires { IsOfSet ranges.now }
+        ensures ok { OnOk result (self.new ≡ self.old ++ (tag, set_of_ranges ranges.now) ∷ []) }
+        ensures err { OnErr result (self.new ≡ self.old) }
+    {
+        self.ranges.reserve(ranges.len())?;
+        if self.heads.reserve(1).is_err() {
+            return Err(AllocError);
+        }
+        let place = self.heads.len();
+        keep_made(&mut self.wide, place, ranges)?;
+        let head = Head {
+            tag,
+            end: self.ranges.len() + ranges.len(),
+        };
+        self.heads.push(head)?;
+        self.ranges.extend_from_slice(ranges)?;
+        Ok(())
+    }
+
     /// Adds a set of another list, less the CPUs of `without`, with a tag of its own behind the others: no set is made
     /// of ranges. Those that have none of these CPUs are copied as they stand, and the others are cut. Where the set is
     /// kept and many ranges are left, what is left of it is kept too. O(r + c + w) of its r ranges, where c are cut out
@@ -439,6 +464,18 @@ fn keep_same(wide: &mut Vec<WideSet>, place: usize, kept: Option<&IdSet>) -> Res
         }
         None => Ok(()),
     }
+}
+
+/// Keeps the set of these ranges if they are many.
+fn keep_made(wide: &mut Vec<WideSet>, place: usize, ranges: &[(u16, u16)]) -> Result<(), AllocError>
+    requires { IsOfSet ranges.now }
+    ensures ok { OnOk result (MayKeep wide.old.items wide.new.items place (set_of_ranges ranges.now)) }
+    ensures err { OnErr result (wide.new.items ≡ wide.old.items) }
+{
+    if ranges.len() <= WIDE {
+        return Ok(());
+    }
+    keep_same(wide, place, Some(&set_of(ranges)))
 }
 
 /// Keeps what is left of a set that is at hand, if its ranges are many.
