@@ -5,6 +5,7 @@ ghost use Rattle.certificate.specs.Weight.{weight_in};
 ghost use Rattle.cpu_set.specs.Ranges.{in_ranges};
 ghost use Rattle.certificate.specs.Limits.{are_apart};
 ghost use Rattle.certificate.specs.RisingOffers.{AreRising};
+ghost use Rattle.tagged_sets.specs.Tagged.{IsOfSet, set_of_ranges};
 
 use crate::Offer;
 use crate::set_checks::are_apart;
@@ -78,6 +79,22 @@ impl Offers {
         let rises = u64::from(weight) >= self.least();
         self.sets.push_from(weight, &other.sets, at)?;
         self.is_rising = self.is_rising && rises;
+        Ok(())
+    }
+
+    /// Adds the offer of the CPUs in these ranges after the others. O(r) of r ranges.
+    ///
+    /// # Errors
+    /// An allocation failure, which changes nothing.
+    pub fn push_ranges(&mut self, weight: u32, ranges: &[(u16, u16)]) -> Result<(), AllocError>
+        requires { IsOfSet ranges.now }
+        ensures ok { OnOk result (self.new ≡ self.old
+            ++ (record { weight = weight; cpus = set_of_ranges ranges.now }) ∷ []) }
+        ensures err { OnErr result (self.new ≡ self.old) }
+    {
+        let least = self.least();
+        self.sets.push_ranges(weight, ranges)?;
+        self.is_rising = self.is_rising && u64::from(weight) >= least;
         Ok(())
     }
 
