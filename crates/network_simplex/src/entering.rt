@@ -16,6 +16,8 @@ pub(crate) struct Entering {
 pub(crate) struct Search {
     /// The class that is looked at next.
     class: usize,
+    /// How much further in the ring of the classes the one behind it is.
+    stride: usize,
     /// After so many arcs the best of them is taken, if one is good.
     block: usize,
     /// How many more arcs may be looked at.
@@ -23,16 +25,17 @@ pub(crate) struct Search {
 }
 
 impl Search {
-    /// A block is about the root of the number of arcs over two, as it does well in practice.
-    pub(crate) fn new(arcs: usize, most: usize) -> Search {
+    /// A block is from 4 to 9 tenths of the root of the number of arcs, as it does well in practice.
+    pub(crate) fn new(arcs: &Arcs, most: usize) -> Search {
         let mut block = 8usize;
         for _ in 0..32 {
-            if block.wrapping_mul(block).wrapping_mul(4) < arcs {
+            if block.wrapping_mul(block).wrapping_mul(5) < arcs.len() {
                 block = block.wrapping_add(block);
             }
         }
         Search {
             class: 0,
+            stride: stride_over(arcs.classes()),
             block,
             left: most,
         }
@@ -51,9 +54,9 @@ impl Search {
             let among = arcs.of_class(self.class);
             best = cheapest(among, tree, self.class, best);
             looked = looked.wrapping_add(among.len());
-            self.class = self.class.wrapping_add(1);
+            self.class = self.class.wrapping_add(self.stride);
             if self.class >= arcs.classes() {
-                self.class = 0;
+                self.class = self.class.wrapping_sub(arcs.classes());
             }
             if looked >= self.block {
                 self.left = self.left.saturating_sub(looked);
@@ -65,6 +68,34 @@ impl Search {
         }
         if best.row == NONE { None } else { Some(best) }
     }
+}
+
+/// A stride that comes to all of so many classes before it comes to one again: the golden section of their number or a little
+/// more, as in Fibonacci hashing (Knuth, 1973). So a few classes in turn are spread over all of them (three-gap theorem).
+///
+/// Classes next to each other have much the same arcs: with a stride of 1 some nested lists take three times as many pivots, of
+/// which each looks at four times as many arcs.
+fn stride_over(classes: usize) -> usize {
+    let mut stride = classes.wrapping_mul(377) / 610;
+    for _ in 0..classes {
+        if common_divisor(stride, classes) == 1 {
+            break;
+        }
+        stride = stride.wrapping_add(1);
+    }
+    stride
+}
+
+/// The greatest common divisor (Euclid).
+fn common_divisor(a: usize, b: usize) -> usize {
+    let (mut a, mut b) = (a, b);
+    for _ in 0..b {
+        if a == 0 {
+            break;
+        }
+        (a, b) = (b % a, a);
+    }
+    b
 }
 
 /// The arc of least reduced cost to a class, if that is below that of the best one so far.

@@ -12,7 +12,7 @@ const LOOKS_AN_ARC: usize = 512;
 
 /// Pivots until no arc makes the plan cheaper, or the bounds are reached.
 pub(crate) fn pivot_all(tree: &mut Tree, arcs: &Arcs) {
-    let mut search = Search::new(arcs.len(), arcs.len().wrapping_mul(LOOKS_AN_ARC));
+    let mut search = Search::new(arcs, arcs.len().wrapping_mul(LOOKS_AN_ARC));
     for _ in 0..tree.len().wrapping_mul(PIVOTS_A_NODE) {
         let Some(entering) = search.next(arcs, tree) else {
             break;
