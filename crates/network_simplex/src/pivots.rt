@@ -42,11 +42,11 @@ fn pivot(tree: &mut Tree, entering: Entering) {
         tree.add_flow(entering.class, leaving.top, more, less);
     }
     if leaving.is_on_row_side {
-        tree.hang_anew(leaving.node, entering.row, entering.class, leaving.amount);
-        tree.raise(entering.row, 0i64.wrapping_sub(entering.reduced), NONE);
+        let more = 0i64.wrapping_sub(entering.reduced);
+        tree.hang_anew(leaving.node, entering.row, entering.class, leaving.amount, more);
     } else {
-        tree.hang_anew(leaving.node, entering.class, entering.row, leaving.amount);
-        tree.raise(entering.class, entering.reduced, NONE);
+        let more = entering.reduced;
+        tree.hang_anew(leaving.node, entering.class, entering.row, leaving.amount, more);
     }
 }
 
@@ -101,7 +101,7 @@ fn hang_part(tree: &mut Tree, arcs: &Arcs, top: u32) {
         class: NONE,
         reduced: i64::MAX,
     };
-    tree.raise(top, 0, top);
+    tree.mark(top);
     for g in 0..arcs.classes() {
         let class = tree.node_of(g);
         if tree.node(class).part == top {
@@ -109,8 +109,7 @@ fn hang_part(tree: &mut Tree, arcs: &Arcs, top: u32) {
         }
     }
     if best.row != NONE {
-        tree.hang_anew(top, best.class, best.row, 0);
-        tree.raise(best.class, best.reduced, NONE);
+        tree.hang_anew(top, best.class, best.row, 0, best.reduced);
     }
 }
 

@@ -15,11 +15,10 @@ pub(crate) fn number_of(n: usize) -> u32 {
 /// What a CPU costs that a row has of nobody. No way through the tree costs as much.
 const UNSERVED: i64 = 1 << 38;
 
-/// A row, a class, or the root. Its children are a list.
+/// A row, a class, or the root. A thread goes through all nodes in preorder: behind each one comes what is below it.
 #[derive(Clone, Copy)]
 pub(crate) struct Node {
     pub parent: u32,
-    pub first: u32,
     next: u32,
     before: u32,
     pub depth: u32,
@@ -31,7 +30,6 @@ pub(crate) struct Node {
 
 const NOWHERE: Node = Node {
     parent: NONE,
-    first: NONE,
     next: NONE,
     before: NONE,
     depth: 0,
@@ -101,58 +99,106 @@ impl Tree {
     }
 
     fn hang_first(&mut self, at: u32, flow: u32, potential: i64) {
-        self.hang(at, self.root, flow);
+        self.put_behind(self.root, at, at);
         if let Some(node) = self.nodes.get_mut(at as usize) {
+            node.parent = self.root;
             node.depth = 1;
+            node.flow = flow;
         }
         if let Some(place) = self.potentials.get_mut(at as usize) {
             *place = potential;
         }
     }
 
-    /// Makes a node that has no parent the first child of another one.
-    fn hang(&mut self, at: u32, parent: u32, flow: u32) {
-        let mut next = NONE;
-        if let Some(above) = self.nodes.get_mut(parent as usize) {
-            next = above.first;
-            above.first = at;
-        }
-        if let Some(behind) = self.nodes.get_mut(next as usize) {
-            behind.before = at;
-        }
-        if let Some(node) = self.nodes.get_mut(at as usize) {
-            node.parent = parent;
+    /// Puts a piece of thread behind a node.
+    fn put_behind(&mut self, at: u32, first: u32, last: u32) {
+        let next = self.node(at).next;
+        self.link(at, first);
+        self.link(last, next);
+    }
+
+    /// Makes two nodes neighbours on the thread.
+    fn link(&mut self, before: u32, next: u32) {
+        if let Some(node) = self.nodes.get_mut(before as usize) {
             node.next = next;
-            node.before = NONE;
-            node.flow = flow;
+        }
+        if let Some(node) = self.nodes.get_mut(next as usize) {
+            node.before = before;
         }
     }
 
-    /// Takes a node out of its parent's children.
-    fn take_off(&mut self, node: Node) {
-        if let Some(before) = self.nodes.get_mut(node.before as usize) {
-            before.next = node.next;
-        } else if let Some(above) = self.nodes.get_mut(node.parent as usize) {
-            above.first = node.next;
-        }
-        if let Some(behind) = self.nodes.get_mut(node.next as usize) {
-            behind.before = node.before;
-        }
-    }
-
-    /// Hangs the part of the tree below `leaving` by another arc: from `at`, one of its nodes, to a node outside of it.
-    pub(crate) fn hang_anew(&mut self, leaving: u32, at: u32, by: u32, amount: u32) {
+    /// Hangs the part of the tree below `leaving` by another arc: from `at`, one of its nodes, to a node outside of it. Adds to
+    /// the potential of each node of the part.
+    pub(crate) fn hang_anew(&mut self, leaving: u32, at: u32, by: u32, amount: u32, more: i64) {
+        let top = at;
         let (mut at, mut parent, mut flow) = (at, by, amount);
+        let mut last = NONE;
         for _ in 0..self.nodes.len() {
             let before = self.node(at);
-            self.take_off(before);
-            self.hang(at, parent, flow);
+            let end = self.take_off(at, more, self.node(parent).depth.wrapping_add(1));
+            self.link(last, at);
+            last = end;
+            if let Some(node) = self.nodes.get_mut(at as usize) {
+                node.parent = parent;
+                node.flow = flow;
+            }
             if at == leaving {
                 break;
             }
             parent = at;
             flow = before.flow;
             at = before.parent;
+        }
+        self.put_behind(by, top, last);
+    }
+
+    /// Takes a node and all below it off the thread. Adds to the potential of each, and moves `top` to this depth. Returns the
+    /// last of them.
+    fn take_off(&mut self, top: u32, more: i64, depth: u32) -> u32 {
+        let before = self.node(top);
+        let deeper = depth.wrapping_sub(before.depth);
+        let mut last = top;
+        let mut at = self.shift(top, more, deeper);
+        for _ in 0..self.nodes.len() {
+            if self.node(at).depth <= before.depth {
+                break;
+            }
+            last = at;
+            at = self.shift(at, more, deeper);
+        }
+        self.link(before.before, at);
+        last
+    }
+
+    /// Adds to the potential of a node and to its depth; what comes behind it.
+    fn shift(&mut self, at: u32, more: i64, deeper: u32) -> u32 {
+        if let Some(potential) = self.potentials.get_mut(at as usize) {
+            *potential = potential.wrapping_add(more);
+        }
+        match self.nodes.get_mut(at as usize) {
+            Some(node) => {
+                node.depth = node.depth.wrapping_add(deeper);
+                node.next
+            }
+            None => NONE,
+        }
+    }
+
+    /// Marks a node and all below it as of the part that is named after it.
+    pub(crate) fn mark(&mut self, top: u32) {
+        let depth = self.node(top).depth;
+        let mut at = top;
+        for _ in 0..self.nodes.len() {
+            at = match self.nodes.get_mut(at as usize) {
+                Some(node) => {
+                    node.part = top;
+                    node.next
+                }
+                None => NONE,
+            };
+            if self.node(at).depth <= depth {
+                break;
+            }
         }
     }
 
@@ -176,53 +222,5 @@ impl Tree {
                 None => to,
             };
         }
-    }
-
-    /// Adds to the potential of each node from `top` down, counts their depths anew, and marks them as of a part.
-    pub(crate) fn raise(&mut self, top: u32, by: i64, part: u32) {
-        let mut at = top;
-        for _ in 0..self.nodes.len() {
-            let first = self.raise_one(at, by, part);
-            at = if first == NONE {
-                self.next_below(at, top)
-            } else {
-                first
-            };
-            if at == NONE {
-                break;
-            }
-        }
-    }
-
-    /// Adds to the potential of a node; its first child.
-    fn raise_one(&mut self, at: u32, by: i64, part: u32) -> u32 {
-        if let Some(potential) = self.potentials.get_mut(at as usize) {
-            *potential = potential.wrapping_add(by);
-        }
-        let depth = self.node(self.node(at).parent).depth.wrapping_add(1);
-        match self.nodes.get_mut(at as usize) {
-            Some(node) => {
-                node.depth = depth;
-                node.part = part;
-                node.first
-            }
-            None => NONE,
-        }
-    }
-
-    /// What comes behind a node and all below it, in the part below `top`.
-    fn next_below(&self, from: u32, top: u32) -> u32 {
-        let mut at = from;
-        for _ in 0..self.nodes.len() {
-            if at == top {
-                return NONE;
-            }
-            let node = self.node(at);
-            if node.next != NONE {
-                return node.next;
-            }
-            at = node.parent;
-        }
-        NONE
     }
 }
