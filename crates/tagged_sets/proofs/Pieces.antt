@@ -14,7 +14,8 @@ use Rattle.std.proofs.lemmas.List.{drop_all, get_or-drop, length-drop, length-ta
 use Rattle.std.proofs.lemmas.List.Folds.{list_any-append}
 use Rattle.std.specs.FinSet as set
 use Rattle.std.specs.Prelude.{All}
-use Rattle.tagged_sets.proofs.Sets.{in_of_set, in_range-ranges, runs_of_set}
+use Rattle.tagged_sets.proofs.Sets.{in_range-ranges, runs_of_set}
+use Rattle.tagged_sets.specs.RangeSets.{in_of_set}
 use Rattle.tagged_sets.specs.CutOut.{IsCut, IsRun}
 use Rattle.tagged_sets.specs.Tagged.{IsOfSet, ranges_of_set, set_of_ranges}
 

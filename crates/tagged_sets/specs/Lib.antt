@@ -1,2 +1,3 @@
 pub mod CutOut
+pub mod RangeSets
 pub mod Tagged
