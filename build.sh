@@ -1,12 +1,12 @@
 #!/usr/bin/env bash
-# Proves what the program needs and nothing else, crates that don't wait for one another side by side, as many as there are
-# processors or as are said, and builds it. That is done in out/build, where the list of crates has these alone, beside links to
-# their files; what is kept moves there and back.
-# Usage: bash build.sh [JOBS]
+# Proves what the program needs and nothing else, and builds it: first the crates that others can be proved beside, then one after
+# another those that all wait for, since one check alone takes more processors than one of several. That is done in out/build,
+# where the list of crates has these alone, beside links to their files; what is kept moves there and back.
+# Usage: bash build.sh
 set -euo pipefail
 cd "$(dirname "${BASH_SOURCE[0]}")"
-jobs=${1:-$(nproc)}
 room=$PWD/out/build
+last=(solution node runtime cli numarun)
 
 back() {
     for kept in "$room"/crates/*/out; do
@@ -14,18 +14,30 @@ back() {
     done
     rm -rf "$room"
 }
+
+# Puts a crate into out/build.
+put() {
+    mkdir -p "$room/crates/$1"
+    find "crates/$1" -mindepth 1 -maxdepth 1 ! -name out -exec cp -al {} "$room/crates/$1" \;
+    [ ! -d "crates/$1/out" ] || mv "crates/$1/out" "$room/crates/$1"
+}
+
 back
 trap back EXIT
 mkdir -p "$room"
 cp HANDLES "$room"
 # The lowest crates stand first: from the end on, each that is needed is named before its own line comes.
 tac crates.txt | awk -F'[: ]+' 'BEGIN { need["numarun"] } !/^#/ && $1 in need { print; for (i = 2; i <= NF; i++) need[$i] }' \
-    | tac >"$room/crates.txt"
+    | tac >"$room/needed.txt"
+grep -vE "^($(IFS='|'; echo "${last[*]}")):" "$room/needed.txt" >"$room/crates.txt"
 for name in $(cut -d: -f1 "$room/crates.txt"); do
-    mkdir -p "$room/crates/$name"
-    find "crates/$name" -mindepth 1 -maxdepth 1 ! -name out -exec cp -al {} "$room/crates/$name" \;
-    [ ! -d "crates/$name/out" ] || mv "crates/$name/out" "$room/crates/$name"
+    put "$name"
 done
-(cd "$room" && rt all check --jobs "$jobs")
+(cd "$room" && rt all check)
+mv "$room/needed.txt" "$room/crates.txt"
+for name in "${last[@]}"; do
+    put "$name"
+    (cd "$room/crates/$name" && rt check)
+done
 back
 (cd crates/numarun && rt run -- --version)

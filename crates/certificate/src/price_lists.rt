@@ -2,7 +2,6 @@ ghost use Rattle.std.specs.Prelude.{◌≡◌, ℕ, ◌<◌, ◌++◌, [], ◌�
 ghost use Rattle.std.specs.FinSet as set;
 ghost use Rattle.cpu_set.specs.Ranges.{in_ranges};
 ghost use Rattle.certificate.specs.Limits.{are_apart};
-ghost use Rattle.tagged_sets.specs.Tagged.{IsOfSet, set_of_ranges};
 
 use crate::set_checks::are_apart;
 use cpu_set::{CPU_LIMIT, IdSet};
@@ -80,19 +79,6 @@ impl PriceList {
         ensures err { OnErr result (self.new ≡ self.old) }
     {
         self.sets.push(price.amount, &price.cpus)
-    }
-
-    /// Adds the price of the CPUs in these ranges after the others. O(r) of r ranges.
-    ///
-    /// # Errors
-    /// An allocation failure, which changes nothing.
-    pub fn push_ranges(&mut self, amount: u64, ranges: &[(u16, u16)]) -> Result<(), AllocError>
-        requires { IsOfSet ranges.now }
-        ensures ok { OnOk result (self.new ≡ self.old
-            ++ (record { amount = amount; cpus = set_of_ranges ranges.now }) ∷ []) }
-        ensures err { OnErr result (self.new ≡ self.old) }
-    {
-        self.sets.push_ranges(amount, ranges)
     }
 
     /// How many prices there are.

@@ -4,7 +4,8 @@ ghost use Rattle.cpuset_tree.specs.Groups.{child_among, is_parent};
 ghost use Rattle.cpuset_tree.specs.Effective.{granted};
 ghost use Rattle.cpu_set.specs.Members.{IsCpu};
 ghost use Rattle.cpuset_tree.specs.Near.{having};
-ghost use Rattle.cpuset_tree.specs.Kept.{ChangesAt, listed, share_of, unrequested, with_requested, with_effective, may_change};
+ghost use Rattle.cpuset_tree.specs.Kept.{ChangesAt, listed, share_of, unrequested};
+ghost use Rattle.cpuset_tree.specs.Kept.{with_requested, with_effective, may_change};
 
 use cpu_set::IdSet;
 use slab::Slab;

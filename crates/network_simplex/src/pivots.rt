@@ -43,10 +43,22 @@ fn pivot(tree: &mut Tree, entering: Entering) {
     }
     if leaving.is_on_row_side {
         let more = 0i64.wrapping_sub(entering.reduced);
-        tree.hang_anew(leaving.node, entering.row, entering.class, leaving.amount, more);
+        tree.hang_anew(
+            leaving.node,
+            entering.row,
+            entering.class,
+            leaving.amount,
+            more,
+        );
     } else {
         let more = entering.reduced;
-        tree.hang_anew(leaving.node, entering.class, entering.row, leaving.amount, more);
+        tree.hang_anew(
+            leaving.node,
+            entering.class,
+            entering.row,
+            leaving.amount,
+            more,
+        );
     }
 }
 

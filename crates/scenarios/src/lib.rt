@@ -6,6 +6,8 @@ mod calls;
 mod conditions;
 #[cfg(test)]
 mod hand_over;
+#[cfg(test)]
+mod plain_lists;
 mod requirements;
 #[cfg(test)]
 mod wide_offers;

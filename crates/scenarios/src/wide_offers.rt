@@ -3,8 +3,10 @@
 ghost use Rattle.std.specs.Prelude.{◌≤◌};
 
 use certificate::{Offer, Offers};
+use certificate_text::read_problem;
+use cpu_list::print;
 use cpu_set::IdSet;
-use std::alloc::AllocError;
+use std::alloc::{AllocError, Global};
 use std::test::Fail;
 
 /// Offers of more ranges than this lend a set.
@@ -72,5 +74,31 @@ fn offers_of_another_list_lend_a_set_as_they_did_there(rt: HostRuntime) -> Resul
     assert_eq!(rt; lends(&others, 2, &every_second(MOST + 1)), true);
     assert_eq!(rt; others.len(), 4);
     assert_eq!(rt; lent(&others, 3), false);
+    Ok(())
+}
+
+/// A problem's text, whose one row has the offers of [`add_both`].
+fn text_of_both(alloc: Global) -> Result<String, AllocError> {
+    let mut text = String::from_str(alloc, "numarun-problem 1\nrow a 1 10:")?;
+    text.push_str(print(alloc, &every_second(MOST))?.as_str())?;
+    text.push_str(" 20:")?;
+    text.push_str(print(alloc, &every_second(MOST + 1))?.as_str())?;
+    text.push_str("\nend\n")?;
+    Ok(text)
+}
+
+#[test]
+fn offers_of_a_text_lend_a_set_as_others_do(rt: HostRuntime) -> Result<(), Fail> {
+    let text = text_of_both(rt.alloc())?;
+    let mut right = 0;
+    if let Ok(problem) = read_problem(rt.alloc(), text.as_bytes()) {
+        for row in &problem.rows {
+            assert_eq!(rt; row.offers.len(), 2);
+            assert_eq!(rt; lent(&row.offers, 0), false);
+            assert_eq!(rt; lends(&row.offers, 1, &every_second(MOST + 1)), true);
+            right += 1;
+        }
+    }
+    assert_eq!(rt; right, 1);
     Ok(())
 }

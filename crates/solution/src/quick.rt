@@ -10,7 +10,7 @@ use transport::{Answer, TurnLimit, solve, solve_within};
 
 /// For each turn that the solver may take at first, so many more when all rows have their CPUs. So it goes on where it takes about
 /// as long as network simplex, and where turns rise with each row it stops early.
-const MORE_BEHIND: u64 = 13;
+const MORE_BEHIND: u64 = 7;
 
 /// How many rows and CPUs together there were for each row where the limit was measured.
 const NODES_A_ROW: u64 = 5;
