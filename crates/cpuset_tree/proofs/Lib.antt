@@ -4,6 +4,7 @@ pub mod PlaceLemmas
 pub mod ShareLemmas
 pub mod ChangeLemmas
 pub mod ParentLemmas
+pub mod MarkLemmas
 pub mod RefreshLemmas
 pub mod OneCpuLemmas
 pub mod LeafLemmas

@@ -1,5 +1,5 @@
 -- How a `Tree` keeps its groups, and what it keeps of them. No public clause cites this module.
-use Rattle.std.specs.Prelude.{◌≡◌, ◌≢◌, ℕ, ◌<◌, ◌≤◌, Bool, true, false, ◌||◌, ◌==◌, nat_le, nat_lt, if◌then◌else◌, List, [], ◌∷◌, Option, Some, None, is_some, option_map, string_bytes}
+use Rattle.std.specs.Prelude.{◌≡◌, ◌≢◌, ℕ, ◌+◌, ◌*◌, ◌%◌, ◌^◌, ◌<◌, ◌≤◌, Bool, true, false, ◌||◌, ◌==◌, nat_le, nat_lt, if◌then◌else◌, List, [], ◌∷◌, Option, Some, None, is_some, option_map, string_bytes, length, slice_index_or}
 use Rattle.std.specs.List.{list_any}
 use Rattle.std.specs.FinSet as set
 use Rattle.slab.specs.Slab.{Slab, get}
@@ -166,3 +166,21 @@ bare r n = with_effective r set.empty n
 -- the groups are the same, except for what is kept as effective of a resource
 abbrev pub OnlyKeptDiffers : Resource → Slab Cgroup → Slab Cgroup → Type 0
 OnlyKeptDiffers r old new = (key : ℕ) → option_map (bare r) (get new key) ≡ option_map (bare r) (get old key)
+
+-- a number that the bytes of a name lead to from another
+abbrev pub mark_from : ℕ → List ℕ → ℕ
+mark_from mark [] = mark
+mark_from mark (byte ∷ bytes) = mark_from (((mark * 16777619) % 2 ^ 32 + byte) % 2 ^ 32) bytes
+
+-- the mark of a parent's child of this name
+abbrev pub mark_of : Group → List ℕ → ℕ
+mark_of parent name = mark_from (parent.serial % 2 ^ 32) name
+
+-- the mark of each child stands at its key
+abbrev pub AreMarked : Slab Cgroup → List ℕ → Type 0
+AreMarked s marks = (key : ℕ) (n : Cgroup) (p : Group) → get s key ≡ Some n → n.parent ≡ Some p
+    → (key < length marks) × (slice_index_or marks key 0 ≡ mark_of p (string_bytes n.name))
+
+-- the numbers at other places than this one are the same
+abbrev pub AreSameBut : ℕ → List ℕ → List ℕ → Type 0
+AreSameBut key old new = (k : ℕ) → k ≢ key → k < length old → (k < length new) × (slice_index_or new k 0 ≡ slice_index_or old k 0)

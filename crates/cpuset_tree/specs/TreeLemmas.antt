@@ -205,7 +205,7 @@ found_entry test next (h ∷ older) (below, up, rest) e at =
           )
     ] refl
 
-is_parent-some : (o : Option Group) (g : Group) → is_parent o g ≡ true → o ≡ Some g
+pub is_parent-some : (o : Option Group) (g : Group) → is_parent o g ≡ true → o ≡ Some g
 is_parent-some None g h = absurd (both_ways false refl h)
 is_parent-some (Some p) g h = ap Some (same_group-equal p g h)
 

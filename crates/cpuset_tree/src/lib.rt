@@ -11,6 +11,7 @@
 mod fault;
 mod groups;
 pub mod laws;
+mod marks;
 mod one_cpu;
 mod refresh;
 mod tree;

@@ -11,6 +11,7 @@ ghost use Rattle.cpuset_tree.specs.TreeWellFormed.{IsWellFormed};
 ghost use Rattle.cpuset_tree.specs.TreeLaws.{RunsUpThePath};
 
 use crate::groups::{Cgroup, Resource, Shares, child_among, request_at};
+use crate::marks::{forget_mark, has_mark, mark_of, note_mark};
 use crate::one_cpu::refresh_online;
 use crate::refresh::refresh_written;
 use crate::{Group, SERIAL_LIMIT, TreeFault};
@@ -27,14 +28,17 @@ use std::marker::Model;
 /// requests are, or all of its parent's where it requests none of them.
 ///
 /// What is in effect is kept up to date by the writes, so that each read takes O(1) steps. Of g groups `find`, `make`
-/// and `remove` take O(g); `write_cpus` and `write_mems` O(1) where the group is newer than each group with children,
-/// else O(g); `set_online` O(g), and where one CPU goes or comes, for most groups by a few tests of single CPUs.
+/// and `remove` take O(g), where the first two mostly look at one number of each group if no child has the name;
+/// `write_cpus` and `write_mems` O(1) where the group is newer than each group with children, else O(g); `set_online`
+/// O(g), and where one CPU goes or comes, for most groups by a few tests of single CPUs.
 #[derive(Drop)]
 pub struct Tree {
     alloc: Global,
     groups: Slab<Cgroup>,
     // The keys of the groups, the newest first.
     order: VecDeque<usize>,
+    // The mark of the group under each key.
+    marks: Vec<u32>,
     root: Group,
     // No group has a newer parent than the one of this serial.
     newest_parent: u64,
@@ -50,7 +54,7 @@ impl Model for Tree {
 
     ghost coded = { tree_code };
 
-    ghost use Rattle.cpuset_tree.specs.Kept.{listed, IsSound, AreParentsUpTo};
+    ghost use Rattle.cpuset_tree.specs.Kept.{listed, IsSound, AreParentsUpTo, AreMarked};
 
     ghost view = { λ t. record {
       groups = listed t.groups t.order.items;
@@ -60,7 +64,7 @@ impl Model for Tree {
     } };
 
     ghost invariant = { λ t. IsSound t.groups t.order.items t.online t.nodes t.root t.next_serial
-        × AreParentsUpTo t.groups t.newest_parent };
+        × AreParentsUpTo t.groups t.newest_parent × AreMarked t.groups t.marks.items };
 }
 
 impl Tree {
@@ -99,6 +103,7 @@ impl Tree {
             alloc,
             groups,
             order,
+            marks: Vec::new(alloc),
             root,
             newest_parent: 0,
             online,
@@ -149,6 +154,9 @@ impl Tree {
     fn child(&self, parent: Group, name: &str) -> Option<Group>
         ensures { result ≡ child_of self.now parent name.now }
     {
+        if !has_mark(self.marks.as_slice(), mark_of(parent, name)) {
+            return None;
+        }
         let (newer, older) = self.order.as_slices();
         match child_among(&self.groups, newer, parent, name) {
             Some(group) => Some(group),
@@ -234,6 +242,7 @@ impl Tree {
             key: self.groups.vacant_key(),
             serial: self.next_serial,
         };
+        note_mark(&mut self.marks, group.key, mark_of(parent, name.as_str()))?;
         self.order.push_front(group.key)?;
         self.groups.insert_reserved(Cgroup {
             group,
@@ -285,6 +294,7 @@ impl Tree {
         ensures { self.new ≡ without_group self.old group }
     {
         let _ = self.groups.try_remove(group.key);
+        forget_mark(&mut self.marks, group.key);
         self.order.retain(|key| *key != group.key);
     }
 

@@ -12,11 +12,12 @@ use Rattle.cpuset_tree.specs.Groups.{has_group}
 use Rattle.cpuset_tree.specs.Effective.{effective, effective_cpus, effective_mems}
 use Rattle.cpuset_tree.specs.TreeChanges.{new_entry}
 use Rattle.cpuset_tree.specs.TreeAnswers.{AddsGroup}
-use Rattle.cpuset_tree.specs.Kept.{IsSound, AreParentsUpTo, entry_of_kept, listed, share_of, unrequested, requested_of, top_of}
+use Rattle.cpuset_tree.specs.Kept.{IsSound, AreParentsUpTo, AreMarked, mark_of, entry_of_kept, listed, share_of, unrequested, requested_of, top_of}
 use Rattle.cpuset_tree.proofs.ChangeLemmas.{not_found}
 use Rattle.cpuset_tree.proofs.SoundLemmas.{IsSound-room, IsSound-added, listed-added}
 use Rattle.std.proofs.lemmas.Option.{none-some}
 use Rattle.cpuset_tree.proofs.ParentLemmas.{AreParentsUpTo-added}
+use Rattle.cpuset_tree.proofs.MarkLemmas.{AreMarked-vacant, AreMarked-added}
 use Rattle.cpuset_tree.proofs.tree.Tree.add.Goals as goal
 
 -- a new group has all of its parent's
@@ -32,6 +33,17 @@ invariant_of-self c =
       subst (λ (s : Slab Cgroup). IsSound s i.order.items i.online i.nodes i.root i.next_serial) (sym c.in_err-reserve.ensures.rest_kept)
           (IsSound-room i.groups c.reserve.new.self.capacity i.order.items i.online i.nodes i.root i.next_serial c.self.invariant.0),
       subst (λ (s : Slab Cgroup). AreParentsUpTo s i.newest_parent) (sym c.in_err-reserve.ensures.rest_kept) c.self.invariant.1,
+      subst (λ (s : Slab Cgroup). AreMarked s i.marks.items) (sym c.in_err-reserve.ensures.rest_kept) c.self.invariant.2,
+    )
+
+pub invariant_of-self-in_err-note_mark : goal.invariant_of-self-in_err-note_mark
+invariant_of-self-in_err-note_mark c =
+    let i = c.self.inside in (
+      subst (λ (s : Slab Cgroup). IsSound s i.order.items i.online i.nodes i.root i.next_serial) (sym c.in_ok-reserve.ensures.rest_kept)
+          (IsSound-room i.groups c.reserve.new.self.capacity i.order.items i.online i.nodes i.root i.next_serial c.self.invariant.0),
+      subst (λ (s : Slab Cgroup). AreParentsUpTo s i.newest_parent) (sym c.in_ok-reserve.ensures.rest_kept) c.self.invariant.1,
+      AreMarked-vacant c.reserve.new.self c.vacant_key.result i.marks.items c.note_mark.new.marks.items c.vacant_key.ensures.vacant c.note_mark.ensures.others
+          (subst (λ (s : Slab Cgroup). AreMarked s i.marks.items) (sym c.in_ok-reserve.ensures.rest_kept) c.self.invariant.2),
     )
 
 pub invariant_of-self-in_err-push_front : goal.invariant_of-self-in_err-push_front
@@ -41,6 +53,8 @@ invariant_of-self-in_err-push_front c =
           (subst (λ (l : List ℕ). IsSound (record i.groups { capacity = c.reserve.new.self.capacity }) l i.online i.nodes i.root i.next_serial) (sym c.in_err-push_front.ensures.items)
           (IsSound-room i.groups c.reserve.new.self.capacity i.order.items i.online i.nodes i.root i.next_serial c.self.invariant.0)),
       subst (λ (s : Slab Cgroup). AreParentsUpTo s i.newest_parent) (sym c.in_ok-reserve.ensures.rest_kept) c.self.invariant.1,
+      AreMarked-vacant c.reserve.new.self c.vacant_key.result i.marks.items c.note_mark.new.marks.items c.vacant_key.ensures.vacant c.note_mark.ensures.others
+          (subst (λ (s : Slab Cgroup). AreMarked s i.marks.items) (sym c.in_ok-reserve.ensures.rest_kept) c.self.invariant.2),
     )
 
 pub invariant_of-self-2 : goal.invariant_of-self-2
@@ -68,6 +82,10 @@ invariant_of-self-2 c =
           (mems_given ∙ ap (λ (s : TreeState). unrequested (effective_mems s c.args.parent)) (sym c.self.view_is)))),
       AreParentsUpTo-added roomy c.insert_reserved.new.self key i.newest_parent c.max-self-inside.result n c.args.parent
           (subst (λ (s : Slab Cgroup). Updates s c.insert_reserved.new.self key (Some n)) kept updates) refl (omega arith) (omega arith) c.self.invariant.1,
+      AreMarked-added c.reserve.new.self c.insert_reserved.new.self key n c.args.parent c.note_mark.new.marks.items updates refl c.in_ok-note_mark.ensures.within
+          (c.in_ok-note_mark.ensures.noted ∙ c.mark_of.ensures ∙ ap (mark_of c.args.parent) c.as_str.ensures.value)
+          (AreMarked-vacant c.reserve.new.self key i.marks.items c.note_mark.new.marks.items c.vacant_key.ensures.vacant c.note_mark.ensures.others
+          (subst (λ (s : Slab Cgroup). AreMarked s i.marks.items) (sym kept) c.self.invariant.2)),
     )
 
 pub returns-clause-ok : goal.returns-clause-ok

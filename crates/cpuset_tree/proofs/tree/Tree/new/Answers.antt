@@ -18,6 +18,7 @@ use Rattle.cpuset_tree.specs.Kept.{IsSound, HasParentAmong, KeepsEffective, entr
 use Rattle.cpuset_tree.specs.Effective.{standing, effective}
 use Rattle.cpuset_tree.proofs.KeptLemmas.{listed_at}
 use Rattle.cpuset_tree.proofs.ParentLemmas.{AreParentsUpTo-first}
+use Rattle.cpuset_tree.proofs.MarkLemmas.{AreMarked-first}
 use Rattle.cpuset_tree.proofs.tree.Tree.new.Goals as goal
 
 -- a slab of the root alone is sound
@@ -68,6 +69,7 @@ invariant_of-result c =
           (first_sound c.reserve.new.self c.insert_reserved.new.self c.args.online c.args.nodes root n updates empty
           refl refl (ap (λ (x : Shares). x.cpus) shares_given) (ap (λ (x : Shares). x.mems) shares_given)),
       AreParentsUpTo-first c.reserve.new.self c.insert_reserved.new.self key n updates empty refl,
+      AreMarked-first c.reserve.new.self c.insert_reserved.new.self key n _ updates empty refl,
     )
 
 pub returns : goal.returns

@@ -8,6 +8,7 @@ use Rattle.cpuset_tree.proofs.PlaceLemmas.{SamePlaces-from_kept}
 use Rattle.cpuset_tree.proofs.RefreshLemmas.{ElsewhereGranted-written, group_at-written}
 use Rattle.cpuset_tree.proofs.ParentLemmas.{AreParentsUpTo-same}
 use Rattle.cpuset_tree.proofs.WriteLemmas.{written_places, written_order, written_sound, listed-request, with_request_is}
+use Rattle.cpuset_tree.proofs.MarkLemmas.{AreMarked-same, SameNames-from_kept, SameNames-requested}
 use Rattle.cpuset_tree.proofs.tree.Tree.request.Goals as goal
 
 pub refresh_written-requires-clause-in_order : goal.refresh_written-requires-clause-in_order
@@ -50,6 +51,10 @@ invariant_of-self c =
           (λ k. SamePlaces-from_kept c.args.resource c.request_at.new.groups c.refresh_written.new.groups c.refresh_written.ensures.same k
           ∙ written_places c.args.resource c.args.ids i.groups c.request_at.new.groups i.order.items i.online i.nodes i.root i.next_serial c.args.group c.self.invariant.0 c.request_at.ensures k)
           c.self.invariant.1,
+      AreMarked-same i.groups c.refresh_written.new.groups i.marks.items
+          (λ k. SameNames-from_kept c.args.resource c.request_at.new.groups c.refresh_written.new.groups c.refresh_written.ensures.same k
+          ∙ SameNames-requested c.args.resource c.args.ids i.groups c.request_at.new.groups c.args.group.key c.request_at.ensures k)
+          c.self.invariant.2,
     )
 
 pub returns : goal.returns

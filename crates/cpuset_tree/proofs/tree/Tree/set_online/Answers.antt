@@ -8,6 +8,7 @@ use Rattle.std.proofs.Common.{ap, ◌∙◌}
 use Rattle.cpuset_tree.specs.TreeState.{TreeState}
 use Rattle.cpuset_tree.specs.TreeChanges.{with_online}
 use Rattle.cpuset_tree.proofs.WriteLemmas.{SameHeld-from_kept, IsSound-refreshed, listed-kept}
+use Rattle.cpuset_tree.proofs.MarkLemmas.{AreMarked-same, SameNames-from_kept}
 use Rattle.cpuset_tree.proofs.tree.Tree.set_online.Goals as goal
 
 pub refresh_online-requires-clause-granted : goal.refresh_online-requires-clause-granted
@@ -29,6 +30,7 @@ invariant_of-self c =
           (SameHeld-from_kept Cpus i.groups c.refresh_online.new.groups c.refresh_online.ensures.same)
           refl c.refresh_online.ensures.kept,
       AreParentsUpTo-same i.groups c.refresh_online.new.groups i.newest_parent (SamePlaces-from_kept Cpus i.groups c.refresh_online.new.groups c.refresh_online.ensures.same) c.self.invariant.1,
+      AreMarked-same i.groups c.refresh_online.new.groups i.marks.items (SameNames-from_kept Cpus i.groups c.refresh_online.new.groups c.refresh_online.ensures.same) c.self.invariant.2,
     )
 
 pub returns : goal.returns

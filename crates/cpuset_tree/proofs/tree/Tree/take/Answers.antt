@@ -9,6 +9,7 @@ use Rattle.cpuset_tree.proofs.CgroupLemmas.{KeptThere, kept_there}
 use Rattle.cpuset_tree.proofs.ChangeLemmas.{listed-removed}
 use Rattle.cpuset_tree.proofs.SoundLemmas.{IsSound-removed}
 use Rattle.cpuset_tree.proofs.ParentLemmas.{AreParentsUpTo-removed}
+use Rattle.cpuset_tree.proofs.MarkLemmas.{AreMarked-removed}
 use Rattle.cpuset_tree.proofs.tree.Tree.take.Goals as goal
 
 pub invariant_of-self : goal.invariant_of-self
@@ -24,6 +25,7 @@ invariant_of-self c =
           (ap (λ (s : TreeState). has_children s g) c.self.view_is ∙ c.requires.childless)
           c.try_remove.ensures.updates),
       AreParentsUpTo-removed i.groups c.try_remove.new.self g.key i.newest_parent c.try_remove.ensures.updates c.self.invariant.1,
+      AreMarked-removed i.groups c.try_remove.new.self g.key i.marks.items c.forget_mark.new.marks.items c.try_remove.ensures.updates c.forget_mark.ensures c.self.invariant.2,
     )
 
 pub returns : goal.returns
