@@ -1,10 +1,12 @@
 #!/usr/bin/env bash
-# Proves what the program needs and nothing else, and builds it: first the crates that others can be proved beside, then one after
-# another those that all wait for, since one check alone takes more processors than one of several. That is done in out/build,
-# where the list of crates has these alone, beside links to their files; what is kept moves there and back.
-# Usage: bash build.sh
+# Proves what the program needs and nothing else, and builds it: first the crates that others can be proved beside, as many at a time
+# as there are processors or as are said, then one after another those that wait for all before, since one check alone takes more
+# processors than one of several. That is done in out/build, where the list of crates has these alone, beside links to their files;
+# what is kept moves there and back.
+# Usage: bash build.sh [CRATES]
 set -euo pipefail
 cd "$(dirname "${BASH_SOURCE[0]}")"
+crates=${1:-$(nproc)}
 room=$PWD/out/build
 last=(solution node runtime cli numarun)
 
@@ -33,10 +35,12 @@ grep -vE "^($(IFS='|'; echo "${last[*]}")):" "$room/needed.txt" >"$room/crates.t
 for name in $(cut -d: -f1 "$room/crates.txt"); do
     put "$name"
 done
-(cd "$room" && rt all check)
+(cd "$room" && rt all check --jobs "$crates")
 mv "$room/needed.txt" "$room/crates.txt"
 for name in "${last[@]}"; do
     put "$name"
+done
+for name in "${last[@]}"; do
     (cd "$room/crates/$name" && rt check)
 done
 back
