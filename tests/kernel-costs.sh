@@ -2,7 +2,7 @@
 # What calls of the modelled kernel and steps of a hand-over take with 1,024 groups, in instructions, which are the same
 # whatever else a machine does: none may take more than its bound, far above what it takes and far below what a walk over all
 # groups or processes would, or, where a CPU goes or comes, all sets in effect worked out anew, or, where a deep group is read,
-# a walk up its path. TOOLS in the environment is counted in place of the program that this builds. Where there is no
+# a walk up its path, or, where a name is sought that no group has, a look at each group's name. TOOLS in the environment is counted in place of the program that this builds. Where there is no
 # valgrind it says so, and shows nothing.
 set -euo pipefail
 . "$(cd "$(dirname "$0")/.." && pwd)/benches/build-tools.sh"
@@ -18,10 +18,19 @@ chain() {
     for ((k = 0; k < $1; k++)); do echo 'cpus.effective 1000'; done
 }
 
-# counted WORD COUNT: the instructions of a benchmark, or of a chain
+# siblings COUNT: the lines of a kernel with 1,000 groups below its root, and of so many looks for a name that none has
+siblings() {
+    echo '0-63 0 0-63 0 2'
+    seq -f 'make 0 container-%g' 0 999
+    for ((k = 0; k < $1; k++)); do echo 'find 0 container-x'; done
+}
+
+# counted WORD COUNT: the instructions of a benchmark, or of the lines of a kernel
 counted() {
     local words=("$1" "$2") lines=
-    [ "$1" != chain ] || words=(kernel 0) lines=$(chain "$2")
+    case $1 in
+    chain | siblings) words=(kernel 0) lines=$("$1" "$2") ;;
+    esac
     valgrind --tool=callgrind --callgrind-out-file=/dev/null "$tools" "${words[@]}" <<<"$lines" 2>&1 >/dev/null |
         awk '/Collected/ { print $4 }'
 }
@@ -39,5 +48,6 @@ takes 'a CPU that goes or comes, and what a leaf has in effect' online-changes 1
 takes 'a fork and an exit with 10,000 children alive' forks 20000 30000 3000
 takes 'a fork, and an exit once all have forked' forks-and-exits 10000 40000 3000
 takes 'a read of what the last of 1,000 nested groups has in effect, with its line' chain 100 1100 30000
+takes 'a look for a name that none of 1,000 groups has, with its line' siblings 100 1100 8000
 takes 'a hand-over of 1,024 containers, 2,048 writes' hand-overs 0 1 560000000
 exit "$failed"

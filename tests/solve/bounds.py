@@ -11,8 +11,8 @@ from callgrind import has_valgrind, instructions
 from families import FAMILIES, HARD, text
 
 # How many millions of instructions 256 rows on 1,023 CPUs may take. The first three take 5,100, 2,300 and 4,700 by the solver alone. The
-# others take few turns of it, and half as much again or more by network simplex.
-BOUNDS = {"products": 1600, "geometric": 1550, "last-takes-all": 1650, "spread-95": 450, "held-pairs-2-nodes-95": 30, "nested": 340}
+# others take few turns of it.
+BOUNDS = {"products": 1000, "geometric": 1000, "last-takes-all": 1000, "spread-95": 335, "held-pairs-2-nodes-95": 16, "nested": 225}
 
 
 def main(program):

@@ -8,15 +8,16 @@ use network_simplex::propose;
 use std::alloc::{AllocError, Global};
 use transport::{Answer, TurnLimit, solve, solve_within};
 
-/// For each turn that the solver may take at first, so many more when all rows have their CPUs. So it goes on where it takes about
-/// as long as network simplex, and where turns rise with each row it stops early.
+/// For each turn that the solver may take at first, so many more when all rows have their CPUs. So it goes on for half as
+/// long as network simplex takes, or about as long where there are many rows; and where turns rise with each row it stops
+/// early.
 const MORE_BEHIND: u64 = 7;
 
-/// How many rows and CPUs together there were for each row where the limit was measured.
-const NODES_A_ROW: u64 = 5;
+/// How many rows there were where the limit was measured. With fewer rows it is no lower for that.
+const MEASURED_ROWS: u64 = 256;
 
-/// The root of the number of rows there. With fewer rows the limit is no lower for that.
-const LEAST_TIMES: u64 = 16;
+/// What the limit is divided by, to be what was measured there, with five rows and CPUs together for each row.
+const SCALE: u64 = 80;
 
 /// What the solver answers, where that takes few turns. Else a plan that network simplex finds; and where it finds none,
 /// what the solver answers in as many turns as it takes. Of several plans of the least cost it may be another one than
@@ -46,10 +47,10 @@ pub(crate) fn quick_answer(alloc: Global, problem: &Problem) -> Result<Answer, A
     }
 }
 
-/// How many turns are few for these rows: about as many as take as long as network simplex.
+/// How many turns are few for these rows: such as take about as long as network simplex, or half as long.
 ///
-/// A turn is a row, which looks at its offers, or a class, which takes few steps. There are about as many classes for a row as it asks
-/// for CPUs. And the more rows there are, the fewer steps a turn takes, and the more network simplex does.
+/// A turn is a row, which looks at its offers, or a class, which takes few steps. There are about as many classes for a
+/// row as it asks for CPUs. And the more rows there are, the fewer steps a turn takes, and the more network simplex does.
 fn limit_of(rows: &[Row]) -> TurnLimit {
     let mut asked = 0u64;
     let mut offers = 0u64;
@@ -59,8 +60,8 @@ fn limit_of(rows: &[Row]) -> TurnLimit {
     }
     let count = rows.len() as u64;
     let nodes = count.saturating_add(asked);
-    let times = count.isqrt().max(LEAST_TIMES);
-    let unit = count.saturating_mul(nodes).saturating_mul(times) / NODES_A_ROW;
+    let times = count.max(MEASURED_ROWS);
+    let unit = count.saturating_mul(nodes).saturating_mul(times) / SCALE;
     let first = unit.saturating_mul(asked);
     let behind = unit.saturating_mul(MORE_BEHIND);
     TurnLimit {
