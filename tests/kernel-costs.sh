@@ -2,8 +2,8 @@
 # What calls of the modelled kernel and steps of a hand-over take with 1,024 groups, in instructions, which are the same
 # whatever else a machine does: none may take more than its bound, far above what it takes and far below what a walk over all
 # groups or processes would, or, where a CPU goes or comes, all sets in effect worked out anew, or, where a deep group is read,
-# a walk up its path, or, where a name is sought that no group has, a look at each group's name. TOOLS in the environment is counted in place of the program that this builds. Where there is no
-# valgrind it says so, and shows nothing.
+# a walk up its path, or, where a name is sought that no group has, a look at each group's name. TOOLS in the environment is
+# counted in place of the program that this builds. Where there is no valgrind it says so, and shows nothing.
 set -euo pipefail
 . "$(cd "$(dirname "$0")/.." && pwd)/benches/build-tools.sh"
 if ! command -v valgrind >/dev/null; then
