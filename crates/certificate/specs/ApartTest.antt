@@ -10,7 +10,7 @@ use Rattle.cpu_set.specs.Ids.{Ids, IsDisjoint}
 use Rattle.cpu_set.specs.Pointwise.{contains-union}
 use Rattle.cpu_set.specs.SetLaws.{meet_empty-IsDisjoint, IsDisjoint-meet_empty}
 use Rattle.certificate.specs.Limits.{is_disjoint, are_apart}
-use Rattle.certificate.specs.Tests.{and_left, and_right}
+use Rattle.certificate.specs.Tests.{true_left, true_right}
 use Rattle.std.proofs.Math.Bool.{and-false}
 
 pub is_disjoint-true : (s t : Ids) → IsDisjoint s t → is_disjoint s t ≡ true
@@ -32,10 +32,10 @@ module _ {A : Type 0} (set_of : A → Ids) where
       (xs : List A) (s : Ids) → is_clear xs s ≡ true → (c : ℕ) → is_in_one xs c ≡ true → set.contains s c ≡ true → ⊥
   clear_says [] s clear c one here = both_ways false refl one
   clear_says (x ∷ xs) s clear c one here =
-      by_cases (set.contains (set_of x) c) refl one (λ more. clear_says xs s (and_right _ _ clear) c more here)
+      by_cases (set.contains (set_of x) c) refl one (λ more. clear_says xs s (true_right _ _ clear) c more here)
     where
       by_cases : (b : Bool) → set.contains (set_of x) c ≡ b → (b || is_in_one xs c) ≡ true → (is_in_one xs c ≡ true → ⊥) → ⊥
-      by_cases true e one rest = is_disjoint-says (set_of x) s (and_left _ _ clear) c e here
+      by_cases true e one rest = is_disjoint-says (set_of x) s (true_left _ _ clear) c e here
       by_cases false e one rest = rest one
 
   clear_true :
@@ -108,4 +108,4 @@ module _ {A : Type 0} (set_of : A → Ids) where
       true_from_ne_false _ (λ fails. both_ways _ (are_apart_front (take (k + 1) xs) (drop (k + 1) xs) fails) (ap (are_apart set_of) (take-append-drop (k + 1) xs) ∙ apart)) in
       let parts : (are_apart set_of (take k xs) && is_clear (take k xs) (set_of x)) ≡ true =
       sym (are_apart_push (take k xs) x) ∙ ap (λ y. are_apart set_of (take k xs ++ y ∷ [])) is ∙ ap (are_apart set_of) (sym (take_more xs k x lt)) ∙ front in
-      false_from_ne_true _ (λ one. clear_says (take k xs) (set_of x) (and_right _ _ parts) c one here)
+      false_from_ne_true _ (λ one. clear_says (take k xs) (set_of x) (true_right _ _ parts) c one here)

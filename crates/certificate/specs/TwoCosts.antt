@@ -18,7 +18,7 @@ use Rattle.certificate.specs.declared.limits.TheConstants.{MOVE_SCALE}
 use Rattle.certificate.specs.Packed.{distance_of, moves_of, packed-parts, no_farther}
 use Rattle.certificate.specs.Scaled.{with_weight, with_weights, by_distance, by_moves, is_scaled, are_scaled, CostSplits, SamePlans, MovesAreFew, LeastIsNearest}
 use Rattle.certificate.specs.ScaledLaws.{weight_with}
-use Rattle.certificate.specs.Tests.{and_left, and_right, one_at_most}
+use Rattle.certificate.specs.Tests.{true_left, true_right, one_at_most}
 use Rattle.certificate.specs.Sums.{sum_by_same, sum_by_plus, sum_by_times, sum_by-constant}
 use Rattle.certificate.specs.Cpus.{sum_by-cpus-le, length-cpus}
 use Rattle.certificate.specs.Apart.{sums_of_sets}
@@ -102,7 +102,7 @@ cost_splits = cost_splits_by distance_of moves_of MOVE_SCALE packed-parts
 move_or_none : (offers : List Offer) (c : ℕ) → list_all is_scaled offers ≡ true → unwrap_or (weight_in (map (with_weight moves_of) offers) c) 0 ≤ 1
 move_or_none [] c scaled = omega arith
 move_or_none (o ∷ offers) c scaled =
-    by_cases (set.contains o.cpus c) (leb-true _ _ (and_left _ _ scaled)) (move_or_none offers c (and_right _ _ scaled))
+    by_cases (set.contains o.cpus c) (leb-true _ _ (true_left _ _ scaled)) (move_or_none offers c (true_right _ _ scaled))
   where
     by_cases :
         (b : Bool) → moves_of o.weight ≤ 1 → unwrap_or (weight_in (map (with_weight moves_of) offers) c) 0 ≤ 1
@@ -119,8 +119,8 @@ moves_are_held (row ∷ rows) (s ∷ sets) scaled =
       arith,
       sum_by-cons (λ (e : RowView × Ids). row_cost e.0 e.1) (with_weights moves_of row, s) (zip (by_moves rows) sets),
       sum_by-cons (λ (t : Ids). sum_by (λ _. 1) (members t)) s sets,
-      sum_by-le-sum_by (λ c. unwrap_or (weight (with_weights moves_of row) c) 0) (λ _. 1) (members s) (λ c. move_or_none row.offers c (and_left _ _ scaled)),
-      moves_are_held rows sets (and_right _ _ scaled),
+      sum_by-le-sum_by (λ c. unwrap_or (weight (with_weights moves_of row) c) 0) (λ _. 1) (members s) (λ c. move_or_none row.offers c (true_left _ _ scaled)),
+      moves_are_held rows sets (true_right _ _ scaled),
     )
 
 held_are_few : (sets : List Ids) → sum_by (λ c. cond (is_held sets c) 1 0) cpus ≤ CPU_LIMIT

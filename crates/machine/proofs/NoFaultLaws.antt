@@ -32,7 +32,7 @@ use Rattle.machine.specs.declared.field.Field.TheVariants.{Nodes, Reserved, Offl
 use Rattle.machine.specs.Cores.{core_of}
 use Rattle.machine.specs.CoresFault.{lowest_of, size_of, is_core, left_by, core_fault, first_core_fault, left_fault, cores_fault}
 use Rattle.machine.specs.Distances.{row_entries, distances_in, AreEntries}
-use Rattle.machine.specs.DistancesFault.{entry_fault, row_fault, rows_fault, shape_fault, distances_fault}
+use Rattle.machine.specs.DistancesFault.{entry_fault, distance_row_fault, rows_fault, shape_fault, distances_fault}
 use Rattle.machine.specs.HasMembers.{IsSquare, HasDistances, HasMembers, AreSharedOut, HasCores}
 use Rattle.machine.specs.IsSound.{IsSound}
 use Rattle.machine.specs.KindFaults.{list_fault}
@@ -120,7 +120,7 @@ columns :
 columns n d h k lt = let is_row : k < n = omega (arith, h.rows) in h.columns k is_row
 
 rows_fault-none : (n : ℕ) (d : Data) → IsSquare n d → AreEntries n (flat_map row_entries (items_of d)) → rows_fault (items_of d) ≡ None
-unfolding rows_fault row_fault
+unfolding rows_fault distance_row_fault
 rows_fault-none n d h are =
     let each : (k : ℕ) → k < length (items_of d) → length (items_of (get_or (items_of d) k null)) ≡ n = columns n d h in
     first_below-none _ _ (λ i lt. first_below-none _ _ (λ j long.

@@ -16,6 +16,7 @@ pub mod Members
 pub mod Listed
 pub mod ListLaws
 pub mod KindFaults
+pub mod AreNodes
 pub mod NodesFault
 pub mod Distances
 pub mod DistancesFault

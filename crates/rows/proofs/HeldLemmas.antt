@@ -14,7 +14,7 @@ use Rattle.cpu_set.specs.declared.TheConstants.{CPU_LIMIT}
 use Rattle.machine.specs.Layout.{Layout}
 use Rattle.certificate.specs.declared.Offer.{Offer}
 use Rattle.certificate.specs.Packed.{packed}
-use Rattle.rows.specs.Offers.{has_some, offer_at, offers_of}
+use Rattle.rows.specs.Offers.{has_some, offer_at, offers_by_distance}
 use Rattle.rows.specs.PartLemmas.{some_pushed}
 use Rattle.rows.specs.Scaled.{are_distances, kept, moved, parted}
 
@@ -70,8 +70,8 @@ all_some [] = refl
 all_some (o ∷ offers) = kept_some (has_some o) o (filter has_some offers) refl (all_some offers)
 
 -- each offer has a CPU
-pub offers_of_some : (m : Layout) (homes cpus : Ids) → list_all has_some (offers_of m homes cpus) ≡ true
-unfolding offers_of
+pub offers_of_some : (m : Layout) (homes cpus : Ids) → list_all has_some (offers_by_distance m homes cpus) ≡ true
+unfolding offers_by_distance
 offers_of_some m homes cpus = all_some (map (offer_at m homes cpus) (range_with_len 0 255))
 
 -- the weight of an offer at a distance

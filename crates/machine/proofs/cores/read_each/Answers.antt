@@ -6,7 +6,7 @@ use Rattle.machine.proofs.ItemLaws.{item_view, item_within, item_last}
 use Rattle.machine.proofs.cores.read_each.Goals as goal
 
 pub loop-i-init : goal.loop-i-init
-loop-i-init c = AreCoresRead-none _ _ _ _ _ c.requires.present c.each_cpu-lowest.ensures.room c.each_cpu-lowest.ensures.own
+loop-i-init c = AreCoresRead-none _ _ _ _ _ c.requires.nodes.present c.each_cpu-lowest.ensures.room c.each_cpu-lowest.ensures.own
 
 pub cpus_of-core-requires : goal.cpus_of-core-requires
 cpus_of-core-requires c =

@@ -10,9 +10,9 @@ use Rattle.twins.specs.Kinds.{kind_at}
 use Rattle.twins.proofs.SameOffers.{kind_offers_none}
 use Rattle.twins.proofs.RowCpus.{row_cpus_none, row_cpus_more, row_cpus_same}
 use Rattle.twins.proofs.SettledCpus.{counted_start, counted_more, counted_repeated, counted_once}
+use Rattle.twins.specs.KindLaws.{own_offers}
 use Rattle.twins.proofs.grouping.offered_cpus.Goals as goal
 use Rattle.twins.proofs.grouping.offered_cpus.Goals.{then-kinds-k+in_ok-push, else-kinds-k}
-use Rattle.twins.specs.KindLaws.{own_offers}
 
 pub loop-k-init : goal.loop-k-init
 loop-k-init c = record {

@@ -1,6 +1,6 @@
 use Rattle.std.proofs.Common.{sym, ◌∙◌}
 use Rattle.certificate_text.proofs.Taking.{row_lacks, row_refused}
-use Rattle.certificate_text.proofs.reading.row_fault.Goals as goal
+use Rattle.certificate_text.proofs.reading.no_room_for_row.Goals as goal
 
 pub returns-then-takes_row : goal.returns-then-takes_row
 returns-then-takes_row c =

@@ -6,8 +6,8 @@ use Rattle.rows.specs.Chains.{AreChains}
 use Rattle.rows.specs.Offers.{of_weight}
 use Rattle.rows.proofs.ChainLemmas.{no_node}
 use Rattle.rows.proofs.OfferLemmas.{Offering, are_of_weight, offering_start, offering_more, offering_none, offering_end}
-use Rattle.rows.proofs.offers.offers_of.Goals.{then-has+in_ok-push_some, else-has}
-use Rattle.rows.proofs.offers.offers_of.Goals as goal
+use Rattle.rows.proofs.offers.offers_by_distance.Goals.{then-has+in_ok-push_some, else-has}
+use Rattle.rows.proofs.offers.offers_by_distance.Goals as goal
 
 pub farthest-farthest-requires : goal.farthest-farthest-requires
 farthest-farthest-requires c = rw c.chains_of-chains.ensures.weights c.weights.ensures.weights.room
