@@ -12,18 +12,18 @@ use Rattle.std.proofs.lemmas.List.Folds.{find-append}
 use Rattle.std.proofs.lemmas.List.Sums.{sum_by-cons, AllPass-from_list_all}
 use Rattle.cpu_set.specs.Ids.{Ids}
 use Rattle.cpu_set.specs.Members.{InRange, cpus, members}
-use Rattle.cpu_set.specs.Pointwise.{contains-intersection}
+use Rattle.cpu_set.specs.PointwiseLaws.{contains-intersection}
 use Rattle.cpu_set.specs.declared.TheConstants.{CPU_LIMIT}
 use Rattle.certificate.specs.RowView.{RowView}
 use Rattle.certificate.specs.Weight.{weight_in}
 use Rattle.certificate.specs.Limits.{offers_fit, row_fits, values_fit}
 use Rattle.certificate.specs.declared.rows.Offer.{Offer}
 use Rattle.certificate.specs.declared.limits.TheConstants.{MAX_DEMAND, MAX_WEIGHT, MAX_AMOUNT}
-use Rattle.certificate.specs.Tests.{true_left, true_right}
-use Rattle.certificate.specs.Sums.{sum_by_none, sum_by_same, sum_by_plus, sum_by-filter, sum_by-constant}
-use Rattle.certificate.specs.Cpus.{sum_by-cpus-le, len-times, length-cpus}
+use Rattle.certificate.specs.TestLaws.{true_left, true_right}
+use Rattle.certificate.specs.SumLaws.{sum_by_none, sum_by_same, sum_by_plus, sum_by-filter, sum_by-constant}
+use Rattle.certificate.specs.CpuLaws.{sum_by-cpus-le, len-times, length-cpus}
 use Rattle.certificate.specs.ApartTest.{apart_at}
-use Rattle.certificate.specs.Offers.{is_some-find}
+use Rattle.certificate.specs.OfferLemmas.{is_some-find}
 use Rattle.certificate.specs.OfferLaws.{passes_at, offers_apart}
 
 module _ {A B : Type 0} (f : A × B → ℕ) where

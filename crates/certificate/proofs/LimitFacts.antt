@@ -9,9 +9,9 @@ use Rattle.certificate.specs.RowView.{RowView}
 use Rattle.certificate.specs.PricesView.{PricesView}
 use Rattle.certificate.specs.Limits.{row_fits, rows_fit, values_fit, prices_fit, is_within_limits, is_shortage_within_limits}
 use Rattle.certificate.specs.declared.limits.TheConstants.{MAX_ROWS}
-use Rattle.certificate.specs.Tests.{true_left, true_right}
+use Rattle.certificate.specs.TestLaws.{true_left, true_right}
 use Rattle.certificate.proofs.Rising.{is_rising-says, is_rising-true}
-use Rattle.certificate.specs.RisingNumbers.{few_numbers}
+use Rattle.certificate.specs.RisingNumberLaws.{few_numbers}
 
 pub record AreWithin (rows : List RowView) (sets : List Ids) (prices : PricesView) : Type 0 where
   pub few : length rows ≤ MAX_ROWS

@@ -12,7 +12,7 @@ use Rattle.certificate.specs.AreWithin.{IsRowWithin, AreRowsWithin, AreWithin, R
 use Rattle.certificate.specs.declared.rows.Offer.{Offer}
 use Rattle.certificate.specs.declared.price_lists.Price.{Price}
 use Rattle.certificate.specs.declared.limits.TheConstants.{MAX_WEIGHT, MAX_AMOUNT}
-use Rattle.certificate.specs.Tests.{true_left, true_right}
+use Rattle.certificate.specs.TestLaws.{true_left, true_right}
 use Rattle.certificate.specs.ApartTest.{is_disjoint-says, is_disjoint-true}
 
 module _ {A : Type 0} (set_of : A → Ids) where

@@ -1,7 +1,7 @@
 -- Offers, and the sets with weights that they are kept as.
 use Rattle.certificate.specs.ApartTest.{is_in_one}
 use Rattle.certificate.specs.Limits.{are_apart, is_disjoint}
-use Rattle.certificate.specs.Offers.{is_some-weight_in}
+use Rattle.certificate.specs.OfferLemmas.{is_some-weight_in}
 use Rattle.certificate.specs.OffersOf.{offer_of, as_offers}
 use Rattle.certificate.specs.Weight.{weight_in}
 use Rattle.certificate.specs.declared.rows.Offer.{Offer}

@@ -13,11 +13,11 @@ use Rattle.certificate.specs.Price.{price, all_prices}
 use Rattle.certificate.specs.Limits.{are_apart, prices_fit}
 use Rattle.certificate.specs.declared.price_lists.Price.{Price}
 use Rattle.certificate.specs.declared.limits.TheConstants.{MAX_AMOUNT}
-use Rattle.certificate.specs.Tests.{true_left, true_right}
-use Rattle.certificate.specs.Sums.{sum_by_none, sum_by_same, sum_by_plus, sum_by-constant}
-use Rattle.certificate.specs.Cpus.{sum_by-cpus-le, len-times, length-cpus}
+use Rattle.certificate.specs.TestLaws.{true_left, true_right}
+use Rattle.certificate.specs.SumLaws.{sum_by_none, sum_by_same, sum_by_plus, sum_by-constant}
+use Rattle.certificate.specs.CpuLaws.{sum_by-cpus-le, len-times, length-cpus}
 use Rattle.certificate.specs.ApartTest.{apart_at}
-use Rattle.certificate.specs.Offers.{is_some-find}
+use Rattle.certificate.specs.OfferLemmas.{is_some-find}
 use Rattle.certificate.proofs.CostSums.{list_all-take}
 use Rattle.certificate.specs.OfferLaws.{passes_at}
 

@@ -6,7 +6,7 @@ use Rattle.std.proofs.lemmas.Bool.{ltb-true, lt-ltb, false_from_ne_true, both_wa
 use Rattle.std.proofs.lemmas.List.Kept.{AllPairs-from_increasing, AllPairs-cons}
 use Rattle.std.proofs.lemmas.List.Sums.{AllPass-from_list_all, list_all-from_AllPass}
 use Rattle.certificate.specs.Limits.{is_rising}
-use Rattle.certificate.specs.Tests.{true_left, true_right}
+use Rattle.certificate.specs.TestLaws.{true_left, true_right}
 
 rising_pairs : (ks : List ℕ) → is_rising ks ≡ true → AllPairs (λ x y. x < y) ks
 rising_pairs [] e = λ i j d lt below. absurd (omega arith)

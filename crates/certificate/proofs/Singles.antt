@@ -6,8 +6,8 @@ use Rattle.std.specs.Cmp.{nat_cmp_total}
 use Rattle.std.proofs.lemmas.Bool.{eqb-true}
 use Rattle.cpu_set.specs.Ids.{Ids}
 use Rattle.cpu_set.specs.Members.{IsCpu, InRange}
-use Rattle.cpu_set.specs.Pointwise.{same_members, contains-empty, contains-insert, contains-union, contains-intersection}
-use Rattle.certificate.specs.Tests.{true_right}
+use Rattle.cpu_set.specs.PointwiseLaws.{same_members, contains-empty, contains-insert, contains-union, contains-intersection}
+use Rattle.certificate.specs.TestLaws.{true_right}
 
 -- the set has this number alone
 abbrev pub IsSingle : Ids → ℕ → Type 0

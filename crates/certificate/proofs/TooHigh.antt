@@ -7,7 +7,7 @@ use Rattle.certificate.specs.OfferLaws.{offers_apart, row_offers_fit}
 use Rattle.certificate.specs.PlanFault.{is_too_high}
 use Rattle.certificate.specs.Price.{price}
 use Rattle.certificate.specs.RowView.{RowView}
-use Rattle.certificate.specs.Tests.{true_left, true_right}
+use Rattle.certificate.specs.TestLaws.{true_left, true_right}
 use Rattle.certificate.specs.declared.price_lists.Price.{Price}
 use Rattle.certificate.specs.declared.rows.Offer.{Offer}
 use Rattle.cpu_set.specs.Ids.{Ids}

@@ -7,7 +7,7 @@ use Rattle.std.proofs.lemmas.List.Sums.{sum_by-cons}
 use Rattle.cpu_set.specs.Ids.{Ids, IsDisjoint}
 use Rattle.cpu_set.specs.Members.{cpus, members}
 use Rattle.certificate.specs.PlanFault.{is_held}
-use Rattle.certificate.specs.Sums.{sum_by_none, sum_by_same, sum_by_plus, sum_by-filter}
+use Rattle.certificate.specs.SumLaws.{sum_by_none, sum_by_same, sum_by_plus, sum_by-filter}
 
 -- one set is apart from each of a list
 abbrev pub IsApartFrom : Ids → List Ids → Type 0

@@ -7,10 +7,10 @@ use Rattle.std.proofs.lemmas.Bool.{eqb-true, false_from_ne_true, true_from_ne_fa
 use Rattle.std.proofs.lemmas.List.{take_more}
 use Rattle.std.proofs.lemmas.List.Folds.{list_all-append, list_any_more}
 use Rattle.cpu_set.specs.Ids.{Ids, IsDisjoint}
-use Rattle.cpu_set.specs.Pointwise.{contains-union}
+use Rattle.cpu_set.specs.PointwiseLaws.{contains-union}
 use Rattle.cpu_set.specs.SetLaws.{meet_empty-IsDisjoint, IsDisjoint-meet_empty}
 use Rattle.certificate.specs.Limits.{is_disjoint, are_apart}
-use Rattle.certificate.specs.Tests.{true_left, true_right}
+use Rattle.certificate.specs.TestLaws.{true_left, true_right}
 use Rattle.std.proofs.Math.Bool.{and-false}
 
 pub is_disjoint-true : (s t : Ids) → IsDisjoint s t → is_disjoint s t ≡ true

@@ -5,7 +5,7 @@ use Rattle.std.proofs.lemmas.List.Sums.{AllPass-from_list_all}
 use Rattle.certificate.specs.RowView.{RowView}
 use Rattle.certificate.specs.Limits.{are_apart, offers_fit, row_fits}
 use Rattle.certificate.specs.declared.rows.Offer.{Offer}
-use Rattle.certificate.specs.Tests.{true_right}
+use Rattle.certificate.specs.TestLaws.{true_right}
 
 -- an element of a list of which all pass
 pub passes_at : {A : Type 0} (p : A → Bool) (xs : List A) (k : ℕ) (x : A) → list_all p xs ≡ true → k < length xs → x ≡ get_or xs k x → p x ≡ true

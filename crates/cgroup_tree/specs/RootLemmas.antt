@@ -3,7 +3,7 @@ use Rattle.std.proofs.Common.{◌≡◌, ℕ, Bool, true, false, List, sym, ap, 
 use Rattle.std.specs.FinSet as set
 use Rattle.std.proofs.lemmas.Bool.{both_ways}
 use Rattle.cpu_set.specs.Ids.{Ids, is_same}
-use Rattle.cpu_set.specs.Pointwise.{is_same_decides, same_members}
+use Rattle.cpu_set.specs.PointwiseLaws.{is_same_decides, same_members}
 use Rattle.cgroup_tree.specs.Roots.{IsListOf}
 
 -- a list is one of no other numbers

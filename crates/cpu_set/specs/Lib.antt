@@ -1,6 +1,6 @@
 pub mod Ids
 pub mod Members
-pub mod Pointwise
+pub mod PointwiseLaws
 pub mod Those
 pub mod SetLaws
 pub mod Least
@@ -12,5 +12,5 @@ pub mod WordSets
 pub mod Ranges
 pub mod RangesFrom
 pub mod RangeLaws
-pub mod SetRanges
+pub mod SetRangeLaws
 pub mod ListedSets

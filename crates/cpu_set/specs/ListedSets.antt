@@ -9,7 +9,7 @@ use Rattle.std.specs.Cmp.{nat_cmp_total}
 use Rattle.std.specs.FinSet as set
 use Rattle.cpu_set.specs.Ids.{Ids}
 use Rattle.cpu_set.specs.Members.{cpus, members}
-use Rattle.cpu_set.specs.Pointwise.{same_members, contains-intersection, contains-union, is_subset-contains, contains-is_subset}
+use Rattle.cpu_set.specs.PointwiseLaws.{same_members, contains-intersection, contains-union, is_subset-contains, contains-is_subset}
 
 -- the set of these numbers
 abbrev listed : List ℕ → Ids

@@ -4,7 +4,7 @@ use Rattle.std.proofs.Common.{sym, ap, ◌∙◌, arith}
 use Rattle.std.proofs.lemmas.Bool.Decides.{nat_tests}
 use Rattle.std.specs.FinSet as set
 use Rattle.cpu_set.specs.Ids.{Ids}
-use Rattle.cpu_set.specs.Pointwise.{contains-empty, contains-insert}
+use Rattle.cpu_set.specs.PointwiseLaws.{contains-empty, contains-insert}
 
 -- the numbers below n that pass
 unfoldable pub those : (ℕ → Bool) → ℕ → Ids

@@ -4,7 +4,7 @@ use Rattle.std.proofs.lemmas.Bool.{false≢true, and_parts, not-true, ltb-true, 
 use Rattle.std.specs.FinSet as set
 use Rattle.cpu_set.specs.Ids.{Ids, is_empty}
 use Rattle.cpu_set.specs.Members.{InRange}
-use Rattle.cpu_set.specs.Pointwise.{same_members, contains-intersection, contains-difference, is_subset-contains, contains-is_subset}
+use Rattle.cpu_set.specs.PointwiseLaws.{same_members, contains-intersection, contains-difference, is_subset-contains, contains-is_subset}
 use Rattle.machine.specs.Layout.{Layout}
 use Rattle.machine.specs.Present.{present, IsPresent}
 use Rattle.cpu_set.specs.declared.TheConstants.{CPU_LIMIT}

@@ -9,13 +9,13 @@ use Rattle.std.proofs.lemmas.List.FromFn.{get_or-map-range_with_len, length-map-
 use Rattle.std.specs.Ordering.{nat_cmp}
 use Rattle.std.specs.Cmp.{nat_cmp_total}
 use Rattle.std.specs.FinSet as set
-use Rattle.faults.specs.Tests.{without, none_below, none_of_both, unmapped, passed, same_tests}
+use Rattle.faults.specs.TestLaws.{without, none_below, none_of_both, unmapped, passed, same_tests}
 use Rattle.serde_json.specs.Data.{Data}
 use Rattle.cpu_set.specs.Ids.{Ids, IsDisjoint, is_empty}
 use Rattle.cpu_set.specs.Least.{least_that, least_of}
 use Rattle.cpu_set.specs.LeastLaws.{NonePasses, IsLeastThat, least-passes, least-none_says, cpus_from}
 use Rattle.cpu_set.specs.Members.{IsCpu, InRange, cpus}
-use Rattle.cpu_set.specs.Pointwise.{same_members, contains-empty, contains-insert, contains-difference, contains-intersection, is_subset-contains}
+use Rattle.cpu_set.specs.PointwiseLaws.{same_members, contains-empty, contains-insert, contains-difference, contains-intersection, is_subset-contains}
 use Rattle.cpu_set.specs.declared.TheConstants.{CPU_LIMIT}
 use Rattle.machine.specs.Cores.{core_of, cpus_of_core, AreCores}
 use Rattle.machine.specs.CoresFault.{lowest_in, lowest_of, size_of, is_core, core_fault, left_by, first_core_fault, left_fault, cores_fault}

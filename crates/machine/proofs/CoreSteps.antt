@@ -12,7 +12,7 @@ use Rattle.serde_json.specs.View.{view}
 use Rattle.serde_json.specs.declared.value.Value.{Value}
 use Rattle.cpu_set.specs.Ids.{Ids}
 use Rattle.cpu_set.specs.LeastLaws.{IsFirstOf, least-difference}
-use Rattle.cpu_set.specs.Pointwise.{same_members, contains-empty, contains-union, contains-difference}
+use Rattle.cpu_set.specs.PointwiseLaws.{same_members, contains-empty, contains-union, contains-difference}
 use Rattle.cpu_set.specs.declared.TheConstants.{CPU_LIMIT}
 use Rattle.machine.specs.declared.fault.MachineFault.{MachineFault}
 use Rattle.machine.specs.declared.fault.MachineFault.TheVariants.{BadCore, NoCore}
@@ -22,7 +22,7 @@ use Rattle.machine.specs.Listed.{listed}
 use Rattle.machine.specs.Present.{union_of}
 use Rattle.machine.proofs.CoreLaws.{lowest_of-at, lowest_of-long, lowest_in-none}
 use Rattle.machine.proofs.SubsetLaws.{is_subset-difference}
-use Rattle.faults.specs.Tests.{without_two, without_none}
+use Rattle.faults.specs.TestLaws.{without_two, without_none}
 
 -- the fault of core i, after the cores before it
 abbrev pub fault_at : List Ids → Ids → List Ids → ℕ → Option MachineFault

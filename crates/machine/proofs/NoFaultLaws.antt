@@ -10,14 +10,14 @@ use Rattle.std.proofs.lemmas.List.Folds.{list_any_at}
 use Rattle.std.specs.FinSet as set
 use Rattle.faults.specs.First.{when}
 use Rattle.faults.specs.FirstLaws.{first_below-none}
-use Rattle.faults.specs.Tests.{never_both}
+use Rattle.faults.specs.TestLaws.{never_both}
 use Rattle.serde_json.specs.Data.{Data, null}
 use Rattle.serde_json.specs.Find.{as_array, as_str}
 use Rattle.cpu_set.specs.Ids.{Ids, IsDisjoint}
 use Rattle.cpu_set.specs.Least.{least_that}
 use Rattle.cpu_set.specs.LeastLaws.{least-none, least-none_says, least-some_says}
 use Rattle.cpu_set.specs.Members.{InRange}
-use Rattle.cpu_set.specs.Pointwise.{contains-difference, contains-intersection, contains-is_subset}
+use Rattle.cpu_set.specs.PointwiseLaws.{contains-difference, contains-intersection, contains-is_subset}
 use Rattle.cpu_set.specs.SetLaws.{empty_of_none, is_empty-some}
 use Rattle.cpu_set.specs.Those.{contains-those}
 use Rattle.cpu_set.specs.declared.TheConstants.{CPU_LIMIT}

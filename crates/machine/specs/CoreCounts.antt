@@ -7,10 +7,10 @@ use Rattle.std.proofs.lemmas.Bool.Decides.{nat_tests}
 use Rattle.std.proofs.Math.Nat.{suc-mul}
 use Rattle.std.proofs.Math.Numerals.{add-one}
 use Rattle.std.specs.FinSet as set
-use Rattle.faults.specs.Tests.{same_tests}
+use Rattle.faults.specs.TestLaws.{same_tests}
 use Rattle.cpu_set.specs.Ids.{Ids, IsDisjoint}
 use Rattle.cpu_set.specs.Members.{InRange}
-use Rattle.cpu_set.specs.Pointwise.{same_members, contains-empty, contains-remove, is_subset-contains, contains-is_subset}
+use Rattle.cpu_set.specs.PointwiseLaws.{same_members, contains-empty, contains-remove, is_subset-contains, contains-is_subset}
 use Rattle.cpu_set.specs.SetLaws.{len-those_more, len-those_none, those-contains}
 use Rattle.cpu_set.specs.Those.{those, contains-those}
 use Rattle.cpu_set.specs.declared.TheConstants.{CPU_LIMIT}

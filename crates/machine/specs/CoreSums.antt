@@ -10,7 +10,7 @@ use Rattle.std.specs.Ordering.{nat_cmp}
 use Rattle.std.specs.FinSet as set
 use Rattle.cpu_set.specs.Ids.{Ids}
 use Rattle.cpu_set.specs.Members.{InRange, members, cpus}
-use Rattle.cpu_set.specs.Pointwise.{same_members, contains-empty, contains-insert}
+use Rattle.cpu_set.specs.PointwiseLaws.{same_members, contains-empty, contains-insert}
 use Rattle.cpu_set.specs.SetLaws.{length-members, those-contains}
 use Rattle.cpu_set.specs.Those.{those, contains-those}
 use Rattle.cpu_set.specs.declared.TheConstants.{CPU_LIMIT}

@@ -4,7 +4,7 @@ use Rattle.std.specs.Prelude.{IsTrue, length, nat_le}
 use Rattle.std.specs.List.{list_all}
 use Rattle.certificate.specs.RowView.{RowView}
 use Rattle.certificate.specs.Limits.{row_fits, rows_fit}
-use Rattle.certificate.specs.Tests.{true_right}
+use Rattle.certificate.specs.TestLaws.{true_right}
 use Rattle.certificate.specs.declared.limits.TheConstants.{MAX_ROWS}
 
 pub each_row_fits : (rows : List RowView) → IsTrue (rows_fit rows) → IsTrue (list_all row_fits rows)

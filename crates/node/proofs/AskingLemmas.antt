@@ -16,7 +16,7 @@ use Rattle.std.specs.List.{All, AllPairs, AllByRecursion, AllZip, cons_option, f
 use Rattle.std.specs.FinSet as set
 use Rattle.cpu_set.specs.Ids.{Ids}
 use Rattle.cpu_set.specs.Members.{InRange, cpus}
-use Rattle.cpu_set.specs.Pointwise.{contains-intersection, contains-is_subset}
+use Rattle.cpu_set.specs.PointwiseLaws.{contains-intersection, contains-is_subset}
 use Rattle.cpu_set.specs.SetLaws.{length-members}
 use Rattle.cpu_set.specs.declared.TheConstants.{CPU_LIMIT}
 use Rattle.cpuset_tree.specs.Groups.{has_group}
@@ -34,7 +34,7 @@ use Rattle.demand.specs.FitsMachine.{AsksForCores, FitsMachine}
 use Rattle.certificate.specs.declared.Offer.{Offer}
 use Rattle.certificate.specs.declared.limits.TheConstants.{MAX_ROWS}
 use Rattle.certificate.specs.Packed.{packed}
-use Rattle.certificate.specs.Sums.{sum_by_times}
+use Rattle.certificate.specs.SumLaws.{sum_by_times}
 use Rattle.certificate.specs.RowView.{RowView}
 use Rattle.certificate.specs.Weight.{weight}
 use Rattle.certificate.specs.Limits.{row_fits, rows_fit}

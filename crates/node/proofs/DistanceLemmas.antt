@@ -10,7 +10,7 @@ use Rattle.std.specs.List.{AllByRecursion, AllZip}
 use Rattle.std.specs.FinSet as set
 use Rattle.cpu_set.specs.Ids.{Ids, IsDisjoint}
 use Rattle.cpu_set.specs.Members.{InRange, cpus, members}
-use Rattle.cpu_set.specs.Pointwise.{contains-intersection, is_subset-contains, contains-is_subset}
+use Rattle.cpu_set.specs.PointwiseLaws.{contains-intersection, is_subset-contains, contains-is_subset}
 use Rattle.kernel_model.specs.KernelState.{KernelState}
 use Rattle.machine.specs.Cores.{cores_in, cpus_of_cores, IsWhole}
 use Rattle.machine.specs.CoreCounts.{cores_are_alike, cores_in_range, len-whole_in}

@@ -6,7 +6,7 @@ use Rattle.std.proofs.lemmas.List.FromFn.{filter_of_map_range_with_len_more}
 use Rattle.std.proofs.lemmas.List.{append-nil}
 use Rattle.std.specs.FinSet as set
 use Rattle.cpu_set.specs.Ids.{Ids}
-use Rattle.cpu_set.specs.Pointwise.{same_members, contains-empty, contains-intersection, contains-difference}
+use Rattle.cpu_set.specs.PointwiseLaws.{same_members, contains-empty, contains-intersection, contains-difference}
 use Rattle.machine.specs.Layout.{Layout}
 use Rattle.machine.specs.Nodes.{node_of}
 use Rattle.machine.specs.Present.{present}
@@ -14,7 +14,7 @@ use Rattle.machine.specs.Weight.{weight, AreWeights}
 use Rattle.certificate.specs.declared.Offer.{Offer}
 use Rattle.rows.specs.Reach.{AreInReach}
 use Rattle.rows.specs.Offers.{of_weight, offer_at, has_some, offers_below, offers_by_distance}
-use Rattle.rows.specs.OfferSets.{contains-of_weight}
+use Rattle.rows.specs.OfferSetLemmas.{contains-of_weight}
 
 module _ (m : Layout) (homes cpus : Ids) where
   abbrev w : ℕ → ℕ

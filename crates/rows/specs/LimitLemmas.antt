@@ -5,9 +5,9 @@ use Rattle.std.proofs.lemmas.Bool.{cases_eq, and_from}
 use Rattle.std.proofs.lemmas.Bool.Decides.{nat_tests}
 use Rattle.std.proofs.Math.Nat.{mul-div_cancel, suc-mul}
 use Rattle.std.specs.FinSet as set
-use Rattle.certificate.specs.Tests.{true_left}
+use Rattle.certificate.specs.TestLaws.{true_left}
 use Rattle.cpu_set.specs.Ids.{Ids}
-use Rattle.cpu_set.specs.Pointwise.{same_members, contains-empty, contains-intersection, is_subset-contains}
+use Rattle.cpu_set.specs.PointwiseLaws.{same_members, contains-empty, contains-intersection, is_subset-contains}
 use Rattle.machine.specs.Cores.{cores_in}
 use Rattle.machine.specs.Layout.{Layout}
 use Rattle.machine.specs.Weight.{weight}
@@ -26,7 +26,7 @@ use Rattle.rows.specs.Offers.{of_weight, offer_at, has_some, offers_by_distance}
 use Rattle.rows.specs.RowOf.{offered, row_of_kind}
 use Rattle.rows.specs.Weighs.{RowsWeigh}
 use Rattle.rows.specs.Scaled.{are_distances}
-use Rattle.rows.specs.OfferSets.{contains-of_weight, offers_some}
+use Rattle.rows.specs.OfferSetLemmas.{contains-of_weight, offers_some}
 
 -- a test that all of a list pass, those among them that pass another pass it too
 all_kept : {A : Type 0} (p : A → Bool) (b : Bool) (x : A) (rest : List A) → p x ≡ true → list_all p rest ≡ true → list_all p (cond b (x ∷ rest) rest) ≡ true

@@ -7,7 +7,7 @@ use Rattle.std.proofs.lemmas.Bool.{true≢false}
 use Rattle.std.proofs.lemmas.Bool.Decides.{nat_tests}
 use Rattle.std.proofs.lemmas.List.Concat.{flat_map-cons}
 use Rattle.cpu_set.specs.Ids.{Ids}
-use Rattle.cpu_set.specs.Pointwise.{contains-empty, contains-intersection, contains-difference}
+use Rattle.cpu_set.specs.PointwiseLaws.{contains-empty, contains-intersection, contains-difference}
 use Rattle.certificate.specs.declared.Offer.{Offer}
 use Rattle.certificate.specs.Packed.{packed, distance_of, moves_of, distance_of-packed, moves_of-packed}
 use Rattle.certificate.specs.Weight.{weight_in, weight}

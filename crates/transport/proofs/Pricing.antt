@@ -13,7 +13,7 @@ use Rattle.certificate.specs.Limits.{row_fits, rows_fit, values_fit}
 use Rattle.certificate.specs.Cost.{cost}
 use Rattle.certificate.specs.IsProved.{IsProved}
 use Rattle.certificate.specs.Laws.{ProvedIsLeast}
-use Rattle.certificate.specs.Tests.{true_right}
+use Rattle.certificate.specs.TestLaws.{true_right}
 use Rattle.certificate.specs.declared.price_lists.Price.{Price}
 use Rattle.certificate.specs.declared.limits.TheConstants.{MAX_ROWS, MAX_AMOUNT}
 use Rattle.twins.specs.IsGrouping.{class_at, IsGrouping}

@@ -5,12 +5,12 @@ use Rattle.std.specs.FinSet as set
 use Rattle.std.proofs.lemmas.List.Sums.{sum_by-cons}
 use Rattle.cpu_set.specs.Ids.{Ids, IsDisjoint}
 use Rattle.cpu_set.specs.Members.{InRange, cpus}
-use Rattle.cpu_set.specs.Pointwise.{contains-intersection}
+use Rattle.cpu_set.specs.PointwiseLaws.{contains-intersection}
 use Rattle.certificate.specs.PlanFault.{is_held}
-use Rattle.certificate.specs.Sums.{sum_by_none, sum_by_same, sum_by_plus}
-use Rattle.certificate.specs.Cpus.{sum_by-cpus-le}
+use Rattle.certificate.specs.SumLaws.{sum_by_none, sum_by_same, sum_by_plus}
+use Rattle.certificate.specs.CpuLaws.{sum_by-cpus-le}
 use Rattle.certificate.specs.Apart.{AllPairs-tail, AllPairs-head, not_held}
-use Rattle.certificate.specs.Tests.{true_left}
+use Rattle.certificate.specs.TestLaws.{true_left}
 use Rattle.twins.specs.IsPart.{times_in}
 use Rattle.twins.proofs.Sets.{len_sum}
 

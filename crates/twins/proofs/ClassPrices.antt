@@ -6,7 +6,7 @@ use Rattle.std.proofs.Math.Numerals.{add-one}
 use Rattle.std.specs.FinSet as set
 use Rattle.std.proofs.lemmas.Bool.{true≢false, eqb-true, and_from, or_parts}
 use Rattle.cpu_set.specs.Ids.{Ids, IsDisjoint}
-use Rattle.cpu_set.specs.Pointwise.{contains-empty}
+use Rattle.cpu_set.specs.PointwiseLaws.{contains-empty}
 use Rattle.certificate.specs.IsDealt.{Holds}
 use Rattle.certificate.specs.PlanFault.{is_held}
 use Rattle.certificate.specs.Price.{price}
@@ -15,7 +15,7 @@ use Rattle.certificate.specs.Apart.{IsApartFrom, AllPairs-tail, AllPairs-head, n
 use Rattle.certificate.specs.Limits.{is_disjoint, are_apart, values_fit, prices_fit}
 use Rattle.certificate.specs.declared.limits.TheConstants.{MAX_AMOUNT}
 use Rattle.certificate.specs.ApartTest.{is_disjoint-true}
-use Rattle.certificate.specs.Tests.{true_left, true_right}
+use Rattle.certificate.specs.TestLaws.{true_left, true_right}
 use Rattle.twins.specs.IsPriced.{class_prices, with_price}
 
 -- the price of a CPU, where a set is priced before others

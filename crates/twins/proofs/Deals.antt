@@ -11,10 +11,10 @@ use Rattle.std.specs.List.Sorted.{IsPermutation, IsNonDecreasingBy}
 use Rattle.std.proofs.lemmas.List.Sorted.{sum_by-IsPermutation}
 use Rattle.cpu_set.specs.Members.{InRange}
 use Rattle.cpu_set.specs.Ids.{Ids, IsFirstFrom, NoneFrom}
-use Rattle.cpu_set.specs.Pointwise.{contains-empty, contains-insert, contains-remove, contains-union, contains-intersection, contains-difference, same_members}
+use Rattle.cpu_set.specs.PointwiseLaws.{contains-empty, contains-insert, contains-remove, contains-union, contains-intersection, contains-difference, same_members}
 use Rattle.cpu_set.specs.SetLaws.{empty_of_none}
 use Rattle.certificate.specs.IsDealt.{Holds}
-use Rattle.certificate.specs.Tests.{true_left, true_right}
+use Rattle.certificate.specs.TestLaws.{true_left, true_right}
 use Rattle.twins.specs.Holdings.{share_of, shared_out}
 use Rattle.twins.specs.IsDeal.{IsTaken, IsMoved, IsFirst, IsClassDeal}
 use Rattle.twins.specs.declared.holders.Share.{Share}

@@ -13,7 +13,7 @@ use Rattle.std.proofs.lemmas.List.Sums.{sum_by-cons}
 use Rattle.std.proofs.lemmas.List.Elements.{All-head, All-tail}
 use Rattle.cpu_set.specs.Ids.{Ids, IsDisjoint}
 use Rattle.cpu_set.specs.Members.{InRange, cpus, members}
-use Rattle.cpu_set.specs.Pointwise.{contains-remove, contains-intersection, same_members}
+use Rattle.cpu_set.specs.PointwiseLaws.{contains-remove, contains-intersection, same_members}
 use Rattle.certificate.specs.RowView.{RowView}
 use Rattle.certificate.specs.Weight.{weight}
 use Rattle.certificate.specs.IsPlan.{Meets, IsPlan}
@@ -25,9 +25,9 @@ use Rattle.certificate.specs.PlanFault.{is_held}
 use Rattle.certificate.specs.declared.price_lists.Price.{Price}
 use Rattle.certificate.specs.Apart.{AllPairs-tail, AllPairs-head, not_held}
 use Rattle.certificate.specs.Limits.{rows_fit, values_fit, prices_fit, is_within_limits}
-use Rattle.certificate.specs.Tests.{true_right}
-use Rattle.certificate.specs.Cpus.{len-times}
-use Rattle.certificate.specs.Sums.{sum_by_none, sum_by_same, sum_by_plus, sum_by-filter}
+use Rattle.certificate.specs.TestLaws.{true_right}
+use Rattle.certificate.specs.CpuLaws.{len-times}
+use Rattle.certificate.specs.SumLaws.{sum_by_none, sum_by_same, sum_by_plus, sum_by-filter}
 use Rattle.twins.specs.IsGrouping.{class_at, IsGrouping}
 use Rattle.twins.specs.ClassWeight.{weight_at, class_weight}
 use Rattle.twins.specs.Holdings.{share_of, shared_out, cell, held_of}

@@ -6,10 +6,10 @@ use Rattle.std.proofs.lemmas.List.{get_or_past}
 use Rattle.std.proofs.lemmas.List.Sums.{length-filter}
 use Rattle.cpu_set.specs.Ids.{Ids}
 use Rattle.cpu_set.specs.Members.{InRange, cpus}
-use Rattle.cpu_set.specs.Pointwise.{contains-empty, contains-intersection, contains-difference}
+use Rattle.cpu_set.specs.PointwiseLaws.{contains-empty, contains-intersection, contains-difference}
 use Rattle.cpu_set.specs.SetLaws.{length-members}
-use Rattle.certificate.specs.Sums.{sum_by_same, sum_by_plus}
-use Rattle.certificate.specs.Tests.{true_left}
+use Rattle.certificate.specs.SumLaws.{sum_by_same, sum_by_plus}
+use Rattle.certificate.specs.TestLaws.{true_left}
 use Rattle.certificate.specs.IsDealt.{Holds}
 
 -- an empty set has no member

@@ -6,8 +6,8 @@ use Rattle.std.proofs.lemmas.Bool.Decides.{nat_tests}
 use Rattle.std.proofs.lemmas.List.{get_or_default}
 use Rattle.std.proofs.lemmas.List.Folds.{list_any_at}
 use Rattle.cpu_set.specs.Ids.{Ids}
-use Rattle.cpu_set.specs.Pointwise.{contains-empty, contains-insert, contains-union, contains-intersection, contains-difference, is_subset-contains}
-use Rattle.certificate.specs.Tests.{true_right}
+use Rattle.cpu_set.specs.PointwiseLaws.{contains-empty, contains-insert, contains-union, contains-intersection, contains-difference, is_subset-contains}
+use Rattle.certificate.specs.TestLaws.{true_right}
 use Rattle.certificate.specs.RowView.{RowView}
 use Rattle.certificate.specs.Weight.{weight, weight_in}
 use Rattle.certificate.specs.IsDealt.{AreTwins}

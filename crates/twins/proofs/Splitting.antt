@@ -8,8 +8,8 @@ use Rattle.std.proofs.lemmas.List.Sums.{sum_by_push}
 use Rattle.std.proofs.lemmas.List.Elements.{All-more, All-take, All-push}
 use Rattle.cpu_set.specs.Ids.{Ids, NoneFrom, IsFirstFrom}
 use Rattle.cpu_set.specs.Members.{IsCpu, InRange}
-use Rattle.cpu_set.specs.Pointwise.{contains-intersection, contains-difference}
-use Rattle.certificate.specs.Tests.{true_left, true_right}
+use Rattle.cpu_set.specs.PointwiseLaws.{contains-intersection, contains-difference}
+use Rattle.certificate.specs.TestLaws.{true_left, true_right}
 use Rattle.certificate.specs.RowView.{RowView}
 use Rattle.certificate.specs.Weight.{weight}
 use Rattle.certificate.specs.IsDealt.{AreTwins}

@@ -1,7 +1,7 @@
 use Rattle.std.proofs.Common.{◌≡◌, false, sym, ap, subst, ◌∙◌}
 use Rattle.std.proofs.lemmas.Bool.{both_ways, not-true}
 use Rattle.cpu_set.specs.Ids.{is_empty}
-use Rattle.cpu_set.specs.Pointwise.{is_same_decides}
+use Rattle.cpu_set.specs.PointwiseLaws.{is_same_decides}
 use Rattle.apply_plan.specs.Kept.{kept}
 use Rattle.apply_plan.specs.KeptLemmas.{kept_target}
 use Rattle.apply_plan.proofs.scan.holds_target.Goals as goal

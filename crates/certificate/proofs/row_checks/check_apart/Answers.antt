@@ -1,5 +1,5 @@
 use Rattle.std.proofs.Common.{Some, option_map, ap, ◌∙◌, arith, below_more}
-use Rattle.cpu_set.specs.Pointwise.{contains-empty}
+use Rattle.cpu_set.specs.PointwiseLaws.{contains-empty}
 use Rattle.faults.specs.FirstLaws.{first_below-at, first_below-none}
 use Rattle.certificate.specs.PlanFault.{twice_fault, apart_fault}
 use Rattle.certificate.specs.declared.fault.CheckFault.TheVariants.{HeldTwice}

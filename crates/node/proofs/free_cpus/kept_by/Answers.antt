@@ -1,6 +1,6 @@
 use Rattle.std.proofs.Common.{sym, ap, ◌∙◌}
 use Rattle.std.specs.FinSet as set
-use Rattle.cpu_set.specs.Pointwise.{contains-empty}
+use Rattle.cpu_set.specs.PointwiseLaws.{contains-empty}
 use Rattle.node.specs.Viewed.{seen}
 use Rattle.node.proofs.FreeLemmas.{keeps_dead, keeps_shared}
 use Rattle.node.proofs.free_cpus.kept_by.Goals as goal

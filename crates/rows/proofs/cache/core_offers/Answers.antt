@@ -1,7 +1,7 @@
 use Rattle.std.proofs.Common.{◌≡◌, IfOk, sym, subst, ap, ◌∙◌}
 use Rattle.std.proofs.lemmas.Bool.{eqb-true}
 use Rattle.std.specs.FinSet as set
-use Rattle.cpu_set.specs.Pointwise.{is_subset-contains}
+use Rattle.cpu_set.specs.PointwiseLaws.{is_subset-contains}
 use Rattle.machine.specs.CoreCounts.{single_cores_in}
 use Rattle.machine.specs.Cores.{cores_in}
 use Rattle.machine.specs.WholeLaws.{cores_in-within}

@@ -1,5 +1,5 @@
 use Rattle.std.proofs.Common.{◌≡◌, ◌-◌, ◌<◌, ◌≤◌, IfNone, length, inl, inr, refl, sym, ap, ◌∙◌, subst, arith}
-use Rattle.cpu_set.specs.Pointwise.{contains-empty}
+use Rattle.cpu_set.specs.PointwiseLaws.{contains-empty}
 use Rattle.transport.specs.Blocks.{AreFirstsOfTaken, AreTakenFirsts, AreNoted}
 use Rattle.transport.proofs.Blocks.{taken_firsts_more, taken_firsts_kept, noted_kept}
 use Rattle.transport.proofs.Numbers.{read_number}

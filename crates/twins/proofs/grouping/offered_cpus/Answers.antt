@@ -1,7 +1,7 @@
 use Rattle.std.proofs.Common.{◌<◌, List, sym, ap, ◌∙◌, ◌||◌, is_some, take, take_all, arith}
 use Rattle.std.specs.FinSet as set
 use Rattle.std.proofs.lemmas.List.Folds.{list_any_more}
-use Rattle.cpu_set.specs.Pointwise.{contains-empty, contains-union}
+use Rattle.cpu_set.specs.PointwiseLaws.{contains-empty, contains-union}
 use Rattle.certificate.specs.RowView.{RowView}
 use Rattle.certificate.specs.Weight.{weight, weight_in}
 use Rattle.certificate.specs.declared.rows.Offer.{Offer}

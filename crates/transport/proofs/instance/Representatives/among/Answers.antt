@@ -1,8 +1,8 @@
 use Rattle.std.proofs.Common.{◌≡◌, ℕ, true, ◌&&◌, sym, ap, ◌∙◌, subst}
 use Rattle.std.proofs.lemmas.Bool.{and_from}
 use Rattle.std.specs.FinSet as set
-use Rattle.cpu_set.specs.Pointwise.{contains-intersection}
-use Rattle.certificate.specs.Tests.{true_left, true_right}
+use Rattle.cpu_set.specs.PointwiseLaws.{contains-intersection}
+use Rattle.certificate.specs.TestLaws.{true_left, true_right}
 use Rattle.transport.specs.Numbers.{number, IsIn}
 use Rattle.transport.proofs.instance.Representatives.among.Goals as goal
 use Rattle.transport.proofs.instance.Representatives.among.Goals.{After-meet}

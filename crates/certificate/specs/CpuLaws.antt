@@ -8,7 +8,7 @@ use Rattle.cpu_set.specs.Ids.{Ids}
 use Rattle.cpu_set.specs.Members.{IsCpu, InRange, cpus}
 use Rattle.cpu_set.specs.SetLaws.{length-members}
 use Rattle.cpu_set.specs.declared.TheConstants.{CPU_LIMIT}
-use Rattle.certificate.specs.Sums.{sum_by_times, sum_by-range-le}
+use Rattle.certificate.specs.SumLaws.{sum_by_times, sum_by-range-le}
 use Rattle.std.proofs.lemmas.List.Filters.{length-filter_both}
 
 ordered : (f g : ℕ → ℕ) (n : ℕ) → n ≡ CPU_LIMIT → ((x : ℕ) → IsCpu x → f x ≤ g x) → sum_by f cpus ≤ sum_by g cpus

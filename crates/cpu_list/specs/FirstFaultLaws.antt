@@ -8,7 +8,7 @@ use Rattle.cpu_list.specs.declared.fault.ListError.{ListError}
 use Rattle.cpu_list.specs.declared.fault.ListErrorKind.{ListErrorKind}
 use Rattle.cpu_list.specs.ListText.{pieces, leading_blanks, item_of, IsItem}
 use Rattle.cpu_list.specs.FirstFault.{item_fault, faults_from, IsFaultOf, NoneWhereList, FirstDecides}
-use Rattle.cpu_list.specs.ItemFaults.{IsItem-from_None, None-from_IsItem, IsFaultOf-from_Some, Some-from_IsFaultOf}
+use Rattle.cpu_list.specs.ItemFaultLaws.{IsItem-from_None, None-from_IsItem, IsFaultOf-from_Some, Some-from_IsFaultOf}
 
 abbrev width : List (List ℕ) → ℕ
 width ps = sum_by (λ p. length p + 1) ps

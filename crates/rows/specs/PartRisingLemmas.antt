@@ -9,7 +9,7 @@ use Rattle.certificate.specs.RisingOffers.{AreRising}
 use Rattle.certificate.specs.Scaled.{is_scaled}
 use Rattle.rows.specs.Offers.{has_some}
 use Rattle.rows.specs.Scaled.{kept, moved, parted, PartsRise, PartsAreScaled}
-use Rattle.rows.specs.PartLimits.{all_of_two}
+use Rattle.rows.specs.PartLimitLemmas.{all_of_two}
 
 -- each weight is above the one before it, the first not below this number
 abbrev Rise : ℕ → List Offer → Type 0

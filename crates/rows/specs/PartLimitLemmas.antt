@@ -6,7 +6,7 @@ use Rattle.std.proofs.lemmas.Bool.{false≢true, and_parts, and_from}
 use Rattle.std.proofs.lemmas.Bool.Decides.{nat_tests}
 use Rattle.std.proofs.lemmas.List.Concat.{flat_map-cons}
 use Rattle.cpu_set.specs.Ids.{Ids}
-use Rattle.cpu_set.specs.Pointwise.{contains-intersection, contains-difference}
+use Rattle.cpu_set.specs.PointwiseLaws.{contains-intersection, contains-difference}
 use Rattle.certificate.specs.declared.Offer.{Offer}
 use Rattle.certificate.specs.declared.limits.TheConstants.{MAX_WEIGHT}
 use Rattle.certificate.specs.Packed.{packed}

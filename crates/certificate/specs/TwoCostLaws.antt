@@ -18,9 +18,9 @@ use Rattle.certificate.specs.declared.limits.TheConstants.{MOVE_SCALE}
 use Rattle.certificate.specs.Packed.{distance_of, moves_of, packed-parts, no_farther}
 use Rattle.certificate.specs.Scaled.{with_weight, with_weights, by_distance, by_moves, is_scaled, are_scaled, CostSplits, SamePlans, MovesAreFew, LeastIsNearest}
 use Rattle.certificate.specs.ScaledLaws.{weight_with}
-use Rattle.certificate.specs.Tests.{true_left, true_right, one_at_most}
-use Rattle.certificate.specs.Sums.{sum_by_same, sum_by_plus, sum_by_times, sum_by-constant}
-use Rattle.certificate.specs.Cpus.{sum_by-cpus-le, length-cpus}
+use Rattle.certificate.specs.TestLaws.{true_left, true_right, one_at_most}
+use Rattle.certificate.specs.SumLaws.{sum_by_same, sum_by_plus, sum_by_times, sum_by-constant}
+use Rattle.certificate.specs.CpuLaws.{sum_by-cpus-le, length-cpus}
 use Rattle.certificate.specs.Apart.{sums_of_sets}
 
 -- ---- plans
