@@ -1,3 +1,4 @@
+//! The live processes: a first process each, and those that belong to it.
 ghost use Rattle.std.specs.Prelude.{◌≡◌, ◌≢◌, ◌≤◌, true, Some, IfOk, OnErr};
 ghost use Rattle.faults.specs.Calls.{Decides};
 ghost use Rattle.proctable.specs.Processes.{process_of, is_alive, group_of, count_in};
